@@ -1,0 +1,5 @@
+pub mod CrcBlocks
+pub mod CrcTable
+pub mod NameLaws
+pub mod Names
+pub mod Readings

@@ -1,0 +1,4 @@
+pub mod NameReading
+pub mod NameText
+pub mod Padded
+pub mod Sizes

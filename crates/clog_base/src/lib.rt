@@ -1,0 +1,35 @@
+//! Positions, keys, sizes, names of files, cells, checks and the faults that several layers hand on.
+#![tactic(auto)]
+
+mod bytes;
+mod cell;
+mod crc;
+mod crc_tables;
+#[cfg(test)]
+mod crc_tests;
+mod fault;
+mod file_name;
+mod name;
+mod name_reading;
+mod name_text;
+mod parsed_name;
+mod position;
+mod row;
+mod sizes;
+#[cfg(test)]
+mod tests;
+mod text;
+
+pub use bytes::Bytes;
+pub use cell::{Cell, CellKey, Kind, Table, Writer};
+pub use crc::{crc32, crc32_int, crc32_more, crc32_plain};
+pub use fault::{Failed, OutOfMemory, PayloadFault, Quantity};
+pub use file_name::{archive_name, segment_name, table_name};
+pub use name::Name;
+pub use parsed_name::{
+    SegmentName, name_laws, parse_archive_name, parse_segment_name, parse_table_name,
+};
+pub use position::{Key, Position};
+pub use row::put;
+pub use sizes::Sizes;
+pub use text::Text;

@@ -1,0 +1,36 @@
+//! How large a log is. Each value is within the limits.
+ghost use Rattle.std.specs.Prelude.{◌≡◌, ◌↔◌, IsSome, IfSome};
+ghost use Rattle.clog_base.specs.Sizes.{IsWithinLimits};
+
+/// The number of tables (1 to 16) and writers (1 to 64), the capacity of a segment in bytes (4096 to
+/// 33554432), and the number of segments that a path may use (1 to 2147483647).
+#[derive(Clone, Copy, Debug, PartialEq, Eq)]
+pub struct Sizes {
+    pub tables: u8,
+    pub writers: u8,
+    pub capacity: u32,
+    pub ordinals: u32,
+    ghost within: { IsWithinLimits tables writers capacity ordinals },
+}
+
+impl Sizes {
+    /// These sizes, where each is within its limits.
+    pub fn make(tables: u8, writers: u8, capacity: u32, ordinals: u32) -> Option<Sizes>
+        ensures made { IsSome result ↔ IsWithinLimits tables writers capacity ordinals }
+        ensures same { IfSome result (λ s. (s.tables ≡ tables) × (s.writers ≡ writers)
+            × (s.capacity ≡ capacity) × (s.ordinals ≡ ordinals)) }
+    {
+        if !(1..=16).contains(&tables) || !(1..=64).contains(&writers) {
+            return None;
+        }
+        if !(4096..=33_554_432).contains(&capacity) || !(1..=2_147_483_647).contains(&ordinals) {
+            return None;
+        }
+        Some(Sizes {
+            tables,
+            writers,
+            capacity,
+            ordinals,
+        })
+    }
+}
