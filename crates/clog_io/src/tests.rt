@@ -1,0 +1,126 @@
+//! What no clause says: the system's objects, which calls fail, and that calls succeed.
+use super::*;
+use clog_base::{Failed, Writer};
+use std::io::{Result as IoResult, Write};
+use std::test::Fail;
+
+/// A writer that takes nothing, as a device that is full.
+#[derive(Drop)]
+struct FullDevice;
+
+impl Write for FullDevice {
+    fn write(&mut self, _buf: &[u8]) -> IoResult<usize> {
+        Ok(0)
+    }
+
+    fn flush(&mut self) -> IoResult<()> {
+        Ok(())
+    }
+}
+
+fn is_shared<T: Sync>(_object: &T) -> bool {
+    true
+}
+
+#[test]
+fn a_source_in_memory_gives_pieces_and_fails_where_told(rt: HostRuntime) -> Result<(), Fail> {
+    let alloc = rt.alloc();
+    let mut source = MemSource::new(b"hello".to_vec(alloc)?, 2, [2, 5].to_vec(alloc)?);
+    let mut room = [0u8; 4];
+    let wanted = [Ok(2), Err(Failed), Ok(2), Ok(1), Err(Failed), Ok(0), Ok(0)];
+    for (call, want) in wanted.iter().enumerate() {
+        assert_eq!(rt; source.read(&mut room), *want, "at {call}");
+    }
+    assert_eq!(rt; room.as_slice(), b"ol\0\0".as_slice());
+    Ok(())
+}
+
+#[test]
+fn all_is_read_up_to_the_limit_and_no_byte_more(rt: HostRuntime) -> Result<(), Fail> {
+    let alloc = rt.alloc();
+    for (count, limit, whole) in [(0, 0, true), (1, 0, false), (9, 9, true), (10, 9, false)] {
+        let bytes = vec![in alloc; 7u8; count]?;
+        let mut source = MemSource::new(bytes.to_vec(alloc)?, 4, Vec::new(alloc));
+        match read_all(alloc, &mut source, limit) {
+            Ok(read) => {
+                assert!(rt; whole);
+                assert_eq!(rt; read.as_slice(), bytes.as_slice());
+            }
+            Err(fault) => {
+                assert!(rt; !whole);
+                assert_eq!(rt; fault, ReadAllFault::Limit);
+            }
+        }
+    }
+    Ok(())
+}
+
+#[test]
+fn a_fault_in_mid_stream_ends_the_reading(rt: HostRuntime) -> Result<(), Fail> {
+    let alloc = rt.alloc();
+    let mut source = MemSource::new(b"hello".to_vec(alloc)?, 2, [2].to_vec(alloc)?);
+    assert!(rt; matches!(read_all(alloc, &mut source, 9), Err(ReadAllFault::Failed)));
+    let rest = read_all(alloc, &mut source, 9)?;
+    assert_eq!(rt; rest.as_slice(), b"llo".as_slice());
+    Ok(())
+}
+
+#[test]
+fn a_reader_of_std_is_read_to_its_end(rt: HostRuntime) -> Result<(), Fail> {
+    let bytes: &[u8] = b"a line\n";
+    let mut source = StdSource::new(bytes);
+    let read = read_all(rt.alloc(), &mut source, 7)?;
+    assert_eq!(rt; read.as_slice(), bytes);
+    Ok(())
+}
+
+#[test]
+fn a_sink_in_memory_holds_what_calls_that_did_not_fail_wrote(rt: HostRuntime) -> Result<(), Fail> {
+    let alloc = rt.alloc();
+    let mut sink = MemSink::new(alloc, [2].to_vec(alloc)?);
+    assert_eq!(rt; sink.write_all(b"one "), Ok(()));
+    assert_eq!(rt; sink.write_all(b"two "), Err(Failed));
+    assert_eq!(rt; sink.write_all(b"three"), Ok(()));
+    assert_eq!(rt; sink.as_slice(), b"one three".as_slice());
+    assert_eq!(rt; sink.fault_count(), 1);
+    assert_eq!(rt; sink.into_bytes().as_slice(), b"one three".as_slice());
+    Ok(())
+}
+
+#[test]
+fn a_writer_of_std_takes_all_or_has_failed(rt: HostRuntime) -> Result<(), Fail> {
+    let mut sink = StdSink::new(Vec::<u8>::new(rt.alloc()));
+    assert_eq!(rt; sink.write_all(b"applied 1\n"), Ok(()));
+    assert_eq!(rt; sink.into_inner().as_slice(), b"applied 1\n".as_slice());
+    let mut full = StdSink::new(FullDevice);
+    assert_eq!(rt; full.write_all(b""), Ok(()));
+    assert_eq!(rt; full.write_all(b"a"), Err(Failed));
+    Ok(())
+}
+
+#[test]
+fn clocks_tell_what_they_were_made_with(rt: HostRuntime) -> Result<(), Fail> {
+    let answers = [1000, 1005, 990].to_vec(rt.alloc())?;
+    let clock = ListClock::new(answers);
+    for want in [1000, 1005, 990, 990, 990] {
+        assert_eq!(rt; clock.now_ms(), want);
+    }
+    assert_eq!(rt; FixedClock::new(1000).now_ms(), 1000);
+    Ok(())
+}
+
+#[test]
+fn the_system_tells_a_time_of_this_century(rt: HostRuntime) -> Result<(), Fail> {
+    let clock = SystemClock::new(rt.clone()?);
+    let start_of_2020 = 1_577_836_800_000;
+    assert!(rt; is_shared(&clock));
+    assert!(rt; start_of_2020 < clock.now_ms());
+    Ok(())
+}
+
+#[test]
+fn the_open_gate_lets_pass(rt: HostRuntime) {
+    let gate = OpenGate::new();
+    gate.reached(Writer(0), Point::Started);
+    assert!(rt; is_shared(&gate));
+}
