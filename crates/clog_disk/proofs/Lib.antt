@@ -1,0 +1,7 @@
+pub mod Moments
+pub mod Named
+pub mod Telling
+mod Calls
+mod States
+mod Undoing
+mod Worked

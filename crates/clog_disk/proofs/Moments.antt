@@ -1,0 +1,68 @@
+-- How a run of calls of a disk goes on.
+use Rattle.std.proofs.Common.{inl, inr, ⊎_elim, ℕ, List, Option, arith}
+use Rattle.clog_disk.specs.Files.{Files}
+use Rattle.clog_disk.specs.Images.{Elapses, LeavesOnly, IsImage, SinceThen}
+
+module _ {D : Type 0} (moment : D → ℕ) (since : D → ℕ → Files → Type 0) where
+  -- before the first call
+  pub started : (old : D) (P : Files → Type 0)
+      → ((image : Files) → since old (moment old) image → P image)
+      → LeavesOnly moment since old old P
+  started old P here = record {
+    later = omega arith;
+    each = here;
+    before = λ t image le left. inl left;
+  }
+
+  -- one call more, after which a crash leaves what has P
+  pub goes_on : (leaves : D → List ℕ → Option (List ℕ) → Type 0)
+      (read_at : D → ℕ → Option (List ℕ → List ℕ)) (old mid new : D) (P : Files → Type 0)
+      → LeavesOnly moment since old mid P → Elapses moment since leaves read_at mid new
+      → ((image : Files) → IsImage (leaves new) image → P image) → LeavesOnly moment since old new P
+  goes_on leaves read_at old mid new P so_far time here = record {
+    later = omega (arith, so_far.later, time.later);
+    each = λ image left.
+        ⊎_elim (so_far.each image) (here image) (
+        time.nothing_else (moment old) image so_far.later left
+        );
+    before = λ t image le left.
+        ⊎_elim (so_far.before t image le) (λ now. inr (here image now)) (
+        time.nothing_else t image (omega (arith, le, so_far.later)) left
+        );
+  }
+
+  -- a whole function more
+  pub goes_on_by : (old mid new : D) (P : Files → Type 0) → LeavesOnly moment since old mid P
+      → LeavesOnly moment since mid new P → LeavesOnly moment since old new P
+  goes_on_by old mid new P first next = record {
+    later = omega (arith, first.later, next.later);
+    each = λ image left.
+        ⊎_elim (first.each image) (λ p. p) (next.before (moment old) image first.later left);
+    before = λ t image le left.
+        ⊎_elim (first.before t image le) inr (
+        next.before t image (omega (arith, le, first.later)) left
+        );
+  }
+
+  -- what is weaker holds too
+  pub weakened : (old new : D) (P Q : Files → Type 0) → LeavesOnly moment since old new P
+      → ((image : Files) → P image → Q image) → LeavesOnly moment since old new Q
+  weakened old new P Q so_far implies = record {
+    later = so_far.later;
+    each = λ image left. implies image (so_far.each image left);
+    before = λ t image le left.
+        ⊎_elim inl (λ p. inr (implies image p)) (so_far.before t image le left);
+  }
+
+  -- what an object keeps since it was opened goes on over a function, also where it then says more
+  pub kept_since : (t : ℕ) (old new : D) (P Q R : Files → Type 0)
+      → SinceThen moment since t old P → LeavesOnly moment since old new Q
+      → ((image : Files) → P image → R image) → ((image : Files) → Q image → R image)
+      → SinceThen moment since t new R
+  kept_since t old new P Q R so_far next weaker there = record {
+    later = omega (arith, so_far.later, next.later);
+    each = λ image left.
+        ⊎_elim (λ before. weaker image (so_far.each image before)) (λ q. there image q) (
+        next.before t image so_far.later left
+        );
+  }

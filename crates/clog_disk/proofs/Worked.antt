@@ -1,0 +1,47 @@
+-- Worked cases of what a crash may leave, and of what is undone.
+use Rattle.std.proofs.Common.{◌≡◌, List, ℕ, [], ◌∷◌, false, Option, Some, None, refl, arith}
+use Rattle.clog_disk.specs.declared.stored.Undo.{Undo}
+use Rattle.clog_disk.specs.declared.stored.Undo.TheVariants.{Cut, Absent}
+use Rattle.clog_disk.specs.Stored.{Stored, may_leave, made_of, grown, settled}
+use Rattle.clog_disk.specs.InMemory.{with_file, back, reading_at}
+
+-- three bytes, of which two last
+abbrev file : Stored
+file = grown (settled (made_of (1 ∷ 2 ∷ []))) (3 ∷ [])
+
+stays_cut : may_leave (Some file) (Some (1 ∷ 2 ∷ []))
+stays_cut = (refl, omega arith)
+
+stays_torn : may_leave (Some file) (Some (1 ∷ 2 ∷ 9 ∷ []))
+stays_torn = (refl, omega arith)
+
+never_shorter : may_leave (Some file) (Some (1 ∷ [])) → ⊥
+never_shorter left = cc
+
+never_longer : may_leave (Some file) (Some (1 ∷ 2 ∷ 3 ∷ 4 ∷ [])) → ⊥
+never_longer left = omega (arith, left.1)
+
+never_gone : may_leave (Some file) None → ⊥
+never_gone left = cc
+
+made_is_gone : may_leave (Some (made_of (1 ∷ []))) None
+made_is_gone = refl
+
+-- two calls: a file is made with one byte, and one byte is put behind it
+abbrev name : List ℕ
+name = 7 ∷ []
+
+abbrev undos : List Undo
+undos = Absent name ∷ Cut name (record { size = 1; synced = 0; sure = false }) ∷ []
+
+abbrev now : List ℕ → Option Stored
+now = with_file (λ other. None) name (Some (made_of (1 ∷ 2 ∷ [])))
+
+absent_at_first : back undos now name ≡ None
+absent_at_first = refl
+
+one_byte_between : reading_at now undos 1 name ≡ 1 ∷ []
+one_byte_between = refl
+
+both_bytes_at_last : reading_at now undos 2 name ≡ 1 ∷ 2 ∷ []
+both_bytes_at_last = refl

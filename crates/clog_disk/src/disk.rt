@@ -1,0 +1,193 @@
+//! What a disk does, what a crash may leave of it, and when it fails.
+//!
+//! A crash leaves an image: each name is gone or has bytes that are possible for it. The files as
+//! they read now are always one of the images of now. Time counts in moments, and the images since
+//! a moment are those of each moment from it on, within the calls too.
+ghost use Rattle.std.specs.Prelude.{
+  ◌≡◌,
+  ◌≢◌,
+  ◌≤◌,
+  ℕ,
+  List,
+  length,
+  Option,
+  option_map,
+  Err,
+  IfOk,
+  IfSome,
+  OnOk,
+  OnErr,
+};
+ghost use Rattle.clog_disk.specs.Files.{
+  Files,
+  bytes_at,
+  IsEnd,
+  AppendsTo,
+  MayAppend,
+  Lists,
+  IsLength,
+  Reads,
+  SameTold,
+};
+ghost use Rattle.clog_disk.specs.Images.{
+  IsImage,
+  Within,
+  SameImages,
+  Unchanged,
+  Lasts,
+  Tears,
+  Elapses,
+};
+ghost use Rattle.clog_disk.specs.Causes.{HasDiskCause, Finds, StaysReliable};
+ghost use Rattle.clog_disk.specs.declared.disk.DiskFault.TheVariants.{
+  Failed as failed,
+  NoSuchFile as no_file,
+};
+
+use crate::names::Names;
+use clog_base::Name;
+use std::alloc::{AllocError, AllocFailed};
+
+/// Why a call of a disk did nothing, or not all.
+#[derive(Clone, Copy, Debug, PartialEq, Eq)]
+pub enum DiskFault {
+    /// The disk has failed, and has counted it.
+    Failed,
+    /// The disk tells its files, and has none of this name. It is no failure and is not counted.
+    NoSuchFile,
+    /// Memory was refused.
+    OutOfMemory,
+}
+
+impl From<AllocError> for DiskFault {
+    ghost use Rattle.clog_disk.specs.declared.disk.DiskFault.TheVariants.{
+      OutOfMemory as no_memory,
+    };
+
+    ghost from_gives = { λ _ e. e ≡ no_memory };
+
+    fn from(_: AllocError) -> Self {
+        DiskFault::OutOfMemory
+    }
+}
+
+impl<T: Drop> From<AllocFailed<T>> for DiskFault {
+    ghost use Rattle.clog_disk.specs.declared.disk.DiskFault.TheVariants.{
+      OutOfMemory as no_memory,
+    };
+
+    ghost from_gives = { λ _ e. e ≡ no_memory };
+
+    fn from(_: AllocFailed<T>) -> Self {
+        DiskFault::OutOfMemory
+    }
+}
+
+/// Files by name. After `OutOfMemory` and `NoSuchFile` no file and no image has changed.
+pub trait Disk {
+    /// The files as they read now, where the disk tells them.
+    ghost files: { Self → Option Files };
+
+    /// What a crash now may leave of a name: nothing there, or these bytes. An image is one such
+    /// for each name.
+    ghost leaves: { Self → List ℕ → Option (List ℕ) → Type 0 };
+
+    /// The moment, as a number that does not fall.
+    ghost moment: { Self → ℕ };
+
+    /// The images since a moment: what a crash at some moment from that one on might have left.
+    ghost since: { Self → ℕ → Files → Type 0 };
+
+    /// How each name read at a moment, where the disk tells its files.
+    ghost read_at: { Self → ℕ → Option (List ℕ → List ℕ) };
+
+    /// How often it has failed.
+    ghost faults: { Self → ℕ };
+
+    /// That no call from now on answers `Failed`, where it knows this.
+    ghost reliable: { Self → Type 0 } = { λ _. ⊥ };
+
+    /// All names of files that are a `Name`, ascending by their bytes.
+    fn list(&mut self) -> Result<Names, DiskFault>
+        ensures names { IfOk result (λ names. Lists (files self.old) names) }
+        ensures same { Unchanged (files self.old) (files self.new) (leaves self.old)
+            (leaves self.new) }
+        ensures time { Elapses moment since leaves read_at self.old self.new }
+        ensures found { result ≢ Err no_file }
+        ensures cause { HasDiskCause (faults self.old) (faults self.new) result }
+        ensures reliable { reliable self.old → StaysReliable (reliable self.new) result };
+
+    /// The length of a file, in bytes.
+    fn len(&mut self, name: &Name) -> Result<u64, DiskFault>
+        ensures length { IfOk result (IsLength (files self.old) name.now) }
+        ensures same { Unchanged (files self.old) (files self.new) (leaves self.old)
+            (leaves self.new) }
+        ensures time { Elapses moment since leaves read_at self.old self.new }
+        ensures finds { Finds (files self.old) name.now result }
+        ensures cause { HasDiskCause (faults self.old) (faults self.new) result }
+        ensures reliable { reliable self.old → StaysReliable (reliable self.new) result };
+
+    /// The bytes of a file from `at` on: `count` of them, or fewer where the file ends before.
+    fn read(&mut self, name: &Name, at: u64, count: u32) -> Result<Vec<u8>, DiskFault>
+        ensures bytes { IfOk result (λ bytes.
+            Reads (files self.old) name.now at count bytes.items) }
+        ensures few { IfOk result (λ bytes. length bytes.items ≤ count) }
+        ensures same { Unchanged (files self.old) (files self.new) (leaves self.old)
+            (leaves self.new) }
+        ensures time { Elapses moment since leaves read_at self.old self.new }
+        ensures finds { Finds (files self.old) name.now result }
+        ensures cause { HasDiskCause (faults self.old) (faults self.new) result }
+        ensures reliable { reliable self.old → StaysReliable (reliable self.new) result };
+
+    /// Puts bytes at the end of a file, which is made where it is absent. `at` is its length, 0
+    /// where it is absent. Until the file is synced, a crash may leave any bytes from the old end
+    /// on, or fewer; after `Failed` the files too may hold any bytes there, up to as many.
+    fn append_at(&mut self, name: &Name, at: u64, bytes: &[u8]) -> Result<(), DiskFault>
+        requires { IsEnd (files self.old) name.now at }
+        ensures told { SameTold (files self.old) (files self.new) }
+        ensures appends { OnOk result (AppendsTo (files self.old) (files self.new) name.now
+            bytes.now) }
+        ensures maybe { OnErr result (MayAppend (files self.old) (files self.new) name.now
+            (length bytes.now)) }
+        ensures crash { Tears (files self.old) (leaves self.old) (leaves self.new) name.now
+            (length bytes.now) }
+        ensures refused { result ≢ Err failed → OnErr result (Unchanged (files self.old)
+            (files self.new) (leaves self.old) (leaves self.new)) }
+        ensures time { Elapses moment since leaves read_at self.old self.new }
+        ensures found { result ≢ Err no_file }
+        ensures cause { HasDiskCause (faults self.old) (faults self.new) result }
+        ensures reliable { reliable self.old → StaysReliable (reliable self.new) result };
+
+    /// Makes a file's bytes lasting, and its name. After a refusal the images are as before.
+    fn sync(&mut self, name: &Name) -> Result<(), DiskFault>
+        ensures lasts { OnOk result (Lasts (files self.old) (leaves self.new) name.now) }
+        ensures same { files self.new ≡ files self.old }
+        ensures crash { Within (leaves self.old) (leaves self.new) }
+        ensures refused { OnErr result (SameImages (leaves self.old) (leaves self.new)) }
+        ensures time { Elapses moment since leaves read_at self.old self.new }
+        ensures finds { Finds (files self.old) name.now result }
+        ensures cause { HasDiskCause (faults self.old) (faults self.new) result }
+        ensures reliable { reliable self.old → StaysReliable (reliable self.new) result };
+
+    /// How often it has failed. The count stands still at the greatest `u64`.
+    fn fault_count(&self) -> u64
+        ensures { result ≡ faults self.now };
+
+    /// The moment, for those who want to speak of it later.
+    fn moment_count(&self) -> u64
+        ensures { result ≡ moment self.now };
+
+    /// Now each name reads as the files do.
+    ghost reads_now: { (d : Self) → read_at d (moment d) ≡ option_map bytes_at (files d) };
+
+    /// The files as they read now are one of the images of now.
+    ghost reads_an_image: { (d : Self) → IfSome (files d) (IsImage (leaves d)) };
+
+    /// This moment is one of those since an earlier one.
+    ghost counts_now: { (d : Self) (t : ℕ) (image : Files) → t ≤ moment d
+        → IsImage (leaves d) image → since d t image };
+
+    /// Since this moment there is no other.
+    ghost only_now: { (d : Self) (image : Files) → since d (moment d) image
+        → IsImage (leaves d) image };
+}

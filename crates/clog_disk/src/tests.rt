@@ -1,0 +1,3 @@
+//! What no clause says: real files, which calls fail, and that calls succeed.
+mod folder;
+mod memory;

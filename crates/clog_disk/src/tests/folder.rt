@@ -1,0 +1,114 @@
+//! The disk over a real folder. Each test is a process, and has a current folder of its own.
+use crate::{Disk, DiskFault, FolderDisk};
+use clog_base::{Name, segment_name};
+use std::test::Fail;
+use std::{env, fs, io};
+
+fn enter(rt: &HostRuntime, folder: &str) -> io::Result<()> {
+    // A run that was broken off has left it.
+    if fs::metadata(rt, folder).is_ok() {
+        fs::remove_dir_all(rt, folder)?;
+    }
+    fs::create_dir(rt, folder)?;
+    env::set_current_dir(rt, folder)
+}
+
+fn leave(rt: &HostRuntime, folder: &str) -> io::Result<()> {
+    env::set_current_dir(rt, "..")?;
+    fs::remove_dir_all(rt, folder)
+}
+
+fn write_hello(rt: &HostRuntime, name: &Name) -> Result<FolderDisk<HostRuntime>, Fail> {
+    let mut disk = FolderDisk::for_writing(rt.clone()?);
+    disk.append_at(name, 0, b"hello")?;
+    disk.append_at(name, 5, b"!")?;
+    disk.sync(name)?;
+    Ok(disk)
+}
+
+// Whether a disk's calls all fail, and write nothing.
+fn is_refused(disk: &mut FolderDisk<HostRuntime>, name: &Name) -> bool {
+    disk.list().is_err()
+        && disk.append_at(name, 6, b"?") == Err(DiskFault::Failed)
+        && disk.sync(name) == Err(DiskFault::Failed)
+        && disk.fault_count() == 3
+}
+
+#[test]
+fn a_folder_is_made_at_the_first_write(rt: HostRuntime) -> Result<(), Fail> {
+    enter(&rt, "made_at_the_first_write")?;
+    let name = segment_name(1000);
+    let mut reader = FolderDisk::for_reading(rt.clone()?);
+    assert_eq!(rt; reader.list()?.into_vec().len(), 0);
+    let _writer = write_hello(&rt, &name)?;
+    assert_eq!(rt; reader.list()?.into_vec().len(), 1);
+    assert_eq!(rt; reader.len(&name)?, 6);
+    assert_eq!(rt; reader.read(&name, 1, 3)?.as_slice(), b"ell".as_slice());
+    assert_eq!(rt; reader.read(&name, 4, 9)?.as_slice(), b"o!".as_slice());
+    leave(&rt, "made_at_the_first_write")?;
+    Ok(())
+}
+
+#[test]
+fn an_append_goes_to_the_end_or_fails(rt: HostRuntime) -> Result<(), Fail> {
+    enter(&rt, "append_goes_to_the_end")?;
+    let name = segment_name(1000);
+    let mut disk = write_hello(&rt, &name)?;
+    assert_eq!(rt; disk.append_at(&name, 5, b"?"), Err(DiskFault::Failed));
+    assert_eq!(rt;
+        disk.append_at(&segment_name(7), 5, b"?"),
+        Err(DiskFault::Failed)
+    );
+    assert_eq!(rt; disk.sync(&segment_name(7)), Err(DiskFault::Failed));
+    assert_eq!(rt; disk.fault_count(), 3);
+    assert_eq!(rt; disk.list()?.into_vec().len(), 1);
+    assert_eq!(rt; disk.len(&name)?, 6);
+    leave(&rt, "append_goes_to_the_end")?;
+    Ok(())
+}
+
+#[test]
+fn one_program_writes_at_a_time(rt: HostRuntime) -> Result<(), Fail> {
+    enter(&rt, "one_program_writes")?;
+    let name = segment_name(1000);
+    let mut late = FolderDisk::for_writing(rt.clone()?);
+    assert_eq!(rt; late.list()?.into_vec().len(), 0);
+    let first = write_hello(&rt, &name)?;
+    assert_eq!(rt; late.append_at(&name, 6, b"?"), Err(DiskFault::Failed));
+    assert!(rt; late.list().is_err());
+    assert!(rt; is_refused(&mut FolderDisk::for_writing(rt.clone()?), &name));
+    drop(first);
+    let mut next = FolderDisk::for_writing(rt.clone()?);
+    next.append_at(&name, 6, b"!")?;
+    assert_eq!(rt; next.len(&name)?, 7);
+    leave(&rt, "one_program_writes")?;
+    Ok(())
+}
+
+#[test]
+fn what_is_no_file_or_no_name_is_not_listed(rt: HostRuntime) -> Result<(), Fail> {
+    enter(&rt, "no_file_or_no_name")?;
+    let mut disk = write_hello(&rt, &segment_name(1000))?;
+    fs::create_dir(&rt, "commitlog/CommitLog-6-1.log")?;
+    fs::write(&rt, "commitlog/\u{e9}", "")?;
+    let names = disk.list()?.into_vec();
+    assert_eq!(rt; names.len(), 1);
+    assert_eq!(rt; names[0].as_bytes(), b"CommitLog-6-1000.log".as_slice());
+    leave(&rt, "no_file_or_no_name")?;
+    Ok(())
+}
+
+#[test]
+fn no_folder_is_no_disk(rt: HostRuntime) -> Result<(), Fail> {
+    enter(&rt, "no_folder")?;
+    fs::write(&rt, "commitlog", "")?;
+    assert!(rt; FolderDisk::for_reading(rt.clone()?).list().is_err());
+    assert!(rt;
+        is_refused(
+            &mut FolderDisk::for_writing(rt.clone()?),
+            &segment_name(1000)
+        )
+    );
+    leave(&rt, "no_folder")?;
+    Ok(())
+}
