@@ -1,0 +1,74 @@
+-- Which of two cells counts, and what a list of cells comes to.
+use Rattle.std.specs.Prelude.{◌≡◌, ◌↔◌, ◌<◌, ◌^◌, ℕ, List, ◌++◌, Bool, false, length}
+use Rattle.std.specs.Prelude.{Option, Some, None, Contains}
+use Rattle.std.specs.declared.cmp.Ordering.{Ordering}
+use Rattle.std.specs.Ordering.{nat_cmp, int_cmp, ordering_then, is_gt}
+use Rattle.std.specs.Cmp.Lexicographic.{slice_cmp}
+use Rattle.std.specs.List.Sorted.{IsStrictlySortedBy}
+use Rattle.std.specs.Map.{lookup, keys_of}
+use Rattle.std.specs.BTreeMap.{is_at}
+use Rattle.clog_base.specs.declared.cell.Kind.{Kind}
+use Rattle.clog_base.specs.declared.cell.Kind.TheVariants.{Deletion, Live}
+use Rattle.clog_base.specs.declared.cell.Cell.{Cell}
+use Rattle.clog_base.specs.declared.cell.CellKey.{CellKey}
+
+-- a deletion is greater
+abbrev pub kind_rank : Kind → ℕ
+kind_rank Live = 0
+kind_rank Deletion = 1
+
+-- by timestamp, then by kind, then by the value's bytes, unsigned
+abbrev pub cell_cmp : Cell → Cell → Ordering
+cell_cmp a b =
+    ordering_then (int_cmp a.ts b.ts)
+    (ordering_then (nat_cmp (kind_rank a.kind) (kind_rank b.kind))
+    (slice_cmp nat_cmp a.value b.value))
+
+abbrev pub is_newer : Cell → Cell → Bool
+is_newer a b = is_gt (cell_cmp a b)
+
+-- by table, then by the key's bytes, then by the column's
+abbrev pub key_cmp : CellKey → CellKey → Ordering
+key_cmp a b =
+    ordering_then (nat_cmp a.table.0 b.table.0)
+    (ordering_then (slice_cmp nat_cmp a.key b.key) (slice_cmp nat_cmp a.column b.column))
+
+-- one of the key's cells in the list, and none of them is newer
+pub record IsNewestOf (pairs : List (CellKey × Cell)) (key : CellKey) (cell : Cell) : Type 0 where
+  pub listed : Contains pairs (key, cell)
+  pub greatest : (other : Cell) → Contains pairs (key, other) → is_newer other cell ≡ false
+
+-- the newest of the key's cells in the list, and none exactly where the list has no cell of the key
+abbrev pub IsNewestAt : List (CellKey × Cell) → CellKey → Option Cell → Type 0
+IsNewestAt pairs key None = (cell : Cell) → ¬ Contains pairs (key, cell)
+IsNewestAt pairs key (Some cell) = IsNewestOf pairs key cell
+
+-- what rows have at a key: the rows as a finite map
+abbrev pub found_at : List (CellKey × Cell) → CellKey → Option Cell
+found_at rows key = lookup (is_at (key_cmp key)) rows
+
+-- each key once, in order
+abbrev pub AreInOrder : List (CellKey × Cell) → Type 0
+AreInOrder rows = IsStrictlySortedBy key_cmp (keys_of rows)
+
+-- The merge of a list of cells under their keys: the rows stand in strictly ascending order of
+-- their keys, and have at each key the newest of the key's cells in the list, and nothing else.
+pub record IsMerge (pairs rows : List (CellKey × Cell)) : Type 0 where
+  pub ordered : AreInOrder rows
+  pub newest : (key : CellKey) → IsNewestAt pairs key (found_at rows key)
+
+-- two lists with the same members, each as often and wherever it stands
+abbrev pub HaveSameMembers : List (CellKey × Cell) → List (CellKey × Cell) → Type 0
+HaveSameMembers pairs others = (pair : CellKey × Cell) → Contains pairs pair ↔ Contains others pair
+
+-- new rows are the old ones merged with a first part of the others
+pub record MergesPart (old others new : List (CellKey × Cell)) : Type 0 where
+  pub part : List (CellKey × Cell)
+  pub rest : List (CellKey × Cell)
+  pub parts : others ≡ part ++ rest
+  pub merged : IsMerge (old ++ part) new
+
+-- what a map keeps: each key once and in order, and at most 4294967295 cells
+pub record IsCellMap (rows : List (CellKey × Cell)) : Type 0 where
+  pub ordered : AreInOrder rows
+  pub few : length rows < 2 ^ 32

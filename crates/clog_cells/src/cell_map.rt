@@ -1,0 +1,200 @@
+//! Cells by their keys, the newest of each. A map holds each key once, in ascending order of table,
+//! key bytes and column bytes, and at most 4294967295 cells; contracts see it as its list of pairs.
+ghost use Rattle.std.specs.Prelude.{
+  ◌≡◌,
+  ◌<◌,
+  ◌^◌,
+  [],
+  ◌∷◌,
+  ◌++◌,
+  ◌+◌,
+  ◌⊎◌,
+  length,
+  IsSome,
+  IfSome,
+  true,
+  OnOk,
+  OnErr,
+  IfOk,
+  IfErr,
+};
+ghost use Rattle.clog_cells.specs.Merge.{is_newer, found_at, IsMerge, MergesPart, IsCellMap};
+
+use crate::newest::newer;
+use clog_base::{Cell, CellKey, OutOfMemory, Text};
+use std::alloc::{AllocFailed, Global};
+use std::collections::BTreeMap;
+use std::marker::Model;
+
+/// The greatest number of cells of a map.
+const MAX_CELLS: usize = 4_294_967_295;
+
+/// The newest cell of each key.
+#[derive(Drop)]
+pub struct CellMap {
+    alloc: Global,
+    cells: BTreeMap<CellKey, Cell>,
+}
+
+impl Model for CellMap {
+    ghost use Rattle.std.specs.Prelude.{List};
+    ghost use Rattle.clog_base.specs.declared.cell.Cell.{Cell};
+    ghost use Rattle.clog_base.specs.declared.cell.CellKey.{CellKey};
+    ghost use Rattle.clog_cells.specs.Merge.{IsCellMap};
+
+    ghost Value = { List (CellKey × Cell) };
+
+    ghost view = { λ m. m.cells.entries };
+
+    ghost invariant = { λ m. IsCellMap m.cells.entries };
+}
+
+impl CellMap {
+    /// A map with no cells.
+    pub fn new(alloc: Global) -> CellMap
+        ensures { result ≡ [] }
+    {
+        CellMap {
+            alloc,
+            cells: BTreeMap::new(alloc),
+        }
+    }
+
+    /// The number of cells.
+    pub fn len(&self) -> usize
+        ensures len { result ≡ length self.now }
+        ensures map { IsCellMap self.now }
+    {
+        self.cells.len()
+    }
+
+    /// Merges one cell: it is kept where it is newer than its key's, or the first of its key. The
+    /// pair comes back for want of memory, also where it would be one cell more than 4294967295;
+    /// the map is then as it was.
+    pub fn put(&mut self, key: CellKey, cell: Cell) -> Result<(), (CellKey, Cell)>
+        ensures merged { OnOk result (IsMerge (self.old ++ (key, cell) ∷ []) self.new) }
+        ensures returned { IfErr result (λ pair. pair ≡ (key, cell)) }
+        ensures unchanged { OnErr result (self.new ≡ self.old) }
+    {
+        put(&mut self.cells, key, cell)
+    }
+
+    /// Moves the cells of another map in. After a refusal the map is its old content merged with a
+    /// first part of the other.
+    pub fn merge(&mut self, other: CellMap) -> Result<(), OutOfMemory>
+        ensures merged { OnOk result (IsMerge (self.old ++ other) self.new) }
+        ensures part { OnErr result (MergesPart self.old other self.new) }
+    {
+        merge(&mut self.cells, other.cells)
+    }
+
+    /// A copy of the pairs, ascending.
+    pub fn rows(&self) -> Result<Vec<(CellKey, Cell)>, OutOfMemory>
+        ensures rows { IfOk result (λ rows. rows.items ≡ self.now) }
+        ensures map { IsCellMap self.now }
+    {
+        rows_of(self.alloc, &self.cells)
+    }
+
+    /// The cells by their keys, ascending; nothing is copied.
+    pub fn entries(&self) -> &BTreeMap<CellKey, Cell>
+        ensures entries { result.now.entries ≡ self.now }
+        ensures map { IsCellMap self.now }
+    {
+        &self.cells
+    }
+}
+
+/// Puts a cell that is newer than its key's, or the first of its key.
+fn insert(
+    cells: &mut BTreeMap<CellKey, Cell>,
+    key: CellKey,
+    cell: Cell,
+) -> Result<(), (CellKey, Cell)>
+    requires map { IsCellMap cells.old.entries }
+    requires newer { IfSome (found_at cells.old.entries key) (λ found. is_newer cell found ≡ true) }
+    requires room { IsSome (found_at cells.old.entries key)
+        ⊎ (length cells.old.entries + 1 < 2 ^ 32) }
+    ensures merged { OnOk result
+        (IsMerge (cells.old.entries ++ (key, cell) ∷ []) cells.new.entries) }
+    ensures returned { IfErr result (λ pair. pair ≡ (key, cell)) }
+    ensures unchanged { OnErr result (cells.new.entries ≡ cells.old.entries) }
+    ensures map { IsCellMap cells.new.entries }
+{
+    match cells.insert(key, cell) {
+        Ok(_) => Ok(()),
+        Err(AllocFailed { value }) => Err(value),
+    }
+}
+
+fn put(cells: &mut BTreeMap<CellKey, Cell>, key: CellKey, cell: Cell) -> Result<(), (CellKey, Cell)>
+    requires { IsCellMap cells.old.entries }
+    ensures merged { OnOk result
+        (IsMerge (cells.old.entries ++ (key, cell) ∷ []) cells.new.entries) }
+    ensures returned { IfErr result (λ pair. pair ≡ (key, cell)) }
+    ensures unchanged { OnErr result (cells.new.entries ≡ cells.old.entries) }
+    ensures map { IsCellMap cells.new.entries }
+{
+    match cells.get(&key) {
+        Some(found) => {
+            if newer(&cell, found) {
+                insert(cells, key, cell)
+            } else {
+                Ok(())
+            }
+        }
+        None => {
+            if cells.len() < MAX_CELLS {
+                insert(cells, key, cell)
+            } else {
+                Err((key, cell))
+            }
+        }
+    }
+}
+
+fn merge(
+    cells: &mut BTreeMap<CellKey, Cell>,
+    others: BTreeMap<CellKey, Cell>,
+) -> Result<(), OutOfMemory>
+    requires { IsCellMap cells.old.entries }
+    ensures merged { OnOk result (IsMerge (cells.old.entries ++ others.entries) cells.new.entries) }
+    ensures part { OnErr result (MergesPart cells.old.entries others.entries cells.new.entries) }
+    ensures map { IsCellMap cells.new.entries }
+{
+    for (key, cell) in others {
+        let Ok(()) = put(cells, key, cell) else {
+            return Err(OutOfMemory);
+        };
+    }
+    Ok(())
+}
+
+fn copy_of(alloc: Global, key: &CellKey, cell: &Cell) -> Result<(CellKey, Cell), OutOfMemory>
+    ensures { IfOk result (λ pair. pair ≡ (key.now, cell.now)) }
+{
+    let key = CellKey {
+        table: key.table,
+        key: Text::copy_of(alloc, key.key.as_str())?,
+        column: Text::copy_of(alloc, key.column.as_str())?,
+    };
+    let cell = Cell {
+        ts: cell.ts,
+        kind: cell.kind,
+        value: Text::copy_of(alloc, cell.value.as_str())?,
+    };
+    Ok((key, cell))
+}
+
+fn rows_of(
+    alloc: Global,
+    cells: &BTreeMap<CellKey, Cell>,
+) -> Result<Vec<(CellKey, Cell)>, OutOfMemory>
+    ensures { IfOk result (λ rows. rows.items ≡ cells.now.entries) }
+{
+    let mut rows = Vec::with_capacity(alloc, cells.len())?;
+    for (key, cell) in cells {
+        rows.push(copy_of(alloc, key, cell)?)?;
+    }
+    Ok(rows)
+}

@@ -1,0 +1,14 @@
+//! Which of two cells counts, and the merge of many.
+#![tactic(auto)]
+
+mod cell_map;
+mod laws;
+mod newest;
+
+pub use cell_map::CellMap;
+pub use clog_base::{Cell, CellKey, Kind, OutOfMemory, Table, Text};
+pub use laws::{merge_laws, order_laws};
+pub use newest::newer;
+
+#[cfg(test)]
+mod tests;
