@@ -1,0 +1,7 @@
+pub mod Pieces
+pub mod Texts
+pub mod Readers
+pub mod Loop
+pub mod Grammar
+pub mod Payloads
+pub mod Decoding

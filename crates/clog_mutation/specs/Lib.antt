@@ -1,0 +1,5 @@
+pub mod Limits
+pub mod Payload
+pub mod Reading
+pub mod Refusals
+pub mod Stored

@@ -1,0 +1,42 @@
+-- The mutations that have a payload, and the bytes that are one.
+use Rattle.std.specs.Prelude.{◌≡◌, ℕ, List, [], length, ◌≤◌, ◌<◌, ◌^◌, IsUtf8, FitsSigned}
+use Rattle.std.specs.Int.{w64}
+use Rattle.std.specs.List.{AllByRecursion}
+use Rattle.clog_base.specs.declared.cell.Kind.{Kind}
+use Rattle.clog_base.specs.declared.cell.Kind.TheVariants.{Deletion, Live}
+use Rattle.clog_mutation.specs.declared.mutation.Update.{Update}
+use Rattle.clog_mutation.specs.declared.mutation.Mutation.{Mutation}
+use Rattle.clog_mutation.specs.Limits.{IsNameLength}
+use Rattle.clog_mutation.specs.Payload.{payload_of}
+
+-- a key or a column
+pub record IsNameText (text : List ℕ) : Type 0 where
+  pub size : IsNameLength (length text)
+  pub utf8 : IsUtf8 text
+
+-- a live value, whose length fits four bytes
+pub record IsValueText (text : List ℕ) : Type 0 where
+  pub size : length text < 2 ^ 32
+  pub utf8 : IsUtf8 text
+
+abbrev pub IsStoredValue : Kind → List ℕ → Type 0
+IsStoredValue Deletion value = value ≡ []
+IsStoredValue Live value = IsValueText value
+
+pub record IsStoredUpdate (u : Update) : Type 0 where
+  pub table : u.table.0 < 16
+  pub column : IsNameText u.column
+  pub ts : FitsSigned w64 u.cell.ts
+  pub value : IsStoredValue u.cell.kind u.cell.value
+
+-- what a payload can hold: the limits, texts in UTF-8, and numbers of their widths
+pub record IsStored (m : Mutation) : Type 0 where
+  pub key : IsNameText m.key
+  pub some : 1 ≤ length m.updates
+  pub few : length m.updates ≤ 65535
+  pub updates : AllByRecursion IsStoredUpdate m.updates
+
+-- the bytes are the payload of the mutation
+pub record IsPayload (bytes : List ℕ) (m : Mutation) : Type 0 where
+  pub stored : IsStored m
+  pub spelled : bytes ≡ payload_of m

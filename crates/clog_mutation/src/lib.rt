@@ -1,0 +1,16 @@
+//! Mutations and the bytes of their payloads.
+#![tactic(auto)]
+
+mod laws;
+mod mutation;
+mod reading;
+mod writing;
+
+pub use clog_base::PayloadFault;
+pub use laws::payload_laws;
+pub use mutation::{Mutation, Mutations, Update, Updates};
+pub use reading::decode;
+pub use writing::{encode, payload_size};
+
+#[cfg(test)]
+mod tests;
