@@ -1,0 +1,5 @@
+pub mod Splitting
+pub mod Objects
+pub mod UpdateLists
+pub mod CellPrinted
+pub mod FileReading

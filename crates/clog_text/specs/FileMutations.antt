@@ -1,0 +1,42 @@
+-- The mutations of a file, or its first refused line.
+use Rattle.std.specs.Prelude.{◌≡◌, ℕ, ◌+◌, List, [], ◌∷◌, Result, Ok, Err, ⊤}
+use Rattle.clog_mutation.specs.declared.mutation.Mutation.{Mutation}
+use Rattle.clog_text.specs.declared.refusal.BadLine.{BadLine}
+use Rattle.clog_text.specs.declared.refusal.BadLine.TheVariants.{NotJson, Field, Range, NoUpdates}
+use Rattle.clog_text.specs.declared.refusal.BadLine.TheVariants.{UnknownTable, OutOfMemory}
+use Rattle.clog_text.specs.FileLines.{lines_of}
+use Rattle.clog_text.specs.LineMutation.{line_mutation}
+
+-- a line's number and why it is refused
+abbrev pub Refused : Type 0
+Refused = ℕ × BadLine
+
+-- behind a line that gave this, the lines behind it give that
+abbrev pub first_then : Result Mutation BadLine → ℕ → Result (List Mutation) Refused
+    → Result (List Mutation) Refused
+first_then (Err cause) n rest = Err (n, cause)
+first_then (Ok m) n (Ok ms) = Ok (m ∷ ms)
+first_then (Ok m) n (Err refused) = Err refused
+
+-- the mutations of lines that are numbered from n on, or the first that is refused and its cause
+unfoldable pub mutations_from : ℕ → List (List ℕ) → Result (List Mutation) Refused
+mutations_from n [] = Ok []
+mutations_from n (line ∷ lines) = first_then (line_mutation line) n (mutations_from (n + 1) lines)
+
+-- the mutations of a file, or its first refused line, numbered from 1, and its cause
+abbrev pub file_mutations : List ℕ → Result (List Mutation) Refused
+file_mutations bytes = mutations_from 1 (lines_of bytes)
+
+-- that line was the first refused, for this cause, unless memory ran out
+abbrev pub FailsAt : ℕ → BadLine → Result (List Mutation) Refused → Type 0
+FailsAt n NotJson reading = reading ≡ Err (n, NotJson)
+FailsAt n (Field part) reading = reading ≡ Err (n, Field part)
+FailsAt n (Range part) reading = reading ≡ Err (n, Range part)
+FailsAt n NoUpdates reading = reading ≡ Err (n, NoUpdates)
+FailsAt n UnknownTable reading = reading ≡ Err (n, UnknownTable)
+FailsAt n OutOfMemory reading = ⊤
+
+-- the answer is what the file's lines give, unless memory ran out
+abbrev pub Reads : List ℕ → Result (List Mutation) Refused → Type 0
+Reads bytes (Ok ms) = file_mutations bytes ≡ Ok ms
+Reads bytes (Err refused) = FailsAt refused.0 refused.1 (file_mutations bytes)

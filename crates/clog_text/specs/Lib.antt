@@ -1,0 +1,5 @@
+pub mod FileLines
+pub mod LineMutation
+pub mod FileMutations
+pub mod Refusals
+pub mod CellTexts

@@ -1,0 +1,16 @@
+//! Texts: the lines of a mutation file, what each says or why it is refused, and cells as lines.
+#![tactic(auto)]
+
+mod cell_text;
+mod file;
+mod read;
+mod refusal;
+mod split;
+#[cfg(test)]
+mod tests;
+
+pub use cell_text::{cell_line, put_cell_line};
+pub use file::read_lines;
+pub use read::read_line;
+pub use refusal::{BadLine, Part};
+pub use split::{Lines, SplitFault, line_laws, split_file};

@@ -1,0 +1,57 @@
+//! Whole files.
+use super::{GOOD, with_updates};
+use crate::{BadLine, Part, SplitFault, read_lines, split_file};
+use std::test::Fail;
+
+#[test]
+fn a_file_is_split_at_each_newline(rt: HostRuntime) -> Result<(), Fail> {
+    for (bytes, want) in [
+        (&b""[..], &[][..]),
+        (b"\n", &[(0, 0)]),
+        (b"a", &[(0, 1)]),
+        (b"a\n", &[(0, 1)]),
+        (b"\n\na", &[(0, 0), (1, 1), (2, 3)]),
+        (b"ab\n\r\n\nc\n", &[(0, 2), (3, 4), (5, 5), (6, 7)]),
+    ] {
+        let lines = split_file(rt.alloc(), bytes)?;
+        assert_eq!(rt; lines.as_slice(), want, "{bytes:?}");
+    }
+    Ok(())
+}
+
+#[test]
+fn a_file_has_at_most_a_million_lines(rt: HostRuntime) -> Result<(), Fail> {
+    let mut newlines = Vec::new(rt.alloc());
+    newlines.resize(1_000_000, b'\n')?;
+    assert_eq!(rt; split_file(rt.alloc(), &newlines)?.len(), 1_000_000);
+    newlines.push(b'\n')?;
+    assert!(rt; matches!(split_file(rt.alloc(), &newlines), Err(SplitFault::Limit)));
+    let fault = format!(in rt.alloc(); "{}", SplitFault::Limit)?;
+    assert_eq!(rt; fault.as_str(), "more than 1000000 lines");
+    Ok(())
+}
+
+#[test]
+fn the_first_bad_line_is_named(rt: HostRuntime) -> Result<(), Fail> {
+    let good = with_updates(rt.alloc(), GOOD)?;
+    for (tail, want) in [
+        ("", None),
+        ("\n", Some((3, BadLine::NotJson))),
+        ("[]\n{}", Some((3, BadLine::Field(Part::Line)))),
+        (
+            "{\"key\":\"k\",\"updates\":[]}",
+            Some((3, BadLine::NoUpdates)),
+        ),
+    ] {
+        let text = format!(in rt.alloc(); "{good}\n{good}\n{tail}")?;
+        let lines = split_file(rt.alloc(), text.as_bytes())?;
+        match read_lines(rt.alloc(), text.as_bytes(), &lines) {
+            Ok(mutations) => {
+                assert_eq!(rt; mutations.as_slice().len(), 2);
+                assert!(rt; want.is_none());
+            }
+            Err(refused) => assert_eq!(rt; Some(refused), want),
+        }
+    }
+    Ok(())
+}
