@@ -1,0 +1,5 @@
+pub mod Checks
+pub mod EntryLaws
+pub mod HeaderLaws
+pub mod MarkerLaws
+pub mod Pieces

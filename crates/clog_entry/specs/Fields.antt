@@ -1,0 +1,10 @@
+-- The fields of a segment of any version, as a reader meets them. All numbers are big endian.
+use Rattle.std.specs.Prelude.{ℕ, List, ◌++◌, length}
+use Rattle.std.specs.Int.{w32, to_be_bytes}
+use Rattle.clog_spec.specs.Segment.{low_half, high_half}
+
+-- what a header's check is of: version, halves of the id, length of the parameters, parameters
+abbrev pub header_fields : ℕ → ℕ → List ℕ → List ℕ
+header_fields version id parameters =
+    to_be_bytes w32 version ++ to_be_bytes w32 (low_half id) ++ to_be_bytes w32 (high_half id)
+    ++ to_be_bytes w32 (length parameters) ++ parameters

@@ -1,0 +1,138 @@
+//! The printed text of a cause, in a row of bytes, without memory.
+ghost use Rattle.std.specs.Prelude.{◌≡◌, ◌≤◌, ◌+◌, ◌++◌, length, take, codes, decimal};
+ghost use Rattle.clog_entry.specs.CauseText.{
+  with_number,
+  cause_text,
+  cause_name,
+  cause_number,
+  payload_cause_name,
+  payload_cause_number,
+};
+
+use crate::cause::Cause;
+use clog_base::{PayloadFault, put};
+use itoa::Buffer;
+use std::marker::Model;
+
+/// A cause as it is printed: `MarkerCheck`, `MarkerTarget 61`, `Payload Short 2`.
+#[derive(Drop)]
+pub struct CauseText {
+    row: [u8; 64],
+    len: usize,
+}
+
+impl Model for CauseText {
+    ghost use Rattle.std.specs.Prelude.{List, ℕ};
+    ghost use Rattle.clog_entry.specs.TextRow.{row_text, IsTextRow};
+
+    ghost Value = { List ℕ };
+
+    ghost view = { row_text };
+
+    ghost invariant = { IsTextRow };
+}
+
+impl CauseText {
+    pub fn as_bytes(&self) -> &[u8]
+        ensures { result.now ≡ self.now }
+    {
+        &self.row[..self.len]
+    }
+}
+
+impl Cause {
+    /// The text of the cause: its name and, where it has one, its number or the payload's fault.
+    #[tactic(auto, unfolding(crate::specs::CauseText::cause_text))]
+    pub fn text(&self) -> CauseText
+        ensures { result ≡ cause_text self.now }
+    {
+        text_of(name_of(*self), number_of(*self))
+    }
+}
+
+fn text_of(name: &str, number: Option<u64>) -> CauseText
+    requires { length name.now ≤ 20 }
+    ensures { result ≡ with_number name.now number }
+{
+    let mut row = [0; 64];
+    let len = put(&mut row, 0, name.as_bytes());
+    match number {
+        None => CauseText { row, len },
+        Some(number) => {
+            let len = put_number(&mut row, len, number);
+            CauseText { row, len }
+        }
+    }
+}
+
+fn name_of(cause: Cause) -> &'static str
+    ensures name { result.now ≡ cause_name cause }
+    ensures short { length result.now ≤ 20 }
+{
+    match cause {
+        Cause::Short => "Short",
+        Cause::SizeUnder10 => "SizeUnder10",
+        Cause::SizeCheck => "SizeCheck",
+        Cause::BodyCheck => "BodyCheck",
+        Cause::PastSection => "PastSection",
+        Cause::Version(_) => "Version",
+        Cause::Parameters => "Parameters",
+        Cause::HeaderCheck => "HeaderCheck",
+        Cause::MarkerCheck => "MarkerCheck",
+        Cause::MarkerTarget(_) => "MarkerTarget",
+        Cause::HeaderId(_) => "HeaderId",
+        Cause::Payload(fault) => payload_name_of(fault),
+    }
+}
+
+fn payload_name_of(fault: PayloadFault) -> &'static str
+    ensures name { result.now ≡ payload_cause_name fault }
+    ensures short { length result.now ≤ 20 }
+{
+    match fault {
+        PayloadFault::Short(_) => "Payload Short",
+        PayloadFault::BadTag(_) => "Payload BadTag",
+        PayloadFault::Count => "Payload Count",
+        PayloadFault::NotUtf8(_) => "Payload NotUtf8",
+        PayloadFault::Trailing(_) => "Payload Trailing",
+        PayloadFault::NameLength(_) => "Payload NameLength",
+        PayloadFault::BadTable(_) => "Payload BadTable",
+        PayloadFault::OutOfMemory => "Payload OutOfMemory",
+    }
+}
+
+fn number_of(cause: Cause) -> Option<u64>
+    ensures { result ≡ cause_number cause }
+{
+    match cause {
+        Cause::Version(number) | Cause::MarkerTarget(number) => Some(u64::from(number)),
+        Cause::HeaderId(id) => Some(id),
+        Cause::Payload(fault) => payload_number_of(fault),
+        _ => None,
+    }
+}
+
+fn payload_number_of(fault: PayloadFault) -> Option<u64>
+    ensures { result ≡ payload_cause_number fault }
+{
+    match fault {
+        PayloadFault::Short(at)
+        | PayloadFault::BadTag(at)
+        | PayloadFault::NotUtf8(at)
+        | PayloadFault::Trailing(at)
+        | PayloadFault::NameLength(at)
+        | PayloadFault::BadTable(at) => Some(at),
+        PayloadFault::Count | PayloadFault::OutOfMemory => None,
+    }
+}
+
+/// Puts a space and a number behind what stands in a row, and says where it ends.
+fn put_number(row: &mut [u8], at: usize, number: u64) -> usize
+    requires { at + 21 ≤ length row.old }
+    ensures front { take result row.new ≡ take at row.old ++ codes " " ++ decimal number }
+    ensures short { result ≤ at + 21 }
+{
+    let at = put(row, at, b" ");
+    let mut buffer = Buffer::new();
+    put(row, at, buffer.format(number).as_bytes())
+}

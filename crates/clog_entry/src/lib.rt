@@ -1,0 +1,18 @@
+//! The framing of a segment: its header, the markers of its sections and its entries, written and
+//! read. Writers and readers meet only in the format, the definitions of `clog_spec`.
+#![tactic(auto)]
+
+mod cause;
+mod cause_text;
+mod check;
+mod marker;
+mod reader;
+#[cfg(test)]
+mod tests;
+mod writer;
+
+pub use cause::Cause;
+pub use cause_text::CauseText;
+pub use marker::Marker;
+pub use reader::{read_entry, read_header, read_marker};
+pub use writer::{put_entry, write_entry, write_header, write_marker};

@@ -1,0 +1,117 @@
+//! A segment of 60 bytes whose checks were worked out elsewhere, and bytes that are none.
+use crate::{
+    Cause, Marker, put_entry, read_entry, read_header, read_marker, write_entry, write_header,
+    write_marker,
+};
+use clog_base::PayloadFault;
+use std::test::*;
+
+const HEADER: [u8; 20] = *b"\0\0\0\x06\0\0\0\0\0\0\x03\xe8\0\x02{}\x4e\x72\xf2\x7f";
+
+const MARKER: [u8; 8] = *b"\0\0\0\x3c\x0b\xd6\x8a\xe2";
+
+const PAYLOAD: [u8; 20] = *b"\0\x02ab\0\x01\0\0\x02cd\0\0\0\0\0\0\0\x05\0";
+
+const ENTRY: [u8; 32] =
+    *b"\0\0\0\x14\x3b\x9e\x0b\x61\0\x02ab\0\x01\0\0\x02cd\0\0\0\0\0\0\0\x05\0\x18\xa5\x86\xff";
+
+#[test]
+fn writers_give_the_bytes_of_the_format(rt: HostRuntime) -> Result<(), Fail> {
+    assert_eq!(rt; write_header(1000), HEADER);
+    assert_eq!(rt; write_marker(1000, 20, 60), MARKER);
+    let mut entries = write_entry(rt.alloc(), &PAYLOAD)?;
+    assert_eq!(rt; entries.as_slice(), ENTRY.as_slice());
+    put_entry(&mut entries, &PAYLOAD)?;
+    assert_eq!(rt; entries.len(), 64);
+    Ok(())
+}
+
+#[test]
+fn headers_are_refused_by_the_first_rule(rt: HostRuntime) -> Result<(), Fail> {
+    // The checks are of the fields as they stand there.
+    let cases: [(&[u8], Result<(), Cause>); 8] = [
+        (&HEADER, Ok(())),
+        (b"\0\0\0\x06\0\0\0\0\0\0\x03\xe8\0", Err(Cause::Short)),
+        (
+            b"\0\0\0\x06\0\0\0\0\0\0\x03\xe8\0\x02{}\x4e\x72\xf2",
+            Err(Cause::Short),
+        ),
+        (
+            b"\0\0\0\x06\0\0\0\0\0\0\x03\xe8\0\x02{}\x4e\x72\xf2\x7e",
+            Err(Cause::HeaderCheck),
+        ),
+        (
+            b"\0\0\0\x07\0\0\0\0\0\0\x03\xe8\0\x02{}\xf7\x89\x29\x97",
+            Err(Cause::Version(7)),
+        ),
+        (
+            b"\0\0\0\x06\0\0\0\0\0\0\x03\xe9\0\x02{}\x8f\xfc\x2d\xbf",
+            Err(Cause::HeaderId(1001)),
+        ),
+        (
+            b"\0\0\0\x06\0\0\0\0\0\0\x03\xe8\0\x02[]\xe0\x98\xf6\x15",
+            Err(Cause::Parameters),
+        ),
+        (
+            b"\0\0\0\x06\0\0\0\0\0\0\x03\xe8\0\0\x26\x87\x0c\x78",
+            Err(Cause::Parameters),
+        ),
+    ];
+    for (bytes, answer) in cases {
+        assert_eq!(rt; read_header(bytes, 1000), answer);
+    }
+    Ok(())
+}
+
+#[test]
+fn markers_and_entries_are_read_in_their_places(rt: HostRuntime) -> Result<(), Fail> {
+    let mut file = Vec::new(rt.alloc());
+    file.extend_from_slice(&HEADER)?;
+    file.extend_from_slice(&MARKER)?;
+    file.extend_from_slice(&ENTRY)?;
+    assert_eq!(rt; read_marker(&file, 1000, 20), Ok(Marker::Section(60)));
+    assert_eq!(rt; read_marker(&file, 1001, 20), Err(Cause::MarkerCheck));
+    assert_eq!(rt; read_marker(&file, 1000, 24), Err(Cause::MarkerCheck));
+    assert_eq!(rt; read_marker(&file, 1000, 53), Ok(Marker::End));
+    assert_eq!(rt; read_marker(&file, 1000, 4_294_967_295), Ok(Marker::End));
+    assert_eq!(rt; read_marker(&[0; 40], 1000, 20), Ok(Marker::End));
+    assert_eq!(rt; read_entry(&ENTRY, 0, 32), Ok(20));
+    assert_eq!(rt; read_entry(&ENTRY, 0, 31), Err(Cause::PastSection));
+    assert_eq!(rt; read_entry(&ENTRY, 25, 32), Err(Cause::Short));
+    assert_eq!(rt; read_entry(&[0; 40], 0, 40), Err(Cause::SizeUnder10));
+    let nine = b"\0\0\0\x09\x58\x98\x67\xb8123456789....";
+    assert_eq!(rt; read_entry(nine, 0, 21), Err(Cause::SizeUnder10));
+    let most = b"\xff\xff\xff\xff\xff\xff\xff\xff1234567890....";
+    assert_eq!(rt; read_entry(most, 0, 22), Err(Cause::PastSection));
+    Ok(())
+}
+
+#[test]
+fn causes_are_printed_by_name_and_number(rt: HostRuntime) -> Result<(), Fail> {
+    let cases: [(Cause, &str); 14] = [
+        (Cause::Short, "Short"),
+        (Cause::SizeUnder10, "SizeUnder10"),
+        (Cause::SizeCheck, "SizeCheck"),
+        (Cause::BodyCheck, "BodyCheck"),
+        (Cause::PastSection, "PastSection"),
+        (Cause::Version(7), "Version 7"),
+        (Cause::Parameters, "Parameters"),
+        (Cause::HeaderCheck, "HeaderCheck"),
+        (Cause::MarkerCheck, "MarkerCheck"),
+        (Cause::MarkerTarget(61), "MarkerTarget 61"),
+        (
+            Cause::HeaderId(18_446_744_073_709_551_615),
+            "HeaderId 18446744073709551615",
+        ),
+        (Cause::Payload(PayloadFault::Short(2)), "Payload Short 2"),
+        (
+            Cause::Payload(PayloadFault::NameLength(0)),
+            "Payload NameLength 0",
+        ),
+        (Cause::Payload(PayloadFault::Count), "Payload Count"),
+    ];
+    for (cause, text) in cases {
+        assert_eq!(rt; cause.text().as_bytes(), text.as_bytes());
+    }
+    Ok(())
+}

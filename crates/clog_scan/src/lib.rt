@@ -1,0 +1,17 @@
+//! What any bytes of a segment hold: the range of each entry, and where and why the segment ends.
+//! The definition cuts the whole string; the code reads with a cursor.
+#![tactic(auto)]
+
+mod answer;
+mod laws;
+mod reading;
+mod step;
+#[cfg(test)]
+mod tests;
+
+pub use answer::{End, Found, Founds, Scan};
+pub use clog_entry::Cause;
+pub use laws::{
+    bytes_behind_the_end, entries_in_order, one_answer_for_any_bytes, what_was_written_is_held,
+};
+pub use reading::scan;
