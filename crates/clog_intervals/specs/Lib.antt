@@ -1,0 +1,4 @@
+pub mod Positions
+pub mod Hulls
+pub mod Union
+pub mod Joined

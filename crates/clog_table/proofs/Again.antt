@@ -1,0 +1,299 @@
+-- A file's spelling decodes to that file alone.
+use Rattle.std.proofs.Common.{
+  ◌≡◌,
+  ℕ,
+  ◌+◌,
+  ◌<◌,
+  ◌≤◌,
+  inl,
+  inr,
+  List,
+  [],
+  ◌∷◌,
+  ◌++◌,
+  length,
+  take,
+  drop,
+  Option,
+  Some,
+  Result,
+  Ok,
+  Err,
+  refl,
+  sym,
+  ap,
+  subst,
+  ◌∙◌,
+  append_assoc,
+  arith,
+  length-append,
+}
+use Rattle.std.specs.Prelude.{IfOk}
+use Rattle.std.specs.List.{AllByRecursion}
+use Rattle.std.specs.Int.{w32, to_be_bytes}
+use Rattle.std.proofs.lemmas.Nat.{from_be_bytes-to_be_bytes_4, from_be_bytes-to_be_bytes_8}
+use Rattle.std.proofs.lemmas.List.{append-nil}
+use Rattle.clog_base.specs.declared.cell.Cell.{Cell}
+use Rattle.clog_base.specs.declared.cell.CellKey.{CellKey}
+use Rattle.clog_base.specs.declared.cell.Table.{Table}
+use Rattle.clog_cells.specs.Merge.{AreInOrder}
+use Rattle.clog_table.specs.declared.head.Head.{Head}
+use Rattle.clog_table.specs.declared.table_file.TableFile.{TableFile}
+use Rattle.clog_table.specs.declared.fault.TableFault.{TableFault}
+use Rattle.clog_table.specs.declared.fault.TableFault.TheVariants.{
+  Short,
+  Version,
+  HeadCheck,
+  Table as OtherTable,
+  Interval,
+  Cell as NoCell,
+  Order,
+  CellsCheck,
+  Trailing,
+  OutOfMemory,
+}
+use Rattle.clog_table.specs.Format.{cell_bytes, cells_bytes, check_bytes, head_bytes, head_of}
+use Rattle.clog_table.specs.Limits.{IsUpTo, IsStoredCell, IsWithinLimits, IsWritable}
+use Rattle.clog_table.specs.Reading.{Fields, cell_at}
+use Rattle.clog_table.specs.RawFields.{pair_of}
+use Rattle.clog_table.specs.Heads.{BeginsWithHead, IsStoredHead, head_at}
+use Rattle.clog_table.specs.Cells.{HasCells, BeginsWithNoCell, BeginsWithCell}
+use Rattle.clog_table.specs.Refusals.{IsFileOf, HasAllCells, Refuses, Decodes, IsUnlessMemory}
+use Rattle.clog_table.proofs.Numbers.{four_once}
+use Rattle.clog_table.proofs.HeadParts.{head_is_long}
+use Rattle.clog_table.proofs.Grammar.{parts, cell_again, pair_of-parts}
+use Rattle.clog_table.proofs.Keys.{Pairs, front_in_order}
+
+-- ---- one head
+head_again : (head : Head) → IsStoredHead head → head_at (head_bytes head) ≡ head
+head_again head h =
+    let lower_id = from_be_bytes-to_be_bytes_8 head.lower.id h.lower.id in
+    let lower_offset = from_be_bytes-to_be_bytes_4 head.lower.offset h.lower.offset in
+    let upper_id = from_be_bytes-to_be_bytes_8 head.upper.id h.upper.id in
+    let upper_offset = from_be_bytes-to_be_bytes_4 head.upper.offset h.upper.offset in
+    let count = from_be_bytes-to_be_bytes_4 head.count h.count in
+    λ i. record {
+      table = head.table;
+      lower = record { id = lower_id i; offset = lower_offset i };
+      upper = record { id = upper_id i; offset = upper_offset i };
+      count = count i;
+    }
+
+one_head : (bytes : List ℕ) (a b : Head) → BeginsWithHead bytes a → BeginsWithHead bytes b → a ≡ b
+one_head bytes a b p q =
+    sym (head_again a p.stored) ∙ ap head_at (sym p.spelled ∙ q.spelled) ∙ head_again b q.stored
+
+-- ---- one list of cells
+same_parts : (a b : Fields) (x y : List ℕ)
+    → ◌≡◌ {A = Option (Fields × List ℕ)} (Some (a, x)) (Some (b, y)) → (a ≡ b) × (x ≡ y)
+same_parts a b x y e =
+    let pairs : ◌≡◌ {A = Fields × List ℕ} (a, x) (b, y) = cc in
+    (ap (λ (p : Fields × List ℕ). p.0) pairs, ap (λ (p : Fields × List ℕ). p.1) pairs)
+
+one_cell : (table : Table) (a b : CellKey × Cell) (x y : List ℕ) → IsStoredCell table a
+    → IsStoredCell table b → cell_bytes a ++ x ≡ cell_bytes b ++ y → (a ≡ b) × (x ≡ y)
+one_cell table a b x y p q e =
+    let both : ◌≡◌ {A = Option (Fields × List ℕ)} (Some (parts a, x)) (Some (parts b, y)) =
+    sym (cell_again table a x p) ∙ ap cell_at e ∙ cell_again table b y q in
+    let same = same_parts (parts a) (parts b) x y both in
+    (sym (pair_of-parts table a p) ∙ ap (pair_of table) same.0 ∙ pair_of-parts table b q, same.1)
+
+-- the cells are a front and later ones, and the rest behind the front spells these
+record IsFront (table : Table) (cells front : Pairs) (tail rest : List ℕ) : Type 0 where
+  pub later : Pairs
+  pub joined : cells ≡ front ++ later
+  pub spelled : rest ≡ cells_bytes later ++ tail
+  pub stored : AllByRecursion (IsStoredCell table) later
+
+front_of : (table : Table) (cells front : Pairs) (tail rest : List ℕ)
+    → AllByRecursion (IsStoredCell table) cells → AllByRecursion (IsStoredCell table) front
+    → length front ≤ length cells → cells_bytes cells ++ tail ≡ cells_bytes front ++ rest
+    → IsFront table cells front tail rest
+front_of table cells [] tail rest p q few e =
+    record { later = cells; joined = refl; spelled = sym e; stored = p }
+front_of table [] (f ∷ fs) tail rest p q few e = absurd (omega arith)
+front_of table (c ∷ cs) (f ∷ fs) tail rest p q few e =
+    let few' : length fs ≤ length cs = omega arith in
+    let first = one_cell table c f (cells_bytes cs ++ tail) (cells_bytes fs ++ rest) p.0 q.0
+    (sym (append_assoc (cell_bytes c) (cells_bytes cs) tail) ∙ e
+    ∙ append_assoc (cell_bytes f) (cells_bytes fs) rest) in
+    let more = front_of table cs fs tail rest p.1 q.1 few' first.1 in
+    record {
+      later = more.later;
+      joined = λ i. first.0 i ∷ more.joined i;
+      spelled = more.spelled;
+      stored = more.stored;
+    }
+
+no_items : (xs : Pairs) → length xs ≡ 0 → xs ≡ []
+no_items [] e = refl
+no_items (x ∷ xs) e = absurd (omega arith)
+
+nothing_later : (table : Table) (cells front : Pairs) (tail rest : List ℕ)
+    (f : IsFront table cells front tail rest) → length front ≡ length cells → f.later ≡ []
+nothing_later table cells front tail rest f same = no_items f.later (
+    let e : length cells ≡ length front + length f.later =
+    ap (λ (l : Pairs). length l) f.joined ∙ length-append front f.later in
+    omega arith)
+
+begins_as : (table : Table) (bytes : List ℕ) (file : TableFile) → IsFileOf table bytes file
+    → BeginsWithHead bytes (head_of file)
+begins_as table bytes file f = record {
+  stored = record {
+    table = f.is_file.table;
+    lower = f.is_file.lower;
+    upper = f.is_file.upper;
+    count = f.is_file.map.few;
+  };
+  spelled = ap (take 37) f.spelled;
+}
+
+module _ (table : Table) (bytes : List ℕ) (file : TableFile) (f : IsFileOf table bytes file) where
+  behind_head : drop 37 bytes ≡ cells_bytes file.cells ++ check_bytes (cells_bytes file.cells)
+  behind_head = ap (drop 37) f.spelled
+
+  begins : BeginsWithHead bytes (head_of file)
+  begins = begins_as table bytes file f
+
+  stored : AllByRecursion (IsStoredCell table) file.cells
+  stored = subst (λ (t : Table). AllByRecursion (IsStoredCell t) file.cells) f.same_table
+      f.is_file.stored
+
+  front : (head : Head) (cells : Pairs) (rest : List ℕ) → head.table ≡ table
+      → HasCells bytes head cells rest
+      → (length file.cells ≡ head.count) × IsFront table file.cells cells
+      (check_bytes (cells_bytes file.cells)) rest
+  front head cells rest same h =
+      let heads : head_of file ≡ head = one_head bytes (head_of file) head begins h.begins.begins in
+      let count : length file.cells ≡ head.count = ap (λ (x : Head). x.count) heads in
+      let few : length cells ≤ length file.cells = omega (arith, h.few) in (
+        count,
+        front_of table file.cells cells (check_bytes (cells_bytes file.cells)) rest stored
+            (subst (λ (t : Table). AllByRecursion (IsStoredCell t) cells) same h.stored) few
+            (sym behind_head ∙ h.spelled),
+      )
+
+  -- all cells of a reading are the file's, and the rest is their check
+  all_front : (cells : Pairs) (rest : List ℕ) → HasAllCells table bytes cells rest
+      → (file.cells ≡ cells) × (rest ≡ check_bytes (cells_bytes file.cells))
+  all_front cells rest h =
+      let x = front h.head cells rest h.same_table h.front in
+      let none = nothing_later table file.cells cells (check_bytes (cells_bytes file.cells)) rest
+      x.1
+      (h.all ∙ sym x.0) in (
+        x.1.joined ∙ ap (λ (l : Pairs). cells ++ l) none ∙ append-nil cells,
+        x.1.spelled ∙ ap (λ (l : Pairs). cells_bytes l ++ check_bytes (cells_bytes file.cells))
+            none,
+      )
+
+  no_cell_later : (cells later : Pairs) (rest : List ℕ) → file.cells ≡ cells ++ later
+      → rest ≡ cells_bytes later ++ check_bytes (cells_bytes file.cells)
+      → AllByRecursion (IsStoredCell table) later → length cells < length file.cells
+      → BeginsWithNoCell table rest → ⊥
+  no_cell_later cells [] rest joined spelled p wanted none =
+      let e : length file.cells ≡ length cells =
+      ap (λ (l : Pairs). length l) (joined ∙ append-nil cells) in
+      absurd (omega arith)
+  no_cell_later cells (c ∷ cs) rest joined spelled p wanted none =
+      none c (cells_bytes cs ++ check_bytes (cells_bytes file.cells)) p.0
+      (spelled ∙ append_assoc (cell_bytes c) (cells_bytes cs)
+      (check_bytes (cells_bytes file.cells)))
+
+  disorder_later : (cells later : Pairs) (rest behind : List ℕ) (next : CellKey × Cell)
+      → file.cells ≡ cells ++ later → rest ≡ cells_bytes later ++ check_bytes
+      (cells_bytes file.cells)
+      → AllByRecursion (IsStoredCell table) later → length cells < length file.cells
+      → BeginsWithCell table rest next behind → (AreInOrder (cells ++ next ∷ []) → ⊥) → ⊥
+  disorder_later cells [] rest behind next joined spelled p wanted found disordered =
+      let e : length file.cells ≡ length cells =
+      ap (λ (l : Pairs). length l) (joined ∙ append-nil cells) in
+      absurd (omega arith)
+  disorder_later cells (c ∷ cs) rest behind next joined spelled p wanted found disordered =
+      let whole = check_bytes (cells_bytes file.cells) in
+      let same = one_cell table c next (cells_bytes cs ++ whole) behind p.0 found.stored
+      (sym (append_assoc (cell_bytes c) (cells_bytes cs) whole) ∙ sym spelled ∙ found.spelled) in
+      let ordered : AreInOrder ((cells ++ c ∷ []) ++ cs) =
+      subst AreInOrder (joined ∙ sym (append_assoc cells (c ∷ []) cs)) f.is_file.map.ordered in
+      disordered (subst (λ (n : CellKey × Cell). AreInOrder (cells ++ n ∷ [])) same.0
+      (front_in_order (cells ++ c ∷ []) cs ordered))
+
+  check_is_long : (rest : List ℕ) → rest ≡ check_bytes (cells_bytes file.cells) → length rest ≡ 4
+  check_is_long rest e = ap (λ (l : List ℕ). length l) e
+
+  not_refused : (fault : TableFault) → Refuses table bytes fault → fault ≡ OutOfMemory
+  not_refused OutOfMemory h = refl
+  not_refused Short (inl h) =
+      let long = head_is_long bytes (head_of file) begins in absurd (omega arith)
+  not_refused Short (inr h) =
+      let four = check_is_long h.rest (all_front h.cells h.rest h.whole).1 in
+      absurd (omega (arith, h.short))
+  not_refused (Version n) h =
+      let one : take 4 bytes ≡ to_be_bytes w32 1 = ap (take 4) f.spelled in
+      absurd (h.other (four_once n 1 h.fits (omega arith) (sym h.version ∙ one)))
+  not_refused HeadCheck h =
+      absurd (h.wrong (subst (λ (l : List ℕ). take 4 (drop 33 l) ≡ check_bytes (take 33 l))
+      (sym f.spelled) refl))
+  not_refused OtherTable h =
+      let heads = one_head bytes h.head (head_of file) h.begins begins in
+      absurd (h.other (ap (λ (x : Head). x.table) heads ∙ f.same_table))
+  not_refused Interval h =
+      let heads = one_head bytes (head_of file) h.head begins h.begins in
+      absurd (h.disordered (subst (λ (x : Head). IsUpTo x.lower x.upper) heads f.is_file.interval))
+  not_refused (NoCell at) h =
+      let x = front h.head h.cells h.rest h.same_table h.front in
+      let wanted : length h.cells < length file.cells = omega (arith, h.wanted, x.0) in
+      absurd (no_cell_later h.cells x.1.later h.rest x.1.joined x.1.spelled x.1.stored wanted
+      h.none)
+  not_refused (Order at) h =
+      let x = front h.head h.cells h.rest h.same_table h.front in
+      let wanted : length h.cells < length file.cells = omega (arith, h.wanted, x.0) in
+      absurd (disorder_later h.cells x.1.later h.rest h.behind h.next x.1.joined x.1.spelled
+      x.1.stored wanted h.found h.disordered)
+  not_refused CellsCheck h =
+      let x = all_front h.cells h.rest h.whole in
+      absurd (h.wrong (ap (take 4) x.1
+      ∙ ap (λ (l : Pairs). check_bytes (cells_bytes l)) x.0))
+  not_refused (Trailing at) h =
+      let four = check_is_long h.rest (all_front h.cells h.rest h.whole).1 in
+      absurd (omega (arith, h.more))
+
+  one_file : (other : TableFile) → IsFileOf table bytes other → other ≡ file
+  one_file other g =
+      let heads : head_of other ≡ head_of file = one_head bytes (head_of other) (head_of file)
+      (begins_as table bytes other g) begins in
+      let count : length other.cells ≡ length file.cells = ap (λ (x : Head). x.count) heads in
+      let few : length other.cells ≤ length file.cells = omega arith in
+      let x = front_of table file.cells other.cells (check_bytes (cells_bytes file.cells))
+      (check_bytes (cells_bytes other.cells)) stored
+      (subst (λ (t : Table). AllByRecursion (IsStoredCell t) other.cells) g.same_table
+      g.is_file.stored)
+      few (sym behind_head ∙ ap (drop 37) g.spelled) in
+      let none = nothing_later table file.cells other.cells (check_bytes (cells_bytes file.cells))
+      (check_bytes (cells_bytes other.cells)) x count in
+      let cells : other.cells ≡ file.cells =
+      sym (x.joined ∙ ap (λ (l : Pairs). other.cells ++ l) none ∙ append-nil other.cells) in
+      λ i. record {
+        table = (heads i).table;
+        lower = (heads i).lower;
+        upper = (heads i).upper;
+        cells = cells i;
+      }
+
+  pub decodes_to_it : (answer : Result TableFile TableFault) → Decodes table bytes answer
+      → IsUnlessMemory file answer
+  decodes_to_it (Ok other) h = inl (ap Ok (one_file other h))
+  decodes_to_it (Err fault) h = inr (ap Err (not_refused fault h))
+
+limits_of : (table : Table) (cells : Pairs) → AllByRecursion (IsStoredCell table) cells
+    → AllByRecursion (IsWithinLimits table) cells
+limits_of table [] h = tt
+limits_of table (cell ∷ cells) h = (h.0.limits, limits_of table cells h.1)
+
+-- what is decoded can be written
+pub can_be_written : (table : Table) (bytes : List ℕ) (answer : Result TableFile TableFault)
+    → Decodes table bytes answer → IfOk answer IsWritable
+can_be_written table bytes (Ok file) h = record {
+  interval = h.is_file.interval;
+  cells = limits_of file.table file.cells h.is_file.stored;
+}
+can_be_written table bytes (Err fault) h = tt

@@ -1,0 +1,186 @@
+-- What stands behind the cells decides.
+use Rattle.std.proofs.Common.{
+  ◌≡◌,
+  ℕ,
+  ◌+◌,
+  ◌≤◌,
+  ◌<◌,
+  inr,
+  List,
+  ◌++◌,
+  length,
+  take,
+  drop,
+  refl,
+  sym,
+  ap,
+  subst,
+  ◌∙◌,
+  append_assoc,
+  arith,
+  length-append,
+  length-drop,
+}
+use Rattle.std.specs.List.{AllByRecursion}
+use Rattle.std.proofs.lemmas.List.{take-append-drop, take_at}
+use Rattle.clog_base.specs.declared.cell.Table.{Table}
+use Rattle.clog_table.specs.declared.head.Head.{Head}
+use Rattle.clog_table.specs.declared.table_file.TableFile.{TableFile}
+use Rattle.clog_table.specs.declared.fault.TableFault.{TableFault}
+use Rattle.clog_table.specs.declared.fault.TableFault.TheVariants.{
+  Short,
+  Version,
+  HeadCheck,
+  Table as OtherTable,
+  Interval,
+  Cell as NoCell,
+  Order,
+  CellsCheck,
+  Trailing,
+  OutOfMemory,
+}
+use Rattle.clog_table.specs.Format.{cells_bytes, check_bytes, head_bytes, head_of}
+use Rattle.clog_table.specs.Limits.{IsStoredCell}
+use Rattle.clog_table.specs.Heads.{HasHead}
+use Rattle.clog_table.specs.Cells.{HasCells, BeginsWithNoCell, BeginsWithCell}
+use Rattle.clog_table.specs.Refusals.{
+  place,
+  cells_text,
+  HasAllCells,
+  IsFileOf,
+  RefusesCells,
+  RefusesEnd,
+  Refuses,
+}
+use Rattle.clog_table.proofs.Keys.{Pairs}
+use Rattle.clog_table.proofs.HeadParts.{head_is_long}
+
+module _ (table : Table) (bytes : List ℕ) (head : Head) (cells : Pairs) (rest : List ℕ)
+    (begins : HasHead table bytes head) (front : HasCells bytes head cells rest)
+    (all : length cells ≡ head.count) where
+  whole : HasAllCells table bytes cells rest
+  whole = record { head = head; same_table = begins.same_table; front = front; all = all }
+
+  spelled : bytes ≡ (head_bytes head ++ cells_bytes cells) ++ rest
+  spelled =
+      sym (take-append-drop 37 bytes)
+      ∙ ap (λ (l : List ℕ). l ++ drop 37 bytes) begins.begins.spelled
+      ∙ ap (λ (l : List ℕ). head_bytes head ++ l) front.spelled
+      ∙ sym (append_assoc (head_bytes head) (cells_bytes cells) rest)
+
+  pub rest_behind : 37 + length rest ≤ length bytes
+  rest_behind =
+      let e : length (drop 37 bytes) ≡ length (cells_bytes cells) + length rest =
+      ap (λ (l : List ℕ). length l) front.spelled ∙ length-append (cells_bytes cells) rest in
+      omega (arith, e, length-drop 37 bytes, head_is_long bytes head begins.begins)
+
+  text_is : cells_text bytes rest ≡ cells_bytes cells
+  text_is =
+      let n : length (head_bytes head ++ cells_bytes cells) ≡ place bytes rest =
+      (let e : length bytes ≡ length (head_bytes head ++ cells_bytes cells) + length rest =
+      ap (λ (l : List ℕ). length l) spelled
+      ∙ length-append (head_bytes head ++ cells_bytes cells) rest in omega arith) in
+      let t : take (place bytes rest) bytes ≡ head_bytes head ++ cells_bytes cells =
+      ap (take (place bytes rest)) spelled
+      ∙ take_at (head_bytes head ++ cells_bytes cells) rest (place bytes rest) n in
+      ap (drop 37) t ∙ (let b : drop 37 (head_bytes head ++ cells_bytes cells) ≡ cells_bytes cells
+      = refl in b)
+
+  -- why the end is refused is why the bytes are
+  end_refused : (fault : TableFault) → RefusesEnd (cells_bytes cells) rest (place bytes rest) fault
+      → Refuses table bytes fault
+  end_refused Short h = inr (record { cells = cells; rest = rest; whole = whole; short = h })
+  end_refused CellsCheck h =
+      record { cells = cells; rest = rest; whole = whole; long = h.0; wrong = h.1 }
+  end_refused (Trailing at) h =
+      record { cells = cells; rest = rest; whole = whole; right = h.0; more = h.1; place_is = h.2 }
+  end_refused (NoCell at) h = absurd h
+  end_refused (Order at) h = absurd h
+  end_refused OutOfMemory h = absurd h
+  end_refused (Version n) h = absurd h
+  end_refused HeadCheck h = absurd h
+  end_refused OtherTable h = absurd h
+  end_refused Interval h = absurd h
+
+  pub refused_at_end : (fault : TableFault)
+      → RefusesEnd (cells_text bytes rest) rest (place bytes rest) fault → Refuses table bytes fault
+  refused_at_end fault h =
+      end_refused fault (subst (λ (l : List ℕ). RefusesEnd l rest (place bytes rest) fault)
+      text_is h)
+
+  file : TableFile
+  file = record { table = table; lower = head.lower; upper = head.upper; cells = cells }
+
+  same_head : head ≡ head_of file
+  unfolding file
+  same_head = λ i. record {
+    table = begins.same_table i;
+    lower = head.lower;
+    upper = head.upper;
+    count = sym all i;
+  }
+
+  -- the bytes are the file's spelling
+  pub is_file : rest ≡ check_bytes (cells_text bytes rest)
+      → IsFileOf table bytes (record {
+        table = table;
+        lower = head.lower;
+        upper = head.upper;
+        cells = cells;
+      })
+  unfolding file
+  is_file right = record {
+    is_file = record {
+      table = subst (λ (t : Table). t.0 < 256) begins.same_table begins.begins.stored.table;
+      lower = begins.begins.stored.lower;
+      upper = begins.begins.stored.upper;
+      interval = begins.interval;
+      stored = subst (λ (t : Table). AllByRecursion (IsStoredCell t) cells) begins.same_table
+          front.stored;
+      map = record {
+        ordered = front.ordered;
+        few = omega (arith, begins.begins.stored.count);
+      };
+    };
+    same_table = refl;
+    spelled = spelled
+        ∙ ap (λ (l : List ℕ). (head_bytes head ++ cells_bytes cells) ++ l)
+        (right ∙ ap check_bytes text_is)
+        ∙ ap (λ (h : Head). (head_bytes h ++ cells_bytes cells) ++ check_bytes (cells_bytes cells))
+        same_head;
+  }
+
+-- why the cells are refused is why the bytes are
+pub refused_in_cells : (table : Table) (bytes : List ℕ) (head : Head) (fault : TableFault)
+    → head.table ≡ table → RefusesCells bytes head fault → Refuses table bytes fault
+refused_in_cells table bytes head (NoCell at) same h = record {
+  head = h.head;
+  cells = h.cells;
+  rest = h.rest;
+  same_table = h.same_table ∙ same;
+  front = h.front;
+  wanted = h.wanted;
+  none = subst (λ (t : Table). BeginsWithNoCell t h.rest) same h.none;
+  place_is = h.place_is;
+}
+refused_in_cells table bytes head (Order at) same h = record {
+  head = h.head;
+  cells = h.cells;
+  rest = h.rest;
+  next = h.next;
+  behind = h.behind;
+  same_table = h.same_table ∙ same;
+  front = h.front;
+  wanted = h.wanted;
+  found = subst (λ (t : Table). BeginsWithCell t h.rest h.next h.behind) same h.found;
+  disordered = h.disordered;
+  place_is = h.place_is;
+}
+refused_in_cells table bytes head OutOfMemory same h = tt
+refused_in_cells table bytes head Short same h = absurd h
+refused_in_cells table bytes head (Version n) same h = absurd h
+refused_in_cells table bytes head HeadCheck same h = absurd h
+refused_in_cells table bytes head OtherTable same h = absurd h
+refused_in_cells table bytes head Interval same h = absurd h
+refused_in_cells table bytes head CellsCheck same h = absurd h
+refused_in_cells table bytes head (Trailing at) same h = absurd h

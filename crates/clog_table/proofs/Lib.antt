@@ -1,0 +1,10 @@
+pub mod Again
+pub mod Ending
+pub mod Front
+pub mod Grammar
+pub mod HeadParts
+pub mod Keys
+pub mod Numbers
+pub mod Pieces
+pub mod Readers
+pub mod Texts

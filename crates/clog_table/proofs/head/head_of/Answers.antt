@@ -1,0 +1,57 @@
+use Rattle.std.proofs.Common.{◌≡◌, ◌≤◌, length, refl, sym, subst, ◌∙◌, arith}
+use Rattle.std.specs.Int.{w32, from_be_bytes}
+use Rattle.clog_table.specs.Heads.{BeginsWithHead}
+use Rattle.clog_table.proofs.Numbers.{big_is}
+use Rattle.clog_table.proofs.HeadParts.{
+  begins_with,
+  same_table,
+  other_table,
+  is_up_to-true,
+  is_up_to-false,
+}
+use Rattle.clog_table.proofs.head.head_of.Goals as goal
+
+pub returns-then-ne : goal.returns-then-ne
+returns-then-ne c =
+    let bytes = c.args.bytes.now in
+    let version : from_be_bytes w32 bytes ≡ 1 =
+    sym (big_is bytes) ∙ sym c.read_u32-version.ensures ∙ c.if-version-ne1.false in
+    let long : 37 ≤ length bytes = omega arith in
+    record {
+      head = c.head_at-head.result;
+      begins = subst (BeginsWithHead bytes) (sym c.head_at-head.ensures)
+          (begins_with bytes long (λ i. omega (arith, c.type_inv.bytes i)) version
+          (c.if-not-is_checked.ensures.0 refl));
+      other = other_table c.head_at-head.result.table c.args.table c.if-ne.ensures;
+    }
+
+pub returns-then-not-is_up_to : goal.returns-then-not-is_up_to
+returns-then-not-is_up_to c =
+    let bytes = c.args.bytes.now in
+    let version : from_be_bytes w32 bytes ≡ 1 =
+    sym (big_is bytes) ∙ sym c.read_u32-version.ensures ∙ c.if-version-ne1.false in
+    let long : 37 ≤ length bytes = omega arith in
+    record {
+      head = c.head_at-head.result;
+      begins = subst (BeginsWithHead bytes) (sym c.head_at-head.ensures)
+          (begins_with bytes long (λ i. omega (arith, c.type_inv.bytes i)) version
+          (c.if-not-is_checked.ensures.0 refl));
+      same_table = same_table c.head_at-head.result.table c.args.table c.if-ne.ensures;
+      disordered = is_up_to-false c.head_at-head.result.lower c.head_at-head.result.upper
+          c.if-not-is_up_to.ensures;
+    }
+
+pub returns : goal.returns
+returns c =
+    let bytes = c.args.bytes.now in
+    let version : from_be_bytes w32 bytes ≡ 1 =
+    sym (big_is bytes) ∙ sym c.read_u32-version.ensures ∙ c.if-version-ne1.false in
+    let long : 37 ≤ length bytes = omega arith in
+    record {
+      begins = subst (BeginsWithHead bytes) (sym c.head_at-head.ensures)
+          (begins_with bytes long (λ i. omega (arith, c.type_inv.bytes i)) version
+          (c.if-not-is_checked.ensures.0 refl));
+      same_table = same_table c.head_at-head.result.table c.args.table c.if-ne.ensures;
+      interval = is_up_to-true c.head_at-head.result.lower c.head_at-head.result.upper
+          c.if-not-is_up_to.ensures;
+    }

@@ -1,0 +1,81 @@
+//! The head of a table file, 37 bytes.
+ghost use Rattle.std.specs.Prelude.{◌≡◌, ◌≤◌, ◌↔◌, length, take, drop, IsTrue};
+ghost use Rattle.clog_table.specs.Format.{check_bytes};
+ghost use Rattle.clog_table.specs.Heads.{position_at, head_at, HeadGives};
+ghost use Rattle.clog_table.specs.Limits.{is_up_to};
+
+use crate::check::is_check_of;
+use crate::fault::TableFault;
+use byteorder::{BigEndian, ByteOrder};
+use clog_base::{Position, Table};
+
+/// What the head says behind the version; the interval holds the places above `lower` and at or
+/// below `upper`.
+#[derive(Clone, Copy)]
+pub struct Head {
+    pub table: Table,
+    pub lower: Position,
+    pub upper: Position,
+    pub count: u32,
+}
+
+fn position_at(bytes: &[u8]) -> Position
+    requires { 12 ≤ length bytes.now }
+    ensures { result ≡ position_at bytes.now }
+{
+    Position {
+        id: BigEndian::read_u64(bytes),
+        offset: BigEndian::read_u32(&bytes[8..]),
+    }
+}
+
+fn head_at(bytes: &[u8]) -> Head
+    requires { 37 ≤ length bytes.now }
+    ensures { result ≡ head_at bytes.now }
+{
+    Head {
+        table: Table(bytes[4]),
+        lower: position_at(&bytes[5..]),
+        upper: position_at(&bytes[17..]),
+        count: BigEndian::read_u32(&bytes[29..]),
+    }
+}
+
+// Whether the check of the head is right.
+fn is_checked(bytes: &[u8]) -> bool
+    requires { 37 ≤ length bytes.now }
+    ensures { IsTrue result ↔ (take 4 (drop 33 bytes.now) ≡ check_bytes (take 33 bytes.now)) }
+{
+    let (front, check) = bytes.split_at(33);
+    is_check_of(check, front)
+}
+
+fn is_up_to(lower: Position, upper: Position) -> bool
+    ensures { result ≡ is_up_to lower upper }
+{
+    lower <= upper
+}
+
+/// The head of a file of this table.
+pub(crate) fn head_of(bytes: &[u8], table: Table) -> Result<Head, TableFault>
+    ensures { HeadGives table bytes.now result }
+{
+    if bytes.len() < 37 {
+        return Err(TableFault::Short);
+    }
+    let version = BigEndian::read_u32(bytes);
+    if version != 1 {
+        return Err(TableFault::Version(version));
+    }
+    if !is_checked(bytes) {
+        return Err(TableFault::HeadCheck);
+    }
+    let head = head_at(bytes);
+    if head.table != table {
+        return Err(TableFault::Table);
+    }
+    if !is_up_to(head.lower, head.upper) {
+        return Err(TableFault::Interval);
+    }
+    Ok(head)
+}
