@@ -1,0 +1,8 @@
+use Rattle.path_core.proofs.LawRuns.{from_opening}
+use Rattle.path_core.proofs.LawClaims.{are_apart}
+use Rattle.path_core.proofs.law.claims_never_overlap.Goals as goal
+
+pub returns : goal.returns
+returns c = λ x y events start run.
+    let L = from_opening x y events start run in
+    are_apart y.capacity y.ordinals y.log y.claims L.core.log.claims_tile_the_log

@@ -1,0 +1,85 @@
+-- What a seat found or put still stands, as far as a running seat relies on it.
+use Rattle.std.specs.Prelude.{◌≡◌, ℕ, ◌<◌, ◌≤◌, length, Some}
+use Rattle.op_core.specs.declared.count.Order.{Order}
+use Rattle.op_core.specs.declared.count.Order.TheVariants.{Write, Append}
+use Rattle.op_core.specs.declared.count.Tally.TheVariants.{Expired}
+use Rattle.path_core.specs.declared.seat.FlushTurn.{FlushTurn}
+use Rattle.path_core.specs.declared.seat.Found.{Found}
+use Rattle.path_core.specs.declared.seat.FoundBound.{FoundBound}
+use Rattle.path_core.specs.declared.seat.FoundGroups.{FoundGroups}
+use Rattle.path_core.specs.declared.seat.SyncTurn.{SyncTurn}
+use Rattle.path_core.specs.declared.state.Bound.{Bound}
+use Rattle.path_core.specs.declared.state.Bound.TheVariants.{Live, Raising, Final}
+use Rattle.path_core.specs.declared.state.PathState.{PathState}
+use Rattle.path_core.specs.Parts.{groups_of, tally_of, seat_of, seat_table, table_of, memtable_of}
+
+-- What was found of an order's groups.
+pub record GroupsKnown (x : PathState) (order : Order) (found : FoundGroups) : Type 0 where
+  pub current : (g : ℕ) → found.current ≡ Some g → g ≤ (groups_of x order).current
+  pub oldest : (g : ℕ) → found.oldest ≡ Some g → g ≤ (groups_of x order).oldest
+  -- a count found finished stays so
+  pub finished : (g : ℕ) → found.finished ≡ Some g → tally_of x order g ≡ Expired 0
+
+-- What the holder of the Sync turn found of them, or put there, is exact.
+pub record GroupsExact (x : PathState) (order : Order) (found : FoundGroups) : Type 0 where
+  pub current : (g : ℕ) → found.current ≡ Some g → g ≡ (groups_of x order).current
+  pub oldest : (g : ℕ) → found.oldest ≡ Some g → g ≡ (groups_of x order).oldest
+  pub finished : (g : ℕ) → found.finished ≡ Some g → tally_of x order g ≡ Expired 0
+
+-- What any seat found: the log and the synced key only grow, and a stopped log stays stopped.
+pub record WordsKnown (x : PathState) (found : Found) : Type 0 where
+  pub write : GroupsKnown x Write found.write
+  pub append : GroupsKnown x Append found.append
+  pub log : (key : ℕ) → found.log ≡ Some key → key ≤ x.log
+  pub synced : (key : ℕ) → found.synced ≡ Some key → key ≤ x.synced
+  pub stopped : (n : ℕ) → found.stopped ≡ Some n → 0 < n → n ≡ x.stopped
+
+-- What the holder of the Sync turn found or put while it held it is exact.
+pub record SyncExact (x : PathState) (turn : SyncTurn) : Type 0 where
+  pub write : GroupsExact x Write turn.write
+  pub append : GroupsExact x Append turn.append
+  pub synced : (key : ℕ) → turn.synced ≡ Some key → key ≡ x.synced
+  pub stopped : (n : ℕ) → turn.stopped ≡ Some n → n ≡ x.stopped
+
+-- A bound never goes back: from live to raising, up, to final.
+abbrev pub IsAtLeast : ℕ → Bound → Type 0
+IsAtLeast key Live = ⊥
+IsAtLeast key (Raising k) = key ≤ k.0
+IsAtLeast key (Final k) = key ≤ k.0
+
+abbrev pub BoundStays : Bound → Bound → Type 0
+BoundStays Live now = Unit {0}
+BoundStays (Raising k) now = IsAtLeast k.0 now
+BoundStays (Final k) now = now ≡ Final k
+
+-- For the holder of the table's turn it is still live or raising.
+abbrev pub IsRaisingFrom : ℕ → Bound → Type 0
+IsRaisingFrom key Live = ⊥
+IsRaisingFrom key (Raising k) = key ≤ k.0
+IsRaisingFrom key (Final k) = ⊥
+
+abbrev pub BoundExact : Bound → Bound → Type 0
+BoundExact Live now = now ≡ Live
+BoundExact (Raising k) now = IsRaisingFrom k.0 now
+BoundExact (Final k) now = now ≡ Final k
+
+-- What a seat found of a memtable's bound: the memtable is made.
+pub record BoundKnown (x : PathState) (t : ℕ) (found : FoundBound) : Type 0 where
+  pub made : found.memtable < length (table_of x t).memtables
+  pub stays : BoundStays found.bound (memtable_of x t found.memtable).bound
+
+-- What the holder of a table's turn found or put while it held it is exact.
+pub record FlushExact (x : PathState) (t : ℕ) (turn : FlushTurn) : Type 0 where
+  pub newest : (n : ℕ) → turn.newest ≡ Some n → n ≡ (table_of x t).newest
+  pub oldest_live : (n : ℕ) → turn.oldest_live ≡ Some n → n ≡ (table_of x t).oldest_live
+  pub bound : (found : FoundBound) → turn.bound ≡ Some found
+      → BoundExact found.bound (memtable_of x t found.memtable).bound
+
+-- What a seat knows.
+pub record SeatKnows (x : PathState) (w : ℕ) : Type 0 where
+  pub words : WordsKnown x (seat_of x w).found
+  pub sync : (turn : SyncTurn) → (seat_of x w).sync ≡ Some turn → SyncExact x turn
+  pub bounds : (t : ℕ) (found : FoundBound) → (seat_table (seat_of x w) t).bound ≡ Some found
+      → BoundKnown x t found
+  pub flush : (t : ℕ) (turn : FlushTurn) → (seat_table (seat_of x w) t).flush ≡ Some turn
+      → FlushExact x t turn

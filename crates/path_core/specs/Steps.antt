@@ -1,0 +1,87 @@
+-- What an attempt at a step leaves.
+use Rattle.std.specs.Prelude.{◌≡◌, ◌≤◌, ◌<◌, ◌++◌, ℕ, List, IsTrue, length, Ok, Err, Option, Some, None}
+use Rattle.std.specs.List.{Contains}
+use Rattle.std.specs.declared.result.Result.{Result}
+use Rattle.clog_base.specs.declared.fault.OutOfMemory.{OutOfMemory}
+use Rattle.op_core.specs.declared.count.Tally.{Tally}
+use Rattle.op_core.specs.Tallies.{one_more, IsPassed}
+use Rattle.path_core.specs.declared.event.Carried.{Carried}
+use Rattle.path_core.specs.declared.event.Carried.TheVariants.{Nothing, Deposit, Applied}
+use Rattle.path_core.specs.declared.event.Event.{Event}
+use Rattle.path_core.specs.declared.path.StepFault.{StepFault}
+use Rattle.path_core.specs.declared.path.StepFault.TheVariants.{NotAllowed, OutOfMemory as NoMemory}
+use Rattle.path_core.specs.declared.state.PathState.{PathState}
+use Rattle.path_core.specs.declared.state.Claim.{Claim}
+use Rattle.path_core.specs.Words.{by_of}
+use Rattle.path_core.specs.Allowed.{IsThere, IsAllowed}
+use Rattle.path_core.specs.Parts.{seat_of, is_marker}
+use Rattle.path_core.specs.Next.{
+  next_of,
+  places_from,
+  end_of_claim,
+  newly_dropped,
+}
+
+-- The numbers that a path keeps within the limits of its sizes.
+pub record IsWithin (x : PathState) : Type 0 where
+  pub few_tables : length x.tables ≤ 16
+  pub capacity : x.capacity ≤ 33554432
+
+-- What a step's seat and words are: they are there.
+pub record Names (x : PathState) (e : Event) : Type 0 where
+  pub within : IsWithin x
+  pub seat : by_of e < length x.seats
+  pub is_there : IsThere x e
+
+-- The step was made; for want of memory nothing changed.
+abbrev pub Makes : Result (Unit {0}) OutOfMemory → PathState → PathState → Event → Type 0
+Makes (Ok u) old new e = new ≡ next_of old e
+Makes (Err f) old new e = new ≡ old
+
+-- One more operation, unless the number is at its end.
+abbrev pub IsOneMore : Option Tally → Tally → Type 0
+IsOneMore None tally = Unit {0}
+IsOneMore (Some more) tally = more ≡ one_more tally
+
+-- A seat's places joined the placed ones; for want of memory nothing changed.
+abbrev pub PutsPlaces : Result (Unit {0}) OutOfMemory → PathState → PathState → ℕ → Type 0
+PutsPlaces (Ok u) old new by = let s = seat_of old by in
+    new ≡ record old { placed = old.placed ++ places_from 0 (end_of_claim s) s.tables }
+PutsPlaces (Err f) old new by = new ≡ old
+
+-- no note is carried
+abbrev pub IsNoDeposit : Carried → Type 0
+IsNoDeposit Nothing = Unit {0}
+IsNoDeposit (Deposit note) = ⊥
+IsNoDeposit (Applied places) = Unit {0}
+
+-- A marker starts at the key.
+pub record HasMarkerAt (claims : List Claim) (key : ℕ) : Type 0 where
+  pub marker : Claim
+  pub among : Contains claims marker
+  pub is : IsTrue (is_marker marker)
+  pub start : marker.start ≡ key
+
+-- The claim is a marker at or above the key whose barrier is passed.
+pub record IsPassedMarker (c : Claim) (tallies : List Tally) (key : ℕ) : Type 0 where
+  pub is : IsTrue (is_marker c)
+  pub start : key ≤ c.start
+  pub group : ℕ
+  pub issued : c.barrier ≡ Some group
+  pub passed : IsPassed tallies group
+
+pub record HasPassedMarker (claims : List Claim) (tallies : List Tally) (key : ℕ) : Type 0 where
+  pub marker : Claim
+  pub among : Contains claims marker
+  pub passed : IsPassedMarker marker tallies key
+
+-- The segments that may go have gone; for want of memory nothing changed.
+abbrev pub Drops : Result (Unit {0}) OutOfMemory → PathState → PathState → Type 0
+Drops (Ok u) old new = new ≡ record old { dropped = old.dropped ++ newly_dropped old }
+Drops (Err f) old new = new ≡ old
+
+-- A step is made exactly where it is allowed; after a refusal nothing changed.
+abbrev pub StepsTo : Result (Unit {0}) StepFault → PathState → Event → PathState → Type 0
+StepsTo (Ok u) old e new = IsAllowed old e × (new ≡ next_of old e)
+StepsTo (Err NotAllowed) old e new = (IsAllowed old e → ⊥) × (new ≡ old)
+StepsTo (Err NoMemory) old e new = IsAllowed old e × (new ≡ old)

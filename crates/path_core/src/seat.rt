@@ -1,0 +1,108 @@
+//! What one seat does: the operation that it runs, the turns that it holds, and what it last found.
+
+use crate::state::Bound;
+use op_core::Order;
+
+/// A range of the log, as keys: `start..end`.
+#[derive(Clone, Copy, Debug, PartialEq, Eq)]
+pub struct Range {
+    pub start: u64,
+    pub end: u64,
+}
+
+/// How far the holder of the Sync turn has got with a barrier.
+#[derive(Clone, Copy, Debug, PartialEq, Eq)]
+pub enum Issue {
+    /// None is being issued.
+    Rest,
+    /// The next group is made, and not yet current.
+    Opened(Order),
+    /// The next group is current, and the one before it not yet expired.
+    Moved(Order),
+}
+
+/// What a seat last found, or put there itself, of the groups of one order.
+#[derive(Clone, Copy, Debug, PartialEq, Eq)]
+pub struct FoundGroups {
+    pub current: Option<u64>,
+    pub oldest: Option<u64>,
+    /// A group whose count it found finished.
+    pub finished: Option<u64>,
+}
+
+/// What a seat last found, or put there itself, of the words of no table. A current group counts as
+/// found only where the seat looked at it.
+#[derive(Clone, Copy, Debug, PartialEq, Eq)]
+pub struct Found {
+    pub write: FoundGroups,
+    pub append: FoundGroups,
+    pub log: Option<u64>,
+    pub synced: Option<u64>,
+    pub stopped: Option<u64>,
+}
+
+/// The Sync turn in a seat's hand. What is kept of the words was found or put while it is held.
+#[derive(Clone, Copy, Debug, PartialEq, Eq)]
+pub struct SyncTurn {
+    pub issue: Issue,
+    /// Whether it retired a memtable with a file.
+    pub filed: bool,
+    pub write: FoundGroups,
+    pub append: FoundGroups,
+    pub synced: Option<u64>,
+    pub stopped: Option<u64>,
+}
+
+/// A memtable's bound as it was last found, or put there.
+#[derive(Clone, Copy, Debug, PartialEq, Eq)]
+pub struct FoundBound {
+    pub memtable: u64,
+    pub bound: Bound,
+}
+
+/// The memtable that the holder of a Flush turn has marked and not yet made final.
+#[derive(Clone, Copy, Debug, PartialEq, Eq)]
+pub struct Marked {
+    pub memtable: u64,
+    /// The log key that it found since.
+    pub key: Option<u64>,
+    /// Whether it raised the bound since.
+    pub raised: bool,
+}
+
+/// A Flush turn in a seat's hand. What is kept of the words was found or put while it is held.
+#[derive(Clone, Copy, Debug, PartialEq, Eq)]
+pub struct FlushTurn {
+    pub marked: Option<Marked>,
+    pub newest: Option<u64>,
+    pub oldest_live: Option<u64>,
+    pub bound: Option<FoundBound>,
+}
+
+/// What a seat does at one table.
+#[derive(Clone, Copy, Debug, PartialEq, Eq)]
+pub struct SeatTable {
+    /// The memtable that its write tries.
+    pub trying: Option<u64>,
+    /// The memtable that took its write.
+    pub place: Option<u64>,
+    /// The bound that it last found.
+    pub bound: Option<FoundBound>,
+    pub flush: Option<FlushTurn>,
+}
+
+/// What a seat does. It is idle where it is in no group.
+#[derive(Clone, Copy, Debug, PartialEq, Eq)]
+pub struct Seat {
+    /// The group of the write order that it is in.
+    pub write: Option<u64>,
+    /// The group of the append order that it is in.
+    pub append: Option<u64>,
+    /// The range that it claimed for its entry.
+    pub claim: Option<Range>,
+    /// The tables of its note, once it is deposited.
+    pub note: Option<u16>,
+    pub tables: [SeatTable; 16],
+    pub sync: Option<SyncTurn>,
+    pub found: Found,
+}

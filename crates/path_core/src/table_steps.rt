@@ -1,0 +1,194 @@
+//! How a seat's part at one table changes with what it finds and does there.
+ghost use Rattle.std.specs.Prelude.{◌≡◌, ◌+◌, ◌<◌, ◌^◌, Some};
+ghost use Rattle.path_core.specs.declared.seat.FlushTurn.{FlushTurn};
+ghost use Rattle.path_core.specs.SeatAfter.{
+  in_flush,
+  bound_found,
+  log_found,
+  tries_bound,
+  begins_at,
+  left_table,
+  raised_as_writer,
+  raised_as_holder,
+  marks,
+};
+
+use crate::bound::{ends_below, rises, takes};
+use crate::seat::{FlushTurn, FoundBound, Marked, SeatTable};
+use crate::state::Bound;
+
+/// The holder of the table's turn found the newest memtable, or made it.
+pub(crate) fn newest_found(at: SeatTable, newest: u64) -> SeatTable
+    ensures { result ≡ in_flush (λ (turn : FlushTurn). record turn { newest = Some newest }) at }
+{
+    match at.flush {
+        Some(turn) => SeatTable {
+            flush: Some(FlushTurn {
+                newest: Some(newest),
+                ..turn
+            }),
+            ..at
+        },
+        None => at,
+    }
+}
+
+/// The holder of the table's turn found the oldest live memtable, or put it.
+pub(crate) fn oldest_live_found(at: SeatTable, oldest: u64) -> SeatTable
+    ensures { result
+        ≡ in_flush (λ (turn : FlushTurn). record turn { oldest_live = Some oldest }) at }
+{
+    match at.flush {
+        Some(turn) => SeatTable {
+            flush: Some(FlushTurn {
+                oldest_live: Some(oldest),
+                ..turn
+            }),
+            ..at
+        },
+        None => at,
+    }
+}
+
+/// The bound of a memtable was found, or put.
+pub(crate) fn bound_found(at: SeatTable, memtable: u64, bound: Bound) -> SeatTable
+    ensures { result ≡ bound_found memtable bound at }
+{
+    let found = Some(FoundBound { memtable, bound });
+    let flush = match at.flush {
+        Some(turn) => Some(FlushTurn {
+            bound: found,
+            ..turn
+        }),
+        None => None,
+    };
+    SeatTable {
+        bound: found,
+        flush,
+        ..at
+    }
+}
+
+/// The log key was found; it counts for the memtable that is marked.
+pub(crate) fn log_found(at: SeatTable, key: u64) -> SeatTable
+    ensures { result ≡ log_found key at }
+{
+    let Some(turn) = at.flush else {
+        return at;
+    };
+    let Some(marked) = turn.marked else {
+        return at;
+    };
+    let marked = Some(Marked {
+        key: Some(key),
+        ..marked
+    });
+    SeatTable {
+        flush: Some(FlushTurn { marked, ..turn }),
+        ..at
+    }
+}
+
+/// The bound of a memtable was found by a write that ends at `end`, if it is deposited: one that
+/// takes the write is its place, after one that is final below it the next is tried.
+pub(crate) fn tries(at: SeatTable, end: Option<u64>, memtable: u64, bound: Bound) -> SeatTable
+    requires { memtable + 1 < 2 ^ 64 }
+    ensures { result ≡ tries_bound end memtable bound at }
+{
+    let Some(end) = end else {
+        return at;
+    };
+    if at.trying != Some(memtable) {
+        at
+    } else if takes(bound, end) {
+        SeatTable {
+            place: Some(memtable),
+            ..at
+        }
+    } else if ends_below(bound, end) {
+        SeatTable {
+            trying: Some(memtable + 1),
+            ..at
+        }
+    } else {
+        at
+    }
+}
+
+/// The oldest live memtable is the first that a deposited write of the table tries.
+pub(crate) fn begins_at(at: SeatTable, deposited: bool, oldest: u64) -> SeatTable
+    ensures { result ≡ begins_at deposited oldest at }
+{
+    if deposited && at.trying.is_none() {
+        SeatTable {
+            trying: Some(oldest),
+            ..at
+        }
+    } else {
+        at
+    }
+}
+
+/// The write is closed.
+pub(crate) fn left(at: SeatTable) -> SeatTable
+    ensures { result ≡ left_table at }
+{
+    SeatTable {
+        trying: None,
+        place: None,
+        ..at
+    }
+}
+
+/// A write that found the bound of its try raising has its place there.
+pub(crate) fn raised_as_writer(
+    at: SeatTable,
+    deposited: bool,
+    memtable: u64,
+    bound: Bound,
+) -> SeatTable
+    ensures { result ≡ raised_as_writer deposited memtable bound at }
+{
+    if deposited && at.trying == Some(memtable) && rises(bound) {
+        SeatTable {
+            place: Some(memtable),
+            ..at
+        }
+    } else {
+        at
+    }
+}
+
+/// The holder of the table's turn has raised the memtable that it marked.
+pub(crate) fn raised_as_holder(at: SeatTable, memtable: u64, to: u64) -> SeatTable
+    ensures { result ≡ raised_as_holder memtable to at }
+{
+    let Some(turn) = at.flush else {
+        return at;
+    };
+    let Some(marked) = turn.marked else {
+        return at;
+    };
+    let raises = marked.memtable == memtable && marked.key == Some(to);
+    let marked = Some(Marked {
+        raised: marked.raised || raises,
+        ..marked
+    });
+    SeatTable {
+        flush: Some(FlushTurn { marked, ..turn }),
+        ..at
+    }
+}
+
+/// What the holder of the table's turn has marked.
+pub(crate) fn marks(at: SeatTable, marked: Option<Marked>) -> SeatTable
+    ensures { result ≡ marks marked at }
+{
+    match at.flush {
+        Some(turn) => SeatTable {
+            flush: Some(FlushTurn { marked, ..turn }),
+            ..at
+        },
+        None => at,
+    }
+}
