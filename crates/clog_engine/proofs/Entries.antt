@@ -1,0 +1,139 @@
+-- The sizes of entries and payloads.
+use Rattle.std.proofs.Common.{
+  ◌≡◌,
+  ℕ,
+  zero,
+  suc,
+  ◌+◌,
+  ◌-◌,
+  ◌*◌,
+  ◌^◌,
+  ◌<◌,
+  ◌≤◌,
+  List,
+  [],
+  ◌∷◌,
+  ◌++◌,
+  length,
+  take,
+  drop,
+  get_or,
+  min,
+  refl,
+  sym,
+  ap,
+  subst,
+  ◌∙◌,
+  arith,
+  length-append,
+  drop-cons,
+  add-one,
+}
+use Rattle.std.specs.List.{flat_map, AllByRecursion}
+use Rattle.std.specs.Int.{w32, w64, w16, to_be_bytes, cast_unsigned}
+use Rattle.std.proofs.lemmas.List.{take-append-drop, length-take, take_more}
+use Rattle.clog_spec.specs.Crc.{crc32_of}
+use Rattle.clog_spec.specs.Segment.{entry_bytes, size_bytes}
+use Rattle.clog_mutation.specs.declared.mutation.Update.{Update}
+use Rattle.clog_mutation.specs.declared.mutation.Mutation.{Mutation}
+use Rattle.clog_mutation.specs.Limits.{IsWithinLimits}
+use Rattle.clog_mutation.specs.Payload.{payload_of, update_bytes, short_text, tagged}
+use Rattle.clog_engine.specs.Limits.{entry_limit}
+use Rattle.clog_engine.specs.Input.{
+  entry_of,
+  entries_of,
+  entry_size,
+  HasFittingEntry,
+  HasLargeMutation,
+}
+
+pub length-entry_bytes : (p : List ℕ) → length (entry_bytes p) ≡ length p + 12
+length-entry_bytes p =
+    omega (arith, length-append p (to_be_bytes w32 (crc32_of (size_bytes p ++ p))))
+
+pub length-entry_of : (m : Mutation) → length (entry_of m) ≡ entry_size m
+unfolding entry_of
+length-entry_of m = length-entry_bytes (payload_of m)
+
+-- a first mutation's entry, and the entries behind it
+pub length-entries_of-cons : (m : Mutation) (ms : List Mutation)
+    → length (entries_of (m ∷ ms)) ≡ entry_size m + length (entries_of ms)
+length-entries_of-cons m ms =
+    length-append (entry_of m) (entries_of ms)
+    ∙ ap (λ k. k + length (entries_of ms)) (length-entry_of m)
+
+-- a table, the length of a column and a timestamp
+update_least : (u : Update) → 9 ≤ length (update_bytes u)
+update_least u =
+    let stamp = to_be_bytes w64 (cast_unsigned w64 u.cell.ts) in
+    let named = (u.table.0 ∷ []) ++ short_text u.column in
+    omega (
+      arith,
+      length-append (named ++ stamp) (tagged u.cell.kind u.cell.value),
+      length-append named stamp,
+    )
+
+payload_least_of : (key : List ℕ) (us : List Update) → 1 ≤ length us
+    → 10 ≤ length (short_text key ++ to_be_bytes w16 (length us) ++ flat_map update_bytes us)
+payload_least_of key [] some = absurd (omega arith)
+payload_least_of key (u ∷ us) some =
+    let count = to_be_bytes w16 (length (u ∷ us)) in
+    omega (
+      arith,
+      length-append (short_text key ++ count) (flat_map update_bytes (u ∷ us)),
+      length-append (short_text key) count,
+      length-append (update_bytes u) (flat_map update_bytes us),
+      update_least u,
+    )
+
+-- a payload has the lengths of the key and of the list, and an update
+pub payload_least : (m : Mutation) → IsWithinLimits m → 10 ≤ length (payload_of m)
+payload_least m within = payload_least_of m.key m.updates within.some
+
+-- the first mutation that is too large
+pub large_at : (ms : List Mutation) (i : ℕ) (m : Mutation) (number size : ℕ) → i < length ms
+    → m ≡ get_or ms i m → AllByRecursion HasFittingEntry (take i ms) → number ≡ i + 1
+    → entry_limit < entry_size m → size ≡ min (entry_size m) (2 ^ 32 - 1)
+    → HasLargeMutation ms number size entry_limit
+large_at ms i m number size inside is fitting number_is over size_is = record {
+  front = take i ms;
+  large = m;
+  rest = drop (suc i) ms;
+  parts = sym (take-append-drop i ms)
+      ∙ ap (λ (l : List Mutation). take i ms ++ l)
+      (drop-cons ms i m inside ∙ ap (λ (x : Mutation). x ∷ drop (suc i) ms) (sym is));
+  fitting = fitting;
+  number_is = number_is ∙ omega (arith, length-take i ms);
+  over = over;
+  size_is = size_is;
+  most_is = refl;
+}
+
+-- one mutation more
+all_push : {A : Type 0} (P : A → Type 0) (xs : List A) (x : A) → AllByRecursion P xs → P x
+    → AllByRecursion P (xs ++ x ∷ [])
+all_push P [] x all one = (one, tt)
+all_push P (y ∷ xs) x all one = (all.0, all_push P xs x all.1 one)
+
+pub fitting_more : (ms : List Mutation) (i : ℕ) (m : Mutation) → i < length ms → m ≡ get_or ms i m
+    → AllByRecursion HasFittingEntry (take i ms) → HasFittingEntry m
+    → AllByRecursion HasFittingEntry (take (i + 1) ms)
+fitting_more ms i m inside is fitting fits =
+    subst (λ (l : List Mutation). AllByRecursion HasFittingEntry l)
+    (sym (take_more ms i m inside ∙ ap (λ (x : Mutation). take i ms ++ x ∷ []) (sym is)))
+    (all_push HasFittingEntry (take i ms) m fitting fits)
+
+pub sum_more : (ms : List Mutation) (i : ℕ) (m : Mutation) (total size : ℕ) → i < length ms
+    → m ≡ get_or ms i m → size ≡ entry_size m
+    → total + length (entries_of (drop i ms)) ≡ length (entries_of ms)
+    → total + size + length (entries_of (drop (i + 1) ms)) ≡ length (entries_of ms)
+sum_more ms i m total size inside is size_is so_far =
+    let front : drop i ms ≡ m ∷ drop (i + 1) ms =
+    drop-cons ms i m inside
+    ∙ ap (λ (x : Mutation). x ∷ drop (suc i) ms) (sym is)
+    ∙ ap (λ k. m ∷ drop k ms) (sym (add-one i)) in
+    let first : length (entries_of (drop i ms))
+    ≡ entry_size m + length (entries_of (drop (i + 1) ms)) =
+    ap (λ (l : List Mutation). length (entries_of l)) front
+    ∙ length-entries_of-cons m (drop (i + 1) ms) in
+    omega (arith, first, size_is, so_far)

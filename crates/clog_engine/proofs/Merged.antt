@@ -1,0 +1,71 @@
+-- Mutations are merged one after another.
+use Rattle.std.proofs.Common.{
+  ◌≡◌,
+  ℕ,
+  List,
+  [],
+  ◌∷◌,
+  ◌++◌,
+  map,
+  length,
+  sym,
+  ap,
+  subst,
+  ◌∙◌,
+  append_assoc,
+  refl,
+  arith,
+}
+use Rattle.std.specs.List.{flat_map}
+use Rattle.std.specs.List.Sorted.{IsStrictlySortedBy}
+use Rattle.std.proofs.lemmas.List.{map-append, append-nil}
+use Rattle.std.proofs.lemmas.Grind.{flat_map-append}
+use Rattle.clog_base.specs.declared.cell.Cell.{Cell}
+use Rattle.clog_base.specs.declared.cell.CellKey.{CellKey}
+use Rattle.clog_cells.specs.Merge.{AreInOrder, IsMerge}
+use Rattle.clog_cells.proofs.Merging.{none_yet, one_more, of_itself, continues}
+use Rattle.clog_mutation.specs.declared.mutation.Update.{Update}
+use Rattle.clog_mutation.specs.declared.mutation.Mutation.{Mutation}
+use Rattle.clog_mutation.specs.Payload.{pair_of, cells_of}
+
+-- one update more
+pub update_more : (old merged new : List (CellKey × Cell)) (key : List ℕ) (front : List Update)
+    (last : Update) → IsMerge (old ++ map (pair_of key) front) merged
+    → IsMerge (merged ++ pair_of key last ∷ []) new
+    → IsMerge (old ++ map (pair_of key) (front ++ last ∷ [])) new
+update_more old merged new key front last so_far step =
+    subst (λ (l : List (CellKey × Cell)). IsMerge (old ++ l) new)
+    (sym (map-append (pair_of key) front (last ∷ [])))
+    (one_more old (map (pair_of key) front) merged new (pair_of key last) so_far step)
+
+-- one mutation more
+pub mutation_more : (merged new : List (CellKey × Cell)) (front : List Mutation) (last : Mutation)
+    → IsMerge (flat_map cells_of front) merged → IsMerge (merged ++ cells_of last) new
+    → IsMerge (flat_map cells_of (front ++ last ∷ [])) new
+mutation_more merged new front last so_far step =
+    subst (λ (l : List (CellKey × Cell)). IsMerge l new)
+    (ap (λ (l : List (CellKey × Cell)). flat_map cells_of front ++ l)
+    (sym (append-nil (cells_of last)))
+    ∙ sym (flat_map-append cells_of front (last ∷ [])))
+    (continues (flat_map cells_of front) merged (cells_of last) new so_far step)
+
+-- what was taken and what is left are the whole
+pub part_more : {A : Type 0} (whole part left rest : List A) (x : A) → whole ≡ part ++ left
+    → left ≡ x ∷ rest → whole ≡ (part ++ x ∷ []) ++ rest
+part_more whole part left rest x so_far e =
+    so_far ∙ ap (λ l. part ++ l) e ∙ sym (append_assoc part (x ∷ []) rest)
+
+pub all_parts : {A : Type 0} (whole part left : List A) → whole ≡ part ++ left → left ≡ []
+    → part ≡ whole
+all_parts whole part left so_far e =
+    sym (append-nil part) ∙ ap (λ l. part ++ l) (sym e) ∙ sym so_far
+
+pub nothing_left : {A : Type 0} (xs : List A) → length xs ≡ 0 → xs ≡ []
+nothing_left [] none = refl
+nothing_left (x ∷ xs) none = absurd (omega arith)
+
+-- no pairs merge to no rows
+pub no_merge : (rows : List (CellKey × Cell)) → rows ≡ [] → IsMerge [] rows
+unfolding IsStrictlySortedBy
+no_merge rows none =
+    subst (λ (l : List (CellKey × Cell)). IsMerge [] l) (sym none) (of_itself [] tt)

@@ -1,0 +1,66 @@
+-- The number of a status, and the line that tells a fault.
+use Rattle.std.specs.Prelude.{ℕ, List, [], ◌++◌, codes, decimal}
+use Rattle.clog_base.specs.declared.fault.Quantity.{Quantity}
+use Rattle.clog_base.specs.declared.fault.Quantity.TheVariants.{
+  FileBytes,
+  Lines,
+  SegmentBytes,
+  Ids,
+  TableFiles,
+}
+use Rattle.clog_text.specs.Refusals.{refusal_text}
+use Rattle.clog_engine.specs.declared.status.Unbuilt.{Unbuilt}
+use Rattle.clog_engine.specs.declared.status.Unbuilt.TheVariants.{Segment, Directory}
+use Rattle.clog_engine.specs.declared.status.Status.{Status}
+use Rattle.clog_engine.specs.declared.status.Status.TheVariants.{
+  Ok,
+  Usage,
+  BadLine,
+  TooLarge,
+  ReadFault,
+  WriteFault,
+  DiskFault,
+  OutOfMemory,
+  Limit,
+  NotBuilt,
+}
+use Rattle.clog_engine.specs.Report.{line}
+
+abbrev pub quantity_name : Quantity → List ℕ
+quantity_name FileBytes = codes "file-bytes"
+quantity_name Lines = codes "lines"
+quantity_name SegmentBytes = codes "segment-bytes"
+quantity_name Ids = codes "ids"
+quantity_name TableFiles = codes "table-files"
+
+abbrev pub unbuilt_name : Unbuilt → List ℕ
+unbuilt_name Segment = codes "segment"
+unbuilt_name Directory = codes "directory"
+
+abbrev pub fault_line : Status → List ℕ
+fault_line Ok = []
+fault_line Usage = line (codes "error 1: usage")
+fault_line (BadLine number cause) =
+    line (codes "error 2: line " ++ decimal number ++ codes ": " ++ refusal_text cause)
+fault_line (TooLarge number size most) =
+    line (codes "error 3: line " ++ decimal number ++ codes ": size " ++ decimal size
+    ++ codes " above " ++ decimal most)
+fault_line ReadFault = line (codes "error 4: read fault")
+fault_line WriteFault = []
+fault_line DiskFault = line (codes "error 6: disk fault")
+fault_line OutOfMemory = line (codes "error 9: out of memory")
+fault_line (Limit what number) =
+    line (codes "error 10: limit " ++ quantity_name what ++ codes " " ++ decimal number)
+fault_line (NotBuilt what) = line (codes "error 12: not built " ++ unbuilt_name what)
+
+abbrev pub number_of : Status → ℕ
+number_of Ok = 0
+number_of Usage = 1
+number_of (BadLine number cause) = 2
+number_of (TooLarge number size most) = 3
+number_of ReadFault = 4
+number_of WriteFault = 5
+number_of DiskFault = 6
+number_of OutOfMemory = 9
+number_of (Limit what number) = 10
+number_of (NotBuilt what) = 12

@@ -1,0 +1,102 @@
+-- How far a mutation file is good.
+use Rattle.std.specs.Prelude.{
+  ◌≡◌,
+  ℕ,
+  ◌+◌,
+  ◌<◌,
+  ◌≤◌,
+  ◌-◌,
+  ◌^◌,
+  min,
+  List,
+  ◌∷◌,
+  ◌++◌,
+  length,
+  Ok,
+  Err,
+}
+use Rattle.std.specs.List.{flat_map, AllByRecursion}
+use Rattle.clog_spec.specs.Segment.{entry_bytes}
+use Rattle.clog_mutation.specs.declared.mutation.Mutation.{Mutation}
+use Rattle.clog_mutation.specs.Payload.{payload_of}
+use Rattle.clog_text.specs.declared.refusal.BadLine.{BadLine}
+use Rattle.clog_text.specs.declared.refusal.BadLine.TheVariants.{OutOfMemory as no_memory}
+use Rattle.clog_text.specs.FileLines.{lines_of, line_limit}
+use Rattle.clog_text.specs.FileMutations.{file_mutations}
+use Rattle.clog_engine.specs.Limits.{file_limit, capacity, entry_limit}
+
+-- the entry of a mutation
+unfoldable pub entry_of : Mutation → List ℕ
+entry_of mutation = entry_bytes (payload_of mutation)
+
+-- the entries of mutations, laid end to end
+abbrev pub entries_of : List Mutation → List ℕ
+entries_of mutations = flat_map entry_of mutations
+
+-- the size of a mutation's entry
+abbrev pub entry_size : Mutation → ℕ
+entry_size mutation = length (payload_of mutation) + 12
+
+abbrev pub HasFittingEntry : Mutation → Type 0
+HasFittingEntry mutation = entry_size mutation ≤ entry_limit
+
+-- The file is not too long, and has not too many lines.
+pub record IsSplit (bytes : List ℕ) : Type 0 where
+  pub few_bytes : length bytes ≤ file_limit
+  pub few_lines : length (lines_of bytes) ≤ line_limit
+
+-- Each of its lines says a mutation.
+pub record IsRead (bytes : List ℕ) (mutations : List Mutation) : Type 0 where
+  pub split : IsSplit bytes
+  pub read : file_mutations bytes ≡ Ok mutations
+
+-- And each mutation's entry is not too large.
+pub record IsSized (bytes : List ℕ) (mutations : List Mutation) : Type 0 where
+  pub read : IsRead bytes mutations
+  pub sized : AllByRecursion HasFittingEntry mutations
+
+-- And all entries have room in one segment, behind its header and its marker.
+pub record IsAccepted (bytes : List ℕ) (mutations : List Mutation) : Type 0 where
+  pub sized : IsSized bytes mutations
+  pub room : 28 + length (entries_of mutations) < capacity
+
+-- The file has too many lines.
+pub record HasManyLines (bytes : List ℕ) : Type 0 where
+  pub few_bytes : length bytes ≤ file_limit
+  pub many_lines : line_limit < length (lines_of bytes)
+
+-- The first line that is refused is this one, for this cause.
+pub record HasBadLine (bytes : List ℕ) (number : ℕ) (cause : BadLine) : Type 0 where
+  pub split : IsSplit bytes
+  pub refused : file_mutations bytes ≡ Err (number, cause)
+  pub known : cause ≡ no_memory → ⊥
+
+-- The first mutation whose entry is too large is that of this number, from 1; its size, or the
+-- greatest number of 32 bits where the size is greater; and the most that an entry may have.
+pub record HasLargeMutation (mutations : List Mutation) (number size most : ℕ) : Type 0 where
+  pub front : List Mutation
+  pub large : Mutation
+  pub rest : List Mutation
+  pub parts : mutations ≡ front ++ large ∷ rest
+  pub fitting : AllByRecursion HasFittingEntry front
+  pub number_is : number ≡ length front + 1
+  pub over : entry_limit < entry_size large
+  pub size_is : size ≡ min (entry_size large) (2 ^ 32 - 1)
+  pub most_is : most ≡ entry_limit
+
+-- No line is refused, and the first whose entry is too large is this one.
+pub record HasLargeLine (bytes : List ℕ) (number size most : ℕ) : Type 0 where
+  pub mutations : List Mutation
+  pub read : IsRead bytes mutations
+  pub large : HasLargeMutation mutations number size most
+
+-- All is good, but the entries have no room in one segment.
+pub record HasNoRoom (bytes : List ℕ) : Type 0 where
+  pub mutations : List Mutation
+  pub sized : IsSized bytes mutations
+  pub large : capacity ≤ 28 + length (entries_of mutations)
+
+-- All is good.
+pub record IsGood (bytes : List ℕ) : Type 0 where
+  pub mutations : List Mutation
+  pub accepted : IsAccepted bytes mutations

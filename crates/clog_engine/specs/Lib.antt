@@ -1,0 +1,10 @@
+pub mod Apply
+pub mod Faults
+pub mod Input
+pub mod Landing
+pub mod Limits
+pub mod Outside
+pub mod Reading
+pub mod Report
+pub mod Request
+pub mod Run

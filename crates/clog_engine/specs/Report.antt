@@ -1,0 +1,40 @@
+-- What a run prints where it is well.
+use Rattle.std.specs.Prelude.{
+  ◌≡◌,
+  ℕ,
+  List,
+  [],
+  ◌∷◌,
+  ◌++◌,
+  length,
+  codes,
+  decimal,
+  Bool,
+  true,
+  false,
+}
+use Rattle.std.specs.List.{flat_map}
+use Rattle.clog_base.specs.declared.cell.Cell.{Cell}
+use Rattle.clog_base.specs.declared.cell.CellKey.{CellKey}
+use Rattle.clog_cells.specs.Merge.{IsMerge}
+use Rattle.clog_mutation.specs.declared.mutation.Mutation.{Mutation}
+use Rattle.clog_mutation.specs.Payload.{cells_of}
+use Rattle.clog_text.specs.CellTexts.{row_line}
+
+-- a text and 0A
+abbrev pub line : List ℕ → List ℕ
+line text = text ++ 10 ∷ []
+
+abbrev pub applied_line : ℕ → List ℕ
+applied_line lines = line (codes "applied " ++ decimal lines)
+
+-- how many lines were applied, and the cells that the mutations merge to, a line each
+pub record IsDump (mutations : List Mutation) (report : List ℕ) : Type 0 where
+  pub rows : List (CellKey × Cell)
+  pub merge : IsMerge (flat_map cells_of mutations) rows
+  pub text : report ≡ applied_line (length mutations) ++ flat_map row_line rows
+
+-- The report of mutations, with the cells where they are asked for.
+abbrev pub IsReport : Bool → List Mutation → List ℕ → Type 0
+IsReport false mutations report = report ≡ applied_line (length mutations)
+IsReport true mutations report = IsDump mutations report

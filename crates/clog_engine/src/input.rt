@@ -1,0 +1,56 @@
+//! The mutation file, from the source to its mutations.
+ghost use Rattle.std.specs.Prelude.{◌≡◌, ◌<◌, ◌^◌, length, IfOk};
+ghost use Rattle.std.specs.List.{AllByRecursion};
+ghost use Rattle.clog_engine.specs.Reading.{GivesBytes, GivesMutations};
+ghost use Rattle.clog_mutation.specs.Limits.{IsWithinLimits};
+ghost use Rattle.clog_text.specs.FileLines.{Splits};
+
+use crate::status::Status;
+use clog_base::Quantity;
+use clog_io::{ReadAllFault, Source, read_all};
+use clog_mutation::Mutations;
+use clog_text::{BadLine, Lines, SplitFault, read_lines, split_file};
+use std::alloc::Global;
+
+const FILE_LIMIT: u64 = 67_108_864;
+
+const LINE_LIMIT: u64 = 1_000_000;
+
+/// All bytes of the source.
+pub(crate) fn bytes_of<S: Source>(alloc: Global, source: &mut S) -> Result<Vec<u8>, Status>
+    ensures { GivesBytes (S.left source.old) (S.left source.new) (S.faults source.old)
+        (S.faults source.new) result }
+{
+    match read_all(alloc, source, FILE_LIMIT) {
+        Ok(bytes) => Ok(bytes),
+        Err(ReadAllFault::Failed) => Err(Status::ReadFault),
+        Err(ReadAllFault::Limit) => Err(Status::Limit(Quantity::FileBytes, FILE_LIMIT)),
+        Err(ReadAllFault::OutOfMemory) => Err(Status::OutOfMemory),
+    }
+}
+
+// The mutations of a file's lines.
+fn mutations_on(alloc: Global, bytes: &[u8], lines: &Lines) -> Result<Mutations, Status>
+    requires { Splits bytes.now lines.now }
+    ensures mutations { GivesMutations bytes.now result }
+    ensures within { IfOk result (AllByRecursion IsWithinLimits) }
+{
+    match read_lines(alloc, bytes, lines) {
+        Ok(mutations) => Ok(mutations),
+        Err((_, BadLine::OutOfMemory)) => Err(Status::OutOfMemory),
+        Err((number, cause)) => Err(Status::BadLine(number, cause)),
+    }
+}
+
+/// The mutations of a file, one for each line.
+pub(crate) fn mutations_of(alloc: Global, bytes: &[u8]) -> Result<Mutations, Status>
+    ensures mutations { GivesMutations bytes.now result }
+    ensures within { IfOk result (AllByRecursion IsWithinLimits) }
+    ensures few { IfOk result (λ mutations. length mutations < 2 ^ 32) }
+{
+    match split_file(alloc, bytes) {
+        Ok(lines) => mutations_on(alloc, bytes, &lines),
+        Err(SplitFault::Limit) => Err(Status::Limit(Quantity::Lines, LINE_LIMIT)),
+        Err(SplitFault::OutOfMemory) => Err(Status::OutOfMemory),
+    }
+}

@@ -1,0 +1,22 @@
+//! The commit log as one call: `run` reads a mutation file, writes it to a segment and tells what
+//! came of it. Its clause is what is promised of a run, where the source and the disk tell what
+//! they hold.
+#![tactic(auto)]
+
+mod cells;
+mod fault_line;
+mod input;
+mod landing;
+mod report;
+mod running;
+mod segment;
+mod sizes;
+mod status;
+#[cfg(test)]
+mod tests;
+mod words;
+
+pub use fault_line::FaultLine;
+pub use running::run;
+pub use status::{Status, Unbuilt};
+pub use words::{Request, request_of};

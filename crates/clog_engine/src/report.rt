@@ -1,0 +1,56 @@
+//! What a run prints where it is well.
+ghost use Rattle.std.specs.Prelude.{◌≡◌, ◌++◌, length, OnOk, IfOk};
+ghost use Rattle.std.specs.List.{flat_map};
+ghost use Rattle.clog_text.specs.CellTexts.{row_line};
+ghost use Rattle.clog_engine.specs.Report.{applied_line, IsReport};
+
+use crate::cells::merged;
+use clog_base::{Bytes, Cell, CellKey, OutOfMemory};
+use clog_cells::CellMap;
+use clog_mutation::Mutations;
+use clog_text::put_cell_line;
+use itoa::Buffer;
+use std::alloc::{AllocError, Global};
+use std::collections::BTreeMap;
+
+// Puts how many lines were applied.
+fn put_applied(out: &mut Vec<u8>, lines: u64) -> Result<(), AllocError>
+    ensures { OnOk result (out.new.items ≡ out.old.items ++ applied_line lines) }
+{
+    let mut buffer = Buffer::new();
+    out.extend_from_slice(b"applied ")?;
+    out.extend_from_slice(buffer.format(lines).as_bytes())?;
+    Ok(out.push(b'\n')?)
+}
+
+// Puts the line of each cell, in the order of their keys.
+fn put_rows(
+    alloc: Global,
+    out: &mut Vec<u8>,
+    rows: &BTreeMap<CellKey, Cell>,
+) -> Result<(), OutOfMemory>
+    ensures { OnOk result (out.new.items ≡ out.old.items ++ flat_map row_line rows.now.entries) }
+{
+    for (key, cell) in rows {
+        put_cell_line(alloc, out, key, cell)?;
+    }
+    Ok(())
+}
+
+fn put_cells(alloc: Global, out: &mut Vec<u8>, cells: &CellMap) -> Result<(), OutOfMemory>
+    ensures { OnOk result (out.new.items ≡ out.old.items ++ flat_map row_line cells.now) }
+{
+    put_rows(alloc, out, cells.entries())
+}
+
+/// The report of mutations that are applied.
+pub(crate) fn report(alloc: Global, mutations: Mutations, dump: bool) -> Result<Bytes, OutOfMemory>
+    ensures { IfOk result (IsReport dump mutations) }
+{
+    let mut out = Vec::new(alloc);
+    put_applied(&mut out, mutations.as_slice().len() as u64)?;
+    if dump {
+        put_cells(alloc, &mut out, &merged(alloc, mutations)?)?;
+    }
+    Ok(Bytes::new(out))
+}

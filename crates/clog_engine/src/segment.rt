@@ -1,0 +1,63 @@
+//! The bytes of one segment with one section.
+ghost use Rattle.std.specs.Prelude.{◌≡◌, ◌+◌, ◌<◌, ◌++◌, length, IfOk, OnOk};
+ghost use Rattle.std.specs.List.{AllByRecursion};
+ghost use Rattle.clog_mutation.specs.Limits.{IsWithinLimits};
+ghost use Rattle.clog_engine.specs.Apply.{front_of, segment_of};
+ghost use Rattle.clog_engine.specs.Input.{HasFittingEntry, entry_of, entries_of};
+ghost use Rattle.clog_engine.specs.Reading.{HasSize};
+
+use clog_base::OutOfMemory;
+use clog_entry::{put_entry, write_header, write_marker};
+use clog_mutation::{Mutation, encode};
+use std::alloc::{AllocError, Global};
+
+// Puts the header and the marker of a segment whose one section ends there.
+#[tactic(auto, unfolding(crate::specs::Apply::front_of))]
+fn put_front(out: &mut Vec<u8>, id: u64, end: u32) -> Result<(), AllocError>
+    ensures { OnOk result (out.new.items ≡ out.old.items ++ front_of id end) }
+{
+    out.extend_from_slice(&write_header(id))?;
+    out.extend_from_slice(&write_marker(id, 20, end))?;
+    Ok(())
+}
+
+// Puts the entry of a mutation behind what stands there.
+#[tactic(auto, unfolding(crate::specs::Input::entry_of))]
+fn put_entry_of(alloc: Global, out: &mut Vec<u8>, mutation: &Mutation) -> Result<(), OutOfMemory>
+    requires within { IsWithinLimits mutation.now }
+    requires fitting { HasFittingEntry mutation.now }
+    ensures { OnOk result (out.new.items ≡ out.old.items ++ entry_of mutation.now) }
+{
+    let payload = encode(alloc, mutation)?;
+    put_entry(out, &payload)
+}
+
+fn put_entries(alloc: Global, out: &mut Vec<u8>, mutations: &[Mutation]) -> Result<(), OutOfMemory>
+    requires within { AllByRecursion IsWithinLimits mutations.now }
+    requires fitting { AllByRecursion HasFittingEntry mutations.now }
+    ensures { OnOk result (out.new.items ≡ out.old.items ++ entries_of mutations.now) }
+{
+    for mutation in mutations {
+        put_entry_of(alloc, out, mutation)?;
+    }
+    Ok(())
+}
+
+/// The segment of an id: its header, its marker at 20 and the entries of the mutations, which have
+/// `size` bytes together.
+pub(crate) fn segment(
+    alloc: Global,
+    id: u64,
+    mutations: &[Mutation],
+    size: u32,
+) -> Result<Vec<u8>, OutOfMemory>
+    requires within { AllByRecursion IsWithinLimits mutations.now }
+    requires sized { HasSize mutations.now size }
+    ensures { IfOk result (λ bytes. bytes.items ≡ segment_of id mutations.now) }
+{
+    let end = 28 + size;
+    let mut bytes = Vec::with_capacity(alloc, end as usize)?;
+    put_front(&mut bytes, id, end)?;
+    put_entries(alloc, &mut bytes, mutations)?;
+    Ok(bytes)
+}

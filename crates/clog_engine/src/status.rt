@@ -1,0 +1,63 @@
+//! How a run ends.
+ghost use Rattle.std.specs.Prelude.{◌≡◌};
+
+use clog_base::Quantity;
+use clog_text::BadLine;
+
+/// What is not built yet.
+#[derive(Clone, Copy, Debug, PartialEq, Eq)]
+pub enum Unbuilt {
+    /// More than one segment.
+    Segment,
+    /// A folder that holds something.
+    Directory,
+}
+
+/// How a run ends. Each refusal leaves the disk as it was, but `DiskFault` and `OutOfMemory`, after
+/// which the new segment may be there in part, and `WriteFault`, which comes when all is done.
+#[derive(Clone, Copy, Debug, PartialEq, Eq)]
+pub enum Status {
+    /// The report was written whole.
+    Ok,
+    /// The words ask for nothing that there is.
+    Usage,
+    /// The line of this number, from 1, is the first that is refused, for this cause.
+    BadLine(u32, BadLine),
+    /// No line is refused, and that of this number is the first whose entry is larger than half a
+    /// segment: its size (2^32 - 1 where it is greater) and the most, in bytes.
+    TooLarge(u32, u32, u32),
+    /// The source has failed.
+    ReadFault,
+    /// The sink has failed; a prefix of the report went out.
+    WriteFault,
+    /// The disk has failed.
+    DiskFault,
+    /// Memory was refused.
+    OutOfMemory,
+    /// There are more of these than the number.
+    Limit(Quantity, u64),
+    /// What is asked for is not built yet.
+    NotBuilt(Unbuilt),
+}
+
+impl Status {
+    ghost use Rattle.clog_engine.specs.Faults.{number_of};
+
+    /// The exit status of the program.
+    pub fn number(self) -> u8
+        ensures { result ≡ number_of self }
+    {
+        match self {
+            Status::Ok => 0,
+            Status::Usage => 1,
+            Status::BadLine(_, _) => 2,
+            Status::TooLarge(_, _, _) => 3,
+            Status::ReadFault => 4,
+            Status::WriteFault => 5,
+            Status::DiskFault => 6,
+            Status::OutOfMemory => 9,
+            Status::Limit(_, _) => 10,
+            Status::NotBuilt(_) => 12,
+        }
+    }
+}
