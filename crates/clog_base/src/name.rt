@@ -1,6 +1,6 @@
 //! Names of files: 1 to 64 ASCII bytes, none of them `/` or 0, in a row of 64 that is zero behind
 //! them, so that a name is copied and takes no memory.
-ghost use Rattle.std.specs.Prelude.{◌≡◌, ◌↔◌, length, true, IsSome, IfSome, IsTrue};
+ghost use Rattle.std.specs.Prelude.{◌≡◌, ◌≤◌, ◌↔◌, length, true, IsSome, IfSome, IsTrue};
 ghost use Rattle.std.specs.Prelude.{Some, refl};
 ghost use Rattle.std.specs.List.{list_all};
 ghost use Rattle.std.specs.Ordering.{nat_cmp};
@@ -20,7 +20,7 @@ use std::cmp::Ordering;
 use std::marker::Model;
 
 /// 1 to 64 ASCII bytes, none of them `/` or 0.
-#[derive(Clone, Copy)]
+#[derive(Clone, Copy, Debug)]
 pub struct Name {
     bytes: [u8; 64],
     len: usize,
@@ -124,8 +124,11 @@ impl Name {
         }
     }
 
+    /// Its bytes.
     pub fn as_bytes(&self) -> &[u8]
-        ensures { result.now ≡ self.now }
+        ensures same { result.now ≡ self.now }
+        ensures name { is_name self.now ≡ true }
+        ensures short { length self.now ≤ 64 }
     {
         &self.bytes[..self.len]
     }

@@ -85,7 +85,9 @@ pub struct SystemClock<R: rt::Clock + Drop> {
 
 impl<R: rt::Clock + Drop> SystemClock<R> {
     /// The clock of this runtime.
-    pub fn new(rt: R) -> Self {
+    pub fn new(rt: R) -> Self
+        ensures { result.rt ≡ rt }
+    {
         SystemClock { rt }
     }
 }

@@ -40,7 +40,9 @@ impl<W: Write + Drop> StdSink<W> {
     }
 
     /// The writer.
-    pub fn into_inner(self) -> W {
+    pub fn into_inner(self) -> W
+        ensures { result ≡ self.inner }
+    {
         self.inner
     }
 }

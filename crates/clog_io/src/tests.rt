@@ -1,7 +1,7 @@
 //! What no clause says: the system's objects, which calls fail, and that calls succeed.
 use super::*;
 use clog_base::{Failed, Writer};
-use std::io::{Result as IoResult, Write};
+use std::io::{ErrorKind, Read, Result as IoResult, Write};
 use std::test::Fail;
 
 /// A writer that takes nothing, as a device that is full.
@@ -15,6 +15,16 @@ impl Write for FullDevice {
 
     fn flush(&mut self) -> IoResult<()> {
         Ok(())
+    }
+}
+
+/// A reader that always fails for the same cause.
+#[derive(Drop)]
+struct BrokenDevice(ErrorKind);
+
+impl Read for BrokenDevice {
+    fn read(&mut self, _buf: &mut [u8]) -> IoResult<usize> {
+        Err(self.0.into())
     }
 }
 
@@ -71,6 +81,20 @@ fn a_reader_of_std_is_read_to_its_end(rt: HostRuntime) -> Result<(), Fail> {
     let mut source = StdSource::new(bytes);
     let read = read_all(rt.alloc(), &mut source, 7)?;
     assert_eq!(rt; read.as_slice(), bytes);
+    Ok(())
+}
+
+#[test]
+fn a_reader_of_std_that_fails_is_a_fault_of_the_source(rt: HostRuntime) -> Result<(), Fail> {
+    let mut source = StdSource::new(BrokenDevice(ErrorKind::PermissionDenied));
+    let mut room = [0u8; 4];
+    assert_eq!(rt; source.read(&mut room), Err(Failed));
+    assert!(rt;
+        matches!(
+            read_all(rt.alloc(), &mut source, 9),
+            Err(ReadAllFault::Failed)
+        )
+    );
     Ok(())
 }
 

@@ -4,13 +4,13 @@ use Rattle.clog_base.proofs.NameLaws.{archive_says}
 use Rattle.clog_base.proofs.parsed_name.parse_archive_name.Goals as goal
 
 pub returns-in_default : goal.returns-in_default
-returns-in_default c id said = c.in_default.ensures _ (c.as_bytes.ensures ∙ said.form)
+returns-in_default c id said = c.in_default.ensures _ (c.as_bytes.ensures.same ∙ said.form)
 
 pub returns-in_default-number_of : goal.returns-in_default-number_of
 returns-in_default-number_of c id said =
     c.in_default-number_of.ensures id (omega (arith, said.id_fits))
     (archive_says c.args.name.now c.in-Some.middle.now
-    (sym c.as_bytes.ensures ∙ c.in-Some.ensures) id said)
+    (sym c.as_bytes.ensures.same ∙ c.in-Some.ensures) id said)
 
 pub returns-then-id-gt9223372036854775807 : goal.returns-then-id-gt9223372036854775807
 returns-then-id-gt9223372036854775807 c id said =
@@ -18,5 +18,5 @@ returns-then-id-gt9223372036854775807 c id said =
     decimal_injective c.in-Some-number_of.id id (omega arith) (omega (arith, said.id_fits))
     (sym c.in-Some-number_of.ensures
     ∙ archive_says c.args.name.now c.in-Some.middle.now
-    (sym c.as_bytes.ensures ∙ c.in-Some.ensures) id said) in
+    (sym c.as_bytes.ensures.same ∙ c.in-Some.ensures) id said) in
     omega (arith, same, said.id_fits, c.if-id-gt9223372036854775807.true)

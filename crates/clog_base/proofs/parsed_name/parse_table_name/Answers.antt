@@ -7,7 +7,7 @@ returns-then-table-gt15 c table sequence said =
     let says = table_says c.args.name.now c.in-Some.middle.now c.in-Some-two_numbers_of.table
     c.in-Some-two_numbers_of.sequence c.in-Some-two_numbers_of.ensures.fit.0
     c.in-Some-two_numbers_of.ensures.fit.1
-    (sym c.as_bytes.ensures ∙ c.in-Some.ensures) c.in-Some-two_numbers_of.ensures.read table
+    (sym c.as_bytes.ensures.same ∙ c.in-Some.ensures) c.in-Some-two_numbers_of.ensures.read table
     sequence
     said in
     elim c.then-table-gt15.either [
