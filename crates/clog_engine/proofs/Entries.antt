@@ -2,11 +2,9 @@
 use Rattle.std.proofs.Common.{
   ◌≡◌,
   ℕ,
-  zero,
   suc,
   ◌+◌,
   ◌-◌,
-  ◌*◌,
   ◌^◌,
   ◌<◌,
   ◌≤◌,

@@ -6,7 +6,6 @@ use Rattle.std.proofs.Common.{
   ◌+◌,
   ◌^◌,
   ◌<◌,
-  ◌≤◌,
   List,
   [],
   ◌∷◌,
@@ -26,7 +25,7 @@ use Rattle.clog_mutation.specs.declared.mutation.Mutation.{Mutation}
 use Rattle.clog_text.specs.declared.refusal.BadLine.{BadLine}
 use Rattle.clog_text.specs.FileLines.{lines_of}
 use Rattle.clog_text.specs.LineMutation.{line_mutation}
-use Rattle.clog_text.specs.FileMutations.{Refused, first_then, mutations_from, file_mutations}
+use Rattle.clog_text.specs.FileMutations.{Refused, first_then, mutations_from}
 use Rattle.clog_engine.specs.declared.status.Status.{Status}
 use Rattle.clog_engine.specs.Reading.{GivesMutations}
 

@@ -1,18 +1,12 @@
--- A file comes onto a bare disk.
+-- A file comes onto the disk under a name that is free.
 use Rattle.std.proofs.Common.{
   ◌≡◌,
-  ◌⊎◌,
   ℕ,
-  suc,
-  ◌+◌,
   ◌≤◌,
-  ◌<◌,
   List,
   [],
-  ◌∷◌,
   ◌++◌,
   length,
-  map,
   cond,
   Option,
   Some,
@@ -26,57 +20,57 @@ use Rattle.std.proofs.Common.{
   ◌∙◌,
   arith,
 }
-use Rattle.std.specs.Prelude.{unwrap_or, IfSome}
+use Rattle.std.specs.Prelude.{unwrap_or, IfSome, IsSome, ◌^◌, ◌<◌}
 use Rattle.std.specs.FinMap as finmap
-use Rattle.std.specs.FinMap.{empty_of_len, len-entries, get-empty, get-insert}
+use Rattle.std.specs.FinMap.{get-insert}
 use Rattle.std.specs.Ordering.{nat_cmp}
 use Rattle.std.specs.Cmp.{eq_by_cmp_equiv}
 use Rattle.std.specs.Cmp.Lexicographic.{slice_cmp, nat_list_cmp_total}
+use Rattle.clog_spec.specs.Names.{segment_name_of}
 use Rattle.clog_io.specs.Causes.{Rose}
 use Rattle.clog_disk.specs.Files.{Files, bytes_at, IsEnd, AppendsTo, MayAppend, IsAbsent}
-use Rattle.clog_disk.specs.Images.{Within, SameImages, Tears, Torn}
+use Rattle.clog_disk.specs.Images.{Within, SameImages, Tears}
 use Rattle.clog_disk.specs.declared.disk.DiskFault.{DiskFault as Fault}
 use Rattle.clog_disk.specs.declared.disk.DiskFault.TheVariants.{Failed, NoSuchFile, OutOfMemory}
-use Rattle.clog_engine.specs.declared.status.Status.{Status}
-use Rattle.clog_engine.specs.declared.status.Status.TheVariants.{
-  Ok,
-  Usage,
-  BadLine,
-  TooLarge,
-  ReadFault,
-  WriteFault,
-  DiskFault,
-  OutOfMemory as NoMemory,
-  Limit,
-  NotBuilt,
-}
-use Rattle.clog_engine.specs.Apply.{IsBare, Gains}
-use Rattle.clog_engine.specs.Landing.{LandingRefused, status_of}
+use Rattle.clog_engine.specs.Apply.{Gains}
+use Rattle.clog_engine.specs.Directory.{TableRead, IsPlainDirectory}
+use Rattle.clog_engine.specs.Landing.{LandingRefused}
 
-keys_len : (es : List (List ℕ × List ℕ))
-    → length (map (λ (e : List ℕ × List ℕ). e.0) es) ≡ length es
-keys_len [] = refl
-keys_len (e ∷ es) = ap suc (keys_len es)
+absent : {A : Type 0} (o : Option A) → (IsSome o → ⊥) → o ≡ None
+absent None h = refl
+absent (Some x) h = absurd (h refl)
 
-no_bytes : (files : Files) (name : List ℕ) → IsBare files → bytes_at files name ≡ []
-no_bytes files name bare =
-    let n : finmap.len files ≡ 0 =
-    len-entries files ∙ sym (keys_len (finmap.entries files)) ∙ ap length bare in
-    ap (λ (m : Files). unwrap_or (finmap.get m name) []) (empty_of_len files n)
-    ∙ ap (λ (o : Option (List ℕ)). unwrap_or o []) (get-empty (slice_cmp nat_cmp) name)
+-- the name of a segment is free in a directory that has none
+pub is_free : (files : Option Files) (reads : List TableRead) (id : ℕ) → id < 2 ^ 63
+    → IfSome files (λ held. IsPlainDirectory held reads)
+    → IfSome files (λ held. finmap.get held (segment_name_of 6 id) ≡ None)
+is_free None reads id fits plain = tt
+is_free (Some held) reads id fits plain =
+    absent (finmap.get held (segment_name_of 6 id)) (λ there.
+    plain.few.readable.no_segment (
+      segment_name_of 6 id,
+      there,
+      (6, (id, record { form = refl; version_fits = omega arith; id_fits = fits })),
+    ))
 
--- on a bare disk each file begins at 0
-pub bare_end : (files : Option Files) (name : List ℕ) → IfSome files IsBare → IsEnd files name 0
-bare_end None name bare = tt
-bare_end (Some files) name bare = sym (ap length (no_bytes files name bare))
+no_bytes : (files : Files) (name : List ℕ) → finmap.get files name ≡ None
+    → bytes_at files name ≡ []
+no_bytes files name free = ap (λ (o : Option (List ℕ)). unwrap_or o []) free
+
+-- a file that is not there begins at 0
+pub free_end : (files : Option Files) (name : List ℕ)
+    → IfSome files (λ held. finmap.get held name ≡ None) → IsEnd files name 0
+free_end None name free = tt
+free_end (Some files) name free = sym (ap length (no_bytes files name free))
 
 -- what is appended to no bytes is the file
-pub gained : (before after : Option Files) (name bytes : List ℕ) → IfSome before IsBare
-    → AppendsTo before after name bytes → Gains before after name bytes
-gained None after name bytes bare a = a
-gained (Some before) after name bytes bare a =
+pub gained : (before after : Option Files) (name bytes : List ℕ)
+    → IfSome before (λ held. finmap.get held name ≡ None) → AppendsTo before after name bytes
+    → Gains before after name bytes
+gained None after name bytes free a = a
+gained (Some before) after name bytes free a =
     a ∙ ap (λ (bs : List ℕ). Some (finmap.insert before name (bs ++ bytes)))
-    (no_bytes before name bare)
+    (no_bytes before name free)
 
 -- what was appended may have been
 pub appended_part : (files files_now : Option Files) (name bytes : List ℕ)
@@ -116,7 +110,7 @@ appended_there (Some before) (Some files) name bytes a h =
 -- why the sync behind an append is refused
 pub sync_refused : (e : Fault) (before mid : Option Files) (name bytes : List ℕ) (f g : ℕ)
     → AppendsTo before mid name bytes → (e ≡ NoSuchFile → IsAbsent mid name)
-    → (e ≡ Failed → Rose f g) → LandingRefused f g (status_of e)
+    → (e ≡ Failed → Rose f g) → LandingRefused f g e
 sync_refused Failed before mid name bytes f g a absent rose = rose refl
 sync_refused NoSuchFile before mid name bytes f g a absent rose =
     absurd (appended_there before mid name bytes a (absent refl))
@@ -126,18 +120,11 @@ pub rose_on : (f g k : ℕ) → f ≤ g → Rose g k → Rose f k
 rose_on f g k later rose = omega arith
 
 -- a refusal is one too where faults are counted from earlier on
-pub refused_on : (f g k : ℕ) (status : Status) → f ≤ g → LandingRefused g k status
-    → LandingRefused f k status
-refused_on f g k Ok later refused = refused
-refused_on f g k Usage later refused = refused
-refused_on f g k (BadLine number cause) later refused = refused
-refused_on f g k (TooLarge number size most) later refused = refused
-refused_on f g k ReadFault later refused = refused
-refused_on f g k WriteFault later refused = refused
-refused_on f g k DiskFault later refused = rose_on f g k later refused
-refused_on f g k NoMemory later refused = refused
-refused_on f g k (Limit what most) later refused = refused
-refused_on f g k (NotBuilt what) later refused = refused
+pub refused_on : (f g k : ℕ) (fault : Fault) → f ≤ g → LandingRefused g k fault
+    → LandingRefused f k fault
+refused_on f g k Failed later refused = rose_on f g k later refused
+refused_on f g k NoSuchFile later refused = refused
+refused_on f g k OutOfMemory later refused = refused
 
 -- What a crash may leave, by a state before the append, one after it, and a greater size.
 pub tears_on : (files : Option Files) (before old new after : List ℕ → Option (List ℕ) → Type 0)
@@ -171,8 +158,8 @@ pub torn_from : (files listed_files : Option Files)
     (before listed now : List ℕ → Option (List ℕ) → Type 0) (name written : List ℕ) (n most : ℕ)
     → listed_files ≡ files → SameImages before listed → written ≡ name → n ≤ most
     → Tears listed_files listed now written n → Tears files before now name most
-torn_from files listed_files before listed now name written n most same_files same same_name few torn =
+torn_from files told before listed now name written n most same_files same same_name few torn =
     tears_on files before listed now now name n most same.fewer few
     (subst (λ (f : Option Files). Tears f listed now name n) same_files
-    (subst (λ (m : List ℕ). Tears listed_files listed now m n) same_name torn))
+    (subst (λ (m : List ℕ). Tears told listed now m n) same_name torn))
     (same_within now)

@@ -22,8 +22,8 @@ use Rattle.std.proofs.lemmas.List.{map-append, append-nil}
 use Rattle.std.proofs.lemmas.Grind.{flat_map-append}
 use Rattle.clog_base.specs.declared.cell.Cell.{Cell}
 use Rattle.clog_base.specs.declared.cell.CellKey.{CellKey}
-use Rattle.clog_cells.specs.Merge.{AreInOrder, IsMerge}
-use Rattle.clog_cells.proofs.Merging.{none_yet, one_more, of_itself, continues}
+use Rattle.clog_cells.specs.Merge.{IsMerge}
+use Rattle.clog_cells.proofs.Merging.{one_more, of_itself, continues}
 use Rattle.clog_mutation.specs.declared.mutation.Update.{Update}
 use Rattle.clog_mutation.specs.declared.mutation.Mutation.{Mutation}
 use Rattle.clog_mutation.specs.Payload.{pair_of, cells_of}
@@ -39,15 +39,18 @@ update_more old merged new key front last so_far step =
     (one_more old (map (pair_of key) front) merged new (pair_of key last) so_far step)
 
 -- one mutation more
-pub mutation_more : (merged new : List (CellKey × Cell)) (front : List Mutation) (last : Mutation)
-    → IsMerge (flat_map cells_of front) merged → IsMerge (merged ++ cells_of last) new
-    → IsMerge (flat_map cells_of (front ++ last ∷ [])) new
-mutation_more merged new front last so_far step =
+pub mutation_more : (before merged new : List (CellKey × Cell)) (front : List Mutation)
+    (last : Mutation) → IsMerge (before ++ flat_map cells_of front) merged
+    → IsMerge (merged ++ cells_of last) new
+    → IsMerge (before ++ flat_map cells_of (front ++ last ∷ [])) new
+mutation_more before merged new front last so_far step =
     subst (λ (l : List (CellKey × Cell)). IsMerge l new)
+    (append_assoc before (flat_map cells_of front) (cells_of last)
+    ∙ ap (λ (l : List (CellKey × Cell)). before ++ l)
     (ap (λ (l : List (CellKey × Cell)). flat_map cells_of front ++ l)
     (sym (append-nil (cells_of last)))
-    ∙ sym (flat_map-append cells_of front (last ∷ [])))
-    (continues (flat_map cells_of front) merged (cells_of last) new so_far step)
+    ∙ sym (flat_map-append cells_of front (last ∷ []))))
+    (continues (before ++ flat_map cells_of front) merged (cells_of last) new so_far step)
 
 -- what was taken and what is left are the whole
 pub part_more : {A : Type 0} (whole part left rest : List A) (x : A) → whole ≡ part ++ left
@@ -63,9 +66,3 @@ all_parts whole part left so_far e =
 pub nothing_left : {A : Type 0} (xs : List A) → length xs ≡ 0 → xs ≡ []
 nothing_left [] none = refl
 nothing_left (x ∷ xs) none = absurd (omega arith)
-
--- no pairs merge to no rows
-pub no_merge : (rows : List (CellKey × Cell)) → rows ≡ [] → IsMerge [] rows
-unfolding IsStrictlySortedBy
-no_merge rows none =
-    subst (λ (l : List (CellKey × Cell)). IsMerge [] l) (sym none) (of_itself [] tt)

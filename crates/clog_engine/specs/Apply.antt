@@ -2,7 +2,6 @@
 use Rattle.std.specs.Prelude.{
   ◌≡◌,
   ◌⊎◌,
-  ◌≢◌,
   ℕ,
   ◌+◌,
   ◌<◌,
@@ -12,27 +11,18 @@ use Rattle.std.specs.Prelude.{
   ◌++◌,
   length,
   Bool,
-  true,
-  false,
   Option,
   Some,
   None,
   IfSome,
-  ⊤,
   Result,
 }
 use Rattle.std.specs.declared.result.Result.TheVariants as result
 use Rattle.std.specs.FinMap as map
-use Rattle.std.specs.Io.KnownBytes.{IsAtEnd}
 use Rattle.clog_spec.specs.Names.{segment_name_of}
 use Rattle.clog_spec.specs.Segment.{header_bytes, marker_bytes}
-use Rattle.clog_base.specs.declared.fault.Quantity.TheVariants.{
-  FileBytes,
-  Lines,
-  SegmentBytes,
-  Ids,
-  TableFiles,
-}
+use Rattle.clog_base.specs.declared.fault.Quantity.TheVariants.{FileBytes, Lines, Ids, TableFiles}
+use Rattle.clog_io.specs.Bytes.{TakesAll}
 use Rattle.clog_io.specs.Causes.{Rose}
 use Rattle.clog_disk.specs.Files.{Files, MayAppend}
 use Rattle.clog_disk.specs.Images.{Lasts, Tears}
@@ -41,18 +31,16 @@ use Rattle.clog_text.specs.FileLines.{line_limit}
 use Rattle.clog_engine.specs.declared.status.Unbuilt.TheVariants.{Segment, Directory}
 use Rattle.clog_engine.specs.declared.status.Status.{Status}
 use Rattle.clog_engine.specs.declared.status.Status.TheVariants.{
-  Ok,
-  Usage,
   BadLine,
   TooLarge,
   ReadFault,
-  WriteFault,
   DiskFault,
+  BadTable,
   OutOfMemory,
   Limit,
   NotBuilt,
 }
-use Rattle.clog_engine.specs.Limits.{file_limit, capacity}
+use Rattle.clog_engine.specs.Limits.{file_limit, capacity, sequence_limit, id_limit}
 use Rattle.clog_engine.specs.Input.{
   IsAccepted,
   HasManyLines,
@@ -62,12 +50,19 @@ use Rattle.clog_engine.specs.Input.{
   IsGood,
   entries_of,
 }
+use Rattle.clog_engine.specs.Directory.{
+  TableRead,
+  NamesId,
+  IsBase,
+  HasSegment,
+  HasBadTable,
+  HasManyTables,
+  HasGreatId,
+  IsPlainDirectory,
+  cells_of_tables,
+}
 use Rattle.clog_engine.specs.Outside.{Outside, IsUntouched}
 use Rattle.clog_engine.specs.Report.{IsReport}
-
--- no file is there
-abbrev pub IsBare : Files → Type 0
-IsBare files = map.keys files ≡ []
 
 -- the front of the segment of an id: its header, and the marker of a section that ends there
 unfoldable pub front_of : ℕ → ℕ → List ℕ
@@ -82,8 +77,8 @@ abbrev pub Gains : Option Files → Option Files → List ℕ → List ℕ → T
 Gains None after name bytes = after ≡ None
 Gains (Some before) after name bytes = after ≡ Some (map.insert before name bytes)
 
--- The segment is there, lasting. No other file has changed, and a crash leaves at each other name no
--- more than before.
+-- The segment is there, lasting. No other file has changed, and a crash leaves at each other name
+-- no more than before.
 pub record HasLanded (o : Outside) (id : ℕ) (bytes : List ℕ) : Type 0 where
   pub gained : Gains o.files o.files_now (segment_name_of 6 id) bytes
   pub lasts : Lasts o.files_now o.leaves_now (segment_name_of 6 id)
@@ -94,24 +89,35 @@ abbrev pub Lands : Outside → ℕ → List Mutation → Type 0
 Lands o id [] = IsUntouched o
 Lands o id (first ∷ more) = HasLanded o id (segment_of id (first ∷ more))
 
--- The file's mutations stand in a new segment, whose id the clock told, and the report tells them.
+-- The source was read to its end, and the bytes that it gave are such.
+abbrev pub Reads : Outside → (List ℕ → Type 0) → Type 0
+Reads o P = (bytes : List ℕ) × TakesAll o.left o.left_now bytes × P bytes
+
+-- The directory is good and these are its table files; the clock told a moment, and the id is the
+-- greater of it and one more than each id of the directory.
+pub record IsBegun (o : Outside) (reads : List TableRead) (id : ℕ) : Type 0 where
+  pub plain : IfSome o.files (λ files. IsPlainDirectory files reads)
+  pub now : ℕ
+  pub told : o.tells now
+  pub base : IfSome o.files (λ files. IsBase (NamesId files reads) now id)
+
+-- The file's mutations stand in a new segment, and the report tells them.
 pub record IsApplied (o : Outside) (dump : Bool) (report bytes : List ℕ) : Type 0 where
   pub mutations : List Mutation
   pub accepted : IsAccepted bytes mutations
-  pub ended : IsAtEnd o.left_now
-  pub bare : IfSome o.files IsBare
+  pub reads : List TableRead
   pub id : ℕ
-  pub told : o.tells id
+  pub begun : IsBegun o reads id
   pub landed : Lands o id mutations
-  pub reported : IsReport dump mutations report
+  pub reported : IsReport dump (cells_of_tables reads) mutations report
 
--- All was good and the disk bare. Nothing has changed but the new segment, whose id the clock told:
--- some bytes may be there, and a crash leaves at each other name no more than before.
+-- All was good. Nothing has changed but the new segment: some bytes may be there, and a crash
+-- leaves at each other name no more than before.
 pub record IsPartly (o : Outside) : Type 0 where
-  pub good : IfSome o.left IsGood
-  pub bare : IfSome o.files IsBare
+  pub good : Reads o IsGood
+  pub reads : List TableRead
   pub id : ℕ
-  pub told : o.tells id
+  pub begun : IsBegun o reads id
   pub part : MayAppend o.files o.files_now (segment_name_of 6 id) capacity
   pub images : Tears o.files o.leaves o.leaves_now (segment_name_of 6 id) capacity
 
@@ -120,29 +126,29 @@ LeavesPart o = IsUntouched o ⊎ IsPartly o
 
 -- Why nothing is reported, and what is left of the disk: each row with all that comes before it.
 abbrev pub ApplyRefuses : Status → Outside → Type 0
-ApplyRefuses Ok o = ⊥
-ApplyRefuses Usage o = ⊥
 ApplyRefuses (BadLine number cause) o =
-    IfSome o.left (λ bytes. HasBadLine bytes number cause) × IsUntouched o
+    Reads o (λ bytes. HasBadLine bytes number cause) × IsUntouched o
 ApplyRefuses (TooLarge number size most) o =
-    IfSome o.left (λ bytes. HasLargeLine bytes number size most) × IsUntouched o
+    Reads o (λ bytes. HasLargeLine bytes number size most) × IsUntouched o
 ApplyRefuses ReadFault o = Rose o.source_faults o.source_faults_now × IsUntouched o
-ApplyRefuses WriteFault o = ⊥
 ApplyRefuses DiskFault o =
-    IfSome o.left IsGood × Rose o.disk_faults o.disk_faults_now × LeavesPart o
+    Reads o IsGood × Rose o.disk_faults o.disk_faults_now × LeavesPart o
+ApplyRefuses (BadTable name fault) o =
+    Reads o IsGood × IfSome o.files (λ files. HasBadTable files name fault) × IsUntouched o
 ApplyRefuses OutOfMemory o = LeavesPart o
 ApplyRefuses (Limit FileBytes most) o =
     (most ≡ file_limit) × IfSome o.left (λ bytes. file_limit < length bytes) × IsUntouched o
-ApplyRefuses (Limit Lines most) o =
-    (most ≡ line_limit) × IfSome o.left HasManyLines × IsUntouched o
-ApplyRefuses (Limit SegmentBytes most) o = ⊥
-ApplyRefuses (Limit Ids most) o = ⊥
-ApplyRefuses (Limit TableFiles most) o = ⊥
-ApplyRefuses (NotBuilt Segment) o = IfSome o.left HasNoRoom × IsUntouched o
+ApplyRefuses (Limit Lines most) o = (most ≡ line_limit) × Reads o HasManyLines × IsUntouched o
+ApplyRefuses (Limit TableFiles most) o =
+    (most ≡ sequence_limit) × Reads o IsGood × IfSome o.files HasManyTables × IsUntouched o
+ApplyRefuses (Limit Ids most) o =
+    (most ≡ id_limit) × Reads o IsGood × IfSome o.files HasGreatId × IsUntouched o
+ApplyRefuses (NotBuilt Segment) o = Reads o HasNoRoom × IsUntouched o
 ApplyRefuses (NotBuilt Directory) o =
-    IfSome o.left IsGood × IfSome o.files (λ files. ¬ IsBare files) × IsUntouched o
+    Reads o IsGood × IfSome o.files HasSegment × IsUntouched o
+ApplyRefuses other o = ⊥
 
 -- a report, or why there is none
 abbrev pub Applies : Bool → Outside → Result (List ℕ) Status → Type 0
-Applies dump o (result.Ok report) = IfSome o.left (IsApplied o dump report)
+Applies dump o (result.Ok report) = Reads o (IsApplied o dump report)
 Applies dump o (result.Err status) = ApplyRefuses status o

@@ -8,6 +8,7 @@ use Rattle.clog_base.specs.declared.fault.Quantity.TheVariants.{
   Ids,
   TableFiles,
 }
+use Rattle.clog_table.specs.FaultTexts.{fault_text}
 use Rattle.clog_text.specs.Refusals.{refusal_text}
 use Rattle.clog_engine.specs.declared.status.Unbuilt.{Unbuilt}
 use Rattle.clog_engine.specs.declared.status.Unbuilt.TheVariants.{Segment, Directory}
@@ -20,8 +21,10 @@ use Rattle.clog_engine.specs.declared.status.Status.TheVariants.{
   ReadFault,
   WriteFault,
   DiskFault,
+  BadTable,
   OutOfMemory,
   Limit,
+  Absent,
   NotBuilt,
 }
 use Rattle.clog_engine.specs.Report.{line}
@@ -48,9 +51,12 @@ fault_line (TooLarge number size most) =
 fault_line ReadFault = line (codes "error 4: read fault")
 fault_line WriteFault = []
 fault_line DiskFault = line (codes "error 6: disk fault")
+fault_line (BadTable name fault) =
+    line (codes "error 8: " ++ name ++ codes ": " ++ fault_text fault)
 fault_line OutOfMemory = line (codes "error 9: out of memory")
 fault_line (Limit what number) =
     line (codes "error 10: limit " ++ quantity_name what ++ codes " " ++ decimal number)
+fault_line (Absent name) = line (codes "error 11: no file " ++ name)
 fault_line (NotBuilt what) = line (codes "error 12: not built " ++ unbuilt_name what)
 
 abbrev pub number_of : Status → ℕ
@@ -61,6 +67,8 @@ number_of (TooLarge number size most) = 3
 number_of ReadFault = 4
 number_of WriteFault = 5
 number_of DiskFault = 6
+number_of (BadTable name fault) = 8
 number_of OutOfMemory = 9
 number_of (Limit what number) = 10
+number_of (Absent name) = 11
 number_of (NotBuilt what) = 12

@@ -1,10 +1,17 @@
 pub mod Apply
+pub mod Completes
+pub mod Directory
 pub mod Faults
 pub mod Input
 pub mod Landing
 pub mod Limits
+pub mod Listing
+pub mod Looking
 pub mod Outside
 pub mod Reading
 pub mod Report
 pub mod Request
 pub mod Run
+pub mod ScanReport
+pub mod Scanning
+pub mod SegmentFile

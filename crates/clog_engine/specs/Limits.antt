@@ -12,3 +12,15 @@ capacity = 33554432
 -- of an entry: half a segment
 abbrev pub entry_limit : ℕ
 entry_limit = 16777216
+
+-- of a segment's file that is scanned
+abbrev pub scan_limit : ℕ
+scan_limit = 67108864
+
+-- of the sequences of a table's files, at most this
+abbrev pub sequence_limit : ℕ
+sequence_limit = 4611686018427387904
+
+-- of the ids that a directory names, less than this
+abbrev pub id_limit : ℕ
+id_limit = 4611686018427387903

@@ -1,5 +1,5 @@
 -- The outside of a run, before it and after it.
-use Rattle.std.specs.Prelude.{◌≡◌, ◌⊎◌, ◌≢◌, ℕ, List, Option, Some, None, ⊤}
+use Rattle.std.specs.Prelude.{◌≡◌, ℕ, List, Option}
 use Rattle.std.specs.Io.KnownBytes.{Appends}
 use Rattle.clog_io.specs.Causes.{Rose}
 use Rattle.clog_io.specs.Bytes.{AppendsPrefix}

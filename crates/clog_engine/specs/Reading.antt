@@ -1,46 +1,21 @@
 -- What the steps of reading answer: for private clauses.
-use Rattle.std.specs.Prelude.{
-  ◌≡◌,
-  ◌⊎◌,
-  ℕ,
-  ◌+◌,
-  ◌<◌,
-  ◌≤◌,
-  List,
-  length,
-  Option,
-  IfSome,
-  ⊤,
-  Result,
-  Vec,
-}
+use Rattle.std.specs.Prelude.{◌≡◌, ℕ, ◌+◌, ◌<◌, ◌≤◌, List, length, Option, IfSome, ⊤, Result, Vec}
 use Rattle.std.specs.declared.alloc.Global.{Global}
 use Rattle.std.specs.declared.result.Result.TheVariants as result
 use Rattle.std.specs.List.{AllByRecursion}
-use Rattle.std.specs.Io.KnownBytes.{IsAtEnd}
-use Rattle.clog_base.specs.declared.fault.Quantity.TheVariants.{
-  FileBytes,
-  Lines,
-  SegmentBytes,
-  Ids,
-  TableFiles,
-}
+use Rattle.clog_base.specs.declared.fault.Quantity.TheVariants.{FileBytes, Lines}
+use Rattle.clog_io.specs.Bytes.{TakesAll}
 use Rattle.clog_io.specs.Causes.{Rose}
 use Rattle.clog_mutation.specs.declared.mutation.Mutation.{Mutation}
 use Rattle.clog_text.specs.FileLines.{lines_of, line_limit}
 use Rattle.clog_text.specs.FileMutations.{file_mutations}
-use Rattle.clog_text.specs.declared.refusal.BadLine.{BadLine as Cause}
 use Rattle.clog_text.specs.declared.refusal.BadLine.TheVariants.{OutOfMemory as no_memory}
-use Rattle.clog_engine.specs.declared.status.Unbuilt.TheVariants.{Segment, Directory}
+use Rattle.clog_engine.specs.declared.status.Unbuilt.TheVariants.{Segment}
 use Rattle.clog_engine.specs.declared.status.Status.{Status}
 use Rattle.clog_engine.specs.declared.status.Status.TheVariants.{
-  Ok,
-  Usage,
   BadLine,
   TooLarge,
   ReadFault,
-  WriteFault,
-  DiskFault,
   OutOfMemory,
   Limit,
   NotBuilt,
@@ -55,54 +30,32 @@ use Rattle.clog_engine.specs.Limits.{file_limit, capacity}
 -- ---- the bytes of the source
 
 abbrev pub BytesRefused : Option (List ℕ) → ℕ → ℕ → Status → Type 0
-BytesRefused left faults now Ok = ⊥
-BytesRefused left faults now Usage = ⊥
-BytesRefused left faults now (BadLine number cause) = ⊥
-BytesRefused left faults now (TooLarge number size most) = ⊥
 BytesRefused left faults now ReadFault = Rose faults now
-BytesRefused left faults now WriteFault = ⊥
-BytesRefused left faults now DiskFault = ⊥
 BytesRefused left faults now OutOfMemory = ⊤
 BytesRefused left faults now (Limit FileBytes most) =
     (most ≡ file_limit) × IfSome left (λ bytes. file_limit < length bytes)
-BytesRefused left faults now (Limit Lines most) = ⊥
-BytesRefused left faults now (Limit SegmentBytes most) = ⊥
-BytesRefused left faults now (Limit Ids most) = ⊥
-BytesRefused left faults now (Limit TableFiles most) = ⊥
-BytesRefused left faults now (NotBuilt what) = ⊥
+BytesRefused left faults now other = ⊥
 
--- these are all bytes, and the source is at its end
-pub record TakesFile (left_now : Option (List ℕ)) (taken bytes : List ℕ) : Type 0 where
-  pub whole : taken ≡ bytes
+-- these bytes were taken, and the source is at its end
+pub record TakesFile (left left_now : Option (List ℕ)) (bytes : List ℕ) : Type 0 where
+  pub taken : TakesAll left left_now bytes
   pub few : length bytes ≤ file_limit
-  pub ended : IsAtEnd left_now
 
 abbrev pub GivesBytes : Option (List ℕ) → Option (List ℕ) → ℕ → ℕ
     → Result (Vec ℕ Global) Status → Type 0
-GivesBytes left left_now faults now (result.Ok bytes) =
-    IfSome left (TakesFile left_now bytes.items)
+GivesBytes left left_now faults now (result.Ok bytes) = TakesFile left left_now bytes.items
 GivesBytes left left_now faults now (result.Err status) = BytesRefused left faults now status
 
 -- ---- the mutations of the file
 
 abbrev pub MutationsRefused : List ℕ → Status → Type 0
-MutationsRefused bytes Ok = ⊥
-MutationsRefused bytes Usage = ⊥
 MutationsRefused bytes (BadLine number cause) =
     (length (lines_of bytes) ≤ line_limit)
     × (file_mutations bytes ≡ result.Err (number, cause)) × (cause ≡ no_memory → ⊥)
-MutationsRefused bytes (TooLarge number size most) = ⊥
-MutationsRefused bytes ReadFault = ⊥
-MutationsRefused bytes WriteFault = ⊥
-MutationsRefused bytes DiskFault = ⊥
 MutationsRefused bytes OutOfMemory = ⊤
-MutationsRefused bytes (Limit FileBytes most) = ⊥
 MutationsRefused bytes (Limit Lines most) =
     (most ≡ line_limit) × (line_limit < length (lines_of bytes))
-MutationsRefused bytes (Limit SegmentBytes most) = ⊥
-MutationsRefused bytes (Limit Ids most) = ⊥
-MutationsRefused bytes (Limit TableFiles most) = ⊥
-MutationsRefused bytes (NotBuilt what) = ⊥
+MutationsRefused bytes other = ⊥
 
 abbrev pub GivesMutations : List ℕ → Result (List Mutation) Status → Type 0
 GivesMutations bytes (result.Ok mutations) =
@@ -112,18 +65,10 @@ GivesMutations bytes (result.Err status) = MutationsRefused bytes status
 -- ---- the sizes of the entries
 
 abbrev pub SizesRefused : List Mutation → Status → Type 0
-SizesRefused mutations Ok = ⊥
-SizesRefused mutations Usage = ⊥
-SizesRefused mutations (BadLine number cause) = ⊥
 SizesRefused mutations (TooLarge number size most) = HasLargeMutation mutations number size most
-SizesRefused mutations ReadFault = ⊥
-SizesRefused mutations WriteFault = ⊥
-SizesRefused mutations DiskFault = ⊥
-SizesRefused mutations OutOfMemory = ⊥
-SizesRefused mutations (Limit what most) = ⊥
 SizesRefused mutations (NotBuilt Segment) =
     AllByRecursion HasFittingEntry mutations × (capacity ≤ 28 + length (entries_of mutations))
-SizesRefused mutations (NotBuilt Directory) = ⊥
+SizesRefused mutations other = ⊥
 
 -- the size of all entries, or the first that is too large
 abbrev pub SumsSizes : List Mutation → Result ℕ Status → Type 0

@@ -28,13 +28,15 @@ line text = text ++ 10 ∷ []
 abbrev pub applied_line : ℕ → List ℕ
 applied_line lines = line (codes "applied " ++ decimal lines)
 
--- how many lines were applied, and the cells that the mutations merge to, a line each
-pub record IsDump (mutations : List Mutation) (report : List ℕ) : Type 0 where
+-- how many lines were applied, and the cells that those of before and the mutations merge to, a
+-- line each
+pub record IsDump (before : List (CellKey × Cell)) (mutations : List Mutation) (report : List ℕ)
+    : Type 0 where
   pub rows : List (CellKey × Cell)
-  pub merge : IsMerge (flat_map cells_of mutations) rows
+  pub merge : IsMerge (before ++ flat_map cells_of mutations) rows
   pub text : report ≡ applied_line (length mutations) ++ flat_map row_line rows
 
--- The report of mutations, with the cells where they are asked for.
-abbrev pub IsReport : Bool → List Mutation → List ℕ → Type 0
-IsReport false mutations report = report ≡ applied_line (length mutations)
-IsReport true mutations report = IsDump mutations report
+-- The report of mutations over the cells of before, with the cells where they are asked for.
+abbrev pub IsReport : Bool → List (CellKey × Cell) → List Mutation → List ℕ → Type 0
+IsReport false before mutations report = report ≡ applied_line (length mutations)
+IsReport true before mutations report = IsDump before mutations report

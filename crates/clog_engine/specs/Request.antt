@@ -1,34 +1,46 @@
 -- What the words of the command line ask for.
 use Rattle.std.specs.Prelude.{
+  ◌≡◌,
   ℕ,
   List,
   [],
   ◌∷◌,
+  map,
   Bool,
   true,
   false,
-  ◌&&◌,
-  if◌then◌else◌,
   Option,
-  Some,
-  None,
+  MatchOption,
   String,
   string_bytes,
   codes,
 }
 use Rattle.std.specs.declared.alloc.Global.{Global}
-use Rattle.std.specs.Str.{bytes_eq}
+use Rattle.clog_spec.specs.Names.{IsSegmentName}
 use Rattle.clog_engine.specs.declared.words.Request.{Request}
-use Rattle.clog_engine.specs.declared.words.Request.TheVariants.{Apply}
-
--- the word has these letters
-abbrev pub says : String Global → List ℕ → Bool
-says word letters = bytes_eq (string_bytes word) letters
+use Rattle.clog_engine.specs.declared.words.Request.TheVariants.{Apply, Scan}
 
 -- `apply`, and `apply --dump`, which asks for the cells
-abbrev pub request_of : List (String Global) → Option Request
-request_of [] = None
-request_of (command ∷ []) = if says command (codes "apply") then Some (Apply false) else None
-request_of (command ∷ mark ∷ []) =
-    if says command (codes "apply") && says mark (codes "--dump") then Some (Apply true) else None
-request_of (command ∷ mark ∷ more ∷ words) = None
+abbrev pub apply_words : Bool → List (List ℕ)
+apply_words false = codes "apply" ∷ []
+apply_words true = codes "apply" ∷ codes "--dump" ∷ []
+
+-- `scan`, and the name of a segment of version 6
+pub record AsksScan (words : List (List ℕ)) (id : ℕ) : Type 0 where
+  pub name : List ℕ
+  pub words_are : words ≡ codes "scan" ∷ name ∷ []
+  pub segment : IsSegmentName name 6 id
+
+-- The words, as their letters, ask for this.
+abbrev pub Says : List (List ℕ) → Request → Type 0
+Says words (Apply dump) = words ≡ apply_words dump
+Says words (Scan id) = AsksScan words id
+
+-- they ask for this, or for nothing that there is
+abbrev pub GivesRequest : List (List ℕ) → Option Request → Type 0
+GivesRequest words request =
+    MatchOption request ((other : Request) → ¬ Says words other) (Says words)
+
+-- the same of words as they are given
+abbrev pub Asks : List (String Global) → Option Request → Type 0
+Asks words request = GivesRequest (map string_bytes words) request

@@ -3,43 +3,32 @@ use Rattle.std.specs.Prelude.{◌≡◌, ◌⊎◌, ℕ, List, Option, Some, Non
 use Rattle.std.specs.declared.alloc.Global.{Global}
 use Rattle.std.specs.declared.result.Result.TheVariants as result
 use Rattle.clog_engine.specs.declared.status.Status.{Status}
-use Rattle.clog_engine.specs.declared.status.Status.TheVariants.{
-  Ok,
-  Usage,
-  BadLine,
-  TooLarge,
-  ReadFault,
-  WriteFault,
-  DiskFault,
-  OutOfMemory,
-  Limit,
-  NotBuilt,
-}
+use Rattle.clog_engine.specs.declared.status.Status.TheVariants.{Ok, Usage, WriteFault}
 use Rattle.clog_engine.specs.declared.words.Request.{Request}
-use Rattle.clog_engine.specs.declared.words.Request.TheVariants.{Apply}
-use Rattle.clog_engine.specs.Request.{request_of}
+use Rattle.clog_engine.specs.declared.words.Request.TheVariants.{Apply, Scan}
+use Rattle.clog_engine.specs.Request.{Asks}
+use Rattle.clog_engine.specs.Scanning.{Scans}
 use Rattle.clog_engine.specs.Faults.{fault_line}
 use Rattle.clog_engine.specs.Outside.{Outside, IsUntouched, Sinks, Writes, Breaks}
 use Rattle.clog_engine.specs.Apply.{Applies}
 
+-- nothing was taken from the source
+pub record IsUnread (o : Outside) : Type 0 where
+  pub left : o.left_now ≡ o.left
+  pub faults : o.source_faults_now ≡ o.source_faults
+
 -- What is asked for is done and reported, or is refused; no request at all is refused.
 abbrev pub Does : Option Request → Outside → Result (List ℕ) Status → Type 0
-Does None o outcome =
-    (outcome ≡ result.Err Usage) × IsUntouched o × (o.left_now ≡ o.left)
+Does None o outcome = (outcome ≡ result.Err Usage) × IsUntouched o × IsUnread o
 Does (Some (Apply dump)) o outcome = Applies dump o outcome
+Does (Some (Scan id)) o outcome =
+    Scans id o.files o.disk_faults o.disk_faults_now outcome × IsUntouched o × IsUnread o
 
 -- a report goes out whole, or the sink fails
 abbrev pub Reports : List ℕ → Status → Sinks → Type 0
 Reports report Ok s = Writes s report
-Reports report Usage s = ⊥
-Reports report (BadLine number cause) s = ⊥
-Reports report (TooLarge number size most) s = ⊥
-Reports report ReadFault s = ⊥
 Reports report WriteFault s = Breaks s report
-Reports report DiskFault s = ⊥
-Reports report OutOfMemory s = ⊥
-Reports report (Limit what number) s = ⊥
-Reports report (NotBuilt what) s = ⊥
+Reports report other s = ⊥
 
 -- A refusal is the status, and its line alone goes out, or the sink fails at it.
 abbrev pub Prints : Result (List ℕ) Status → Status → Sinks → Type 0
@@ -50,6 +39,8 @@ Prints (result.Err refusal) status s =
 -- What the words ask for comes to a report or a refusal, and the status and the sink tell it.
 pub record Answers (words : List (String Global)) (o : Outside) (s : Sinks) (status : Status)
     : Type 0 where
+  pub request : Option Request
+  pub asked : Asks words request
   pub outcome : Result (List ℕ) Status
-  pub done : Does (request_of words) o outcome
+  pub done : Does request o outcome
   pub printed : Prints outcome status s

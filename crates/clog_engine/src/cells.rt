@@ -58,11 +58,16 @@ fn put_mutation(alloc: Global, cells: &mut CellMap, mutation: Mutation) -> Resul
     }
 }
 
-/// The cells of all mutations, merged.
-pub(crate) fn merged(alloc: Global, mutations: Mutations) -> Result<CellMap, OutOfMemory>
-    ensures { IfOk result (λ rows. IsMerge (flat_map cells_of mutations) rows) }
+/// The cells of before and of all mutations, merged.
+pub(crate) fn merged(
+    alloc: Global,
+    before: CellMap,
+    mutations: Mutations,
+) -> Result<CellMap, OutOfMemory>
+    requires { AreInOrder before }
+    ensures { IfOk result (λ rows. IsMerge (before ++ flat_map cells_of mutations) rows) }
 {
-    let mut cells = CellMap::new(alloc);
+    let mut cells = before;
     for mutation in mutations.into_vec() {
         put_mutation(alloc, &mut cells, mutation)?;
     }

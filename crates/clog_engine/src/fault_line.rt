@@ -4,7 +4,8 @@ ghost use Rattle.clog_text.specs.Refusals.{part_name, refusal_name, refusal_text
 ghost use Rattle.clog_engine.specs.Faults.{fault_line, quantity_name, unbuilt_name};
 
 use crate::status::{Status, Unbuilt};
-use clog_base::{Quantity, put};
+use clog_base::{Name, Quantity, put};
+use clog_table::{FaultText, TableFault};
 use clog_text::{BadLine, Part};
 use itoa::Buffer;
 use std::marker::Model;
@@ -122,22 +123,47 @@ fn put_unbuilt(row: &mut [u8], what: Unbuilt) -> usize
     put(row, at, b"\n")
 }
 
-// Puts a status' line at the front, and says how long it is.
-fn put_fault(row: &mut [u8], status: Status) -> usize
+fn put_bad_table(row: &mut [u8], name: &Name, fault: &TableFault) -> usize
     requires { length row.old ≡ 192 }
     ensures within { result ≤ 192 }
-    ensures text { take result row.new ≡ fault_line status }
+    ensures text { take result row.new ≡ fault_line (Status.BadTable name.now fault.now) }
+{
+    let text = FaultText::new(fault);
+    let at = put(row, 0, b"error 8: ");
+    let at = put(row, at, name.as_bytes());
+    let at = put(row, at, b": ");
+    let at = put(row, at, text.as_bytes());
+    put(row, at, b"\n")
+}
+
+fn put_absent(row: &mut [u8], name: &Name) -> usize
+    requires { length row.old ≡ 192 }
+    ensures within { result ≤ 192 }
+    ensures text { take result row.new ≡ fault_line (Status.Absent name.now) }
+{
+    let at = put(row, 0, b"error 11: no file ");
+    let at = put(row, at, name.as_bytes());
+    put(row, at, b"\n")
+}
+
+// Puts a status' line at the front, and says how long it is.
+fn put_fault(row: &mut [u8], status: &Status) -> usize
+    requires { length row.old ≡ 192 }
+    ensures within { result ≤ 192 }
+    ensures text { take result row.new ≡ fault_line status.now }
 {
     match status {
         Status::Ok | Status::WriteFault => 0,
         Status::Usage => put(row, 0, b"error 1: usage\n"),
-        Status::BadLine(number, cause) => put_bad_line(row, number, cause),
-        Status::TooLarge(number, size, most) => put_too_large(row, number, size, most),
+        Status::BadLine(number, cause) => put_bad_line(row, *number, *cause),
+        Status::TooLarge(number, size, most) => put_too_large(row, *number, *size, *most),
         Status::ReadFault => put(row, 0, b"error 4: read fault\n"),
         Status::DiskFault => put(row, 0, b"error 6: disk fault\n"),
+        Status::BadTable(name, fault) => put_bad_table(row, name, fault),
         Status::OutOfMemory => put(row, 0, b"error 9: out of memory\n"),
-        Status::Limit(what, number) => put_limit(row, what, number),
-        Status::NotBuilt(what) => put_unbuilt(row, what),
+        Status::Limit(what, number) => put_limit(row, *what, *number),
+        Status::Absent(name) => put_absent(row, name),
+        Status::NotBuilt(what) => put_unbuilt(row, *what),
     }
 }
 
@@ -160,8 +186,8 @@ impl Model for FaultLine {
 
 impl FaultLine {
     /// The line that tells a status.
-    pub fn new(status: Status) -> FaultLine
-        ensures { result ≡ fault_line status }
+    pub fn new(status: &Status) -> FaultLine
+        ensures { result ≡ fault_line status.now }
     {
         let mut row = [0u8; 192];
         let len = put_fault(&mut row, status);

@@ -3,15 +3,21 @@
 //! they hold.
 #![tactic(auto)]
 
+mod applying;
 mod cells;
+mod directory;
 mod fault_line;
 mod input;
 mod landing;
 mod report;
 mod running;
+mod scan_report;
+mod scanning;
 mod segment;
 mod sizes;
+mod standing;
 mod status;
+mod tables;
 #[cfg(test)]
 mod tests;
 mod words;

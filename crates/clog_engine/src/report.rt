@@ -1,6 +1,7 @@
 //! What a run prints where it is well.
 ghost use Rattle.std.specs.Prelude.{◌≡◌, ◌++◌, length, OnOk, IfOk};
 ghost use Rattle.std.specs.List.{flat_map};
+ghost use Rattle.clog_cells.specs.Merge.{AreInOrder};
 ghost use Rattle.clog_text.specs.CellTexts.{row_line};
 ghost use Rattle.clog_engine.specs.Report.{applied_line, IsReport};
 
@@ -43,14 +44,20 @@ fn put_cells(alloc: Global, out: &mut Vec<u8>, cells: &CellMap) -> Result<(), Ou
     put_rows(alloc, out, cells.entries())
 }
 
-/// The report of mutations that are applied.
-pub(crate) fn report(alloc: Global, mutations: Mutations, dump: bool) -> Result<Bytes, OutOfMemory>
-    ensures { IfOk result (IsReport dump mutations) }
+/// The report of mutations that are applied over the cells of before, which only a dump looks at.
+pub(crate) fn report(
+    alloc: Global,
+    before: CellMap,
+    mutations: Mutations,
+    dump: bool,
+) -> Result<Bytes, OutOfMemory>
+    requires { AreInOrder before }
+    ensures { IfOk result (IsReport dump before mutations) }
 {
     let mut out = Vec::new(alloc);
     put_applied(&mut out, mutations.as_slice().len() as u64)?;
     if dump {
-        put_cells(alloc, &mut out, &merged(alloc, mutations)?)?;
+        put_cells(alloc, &mut out, &merged(alloc, before, mutations)?)?;
     }
     Ok(Bytes::new(out))
 }

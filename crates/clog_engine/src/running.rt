@@ -1,74 +1,18 @@
 //! The top call.
-ghost use Rattle.std.specs.Prelude.{◌≡◌, ◌≤◌, length};
-ghost use Rattle.clog_engine.specs.Apply.{Applies};
-ghost use Rattle.clog_engine.specs.Faults.{fault_line};
+ghost use Rattle.clog_engine.specs.Completes.{Runs};
 ghost use Rattle.clog_engine.specs.Run.{Answers, Prints};
 
+use crate::applying::apply;
 use crate::fault_line::FaultLine;
-use crate::input::{bytes_of, mutations_of};
-use crate::landing::{find_bare, land};
-use crate::report::report;
-use crate::segment::segment;
-use crate::sizes::entries_size;
+use crate::scanning::scan_segment;
 use crate::status::Status;
 use crate::words::{Request, request_of};
-use clog_base::{Bytes, OutOfMemory, segment_name};
+use clog_base::Bytes;
 use clog_disk::Disk;
 use clog_io::{Clock, Gate, Sink, Source};
 use std::alloc::Global;
 use std::sync::Wait;
 use std::thread::Threads;
-
-impl From<OutOfMemory> for Status {
-    ghost use Rattle.clog_engine.specs.declared.status.Status.TheVariants.{
-      OutOfMemory as no_memory,
-    };
-
-    ghost from_gives = { λ _ e. e ≡ no_memory };
-
-    fn from(_: OutOfMemory) -> Self {
-        Status::OutOfMemory
-    }
-}
-
-// All memory is taken before the disk changes.
-fn apply<S: Source, D: Disk, C: Clock>(
-    alloc: Global,
-    dump: bool,
-    source: &mut S,
-    disk: &mut D,
-    clock: &C,
-) -> Result<Bytes, Status>
-    ensures { Applies dump (record {
-      left = S.left source.old;
-      left_now = S.left source.new;
-      source_faults = S.faults source.old;
-      source_faults_now = S.faults source.new;
-      files = D.files disk.old;
-      files_now = D.files disk.new;
-      leaves = D.leaves disk.old;
-      leaves_now = D.leaves disk.new;
-      disk_faults = D.faults disk.old;
-      disk_faults_now = D.faults disk.new;
-      tells = C.tells clock.now;
-    }) result }
-{
-    let bytes = bytes_of(alloc, source)?;
-    let mutations = mutations_of(alloc, &bytes)?;
-    let size = entries_size(mutations.as_slice())?;
-    find_bare(disk)?;
-    let id = clock.now_ms();
-    let lines = mutations.as_slice().len();
-    let segment = segment(alloc, id, mutations.as_slice(), size)?;
-    let report = report(alloc, mutations, dump)?;
-    if lines == 0 {
-        return Ok(report);
-    }
-    match land(disk, &segment_name(id), &segment) {
-        Ok(()) => Ok(report),
-        Err(status) => Err(status),
-    }
-}
 
 // Prints a report, or the line of a refusal if the sink takes it.
 fn print<K: Sink>(sink: &mut K, outcome: Result<Bytes, Status>) -> Status
@@ -85,17 +29,56 @@ fn print<K: Sink>(sink: &mut K, outcome: Result<Bytes, Status>) -> Status
             Err(_) => Status::WriteFault,
         },
         Err(refusal) => {
-            let line = FaultLine::new(refusal);
+            let line = FaultLine::new(&refusal);
             let _ = sink.write_all(line.as_bytes());
             refusal
         }
     }
 }
 
+// Does what the words ask for, and prints what came of it.
+fn answer<R: Source, K: Sink, D: Disk, C: Clock>(
+    alloc: Global,
+    words: &[String],
+    source: &mut R,
+    sink: &mut K,
+    disk: &mut D,
+    clock: &C,
+) -> Status
+    ensures { Answers words.now (record {
+      left = R.left source.old;
+      left_now = R.left source.new;
+      source_faults = R.faults source.old;
+      source_faults_now = R.faults source.new;
+      files = D.files disk.old;
+      files_now = D.files disk.new;
+      leaves = D.leaves disk.old;
+      leaves_now = D.leaves disk.new;
+      disk_faults = D.faults disk.old;
+      disk_faults_now = D.faults disk.new;
+      tells = C.tells clock.now;
+    }) (record {
+      held = K.held sink.old;
+      held_now = K.held sink.new;
+      faults = K.faults sink.old;
+      faults_now = K.faults sink.new;
+    }) result }
+{
+    let outcome = match request_of(words) {
+        Some(Request::Apply(dump)) => apply(alloc, dump, source, disk, clock),
+        Some(Request::Scan(id)) => scan_segment(alloc, disk, id),
+        None => Err(Status::Usage),
+    };
+    print(sink, outcome)
+}
+
 /// All that the program does. It takes the words after the program's name and the outside, and
-/// answers how it ended; the disk comes back in each case. Where the source tells its bytes and the
-/// disk its files, `Ok` means that the source was read to its end, that all its mutations stand in
-/// one new segment (none for an empty file), lasting, and that the report went out whole.
+/// answers how it ended; the disk comes back in each case. Of `apply`, where the source tells its
+/// bytes and the disk its files, `Ok` means that the source was read to its end, that all its
+/// mutations stand in one new segment (none for an empty file), lasting, and that the report went
+/// out whole, with the cells of the folder's table files in the dump; of `scan` that the report
+/// tells what the segment's file holds. Words that ask for what can be done, and no fault, end with
+/// `Ok` or for want of memory.
 pub fn run<
     T: Threads + Wait,
     R: Source,
@@ -113,7 +96,7 @@ pub fn run<
     clock: &C,
     _gate: &G,
 ) -> (Status, D)
-    ensures { Answers words.now (record {
+    ensures { Runs words.now (record {
       left = R.left source.old;
       left_now = R.left source.new;
       source_faults = R.faults source.old;
@@ -133,9 +116,6 @@ pub fn run<
     }) result.0 }
 {
     let mut disk = disk;
-    let outcome = match request_of(words) {
-        Some(Request::Apply(dump)) => apply(alloc, dump, source, &mut disk, clock),
-        None => Err(Status::Usage),
-    };
-    (print(sink, outcome), disk)
+    let status = answer(alloc, words, source, sink, &mut disk, clock);
+    (status, disk)
 }

@@ -1,7 +1,8 @@
 //! How a run ends.
 ghost use Rattle.std.specs.Prelude.{◌≡◌};
 
-use clog_base::Quantity;
+use clog_base::{Name, Quantity};
+use clog_table::TableFault;
 use clog_text::BadLine;
 
 /// What is not built yet.
@@ -9,7 +10,7 @@ use clog_text::BadLine;
 pub enum Unbuilt {
     /// More than one segment.
     Segment,
-    /// A folder that holds something.
+    /// A folder that holds segments.
     Directory,
 }
 
@@ -32,10 +33,15 @@ pub enum Status {
     WriteFault,
     /// The disk has failed.
     DiskFault,
+    /// The file of this name is the first, by table and sequence, that is no table file, for this
+    /// cause.
+    BadTable(Name, TableFault),
     /// Memory was refused.
     OutOfMemory,
     /// There are more of these than the number.
     Limit(Quantity, u64),
+    /// The disk has no file of this name.
+    Absent(Name),
     /// What is asked for is not built yet.
     NotBuilt(Unbuilt),
 }
@@ -44,8 +50,8 @@ impl Status {
     ghost use Rattle.clog_engine.specs.Faults.{number_of};
 
     /// The exit status of the program.
-    pub fn number(self) -> u8
-        ensures { result ≡ number_of self }
+    pub fn number(&self) -> u8
+        ensures { result ≡ number_of self.now }
     {
         match self {
             Status::Ok => 0,
@@ -55,8 +61,10 @@ impl Status {
             Status::ReadFault => 4,
             Status::WriteFault => 5,
             Status::DiskFault => 6,
+            Status::BadTable(_, _) => 8,
             Status::OutOfMemory => 9,
             Status::Limit(_, _) => 10,
+            Status::Absent(_) => 11,
             Status::NotBuilt(_) => 12,
         }
     }

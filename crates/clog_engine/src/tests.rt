@@ -10,7 +10,10 @@ use std::sync::Wait;
 use std::test::Fail;
 use std::thread::Threads;
 
+mod directory;
+mod files;
 mod limits;
+mod scanning;
 
 const LINE: &[u8] =
     b"{\"key\":\"ab\",\"updates\":[{\"table\":0,\"column\":\"cd\",\"ts\":5,\"value\":null}]}\n";
@@ -300,6 +303,6 @@ fn each_status_has_its_number_and_its_line(rt: HostRuntime) {
     ];
     for (status, number, line) in cases {
         assert_eq!(rt; status.number(), number);
-        assert_eq!(rt; FaultLine::new(status).as_bytes(), line);
+        assert_eq!(rt; FaultLine::new(&status).as_bytes(), line);
     }
 }

@@ -43,8 +43,10 @@ impl FaultText {
         }
     }
 
+    /// Its bytes.
     pub fn as_bytes(&self) -> &[u8]
-        ensures { result.now ≡ self.now }
+        ensures same { result.now ≡ self.now }
+        ensures short { length self.now ≤ 40 }
     {
         &self.row[..self.len]
     }

@@ -1,11 +1,11 @@
-//! The program: reads a mutation file from standard input, writes it to the folder `commitlog` below
-//! the current folder, and tells on standard output what came of it. It makes the real objects and
-//! calls `run`, which is all that it does.
+//! The program: applies a mutation file from standard input to the folder `commitlog` below the
+//! current folder, or scans a segment there, and tells on standard output what came of it. It makes
+//! the real objects and calls `run`, which is all that it does.
 #![tactic(auto)]
 
 use anyhow::Result;
 use clog_disk::FolderDisk;
-use clog_engine::{FaultLine, Status, run};
+use clog_engine::{FaultLine, Request, Status, request_of, run};
 use clog_io::{OpenGate, Sink, StdSink, StdSource, SystemClock};
 use std::process::ExitCode;
 use std::{env, io};
@@ -27,9 +27,17 @@ fn words_of(rt: &HostRuntime) -> Result<Vec<String>> {
 
 // Before `run` only memory can be missing, which is told as `run` would.
 fn out_of_memory(rt: &HostRuntime) -> ExitCode {
-    let line = FaultLine::new(Status::OutOfMemory);
+    let line = FaultLine::new(&Status::OutOfMemory);
     let _ = StdSink::new(io::writer(rt)).write_all(line.as_bytes());
     ExitCode::from(Status::OutOfMemory.number())
+}
+
+// The folder. A scan only reads, and takes no lock.
+fn disk_for(rt: HostRuntime, words: &[String]) -> FolderDisk<HostRuntime> {
+    match request_of(words) {
+        Some(Request::Scan(_)) => FolderDisk::for_reading(rt),
+        _ => FolderDisk::for_writing(rt),
+    }
 }
 
 fn main(rt: HostRuntime) -> Result<ExitCode> {
@@ -50,7 +58,7 @@ fn main(rt: HostRuntime) -> Result<ExitCode> {
         &words,
         &mut source,
         &mut sink,
-        FolderDisk::for_writing(for_disk),
+        disk_for(for_disk, &words),
         &SystemClock::new(for_clock),
         &OpenGate::new(),
     );

@@ -7,7 +7,7 @@ use Rattle.clog_engine.proofs.cells.merged.Given as goal
 -- what was taken is merged, and with what is left it is the whole
 abbrev pub invariant-loop-mutation : goal.invariant-loop-mutation
 invariant-loop-mutation l = record {
-  merged : IsMerge (flat_map cells_of l.yielded) l.cells;
+  merged : IsMerge (l.fn.before ++ flat_map cells_of l.yielded) l.cells;
   parts : l.fn.mutations ≡ l.yielded ++ l.mutation-iterator.rest.items;
   count : l.mutation-iterator.rest.len ≡ length l.mutation-iterator.rest.items;
 }

@@ -1,18 +1,4 @@
-use Rattle.std.proofs.Common.{
-  ◌≡◌,
-  List,
-  ℕ,
-  [],
-  ◌∷◌,
-  ◌++◌,
-  map,
-  sym,
-  subst,
-  ap,
-  length,
-  arith,
-  ◌∙◌,
-}
+use Rattle.std.proofs.Common.{List, ◌++◌, map, sym, subst, arith, ◌∙◌}
 use Rattle.clog_mutation.specs.declared.mutation.Update.{Update}
 use Rattle.clog_cells.specs.Merge.{IsMerge}
 use Rattle.clog_cells.proofs.Merging.{none_yet}

@@ -1,6 +1,6 @@
 use Rattle.std.proofs.Common.{◌≡◌, ◌++◌, drop}
 use Rattle.std.specs.List.{flat_map}
-use Rattle.clog_engine.specs.Input.{entry_of, entries_of}
+use Rattle.clog_engine.specs.Input.{entry_of}
 use Rattle.clog_engine.proofs.segment.put_entries.Given as goal
 
 -- what is put and what is left are the whole

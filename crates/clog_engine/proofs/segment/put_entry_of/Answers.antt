@@ -1,4 +1,4 @@
-use Rattle.std.proofs.Common.{◌≡◌, ◌∙◌, ap, length, arith}
+use Rattle.std.proofs.Common.{◌∙◌, ap, length, arith}
 use Rattle.clog_engine.proofs.Entries.{payload_least}
 use Rattle.clog_engine.proofs.segment.put_entry_of.Goals as goal
 

@@ -1,4 +1,4 @@
-use Rattle.std.proofs.Common.{◌≡◌, ◌∙◌, ◌+◌, ◌-◌, ◌^◌, ap, sym, subst, length, min, arith}
+use Rattle.std.proofs.Common.{◌+◌, ◌-◌, ◌^◌, ap, sym, subst, min, arith}
 use Rattle.clog_engine.specs.Reading.{SizesRefused}
 use Rattle.clog_engine.proofs.Entries.{large_at, sum_more, fitting_more}
 use Rattle.clog_engine.proofs.sizes.sum_of_sizes.Goals as goal

@@ -1,0 +1,184 @@
+-- What a refusal says of the bytes contradicts that they are good.
+use Rattle.std.proofs.Common.{
+  ◌≡◌,
+  ℕ,
+  ◌<◌,
+  List,
+  [],
+  ◌∷◌,
+  ◌++◌,
+  length,
+  map,
+  true,
+  false,
+  Option,
+  Some,
+  None,
+  Result,
+  Ok as ok,
+  Err as err,
+  inl,
+  inr,
+  refl,
+  sym,
+  ap,
+  subst,
+  ◌∙◌,
+  arith,
+  codes,
+  Global,
+}
+use Rattle.std.specs.Prelude.{String, string_bytes, IfSome, is_some, ◌≢◌, ◌≤◌, zero, suc, get_or}
+use Rattle.std.specs.List.{AllByRecursion, Contains, All}
+use Rattle.std.specs.FinMap as finmap
+use Rattle.std.proofs.lemmas.List.Elements.{All-contains, at_from_Contains}
+use Rattle.std.specs.Result.{result_unwrap_or}
+use Rattle.clog_spec.specs.Names.{segment_name_of}
+use Rattle.clog_base.specs.declared.fault.Quantity.TheVariants.{
+  FileBytes,
+  Lines,
+  SegmentBytes,
+  Ids,
+  TableFiles,
+}
+use Rattle.clog_base.proofs.NameLaws.{one_segment}
+use Rattle.clog_io.specs.Bytes.{TakesAll}
+use Rattle.clog_disk.specs.Files.{Files, Told}
+use Rattle.clog_mutation.specs.declared.mutation.Mutation.{Mutation}
+use Rattle.clog_text.specs.declared.refusal.BadLine.{BadLine as Cause}
+use Rattle.clog_text.specs.FileMutations.{Refused, file_mutations}
+use Rattle.clog_engine.specs.declared.status.Unbuilt.TheVariants.{Segment, Directory}
+use Rattle.clog_engine.specs.declared.status.Status.{Status}
+use Rattle.clog_engine.specs.declared.status.Status.TheVariants.{
+  Ok,
+  Usage,
+  BadLine,
+  TooLarge,
+  ReadFault,
+  WriteFault,
+  DiskFault,
+  BadTable,
+  OutOfMemory,
+  Limit,
+  Absent,
+  NotBuilt,
+}
+use Rattle.clog_engine.specs.declared.words.Request.{Request}
+use Rattle.clog_engine.specs.declared.words.Request.TheVariants.{Apply, Scan}
+use Rattle.clog_engine.specs.Directory.{
+  HasSegment,
+  HasManyTables,
+  HasBadTable,
+  HasGreatId,
+  TableRead,
+  Place,
+  place_of,
+  IsNameOf,
+  IsHeld,
+  AreTables,
+  IsReadFrom,
+  NamesId,
+  HasUpper,
+  HasArchive,
+  IsPlainDirectory,
+}
+use Rattle.clog_base.specs.declared.cell.Table.{Table}
+use Rattle.clog_table.specs.declared.fault.TableFault.{TableFault}
+use Rattle.clog_table.specs.declared.fault.TableFault.TheVariants.{OutOfMemory as no_memory}
+use Rattle.clog_table.specs.declared.table_file.TableFile.{TableFile}
+use Rattle.clog_table.specs.Refusals.{IsFileOf, Refuses}
+use Rattle.clog_table.proofs.Again.{decodes_to_it}
+use Rattle.clog_engine.specs.Apply.{Reads, ApplyRefuses}
+use Rattle.clog_engine.specs.Completes.{
+  Tells,
+  IsPlain,
+  IsScannable,
+  IsFit,
+  IsQuiet,
+  EndsWell,
+  Completes,
+}
+use Rattle.clog_engine.specs.Input.{
+  HasFittingEntry,
+  IsGood,
+  HasLargeMutation,
+  HasLargeLine,
+  HasManyLines,
+  HasBadLine,
+  HasNoRoom,
+  entries_of,
+}
+use Rattle.clog_engine.specs.Limits.{file_limit, id_limit, scan_limit}
+use Rattle.clog_engine.specs.Outside.{Outside, Sinks}
+use Rattle.clog_engine.specs.Request.{Asks, Says, AsksScan}
+use Rattle.clog_engine.specs.Run.{Answers, Does, Prints, Reports}
+use Rattle.clog_engine.specs.Scanning.{ReadRefused, IsTooLong}
+
+-- the bytes that were taken are those that were told
+same_bytes : (left left_now : Option (List ℕ)) (bytes : List ℕ) (P : List ℕ → Type 0)
+    → Tells left P → TakesAll left left_now bytes → P bytes
+same_bytes None left_now bytes P good taken = absurd good
+same_bytes (Some left) None bytes P good taken = absurd taken
+same_bytes (Some left) (Some now) bytes P good taken = subst P (sym taken.0) good
+
+-- a file has one list of mutations
+one_list : (bytes : List ℕ) (ms ms' : List Mutation) → file_mutations bytes ≡ ok ms
+    → file_mutations bytes ≡ ok ms' → ms ≡ ms'
+one_list bytes ms ms' a b =
+    ap (λ (r : Result (List Mutation) Refused). result_unwrap_or r []) (sym a ∙ b)
+
+not_both : (bytes : List ℕ) (ms : List Mutation) (r : Refused) → file_mutations bytes ≡ ok ms
+    → file_mutations bytes ≡ err r → ⊥
+not_both bytes ms r a b = let same : ok ms ≡ err r = sym a ∙ b in cc
+
+all_fit_in : (front : List Mutation) (m : Mutation) (rest : List Mutation)
+    → AllByRecursion HasFittingEntry (front ++ m ∷ rest) → HasFittingEntry m
+all_fit_in [] m rest all = all.0
+all_fit_in (x ∷ front) m rest all = all_fit_in front m rest all.1
+
+none_is_large : (ms : List Mutation) (number size most : ℕ) → AllByRecursion HasFittingEntry ms
+    → HasLargeMutation ms number size most → ⊥
+none_is_large ms number size most all large =
+    let fits = all_fit_in large.front large.large large.rest
+    (subst (AllByRecursion HasFittingEntry) large.parts all) in
+    omega (arith, fits, large.over)
+
+-- what the bytes that were taken say contradicts that those that were told are good
+pub taken_good : (o : Outside) (P : List ℕ → Type 0) → Tells o.left IsGood → Reads o P
+    → ((bytes : List ℕ) → IsGood bytes → P bytes → ⊥) → ⊥
+taken_good o P good reads clash =
+    clash reads.0 (same_bytes o.left o.left_now reads.0 IsGood good reads.1) reads.2
+
+pub good_is_no_bad_line : (number : ℕ) (cause : Cause) (bytes : List ℕ) → IsGood bytes
+    → HasBadLine bytes number cause → ⊥
+good_is_no_bad_line number cause bytes good bad =
+    not_both bytes good.mutations (number, cause) good.accepted.sized.read.read bad.refused
+
+pub good_is_not_large : (number size most : ℕ) (bytes : List ℕ) → IsGood bytes
+    → HasLargeLine bytes number size most → ⊥
+good_is_not_large number size most bytes good large =
+    none_is_large large.mutations number size most
+    (subst (AllByRecursion HasFittingEntry)
+    (one_list bytes good.mutations large.mutations good.accepted.sized.read.read large.read.read)
+    good.accepted.sized.sized) large.large
+
+pub good_has_few_lines : (bytes : List ℕ) → IsGood bytes → HasManyLines bytes → ⊥
+good_has_few_lines bytes good many =
+    omega (arith, good.accepted.sized.read.split.few_lines, many.many_lines)
+
+pub good_has_room : (bytes : List ℕ) → IsGood bytes → HasNoRoom bytes → ⊥
+good_has_room bytes good no_room =
+    let same = one_list bytes good.mutations no_room.mutations good.accepted.sized.read.read
+    no_room.sized.read.read in
+    omega (
+      arith,
+      ap (λ (ms : List Mutation). length (entries_of ms)) same,
+      good.accepted.room,
+      no_room.large,
+    )
+
+pub good_is_short : (left : Option (List ℕ)) → Tells left IsGood
+    → IfSome left (λ bytes. file_limit < length bytes) → ⊥
+good_is_short None good long = good
+good_is_short (Some bytes) good long =
+    omega (arith, good.accepted.sized.read.split.few_bytes, long)

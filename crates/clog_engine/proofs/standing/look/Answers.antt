@@ -1,0 +1,97 @@
+use Rattle.std.proofs.Common.{◌≡◌, List, ℕ, Option, Contains, true, false, refl, sym, subst, ◌∙◌}
+use Rattle.std.specs.Prelude.{IfSome}
+use Rattle.std.specs.List.{Any}
+use Rattle.std.proofs.lemmas.Bool.{true≢false}
+use Rattle.clog_disk.specs.Files.{Files, Lists}
+use Rattle.clog_engine.specs.Directory.{IsSegment, IsLateTable, IsHeld}
+use Rattle.clog_engine.specs.Listing.{ArePlaces}
+use Rattle.clog_engine.proofs.Looked.{
+  told_holds,
+  told_places,
+  seen_now,
+  tables_refused,
+  many_tables,
+  great_id,
+  stands,
+}
+use Rattle.clog_engine.proofs.standing.look.Goals as goal
+
+pub returns-then-has_segment-clause-looks : goal.returns-then-has_segment-clause-looks
+returns-then-has_segment-clause-looks g c =
+    let files = g.D.Disk.files c.args.disk.now in
+    let names = c.as_slice-names.result.now in
+    told_holds files names IsSegment
+    (subst (Lists files) (sym c.as_slice-names.ensures) c.in-Ok.ensures.names)
+    (c.has_segment.ensures.0 c.if-has_segment.true)
+
+pub read_tables-requires : goal.read_tables-requires
+read_tables-requires g c =
+    let files = g.D.Disk.files c.args.disk.now in
+    let names = c.as_slice-names.result.now in
+    let rows = c.in_ok-tables.tables.entries in
+    subst (λ (f : Option Files). IfSome f (λ held. ArePlaces (IsHeld held) rows))
+    (sym c.in-Ok.ensures.same.files)
+    (told_places files names rows
+    (subst (Lists files) (sym c.as_slice-names.ensures) c.in-Ok.ensures.names)
+    c.in_ok-tables.ensures)
+
+pub returns-in-Err-read_tables-clause-looks : goal.returns-in-Err-read_tables-clause-looks
+returns-in-Err-read_tables-clause-looks g c =
+    let files = g.D.Disk.files c.args.disk.now in
+    let names = c.as_slice-names.result.now in
+    tables_refused files (g.D.Disk.files c.list.new.self) (g.D.Disk.faults c.args.disk.now)
+    (g.D.Disk.faults c.list.new.self) (g.D.Disk.faults c.read_tables.new.disk) names
+    c.in-Err-read_tables.status c.in-Ok.ensures.same.files
+    (subst (Lists files) (sym c.as_slice-names.ensures) c.in-Ok.ensures.names)
+    (λ any. true≢false (sym (c.has_segment.ensures.1 any) ∙ c.if-has_segment.false))
+    c.in-Ok.ensures.cause.later c.in-Err-read_tables.ensures.reads
+
+pub returns-then-has_late_table-clause-looks : goal.returns-then-has_late_table-clause-looks
+returns-then-has_late_table-clause-looks g c =
+    let files = g.D.Disk.files c.args.disk.now in
+    let names = c.as_slice-names.result.now in
+    let rows = c.in_ok-tables.tables.entries in
+    let read = c.in-Ok-read_tables.ensures.reads in (
+      refl,
+      many_tables files names rows c.greatest_archive.result read.reads
+          (seen_now files (g.D.Disk.files c.list.new.self) names rows c.greatest_archive.result
+          c.args.dump c.in-Ok-read_tables.standing c.in-Ok.ensures.same.files
+          (subst (Lists files) (sym c.as_slice-names.ensures) c.in-Ok.ensures.names)
+          (λ any. true≢false (sym (c.has_segment.ensures.1 any) ∙ c.if-has_segment.false))
+          c.in_ok-tables.ensures c.greatest_archive.ensures read)
+          (c.has_late_table.ensures.0 c.if-has_late_table.true),
+    )
+
+pub returns-then-is_last-clause-looks : goal.returns-then-is_last-clause-looks
+returns-then-is_last-clause-looks g c =
+    let files = g.D.Disk.files c.args.disk.now in
+    let names = c.as_slice-names.result.now in
+    let rows = c.in_ok-tables.tables.entries in
+    let read = c.in-Ok-read_tables.ensures.reads in (
+      refl,
+      great_id files names rows c.greatest_archive.result read.reads
+          c.in-Ok-read_tables.standing.greatest
+          (seen_now files (g.D.Disk.files c.list.new.self) names rows c.greatest_archive.result
+          c.args.dump c.in-Ok-read_tables.standing c.in-Ok.ensures.same.files
+          (subst (Lists files) (sym c.as_slice-names.ensures) c.in-Ok.ensures.names)
+          (λ any. true≢false (sym (c.has_segment.ensures.1 any) ∙ c.if-has_segment.false))
+          c.in_ok-tables.ensures c.greatest_archive.ensures read)
+          (λ any. true≢false (sym (c.has_late_table.ensures.1 any) ∙ c.if-has_late_table.false))
+          read.greatest (sym c.is_last.ensures ∙ c.if-is_last.true),
+    )
+
+pub returns-clause-looks : goal.returns-clause-looks
+returns-clause-looks g c =
+    let files = g.D.Disk.files c.args.disk.now in
+    let names = c.as_slice-names.result.now in
+    let rows = c.in_ok-tables.tables.entries in
+    let read = c.in-Ok-read_tables.ensures.reads in
+    stands files (g.D.Disk.files c.list.new.self) names rows c.greatest_archive.result c.args.dump
+    c.in-Ok-read_tables.standing read
+    (seen_now files (g.D.Disk.files c.list.new.self) names rows c.greatest_archive.result
+    c.args.dump c.in-Ok-read_tables.standing c.in-Ok.ensures.same.files
+    (subst (Lists files) (sym c.as_slice-names.ensures) c.in-Ok.ensures.names)
+    (λ any. true≢false (sym (c.has_segment.ensures.1 any) ∙ c.if-has_segment.false))
+    c.in_ok-tables.ensures c.greatest_archive.ensures read)
+    (λ any. true≢false (sym (c.has_late_table.ensures.1 any) ∙ c.if-has_late_table.false))
+    (sym c.is_last.ensures ∙ c.if-is_last.false)

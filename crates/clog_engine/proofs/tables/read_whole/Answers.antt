@@ -1,0 +1,82 @@
+use Rattle.std.proofs.Common.{◌≡◌, List, ℕ, ◌++◌, ◌∙◌, length, sym, subst, ap, arith}
+use Rattle.std.proofs.lemmas.Map.Views.{exact_unsigned_eq}
+use Rattle.clog_engine.specs.Looking.{HasFront}
+use Rattle.clog_engine.proofs.Merged.{nothing_left}
+use Rattle.clog_engine.proofs.Whole.{
+  kept,
+  keeps_both,
+  front_none,
+  front_more,
+  read_before,
+  whole_by_size,
+  whole_by_end,
+}
+use Rattle.clog_engine.proofs.tables.read_whole.Goals.{
+  else-loop-disk-test,
+  then-loop-disk-test+in_ok-piece+then-is_empty,
+}
+use Rattle.clog_engine.proofs.tables.read_whole.Goals as goal
+
+pub loop-disk-init : goal.loop-disk-init
+loop-disk-init g c = record {
+  keeps = kept (g.D.Disk.files c.args.disk.now) (g.D.Disk.files c.len.new.self)
+      (g.D.Disk.leaves c.args.disk.now) (g.D.Disk.leaves c.len.new.self)
+      (g.D.Disk.faults c.args.disk.now) (g.D.Disk.faults c.len.new.self) c.in_ok-len.ensures.same
+      c.in_ok-len.ensures.cause.later;
+  front = subst
+      (HasFront (g.D.Disk.files c.args.disk.now) c.args.name.now c.in_ok-len.len)
+      (sym c.new-bytes.ensures.items)
+      (front_none (g.D.Disk.files c.args.disk.now) c.args.name.now c.in_ok-len.len
+      c.in_ok-len.ensures.length);
+}
+
+pub loop-disk-preserved : goal.loop-disk-preserved
+loop-disk-preserved g c =
+    let files = g.D.Disk.files c.args.disk.now in
+    let l = c.loop-disk in
+    let piece = c.in_ok-piece.piece.items in
+    let at : c.len-in-loop-disk-2.result ≡ length l.bytes.items =
+    omega (arith, c.len-in-loop-disk-2.ensures, l.bytes.ok) in
+    record {
+      keeps = keeps_both files (g.D.Disk.files l.disk) (g.D.Disk.files c.read.new.self)
+          (g.D.Disk.leaves c.args.disk.now) (g.D.Disk.leaves l.disk)
+          (g.D.Disk.leaves c.read.new.self) (g.D.Disk.faults c.args.disk.now)
+          (g.D.Disk.faults l.disk) (g.D.Disk.faults c.read.new.self) l.invariant.keeps
+          (kept (g.D.Disk.files l.disk) (g.D.Disk.files c.read.new.self)
+          (g.D.Disk.leaves l.disk) (g.D.Disk.leaves c.read.new.self) (g.D.Disk.faults l.disk)
+          (g.D.Disk.faults c.read.new.self) c.in_ok-piece.ensures.same
+          c.in_ok-piece.ensures.cause.later);
+      front = subst (HasFront files c.args.name.now c.in_ok-len.len)
+          (sym (c.in_ok-extend_from_slice.ensures.items
+          ∙ ap (λ (p : List ℕ). l.bytes.items ++ p) c.deref.ensures.value))
+          (front_more files c.args.name.now l.bytes.items piece c.in_ok-len.len 1048576
+          l.invariant.front
+          (read_before files (g.D.Disk.files l.disk) c.args.name.now
+          c.len-in-loop-disk-2.result (length l.bytes.items) 1048576 piece
+          l.invariant.keeps.same at c.in_ok-piece.ensures.bytes));
+    }
+
+pub returns-clause-whole : goal.returns-clause-whole
+returns-clause-whole g c =
+    let files = g.D.Disk.files c.args.disk.now in
+    let l = c.loop-disk in
+    elim c.loop-disk-test.branch [
+      | else-loop-disk-test w ↦ whole_by_size files c.args.name.now l.bytes.items c.in_ok-len.len
+          (omega (arith, w.loop-disk-test.false, c.len-in-loop-disk.ensures, l.bytes.ok))
+          l.invariant.front
+      | then-loop-disk-test+in_ok-piece+then-is_empty w ↦
+          let piece = w.in_ok-piece.piece.items in
+          let none : length piece ≡ 0 =
+          omega (
+            arith,
+            exact_unsigned_eq _ 0 (sym w.if-is_empty.ensures),
+            w.in_ok-piece.piece.ok,
+          ) in
+          let at : w.len-in-loop-disk-2.result ≡ length l.bytes.items =
+          omega (arith, w.len-in-loop-disk-2.ensures, l.bytes.ok) in
+          whole_by_end files c.args.name.now l.bytes.items piece c.in_ok-len.len 1048576
+          (omega arith) (nothing_left piece none) l.invariant.front
+          (read_before files (g.D.Disk.files l.disk) c.args.name.now
+          w.len-in-loop-disk-2.result (length l.bytes.items) 1048576 piece
+          l.invariant.keeps.same at w.in_ok-piece.ensures.bytes)
+    ]

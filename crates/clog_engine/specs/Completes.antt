@@ -1,0 +1,72 @@
+-- When a run ends well, or for want of memory alone.
+use Rattle.std.specs.Prelude.{
+  ◌≡◌,
+  ◌≤◌,
+  ◌⊎◌,
+  ℕ,
+  List,
+  length,
+  map,
+  Option,
+  Some,
+  None,
+  String,
+  string_bytes,
+}
+use Rattle.std.specs.declared.alloc.Global.{Global}
+use Rattle.std.specs.FinMap as finmap
+use Rattle.clog_spec.specs.Names.{segment_name_of}
+use Rattle.clog_io.specs.Causes.{Rose}
+use Rattle.clog_disk.specs.Files.{Files, Told}
+use Rattle.clog_engine.specs.declared.status.Status.{Status}
+use Rattle.clog_engine.specs.declared.status.Status.TheVariants.{Ok, OutOfMemory}
+use Rattle.clog_engine.specs.declared.words.Request.{Request}
+use Rattle.clog_engine.specs.declared.words.Request.TheVariants.{Apply, Scan}
+use Rattle.clog_engine.specs.Directory.{TableRead, IsPlainDirectory}
+use Rattle.clog_engine.specs.Input.{IsGood}
+use Rattle.clog_engine.specs.Limits.{scan_limit}
+use Rattle.clog_engine.specs.Outside.{Outside, Sinks}
+use Rattle.clog_engine.specs.Request.{Says}
+use Rattle.clog_engine.specs.Run.{Answers}
+
+-- The source tells its bytes, and they are such.
+abbrev pub Tells : Option (List ℕ) → (List ℕ → Type 0) → Type 0
+Tells None P = ⊥
+Tells (Some left) P = P left
+
+-- the file of this name is there, and not too long
+pub record IsScannable (files : Files) (name : List ℕ) : Type 0 where
+  pub bytes : List ℕ
+  pub there : finmap.get files name ≡ Some bytes
+  pub few : length bytes ≤ scan_limit
+
+-- no segment, good table files, and room for one more of each
+abbrev pub IsPlain : Files → Type 0
+IsPlain files = (reads : List TableRead) × IsPlainDirectory files reads
+
+-- What is asked for can be done: `apply` has a good mutation file and a directory with no segment
+-- and good table files, `scan` its file.
+abbrev pub IsFit : Request → Outside → Type 0
+IsFit (Apply dump) o = Tells o.left IsGood × Told o.files IsPlain
+IsFit (Scan id) o = Told o.files (λ files. IsScannable files (segment_name_of 6 id))
+
+-- No fault was counted, and no count stands at its type's end.
+pub record IsQuiet (o : Outside) (s : Sinks) : Type 0 where
+  pub source : ¬ Rose o.source_faults o.source_faults_now
+  pub disk : ¬ Rose o.disk_faults o.disk_faults_now
+  pub sink : ¬ Rose s.faults s.faults_now
+
+abbrev pub EndsWell : Status → Type 0
+EndsWell status = (status ≡ Ok) ⊎ (status ≡ OutOfMemory)
+
+-- Words that ask for what can be done, and no fault, end the run well.
+abbrev pub Completes : List (String Global) → Outside → Sinks → Status → Type 0
+Completes words o s status =
+    (request : Request) → Says (map string_bytes words) request → IsFit request o → IsQuiet o s
+    → EndsWell status
+
+-- All that is promised of a run: what it answers, and that it completes.
+pub record Runs (words : List (String Global)) (o : Outside) (s : Sinks) (status : Status)
+    : Type 0 where
+  pub answers : Answers words o s status
+  pub completes : Completes words o s status

@@ -1,0 +1,80 @@
+//! The command `scan`: one segment's file is read whole, and its report tells what it holds.
+ghost use Rattle.std.specs.Prelude.{◌≤◌};
+ghost use Rattle.clog_spec.specs.Names.{segment_name_of};
+ghost use Rattle.clog_disk.specs.Files.{IsThere};
+ghost use Rattle.clog_disk.specs.Images.{Unchanged};
+ghost use Rattle.clog_engine.specs.Scanning.{Scans};
+ghost use Rattle.clog_engine.specs.SegmentFile.{FindsFile, GivesFile};
+
+use crate::landing::status_of;
+use crate::scan_report::scan_report;
+use crate::status::Status;
+use clog_base::{Bytes, Name, Quantity, segment_name};
+use clog_disk::Disk;
+use clog_scan::scan;
+use std::alloc::Global;
+
+/// The most bytes that a segment's file may have.
+const SEGMENT_LIMIT: u64 = 67_108_864;
+
+// Looks whether the file is there.
+fn find_file<D: Disk>(disk: &mut D, name: &Name) -> Result<(), Status>
+    ensures finds { FindsFile (D.files disk.old) (D.faults disk.old) (D.faults disk.new) name.now
+        result }
+    ensures same { Unchanged (D.files disk.old) (D.files disk.new) (D.leaves disk.old)
+        (D.leaves disk.new) }
+    ensures later { D.faults disk.old ≤ D.faults disk.new }
+{
+    match disk.list() {
+        Ok(names) if names.as_slice().contains(name) => Ok(()),
+        Ok(_) => Err(Status::Absent(*name)),
+        Err(fault) => Err(status_of(fault)),
+    }
+}
+
+// The bytes of a file that is there.
+fn bytes_of_file<D: Disk>(disk: &mut D, name: &Name) -> Result<Vec<u8>, Status>
+    requires { IsThere (D.files disk.old) name.now }
+    ensures gives { GivesFile (D.files disk.old) (D.faults disk.old) (D.faults disk.new) name.now
+        result }
+    ensures same { Unchanged (D.files disk.old) (D.files disk.new) (D.leaves disk.old)
+        (D.leaves disk.new) }
+{
+    let len = match disk.len(name) {
+        Ok(len) => len,
+        Err(fault) => return Err(status_of(fault)),
+    };
+    if len > SEGMENT_LIMIT {
+        return Err(Status::Limit(Quantity::SegmentBytes, SEGMENT_LIMIT));
+    }
+    match disk.read(name, 0, len as u32) {
+        Ok(bytes) => Ok(bytes),
+        Err(fault) => Err(status_of(fault)),
+    }
+}
+
+// The bytes of a segment's file.
+fn segment_file<D: Disk>(disk: &mut D, id: u64) -> Result<Vec<u8>, Status>
+    ensures gives { GivesFile (D.files disk.old) (D.faults disk.old) (D.faults disk.new)
+        (segment_name_of 6 id) result }
+    ensures same { Unchanged (D.files disk.old) (D.files disk.new) (D.leaves disk.old)
+        (D.leaves disk.new) }
+{
+    let name = segment_name(id);
+    find_file(disk, &name)?;
+    match bytes_of_file(disk, &name) {
+        Ok(bytes) => Ok(bytes),
+        Err(status) => Err(status),
+    }
+}
+
+/// What the segment of an id holds. Of the disk the listing and that file are looked at alone.
+pub(crate) fn scan_segment<D: Disk>(alloc: Global, disk: &mut D, id: u64) -> Result<Bytes, Status>
+    ensures scans { Scans id (D.files disk.old) (D.faults disk.old) (D.faults disk.new) result }
+    ensures same { Unchanged (D.files disk.old) (D.files disk.new) (D.leaves disk.old)
+        (D.leaves disk.new) }
+{
+    let bytes = segment_file(disk, id)?;
+    let found = scan(alloc, &bytes, id)?;
+    Ok(scan_report(alloc, id, &found)?)
+}

@@ -1,0 +1,75 @@
+//! What a directory holds before anything is applied.
+ghost use Rattle.std.specs.Prelude.{◌≡◌, ◌<◌, IfSome};
+ghost use Rattle.clog_engine.specs.Limits.{id_limit};
+ghost use Rattle.clog_engine.specs.Listing.{base_of, is_last};
+ghost use Rattle.clog_engine.specs.Looking.{Keeps, Looks};
+
+use crate::directory::{
+    SEQUENCE_LIMIT, greatest_archive, has_late_table, has_segment, table_names,
+};
+use crate::landing::status_of;
+use crate::status::{Status, Unbuilt};
+use crate::tables::read_tables;
+use clog_base::Quantity;
+use clog_cells::CellMap;
+use clog_disk::Disk;
+use std::alloc::Global;
+
+/// Ids that a directory names are less than this.
+const ID_LIMIT: u64 = 4_611_686_018_427_387_903;
+
+/// What a directory holds: the cells of its table files where a dump asks for them, and the
+/// greatest id that it names.
+#[derive(Drop)]
+pub(crate) struct Standing {
+    pub(crate) cells: CellMap,
+    pub(crate) greatest: Option<u64>,
+}
+
+impl Standing {
+    /// The id of the first segment: the moment, or one more than the greatest id.
+    pub(crate) fn base(&self, now: u64) -> u64
+        requires { IfSome self.now.greatest (λ id. id < id_limit) }
+        ensures { result ≡ base_of self.now.greatest now }
+    {
+        match self.greatest {
+            Some(id) => now.max(id + 1),
+            None => now,
+        }
+    }
+}
+
+/// Whether no id is left behind the greatest.
+fn is_last(greatest: Option<u64>) -> bool
+    ensures { result ≡ is_last greatest }
+{
+    greatest.is_some_and(|id| id >= ID_LIMIT)
+}
+
+/// Looks at the directory, in which there is to be no segment.
+pub(crate) fn look<D: Disk>(alloc: Global, disk: &mut D, dump: bool) -> Result<Standing, Status>
+    ensures looks { Looks dump (D.files disk.old) (D.faults disk.old) (D.faults disk.new) result }
+    ensures keeps { Keeps (D.files disk.old) (D.files disk.new) (D.leaves disk.old)
+        (D.leaves disk.new) (D.faults disk.old) (D.faults disk.new) }
+{
+    let names = match disk.list() {
+        Ok(names) => names,
+        Err(fault) => return Err(status_of(fault)),
+    };
+    let names = names.as_slice();
+    if has_segment(names) {
+        return Err(Status::NotBuilt(Unbuilt::Directory));
+    }
+    let tables = table_names(alloc, names)?;
+    let standing = match read_tables(alloc, disk, tables, greatest_archive(names), dump) {
+        Ok(standing) => standing,
+        Err(status) => return Err(status),
+    };
+    if has_late_table(names) {
+        return Err(Status::Limit(Quantity::TableFiles, SEQUENCE_LIMIT));
+    }
+    if is_last(standing.greatest) {
+        return Err(Status::Limit(Quantity::Ids, ID_LIMIT));
+    }
+    Ok(standing)
+}

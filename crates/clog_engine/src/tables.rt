@@ -1,0 +1,109 @@
+//! Table files are read from the disk, in their order.
+ghost use Rattle.std.specs.Prelude.{◌≡◌, [], ◌++◌, OnOk, IfSome};
+ghost use Rattle.clog_cells.specs.Merge.{AreInOrder};
+ghost use Rattle.clog_disk.specs.Files.{IsThere};
+ghost use Rattle.clog_engine.specs.Directory.{IsHeld};
+ghost use Rattle.clog_engine.specs.Listing.{ArePlaces};
+ghost use Rattle.clog_engine.specs.Looking.{
+  Keeps,
+  GivesWhole,
+  ReadsTable,
+  Joins,
+  ReadsTables,
+};
+
+use crate::directory::{TableNames, greater};
+use crate::landing::status_of;
+use crate::standing::Standing;
+use crate::status::Status;
+use clog_base::{Name, OutOfMemory, Table};
+use clog_disk::{Disk, DiskFault};
+use clog_table::{CellMap, TableFault, TableFile, decode};
+use std::alloc::Global;
+
+/// How many bytes are asked for at once.
+const PIECE: u32 = 1 << 20;
+
+/// All bytes of a file.
+fn read_whole<D: Disk>(alloc: Global, disk: &mut D, name: &Name) -> Result<Vec<u8>, DiskFault>
+    ensures whole { GivesWhole (D.files disk.old) name.now (D.faults disk.old)
+        (D.faults disk.new) result }
+    ensures keeps { Keeps (D.files disk.old) (D.files disk.new) (D.leaves disk.old)
+        (D.leaves disk.new) (D.faults disk.old) (D.faults disk.new) }
+{
+    let len = disk.len(name)?;
+    let mut bytes = Vec::new(alloc);
+    while (bytes.len() as u64) < len {
+        let piece = disk.read(name, bytes.len() as u64, PIECE)?;
+        if piece.is_empty() {
+            break;
+        }
+        bytes.extend_from_slice(&piece)?;
+    }
+    Ok(bytes)
+}
+
+/// The table file of a place, which is there under its name.
+fn read_table<D: Disk>(
+    alloc: Global,
+    disk: &mut D,
+    place: (Table, u64),
+    name: &Name,
+) -> Result<TableFile, Status>
+    requires { IsThere (D.files disk.old) name.now }
+    ensures reads { ReadsTable (D.files disk.old) (D.faults disk.old) (D.faults disk.new) place
+        name.now result }
+    ensures keeps { Keeps (D.files disk.old) (D.files disk.new) (D.leaves disk.old)
+        (D.leaves disk.new) (D.faults disk.old) (D.faults disk.new) }
+{
+    let bytes = match read_whole(alloc, disk, name) {
+        Ok(bytes) => bytes,
+        Err(fault) => return Err(status_of(fault)),
+    };
+    match decode(alloc, &bytes, place.0) {
+        Ok(file) => Ok(file),
+        Err(TableFault::OutOfMemory) => Err(Status::OutOfMemory),
+        Err(fault) => Err(Status::BadTable(*name, fault)),
+    }
+}
+
+/// Adds what a table file says.
+fn join(standing: &mut Standing, file: TableFile, dump: bool) -> Result<(), OutOfMemory>
+    requires { AreInOrder standing.old.cells }
+    ensures { OnOk result (Joins dump standing.old file standing.new) }
+{
+    let TableFile { upper, cells, .. } = file;
+    standing.greatest = greater(standing.greatest, upper.id);
+    if dump {
+        return standing.cells.merge(cells);
+    }
+    Ok(())
+}
+
+/// Reads the table files of these names, of which each is there. The greatest id is that of before
+/// or one of theirs.
+pub(crate) fn read_tables<D: Disk>(
+    alloc: Global,
+    disk: &mut D,
+    names: TableNames,
+    greatest: Option<u64>,
+    dump: bool,
+) -> Result<Standing, Status>
+    requires { IfSome (D.files disk.old) (λ held. ArePlaces (IsHeld held) names.entries) }
+    ensures reads { ReadsTables dump (D.files disk.old) (D.faults disk.old) (D.faults disk.new)
+        names.entries greatest result }
+    ensures keeps { Keeps (D.files disk.old) (D.files disk.new) (D.leaves disk.old)
+        (D.leaves disk.new) (D.faults disk.old) (D.faults disk.new) }
+{
+    let mut standing = Standing {
+        cells: CellMap::new(alloc),
+        greatest,
+    };
+    for (place, name) in names {
+        match read_table(alloc, disk, place, &name) {
+            Ok(file) => join(&mut standing, file, dump)?,
+            Err(status) => return Err(status),
+        }
+    }
+    Ok(standing)
+}
