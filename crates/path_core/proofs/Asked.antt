@@ -1,5 +1,35 @@
 -- What the tests of a step's row show, and the other way round.
-use Rattle.std.proofs.Common.{◌≡◌, ℕ, zero, suc, ◌<◌, ◌≤◌, ◌&&◌, ◌||◌, not, Bool, true, false, List, [], ◌∷◌, get_or, replicate, Option, Some, None, is_some, eqb, eqb-true, eq-eqb, refl, sym, ap, ◌∙◌, arith}
+use Rattle.std.proofs.Common.{
+  ◌≡◌,
+  ℕ,
+  zero,
+  suc,
+  ◌<◌,
+  ◌≤◌,
+  ◌&&◌,
+  ◌||◌,
+  not,
+  Bool,
+  true,
+  false,
+  List,
+  [],
+  ◌∷◌,
+  get_or,
+  replicate,
+  Option,
+  Some,
+  None,
+  is_some,
+  eqb,
+  eqb-true,
+  eq-eqb,
+  refl,
+  sym,
+  ap,
+  ◌∙◌,
+  arith,
+}
 use mathlib.Core.Logic.{dite}
 use native.Mathlib.Decide.{dec_lt}
 use Rattle.std.specs.Prelude.{IsTrue}
@@ -70,7 +100,8 @@ none_passes p (x ∷ xs) d base e zero = or_first (p x) (list_any p xs) e
     or_first : (a b : Bool) → (a || b) ≡ false → a ≡ false
     or_first true b e = e
     or_first false b e = refl
-none_passes p (x ∷ xs) d base e (suc w) = none_passes p xs d base (or_second (p x) (list_any p xs) e) w
+none_passes p (x ∷ xs) d base e (suc w) =
+    none_passes p xs d base (or_second (p x) (list_any p xs) e) w
   where
     or_second : (a b : Bool) → (a || b) ≡ false → b ≡ false
     or_second true b e = absurd (let q : true ≡ false = e in cc)

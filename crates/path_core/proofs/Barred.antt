@@ -81,7 +81,8 @@ barred_tables-set group ss ts us i d e y inside there held is e' =
 
 -- the parts of a seat beyond the tables do not count
 pub barred_tables-take : (group : ℕ) (ss : List SeatTable) (ts : List TableState)
-    → length ts ≤ length ss → barred_tables group (take (length ts) ss) ts ≡ barred_tables group ss ts
+    → length ts ≤ length ss
+    → barred_tables group (take (length ts) ss) ts ≡ barred_tables group ss ts
 barred_tables-take group [] [] few = refl
 barred_tables-take group [] (t ∷ ts) few = absurd (omega arith)
 barred_tables-take group (s ∷ ss) [] few = refl

@@ -16,7 +16,8 @@ list_all-same p q (x ∷ xs) same =
 -- each entry of the segment against each, as the loops go
 abbrev pub each_filed : ℕ → ℕ → List EntryNote → List WrittenFile → Bool
 each_filed o t notes files = list_all (λ (a : EntryNote). not (is_of o t a)
-    || list_all (λ (b : EntryNote). not (is_of o t b) || are_filed files t a.end.0 b.end.0) notes) notes
+    || list_all (λ (b : EntryNote). not (is_of o t b)
+    || are_filed files t a.end.0 b.end.0) notes) notes
 
 each_filed-is : (o t : ℕ) (notes : List EntryNote) (files : List WrittenFile)
     → each_filed o t notes files

@@ -38,7 +38,7 @@ use Rattle.path_core.specs.Words.{by_of}
 use Rattle.path_core.specs.Next.{next_of}
 use Rattle.path_core.specs.Allowed.{IsAllowed}
 use Rattle.path_core.specs.Next.{places_from, end_of_claim}
-use Rattle.path_core.proofs.LawSeats.{own_after}
+use Rattle.path_core.proofs.LawColumns.{own_after}
 use Rattle.path_core.specs.Parts.{touches}
 use Rattle.std.specs.List.{Contains}
 use Rattle.std.proofs.lemmas.List.Elements.{Contains-append_left, Contains-append_right}
@@ -46,14 +46,15 @@ use Rattle.path_core.specs.declared.note.EntryNote.{EntryNote}
 use Rattle.path_core.specs.declared.state.Placed.{Placed}
 use Rattle.path_core.specs.Lawful.{IsLawfulLog, IsLawfulCore}
 use Rattle.path_core.specs.LawfulPlaces.{HasPlace, PlacesAre}
-use Rattle.path_core.proofs.LawSeats.{claim_after}
+use Rattle.path_core.proofs.LawColumns.{claim_after}
 use native.Mathlib.Decide.{dec_lt}
 use Rattle.path_core.proofs.LawPlaces.{column}
 use Rattle.std.proofs.lemmas.List.{get_or_default}
 use Rattle.path_core.proofs.LawElements.{insert_cases}
-use Rattle.path_core.proofs.LawNotes.{note_long}
+use Rattle.path_core.proofs.LawNoted.{note_long}
 use Rattle.path_core.proofs.LawPlaces.{keeps_later, keeps_none_below}
-use Rattle.path_core.proofs.LawPlaced.{placed_there, keeps_tries, keeps_placed}
+use Rattle.path_core.proofs.LawPlacedIn.{placed_there, keeps_placed}
+use Rattle.path_core.proofs.LawPlaced.{keeps_tries}
 
 module _ (x : PathState) (C : IsLawfulCore x) (P : PlacesAre x) where
   abbrev L : IsLawfulLog x
@@ -85,7 +86,8 @@ module _ (x : PathState) (C : IsLawfulCore x) (P : PlacesAre x) where
       apart u v a b p q o l is = let e = ap (λ (n : EntryNote). n.end.0) p in
           let s = ap (λ (n : EntryNote). n.start.0) q in absurd (omega arith)
 
-  placed_stays : (e : Event) (p : Placed) → Contains x.placed p → Contains (next_of x e).placed p
+  pub placed_stays : (e : Event) (p : Placed) → Contains x.placed p
+      → Contains (next_of x e).placed p
   placed_stays (Close by Write g (Applied places)) p h = Contains-append_left x.placed _ p h
   placed_stays (Close by Write g Nothing) p h = h
   placed_stays (Close by Write g (Deposit note)) p h = h
@@ -186,8 +188,9 @@ module _ (x : PathState) (C : IsLawfulCore x) (P : PlacesAre x) where
   keeps_closed (Close by Append g (Deposit note)) a n t h nobody touched = elim
       (insert_cases x.notes _ note n h) [
         | inl old ↦ before (Close by Append g (Deposit note)) a (λ b. b) n t old nobody touched
-        | inr new ↦ absurd (nobody by _ (still_claims (Close by Append g (Deposit note)) a (λ b. b) by _
-            a.row.1.range) (ap (λ (m : EntryNote). m.end.0) new))
+        | inr new ↦ absurd (nobody by _
+            (still_claims (Close by Append g (Deposit note)) a (λ b. b) by _ a.row.1.range)
+            (ap (λ (m : EntryNote). m.end.0) new))
       ]
   keeps_closed (Close by Append g Nothing) a n t h nobody touched =
       before (Close by Append g Nothing) a (λ b. b) n t h nobody touched

@@ -16,8 +16,6 @@ use Rattle.std.proofs.Common.{
   cond,
   List,
   ◌++◌,
-  [],
-  ◌∷◌,
   length,
   map,
   IsTrue,
@@ -68,6 +66,7 @@ use Rattle.path_core.specs.LawfulLog.{
 use Rattle.path_core.specs.Parts.{is_entry}
 use Rattle.path_core.proofs.LawElements.{insert_cases, map_from}
 use Rattle.path_core.proofs.LawClaims.{entry_goes_on, goes_above}
+use Rattle.path_core.proofs.LawRetires.{files_retired}
 use Rattle.path_core.proofs.LawSizes.{as_many_tables}
 use Rattle.path_core.specs.Droppable.{
   IsDroppable,
@@ -82,26 +81,12 @@ use Rattle.path_core.specs.Droppable.{
 use Rattle.path_core.specs.declared.state.WrittenFile.{WrittenFile}
 use Rattle.path_core.specs.Keys.{ordinal_of}
 use Rattle.path_core.specs.LawfulLog.{LoggedAreNotes, DroppedWas}
-use Rattle.path_core.specs.Parts.{
-  is_entry_in,
-  touches,
-  is_empty,
-  table_of,
-  memtable_of,
-  last_upper,
-  key_of_bound,
-}
+use Rattle.path_core.specs.Parts.{is_entry_in, touches}
 use Rattle.path_core.specs.Next.{newly_dropped, has_filed, is_between}
 use Rattle.path_core.proofs.LawTests.{any_from, any_to, all_to, kept_in, filter_from}
 use Rattle.path_core.proofs.LawClaims.{marker_goes_on, behind_log}
-use Rattle.path_core.proofs.LawNotes.{
-  claims_stay,
-  claims_were,
-  ClaimedNow,
-  notes_stay,
-  own_range,
-  not_noted,
-}
+use Rattle.path_core.proofs.LawNoted.{own_range, not_noted}
+use Rattle.path_core.proofs.LawNotes.{claims_stay, claims_were, ClaimedNow, notes_stay}
 
 is_logged_to : (logged : List ℕ) (p : ℕ) → is_logged logged p ≡ true → Contains logged p
 is_logged_to logged p t = let r = any_to (λ (q : ℕ). q == p) logged t in
@@ -163,18 +148,10 @@ module _ (x : PathState) (sized : IsSized x) (T : ClaimsTile x) (O : IsOrderly x
   log_grows e a = omega arith
 
   -- files and what is logged stay
-  files_stay : (e : Event) (f : WrittenFile) → Contains x.files f → Contains (next_of x e).files f
-  files_stay (Put by (OldestLive table) value) f h = choose (is_empty x table.0
-      (table_of x table.0).oldest_live)
-    where
-      choose : (b : Bool) → Contains (cond b x.files (x.files ++ record {
-        table = table.0;
-        memtable = (table_of x table.0).oldest_live;
-        lower = last_upper x.files table.0;
-        upper = key_of_bound (memtable_of x table.0 (table_of x table.0).oldest_live).bound;
-      } ∷ [])) f
-      choose true = h
-      choose false = Contains-append_left x.files _ f h
+  pub files_stay : (e : Event) (f : WrittenFile) → Contains x.files f
+      → Contains (next_of x e).files f
+  files_stay (Put by (OldestLive table) value) f h = files_retired x by table value
+      (λ fs. Contains fs f) (λ _. h) (λ _. Contains-append_left x.files _ f h)
   files_stay (Put by Synced value) f h = h
   files_stay (Put by Stopped value) f h = h
   files_stay e f h = h

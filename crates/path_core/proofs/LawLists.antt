@@ -103,3 +103,19 @@ counted_in p (x ∷ xs) a (suc k, inside, is) counts =
     let s = sum_by-cons (λ b. cond (p b) 1 0) x xs in
     let c : 0 < count_by p xs = counted_in p xs a (k, omega arith, is) counts in
     omega arith
+
+-- an element that passes, where some are counted
+pub counted_from : {A : Type 0} (p : A → Bool) (l : List A) → 0 < count_by p l
+    → (a : A) × Contains l a × (p a ≡ true)
+counted_from p [] some = absurd (omega arith)
+counted_from {A} p (x ∷ xs) some = choose (p x) refl (λ l. counted_from p xs l)
+  where
+    choose : (b : Bool) → p x ≡ b
+        → (0 < count_by p xs → (a : A) × Contains xs a × (p a ≡ true))
+        → (a : A) × Contains (x ∷ xs) a × (p a ≡ true)
+    choose true e rest = (x, (zero, omega arith, refl), e)
+    choose false e rest =
+        let s = sum_by-cons (λ a. cond (p a) 1 0) x xs in
+        let c : cond {A = ℕ} (p x) 1 0 ≡ 0 = ap (λ (b : Bool). cond {A = ℕ} b 1 0) e in
+        let r = rest (omega arith) in
+        (r.0, (suc r.1.0, (let l = r.1.1 in omega arith), r.1.2), r.2)

@@ -78,7 +78,7 @@ use Rattle.path_core.specs.SeatAfter.{
 }
 use Rattle.path_core.specs.declared.seat.Marked.{Marked}
 use Rattle.path_core.specs.Parts.{marked_of}
-use Rattle.path_core.proofs.LawSeats.{at_table_keeps}
+use Rattle.path_core.proofs.LawColumns.{at_table_keeps}
 
 abbrev pub marked_in : SeatTable → Option Marked
 marked_in st = option_and_then (λ (turn : FlushTurn). turn.marked) st.flush

@@ -17,7 +17,6 @@ use Rattle.std.proofs.Common.{
   ◌∷◌,
   length,
   get_or,
-  map,
   Some,
   is_none,
   refl,
@@ -33,7 +32,6 @@ use Rattle.std.proofs.Common.{
   get_or-set_same,
 }
 use Rattle.std.proofs.lemmas.List.{get_or_past, length-map}
-use Rattle.std.proofs.Math.ListN.{get_or-map as get_or-map_default}
 use Rattle.std.proofs.lemmas.Bool.{and_parts, false≢true}
 use Rattle.std.proofs.lemmas.Option.{same_Some}
 use mathlib.Core.Logic.{dite, inl, inr}
@@ -50,6 +48,7 @@ use Rattle.path_core.specs.Next.{with_memtable, with_bound, barred}
 use Rattle.path_core.specs.History.{bound_below}
 use Rattle.path_core.specs.LawfulTables.{BoundsRise, MarkInRange, MemtablesAre}
 use Rattle.path_core.proofs.LawLists.{put_at, default_put}
+use Rattle.path_core.proofs.LawBars.{barred_table, memtable_barred, bound_barred, mark_barred}
 
 -- a bound is of one kind
 
@@ -201,8 +200,7 @@ module _ (log : ℕ) (table : TableState) (I : MemtablesAre log table) where
       below (suc m) = refl
 
   -- barriers are set
-  pub barred_is : (group : ℕ)
-      → MemtablesAre log (record table { memtables = map (barred group) table.memtables })
+  pub barred_is : (group : ℕ) → MemtablesAre log (barred_table group table)
   barred_is group = record {
     bounds_rise = record {
       made = length-map table.memtables (barred group) ∙ B.made;
@@ -215,43 +213,21 @@ module _ (log : ℕ) (table : TableState) (I : MemtablesAre log table) where
     };
     mark_key_in_range = λ m b is. let M = I.mark_key_in_range m b (sym (bound m) ∙ is) in record {
       key = M.key;
-      mark = ap (λ (k : Memtable). k.mark) (same m) ∙ mark (memtable_at table m) ∙ M.mark;
+      mark = mark_barred group table m ∙ M.mark;
       below_log = M.below_log;
       above_before = subst (λ k. k ≤ M.key) (sym (below m)) M.above_before;
     };
     barrier_means_final = λ m g is. subst IsFinal (sym (bound m))
         (barrier (memtable_at table m) (I.barrier_means_final m)
-        g (sym (ap (λ (k : Memtable). k.barrier) (same m)) ∙ is));
+        g (sym (ap (λ (k : Memtable). k.barrier) (memtable_barred group table m)) ∙ is));
     retired_is_final = λ m l. subst IsFinal (sym (bound m)) (I.retired_is_final m l);
   }
     where
-      same : (m : ℕ) → get_or (map (barred group) table.memtables) m fresh_memtable
-          ≡ barred group (memtable_at table m)
-      same m = get_or-map_default (barred group) table.memtables m fresh_memtable
-
-      kept : (k : Memtable) → (barred group k).bound ≡ k.bound
-      kept k = choose (is_unbarred k)
-        where
-          choose : (b : Bool) → (cond b (record k { barrier = Some group }) k).bound ≡ k.bound
-          choose true = refl
-          choose false = refl
-
-      mark : (k : Memtable) → (barred group k).mark ≡ k.mark
-      mark k = choose (is_unbarred k)
-        where
-          choose : (b : Bool) → (cond b (record k { barrier = Some group }) k).mark ≡ k.mark
-          choose true = refl
-          choose false = refl
-
-      bound : (m : ℕ) → (get_or (map (barred group) table.memtables) m fresh_memtable).bound
+      bound : (m : ℕ) → (memtable_at (barred_table group table) m).bound
           ≡ (memtable_at table m).bound
-      bound m = ap (λ (k : Memtable). k.bound) (same m) ∙ kept (memtable_at table m)
+      bound m = bound_barred group table m
 
-      below : (m : ℕ) → bound_below (record table {
-        memtables = map
-            (barred group) table.memtables;
-      }) m
-          ≡ bound_below table m
+      below : (m : ℕ) → bound_below (barred_table group table) m ≡ bound_below table m
       below zero = refl
       below (suc m) = ap key_of_bound (bound m)
 

@@ -1,20 +1,14 @@
--- What a step leaves of a table for writes that are placed: what is final stays, and a memtable lets
--- in what it let in.
+-- What a step leaves of a table for writes that are placed: what is final stays, and a memtable
+-- lets in what it let in.
 use Rattle.std.proofs.Common.{
   ◌≡◌,
   ℕ,
   suc,
   ◌++◌,
   ◌<◌,
-  Bool,
-  true,
-  false,
-  cond,
   [],
   ◌∷◌,
   length,
-  get_or,
-  map,
   Some,
   refl,
   sym,
@@ -27,8 +21,7 @@ use Rattle.std.proofs.Common.{
   max,
 }
 use Rattle.std.proofs.lemmas.Option.{same_Some}
-use Rattle.std.proofs.Math.ListN.{get_or-map as get_or-map_default}
-use mathlib.Core.Logic.{inl, inr}
+use mathlib.Core.Logic.{inl}
 use Rattle.op_core.specs.declared.count.Order.TheVariants.{Write, Append}
 use Rattle.path_core.specs.declared.event.Cursor.TheVariants.{Synced, OldestLive, Stopped}
 use Rattle.path_core.specs.declared.event.Event.{Event}
@@ -51,14 +44,20 @@ use Rattle.path_core.specs.declared.state.Bound.TheVariants.{Live, Raising, Fina
 use Rattle.path_core.specs.declared.state.Memtable.{Memtable}
 use Rattle.path_core.specs.declared.state.TableState.{TableState}
 use Rattle.path_core.specs.Parts.{fresh_memtable, fresh_table, table_of, memtable_at, key_of_bound}
-use Rattle.path_core.specs.Allowed.{IsAllowed, is_unbarred}
-use Rattle.path_core.specs.Next.{with_memtable, with_bound, barred}
+use Rattle.path_core.specs.Allowed.{IsAllowed}
+use Rattle.path_core.specs.Next.{with_memtable, with_bound}
 use Rattle.path_core.specs.Lawful.{IsSized}
 use Rattle.path_core.specs.LawfulLog.{ClaimsTile}
 use Rattle.path_core.specs.LawfulOrders.{IsOrderly}
 use Rattle.path_core.specs.LawfulTables.{SwitchesAre}
 use Rattle.path_core.proofs.LawLists.{put_at}
-use Rattle.path_core.proofs.LawSwitches.{barred_table, barred_at}
+use Rattle.path_core.proofs.LawBars.{
+  barred_table,
+  barred_at,
+  bound_barred,
+  mark_barred,
+  barrier_before,
+}
 use Rattle.path_core.specs.LawfulPlaces.{IsAboveBefore, LetsIn, IsAccepted, TriesAbove}
 use Rattle.path_core.proofs.LawLists.{default_put}
 
@@ -127,40 +126,11 @@ opens log group n table is = record {
 bars : (log group : ℕ) (table : TableState) → TableMoves log group table (barred_table group table)
 bars log group table = record {
   newest = omega arith;
-  finals = λ m u e. ap (λ (k : Memtable). k.bound) (same m) ∙ bound (memtable_at table m) ∙ e;
+  finals = λ m u e. bound_barred group table m ∙ e;
   lets_in = λ m entry low L. same_lets (memtable_at table m) _ entry
-      (ap (λ (k : Memtable). k.bound) (same m) ∙ bound (memtable_at table m))
-      (ap (λ (k : Memtable). k.mark) (same m) ∙ mark (memtable_at table m)) L;
-  barriers = λ m g e. barrier (memtable_at table m) g
-      (sym (ap (λ (k : Memtable). k.barrier) (same m)) ∙ e);
+      (bound_barred group table m) (mark_barred group table m) L;
+  barriers = λ m g e. barrier_before group table m g e;
 }
-  where
-    same : (m : ℕ) → get_or (map (barred group) table.memtables) m fresh_memtable
-        ≡ barred group (memtable_at table m)
-    same m = get_or-map_default (barred group) table.memtables m fresh_memtable
-
-    bound : (k : Memtable) → (barred group k).bound ≡ k.bound
-    bound k = choose (is_unbarred k)
-      where
-        choose : (b : Bool) → (cond b (record k { barrier = Some group }) k).bound ≡ k.bound
-        choose true = refl
-        choose false = refl
-
-    mark : (k : Memtable) → (barred group k).mark ≡ k.mark
-    mark k = choose (is_unbarred k)
-      where
-        choose : (b : Bool) → (cond b (record k { barrier = Some group }) k).mark ≡ k.mark
-        choose true = refl
-        choose false = refl
-
-    barrier : (k : Memtable) (g : ℕ) → (barred group k).barrier ≡ Some g
-        → (k.barrier ≡ Some g) ⊎ (g ≡ group)
-    barrier k g e = choose (is_unbarred k) e
-      where
-        choose : (b : Bool) → (cond b (record k { barrier = Some group }) k).barrier ≡ Some g
-            → (k.barrier ≡ Some g) ⊎ (g ≡ group)
-        choose true e = inr (sym (same_Some group g e))
-        choose false e = inl e
 
 -- one memtable changes
 changes : (log group m : ℕ) (table : TableState) (f : Memtable → Memtable)

@@ -1,12 +1,10 @@
--- Entry claims and notes: each claim is noted once, and each note is its writer's claim. Each
+-- Entry claims and notes: each claim is noted once, and a deposited seat's note is its own. Each
 -- allowed step keeps it.
 use Rattle.std.proofs.Common.{
   ◌≡◌,
   ℕ,
   ◌+◌,
-  ◌^◌,
   ◌<◌,
-  ◌≤◌,
   ◌==◌,
   Bool,
   true,
@@ -18,8 +16,6 @@ use Rattle.std.proofs.Common.{
   List,
   [],
   ◌∷◌,
-  length,
-  get_or,
   map,
   Option,
   Some,
@@ -36,26 +32,17 @@ use Rattle.std.proofs.Common.{
   arith,
   ◌⊎◌,
 }
-use Rattle.std.specs.List.{count_by, Contains, AllPairs, position_or_len}
+use Rattle.std.specs.List.{count_by, Contains, position_or_len}
 use Rattle.std.specs.Option.{option_map_or}
-use Rattle.std.proofs.lemmas.Bool.{false≢true, ltb-true, ltb-false, eq-eqb, ne_eqb}
+use Rattle.std.proofs.lemmas.Bool.{false≢true, eq-eqb, ne_eqb}
 use Rattle.std.proofs.lemmas.Option.{none-some, same_Some}
-use Rattle.std.proofs.lemmas.List.{get_or_default}
 use Rattle.std.proofs.lemmas.List.Elements.{
   Contains-append_left,
   Contains-push,
   Contains-push_cases,
-  Contains-get_or,
 }
-use Rattle.std.proofs.lemmas.List.Sums.{
-  sum_by-set,
-  sum_by-insert,
-  fails_before_first,
-  passes_at_first,
-  prefix_len-le-length,
-}
-use mathlib.Core.Logic.{dite, inl, inr}
-use native.Mathlib.Decide.{ℕ_discrete, dec_lt}
+use Rattle.std.proofs.lemmas.List.Sums.{sum_by-set, sum_by-insert}
+use mathlib.Core.Logic.{inl, inr}
 use Rattle.clog_base.specs.declared.position.Key.{Key}
 use Rattle.op_core.specs.declared.count.Order.TheVariants.{Write, Append}
 use Rattle.path_core.specs.declared.event.Carried.TheVariants.{Nothing, Deposit, Applied}
@@ -72,87 +59,30 @@ use Rattle.path_core.specs.Allowed.{IsAllowed, is_unbarred_marker}
 use Rattle.path_core.specs.Next.{next_of, claim_of, barred_marker, joined}
 use Rattle.path_core.specs.Lawful.{IsSized}
 use Rattle.path_core.specs.LawfulOrders.{IsOrderly}
-use Rattle.path_core.proofs.LawSeats.{Columns, each_seat, own_after, claim_after, note_after}
+use Rattle.path_core.proofs.LawColumns.{Columns, each_seat, own_after, claim_after, note_after}
 use Rattle.path_core.specs.declared.note.EntryNote.{EntryNote}
 use Rattle.path_core.specs.declared.state.Claim.{Claim as ClaimOf}
-use Rattle.path_core.specs.Whole.{CarriesWhole}
 use Rattle.path_core.specs.LawfulLog.{
-  TileTo,
-  StandsAt,
   ClaimsTile,
-  claim_in,
-  key_before,
   is_undeposited,
   is_note_at,
   HasNote,
   EachClaimNoted,
   entry_claim,
   OwnClaims,
-  IsClaimed,
   NotesAreClaims,
 }
-use Rattle.path_core.specs.Parts.{no_claim, is_entry, is_marker_kind}
-use Rattle.path_core.proofs.LawLists.{counted_some, counted_in, none_counted, none_counted_in}
-use Rattle.path_core.proofs.LawElements.{
-  order_insert,
-  insert_old,
-  insert_new,
-  insert_cases,
-  map_old,
-  map_from,
-}
+use Rattle.path_core.specs.Parts.{is_entry, is_marker_kind}
+use Rattle.path_core.proofs.LawLists.{none_counted, none_counted_in}
+use Rattle.path_core.proofs.LawElements.{insert_old, insert_new, map_old, map_from}
 use Rattle.path_core.proofs.LawClaims.{entry_goes_on, goes_above}
 use Rattle.path_core.proofs.LawOrders.{columns_of}
-use Rattle.path_core.proofs.LawSizes.{as_many_tables}
+use Rattle.path_core.proofs.LawEnds.{ends_below}
 
--- Entry claims are not empty, and the claims that end at one key are one.
-
-module _ (capacity ordinals log : ℕ) (claims : List ClaimOf)
-    (T : TileTo capacity ordinals log claims) where
-  entry_long : (i : ℕ) → i < length claims → IsTrue (is_entry (claim_in claims i))
-      → (claim_in claims i).start < (claim_in claims i).end
-  entry_long i inside entry = by (claim_in claims i).what entry (T.stands i inside)
-    where
-      by : (what : ClaimKind) → IsTrue (not (is_marker_kind what))
-          → StandsAt what capacity ordinals (key_before capacity claims i)
-          (claim_in claims i).start (claim_in claims i).end
-          → (claim_in claims i).start < (claim_in claims i).end
-      by Entry entry s = let l = s.least in omega arith
-      by Marker entry s = absurd (false≢true entry)
-
-  read_claim : (c : ClaimOf) (h : Contains claims c) → claim_in claims h.0 ≡ c
-  read_claim c h = get_or_default claims h.0 no_claim c h.1 ∙ h.2
-
-  pub entry_is_long : (c : ClaimOf) → Contains claims c → IsTrue (is_entry c) → c.start < c.end
-  entry_is_long c h entry = subst (λ (d : ClaimOf). d.start < d.end) (read_claim c h)
-      (entry_long h.0 h.1 (subst (λ (d : ClaimOf). IsTrue (is_entry d)) (sym
-      (read_claim c h)) entry))
-
-  pub ends_below : (c : ClaimOf) → Contains claims c → c.end ≤ log
-  ends_below c h = subst (λ (d : ClaimOf). d.end ≤ log) (read_claim c h) (T.below_log h.0 h.1)
-
-  -- two entry claims are one, or one ends before the other begins
-  pub one_or_apart : (c d : ClaimOf) → Contains claims c → Contains claims d
-      → (c ≡ d) ⊎ ((c.end ≤ d.start) ⊎ (d.end ≤ c.start))
-  one_or_apart c d g h = dite (ℕ_discrete g.0 h.0)
-      (λ e. inl (sym (read_claim c g) ∙ ap (claim_in claims) e ∙ read_claim d h))
-      (λ n. dite (dec_lt g.0 h.0)
-      (λ l. inr (inl (subst (λ (a : ClaimOf). a.end ≤ d.start) (read_claim c g)
-      (subst (λ (b : ClaimOf). (claim_in claims g.0).end ≤ b.start) (read_claim d h)
-      (T.apart g.0 h.0 l h.1)))))
-      (λ m. inr (inr (subst (λ (a : ClaimOf). a.end ≤ c.start) (read_claim d h)
-      (subst (λ (b : ClaimOf). (claim_in claims h.0).end ≤ b.start) (read_claim c g)
-      (T.apart h.0 g.0 (omega arith) g.1))))))
-
-  pub same_end : (c d : ClaimOf) → Contains claims c → Contains claims d → IsTrue (is_entry c)
-      → IsTrue (is_entry d) → c.end ≡ d.end → c ≡ d
-  same_end c d g h p q e =
-      let a = entry_is_long c g p in
-      let b = entry_is_long d h q in
-      elim (one_or_apart c d g h) [
-        | inl is ↦ is
-        | inr other ↦ elim other [ inl l ↦ absurd (omega arith) | inr l ↦ absurd (omega arith) ]
-      ]
+-- a seat with this claim and this note has yet to deposit what ends at a key
+abbrev pub undeposited_by : ℕ → Option Range → Option ℕ → Bool
+undeposited_by end claim note =
+    option_map_or (λ (r : Range). r.end == end) claim false && is_none note
 
 module _ (x : PathState) (sized : IsSized x) (T : ClaimsTile x) (O : IsOrderly x)
     (owned : OwnClaims x) (noted : EachClaimNoted x) (notes : NotesAreClaims x) where
@@ -237,10 +167,6 @@ module _ (x : PathState) (sized : IsSized x) (T : ClaimsTile x) (O : IsOrderly x
       own e r a h = stays e r h
 
   -- Each entry claim is noted once.
-
-  abbrev undeposited_by : ℕ → Option Range → Option ℕ → Bool
-  undeposited_by end claim note =
-      option_map_or (λ (r : Range). r.end == end) claim false && is_none note
 
   -- how the seats that have not deposited a claim change
   undeposited_after : (e : Event) → IsAllowed x e → (end : ℕ)
@@ -452,127 +378,6 @@ module _ (x : PathState) (sized : IsSized x) (T : ClaimsTile x) (O : IsOrderly x
       own (Claim by from to Marker) a t h =
           note_stays (Claim by from to Marker) _ by t (noted.own by t h)
       own e a t h = note_stays e _ (by_of e) t (noted.own (by_of e) t h)
-
-  -- Each note is its writer's claim, and notes stand in the order of the log.
-
-  is_claimed_still : (e : Event) (n : EntryNote) → IsClaimed x n → IsClaimed (next_of x e) n
-  is_claimed_still e n I = record {
-    claim = claims_stay e (entry_claim n.writer.0 n.start.0 n.end.0) refl I.claim;
-    tables_are_there = subst (λ (k : ℕ). n.tables < 2 ^ k) (sym (as_many_tables x e))
-        I.tables_are_there;
-    long = I.long;
-    some_table = I.some_table;
-  }
-
-  -- the claim of a note that is deposited
-  pub own_range : (by g : ℕ) (note : EntryNote) → IsAllowed x (Close by Append g (Deposit note))
-      → Contains x.claims (entry_claim note.writer.0 note.start.0 note.end.0)
-  own_range by g note a = subst (λ k. Contains x.claims (entry_claim k note.start.0 note.end.0))
-      (sym a.row.1.writer) (owned by _ a.row.1.range)
-
-  -- a note that is deposited was not noted before
-  pub not_noted : (by g : ℕ) (note : EntryNote) → IsAllowed x (Close by Append g (Deposit note))
-      → (n : EntryNote) → Contains x.notes n → n.end.0 ≡ note.end.0 → ⊥
-  not_noted by g note a n h is =
-      let o = noted.once (entry_claim note.writer.0 note.start.0 note.end.0)
-      (own_range by g note a) refl in
-      let u = counted_some (is_undeposited note.end.0) x.seats fresh_seat refl by
-      (ap (λ c. undeposited_by note.end.0 c (seat_of x by).note) a.row.1.range
-      ∙ ap (λ (k : Option ℕ). (note.end.0 == note.end.0) && is_none k) (not_yet by g a.row.0)
-      ∙ ap (λ (b : Bool). b && true) (eq-eqb note.end.0 note.end.0 refl)) in
-      let c = counted_in (is_note_at note.end.0) x.notes n h (eq-eqb n.end.0 note.end.0 is) in
-      omega arith
-
-  -- where a note that is deposited stands among the others
-  stands_apart : (by g : ℕ) (note : EntryNote) → IsAllowed x (Close by Append g (Deposit note))
-      → (n : EntryNote) → Contains x.notes n
-      → (n.end.0 ≤ note.start.0) ⊎ (note.end.0 ≤ n.start.0)
-  stands_apart by g note a n h = elim (one_or_apart x.capacity x.ordinals x.log x.claims T
-      (entry_claim n.writer.0 n.start.0 n.end.0)
-      (entry_claim note.writer.0 note.start.0 note.end.0) (notes.each n h).claim
-      (own_range by g note a)) [
-        | inl is ↦ absurd (not_noted by g note a n h (ap (λ (c : ClaimOf). c.end) is))
-        | inr r ↦ r
-      ]
-
-  pub note_long : (n : EntryNote) → Contains x.notes n → n.start.0 < n.end.0
-  note_long n h = entry_is_long x.capacity x.ordinals x.log x.claims T
-      (entry_claim n.writer.0 n.start.0 n.end.0) (notes.each n h).claim refl
-
-  keeps_order : (by g : ℕ) (note : EntryNote) → IsAllowed x (Close by Append g (Deposit note))
-      → AllPairs (λ (a b : EntryNote). a.end.0 ≤ b.start.0) (joined note x.notes)
-  keeps_order by g note a =
-      order_insert (λ (a b : EntryNote). a.end.0 ≤ b.start.0) x.notes place note
-      (prefix_len-le-length _ x.notes) notes.in_order
-      (λ k d below. earlier k d below)
-      (λ k d above inside. later k d above inside)
-    where
-      place : ℕ
-      place = position_or_len (λ (n : EntryNote). nat_lt note.start.0 n.start.0) x.notes
-
-      long : note.start.0 < note.end.0
-      long = entry_is_long x.capacity x.ordinals x.log x.claims T
-          (entry_claim note.writer.0 note.start.0 note.end.0) (own_range by g note a) refl
-
-      earlier : (k : ℕ) (d : EntryNote) → k < place → (get_or x.notes k d).end.0 ≤ note.start.0
-      earlier k d below =
-          let most = prefix_len-le-length (λ (n : EntryNote). not (nat_lt note.start.0 n.start.0))
-          x.notes in
-          let inside : k < length x.notes = omega arith in
-          let f = ltb-false note.start.0 (get_or x.notes k d).start.0
-          (fails_before_first (λ (n : EntryNote). nat_lt note.start.0 n.start.0) x.notes k d below)
-          in
-          elim (stands_apart by g note a (get_or x.notes k d)
-          (Contains-get_or x.notes k d inside)) [
-            | inl l ↦ l
-            | inr l ↦ absurd (let s = long in omega arith)
-          ]
-
-      later : (k : ℕ) (d : EntryNote) → place ≤ k → k < length x.notes
-          → note.end.0 ≤ (get_or x.notes k d).start.0
-      later k d above inside =
-          let first = get_or x.notes place d in
-          let place_inside : place < length x.notes = omega arith in
-          let p = ltb-true note.start.0 first.start.0 (passes_at_first
-          (λ (n : EntryNote). nat_lt note.start.0 n.start.0) x.notes d place_inside) in
-          let l = note_long first (Contains-get_or x.notes place d place_inside) in
-          let m = note_long (get_or x.notes k d) (Contains-get_or x.notes k d inside) in
-          let rises : first.start.0 ≤ (get_or x.notes k d).start.0 = dite (ℕ_discrete place k)
-          (λ e. subst (λ j. first.start.0 ≤ (get_or x.notes j d).start.0) e (omega arith))
-          (λ n. let o = notes.in_order place k d (omega arith) inside in omega arith) in
-          elim (stands_apart by g note a (get_or x.notes k d)
-          (Contains-get_or x.notes k d inside)) [
-            | inl q ↦ absurd (omega arith)
-            | inr q ↦ q
-          ]
-
-  pub keeps_notes : (e : Event) → IsAllowed x e → CarriesWhole e → NotesAreClaims (next_of x e)
-  keeps_notes (Close by Append g (Deposit note)) a whole = record {
-    each = λ n h. elim (insert_cases x.notes _ note n h) [
-      | inl old ↦ is_claimed_still (Close by Append g (Deposit note)) n (notes.each n old)
-      | inr is ↦ subst (λ m. IsClaimed (next_of x (Close by Append g (Deposit note))) m) is
-          (record {
-            claim = own_range by g note a;
-            tables_are_there = a.row.1.tables_are_there;
-            long = whole.long;
-            some_table = whole.some_table;
-          })
-    ];
-    in_order = keeps_order by g note a;
-  }
-  keeps_notes (Close by Write g (Deposit note)) a whole = absurd a.row.1
-  keeps_notes (Close by order g Nothing) a whole = record {
-    each = λ n h. is_claimed_still (Close by order g Nothing) n (notes.each n h);
-    in_order = notes.in_order;
-  }
-  keeps_notes (Close by order g (Applied places)) a whole = record {
-    each = λ n h. is_claimed_still (Close by order g (Applied places)) n (notes.each n h);
-    in_order = notes.in_order;
-  }
-  keeps_notes e a whole = record {
-    each = λ n h. is_claimed_still e n (notes.each n h);
-    in_order = notes.in_order;
-  }
 
   pub keeps_noted : (e : Event) → IsAllowed x e → EachClaimNoted (next_of x e)
   keeps_noted e a = record {

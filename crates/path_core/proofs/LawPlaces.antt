@@ -5,7 +5,6 @@ use Rattle.std.proofs.Common.{
   ◌<◌,
   Bool,
   true,
-  length,
   Option,
   Some,
   None,
@@ -39,11 +38,9 @@ use Rattle.path_core.specs.declared.event.Event.TheVariants.{
   Put,
 }
 use Rattle.path_core.specs.declared.event.SwitchPart.TheVariants.{Open, Mark}
-use Rattle.path_core.specs.declared.seat.Issue.{Issue}
-use Rattle.path_core.specs.declared.seat.Issue.TheVariants.{Rest, Opened, Moved}
 use Rattle.path_core.specs.declared.seat.Range.{Range}
 use Rattle.path_core.specs.declared.state.PathState.{PathState}
-use Rattle.path_core.specs.Parts.{fresh_seat, seat_of}
+use Rattle.path_core.specs.Parts.{seat_of}
 use Rattle.path_core.specs.Words.{by_of}
 use Rattle.path_core.specs.Next.{next_of}
 use Rattle.clog_base.specs.declared.position.Key.{Key}
@@ -54,25 +51,21 @@ use Rattle.path_core.specs.LawfulOrders.{IsOrderly}
 use Rattle.path_core.specs.LawfulTables.{SwitchesAre}
 use Rattle.std.proofs.lemmas.Bool.{false≢true}
 use Rattle.path_core.proofs.LawLists.{put_at}
-use Rattle.path_core.proofs.LawSeats.{each_seat, own_after}
-use Rattle.path_core.proofs.LawNotes.{ends_below}
+use Rattle.path_core.proofs.LawColumns.{each_seat, own_after}
+use Rattle.path_core.proofs.LawEnds.{ends_below}
 use Rattle.path_core.specs.Parts.{HasPassedBarrier, touches}
-use Rattle.std.proofs.lemmas.List.{get_or_past}
-use Rattle.op_core.specs.declared.count.Tally.TheVariants.{Open as OpenTally}
-use Rattle.op_core.specs.Tallies.{running_of, tally_at}
+use Rattle.op_core.specs.Tallies.{running_of}
 use Rattle.path_core.specs.Lawful.{IsLawfulLog, IsLawfulCore}
-use Rattle.path_core.specs.LawfulOrders.{is_in, made_at}
 use Rattle.path_core.specs.LawfulTables.{may_touch}
 use Rattle.path_core.specs.LawfulPlaces.{NoneBelow, PlacesAre}
-use Rattle.path_core.proofs.LawLists.{counted_some}
-use Rattle.path_core.proofs.LawSeats.{Columns, write_after, claim_after, note_after}
-use Rattle.path_core.proofs.LawGroups.{fresh_out, in_it}
+use Rattle.path_core.proofs.LawColumns.{Columns, write_after, claim_after, note_after}
 use Rattle.path_core.proofs.LawOrders.{columns_of}
 use Rattle.path_core.proofs.LawNotes.{claimed_above, not_yet}
+use Rattle.path_core.proofs.LawAbove.{in_group, nobody_above_now}
 use Rattle.path_core.proofs.LawMoves.{TableMoves, table_moves}
-use Rattle.path_core.proofs.LawSwitches.{barred_at}
+use Rattle.path_core.proofs.LawBars.{barred_at}
 use Rattle.path_core.proofs.LawMemtables.{final_at}
-use native.Mathlib.Decide.{dec_lt, dec_le}
+use native.Mathlib.Decide.{dec_lt}
 
 module _ (x : PathState) (C : IsLawfulCore x) (P : PlacesAre x) where
   abbrev L : IsLawfulLog x
@@ -99,49 +92,6 @@ module _ (x : PathState) (C : IsLawfulCore x) (P : PlacesAre x) where
   claims_high by from to a = claimed_above x L.sized L.claims_tile_the_log O L.own_claim
       L.each_claim_noted_once L.notes_are_claims by from to a
 
-  -- Nobody is in a group above the current one.
-
-  empty_above : (h : ℕ) → x.write.current < h → tally_at x.write.tallies h ≡ OpenTally 0
-  empty_above h above = dite (dec_lt h (length x.write.tallies))
-      (λ made. by O.issue refl made (O.made_groups Write).made)
-      (λ past. get_or_past x.write.tallies h (OpenTally 0) (omega arith))
-    where
-      by : (i : Issue) → O.issue ≡ i → h < length x.write.tallies
-          → length x.write.tallies ≡ made_at i Write x.write.current
-          → tally_at x.write.tallies h ≡ OpenTally 0
-      by Rest e made long = absurd (omega arith)
-      by (Moved o) e made long = absurd (omega arith)
-      by (Opened Write) e made long = ((O.counts_stand_for_seats Write).each h).opened e
-          (omega arith)
-      by (Opened Append) e made long = absurd (omega arith)
-
-  in_group : (w h : ℕ) → (seat_of x w).write ≡ Some h → 0 < running_of (tally_at x.write.tallies h)
-  in_group w h is =
-      let c = (O.counts_stand_for_seats Write).counted h in
-      let s = counted_some (is_in Write h) x.seats fresh_seat (fresh_out Write h) w
-      (in_it Write (seat_of x w) h is) in
-      omega arith
-
-  nobody_above : (w h : ℕ) → (seat_of x w).write ≡ Some h → h ≤ x.write.current
-  nobody_above w h is = dite (dec_le h x.write.current) (λ l. l)
-      (λ n. absurd (let s = in_group w h is in let z = ap running_of (empty_above h
-      (omega arith)) in
-      omega arith))
-
-  nobody_above_now : (e : Event) → IsAllowed x e → (w h : ℕ)
-      → (seat_of (next_of x e) w).write ≡ Some h → h ≤ x.write.current
-  nobody_above_now e a w h = each_seat x e a.seat (λ _ s. s.write ≡ Some h → h ≤ x.write.current)
-      (λ is. own e a (sym (column e a).write ∙ is)) (λ v _ is. nobody_above v h is) w
-    where
-      own : (e : Event) → IsAllowed x e → write_after (seat_of x (by_of e)).write e ≡ Some h
-          → h ≤ x.write.current
-      own (Register by Write g) a is = let same = same_Some g h is in
-          let f = (O.made_groups Write).found by g a.row.2 in omega arith
-      own (Register by Append g) a is = nobody_above by h is
-      own (Close by Write g carried) a is = absurd (none-some h is)
-      own (Close by Append g carried) a is = nobody_above by h is
-      own e a is = nobody_above (by_of e) h is
-
   -- Later groups log above.
 
   pub keeps_later : (e : Event) → IsAllowed x e → (t m g h w : ℕ) (u : Key) (r : Range)
@@ -152,7 +102,7 @@ module _ (x : PathState) (C : IsLawfulCore x) (P : PlacesAre x) where
   keeps_later e a t m g h w u r barrier bound write less claim =
       elim ((moves_of e a t).barriers m g barrier) [
         | inl old ↦ later old
-        | inr now ↦ absurd (let n = nobody_above_now e a w h write in omega arith)
+        | inr now ↦ absurd (let n = nobody_above_now x O L.sized Write e a w h write in omega arith)
       ]
     where
       own : (e : Event) → IsAllowed x e → (v : Key) → v.0 ≤ x.log
@@ -229,7 +179,7 @@ module _ (x : PathState) (C : IsLawfulCore x) (P : PlacesAre x) where
       by None e some = absurd (false≢true (sym (ap (λ o. is_some o) e) ∙ some))
       by (Some h) e some = dite (dec_lt B.group h)
           (λ l. P.later_above t m B.group h w u r B.issued bound e l claim)
-          (λ n. absurd (let s = in_group w h e in
+          (λ n. absurd (let s = in_group x O Write w h e in
           let z = ap running_of (B.passed.finished h (omega arith)) in omega arith))
 
   pub keeps_none_below : (e : Event) → IsAllowed x e → (t m : ℕ)

@@ -33,14 +33,14 @@ use Rattle.path_core.specs.Parts.{HasPassedBarrier, touches}
 use Rattle.std.specs.List.{Contains}
 use Rattle.path_core.specs.declared.note.EntryNote.{EntryNote}
 use Rattle.path_core.specs.Lawful.{IsLawfulLog, IsLawfulCore}
-use Rattle.path_core.specs.LawfulPlaces.{IsAccepted, PlacesAre}
+use Rattle.path_core.specs.LawfulPlaces.{IsAccepted, IsClosed, PlacesAre}
 use Rattle.path_core.proofs.LawMemtables.{final_at, final_is_below}
 use native.Mathlib.Decide.{dec_lt}
-use Rattle.path_core.proofs.LawNotes.{note_long}
+use Rattle.path_core.proofs.LawNoted.{note_long}
 use Rattle.std.proofs.lemmas.Bool.{and_from, lt-ltb, le-leb, ltb-true}
 use Rattle.path_core.specs.History.{bound_before, bound_below, final_bound, is_touching}
 use Rattle.path_core.specs.LawfulTables.{IsTouched}
-use Rattle.path_core.specs.Promises.{IsClosed, IsPlacedRight, HoldsItsInterval}
+use Rattle.path_core.specs.Promises.{IsPlacedRight, HoldsItsInterval}
 use Rattle.path_core.proofs.LawTests.{kept_in, filter_from}
 use Rattle.path_core.proofs.LawPlaces.{passed_above}
 use Rattle.path_core.proofs.LawClosed.{same_note}

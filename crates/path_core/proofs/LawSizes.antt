@@ -35,7 +35,7 @@ use Rattle.path_core.specs.Allowed.{IsAllowed}
 use Rattle.path_core.specs.Next.{next_of, barred_tables}
 use Rattle.path_core.specs.Lawful.{IsSized}
 use Rattle.path_core.specs.LawfulOrders.{IsOrderly}
-use Rattle.path_core.proofs.LawSeats.{each_seat, own_after}
+use Rattle.path_core.proofs.LawColumns.{each_seat, own_after}
 use Rattle.path_core.proofs.LawOrders.{columns_of}
 
 -- the number of tables stays

@@ -13,13 +13,11 @@ use Rattle.std.proofs.Common.{
   true,
   false,
   cond,
-  List,
   [],
   ◌∷◌,
   length,
   get_or,
   set,
-  map,
   Option,
   Some,
   None,
@@ -31,8 +29,6 @@ use Rattle.std.proofs.Common.{
   subst,
   arith,
   ◌≤◌,
-  max,
-  zero,
   get_or-set_same,
   get_or-set_other,
 }
@@ -92,11 +88,10 @@ use Rattle.path_core.specs.Parts.{
   memtable_at,
   memtable_of,
   IsFinal,
-  key_of_bound,
 }
-use Rattle.path_core.specs.Allowed.{IsAllowed, is_unbarred}
+use Rattle.path_core.specs.Allowed.{IsAllowed}
 use Rattle.path_core.specs.SeatAfter.{marks as marks_seat}
-use Rattle.path_core.specs.Next.{with_memtable, with_bound, barred, barred_tables}
+use Rattle.path_core.specs.Next.{with_memtable, with_bound}
 use Rattle.path_core.specs.Lawful.{IsSized}
 use Rattle.path_core.specs.LawfulLog.{
   ClaimsTile,
@@ -107,11 +102,12 @@ use Rattle.path_core.specs.LawfulLog.{
 }
 use Rattle.path_core.specs.LawfulOrders.{IsOrderly}
 use Rattle.path_core.specs.LawfulTables.{MemtablesAre, MarkedIsRaising, SwitchesAre}
-use Rattle.std.proofs.lemmas.Bool.{false≢true, or_cases, and_parts, eqb-true}
+use Rattle.std.proofs.lemmas.Bool.{false≢true}
 use Rattle.path_core.proofs.LawLists.{put_at}
-use Rattle.path_core.proofs.LawSeats.{each_seat, own_after, at_table_same, at_table_other}
-use Rattle.path_core.proofs.LawNotes.{ends_below}
+use Rattle.path_core.proofs.LawColumns.{each_seat, own_after, at_table_same, at_table_other}
+use Rattle.path_core.proofs.LawEnds.{ends_below}
 use Rattle.path_core.proofs.LawDropped.{log_grows}
+use Rattle.path_core.proofs.LawBars.{barred_at}
 use Rattle.path_core.proofs.LawMarks.{
   ChangesMark,
   marked_in,
@@ -129,157 +125,13 @@ use Rattle.path_core.proofs.LawMemtables.{
   raised_is,
   finalised_is,
 }
-
--- a table after barriers were set
-abbrev pub barred_table : ℕ → TableState → TableState
-barred_table group t = record t { memtables = map (barred group) t.memtables }
-
-pub barred_at : (group : ℕ) (ss : List SeatTable) (ts : List TableState) (P : TableState
-    → Type 0) (t : ℕ)
-    → P (get_or ts t fresh_table) → P (barred_table group (get_or ts t fresh_table))
-    → P (get_or (barred_tables group ss ts) t fresh_table)
-barred_at group [] ts P t same set = same
-barred_at group (s ∷ ss) [] P t same set = same
-barred_at group (s ∷ ss) (u ∷ us) P zero same set = choose (is_some s.flush)
-  where
-    choose : (b : Bool) → P (cond b (barred_table group u) u)
-    choose true = set
-    choose false = same
-barred_at group (s ∷ ss) (u ∷ us) P (suc t) same set = barred_at group ss us P t same set
-
--- What is marked stays raising, while its table changes.
-
-grown : (log after : ℕ) (table : TableState) (k : Marked) → log ≤ after
-    → MarkedIsRaising log table k → MarkedIsRaising after table k
-grown log after table k le M = record {
-  below_newest = M.below_newest;
-  bound = M.bound;
-  raising = M.raising;
-  mark = M.mark;
-  marked = M.marked;
-  fresh = λ key e. let r = M.fresh key e in let low = r.1 in (r.0, omega arith);
-  raised = M.raised;
+use Rattle.path_core.proofs.LawMarked.{
+  grown,
+  retired_marked,
+  barred_marked,
+  raised_marked,
+  own_raised,
 }
-
-retired_marked : (log oldest : ℕ) (table : TableState) (k : Marked) → MarkedIsRaising log table k
-    → MarkedIsRaising log (record table { oldest_live = oldest }) k
-retired_marked log oldest table k M = record {
-  below_newest = M.below_newest;
-  bound = M.bound;
-  raising = M.raising;
-  mark = M.mark;
-  marked = M.marked;
-  fresh = M.fresh;
-  raised = M.raised;
-}
-
-barred_marked : (log group : ℕ) (table : TableState) (k : Marked) → MarkedIsRaising log table k
-    → MarkedIsRaising log (barred_table group table) k
-barred_marked log group table k M = record {
-  below_newest = M.below_newest;
-  bound = M.bound;
-  raising = ap (λ (m : Memtable). m.bound) same ∙ bound (memtable_at table k.memtable) ∙ M.raising;
-  mark = M.mark;
-  marked = ap (λ (m : Memtable). m.mark) same ∙ mark (memtable_at table k.memtable) ∙ M.marked;
-  fresh = M.fresh;
-  raised = M.raised;
-}
-  where
-    same : get_or (map (barred group) table.memtables) k.memtable fresh_memtable
-        ≡ barred group (memtable_at table k.memtable)
-    same = get_or-map_default (barred group) table.memtables k.memtable fresh_memtable
-
-    bound : (m : Memtable) → (barred group m).bound ≡ m.bound
-    bound m = choose (is_unbarred m)
-      where
-        choose : (b : Bool) → (cond b (record m { barrier = Some group }) m).bound ≡ m.bound
-        choose true = refl
-        choose false = refl
-
-    mark : (m : Memtable) → (barred group m).mark ≡ m.mark
-    mark m = choose (is_unbarred m)
-      where
-        choose : (b : Bool) → (cond b (record m { barrier = Some group }) m).mark ≡ m.mark
-        choose true = refl
-        choose false = refl
-
--- the bound of what is marked rises
-raised_marked : (log m to : ℕ) (table : TableState) (k : Marked) → m < length table.memtables
-    → MarkedIsRaising log table k
-    → MarkedIsRaising log (with_memtable table m (with_bound (raised_to to))) k
-raised_marked log m to table k inside M = dite (ℕ_discrete k.memtable m)
-    (λ e. record {
-      below_newest = M.below_newest;
-      bound = record { 0 = max M.bound.0 to };
-      raising = ap (λ (n : Memtable). n.bound) (here e) ∙ ap (raised_to to)
-          (ap (λ j. (memtable_at table j).bound) (sym e) ∙ M.raising);
-      mark = M.mark;
-      marked = ap (λ (n : Memtable). n.mark) (here e)
-          ∙ ap (λ j. (memtable_at table j).mark) (sym e) ∙ M.marked;
-      fresh = M.fresh;
-      raised = λ r. let l = M.raised r in omega arith;
-    })
-    (λ n. record {
-      below_newest = M.below_newest;
-      bound = M.bound;
-      raising = ap (λ (n : Memtable). n.bound) (there n) ∙ M.raising;
-      mark = M.mark;
-      marked = ap (λ (n : Memtable). n.mark) (there n) ∙ M.marked;
-      fresh = M.fresh;
-      raised = M.raised;
-    })
-  where
-    here : k.memtable ≡ m → memtable_at (with_memtable table m (with_bound
-        (raised_to to))) k.memtable
-        ≡ with_bound (raised_to to) (memtable_at table m)
-    here e = ap (memtable_at (with_memtable table m (with_bound (raised_to to)))) e
-        ∙ get_or-set_same table.memtables m _ fresh_memtable inside
-
-    there : k.memtable ≢ m
-        → memtable_at (with_memtable table m (with_bound (raised_to to))) k.memtable
-        ≡ memtable_at table k.memtable
-    there n = get_or-set_other table.memtables m k.memtable _ fresh_memtable n
-
--- the holder itself raised it
-own_raised : (log m to : ℕ) (table : TableState) (k : Marked) → m < length table.memtables
-    → MarkedIsRaising log table k
-    → MarkedIsRaising log (with_memtable table m (with_bound (raised_to to)))
-    (record k { raised = k.raised || ((k.memtable == m) && is_at k.key to) })
-own_raised log m to table k inside M =
-    let R = raised_marked log m to table k inside M in record {
-      below_newest = R.below_newest;
-      bound = R.bound;
-      raising = R.raising;
-      mark = R.mark;
-      marked = R.marked;
-      fresh = R.fresh;
-      raised = λ r. elim (or_cases k.raised ((k.memtable == m) && is_at k.key to) r) [
-        | inl old ↦ R.raised old
-        | inr new ↦ now R.bound R.mark R.raising R.fresh k.key refl (and_parts (k.memtable == m)
-            (is_at k.key to) new)
-      ];
-    }
-  where
-    now : (bound : Key) (mark : ℕ)
-        → (memtable_at (with_memtable table m (with_bound (raised_to to))) k.memtable).bound
-        ≡ Raising bound
-        → ((key : ℕ) → k.key ≡ Some key → (mark ≤ key) × (key ≤ log))
-        → (key : Option ℕ) → k.key ≡ key
-        → ((k.memtable == m) ≡ true) × (is_at k.key to ≡ true) → mark ≤ bound.0
-    now bound mark raising fresh None e both = absurd (false≢true (sym (ap (λ o. is_at o to) e)
-        ∙ both.1))
-    now bound mark raising fresh (Some n) e both =
-        let same : n ≡ to = eqb-true n to (sym (ap (λ o. is_at o to) e) ∙ both.1) in
-        let at : k.memtable ≡ m = eqb-true k.memtable m both.0 in
-        let f = (fresh n e).0 in
-        let b = M.bound in
-        let is : Raising (record { 0 = max b.0 to }) ≡ Raising bound
-        = sym (ap (raised_to to) (ap (λ j. (memtable_at table j).bound) (sym at) ∙ M.raising))
-        ∙ sym (ap (λ (n : Memtable). n.bound)
-        (ap (memtable_at (with_memtable table m (with_bound (raised_to to)))) at
-        ∙ get_or-set_same table.memtables m _ fresh_memtable inside)) ∙ raising in
-        let top : max b.0 to ≡ bound.0 = ap key_of_bound is in
-        omega arith
 
 module _ (x : PathState) (sized : IsSized x) (T : ClaimsTile x) (O : IsOrderly x)
     (owned : OwnClaims x) (noted : EachClaimNoted x) (notes : NotesAreClaims x)

@@ -54,7 +54,7 @@ use Rattle.path_core.specs.SeatAfter.{
   marks,
   new_flush,
 }
-use Rattle.path_core.proofs.LawSeats.{at_table_keeps}
+use Rattle.path_core.proofs.LawColumns.{at_table_keeps}
 
 abbrev pub tried_in : SeatTable → Option ℕ × Option ℕ
 tried_in st = (st.trying, st.place)

@@ -55,7 +55,7 @@ use Rattle.path_core.specs.Parts.{
 use Rattle.path_core.specs.Words.{by_of}
 use Rattle.path_core.specs.Next.{next_of}
 use Rattle.path_core.specs.LawfulOrders.{TurnsHeld, seat_in}
-use Rattle.path_core.proofs.LawSeats.{
+use Rattle.path_core.proofs.LawColumns.{
   Columns,
   each_seat,
   own_after,

@@ -1,5 +1,30 @@
 -- Tests over a range of numbers, and over what passes another test.
-use Rattle.std.proofs.Common.{◌≡◌, ℕ, zero, suc, ◌+◌, ◌-◌, ◌<◌, ◌≤◌, ◌&&◌, ◌||◌, not, Bool, true, false, cond, List, [], ◌∷◌, ◌++◌, refl, ap, ◌∙◌, arith, append-nil}
+use Rattle.std.proofs.Common.{
+  ◌≡◌,
+  ℕ,
+  zero,
+  suc,
+  ◌+◌,
+  ◌-◌,
+  ◌<◌,
+  ◌≤◌,
+  ◌&&◌,
+  ◌||◌,
+  not,
+  Bool,
+  true,
+  false,
+  cond,
+  List,
+  [],
+  ◌∷◌,
+  ◌++◌,
+  refl,
+  ap,
+  ◌∙◌,
+  arith,
+  append-nil,
+}
 use Rattle.std.specs.List.{list_all, filter, range_with_len}
 use Rattle.std.proofs.lemmas.List.Elements.{filter-append}
 use Rattle.std.proofs.lemmas.List.Folds.{list_all_at}
@@ -23,12 +48,14 @@ range_fails p a n k above below fails =
 range_suc : (a n : ℕ) → range_with_len a (suc n) ≡ range_with_len a n ++ (a + n) ∷ []
 range_suc a zero = ap (λ (k : ℕ). k ∷ []) (let e : a ≡ a + 0 = omega arith in e)
 range_suc a (suc n) = ap (λ l. a ∷ l) (range_suc (a + 1) n
-    ∙ ap (λ (k : ℕ). range_with_len (a + 1) n ++ k ∷ []) (let e : a + 1 + n ≡ a + suc n = omega arith in e))
+    ∙ ap (λ (k : ℕ). range_with_len (a + 1) n ++ k ∷ [])
+    (let e : a + 1 + n ≡ a + suc n = omega arith in e))
 
 range_more : (i : ℕ) → range_with_len 0 (i + 1) ≡ range_with_len 0 i ++ i ∷ []
 range_more i =
     ap (range_with_len 0) (let e : i + 1 ≡ suc i = omega arith in e)
-    ∙ (range_suc 0 i ∙ ap (λ (k : ℕ). range_with_len 0 i ++ k ∷ []) (let e : 0 + i ≡ i = omega arith in e))
+    ∙ (range_suc 0 i ∙ ap (λ (k : ℕ). range_with_len 0 i ++ k ∷ [])
+    (let e : 0 + i ≡ i = omega arith in e))
 
 -- one number more, which passes or does not
 pub filter-range_kept : (p : ℕ → Bool) (i : ℕ) → p i ≡ true

@@ -28,10 +28,6 @@ bound_before x t m = bound_below (table_of x t) m
 abbrev pub final_bound : PathState → ℕ → ℕ → ℕ
 final_bound x t m = key_of_bound (memtable_of x t m).bound
 
--- the entries that a memtable with a final bound stands for
-abbrev pub stands_for : PathState → ℕ → ℕ → List EntryNote
-stands_for x t m = touching x.notes t (bound_before x t m) (final_bound x t m)
-
 -- An entry's range lies in one segment, behind its front, and is as long as its bytes.
 pub record IsInSegment (capacity : ℕ) (n : EntryNote) : Type 0 where
   pub behind_front : first_offset ≤ offset_of n.start.0

@@ -48,6 +48,7 @@ use Rattle.path_core.specs.Keys.{
 }
 use Rattle.path_core.specs.Parts.{no_claim, seat_of, is_entry, is_marker}
 use Rattle.path_core.specs.Droppable.{IsDroppable}
+use Rattle.path_core.specs.Whole.{IsWhole}
 
 -- the log key behind a claim of a range
 abbrev pub key_behind : ClaimKind → ℕ → ℕ → ℕ → ℕ
@@ -154,12 +155,11 @@ abbrev pub OwnClaims : PathState → Type 0
 OwnClaims x = (w : ℕ) (r : Range) → (seat_of x w).claim ≡ Some r
     → Contains x.claims (entry_claim w r.start r.end)
 
--- A note is the entry claim of its writer, and has a table, each of which there is.
+-- A note is the entry claim of its writer, is whole, and is of tables that there are.
 pub record IsClaimed (x : PathState) (n : EntryNote) : Type 0 where
   pub claim : Contains x.claims (entry_claim n.writer.0 n.start.0 n.end.0)
+  pub whole : IsWhole n
   pub tables_are_there : n.tables < 2 ^ length x.tables
-  pub some_table : 0 < n.tables
-  pub long : n.end.0 ≡ n.start.0 + length n.bytes
 
 pub record NotesAreClaims (x : PathState) : Type 0 where
   pub each : (n : EntryNote) → Contains x.notes n → IsClaimed x n

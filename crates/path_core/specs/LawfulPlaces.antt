@@ -109,6 +109,10 @@ abbrev pub NoneBelow : PathState → ℕ → ℕ → Type 0
 NoneBelow x t key = (w : ℕ) (r : Range) → (seat_of x w).claim ≡ Some r
     → IsTrue (may_touch (seat_of x w) t) → key < r.end
 
+-- The write of a note is closed: no seat has its claim any more.
+abbrev pub IsClosed : PathState → EntryNote → Type 0
+IsClosed x n = (w : ℕ) (r : Range) → (seat_of x w).claim ≡ Some r → r.end ≡ n.end.0 → ⊥
+
 -- What writes try, and where they were placed.
 pub record PlacesAre (x : PathState) : Type 0 where
   -- writes of the groups behind a memtable's barrier are logged above its bound
@@ -123,12 +127,20 @@ pub record PlacesAre (x : PathState) : Type 0 where
   -- entries stand where they were accepted
   pub placed : (p : Placed) → Contains x.placed p → PlacedIs x p
   -- the entry of a write that is closed has its place at each of its tables
-  pub closed : (n : EntryNote) (t : ℕ) → Contains x.notes n
-      → ((w : ℕ) (r : Range) → (seat_of x w).claim ≡ Some r → r.end ≡ n.end.0 → ⊥)
+  pub closed : (n : EntryNote) (t : ℕ) → Contains x.notes n → IsClosed x n
       → IsTrue (touches n.tables t) → HasPlace x t n.end.0
+
+-- The entry of a position has exactly one place at a table.
+abbrev pub HasOnePlace : PathState → ℕ → ℕ → Type 0
+HasOnePlace x t entry = count_by (is_placing t entry) x.placed ≡ 1
 
 -- A write that is closed has exactly one place for each of its tables.
 abbrev pub ClosedIsPlaced : PathState → Type 0
 ClosedIsPlaced x = (n : EntryNote) (t : ℕ) → Contains x.notes n
     → count_by (is_write_of n.end.0) x.seats ≡ 0 → IsTrue (touches n.tables t)
-    → count_by (is_placing t n.end.0) x.placed ≡ 1
+    → HasOnePlace x t n.end.0
+
+-- The entry of a write that is not closed is placed nowhere yet.
+abbrev pub RunningAreUnplaced : PathState → Type 0
+RunningAreUnplaced x = (w : ℕ) (r : Range) (p : Placed) → (seat_of x w).claim ≡ Some r
+    → Contains x.placed p → p.entry ≡ r.end → ⊥

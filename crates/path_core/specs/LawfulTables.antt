@@ -133,10 +133,14 @@ pub record RetiredIsFiled (x : PathState) (t m : ℕ) : Type 0 where
   pub filed : (entry : ℕ) → Contains x.placed (record { table = t; entry = entry; memtable = m })
       → HasFile x t m
 
+-- The files of a table follow one another from key 0: each begins where the one before it ends.
+abbrev pub FilesFollow : PathState → ℕ → Type 0
+FilesFollow x t = FollowFrom 0 (filter (is_file_of t) x.files)
+
 pub record RetiredAreFiled (x : PathState) : Type 0 where
   pub each : (t m : ℕ) → t < length x.tables → m < (table_of x t).oldest_live
       → RetiredIsFiled x t m
-  pub follow : (t : ℕ) → FollowFrom 0 (filter (is_file_of t) x.files)
+  pub follow : (t : ℕ) → FilesFollow x t
 
 -- A file's memtable is retired, and the file ends at its bound.
 pub record FileIsOfRetired (x : PathState) (f : WrittenFile) : Type 0 where
@@ -156,8 +160,17 @@ pub record IsTouched (x : PathState) (t lower upper entry : ℕ) : Type 0 where
   pub among : Contains (touching x.notes t lower upper) note
   pub position : note.end.0 ≡ entry
 
--- A file holds exactly the entries that touch its table within its interval.
-abbrev pub FilesAreTrue : PathState → Type 0
-FilesAreTrue x = (f : WrittenFile) → Contains x.files f → (entry : ℕ)
+-- A file holds exactly what touches its table in its interval, and that is what was placed in its
+-- memtable.
+abbrev pub FileHoldsItsInterval : PathState → WrittenFile → Type 0
+FileHoldsItsInterval x f = (entry : ℕ)
     → Contains x.placed (record { table = f.table; entry = entry; memtable = f.memtable })
     ↔ IsTouched x f.table f.lower f.upper entry
+
+abbrev pub FilesAreTrue : PathState → Type 0
+FilesAreTrue x = (f : WrittenFile) → Contains x.files f → FileHoldsItsInterval x f
+
+-- A file begins at or below the log interval of its memtable: the intervals between the two are of
+-- memtables that held nothing.
+abbrev pub FilesBegin : PathState → Type 0
+FilesBegin x = (f : WrittenFile) → Contains x.files f → f.lower ≤ bound_before x f.table f.memtable

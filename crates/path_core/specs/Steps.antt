@@ -1,5 +1,19 @@
 -- What an attempt at a step leaves.
-use Rattle.std.specs.Prelude.{◌≡◌, ◌≤◌, ◌<◌, ◌++◌, ℕ, List, IsTrue, length, Ok, Err, Option, Some, None}
+use Rattle.std.specs.Prelude.{
+  ◌≡◌,
+  ◌≤◌,
+  ◌<◌,
+  ◌++◌,
+  ℕ,
+  List,
+  IsTrue,
+  length,
+  Ok,
+  Err,
+  Option,
+  Some,
+  None,
+}
 use Rattle.std.specs.List.{Contains}
 use Rattle.std.specs.declared.result.Result.{Result}
 use Rattle.clog_base.specs.declared.fault.OutOfMemory.{OutOfMemory}

@@ -1,7 +1,13 @@
 //! Up to where a memtable takes writes, and what a write finds there.
 ghost use Rattle.std.specs.Prelude.{◌≡◌};
 ghost use Rattle.path_core.specs.Accepts.{accepted};
-ghost use Rattle.path_core.specs.SeatAfter.{raised_to, made_final, is_raising, takes, is_final_below};
+ghost use Rattle.path_core.specs.SeatAfter.{
+  raised_to,
+  made_final,
+  is_raising,
+  takes,
+  is_final_below,
+};
 
 use crate::state::Bound;
 use clog_base::Key;

@@ -1,5 +1,5 @@
-//! Keys of the log, and where claims stand. A claim that does not fit a segment moves the log to the
-//! next one, behind the header and the first marker.
+//! Keys of the log, and where claims stand. A claim that does not fit a segment moves the log to
+//! the next one, behind the header and the first marker.
 ghost use Rattle.std.specs.Prelude.{◌≡◌, ◌↔◌, ◌+◌, ◌≤◌, ◌<◌, IsTrue};
 ghost use Rattle.path_core.specs.Keys.{
   ordinal_of,

@@ -35,8 +35,15 @@ mod turn_changes;
 pub use bound::accepts;
 pub use event::{Carried, ClaimKind, Cursor, Event, Place, Reading, SwitchPart, Turn};
 pub use law::{
-    claims_never_overlap, closed_writes_are_placed_in_one_memtable, dropped_was_droppable,
-    every_run_is_lawful, passed_memtables_hold_their_intervals,
+    a_switch_has_a_holder, claims_never_overlap, closed_writes_are_placed_in_one_memtable,
+    closed_writes_are_placed_once, dropped_entries_are_in_files, dropped_was_droppable,
+    entries_up_to_a_passed_marker_are_deposited, every_run_is_lawful,
+    files_are_of_retired_memtables, files_follow_one_another, files_hold_their_intervals,
+    logged_is_the_synced_part, no_write_runs_in_a_passed_memtable, notes_are_a_history,
+    notes_are_whole, opened_groups_are_new, opened_memtables_are_new,
+    operations_run_in_the_current_group, passed_memtables_hold_their_intervals,
+    passed_memtables_rest, retired_memtables_are_filed, synced_is_the_start_of_a_marker,
+    what_seats_found_stands, writes_are_placed_at_most_once,
 };
 pub use note::EntryNote;
 pub use op_core::{Order, Tally};

@@ -4,5 +4,5 @@ use Rattle.path_core.proofs.law.claims_never_overlap.Goals as goal
 
 pub returns : goal.returns
 returns c = λ x y events start run.
-    let L = from_opening x y events start run in
-    are_apart y.capacity y.ordinals y.log y.claims L.core.log.claims_tile_the_log
+    are_apart y.capacity y.ordinals y.log y.claims
+    (from_opening x y events start run).claims_tile_the_log

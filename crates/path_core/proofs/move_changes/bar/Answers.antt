@@ -7,5 +7,6 @@ pub loop-memtable-preserved : goal.loop-memtable-preserved
 loop-memtable-preserved c =
     let inside : c.loop-memtable.memtable-index < length c.args.memtables.now = omega arith in
     let here : c.loop-memtable.memtable-index < length c.loop-memtable.memtables = omega arith in
-    set-mapped (barred c.args.group) c.args.memtables.now c.loop-memtable.memtables c.loop-memtable.memtable-index _ c.barred.result
+    set-mapped (barred c.args.group) c.args.memtables.now c.loop-memtable.memtables
+    c.loop-memtable.memtable-index _ c.barred.result
     inside here c.loop-memtable.invariant c.barred.ensures

@@ -7,5 +7,6 @@ pub loop-claim-preserved : goal.loop-claim-preserved
 loop-claim-preserved c =
     let inside : c.loop-claim.claim-index < length c.args.claims.now = omega arith in
     let here : c.loop-claim.claim-index < length c.loop-claim.claims = omega arith in
-    set-mapped (barred_marker c.args.by c.args.group) c.args.claims.now c.loop-claim.claims c.loop-claim.claim-index _ c.barred_marker.result
+    set-mapped (barred_marker c.args.by c.args.group) c.args.claims.now c.loop-claim.claims
+    c.loop-claim.claim-index _ c.barred_marker.result
     inside here c.loop-claim.invariant c.barred_marker.ensures

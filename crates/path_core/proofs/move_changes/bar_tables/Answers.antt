@@ -12,7 +12,8 @@ loop-i-preserved c =
     let there : c.loop-i.i < length ss = omega arith in
     elim c.if-is_some.branch [
       | then-is_some w ↦ w.tables-is
-          ∙ barred_tables-set c.args.group ss ts c.loop-i.tables c.loop-i.i _ _ w.bar_table.new.table
+          ∙ barred_tables-set c.args.group ss ts c.loop-i.tables c.loop-i.i _ _
+          w.bar_table.new.table
           inside there (sym c.is_some.ensures ∙ w.if-is_some.true) c.loop-i.invariant
           w.bar_table.ensures
       | else-is_some w ↦ w.tables-is

@@ -13,7 +13,8 @@ returns c =
       (λ e. absurd (let q : false ≡ true = e in cc)),
       (λ h. absurd (
           let there = h.is_there in
-          let held = ap (λ (s : Seat). is_some (seat_table s h.table).flush) c.requires.seat ∙ h.held in
+          let held = ap (λ (s : Seat). is_some (seat_table s h.table).flush) c.requires.seat
+          ∙ h.held in
           both (is_some (seat_table c.args.seat.now h.table).flush)
           (list_any is_unbarred (table_of x h.table).memtables) held h.unbarred
           (c.loop-i.invariant h.table (omega arith)))),

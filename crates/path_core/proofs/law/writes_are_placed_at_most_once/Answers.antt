@@ -1,0 +1,5 @@
+use Rattle.path_core.proofs.LawRuns.{from_opening}
+use Rattle.path_core.proofs.law.writes_are_placed_at_most_once.Goals as goal
+
+pub returns : goal.returns
+returns c = λ x y events start run. (from_opening x y events start run).placed_once
