@@ -59,7 +59,7 @@ impl Founds {
 /// How a segment ends, and at which offset.
 #[derive(Clone, Copy, Debug, PartialEq, Eq)]
 pub enum End {
-    /// No marker stands here: the file is at its end, or is zero.
+    /// No marker stands here: fewer than 8 bytes are left, or the next 8 are zero.
     Clean(u32),
     /// What stands here is no header, marker or entry.
     Torn(u32, Cause),

@@ -1,5 +1,6 @@
 //! What any bytes of a segment hold: the range of each entry, and where and why the segment ends.
-//! The definition cuts the whole string; the code reads with a cursor.
+//! The definition cuts the whole string; the code reads with a cursor (Cassandra's
+//! `CommitLogReader`).
 #![tactic(auto)]
 
 mod answer;

@@ -11,7 +11,7 @@ use clog_base::OutOfMemory;
 use clog_entry::read_header;
 use std::alloc::Global;
 
-/// What the bytes of the segment of an id hold. No bytes are refused; the time is linear in them.
+/// What the bytes of the segment of an id hold. No bytes are refused.
 pub fn scan(alloc: Global, bytes: &[u8], id: u64) -> Result<Scan, OutOfMemory>
     requires { length bytes.now < 2 ^ 31 }
     ensures held { IfOk result (Scans bytes.now id) }

@@ -53,7 +53,7 @@ use Rattle.clog_table.specs.declared.fault.TableFault.TheVariants.{
   OutOfMemory,
 }
 use Rattle.clog_table.specs.Format.{cell_bytes, cells_bytes, check_bytes, head_bytes, head_of}
-use Rattle.clog_table.specs.Limits.{IsUpTo, IsStoredCell, IsWithinLimits, IsWritable}
+use Rattle.clog_table.specs.Limits.{IsUpTo, IsThisTable, IsStoredCell, IsWithinLimits, IsWritable}
 use Rattle.clog_table.specs.Reading.{Fields, cell_at}
 use Rattle.clog_table.specs.RawFields.{pair_of}
 use Rattle.clog_table.specs.Heads.{BeginsWithHead, IsStoredHead, head_at}
@@ -140,7 +140,7 @@ begins_as : (table : Table) (bytes : List ℕ) (file : TableFile) → IsFileOf t
     → BeginsWithHead bytes (head_of file)
 begins_as table bytes file f = record {
   stored = record {
-    table = f.is_file.table;
+    table = omega (arith, f.is_file.table);
     lower = f.is_file.lower;
     upper = f.is_file.upper;
     count = f.is_file.map.few;
@@ -234,8 +234,9 @@ module _ (table : Table) (bytes : List ℕ) (file : TableFile) (f : IsFileOf tab
       absurd (h.wrong (subst (λ (l : List ℕ). take 4 (drop 33 l) ≡ check_bytes (take 33 l))
       (sym f.spelled) refl))
   not_refused OtherTable h =
-      let heads = one_head bytes h.head (head_of file) h.begins begins in
-      absurd (h.other (ap (λ (x : Head). x.table) heads ∙ f.same_table))
+      let heads = one_head bytes (head_of file) h.head begins h.begins in
+      let this : IsThisTable file.table table = (f.is_file.table, f.same_table) in
+      absurd (h.other (subst (λ (x : Head). IsThisTable x.table table) heads this))
   not_refused Interval h =
       let heads = one_head bytes (head_of file) h.head begins h.begins in
       absurd (h.disordered (subst (λ (x : Head). IsUpTo x.lower x.upper) heads f.is_file.interval))
@@ -293,6 +294,7 @@ limits_of table (cell ∷ cells) h = (h.0.limits, limits_of table cells h.1)
 pub can_be_written : (table : Table) (bytes : List ℕ) (answer : Result TableFile TableFault)
     → Decodes table bytes answer → IfOk answer IsWritable
 can_be_written table bytes (Ok file) h = record {
+  table = h.is_file.table;
   interval = h.is_file.interval;
   cells = limits_of file.table file.cells h.is_file.stored;
 }

@@ -131,7 +131,7 @@ module _ (table : Table) (bytes : List ℕ) (head : Head) (cells : Pairs) (rest 
   unfolding file
   is_file right = record {
     is_file = record {
-      table = subst (λ (t : Table). t.0 < 256) begins.same_table begins.begins.stored.table;
+      table = subst (λ (t : Table). t.0 < 16) begins.same_table begins.known;
       lower = begins.begins.stored.lower;
       upper = begins.begins.stored.upper;
       interval = begins.interval;

@@ -21,22 +21,26 @@ use Rattle.std.proofs.Common.{
   Bool,
   true,
   false,
-  not,
-  eq-eqb,
   arith,
   length-drop,
 }
+use Rattle.std.specs.Prelude.{◌<◌, ◌&&◌, ◌==◌, nat_lt}
 use Rattle.std.specs.Int.{w32, w64, to_be_bytes, from_be_bytes}
 use Rattle.std.proofs.lemmas.List.{get_or-drop, length-take}
 use Rattle.std.proofs.lemmas.Bool.Decides.{nat_tests}
-use Rattle.std.proofs.Math.Dec.{eqb}
-use Rattle.std.proofs.lemmas.Bool.{eqb-true}
+use Rattle.std.proofs.lemmas.Bool.{eqb-true, ltb-true}
 use Rattle.clog_base.specs.declared.cell.Table.{Table}
 use Rattle.clog_spec.specs.Crc.{IsBytes}
 use Rattle.clog_base.specs.declared.position.Position.{Position}
 use Rattle.clog_table.specs.declared.head.Head.{Head}
 use Rattle.clog_table.specs.Format.{position_bytes, head_front, head_bytes, check_bytes}
-use Rattle.clog_table.specs.Limits.{IsStoredPosition, IsUpTo, is_up_to}
+use Rattle.clog_table.specs.Limits.{
+  IsStoredPosition,
+  IsUpTo,
+  is_up_to,
+  IsThisTable,
+  is_this_table,
+}
 use Rattle.clog_table.specs.Heads.{BeginsWithHead, position_at, head_at}
 use Rattle.clog_table.proofs.Numbers.{
   drop_fits,
@@ -145,21 +149,22 @@ head_is_long bs head h =
     let e : length (take 37 bs) ≡ 37 = ap (λ (l : List ℕ). length l) h.spelled ∙ whole in
     omega (arith, e, length-take 37 bs)
 
-not_false : (b : Bool) → false ≡ not b → b ≡ true
-not_false true e = refl
-not_false false e = absurd cc
+both_of : (a b : Bool) → true ≡ (a && b) → (a ≡ true) × (b ≡ true)
+both_of true true e = (refl, refl)
+both_of true false e = absurd cc
+both_of false b e = absurd cc
 
-pub same_table : (a b : Table) → false ≡ not (eqb a.0 b.0) → a ≡ b
-same_table a b e =
-    let tie : eqb a.0 b.0 ≡ true = not_false (eqb a.0 b.0) e in
-    let n : a.0 ≡ b.0 = eqb-true a.0 b.0 tie in
-    λ i. record { 0 = n i }
+pub this_table : (a b : Table) → true ≡ is_this_table a b → IsThisTable a b
+this_table a b e =
+    let both = both_of (nat_lt a.0 16) (a.0 == b.0) e in
+    let same : a.0 ≡ b.0 = eqb-true a.0 b.0 both.1 in
+    (ltb-true a.0 16 both.0, λ i. record { 0 = same i })
 
-pub other_table : (a b : Table) → true ≡ not (eqb a.0 b.0) → a ≡ b → ⊥
-other_table a b e same =
-    let tie : eqb a.0 b.0 ≡ true = eq-eqb a.0 b.0 (ap (λ (t : Table). t.0) same) in
-    let clash : true ≡ false = e ∙ ap not tie in
-    cc
+pub other_table : (a b : Table) → false ≡ is_this_table a b → IsThisTable a b → ⊥
+other_table a b e h =
+    let same : a.0 ≡ b.0 = ap (λ (t : Table). t.0) h.1 in
+    let known : a.0 < 16 = h.0 in
+    grind (arith, nat_tests)
 
 pub is_up_to-true : (a b : Position) → true ≡ is_up_to a b → IsUpTo a b
 is_up_to-true a b e = grind (arith, nat_tests)

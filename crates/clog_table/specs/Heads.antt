@@ -19,7 +19,7 @@ use Rattle.clog_table.specs.declared.fault.TableFault.TheVariants.{
   OutOfMemory,
 }
 use Rattle.clog_table.specs.Format.{head_bytes, check_bytes}
-use Rattle.clog_table.specs.Limits.{IsUpTo, IsStoredPosition}
+use Rattle.clog_table.specs.Limits.{IsUpTo, IsThisTable, IsStoredPosition}
 
 -- the numbers of a head fit their bytes
 pub record IsStoredHead (head : Head) : Type 0 where
@@ -33,9 +33,10 @@ pub record BeginsWithHead (bytes : List ℕ) (head : Head) : Type 0 where
   pub stored : IsStoredHead head
   pub spelled : take 37 bytes ≡ head_bytes head
 
--- the bytes begin with the head of a file of this table
+-- the bytes begin with the head of a file of this table, which is below 16
 pub record HasHead (table : Table) (bytes : List ℕ) (head : Head) : Type 0 where
   pub begins : BeginsWithHead bytes head
+  pub known : head.table.0 < 16
   pub same_table : head.table ≡ table
   pub interval : IsUpTo head.lower head.upper
 
@@ -55,16 +56,17 @@ pub record HasWrongHeadCheck (bytes : List ℕ) : Type 0 where
   pub version : HasVersion 1 bytes
   pub wrong : take 4 (drop 33 bytes) ≢ check_bytes (take 33 bytes)
 
--- a head, but another table's
+-- a head, but of a table above 15, or of another one
 pub record HasOtherTable (table : Table) (bytes : List ℕ) : Type 0 where
   pub head : Head
   pub begins : BeginsWithHead bytes head
-  pub other : head.table ≢ table
+  pub other : ¬ IsThisTable head.table table
 
--- a head of this table, but its interval is not in order
+-- a head of this table, below 16, but its interval is not in order
 pub record HasOtherInterval (table : Table) (bytes : List ℕ) : Type 0 where
   pub head : Head
   pub begins : BeginsWithHead bytes head
+  pub known : head.table.0 < 16
   pub same_table : head.table ≡ table
   pub disordered : ¬ IsUpTo head.lower head.upper
 

@@ -20,6 +20,14 @@ IsUpTo a b = (a.id < b.id) ⊎ ((a.id ≡ b.id) × (a.offset ≤ b.offset))
 abbrev pub is_up_to : Position → Position → Bool
 is_up_to a b = nat_lt a.id b.id || (a.id == b.id && nat_le a.offset b.offset)
 
+-- the table that is asked for, and below 16
+abbrev pub IsThisTable : Table → Table → Type 0
+IsThisTable found table = (found.0 < 16) × (found ≡ table)
+
+-- whether it is
+abbrev pub is_this_table : Table → Table → Bool
+is_this_table found table = nat_lt found.0 16 && found.0 == table.0
+
 -- a key or a column
 pub record IsNameSize (text : List ℕ) : Type 0 where
   pub some : 1 ≤ length text
@@ -41,8 +49,10 @@ pub record IsWithinLimits (table : Table) (pair : CellKey × Cell) : Type 0 wher
   pub same_table : pair.0.table ≡ table
   pub sizes : IsSized pair
 
--- what can be written: an interval in order, and cells of the table within the limits
+-- What can be written: a table below 16, an interval in order, and cells of the table within the
+-- limits.
 pub record IsWritable (file : TableFile) : Type 0 where
+  pub table : file.table.0 < 16
   pub interval : IsUpTo file.lower file.upper
   pub cells : AllByRecursion (IsWithinLimits file.table) file.cells
 
@@ -59,9 +69,10 @@ pub record IsStoredPosition (at : Position) : Type 0 where
   pub id : at.id < 2 ^ 64
   pub offset : at.offset < 2 ^ 32
 
--- A table file: an interval in order, and cells of the table, each key once and in order.
+-- A table file: a table below 16, an interval in order, and cells of the table, each key once and
+-- in order.
 pub record IsTableFile (file : TableFile) : Type 0 where
-  pub table : file.table.0 < 256
+  pub table : file.table.0 < 16
   pub lower : IsStoredPosition file.lower
   pub upper : IsStoredPosition file.upper
   pub interval : IsUpTo file.lower file.upper

@@ -11,7 +11,7 @@ pub enum TableFault {
     Version(u32),
     /// The head's check is wrong.
     HeadCheck,
-    /// The file is another table's.
+    /// The file is of a table above 15, or of another than was asked for.
     Table,
     /// The lower end of the interval is above the upper one.
     Interval,

@@ -2,7 +2,7 @@
 ghost use Rattle.std.specs.Prelude.{◌≡◌, ◌≤◌, ◌↔◌, length, take, drop, IsTrue};
 ghost use Rattle.clog_table.specs.Format.{check_bytes};
 ghost use Rattle.clog_table.specs.Heads.{position_at, head_at, HeadGives};
-ghost use Rattle.clog_table.specs.Limits.{is_up_to};
+ghost use Rattle.clog_table.specs.Limits.{is_up_to, is_this_table};
 
 use crate::check::is_check_of;
 use crate::fault::TableFault;
@@ -56,6 +56,13 @@ fn is_up_to(lower: Position, upper: Position) -> bool
     lower <= upper
 }
 
+/// Whether the table of a head is the one that is asked for, and below 16.
+fn is_this_table(found: Table, table: Table) -> bool
+    ensures { result ≡ is_this_table found table }
+{
+    found.0 < 16 && found == table
+}
+
 /// The head of a file of this table.
 pub(crate) fn head_of(bytes: &[u8], table: Table) -> Result<Head, TableFault>
     ensures { HeadGives table bytes.now result }
@@ -71,7 +78,7 @@ pub(crate) fn head_of(bytes: &[u8], table: Table) -> Result<Head, TableFault>
         return Err(TableFault::HeadCheck);
     }
     let head = head_at(bytes);
-    if head.table != table {
+    if !is_this_table(head.table, table) {
         return Err(TableFault::Table);
     }
     if !is_up_to(head.lower, head.upper) {

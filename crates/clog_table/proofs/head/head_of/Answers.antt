@@ -4,15 +4,15 @@ use Rattle.clog_table.specs.Heads.{BeginsWithHead}
 use Rattle.clog_table.proofs.Numbers.{big_is}
 use Rattle.clog_table.proofs.HeadParts.{
   begins_with,
-  same_table,
+  this_table,
   other_table,
   is_up_to-true,
   is_up_to-false,
 }
 use Rattle.clog_table.proofs.head.head_of.Goals as goal
 
-pub returns-then-ne : goal.returns-then-ne
-returns-then-ne c =
+pub returns-then-not-is_this_table : goal.returns-then-not-is_this_table
+returns-then-not-is_this_table c =
     let bytes = c.args.bytes.now in
     let version : from_be_bytes w32 bytes ≡ 1 =
     sym (big_is bytes) ∙ sym c.read_u32-version.ensures ∙ c.if-version-ne1.false in
@@ -22,7 +22,7 @@ returns-then-ne c =
       begins = subst (BeginsWithHead bytes) (sym c.head_at-head.ensures)
           (begins_with bytes long (λ i. omega (arith, c.type_inv.bytes i)) version
           (c.if-not-is_checked.ensures.0 refl));
-      other = other_table c.head_at-head.result.table c.args.table c.if-ne.ensures;
+      other = other_table c.head_at-head.result.table c.args.table c.if-not-is_this_table.ensures;
     }
 
 pub returns-then-not-is_up_to : goal.returns-then-not-is_up_to
@@ -31,12 +31,15 @@ returns-then-not-is_up_to c =
     let version : from_be_bytes w32 bytes ≡ 1 =
     sym (big_is bytes) ∙ sym c.read_u32-version.ensures ∙ c.if-version-ne1.false in
     let long : 37 ≤ length bytes = omega arith in
+    let this =
+    this_table c.head_at-head.result.table c.args.table c.if-not-is_this_table.ensures in
     record {
       head = c.head_at-head.result;
       begins = subst (BeginsWithHead bytes) (sym c.head_at-head.ensures)
           (begins_with bytes long (λ i. omega (arith, c.type_inv.bytes i)) version
           (c.if-not-is_checked.ensures.0 refl));
-      same_table = same_table c.head_at-head.result.table c.args.table c.if-ne.ensures;
+      known = this.0;
+      same_table = this.1;
       disordered = is_up_to-false c.head_at-head.result.lower c.head_at-head.result.upper
           c.if-not-is_up_to.ensures;
     }
@@ -47,11 +50,14 @@ returns c =
     let version : from_be_bytes w32 bytes ≡ 1 =
     sym (big_is bytes) ∙ sym c.read_u32-version.ensures ∙ c.if-version-ne1.false in
     let long : 37 ≤ length bytes = omega arith in
+    let this =
+    this_table c.head_at-head.result.table c.args.table c.if-not-is_this_table.ensures in
     record {
       begins = subst (BeginsWithHead bytes) (sym c.head_at-head.ensures)
           (begins_with bytes long (λ i. omega (arith, c.type_inv.bytes i)) version
           (c.if-not-is_checked.ensures.0 refl));
-      same_table = same_table c.head_at-head.result.table c.args.table c.if-ne.ensures;
+      known = this.0;
+      same_table = this.1;
       interval = is_up_to-true c.head_at-head.result.lower c.head_at-head.result.upper
           c.if-not-is_up_to.ensures;
     }
