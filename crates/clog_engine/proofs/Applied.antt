@@ -2,14 +2,15 @@
 use Rattle.std.proofs.Common.{
   ◌≡◌,
   ℕ,
-  ◌+◌,
   ◌<◌,
   ◌≤◌,
   List,
   [],
   ◌∷◌,
   length,
+  inl,
   inr,
+  None,
   sym,
   subst,
   arith,
@@ -28,9 +29,14 @@ use Rattle.clog_disk.specs.declared.disk.DiskFault.TheVariants.{
   OutOfMemory as NoMemory,
 }
 use Rattle.clog_engine.specs.declared.status.Status.{Status}
-use Rattle.clog_engine.specs.Limits.{capacity}
-use Rattle.clog_engine.specs.Input.{IsAccepted, IsGood, entries_of}
+use Rattle.clog_engine.specs.Input.{IsAccepted, IsGood}
 use Rattle.clog_engine.specs.Reading.{TakesFile, HasSize}
+use Rattle.std.specs.Prelude.{◌⊎◌, IfSome}
+use Rattle.std.specs.FinMap as finmap
+use Rattle.clog_disk.specs.Files.{Files, MayAppend}
+use Rattle.clog_engine.specs.Apply.{Gains}
+use Rattle.clog_engine.specs.Landing.{LeftBehind}
+use Rattle.clog_engine.proofs.Landed.{gained}
 use Rattle.clog_engine.specs.Landing.{LandingRefused, status_of}
 use Rattle.clog_engine.specs.Outside.{Outside, IsUntouched}
 use Rattle.clog_engine.specs.Apply.{
@@ -71,26 +77,31 @@ pub lands_some : (o : Outside) (id : ℕ) (mutations : List Mutation) → 0 < le
 lands_some o id [] some landed = absurd (omega arith)
 lands_some o id (first ∷ more) some landed = landed
 
-length-front_of : (id end : ℕ) → length (front_of id end) ≡ 28
+pub length-front_of : (id end : ℕ) → length (front_of id end) ≡ 28
 unfolding front_of
 length-front_of id end = length-append (header_bytes id) (marker_bytes id 20 end)
 
-pub segment_size : (id size : ℕ) (mutations : List Mutation) → HasSize mutations size
-    → length (segment_of id mutations) ≤ capacity
-segment_size id size mutations sized =
-    let end = 28 + length (entries_of mutations) in
-    omega (
-      arith,
-      length-append (front_of id end) (entries_of mutations),
-      length-front_of id end,
-      sized.room,
-      sized.size_is,
-    )
+-- what a fault leaves of a new file
+abbrev pub PartBy : Fault → Option Files → Option Files → List ℕ → List ℕ → Type 0
+PartBy Failed files files_now name bytes = MayAppend files files_now name (length bytes)
+PartBy NoSuchFile files files_now name bytes = ⊥
+PartBy NoMemory files files_now name bytes =
+    (files_now ≡ files) ⊎ Gains files files_now name bytes
+
+-- what is left of a file that was not there
+pub left_part : (fault : Fault) (files files_now : Option Files) (name bytes : List ℕ)
+    → IfSome files (λ held. finmap.get held name ≡ None)
+    → LeftBehind files files_now name bytes fault → PartBy fault files files_now name bytes
+left_part Failed files files_now name bytes free left = left
+left_part NoSuchFile files files_now name bytes free left = left
+left_part NoMemory files files_now name bytes free (inl same) = inl same
+left_part NoMemory files files_now name bytes free (inr all) =
+    inr (gained files files_now name bytes free all)
 
 -- why the segment did not land
 pub landing_refuses : (fault : Fault) (status : Status) (o : Outside) → status ≡ status_of fault
-    → Reads o IsGood → LandingRefused o.disk_faults o.disk_faults_now fault → IsPartly o
-    → ApplyRefuses status o
+    → Reads o IsGood → LandingRefused o.disk_faults o.disk_faults_now fault
+    → IsPartly o (PartBy fault o.files o.files_now) → ApplyRefuses status o
 landing_refuses Failed status o is good refused part =
     subst (λ s. ApplyRefuses s o) (sym is) (good, refused, inr part)
 landing_refuses NoSuchFile status o is good refused part = absurd refused

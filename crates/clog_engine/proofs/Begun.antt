@@ -9,7 +9,6 @@ use Rattle.std.proofs.Common.{
   ◌⊎◌,
   max,
   List,
-  ◌++◌,
   Bool,
   true,
   false,
@@ -38,7 +37,7 @@ use Rattle.clog_mutation.specs.declared.mutation.Mutation.{Mutation}
 use Rattle.clog_mutation.specs.Payload.{cells_of}
 use Rattle.clog_engine.specs.declared.standing.Standing.{Standing}
 use Rattle.clog_engine.specs.Limits.{id_limit}
-use Rattle.clog_engine.specs.Directory.{TableRead, NamesId, IsGreatest, IsBase, cells_of_tables}
+use Rattle.clog_engine.specs.Directory.{TableRead, NamesId, IsGreatest, IsBase}
 use Rattle.clog_engine.specs.Listing.{base_of}
 use Rattle.clog_engine.specs.Looking.{dumped, Stands}
 use Rattle.clog_engine.specs.Report.{IsReport}
@@ -53,6 +52,12 @@ pub base_fits : (g : Option ℕ) (now : ℕ) → now < 2 ^ 62 → IfSome g (λ i
 base_fits None now moment low = omega arith
 base_fits (Some g) now moment low =
     let most : max now (g + 1) ≤ 2 ^ 62 = max-le (omega arith) (omega (arith, low)) in omega arith
+
+pub fits_name : (standing : Standing) (id now : ℕ)
+    → IfSome standing.greatest (λ greatest. greatest < id_limit) → now < 2 ^ 62
+    → id ≡ base_of standing.greatest now → id < 2 ^ 63
+fits_name standing id now low moment is =
+    let fits = base_fits standing.greatest now moment low in omega (arith, fits, is)
 
 -- the name of the new segment is free
 pub name_is_free : (files : Option Files) (dump : Bool) (standing : Standing) (now id : ℕ)

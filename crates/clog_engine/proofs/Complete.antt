@@ -2,15 +2,9 @@
 use Rattle.std.proofs.Common.{
   ◌≡◌,
   ℕ,
-  ◌<◌,
   List,
-  [],
-  ◌∷◌,
-  ◌++◌,
   length,
   map,
-  true,
-  false,
   Option,
   Some,
   None,
@@ -25,14 +19,10 @@ use Rattle.std.proofs.Common.{
   subst,
   ◌∙◌,
   arith,
-  codes,
   Global,
 }
-use Rattle.std.specs.Prelude.{String, string_bytes, IfSome, is_some, ◌≢◌, ◌≤◌, zero, suc, get_or}
-use Rattle.std.specs.List.{AllByRecursion, Contains, All}
+use Rattle.std.specs.Prelude.{String, string_bytes, IfSome}
 use Rattle.std.specs.FinMap as finmap
-use Rattle.std.proofs.lemmas.List.Elements.{All-contains, at_from_Contains}
-use Rattle.std.specs.Result.{result_unwrap_or}
 use Rattle.clog_spec.specs.Names.{segment_name_of}
 use Rattle.clog_base.specs.declared.fault.Quantity.TheVariants.{
   FileBytes,
@@ -41,12 +31,7 @@ use Rattle.clog_base.specs.declared.fault.Quantity.TheVariants.{
   Ids,
   TableFiles,
 }
-use Rattle.clog_base.proofs.NameLaws.{one_segment}
-use Rattle.clog_io.specs.Bytes.{TakesAll}
 use Rattle.clog_disk.specs.Files.{Files, Told}
-use Rattle.clog_mutation.specs.declared.mutation.Mutation.{Mutation}
-use Rattle.clog_text.specs.declared.refusal.BadLine.{BadLine as Cause}
-use Rattle.clog_text.specs.FileMutations.{Refused, file_mutations}
 use Rattle.clog_engine.specs.declared.status.Unbuilt.TheVariants.{Segment, Directory}
 use Rattle.clog_engine.specs.declared.status.Status.{Status}
 use Rattle.clog_engine.specs.declared.status.Status.TheVariants.{
@@ -65,30 +50,7 @@ use Rattle.clog_engine.specs.declared.status.Status.TheVariants.{
 }
 use Rattle.clog_engine.specs.declared.words.Request.{Request}
 use Rattle.clog_engine.specs.declared.words.Request.TheVariants.{Apply, Scan}
-use Rattle.clog_engine.specs.Directory.{
-  HasSegment,
-  HasManyTables,
-  HasBadTable,
-  HasGreatId,
-  TableRead,
-  Place,
-  place_of,
-  IsNameOf,
-  IsHeld,
-  AreTables,
-  IsReadFrom,
-  NamesId,
-  HasUpper,
-  HasArchive,
-  IsPlainDirectory,
-}
-use Rattle.clog_base.specs.declared.cell.Table.{Table}
-use Rattle.clog_table.specs.declared.fault.TableFault.{TableFault}
-use Rattle.clog_table.specs.declared.fault.TableFault.TheVariants.{OutOfMemory as no_memory}
-use Rattle.clog_table.specs.declared.table_file.TableFile.{TableFile}
-use Rattle.clog_table.specs.Refusals.{IsFileOf, Refuses}
-use Rattle.clog_table.proofs.Again.{decodes_to_it}
-use Rattle.clog_engine.specs.Apply.{Reads, ApplyRefuses}
+use Rattle.clog_engine.specs.Apply.{ApplyRefuses}
 use Rattle.clog_engine.specs.Completes.{
   Tells,
   IsPlain,
@@ -98,19 +60,9 @@ use Rattle.clog_engine.specs.Completes.{
   EndsWell,
   Completes,
 }
-use Rattle.clog_engine.specs.Input.{
-  HasFittingEntry,
-  IsGood,
-  HasLargeMutation,
-  HasLargeLine,
-  HasManyLines,
-  HasBadLine,
-  HasNoRoom,
-  entries_of,
-}
-use Rattle.clog_engine.specs.Limits.{file_limit, id_limit, scan_limit}
+use Rattle.clog_engine.specs.Input.{IsGood}
 use Rattle.clog_engine.specs.Outside.{Outside, Sinks}
-use Rattle.clog_engine.specs.Request.{Asks, Says, AsksScan}
+use Rattle.clog_engine.specs.Request.{Asks}
 use Rattle.clog_engine.specs.Run.{Answers, Does, Prints, Reports}
 use Rattle.clog_engine.specs.Scanning.{ReadRefused, IsTooLong}
 use Rattle.clog_engine.proofs.WordsAsked.{one_request}

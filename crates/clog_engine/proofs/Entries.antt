@@ -71,7 +71,7 @@ update_least u =
       length-append named stamp,
     )
 
-payload_least_of : (key : List ℕ) (us : List Update) → 1 ≤ length us
+pub payload_least_of : (key : List ℕ) (us : List Update) → 1 ≤ length us
     → 10 ≤ length (short_text key ++ to_be_bytes w16 (length us) ++ flat_map update_bytes us)
 payload_least_of key [] some = absurd (omega arith)
 payload_least_of key (u ∷ us) some =

@@ -23,10 +23,10 @@ use Rattle.std.proofs.Common.{
 use Rattle.std.specs.Prelude.{unwrap_or, IfSome, IsSome, ◌^◌, ◌<◌}
 use Rattle.std.specs.FinMap as finmap
 use Rattle.std.specs.FinMap.{get-insert}
-use Rattle.std.specs.Ordering.{nat_cmp}
 use Rattle.std.specs.Cmp.{eq_by_cmp_equiv}
-use Rattle.std.specs.Cmp.Lexicographic.{slice_cmp, nat_list_cmp_total}
+use Rattle.std.specs.Cmp.Lexicographic.{nat_list_cmp_total}
 use Rattle.clog_spec.specs.Names.{segment_name_of}
+use Rattle.std.specs.Prelude.{◌≢◌}
 use Rattle.clog_io.specs.Causes.{Rose}
 use Rattle.clog_disk.specs.Files.{Files, bytes_at, IsEnd, AppendsTo, MayAppend, IsAbsent}
 use Rattle.clog_disk.specs.Images.{Within, SameImages, Tears}
@@ -34,7 +34,7 @@ use Rattle.clog_disk.specs.declared.disk.DiskFault.{DiskFault as Fault}
 use Rattle.clog_disk.specs.declared.disk.DiskFault.TheVariants.{Failed, NoSuchFile, OutOfMemory}
 use Rattle.clog_engine.specs.Apply.{Gains}
 use Rattle.clog_engine.specs.Directory.{TableRead, IsPlainDirectory}
-use Rattle.clog_engine.specs.Landing.{LandingRefused}
+use Rattle.clog_engine.specs.Landing.{LandingRefused, LeftBehind}
 
 absent : {A : Type 0} (o : Option A) → (IsSome o → ⊥) → o ≡ None
 absent None h = refl
@@ -78,15 +78,6 @@ pub appended_part : (files files_now : Option Files) (name bytes : List ℕ)
 appended_part None files_now name bytes is = is
 appended_part (Some f) files_now name bytes is = inr (bytes, omega arith, is)
 
--- at most so many bytes are at most more
-pub part_of_more : (files files_now : Option Files) (name : List ℕ) (n more : ℕ) → n ≤ more
-    → MayAppend files files_now name n → MayAppend files files_now name more
-part_of_more None files_now name n more few part = part
-part_of_more (Some f) files_now name n more few part = elim part [
-  | inl same ↦ inl same
-  | inr some ↦ inr (some.0, omega (arith, some.1, few), some.2)
-]
-
 is_there : (files : Files) (name bytes : List ℕ)
     → finmap.get (finmap.insert files name bytes) name ≡ Some bytes
 is_there files name bytes =
@@ -115,6 +106,32 @@ sync_refused Failed before mid name bytes f g a absent rose = rose refl
 sync_refused NoSuchFile before mid name bytes f g a absent rose =
     absurd (appended_there before mid name bytes a (absent refl))
 sync_refused OutOfMemory before mid name bytes f g a absent rose = tt
+
+-- what stands where the append is refused
+pub append_behind : (e : Fault) (files now : Option Files) (name bytes : List ℕ)
+    → MayAppend files now name (length bytes) → (e ≢ Failed → now ≡ files)
+    → e ≢ NoSuchFile → LeftBehind files now name bytes e
+append_behind Failed files now name bytes maybe same found = maybe
+append_behind NoSuchFile files now name bytes maybe same found = absurd (found refl)
+append_behind OutOfMemory files now name bytes maybe same found = inl (same (λ e. cc))
+
+pub append_refused : (e : Fault) (f g : ℕ) → (e ≡ Failed → Rose f g) → e ≢ NoSuchFile
+    → LandingRefused f g e
+append_refused Failed f g rose found = rose refl
+append_refused NoSuchFile f g rose found = absurd (found refl)
+append_refused OutOfMemory f g rose found = tt
+
+-- what stands where the sync behind an append is refused
+pub left_behind : (e : Fault) (before mid now : Option Files) (name bytes : List ℕ)
+    → AppendsTo before mid name bytes → now ≡ mid → (e ≡ NoSuchFile → IsAbsent mid name)
+    → LeftBehind before now name bytes e
+left_behind Failed before mid now name bytes a same absent =
+    subst (λ (f : Option Files). MayAppend before f name (length bytes)) (sym same)
+    (appended_part before mid name bytes a)
+left_behind NoSuchFile before mid now name bytes a same absent =
+    absurd (appended_there before mid name bytes a (absent refl))
+left_behind OutOfMemory before mid now name bytes a same absent =
+    inr (subst (λ (f : Option Files). AppendsTo before f name bytes) (sym same) a)
 
 pub rose_on : (f g k : ℕ) → f ≤ g → Rose g k → Rose f k
 rose_on f g k later rose = omega arith

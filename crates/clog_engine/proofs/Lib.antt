@@ -1,3 +1,4 @@
+pub mod Added
 pub mod Applied
 pub mod Begun
 pub mod Complete
@@ -7,10 +8,15 @@ pub mod GoodInput
 pub mod Landed
 pub mod Listed
 pub mod Looked
+pub mod Members
+pub mod MergeMade
 pub mod Merged
 pub mod PlainFolder
+pub mod Restored
 pub mod ScanReports
 pub mod SegmentFiles
+pub mod SegmentHeld
+pub mod StoredBytes
 pub mod TablesRead
 pub mod Told
 pub mod Whole

@@ -5,16 +5,11 @@ use Rattle.std.proofs.Common.{
   ℕ,
   zero,
   suc,
-  ◌+◌,
   ◌<◌,
   ◌≤◌,
-  max,
   List,
   [],
   ◌∷◌,
-  ◌++◌,
-  map,
-  length,
   Bool,
   true,
   false,
@@ -31,14 +26,11 @@ use Rattle.std.proofs.Common.{
   inr,
   arith,
 }
-use Rattle.std.specs.Prelude.{IfSome, IsSome, is_some, IsTrue, ◌↔◌, All}
+use Rattle.std.specs.Prelude.{IfSome, IsSome}
 use Rattle.std.specs.FinMap as finmap
 use Rattle.std.specs.FinMap.{contains_key-keys}
-use Rattle.std.specs.List.{Any, list_any}
+use Rattle.std.specs.List.{Any}
 use Rattle.std.specs.List.Sorted.{IsStrictlySortedBy}
-use Rattle.std.specs.Map.{keys_of}
-use Rattle.std.specs.BTreeMap.{is_at}
-use Rattle.std.specs.Map.{lookup}
 use Rattle.std.specs.Ordering.{nat_cmp, eq_by_cmp}
 use Rattle.std.specs.Cmp.{IsEquivalence, eq_by_cmp_equiv}
 use Rattle.std.specs.Cmp.Lexicographic.{slice_cmp, nat_list_cmp_total}
@@ -50,11 +42,7 @@ use Rattle.std.proofs.lemmas.Map.Views.{
   tells_apart,
 }
 use Rattle.std.proofs.lemmas.Bool.{leb-true, leb-false}
-use Rattle.std.proofs.Math.Nat.{le-max_left, le-max_right}
-use Rattle.clog_spec.specs.Names.{IsArchiveName, IsSegmentName, segment_name_of}
-use Rattle.clog_base.specs.declared.cell.Cell.{Cell}
-use Rattle.clog_base.specs.declared.cell.CellKey.{CellKey}
-use Rattle.clog_disk.specs.Files.{Files, Lists, bytes_at, IsEnd}
+use Rattle.clog_disk.specs.Files.{Files, Lists}
 use Rattle.clog_table.specs.declared.fault.TableFault.{TableFault}
 use Rattle.clog_engine.specs.declared.standing.Standing.{Standing}
 use Rattle.clog_engine.specs.declared.status.Status.{Status}
@@ -63,23 +51,19 @@ use Rattle.clog_engine.specs.declared.status.Status.TheVariants.{
   BadTable,
   OutOfMemory,
 }
-use Rattle.clog_engine.specs.Limits.{sequence_limit, id_limit}
+use Rattle.clog_engine.specs.Limits.{id_limit}
 use Rattle.clog_engine.specs.Directory.{
   Place,
   place_cmp,
-  place_of,
   TableRead,
-  IsNameOf,
   IsHeld,
   IsSegment,
   IsLateTable,
   HoldsName,
-  HasSegment,
   HasArchive,
   HasUpper,
   NamesId,
   IsGreatest,
-  IsBase,
   AreTables,
   IsReadable,
   HasFewTables,
@@ -89,14 +73,7 @@ use Rattle.clog_engine.specs.Directory.{
   HasManyTables,
   HasGreatId,
 }
-use Rattle.clog_engine.specs.Listing.{
-  greater,
-  base_of,
-  is_last,
-  ListsArchive,
-  IsGreatestArchive,
-  ArePlaces,
-}
+use Rattle.clog_engine.specs.Listing.{greater, is_last, ListsArchive, IsGreatestArchive, ArePlaces}
 use Rattle.clog_engine.specs.Looking.{
   AreReadOf,
   HasRead,

@@ -6,15 +6,11 @@ use Rattle.std.proofs.Common.{
   List,
   [],
   ◌∷◌,
-  ◌++◌,
   length,
   map,
-  true,
-  false,
   Option,
   Some,
   None,
-  Result,
   Ok as ok,
   Err as err,
   inl,
@@ -25,46 +21,12 @@ use Rattle.std.proofs.Common.{
   subst,
   ◌∙◌,
   arith,
-  codes,
-  Global,
 }
-use Rattle.std.specs.Prelude.{String, string_bytes, IfSome, is_some, ◌≢◌, ◌≤◌, zero, suc, get_or}
-use Rattle.std.specs.List.{AllByRecursion, Contains, All}
+use Rattle.std.specs.Prelude.{IfSome, is_some, ◌≢◌, ◌≤◌, zero, suc, get_or}
+use Rattle.std.specs.List.{Contains}
 use Rattle.std.specs.FinMap as finmap
 use Rattle.std.proofs.lemmas.List.Elements.{All-contains, at_from_Contains}
-use Rattle.std.specs.Result.{result_unwrap_or}
-use Rattle.clog_spec.specs.Names.{segment_name_of}
-use Rattle.clog_base.specs.declared.fault.Quantity.TheVariants.{
-  FileBytes,
-  Lines,
-  SegmentBytes,
-  Ids,
-  TableFiles,
-}
-use Rattle.clog_base.proofs.NameLaws.{one_segment}
-use Rattle.clog_io.specs.Bytes.{TakesAll}
 use Rattle.clog_disk.specs.Files.{Files, Told}
-use Rattle.clog_mutation.specs.declared.mutation.Mutation.{Mutation}
-use Rattle.clog_text.specs.declared.refusal.BadLine.{BadLine as Cause}
-use Rattle.clog_text.specs.FileMutations.{Refused, file_mutations}
-use Rattle.clog_engine.specs.declared.status.Unbuilt.TheVariants.{Segment, Directory}
-use Rattle.clog_engine.specs.declared.status.Status.{Status}
-use Rattle.clog_engine.specs.declared.status.Status.TheVariants.{
-  Ok,
-  Usage,
-  BadLine,
-  TooLarge,
-  ReadFault,
-  WriteFault,
-  DiskFault,
-  BadTable,
-  OutOfMemory,
-  Limit,
-  Absent,
-  NotBuilt,
-}
-use Rattle.clog_engine.specs.declared.words.Request.{Request}
-use Rattle.clog_engine.specs.declared.words.Request.TheVariants.{Apply, Scan}
 use Rattle.clog_engine.specs.Directory.{
   HasSegment,
   HasManyTables,
@@ -77,10 +39,7 @@ use Rattle.clog_engine.specs.Directory.{
   IsHeld,
   AreTables,
   IsReadFrom,
-  NamesId,
   HasUpper,
-  HasArchive,
-  IsPlainDirectory,
 }
 use Rattle.clog_base.specs.declared.cell.Table.{Table}
 use Rattle.clog_table.specs.declared.fault.TableFault.{TableFault}
@@ -88,31 +47,8 @@ use Rattle.clog_table.specs.declared.fault.TableFault.TheVariants.{OutOfMemory a
 use Rattle.clog_table.specs.declared.table_file.TableFile.{TableFile}
 use Rattle.clog_table.specs.Refusals.{IsFileOf, Refuses}
 use Rattle.clog_table.proofs.Again.{decodes_to_it}
-use Rattle.clog_engine.specs.Apply.{Reads, ApplyRefuses}
-use Rattle.clog_engine.specs.Completes.{
-  Tells,
-  IsPlain,
-  IsScannable,
-  IsFit,
-  IsQuiet,
-  EndsWell,
-  Completes,
-}
-use Rattle.clog_engine.specs.Input.{
-  HasFittingEntry,
-  IsGood,
-  HasLargeMutation,
-  HasLargeLine,
-  HasManyLines,
-  HasBadLine,
-  HasNoRoom,
-  entries_of,
-}
-use Rattle.clog_engine.specs.Limits.{file_limit, id_limit, scan_limit}
-use Rattle.clog_engine.specs.Outside.{Outside, Sinks}
-use Rattle.clog_engine.specs.Request.{Asks, Says, AsksScan}
-use Rattle.clog_engine.specs.Run.{Answers, Does, Prints, Reports}
-use Rattle.clog_engine.specs.Scanning.{ReadRefused, IsTooLong}
+use Rattle.clog_engine.specs.Completes.{IsPlain}
+use Rattle.clog_engine.specs.Limits.{id_limit}
 
 -- what is told of a directory contradicts that it is plain
 pub told_plain : (files : Option Files) (P : Files → Type 0) → Told files IsPlain → IfSome files P
@@ -127,7 +63,7 @@ pub plain_has_few_tables : (files : Files) → IsPlain files → HasManyTables f
 plain_has_few_tables files plain many = plain.1.few.few many.late
 
 -- a good table file is read as one thing
-one_table_file : (table : Table) (bytes : List ℕ) (file file' : TableFile)
+pub one_table_file : (table : Table) (bytes : List ℕ) (file file' : TableFile)
     → IsFileOf table bytes file → IsFileOf table bytes file' → file' ≡ file
 one_table_file table bytes file file' a b =
     elim (decodes_to_it table bytes file a (ok file') b) [
@@ -169,7 +105,7 @@ mapped f xs y there =
     mapped_at f xs at.0 y (omega (arith, at.1, length_mapped f xs)) at.2
 
 -- a table file that is there is one of those that were read
-read_of : (files : Files) (reads : List TableRead) (place : Place) (name bytes : List ℕ)
+pub read_of : (files : Files) (reads : List TableRead) (place : Place) (name bytes : List ℕ)
     → AreTables files reads → IsNameOf place name → finmap.get files name ≡ Some bytes
     → (read : TableRead) × Contains reads read × (place_of read ≡ place)
     × IsFileOf place.0 bytes read.file

@@ -29,11 +29,9 @@ use Rattle.std.proofs.Common.{
   inl,
   inr,
   arith,
-  append_assoc,
 }
-use Rattle.std.specs.Prelude.{IfSome, All, IsSome, ◌≢◌}
-use Rattle.std.specs.FinMap as finmap
-use Rattle.std.specs.List.{flat_map, AllByRecursion}
+use Rattle.std.specs.Prelude.{IfSome, ◌≢◌}
+use Rattle.std.specs.List.{AllByRecursion}
 use Rattle.std.specs.List.Sorted.{IsStrictlySortedBy}
 use Rattle.std.specs.Map.{keys_of}
 use Rattle.std.specs.Ordering.{is_eq}

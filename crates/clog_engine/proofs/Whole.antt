@@ -2,7 +2,6 @@
 use Rattle.std.proofs.Common.{
   ◌≡◌,
   ℕ,
-  ◌+◌,
   ◌<◌,
   ◌≤◌,
   List,
@@ -24,12 +23,11 @@ use Rattle.std.proofs.Common.{
   append_assoc,
   length-append,
 }
-use Rattle.std.specs.Prelude.{IfSome}
 use Rattle.std.specs.FinMap as finmap
 use Rattle.std.proofs.lemmas.List.{append-nil, take-append-drop, length-take}
 use Rattle.std.proofs.Math.Seq.{drop-append_seam}
 use Rattle.clog_disk.specs.Files.{Files, IsLength, Reads}
-use Rattle.clog_disk.specs.Images.{SameImages, Unchanged}
+use Rattle.clog_disk.specs.Images.{Unchanged}
 use Rattle.clog_engine.specs.Looking.{Keeps, IsFront, HasFront, IsWhole}
 
 -- ---- the disk

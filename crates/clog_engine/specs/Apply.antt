@@ -5,6 +5,7 @@ use Rattle.std.specs.Prelude.{
   ℕ,
   ◌+◌,
   ◌<◌,
+  ◌^◌,
   List,
   [],
   ◌∷◌,
@@ -18,6 +19,7 @@ use Rattle.std.specs.Prelude.{
   Result,
 }
 use Rattle.std.specs.declared.result.Result.TheVariants as result
+use Rattle.std.specs.List.{AllByRecursion}
 use Rattle.std.specs.FinMap as map
 use Rattle.clog_spec.specs.Names.{segment_name_of}
 use Rattle.clog_spec.specs.Segment.{header_bytes, marker_bytes}
@@ -27,6 +29,7 @@ use Rattle.clog_io.specs.Causes.{Rose}
 use Rattle.clog_disk.specs.Files.{Files, MayAppend}
 use Rattle.clog_disk.specs.Images.{Lasts, Tears}
 use Rattle.clog_mutation.specs.declared.mutation.Mutation.{Mutation}
+use Rattle.clog_mutation.specs.Stored.{IsStored}
 use Rattle.clog_text.specs.FileLines.{line_limit}
 use Rattle.clog_engine.specs.declared.status.Unbuilt.TheVariants.{Segment, Directory}
 use Rattle.clog_engine.specs.declared.status.Status.{Status}
@@ -40,7 +43,7 @@ use Rattle.clog_engine.specs.declared.status.Status.TheVariants.{
   Limit,
   NotBuilt,
 }
-use Rattle.clog_engine.specs.Limits.{file_limit, capacity, sequence_limit, id_limit}
+use Rattle.clog_engine.specs.Limits.{file_limit, sequence_limit, id_limit}
 use Rattle.clog_engine.specs.Input.{
   IsAccepted,
   HasManyLines,
@@ -101,28 +104,44 @@ pub record IsBegun (o : Outside) (reads : List TableRead) (id : ℕ) : Type 0 wh
   pub told : o.tells now
   pub base : IfSome o.files (λ files. IsBase (NamesId files reads) now id)
 
--- The file's mutations stand in a new segment, and the report tells them.
+-- The file's mutations each have a payload and stand in a new segment, and the report tells them.
 pub record IsApplied (o : Outside) (dump : Bool) (report bytes : List ℕ) : Type 0 where
   pub mutations : List Mutation
   pub accepted : IsAccepted bytes mutations
+  pub stored : AllByRecursion IsStored mutations
   pub reads : List TableRead
   pub id : ℕ
   pub begun : IsBegun o reads id
+  pub fits : id < 2 ^ 63
   pub landed : Lands o id mutations
   pub reported : IsReport dump (cells_of_tables reads) mutations report
 
--- All was good. Nothing has changed but the new segment: some bytes may be there, and a crash
--- leaves at each other name no more than before.
-pub record IsPartly (o : Outside) : Type 0 where
-  pub good : Reads o IsGood
+-- All was good, and there are mutations. Nothing has changed but the new segment, of whose name and
+-- bytes the part speaks that may be there; a crash leaves at each other name no more than before.
+pub record IsPartly (o : Outside) (Part : List ℕ → List ℕ → Type 0) : Type 0 where
+  pub bytes : List ℕ
+  pub taken : TakesAll o.left o.left_now bytes
+  pub mutations : List Mutation
+  pub accepted : IsAccepted bytes mutations
+  pub some : 0 < length mutations
   pub reads : List TableRead
   pub id : ℕ
   pub begun : IsBegun o reads id
-  pub part : MayAppend o.files o.files_now (segment_name_of 6 id) capacity
-  pub images : Tears o.files o.leaves o.leaves_now (segment_name_of 6 id) capacity
+  pub part : Part (segment_name_of 6 id) (segment_of id mutations)
+  pub images : Tears o.files o.leaves o.leaves_now (segment_name_of 6 id)
+      (length (segment_of id mutations))
 
-abbrev pub LeavesPart : Outside → Type 0
-LeavesPart o = IsUntouched o ⊎ IsPartly o
+-- any bytes are there, at most as many
+abbrev pub BrokeOff : Outside → List ℕ → List ℕ → Type 0
+BrokeOff o name bytes = MayAppend o.files o.files_now name (length bytes)
+
+-- no file has changed, or just these bytes are there
+abbrev pub NothingOrAll : Outside → List ℕ → List ℕ → Type 0
+NothingOrAll o name bytes = (o.files_now ≡ o.files) ⊎ Gains o.files o.files_now name bytes
+
+-- the disk is as it was, or has such a part of the new segment
+abbrev pub LeavesPart : Outside → (List ℕ → List ℕ → Type 0) → Type 0
+LeavesPart o Part = IsUntouched o ⊎ IsPartly o Part
 
 -- Why nothing is reported, and what is left of the disk: each row with all that comes before it.
 abbrev pub ApplyRefuses : Status → Outside → Type 0
@@ -132,10 +151,10 @@ ApplyRefuses (TooLarge number size most) o =
     Reads o (λ bytes. HasLargeLine bytes number size most) × IsUntouched o
 ApplyRefuses ReadFault o = Rose o.source_faults o.source_faults_now × IsUntouched o
 ApplyRefuses DiskFault o =
-    Reads o IsGood × Rose o.disk_faults o.disk_faults_now × LeavesPart o
+    Reads o IsGood × Rose o.disk_faults o.disk_faults_now × LeavesPart o (BrokeOff o)
 ApplyRefuses (BadTable name fault) o =
     Reads o IsGood × IfSome o.files (λ files. HasBadTable files name fault) × IsUntouched o
-ApplyRefuses OutOfMemory o = LeavesPart o
+ApplyRefuses OutOfMemory o = LeavesPart o (NothingOrAll o)
 ApplyRefuses (Limit FileBytes most) o =
     (most ≡ file_limit) × IfSome o.left (λ bytes. file_limit < length bytes) × IsUntouched o
 ApplyRefuses (Limit Lines most) o = (most ≡ line_limit) × Reads o HasManyLines × IsUntouched o

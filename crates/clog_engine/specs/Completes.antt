@@ -1,4 +1,4 @@
--- When a run ends well, or for want of memory alone.
+-- When a run ends well, or for want of memory alone, and what a folder restores to then.
 use Rattle.std.specs.Prelude.{
   ◌≡◌,
   ◌≤◌,
@@ -7,26 +7,33 @@ use Rattle.std.specs.Prelude.{
   List,
   length,
   map,
+  Bool,
   Option,
   Some,
   None,
   String,
   string_bytes,
+  IfSome,
 }
 use Rattle.std.specs.declared.alloc.Global.{Global}
+use Rattle.std.specs.declared.result.Result.TheVariants as result
 use Rattle.std.specs.FinMap as finmap
 use Rattle.clog_spec.specs.Names.{segment_name_of}
 use Rattle.clog_io.specs.Causes.{Rose}
 use Rattle.clog_disk.specs.Files.{Files, Told}
+use Rattle.clog_mutation.specs.declared.mutation.Mutation.{Mutation}
+use Rattle.clog_text.specs.FileMutations.{file_mutations}
 use Rattle.clog_engine.specs.declared.status.Status.{Status}
 use Rattle.clog_engine.specs.declared.status.Status.TheVariants.{Ok, OutOfMemory}
 use Rattle.clog_engine.specs.declared.words.Request.{Request}
 use Rattle.clog_engine.specs.declared.words.Request.TheVariants.{Apply, Scan}
+use Rattle.clog_engine.specs.Apply.{Reads}
 use Rattle.clog_engine.specs.Directory.{TableRead, IsPlainDirectory}
 use Rattle.clog_engine.specs.Input.{IsGood}
 use Rattle.clog_engine.specs.Limits.{scan_limit}
 use Rattle.clog_engine.specs.Outside.{Outside, Sinks}
 use Rattle.clog_engine.specs.Request.{Says}
+use Rattle.clog_engine.specs.Restore.{IsAdded}
 use Rattle.clog_engine.specs.Run.{Answers}
 
 -- The source tells its bytes, and they are such.
@@ -65,8 +72,22 @@ Completes words o s status =
     (request : Request) → Says (map string_bytes words) request → IsFit request o → IsQuiet o s
     → EndsWell status
 
--- All that is promised of a run: what it answers, and that it completes.
+-- The bytes say these mutations, and where the disk tells its files, they are added to what the
+-- files restore to.
+pub record AddsFile (o : Outside) (bytes : List ℕ) : Type 0 where
+  pub mutations : List Mutation
+  pub said : file_mutations bytes ≡ result.Ok mutations
+  pub added : IfSome o.files (λ before. Told o.files_now (λ after. IsAdded before after mutations))
+
+-- `apply` that ends well adds what the source gives.
+abbrev pub Adds : List (String Global) → Outside → Status → Type 0
+Adds words o status =
+    (dump : Bool) → Says (map string_bytes words) (Apply dump) → status ≡ Ok
+    → Reads o (AddsFile o)
+
+-- All that is promised of a run: what it answers, that it completes, and what it adds.
 pub record Runs (words : List (String Global)) (o : Outside) (s : Sinks) (status : Status)
     : Type 0 where
   pub answers : Answers words o s status
   pub completes : Completes words o s status
+  pub adds : Adds words o status

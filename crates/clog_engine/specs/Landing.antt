@@ -1,5 +1,5 @@
 -- What the steps on the disk answer: for private clauses.
-use Rattle.std.specs.Prelude.{ℕ, List, length, Option, ⊤, Result}
+use Rattle.std.specs.Prelude.{◌⊎◌, ◌≡◌, ℕ, List, length, Option, ⊤, Result}
 use Rattle.std.specs.declared.result.Result.TheVariants as result
 use Rattle.clog_io.specs.Causes.{Rose}
 use Rattle.clog_disk.specs.Files.{Files, AppendsTo, MayAppend}
@@ -24,6 +24,15 @@ LandingRefused faults now fault.Failed = Rose faults now
 LandingRefused faults now fault.NoSuchFile = ⊥
 LandingRefused faults now fault.OutOfMemory = ⊤
 
+-- What stands of the bytes where the file did not come to last: after a fault any bytes, as many at
+-- most; after want of memory none of them, or all.
+abbrev pub LeftBehind : Option Files → Option Files → List ℕ → List ℕ → DiskFault → Type 0
+LeftBehind files files_now name bytes fault.Failed =
+    MayAppend files files_now name (length bytes)
+LeftBehind files files_now name bytes fault.NoSuchFile = ⊥
+LeftBehind files files_now name bytes fault.OutOfMemory =
+    (files_now ≡ files) ⊎ AppendsTo files files_now name bytes
+
 -- The file is there, lasting; or why not, and then some of its bytes may be there. A crash leaves
 -- at each other name no more than before.
 abbrev pub LandsFile : {T : Type 0} → Option Files → Option Files
@@ -33,5 +42,5 @@ LandsFile files files_now leaves leaves_now faults now name bytes (result.Ok x) 
     AppendsTo files files_now name bytes × Lasts files_now leaves_now name
     × Tears files leaves leaves_now name (length bytes)
 LandsFile files files_now leaves leaves_now faults now name bytes (result.Err refusal) =
-    LandingRefused faults now refusal × MayAppend files files_now name (length bytes)
+    LandingRefused faults now refusal × LeftBehind files files_now name bytes refusal
     × Tears files leaves leaves_now name (length bytes)

@@ -11,6 +11,7 @@ pub mod Outside
 pub mod Reading
 pub mod Report
 pub mod Request
+pub mod Restore
 pub mod Run
 pub mod ScanReport
 pub mod Scanning

@@ -1,18 +1,5 @@
 -- What the names of a listing say: for private clauses.
-use Rattle.std.specs.Prelude.{
-  ◌≡◌,
-  ℕ,
-  ◌+◌,
-  max,
-  List,
-  Bool,
-  false,
-  nat_le,
-  Option,
-  Some,
-  None,
-  Contains,
-}
+use Rattle.std.specs.Prelude.{ℕ, ◌+◌, max, List, Bool, false, nat_le, Option, Some, None, Contains}
 use Rattle.std.specs.List.Sorted.{IsStrictlySortedBy}
 use Rattle.std.specs.Map.{keys_of}
 use Rattle.clog_spec.specs.Names.{IsArchiveName}

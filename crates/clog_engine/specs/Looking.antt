@@ -16,7 +16,6 @@ use Rattle.std.specs.Prelude.{
   false,
   Option,
   Some,
-  None,
   IfSome,
   ⊤,
   All,

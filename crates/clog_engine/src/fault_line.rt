@@ -194,6 +194,7 @@ impl FaultLine {
         FaultLine { row, len }
     }
 
+    /// Its bytes.
     pub fn as_bytes(&self) -> &[u8]
         ensures { result.now ≡ self.now }
     {

@@ -24,7 +24,9 @@ pub(crate) fn land<D: Disk>(disk: &mut D, name: &Name, bytes: &[u8]) -> Result<(
         (D.leaves disk.new) (D.faults disk.old) (D.faults disk.new) name.now bytes.now result }
     ensures later { D.faults disk.old ≤ D.faults disk.new }
 {
-    disk.append_at(name, 0, bytes)?;
+    if let Err(fault) = disk.append_at(name, 0, bytes) {
+        return Err(fault);
+    }
     match disk.sync(name) {
         Ok(()) => Ok(()),
         Err(fault) => Err(fault),

@@ -9,6 +9,7 @@ mod directory;
 mod fault_line;
 mod input;
 mod landing;
+mod laws;
 mod report;
 mod running;
 mod scan_report;
@@ -23,6 +24,7 @@ mod tests;
 mod words;
 
 pub use fault_line::FaultLine;
+pub use laws::{folders_restore_to_one_list, segments_hold_their_mutations};
 pub use running::run;
 pub use status::{Status, Unbuilt};
 pub use words::{Request, request_of};

@@ -1,4 +1,5 @@
-//! The command `scan`: one segment's file is read whole, and its report tells what it holds.
+//! The command `scan`: one segment's file is read whole, and its report tells what it holds
+//! (Cassandra's `CommitLogReader`, which also decodes the payloads).
 ghost use Rattle.std.specs.Prelude.{◌≤◌};
 ghost use Rattle.clog_spec.specs.Names.{segment_name_of};
 ghost use Rattle.clog_disk.specs.Files.{IsThere};

@@ -1,7 +1,8 @@
-//! The bytes of one segment with one section.
+//! The bytes of one segment with one section (Cassandra's `CommitLogSegment`).
 ghost use Rattle.std.specs.Prelude.{◌≡◌, ◌+◌, ◌<◌, ◌++◌, length, IfOk, OnOk};
 ghost use Rattle.std.specs.List.{AllByRecursion};
 ghost use Rattle.clog_mutation.specs.Limits.{IsWithinLimits};
+ghost use Rattle.clog_mutation.specs.Stored.{IsStored};
 ghost use Rattle.clog_engine.specs.Apply.{front_of, segment_of};
 ghost use Rattle.clog_engine.specs.Input.{HasFittingEntry, entry_of, entries_of};
 ghost use Rattle.clog_engine.specs.Reading.{HasSize};
@@ -26,7 +27,8 @@ fn put_front(out: &mut Vec<u8>, id: u64, end: u32) -> Result<(), AllocError>
 fn put_entry_of(alloc: Global, out: &mut Vec<u8>, mutation: &Mutation) -> Result<(), OutOfMemory>
     requires within { IsWithinLimits mutation.now }
     requires fitting { HasFittingEntry mutation.now }
-    ensures { OnOk result (out.new.items ≡ out.old.items ++ entry_of mutation.now) }
+    ensures bytes { OnOk result (out.new.items ≡ out.old.items ++ entry_of mutation.now) }
+    ensures stored { OnOk result (IsStored mutation.now) }
 {
     let payload = encode(alloc, mutation)?;
     put_entry(out, &payload)
@@ -35,7 +37,8 @@ fn put_entry_of(alloc: Global, out: &mut Vec<u8>, mutation: &Mutation) -> Result
 fn put_entries(alloc: Global, out: &mut Vec<u8>, mutations: &[Mutation]) -> Result<(), OutOfMemory>
     requires within { AllByRecursion IsWithinLimits mutations.now }
     requires fitting { AllByRecursion HasFittingEntry mutations.now }
-    ensures { OnOk result (out.new.items ≡ out.old.items ++ entries_of mutations.now) }
+    ensures bytes { OnOk result (out.new.items ≡ out.old.items ++ entries_of mutations.now) }
+    ensures stored { OnOk result (AllByRecursion IsStored mutations.now) }
 {
     for mutation in mutations {
         put_entry_of(alloc, out, mutation)?;
@@ -53,7 +56,8 @@ pub(crate) fn segment(
 ) -> Result<Vec<u8>, OutOfMemory>
     requires within { AllByRecursion IsWithinLimits mutations.now }
     requires sized { HasSize mutations.now size }
-    ensures { IfOk result (λ bytes. bytes.items ≡ segment_of id mutations.now) }
+    ensures bytes { IfOk result (λ bytes. bytes.items ≡ segment_of id mutations.now) }
+    ensures stored { IfOk result (λ bytes. AllByRecursion IsStored mutations.now) }
 {
     let end = 28 + size;
     let mut bytes = Vec::with_capacity(alloc, end as usize)?;

@@ -14,8 +14,9 @@ pub enum Unbuilt {
     Directory,
 }
 
-/// How a run ends. Each refusal leaves the disk as it was, but `DiskFault` and `OutOfMemory`, after
-/// which the new segment may be there in part, and `WriteFault`, which comes when all is done.
+/// How a run ends. Each refusal leaves the disk as it was, but `DiskFault`, after which as many
+/// bytes as the new segment has, or fewer, may stand under its name, `OutOfMemory`, after which the
+/// whole segment may be there, and `WriteFault`, which comes when all is done.
 #[derive(Clone, Copy, Debug, PartialEq, Eq)]
 pub enum Status {
     /// The report was written whole.

@@ -35,6 +35,7 @@ fn read_whole<D: Disk>(alloc: Global, disk: &mut D, name: &Name) -> Result<Vec<u
     let mut bytes = Vec::new(alloc);
     while (bytes.len() as u64) < len {
         let piece = disk.read(name, bytes.len() as u64, PIECE)?;
+        // A disk that does not tell its files may have fewer bytes than it said.
         if piece.is_empty() {
             break;
         }

@@ -67,6 +67,15 @@ fn bytes_of<'a>(disk: &'a MemDisk, name: &[u8]) -> &'a [u8] {
     }
 }
 
+// Whether these files stand there as they were put, and no other.
+fn stands(disk: &mut MemDisk, held: &[Held]) -> Result<bool, Fail> {
+    let mut same = disk.list()?.as_slice().len() == held.len();
+    for (name, bytes) in held {
+        same &= bytes_of(disk, name) == *bytes;
+    }
+    Ok(same)
+}
+
 #[test]
 fn cells_of_table_files_are_dumped_with_those_of_lines(rt: HostRuntime) -> Result<(), Fail> {
     let mut report = b"applied 1\n".to_vec(rt.alloc())?;
@@ -101,6 +110,7 @@ fn files_of_no_table_are_left_alone(rt: HostRuntime) -> Result<(), Fail> {
     let held: [Held; 3] = [(FIRST, &LIVE), (ARCHIVE, b"not read"), (NOTES, b"notes")];
     let played = played_over(&rt, rt.alloc(), &given(&["apply"], LINE), &held)?;
     assert_eq!(rt; played.status, Status::Ok);
+    assert_eq!(rt; bytes_of(&played.disk, FIRST), LIVE.as_slice());
     assert_eq!(rt; bytes_of(&played.disk, ARCHIVE), b"not read".as_slice());
     assert_eq!(rt; bytes_of(&played.disk, NOTES), b"notes".as_slice());
     assert_eq!(rt; bytes_of(&played.disk, b"CommitLog-6-2001.log").len(), 60);
@@ -174,7 +184,7 @@ fn a_directory_that_is_not_good_is_refused(rt: HostRuntime) -> Result<(), Fail> 
         let mut played = played_over(&rt, rt.alloc(), &setup, held)?;
         assert_eq!(rt; played.status.number(), number);
         assert_eq!(rt; played.printed.as_slice(), told);
-        assert_eq!(rt; played.disk.list()?.as_slice().len(), held.len());
+        assert!(rt; stands(&mut played.disk, held)?);
     }
     Ok(())
 }
@@ -200,7 +210,7 @@ fn a_directory_that_cannot_be_read_is_a_disk_fault(rt: HostRuntime) -> Result<()
         };
         let mut played = played_over(&rt, rt.alloc(), &setup, &[(FIRST, &LIVE)])?;
         assert_eq!(rt; played.status, Status::DiskFault);
-        assert_eq!(rt; played.disk.list()?.as_slice().len(), 1);
+        assert!(rt; stands(&mut played.disk, &[(FIRST, &LIVE)])?);
     }
     Ok(())
 }

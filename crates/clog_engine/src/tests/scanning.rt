@@ -1,6 +1,6 @@
 //! The command `scan` over segments that stand on the disk, and the words that ask for it.
 use super::files::put_file;
-use super::{FILE, Outcome, given, play};
+use super::{FILE, LINE, Outcome, TWO_TABLES, given, play};
 use crate::Status;
 use clog_base::{Quantity, segment_name};
 use clog_disk::{Disk, MemDisk};
@@ -58,6 +58,23 @@ fn a_segment_is_told_with_its_entries_and_its_end(rt: HostRuntime) -> Result<(),
         assert_eq!(rt; scanned.status, Status::Ok);
         assert_eq!(rt; scanned.printed.as_slice(), told.as_bytes());
     }
+    Ok(())
+}
+
+#[test]
+fn what_apply_wrote_is_scanned(rt: HostRuntime) -> Result<(), Fail> {
+    let mut lines = LINE.to_vec(rt.alloc())?;
+    lines.extend_from_slice(TWO_TABLES)?;
+    let disk = MemDisk::new(rt.alloc());
+    let applied = play(&rt, rt.alloc(), &given(&["apply"], &lines), disk)?;
+    assert_eq!(rt; applied.status, Status::Ok);
+    let words = ["scan", "CommitLog-6-1000.log"];
+    let scanned = play(&rt, rt.alloc(), &given(&words, b""), applied.disk)?;
+    assert_eq!(rt; scanned.status, Status::Ok);
+    assert_eq!(rt;
+        scanned.printed.as_slice(),
+        b"segment 1000\nentry 28 60 20\nentry 60 108 36\nend clean 108\n".as_slice()
+    );
     Ok(())
 }
 

@@ -1,37 +1,24 @@
-use Rattle.std.proofs.Common.{
-  ◌≡◌,
-  List,
-  ℕ,
-  Option,
-  None,
-  Ok,
-  ap,
-  sym,
-  subst,
-  ◌∙◌,
-  arith,
-  length,
-  ◌<◌,
-  ◌≤◌,
-}
-use Rattle.std.specs.Prelude.{IfSome}
-use Rattle.clog_disk.specs.Files.{Files, IsEnd, AppendsTo, MayAppend}
+use Rattle.std.proofs.Common.{◌≡◌, List, ℕ, Option, Ok, ap, sym, subst, ◌∙◌, arith, length, ◌<◌}
+use Rattle.std.specs.List.{AllByRecursion}
+use Rattle.clog_disk.specs.Files.{Files, IsEnd, AppendsTo}
 use Rattle.clog_disk.specs.Images.{Lasts}
 use Rattle.clog_spec.specs.Names.{segment_name_of}
 use Rattle.clog_engine.specs.Apply.{Gains, segment_of}
 use Rattle.clog_engine.specs.Directory.{cells_of_tables}
-use Rattle.clog_engine.specs.Limits.{capacity}
 use Rattle.clog_mutation.specs.declared.mutation.Mutation.{Mutation}
+use Rattle.clog_mutation.specs.Stored.{IsStored}
 use Rattle.clog_engine.specs.Reading.{GivesMutations, HasSize}
+use Rattle.clog_engine.specs.Landing.{LeftBehind}
 use Rattle.clog_engine.proofs.Applied.{
   accepted,
   lands_none,
   lands_some,
   landing_refuses,
-  segment_size,
+  PartBy,
+  left_part,
 }
-use Rattle.clog_engine.proofs.Begun.{begun, name_is_free, report_over}
-use Rattle.clog_engine.proofs.Landed.{free_end, gained, part_of_more, refused_on, torn_from}
+use Rattle.clog_engine.proofs.Begun.{begun, fits_name, name_is_free, report_over}
+use Rattle.clog_engine.proofs.Landed.{free_end, gained, refused_on, torn_from}
 use Rattle.clog_engine.proofs.applying.apply.Goals as goal
 
 pub returns-then-lines-eq0 : goal.returns-then-lines-eq0
@@ -54,10 +41,14 @@ returns-then-lines-eq0 g c =
             c.in_ok-mutations.ensures.mutations)
             (subst (λ (ms : List Mutation). HasSize ms c.in_ok-size.size) c.as_slice.ensures
             c.in_ok-size.ensures);
+        stored = subst (λ (ms : List Mutation). AllByRecursion IsStored ms) c.as_slice-2.ensures
+            c.in_ok-segment.ensures.stored;
         reads = s.reads;
         id = c.base-id.result;
         begun = begun _ c.args.dump standing c.now_ms.result c.base-id.result s
             c.now_ms.ensures.told c.base-id.ensures;
+        fits = fits_name standing c.base-id.result c.now_ms.result s.low c.now_ms.ensures.bound
+            c.base-id.ensures;
         landed = lands_none _ c.base-id.result mutations none (record {
           files = keeps.same;
           images = keeps.images;
@@ -93,7 +84,7 @@ returns-in-Ok g c =
     omega (arith, same, c.if-lines-eq0.false) in
     let name = c.segment_name.ensures in
     let bytes : c.deref-2.result.now ≡ segment_of id mutations =
-    c.deref-2.ensures.value ∙ c.in_ok-segment.ensures
+    c.deref-2.ensures.value ∙ c.in_ok-segment.ensures.bytes
     ∙ ap (segment_of id) c.as_slice-2.ensures in
     let landed : AppendsTo before after c.segment_name.result c.deref-2.result.now =
     subst (λ (f : Option Files). AppendsTo f after c.segment_name.result c.deref-2.result.now)
@@ -109,9 +100,13 @@ returns-in-Ok g c =
             c.in_ok-mutations.ensures.mutations)
             (subst (λ (ms : List Mutation). HasSize ms c.in_ok-size.size) c.as_slice.ensures
             c.in_ok-size.ensures);
+        stored = subst (λ (ms : List Mutation). AllByRecursion IsStored ms) c.as_slice-2.ensures
+            c.in_ok-segment.ensures.stored;
         reads = s.reads;
         id = id;
         begun = begun _ c.args.dump standing c.now_ms.result id s c.now_ms.ensures.told
+            c.base-id.ensures;
+        fits = fits_name standing id c.now_ms.result s.low c.now_ms.ensures.bound
             c.base-id.ensures;
         landed = lands_some _ id mutations lines (record {
           gained = subst (λ (n : List ℕ). Gains before after n (segment_of id mutations)) name
@@ -135,26 +130,31 @@ pub returns : goal.returns
 returns g c =
     let before = g.D.Disk.files c.args.disk.now in
     let after = g.D.Disk.files c.land.new.disk in
+    let fault = c.in-Err.fault in
     let mutations = c.in_ok-mutations.mutations in
     let standing = c.in_ok-standing.standing in
     let s = c.in_ok-standing.ensures.looks in
     let keeps = c.in_ok-standing.ensures.keeps in
     let id = c.base-id.result in
-    let sized = subst (λ (ms : List Mutation). HasSize ms c.in_ok-size.size) c.as_slice.ensures
-    c.in_ok-size.ensures in
+    let free = name_is_free before c.args.dump standing c.now_ms.result id c.segment_name.result s
+    c.now_ms.ensures.bound c.base-id.ensures c.segment_name.ensures in
+    let name = c.segment_name.ensures in
     let bytes : c.deref-2.result.now ≡ segment_of id mutations =
-    c.deref-2.ensures.value ∙ c.in_ok-segment.ensures
+    c.deref-2.ensures.value ∙ c.in_ok-segment.ensures.bytes
     ∙ ap (segment_of id) c.as_slice-2.ensures in
-    let few : length c.deref-2.result.now ≤ capacity =
-    let size = ap length bytes in
-    omega (arith, size, segment_size id c.in_ok-size.size mutations sized) in
     let is_accepted = accepted (g.S.Source.left c.args.source.now)
     (g.S.Source.left c.bytes_of.new.source) c.in_ok-bytes.bytes.items mutations
     c.in_ok-size.size c.in_ok-bytes.ensures
     (subst (λ (l : List ℕ). GivesMutations l (Ok mutations)) c.deref.ensures.value
-    c.in_ok-mutations.ensures.mutations) sized in
+    c.in_ok-mutations.ensures.mutations)
+    (subst (λ (ms : List Mutation). HasSize ms c.in_ok-size.size) c.as_slice.ensures
+    c.in_ok-size.ensures) in
     let taken = c.in_ok-bytes.ensures.taken in
-    landing_refuses c.in-Err.fault c.status_of.result _ c.status_of.ensures (
+    let left : LeftBehind before after c.segment_name.result c.deref-2.result.now fault =
+    subst (λ (f : Option Files).
+    LeftBehind f after c.segment_name.result c.deref-2.result.now fault) keeps.same
+    c.in-Err.ensures.lands.1 in
+    landing_refuses fault c.status_of.result _ c.status_of.ensures (
       c.in_ok-bytes.bytes.items,
       taken,
       record {
@@ -163,29 +163,25 @@ returns g c =
       },
     )
     (refused_on (g.D.Disk.faults c.args.disk.now) (g.D.Disk.faults c.look.new.disk)
-    (g.D.Disk.faults c.land.new.disk) c.in-Err.fault keeps.later c.in-Err.ensures.lands.0)
+    (g.D.Disk.faults c.land.new.disk) fault keeps.later c.in-Err.ensures.lands.0)
     (record {
-      good = (
-        c.in_ok-bytes.bytes.items,
-        taken,
-        record {
-          mutations = mutations;
-          accepted = is_accepted;
-        },
-      );
+      bytes = c.in_ok-bytes.bytes.items;
+      taken = taken;
+      mutations = mutations;
+      accepted = is_accepted;
+      some = let same = ap length c.as_slice-lines.ensures in
+          omega (arith, same, c.if-lines-eq0.false);
       reads = s.reads;
       id = id;
       begun = begun _ c.args.dump standing c.now_ms.result id s c.now_ms.ensures.told
           c.base-id.ensures;
-      part = part_of_more before after (segment_name_of 6 id) (length c.deref-2.result.now)
-          capacity few
-          (subst (λ (n : List ℕ). MayAppend before after n (length c.deref-2.result.now))
-          c.segment_name.ensures
-          (subst (λ (f : Option Files). MayAppend f after c.segment_name.result
-          (length c.deref-2.result.now)) keeps.same c.in-Err.ensures.lands.1));
+      part = subst (λ (n : List ℕ). PartBy fault before after n (segment_of id mutations)) name
+          (subst (λ (b : List ℕ). PartBy fault before after c.segment_name.result b) bytes
+          (left_part fault before after c.segment_name.result c.deref-2.result.now free left));
       images = torn_from before (g.D.Disk.files c.look.new.disk)
           (g.D.Disk.leaves c.args.disk.now) (g.D.Disk.leaves c.look.new.disk)
           (g.D.Disk.leaves c.land.new.disk) (segment_name_of 6 id) c.segment_name.result
-          (length c.deref-2.result.now) capacity keeps.same keeps.images c.segment_name.ensures few
+          (length c.deref-2.result.now) (length (segment_of id mutations)) keeps.same
+          keeps.images name (let size = ap length bytes in omega (arith, size))
           c.in-Err.ensures.lands.2;
     })

@@ -1,9 +1,8 @@
-use Rattle.std.proofs.Common.{◌≡◌, List, ℕ, Option, Contains, true, false, refl, sym, subst, ◌∙◌}
+use Rattle.std.proofs.Common.{Option, refl, sym, subst, ◌∙◌}
 use Rattle.std.specs.Prelude.{IfSome}
-use Rattle.std.specs.List.{Any}
 use Rattle.std.proofs.lemmas.Bool.{true≢false}
 use Rattle.clog_disk.specs.Files.{Files, Lists}
-use Rattle.clog_engine.specs.Directory.{IsSegment, IsLateTable, IsHeld}
+use Rattle.clog_engine.specs.Directory.{IsSegment, IsHeld}
 use Rattle.clog_engine.specs.Listing.{ArePlaces}
 use Rattle.clog_engine.proofs.Looked.{
   told_holds,
