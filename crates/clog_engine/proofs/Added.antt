@@ -8,9 +8,15 @@ use Rattle.std.proofs.Common.{
   List,
   [],
   ◌∷◌,
+  ◌++◌,
   length,
   map,
   Bool,
+  true,
+  false,
+  inl,
+  inr,
+  ap,
   Option,
   Some,
   None,
@@ -23,13 +29,15 @@ use Rattle.std.proofs.Common.{
   Global,
 }
 use Rattle.std.specs.Prelude.{String, string_bytes, IfSome}
-use Rattle.std.specs.List.{AllByRecursion}
+use Rattle.std.specs.List.{flat_map, AllByRecursion}
 use Rattle.clog_spec.specs.Names.{segment_name_of}
 use Rattle.clog_disk.specs.Files.{Files, Told}
+use Rattle.clog_base.specs.declared.cell.Cell.{Cell}
+use Rattle.clog_base.specs.declared.cell.CellKey.{CellKey}
+use Rattle.clog_text.specs.CellTexts.{row_line}
 use Rattle.clog_mutation.specs.declared.mutation.Mutation.{Mutation}
 use Rattle.clog_mutation.specs.Stored.{IsStored}
 use Rattle.clog_engine.specs.declared.status.Status.{Status}
-use Rattle.clog_engine.specs.declared.status.Status.TheVariants.{Ok}
 use Rattle.clog_engine.specs.declared.words.Request.{Request}
 use Rattle.clog_engine.specs.declared.words.Request.TheVariants.{Apply}
 use Rattle.clog_engine.specs.Apply.{
@@ -41,36 +49,77 @@ use Rattle.clog_engine.specs.Apply.{
   IsApplied,
   ApplyRefuses,
 }
-use Rattle.clog_engine.specs.Completes.{AddsFile, Adds}
-use Rattle.clog_engine.specs.Directory.{TableRead, NamesId, IsBase, IsPlainDirectory}
+use Rattle.clog_engine.specs.Completes.{
+  report_of,
+  IsAddedAndTold,
+  AddsFile,
+  IsReported,
+  Adds,
+}
+use Rattle.clog_engine.specs.Directory.{
+  TableRead,
+  NamesId,
+  IsBase,
+  IsPlainDirectory,
+  cells_of_tables,
+}
 use Rattle.clog_engine.specs.Input.{entries_of}
 use Rattle.clog_engine.specs.Limits.{capacity}
 use Rattle.clog_engine.specs.Outside.{Outside, Sinks}
+use Rattle.clog_engine.specs.Report.{applied_line, IsReport}
 use Rattle.clog_engine.specs.Request.{Asks}
 use Rattle.clog_engine.specs.Restore.{IsAdded}
-use Rattle.clog_engine.specs.Run.{Answers, Does, Prints}
-use Rattle.clog_engine.proofs.Restored.{added_none, added_some}
+use Rattle.clog_engine.specs.Run.{Answers, Does, Prints, Reports}
+use Rattle.clog_engine.proofs.Restored.{with_segment, added_none, added_some, told_rows}
 use Rattle.clog_engine.proofs.WordsAsked.{one_request}
 
--- told files hold what they held, and the mutations are added
-abbrev AddsTo : Option Files → Option Files → List Mutation → Type 0
-AddsTo files now ms = IfSome files (λ before. Told now (λ after. IsAdded before after ms))
+-- told files hold what they held, and the mutations are added and told
+abbrev AddsTo : Bool → Option Files → Option Files → List Mutation → List ℕ → Type 0
+AddsTo dump files now ms report =
+    IfSome files (λ before. Told now (λ after. IsAddedAndTold dump before after ms report))
 
-adds_none : (files now : Option Files) (reads : List TableRead) → now ≡ files
-    → IfSome files (λ held. IsPlainDirectory held reads) → AddsTo files now []
-adds_none None now reads same plain = tt
-adds_none (Some before) now reads same plain =
-    subst (λ (n : Option Files). Told n (λ after. IsAdded before after [])) (sym same)
-    (added_none before reads plain.few.readable.no_segment plain.few.readable.tables)
+is_told : (dump : Bool) (before after : Files) (reads : List TableRead) (ms : List Mutation)
+    (report : List ℕ) → IsPlainDirectory before reads
+    → IsReport dump (cells_of_tables reads) ms report → (added : IsAdded before after ms)
+    → report ≡ report_of dump ms added.rows_now
+is_told false before after reads ms report plain is added = is
+is_told true before after reads ms report plain is added =
+    is.text
+    ∙ ap (λ (l : List (CellKey × Cell)). applied_line (length ms) ++ flat_map row_line l)
+    (told_rows before after reads ms is.rows plain.few.readable.no_segment
+    plain.few.readable.tables is.merge added)
 
-adds_some : (files now : Option Files) (reads : List TableRead) (moment id : ℕ)
-    (ms : List Mutation) → Gains files now (segment_name_of 6 id) (segment_of id ms)
+and_told : (dump : Bool) (before after : Files) (reads : List TableRead) (ms : List Mutation)
+    (report : List ℕ) → IsPlainDirectory before reads
+    → IsReport dump (cells_of_tables reads) ms report → IsAdded before after ms
+    → IsAddedAndTold dump before after ms report
+and_told dump before after reads ms report plain is added = record {
+  added = added;
+  told = is_told dump before after reads ms report plain is added;
+}
+
+adds_none : (dump : Bool) (files now : Option Files) (reads : List TableRead) (report : List ℕ)
+    → now ≡ files → IfSome files (λ held. IsPlainDirectory held reads)
+    → IsReport dump (cells_of_tables reads) [] report → AddsTo dump files now [] report
+adds_none dump None now reads report same plain is = tt
+adds_none dump (Some before) now reads report same plain is =
+    subst (λ (n : Option Files). Told n (λ after. IsAddedAndTold dump before after [] report))
+    (sym same)
+    (and_told dump before before reads [] report plain is
+    (added_none before reads plain.few.readable.no_segment plain.few.readable.tables))
+
+adds_some : (dump : Bool) (files now : Option Files) (reads : List TableRead) (moment id : ℕ)
+    (ms : List Mutation) (report : List ℕ)
+    → Gains files now (segment_name_of 6 id) (segment_of id ms)
     → IfSome files (λ held. IsPlainDirectory held reads)
     → IfSome files (λ held. IsBase (NamesId held reads) moment id) → id < 2 ^ 63
-    → AllByRecursion IsStored ms → 28 + length (entries_of ms) < capacity → AddsTo files now ms
-adds_some None now reads moment id ms gains plain base fits stored room = tt
-adds_some (Some before) now reads moment id ms gains plain base fits stored room =
-    subst (λ (n : Option Files). Told n (λ after. IsAdded before after ms)) (sym gains)
+    → AllByRecursion IsStored ms → 28 + length (entries_of ms) < capacity
+    → IsReport dump (cells_of_tables reads) ms report → AddsTo dump files now ms report
+adds_some dump None now reads moment id ms report gains plain base fits stored room is = tt
+adds_some dump (Some before) now reads moment id ms report gains plain base fits stored room is =
+    subst (λ (n : Option Files). Told n (λ after. IsAddedAndTold dump before after ms report))
+    (sym gains)
+    (and_told dump before (with_segment before id ms) reads ms report plain is
     (added_some before reads id ms (record {
       no_segment = plain.few.readable.no_segment;
       tables = plain.few.readable.tables;
@@ -78,36 +127,46 @@ adds_some (Some before) now reads moment id ms gains plain base fits stored room
       fits = fits;
       stored = stored;
       room = room;
-    }))
+    })))
 
-adds_landed : (o : Outside) (reads : List TableRead) (id : ℕ) (ms : List Mutation)
-    → IsBegun o reads id → id < 2 ^ 63 → AllByRecursion IsStored ms
-    → 28 + length (entries_of ms) < capacity → Lands o id ms → AddsTo o.files o.files_now ms
-adds_landed o reads id [] begun fits stored room landed =
-    adds_none o.files o.files_now reads landed.files begun.plain
-adds_landed o reads id (m ∷ ms) begun fits stored room landed =
-    adds_some o.files o.files_now reads begun.now id (m ∷ ms) landed.gained begun.plain begun.base
-    fits stored room
+adds_landed : (dump : Bool) (o : Outside) (reads : List TableRead) (id : ℕ) (ms : List Mutation)
+    (report : List ℕ) → IsBegun o reads id → id < 2 ^ 63 → AllByRecursion IsStored ms
+    → 28 + length (entries_of ms) < capacity → IsReport dump (cells_of_tables reads) ms report
+    → Lands o id ms → AddsTo dump o.files o.files_now ms report
+adds_landed dump o reads id [] report begun fits stored room is landed =
+    adds_none dump o.files o.files_now reads report landed.files begun.plain is
+adds_landed dump o reads id (m ∷ ms) report begun fits stored room is landed =
+    adds_some dump o.files o.files_now reads begun.now id (m ∷ ms) report landed.gained begun.plain
+    begun.base fits stored room is
 
 applied_adds : (o : Outside) (dump : Bool) (report bytes : List ℕ)
-    → IsApplied o dump report bytes → AddsFile o bytes
+    → IsApplied o dump report bytes → AddsFile dump o report bytes
 applied_adds o dump report bytes a = record {
   mutations = a.mutations;
   said = a.accepted.sized.read.read;
-  added = adds_landed o a.reads a.id a.mutations a.begun a.fits a.stored a.accepted.room a.landed;
+  added = adds_landed dump o a.reads a.id a.mutations report a.begun a.fits a.stored
+      a.accepted.room a.reported a.landed;
 }
+
+no_such_refusal : (status refusal : Status) (o : Outside) → status ≡ refusal → IsReported status
+    → ApplyRefuses refusal o → ⊥
+no_such_refusal status refusal o same (inl is) refused =
+    subst (λ (x : Status). ApplyRefuses x o) (sym same ∙ is) refused
+no_such_refusal status refusal o same (inr is) refused =
+    subst (λ (x : Status). ApplyRefuses x o) (sym same ∙ is) refused
 
 outcome_adds : (dump : Bool) (o : Outside) (s : Sinks) (status : Status)
     (outcome : Result (List ℕ) Status) → Does (Some (Apply dump)) o outcome
-    → Prints outcome status s → status ≡ Ok → Reads o (AddsFile o)
+    → Prints outcome status s → IsReported status
+    → (report : List ℕ) × Reports report status s × Reads o (AddsFile dump o report)
 outcome_adds dump o s status (ok report) done prints is =
-    (done.0, done.1, applied_adds o dump report done.0 done.2)
+    (report, prints, (done.0, done.1, applied_adds o dump report done.0 done.2))
 outcome_adds dump o s status (err refusal) done prints is =
-    absurd (subst (λ (x : Status). ApplyRefuses x o) (sym prints.0 ∙ is) done)
+    absurd (no_such_refusal status refusal o prints.0 is done)
 
 asked_adds : (request : Option Request) (words : List (String Global)) (o : Outside) (s : Sinks)
     (status : Status) (outcome : Result (List ℕ) Status) → Asks words request
-    → Does request o outcome → Prints outcome status s → Adds words o status
+    → Does request o outcome → Prints outcome status s → Adds words o s status
 asked_adds None words o s status outcome asks done prints dump says is =
     absurd (asks (Apply dump) says)
 asked_adds (Some other) words o s status outcome asks done prints dump says is =
@@ -116,6 +175,6 @@ asked_adds (Some other) words o s status outcome asks done prints dump says is =
     (subst (λ (r : Request). Does (Some r) o outcome) same done) prints is
 
 pub adds : (words : List (String Global)) (o : Outside) (s : Sinks) (status : Status)
-    → Answers words o s status → Adds words o status
+    → Answers words o s status → Adds words o s status
 adds words o s status a =
     asked_adds a.request words o s status a.outcome a.asked a.done a.printed

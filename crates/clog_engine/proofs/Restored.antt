@@ -505,3 +505,20 @@ one_restored files rows others one other =
       λ h. (one.all pair).1 ((other.all pair).0 h),
     )) one.merge)
     other.merge
+
+-- what the table files' cells and the mutations' merge to is what is restored now
+pub told_rows : (before after : Files) (reads : List TableRead) (ms : List Mutation)
+    (rows : List (CellKey × Cell)) → ¬ HasSegment before → AreTables before reads
+    → IsMerge (cells_of_tables reads ++ flat_map cells_of ms) rows
+    → (added : IsAdded before after ms) → rows ≡ added.rows_now
+told_rows before after reads ms rows none tables merge added =
+    let cells = cells_of_tables reads in
+    let more = flat_map cells_of ms in
+    let made = merge_of cells in
+    let same : made.0 ≡ added.rows =
+    one_restored before made.0 added.rows
+    (restored_tables before reads made.0 none tables made.1) added.restored in
+    let first : IsMerge cells added.rows =
+    subst (λ (l : List (CellKey × Cell)). IsMerge cells l) same made.1 in
+    unique (cells ++ more) rows added.rows_now merge
+    (continues cells added.rows more added.rows_now first added.merged)

@@ -77,9 +77,9 @@ fn answer<R: Source, K: Sink, D: Disk, C: Clock>(
 /// bytes and the disk its files, `Ok` means that the source was read to its end, that all its
 /// mutations stand in one new segment (none for an empty file), lasting, that the folder restores
 /// to what it restored to before with the mutations' cells merged in, no file of it damaged, and
-/// that the report went out whole, with the cells of the folder's table files in the dump; of
-/// `scan` that the report tells what the segment's file holds. Words that ask for what can be done,
-/// and no fault, end with `Ok` or for want of memory.
+/// that the report went out whole, whose dump is what the folder restores to now; of `scan` that
+/// the report tells what the segment's file holds. Words that ask for what can be done, and no
+/// fault, end with `Ok` or for want of memory.
 pub fn run<
     T: Threads + Wait,
     R: Source,
