@@ -3,21 +3,17 @@
 # distinct keys. Needs GNU time and a built program. No part of the gate.
 set -e
 top=$(cd "$(dirname "$0")/.." && pwd)
-program=$top/crates/clog_tool/out/clog_tool
-[ -x "$program" ] || { echo "build it first: $top/pinsilver apply </dev/null" >&2; exit 1; }
-work=$(mktemp -d)
-trap 'rm -rf "$work"' EXIT
-
-lines() {
-    awk -v n="$1" 'BEGIN { for (i = 1; i <= n; i++) printf "{\"key\":\"key%07d\",\"updates\":[{\"table\":%d,\"column\":\"c\",\"ts\":%d,\"value\":\"value%d\"}]}\n", i, i % 16, i, i }'
-}
+. "$top/bench/setup.sh"
 
 for count in 1000 10000 100000; do
     lines $count >"$work/lines"
     for words in apply "apply --dump"; do
         rm -rf "$work/run"
         mkdir "$work/run"
-        (cd "$work/run" && /usr/bin/time -f '%e %M' -o "$work/time" "$program" $words <"$work/lines" >"$work/out")
-        awk -v n=$count -v w="$words" '{ printf "%-13s %7d lines %6.2f us a line %8d KiB\n", w, n, 1e6 * $1 / n, $2 }' "$work/time"
+        (cd "$work/run" && /usr/bin/time -f '%e %M' -o "$work/time" "$program" $words \
+            <"$work/lines" >"$work/out")
+        awk -v n=$count -v w="$words" \
+            '{ printf "%-13s %7d lines %6.2f us a line %8d KiB\n", w, n, 1e6 * $1 / n, $2 }' \
+            "$work/time"
     done
 done

@@ -3,13 +3,10 @@
 # ones, which tells how fast the checks are. Needs GNU time and a built program. No part of the gate.
 set -e
 top=$(cd "$(dirname "$0")/.." && pwd)
-program=$top/crates/clog_tool/out/clog_tool
-[ -x "$program" ] || { echo "build it first: $top/pinsilver apply </dev/null" >&2; exit 1; }
-work=$(mktemp -d)
-trap 'rm -rf "$work"' EXIT
+. "$top/bench/setup.sh"
 
 small() {
-    awk 'BEGIN { for (i = 1; i <= 100000; i++) printf "{\"key\":\"key%07d\",\"updates\":[{\"table\":%d,\"column\":\"c\",\"ts\":%d,\"value\":\"value%d\"}]}\n", i, i % 16, i, i }'
+    lines 100000
 }
 
 large() {
@@ -25,6 +22,7 @@ for kind in small large; do
     cd "$work/$kind"
     "$kind" | "$program" apply >/dev/null
     segment=$(ls commitlog)
-    /usr/bin/time -f "$kind: %e s, %M KiB" "$program" scan "$segment" >report
+    /usr/bin/time -f "$kind: %e s, %U s of them in the program, %M KiB" "$program" scan "$segment" \
+        >report
     echo "$kind: $(wc -c <"commitlog/$segment") bytes, $(wc -l <report) lines, $(tail -n 1 report)"
 done

@@ -1,0 +1,15 @@
+# What the benchmarks share: the built program, a folder of their own, and mutation lines with
+# distinct keys. Sourced, with `top` set to the repository.
+program=$top/crates/clog_tool/out/clog_tool
+[ -x "$program" ] || { echo "build it first: $top/pinsilver apply </dev/null" >&2; exit 1; }
+work=$(mktemp -d)
+trap 'rm -rf "$work"' EXIT
+
+# so many lines
+lines() {
+    awk -v n="$1" 'BEGIN {
+        for (i = 1; i <= n; i++)
+            printf "{\"key\":\"key%07d\",\"updates\":[{\"table\":%d,\"column\":\"c\",\"ts\":%d," \
+                "\"value\":\"value%d\"}]}\n", i, i % 16, i, i
+    }'
+}
