@@ -10,7 +10,7 @@ pub use clog_base::PayloadFault;
 pub use laws::payload_laws;
 pub use mutation::{Mutation, Mutations, Update, Updates};
 pub use reading::decode;
-pub use writing::{encode, payload_size};
+pub use writing::{encode, payload_size, put_mutation};
 
 #[cfg(test)]
 mod tests;

@@ -80,16 +80,19 @@ fn put_updates(out: &mut Vec<u8>, updates: &[Update]) -> Result<(), AllocError>
     Ok(())
 }
 
-fn put_mutation(out: &mut Vec<u8>, mutation: &Mutation) -> Result<(), AllocError>
+/// Appends the payload of a mutation, `payload_size` bytes. It takes no memory where that much room
+/// is left. For want of memory a first part of the payload may stand behind what was there.
+pub fn put_mutation(out: &mut Vec<u8>, mutation: &Mutation) -> Result<(), OutOfMemory>
     requires limits { IsWithinLimits mutation.now }
     requires size { length (payload_of mutation.now) ≤ 2 ^ 30 }
     ensures bytes { OnOk result (out.new.items ≡ out.old.items ++ payload_of mutation.now) }
-    ensures stored { OnOk result (IsStored mutation.now) }
+    // What was appended is a payload: what `decode` reads back.
+    ensures payload { OnOk result (IsPayload (payload_of mutation.now) mutation.now) }
 {
     put_name(out, &mutation.key)?;
     let updates = mutation.updates.as_slice();
     out.extend_from_slice(&(updates.len() as u16).to_be_bytes())?;
-    put_updates(out, updates)
+    Ok(put_updates(out, updates)?)
 }
 
 /// The payload of a mutation, in one piece of memory that is taken at the start.
