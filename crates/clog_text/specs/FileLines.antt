@@ -1,5 +1,5 @@
 -- The lines of a file, as pieces of its bytes.
-use Rattle.std.specs.Prelude.{◌≡◌, ◌≢◌, ℕ, ◌-◌, ◌≤◌, ◌==◌, List, [], ◌∷◌, ◌++◌, length, map, take}
+use Rattle.std.specs.Prelude.{◌≡◌, ◌≢◌, ℕ, ◌+◌, ◌-◌, ◌≤◌, ◌==◌, List, [], ◌∷◌, ◌++◌, length, map, take}
 use Rattle.std.specs.Prelude.{drop, if◌then◌else◌}
 use Rattle.std.specs.List.{flat_map, AllByRecursion}
 
@@ -40,13 +40,20 @@ line_limit = 1000000
 abbrev pub piece_of : List ℕ → ℕ × ℕ → List ℕ
 piece_of bytes range = take (range.1 - range.0) (drop range.0 bytes)
 
+-- where lines stand that are laid end to end from a place on, each with one byte behind it
+abbrev pub ranges_from : ℕ → List (List ℕ) → List (ℕ × ℕ)
+ranges_from at [] = []
+ranges_from at (line ∷ lines) =
+    (at, at + length line) ∷ ranges_from (at + length line + 1) lines
+
 -- the range lies within so many bytes
 pub record IsRangeWithin (len : ℕ) (range : ℕ × ℕ) : Type 0 where
   pub rises : range.0 ≤ range.1
   pub within : range.1 ≤ len
 
--- The ranges give exactly the lines of the file, which are not too many.
+-- The ranges give exactly the lines of the file, each where it stands, which are not too many.
 pub record Splits (bytes : List ℕ) (ranges : List (ℕ × ℕ)) : Type 0 where
+  pub placed : ranges ≡ ranges_from 0 (lines_of bytes)
   pub lines : map (piece_of bytes) ranges ≡ lines_of bytes
   pub within : AllByRecursion (IsRangeWithin (length bytes)) ranges
   pub few : length ranges ≤ line_limit

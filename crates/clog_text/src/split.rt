@@ -1,4 +1,5 @@
-//! The lines of a file, as ranges of its bytes. A range never holds 0A, and the ranges rise.
+//! The lines of a file, as ranges of its bytes. A range never holds 0A, and each line's range is
+//! where the line stands.
 ghost use Rattle.std.specs.Prelude.{◌≡◌, ◌+◌, ◌<◌, ℕ, List, ◌∷◌, length, drop, Err, IfOk};
 ghost use Rattle.clog_text.specs.FileLines.{lines_of, line_limit, piece_of, AreLines};
 ghost use Rattle.clog_text.specs.FileLines.{IsRangeWithin, Splits};
@@ -26,6 +27,20 @@ impl Model for Lines {
 }
 
 impl Lines {
+    /// These ranges, in their order.
+    pub fn new(ranges: Vec<(usize, usize)>) -> Lines
+        ensures { result ≡ ranges.items }
+    {
+        Lines { ranges }
+    }
+
+    /// The vector that they were made from; takes no memory.
+    pub fn into_vec(self) -> Vec<(usize, usize)>
+        ensures { result.items ≡ self }
+    {
+        self.ranges
+    }
+
     /// The start and the end of each line, in the order of the file.
     pub fn as_slice(&self) -> &[(usize, usize)]
         ensures { result.now ≡ self.now }
