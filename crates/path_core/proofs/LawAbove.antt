@@ -16,7 +16,7 @@ use Rattle.path_core.specs.declared.seat.Seat.{Seat}
 use Rattle.path_core.specs.declared.state.PathState.{PathState}
 use Rattle.path_core.specs.Parts.{fresh_seat, groups_of, tally_of, seat_of, group_in}
 use Rattle.path_core.specs.Words.{by_of}
-use Rattle.path_core.specs.Allowed.{IsAllowed}
+use Rattle.path_core.specs.Allowed.{IsStep}
 use Rattle.path_core.specs.Next.{next_of}
 use Rattle.path_core.specs.Lawful.{IsSized}
 use Rattle.path_core.specs.LawfulOrders.{IsOrderly, is_in, made_at}
@@ -74,7 +74,7 @@ module _ (x : PathState) (O : IsOrderly x) where
       omega arith))
 
   -- and after a step it is in the group that was current or an earlier one
-  pub nobody_above_now : IsSized x → (o : Order) (e : Event) → IsAllowed x e → (w h : ℕ)
+  pub nobody_above_now : IsSized x → (o : Order) (e : Event) → IsStep x e → (w h : ℕ)
       → group_in o (seat_of (next_of x e) w) ≡ Some h → h ≤ (groups_of x o).current
   nobody_above_now sized o e a w h = each_seat x e a.seat
       (λ _ s. group_in o s ≡ Some h → h ≤ (groups_of x o).current)
@@ -84,7 +84,7 @@ module _ (x : PathState) (O : IsOrderly x) where
       column Write = (columns_of x sized O e a.is_there).write
       column Append = (columns_of x sized O e a.is_there).append
 
-      own : (o : Order) (e : Event) → IsAllowed x e
+      own : (o : Order) (e : Event) → IsStep x e
           → group_after o (seat_of x (by_of e)) e ≡ Some h → h ≤ (groups_of x o).current
       own Write (Register by Write g) a is = let same = same_Some g h is in
           let f = (O.made_groups Write).found by g a.row.2 in omega arith

@@ -12,7 +12,7 @@ use Rattle.path_core.specs.declared.seat.Issue.TheVariants.{Rest}
 use Rattle.path_core.specs.declared.state.PathState.{PathState}
 use Rattle.path_core.specs.Parts.{groups_of, seat_of, table_of, group_in, HasPassedBarrier}
 use Rattle.path_core.specs.Words.{by_of}
-use Rattle.path_core.specs.Allowed.{IsAllowed}
+use Rattle.path_core.specs.Allowed.{IsStep}
 use Rattle.path_core.specs.Lawful.{IsSized, IsLawfulPlacing}
 use Rattle.path_core.specs.LawfulOrders.{IsOrderly}
 use Rattle.path_core.specs.LawfulTables.{SwitchesAre}
@@ -57,7 +57,7 @@ module _ (x : PathState) (sized : IsSized x) (O : IsOrderly x) where
       (let up = nobody_above x O o w h is in omega arith))))
 
   -- A group that is opened was not made.
-  pub opens_new : (by : ℕ) (o : Order) (g : ℕ) → IsAllowed x (OpenGroup by o g)
+  pub opens_new : (by : ℕ) (o : Order) (g : ℕ) → IsStep x (OpenGroup by o g)
       → g ≡ length (groups_of x o).tallies
   opens_new by o g a =
       let held = issue_is_held (seat_of x by) Rest a.row.1 a.row.0 in
@@ -66,5 +66,5 @@ module _ (x : PathState) (sized : IsSized x) (O : IsOrderly x) where
 
 -- So was a memtable.
 pub opens_new_memtable : (x : PathState) → SwitchesAre x → (by : ℕ) (table : Table) (m : ℕ)
-    → IsAllowed x (Switch by table m Open) → m ≡ length (table_of x table.0).memtables
+    → IsStep x (Switch by table m Open) → m ≡ length (table_of x table.0).memtables
 opens_new_memtable x W by table m a = a.row.2 ∙ sym (W.tables table.0).bounds_rise.made

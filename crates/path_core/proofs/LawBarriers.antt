@@ -54,7 +54,7 @@ use Rattle.path_core.specs.Parts.{
   claim_at,
   is_marker,
 }
-use Rattle.path_core.specs.Allowed.{IsAllowed, is_unbarred_marker}
+use Rattle.path_core.specs.Allowed.{IsStep, is_unbarred_marker}
 use Rattle.path_core.specs.SeatAfter.{raised_to, made_final}
 use Rattle.path_core.specs.Next.{next_of, claim_of, with_memtable, with_bound, barred_marker}
 use Rattle.path_core.specs.Lawful.{IsSized}
@@ -91,7 +91,7 @@ marker_left x i g current inside h = record {
 }
 
 -- what a marker's barrier was before a step
-pub marker_barrier : (x : PathState) (e : Event) → IsAllowed x e → (i g : ℕ)
+pub marker_barrier : (x : PathState) (e : Event) → IsStep x e → (i g : ℕ)
     → i < length (next_of x e).claims → (claim_at (next_of x e) i).barrier ≡ Some g
     → BarrierWas x i g (next_of x e).append.current (claim_at (next_of x e) i)
 marker_barrier x (Claim by from to what) a i g inside h =
@@ -129,7 +129,7 @@ IssuesBarriers (MoveCurrent by Write group) = Unit {0}
 IssuesBarriers _ = ⊥
 
 -- any other step leaves the barriers of memtables
-same_barrier : (x : PathState) (e : Event) → IsAllowed x e → (IssuesBarriers e → ⊥) → (t m : ℕ)
+same_barrier : (x : PathState) (e : Event) → IsStep x e → (IssuesBarriers e → ⊥) → (t m : ℕ)
     → (memtable_of (next_of x e) t m).barrier ≡ (memtable_of x t m).barrier
 same_barrier x (MoveCurrent by Write group) a other t m = absurd (other tt)
 same_barrier x (MoveCurrent by Append group) a other t m = refl
@@ -162,7 +162,7 @@ same_barrier x (Put by Stopped value) a other t m = refl
 same_barrier x e a other t m = refl
 
 -- a memtable's barrier stays
-pub barrier_stays : (x : PathState) (e : Event) → IsAllowed x e → (t m g : ℕ)
+pub barrier_stays : (x : PathState) (e : Event) → IsStep x e → (t m g : ℕ)
     → (memtable_of x t m).barrier ≡ Some g → (memtable_of (next_of x e) t m).barrier ≡ Some g
 barrier_stays x (MoveCurrent by Write group) a t m g h = barred_at x.write.current
     (seat_of x by).tables x.tables (λ tb. (memtable_at tb m).barrier ≡ Some g) t h
@@ -172,7 +172,7 @@ barrier_stays x e a t m g h = same_barrier x e a (λ b. b) t m ∙ h
 module _ (x : PathState) (sized : IsSized x) (T : ClaimsTile x) (O : IsOrderly x)
     (W : SwitchesAre x) where
   -- what a memtable's barrier was before a step
-  pub memtable_barrier : (e : Event) → IsAllowed x e → (t m g : ℕ)
+  pub memtable_barrier : (e : Event) → IsStep x e → (t m g : ℕ)
       → (memtable_of (next_of x e) t m).barrier ≡ Some g
       → ((memtable_of x t m).barrier ≡ Some g)
       ⊎ ((g ≡ x.write.current) × ((next_of x e).write.current ≡ suc x.write.current))
@@ -184,7 +184,7 @@ module _ (x : PathState) (sized : IsSized x) (T : ClaimsTile x) (O : IsOrderly x
   memtable_barrier e a t m g h = inl (sym (same_barrier x e a (λ b. b) t m) ∙ h)
 
   -- Each allowed step keeps that the groups of barriers are below the current one.
-  pub keeps_barriers : BarriersBelow x → (e : Event) → IsAllowed x e
+  pub keeps_barriers : BarriersBelow x → (e : Event) → IsStep x e
       → ((o : Order) → (groups_of x o).current ≤ (groups_of (next_of x e) o).current)
       → BarriersBelow (next_of x e)
   keeps_barriers B e a grows = record {

@@ -65,7 +65,7 @@ use Rattle.path_core.specs.declared.event.Event.TheVariants.{
 use Rattle.path_core.specs.declared.state.Claim.{Claim as ClaimOf}
 use Rattle.path_core.specs.declared.state.PathState.{PathState}
 use Rattle.path_core.specs.Parts.{no_claim, is_entry, is_marker, is_marker_kind}
-use Rattle.path_core.specs.Allowed.{is_entry_last, is_unbarred_marker, IsAllowed}
+use Rattle.path_core.specs.Allowed.{is_entry_last, is_unbarred_marker, IsStep}
 use Rattle.path_core.specs.Next.{claim_of, barred_marker, next_of}
 use Rattle.path_core.specs.Lawful.{IsSized}
 use Rattle.path_core.specs.Promises.{AreApart}
@@ -424,7 +424,7 @@ same_when_barred by group c = choose (is_unbarred_marker by c)
     choose false = record { what = refl; start = refl; end = refl }
 
 -- Each allowed step keeps that the claims tile the log.
-pub keeps_claims : (x : PathState) → IsSized x → ClaimsTile x → (e : Event) → IsAllowed x e
+pub keeps_claims : (x : PathState) → IsSized x → ClaimsTile x → (e : Event) → IsStep x e
     → ClaimsTile (next_of x e)
 keeps_claims x sized T (Claim by from to Entry) a = tile_longer x.capacity x.ordinals x.log to.0
     x.claims (claim_of x.capacity by from.0 to.0 Entry) T

@@ -36,7 +36,7 @@ use Rattle.path_core.specs.declared.state.PathState.{PathState}
 use Rattle.path_core.specs.Parts.{fresh_seat, seat_of}
 use Rattle.path_core.specs.Words.{by_of}
 use Rattle.path_core.specs.Next.{next_of}
-use Rattle.path_core.specs.Allowed.{IsAllowed}
+use Rattle.path_core.specs.Allowed.{IsStep}
 use Rattle.path_core.specs.Next.{places_from, end_of_claim}
 use Rattle.path_core.proofs.LawColumns.{own_after}
 use Rattle.path_core.specs.Parts.{touches}
@@ -100,7 +100,7 @@ module _ (x : PathState) (C : IsLawfulCore x) (P : PlacesAre x) where
       (get_or-set_other x.seats (by_of e) w (own_after x e) fresh_seat n)
 
   -- a claim stays but where its write closes
-  still_claims : (e : Event) → IsAllowed x e → (ClosesWrite e → ⊥) → (w : ℕ) (r : Range)
+  still_claims : (e : Event) → IsStep x e → (ClosesWrite e → ⊥) → (w : ℕ) (r : Range)
       → (seat_of x w).claim ≡ Some r → (seat_of (next_of x e) w).claim ≡ Some r
   still_claims e a other w r h = dite (ℕ_discrete w (by_of e))
       (λ is. ap (λ k. (seat_of (next_of x e) k).claim) is
@@ -109,7 +109,7 @@ module _ (x : PathState) (C : IsLawfulCore x) (P : PlacesAre x) where
       ∙ (column x C P e a).claim ∙ own e a other (ap (λ k. (seat_of x k).claim) (sym is) ∙ h))
       (λ n. other_claim e w n ∙ h)
     where
-      own : (e : Event) → IsAllowed x e → (ClosesWrite e → ⊥) → (seat_of x (by_of e)).claim ≡ Some r
+      own : (e : Event) → IsStep x e → (ClosesWrite e → ⊥) → (seat_of x (by_of e)).claim ≡ Some r
           → claim_after (seat_of x (by_of e)).claim e ≡ Some r
       own (Close by Write g carried) a other h = absurd (other tt)
       own (Close by Append g carried) a other h = h
@@ -132,7 +132,7 @@ module _ (x : PathState) (C : IsLawfulCore x) (P : PlacesAre x) where
       (λ n. nobody w r (other_claim (Close by Write g carried) w n ∙ h) is)
 
   closes_applied : (by g : ℕ) (places : List (Table × ℕ))
-      → IsAllowed x (Close by Write g (Applied places)) → (n : EntryNote) (t : ℕ)
+      → IsStep x (Close by Write g (Applied places)) → (n : EntryNote) (t : ℕ)
       → Contains x.notes n → Nobody (next_of x (Close by Write g (Applied places))) n.end.0
       → IsTrue (touches n.tables t)
       → HasPlace (next_of x (Close by Write g (Applied places))) t n.end.0
@@ -169,13 +169,13 @@ module _ (x : PathState) (C : IsLawfulCore x) (P : PlacesAre x) where
       ∙ q)) nobody) touched))
 
   -- where no write closes
-  before : (e : Event) → IsAllowed x e → (ClosesWrite e → ⊥) → (n : EntryNote) (t : ℕ)
+  before : (e : Event) → IsStep x e → (ClosesWrite e → ⊥) → (n : EntryNote) (t : ℕ)
       → Contains x.notes n → Nobody (next_of x e) n.end.0 → IsTrue (touches n.tables t)
       → HasPlace (next_of x e) t n.end.0
   before e a other n t h nobody touched = has_still e t n.end.0 (P.closed n t h
       (λ w r c is. nobody w r (still_claims e a other w r c) is) touched)
 
-  keeps_closed : (e : Event) → IsAllowed x e → (n : EntryNote) (t : ℕ)
+  keeps_closed : (e : Event) → IsStep x e → (n : EntryNote) (t : ℕ)
       → Contains (next_of x e).notes n
       → Nobody (next_of x e) n.end.0 → IsTrue (touches n.tables t)
       → HasPlace (next_of x e) t n.end.0
@@ -198,7 +198,7 @@ module _ (x : PathState) (C : IsLawfulCore x) (P : PlacesAre x) where
   keeps_closed e a n t h nobody touched = before e a (λ b. b) n t h nobody touched
 
   -- Each allowed step keeps what is tried and placed.
-  pub keeps_places : (e : Event) → IsAllowed x e → PlacesAre (next_of x e)
+  pub keeps_places : (e : Event) → IsStep x e → PlacesAre (next_of x e)
   keeps_places e a = record {
     later_above = keeps_later x C P e a;
     none_below = keeps_none_below x C P e a;

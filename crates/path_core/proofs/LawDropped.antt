@@ -50,7 +50,7 @@ use Rattle.path_core.specs.declared.event.Event.TheVariants.{Close, Claim, GiveT
 use Rattle.path_core.specs.declared.event.Turn.TheVariants.{Sync, Flush}
 use Rattle.path_core.specs.declared.state.PathState.{PathState}
 use Rattle.path_core.specs.Parts.{seat_of}
-use Rattle.path_core.specs.Allowed.{IsAllowed}
+use Rattle.path_core.specs.Allowed.{IsStep}
 use Rattle.path_core.specs.Next.{next_of, claim_of}
 use Rattle.path_core.specs.Lawful.{IsSized}
 use Rattle.path_core.specs.LawfulOrders.{IsOrderly}
@@ -136,7 +136,7 @@ module _ (x : PathState) (sized : IsSized x) (T : ClaimsTile x) (O : IsOrderly x
     (owned : OwnClaims x) (noted : EachClaimNoted x) (notes : NotesAreClaims x)
     (logged : LoggedAreNotes x) where
   -- the log key only grows
-  pub log_grows : (e : Event) → IsAllowed x e → x.log ≤ (next_of x e).log
+  pub log_grows : (e : Event) → IsStep x e → x.log ≤ (next_of x e).log
   log_grows (Claim by from to Entry) a =
       let l = goes_above x.capacity x.ordinals x.log to.0 x.claims
       (claim_of x.capacity by from.0 to.0 Entry)
@@ -162,7 +162,7 @@ module _ (x : PathState) (sized : IsSized x) (T : ClaimsTile x) (O : IsOrderly x
   logged_stays (Put by Stopped value) p h = h
   logged_stays e p h = h
 
-  synced_grows : (e : Event) → IsAllowed x e → x.synced ≤ (next_of x e).synced
+  synced_grows : (e : Event) → IsStep x e → x.synced ≤ (next_of x e).synced
   synced_grows (Put by Synced value) a = let l = a.row.2 in omega arith
   synced_grows (Put by (OldestLive table) value) a = omega arith
   synced_grows (Put by Stopped value) a = omega arith
@@ -189,7 +189,7 @@ module _ (x : PathState) (sized : IsSized x) (T : ClaimsTile x) (O : IsOrderly x
       (r.0, eqb-true (ordinal_of c.start) o r.1)
 
   -- no entry is claimed in a segment that is closed
-  claimed_elsewhere : (by : ℕ) (from to : Key) → IsAllowed x (Claim by from to Entry) → (o : ℕ)
+  claimed_elsewhere : (by : ℕ) (from to : Key) → IsStep x (Claim by from to Entry) → (o : ℕ)
       → o < ordinal_of x.log → (c : ClaimOf) → claim_of x.capacity by from.0 to.0 Entry ≡ c
       → ordinal_of c.start ≡ o → ⊥
   claimed_elsewhere by from to a o closed c is at =
@@ -201,7 +201,7 @@ module _ (x : PathState) (sized : IsSized x) (T : ClaimsTile x) (O : IsOrderly x
       beyond log start o above closed at = absurd (omega arith)
 
   -- a note of a closed segment whose entries are logged was noted before
-  noted_before : (by g : ℕ) (note : EntryNote) → IsAllowed x (Close by Append g (Deposit note))
+  noted_before : (by g : ℕ) (note : EntryNote) → IsStep x (Close by Append g (Deposit note))
       → (o : ℕ) → IsDroppable x o → ordinal_of note.start.0 ≡ o → ⊥
   noted_before by g note a o D at =
       let c = entry_claim note.writer.0 note.start.0 note.end.0 in
@@ -214,7 +214,7 @@ module _ (x : PathState) (sized : IsSized x) (T : ClaimsTile x) (O : IsOrderly x
   is_of_ordinal o t n h = eqb-true (ordinal_of n.start.0) o
       (and_parts (ordinal_of n.start.0 == o) (touches n.tables t) h).0
 
-  notes_were : (e : Event) → IsAllowed x e → (o : ℕ) → IsDroppable x o → (t : ℕ) (n : EntryNote)
+  notes_were : (e : Event) → IsStep x e → (o : ℕ) → IsDroppable x o → (t : ℕ) (n : EntryNote)
       → IsTrue (is_of o t n) → Contains (next_of x e).notes n → Contains x.notes n
   notes_were (Close by Append g (Deposit note)) a o D t n is h = elim
       (insert_cases x.notes _ note n h) [
@@ -227,7 +227,7 @@ module _ (x : PathState) (sized : IsSized x) (T : ClaimsTile x) (O : IsOrderly x
   notes_were (Close by order g (Applied places)) a o D t n is h = h
   notes_were e a o D t n is h = h
 
-  stays_droppable : (e : Event) → IsAllowed x e → (o : ℕ) → IsDroppable x o
+  stays_droppable : (e : Event) → IsStep x e → (o : ℕ) → IsDroppable x o
       → IsDroppable (next_of x e) o
   stays_droppable e a o D = record {
     closed = let g = log_grows e a in let c = D.closed in higher x.log (next_of x e).log g c;
@@ -246,7 +246,7 @@ module _ (x : PathState) (sized : IsSized x) (T : ClaimsTile x) (O : IsOrderly x
       higher : (log after : ℕ) → log ≤ after → o < ordinal_of log → o < ordinal_of after
       higher log after g c = omega arith
 
-      still_logged : (e : Event) → IsAllowed x e → (c : ClaimOf) → IsTrue (is_entry_in o c)
+      still_logged : (e : Event) → IsStep x e → (c : ClaimOf) → IsTrue (is_entry_in o c)
           → Contains x.claims c ⊎ ClaimedNow x sized T O owned noted notes e c
           → ordinal_of c.start ≡ o
           → Contains (next_of x e).logged c.end
@@ -256,7 +256,7 @@ module _ (x : PathState) (sized : IsSized x) (T : ClaimsTile x) (O : IsOrderly x
       still_logged e a c entry (inr new) at = absurd new
 
   -- What was dropped was droppable.
-  pub keeps_dropped : DroppedWas x → (e : Event) → IsAllowed x e → DroppedWas (next_of x e)
+  pub keeps_dropped : DroppedWas x → (e : Event) → IsStep x e → DroppedWas (next_of x e)
   keeps_dropped D e a = record {
     droppable = λ o h. stays_droppable e a o (was e o h);
     below_synced = λ o h. let g = synced_grows e a in let l = below e o h in higher _ _ g l;

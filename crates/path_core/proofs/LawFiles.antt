@@ -50,7 +50,7 @@ use Rattle.path_core.specs.Parts.{
   key_of_bound,
   last_upper,
 }
-use Rattle.path_core.specs.Allowed.{IsAllowed}
+use Rattle.path_core.specs.Allowed.{IsStep}
 use Rattle.path_core.specs.Next.{next_of}
 use Rattle.path_core.specs.History.{bound_below, bound_before}
 use Rattle.path_core.specs.Lawful.{IsLawfulPlacing}
@@ -63,7 +63,7 @@ use Rattle.path_core.proofs.LawSizes.{as_many_tables}
 use Rattle.path_core.proofs.LawBars.{barred_at}
 
 -- a step that retires no memtable leaves each table's oldest live one
-pub oldest_same : (x : PathState) (e : Event) → IsAllowed x e → (Retires e → ⊥) → (t : ℕ)
+pub oldest_same : (x : PathState) (e : Event) → IsStep x e → (Retires e → ⊥) → (t : ℕ)
     → (table_of (next_of x e) t).oldest_live ≡ (table_of x t).oldest_live
 oldest_same x (MoveCurrent by Write group) a other t =
     barred_at x.write.current (seat_of x by).tables x.tables
@@ -104,12 +104,12 @@ module _ (x : PathState) (Z : IsLawfulPlacing x) where
   memtables t = Z.core.switches.tables t
 
   -- a final bound stays
-  pub final_stays : (e : Event) → IsAllowed x e → (t m : ℕ) (u : Key)
+  pub final_stays : (e : Event) → IsStep x e → (t m : ℕ) (u : Key)
       → (memtable_of x t m).bound ≡ Final u → (memtable_of (next_of x e) t m).bound ≡ Final u
   final_stays e a t m u is = (moves_of x Z.core Z.places e a t).finals m u is
 
   -- the oldest live memtable of a table never falls
-  pub oldest_grows : (e : Event) → IsAllowed x e → (t : ℕ)
+  pub oldest_grows : (e : Event) → IsStep x e → (t : ℕ)
       → (table_of x t).oldest_live ≤ (table_of (next_of x e) t).oldest_live
   oldest_grows (Put by (OldestLive table) value) a t = put_at x.tables table.0 _ fresh_table
       a.is_there (λ u tb. (table_of x u).oldest_live ≤ tb.oldest_live)
@@ -119,7 +119,7 @@ module _ (x : PathState) (Z : IsLawfulPlacing x) where
   oldest_grows e a t = let s = oldest_same x e a (λ b. b) t in omega arith
 
   -- the interval of a retired memtable, and of the next one, begins where it did
-  pub before_stays : (e : Event) → IsAllowed x e → (t m : ℕ) → m ≤ (table_of x t).oldest_live
+  pub before_stays : (e : Event) → IsStep x e → (t m : ℕ) → m ≤ (table_of x t).oldest_live
       → bound_before (next_of x e) t m ≡ bound_before x t m
   before_stays e a t zero low = refl
   before_stays e a t (suc k) low =
@@ -137,7 +137,7 @@ module _ (x : PathState) (Z : IsLawfulPlacing x) where
 
   module _ (F : LastFiles x) where
     -- the memtable of a file stays retired
-    still_retired : (e : Event) → IsAllowed x e → (f : WrittenFile) → FileIsOfRetired x f
+    still_retired : (e : Event) → IsStep x e → (f : WrittenFile) → FileIsOfRetired x f
         → FileIsOfRetired (next_of x e) f
     still_retired e a f I = record {
       table = subst (λ k. f.table < k) (sym (as_many_tables x e)) I.table;
@@ -146,7 +146,7 @@ module _ (x : PathState) (Z : IsLawfulPlacing x) where
     }
 
     -- a step that retires no memtable leaves where files end
-    still : (e : Event) → IsAllowed x e → (Retires e → ⊥) → LastFiles (next_of x e)
+    still : (e : Event) → IsStep x e → (Retires e → ⊥) → LastFiles (next_of x e)
     still e a other = record {
       below = λ t inside.
           subst (λ fs. last_upper fs t ≤ bound_before (next_of x e) t
@@ -161,7 +161,7 @@ module _ (x : PathState) (Z : IsLawfulPlacing x) where
     }
 
     module _ (by : ℕ) (table : Table) (value : ℕ)
-        (a : IsAllowed x (Put by (OldestLive table) value)) where
+        (a : IsStep x (Put by (OldestLive table) value)) where
       abbrev e : Event
       e = Put by (OldestLive table) value
 
@@ -227,18 +227,18 @@ module _ (x : PathState) (Z : IsLawfulPlacing x) where
       }
 
     -- Each allowed step keeps where files end.
-    pub keeps_last : (e : Event) → IsAllowed x e → LastFiles (next_of x e)
+    pub keeps_last : (e : Event) → IsStep x e → LastFiles (next_of x e)
     keeps_last (Put by (OldestLive table) value) a = retires by table value a
     keeps_last (Put by Synced value) a = still (Put by Synced value) a (λ b. b)
     keeps_last (Put by Stopped value) a = still (Put by Stopped value) a (λ b. b)
     keeps_last e a = still e a (λ b. b)
 
     -- Each allowed step keeps where files begin.
-    pub keeps_begin : FilesBegin x → (e : Event) → IsAllowed x e → FilesBegin (next_of x e)
+    pub keeps_begin : FilesBegin x → (e : Event) → IsStep x e → FilesBegin (next_of x e)
     keeps_begin B e a f h = was e a h
       where
         -- a file that was there begins where it did
-        old : (e : Event) → IsAllowed x e → Contains x.files f
+        old : (e : Event) → IsStep x e → Contains x.files f
             → f.lower ≤ bound_before (next_of x e) f.table f.memtable
         old e a h = subst (λ k. f.lower ≤ k)
             (sym (before_stays e a f.table f.memtable
@@ -246,7 +246,7 @@ module _ (x : PathState) (Z : IsLawfulPlacing x) where
             (B f h)
 
         -- a new file begins where the last one ended
-        was : (e : Event) → IsAllowed x e → Contains (next_of x e).files f
+        was : (e : Event) → IsStep x e → Contains (next_of x e).files f
             → f.lower ≤ bound_before (next_of x e) f.table f.memtable
         was (Put by (OldestLive table) value) a h = files_retired x by table value
             (λ fs. Contains fs f → f.lower ≤ bound_before (next_of x (Put by (OldestLive table)

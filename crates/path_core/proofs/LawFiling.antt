@@ -6,7 +6,7 @@ use Rattle.path_core.specs.declared.event.Event.{Event}
 use Rattle.path_core.specs.declared.state.PathState.{PathState}
 use Rattle.path_core.specs.declared.state.TableState.{TableState}
 use Rattle.path_core.specs.Parts.{table_of}
-use Rattle.path_core.specs.Allowed.{IsAllowed}
+use Rattle.path_core.specs.Allowed.{IsStep}
 use Rattle.path_core.specs.Next.{next_of}
 use Rattle.path_core.specs.Whole.{CarriesWhole}
 use Rattle.path_core.specs.Runs.{opening}
@@ -34,7 +34,7 @@ lawful_filing x Z F B R U S = record {
 }
 
 -- Each allowed step keeps that files are lawful.
-pub keeps_filing : (x : PathState) → IsLawfulFiling x → (e : Event) → IsAllowed x e
+pub keeps_filing : (x : PathState) → IsLawfulFiling x → (e : Event) → IsStep x e
     → CarriesWhole e → IsLawfulFiling (next_of x e)
 keeps_filing x K e a whole =
     let N = keeps_placing x K.placing e a whole in

@@ -36,7 +36,7 @@ use Rattle.path_core.specs.declared.state.OrderGroups.{OrderGroups}
 use Rattle.path_core.specs.declared.state.PathState.{PathState}
 use Rattle.path_core.specs.Parts.{groups_of, seat_of}
 use Rattle.path_core.specs.Words.{by_of}
-use Rattle.path_core.specs.Allowed.{IsAllowed}
+use Rattle.path_core.specs.Allowed.{IsStep}
 use Rattle.path_core.specs.Next.{next_of}
 use Rattle.path_core.specs.Lawful.{IsSized}
 use Rattle.path_core.specs.LawfulOrders.{CountsOf, MadeOf, TurnsHeld, OrdersNest, IsOrderly}
@@ -81,7 +81,7 @@ module _ (x : PathState) (sized : IsSized x) (O : IsOrderly x) where
   T = O.one_holder_a_turn
 
   -- from the issue `k` to the issue `j`, at the groups of one order
-  goes_on : (e : Event) → IsAllowed x e → (k j : Issue) → issue_held (seat_of x (by_of e)) ≡ Some k
+  goes_on : (e : Event) → IsStep x e → (k j : Issue) → issue_held (seat_of x (by_of e)) ≡ Some k
       → (TakesTurn e → ⊥)
       → issue_after (Some k) e ≡ Some j
       → write_after (seat_of x (by_of e)).write e ≡ (seat_of x (by_of e)).write
@@ -113,7 +113,7 @@ module _ (x : PathState) (sized : IsSized x) (O : IsOrderly x) where
   pub issue_is : (w : ℕ) (k : Issue) → issue_held (seat_of x w) ≡ Some k → i ≡ k
   issue_is w k held = sym (issue_known i x.seats T w k held)
 
-  pub opens : (by : ℕ) (o : Order) (g : ℕ) → IsAllowed x (OpenGroup by o g)
+  pub opens : (by : ℕ) (o : Order) (g : ℕ) → IsStep x (OpenGroup by o g)
       → IsOrderly (next_of x (OpenGroup by o g))
   opens by Write g a = let e = OpenGroup by Write g in let C = columns_of x sized O e a.is_there in
       let held = issue_is_held (seat_of x by) Rest a.row.1 a.row.0 in
@@ -165,7 +165,7 @@ module _ (x : PathState) (sized : IsSized x) (O : IsOrderly x) where
     found = λ w g h. let l = found_below x sized O e inside o w g h in omega arith;
   }
 
-  pub moves : (by : ℕ) (o : Order) (g : ℕ) → IsAllowed x (MoveCurrent by o g)
+  pub moves : (by : ℕ) (o : Order) (g : ℕ) → IsStep x (MoveCurrent by o g)
       → IsOrderly (next_of x (MoveCurrent by o g))
   moves by Write g a = let e = MoveCurrent by Write g in
       let C = columns_of x sized O e a.is_there in
@@ -206,7 +206,7 @@ module _ (x : PathState) (sized : IsSized x) (O : IsOrderly x) where
       (made_other x sized O e a.seat Write (Opened Append) (Moved Append) is refl)
       (made_moved e a.seat Append _ refl refl a.row.1 is))
 
-  pub expires : (by : ℕ) (o : Order) (g : ℕ) → IsAllowed x (Expire by o g)
+  pub expires : (by : ℕ) (o : Order) (g : ℕ) → IsStep x (Expire by o g)
       → IsOrderly (next_of x (Expire by o g))
   expires by Write g a = let e = Expire by Write g in let C = columns_of x sized O e a.is_there in
       let held = begun_is_held (seat_of x by) (Moved Write)
@@ -245,7 +245,7 @@ module _ (x : PathState) (sized : IsSized x) (O : IsOrderly x) where
       (length-set x.append.tallies g _ ∙ made_at_moved x sized O Append is)
       (O.made_groups Append).oldest))
 
-  pub advances : (by : ℕ) (o : Order) (g : ℕ) → IsAllowed x (Advance by o g)
+  pub advances : (by : ℕ) (o : Order) (g : ℕ) → IsStep x (Advance by o g)
       → IsOrderly (next_of x (Advance by o g))
   advances by Write g a = let e = Advance by Write g in let C = columns_of x sized O e a.is_there in
       let row = a.row in record {

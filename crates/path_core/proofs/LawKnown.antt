@@ -46,7 +46,7 @@ use Rattle.path_core.specs.declared.state.OrderGroups.{OrderGroups}
 use Rattle.path_core.specs.declared.state.PathState.{PathState}
 use Rattle.path_core.specs.Parts.{groups_of, seat_of, HoldsTurn}
 use Rattle.path_core.specs.Words.{by_of}
-use Rattle.path_core.specs.Allowed.{IsAllowed}
+use Rattle.path_core.specs.Allowed.{IsStep}
 use Rattle.path_core.specs.SeatAfter.{in_turn_groups, keeps, is_finished}
 use Rattle.path_core.specs.Next.{next_of, groups_after}
 use Rattle.path_core.specs.Lawful.{IsLawfulLog}
@@ -142,7 +142,7 @@ module _ (x : PathState) (L : IsLawfulLog x) where
   -- What was found still stands.
 
   -- what was found of an order's groups
-  groups_stay : (o : Order) (e : Event) → IsAllowed x e → (f : FoundGroups) → GroupsKnown x o f
+  groups_stay : (o : Order) (e : Event) → IsStep x e → (f : FoundGroups) → GroupsKnown x o f
       → GroupsKnown (next_of x e) o f
   groups_stay o e a f K = let M = groups_move x O o e a in record {
     current = λ g h. let l = K.current g h in let m = M.current in omega arith;
@@ -151,21 +151,21 @@ module _ (x : PathState) (L : IsLawfulLog x) where
   }
 
   -- the synced key only grows
-  synced_stays : (e : Event) → IsAllowed x e → x.synced ≤ (next_of x e).synced
+  synced_stays : (e : Event) → IsStep x e → x.synced ≤ (next_of x e).synced
   synced_stays (Put by Synced value) a = let l = a.row.2 in omega arith
   synced_stays (Put by (OldestLive table) value) a = omega arith
   synced_stays (Put by Stopped value) a = omega arith
   synced_stays e a = omega arith
 
   -- a stopped log stays stopped, with the same number
-  stopped_stays : (e : Event) → IsAllowed x e → 0 < x.stopped → x.stopped ≡ (next_of x e).stopped
+  stopped_stays : (e : Event) → IsStep x e → 0 < x.stopped → x.stopped ≡ (next_of x e).stopped
   stopped_stays (Put by Synced value) a some = refl
   stopped_stays (Put by (OldestLive table) value) a some = refl
   stopped_stays (Put by Stopped value) a some = absurd (let z = a.row.2 in omega arith)
   stopped_stays e a some = refl
 
   -- what was found of all words
-  pub words_stay : (e : Event) → IsAllowed x e → (f : Found) → WordsKnown x f
+  pub words_stay : (e : Event) → IsStep x e → (f : Found) → WordsKnown x f
       → WordsKnown (next_of x e) f
   words_stay e a f K = record {
     write = groups_stay Write e a f.write K.write;
@@ -203,7 +203,7 @@ module _ (x : PathState) (L : IsLawfulLog x) where
   groups_same Append e other = groups_left Append e other
 
   -- what is known exactly of an order's groups
-  exact_stays : (o : Order) (e : Event) → IsAllowed x e → (ChangesWord e → ⊥) → (f : FoundGroups)
+  exact_stays : (o : Order) (e : Event) → IsStep x e → (ChangesWord e → ⊥) → (f : FoundGroups)
       → GroupsExact x o f → GroupsExact (next_of x e) o f
   exact_stays o e a other f E =
       let S = groups_same o e other in let M = groups_move x O o e a in record {
@@ -213,7 +213,7 @@ module _ (x : PathState) (L : IsLawfulLog x) where
       }
 
   -- what is known exactly of all guarded words
-  sync_stays : (e : Event) → IsAllowed x e → (ChangesWord e → ⊥) → (turn : SyncTurn)
+  sync_stays : (e : Event) → IsStep x e → (ChangesWord e → ⊥) → (turn : SyncTurn)
       → SyncExact x turn → SyncExact (next_of x e) turn
   sync_stays e a other turn E = record {
     write = exact_stays Write e a other turn.write E.write;
@@ -235,7 +235,7 @@ module _ (x : PathState) (L : IsLawfulLog x) where
       stopped_same e other = refl
 
   -- who changes such a word holds the Sync turn
-  changer_holds : (e : Event) → IsAllowed x e → ChangesWord e → HoldsTurn (seat_of x (by_of e)) Sync
+  changer_holds : (e : Event) → IsStep x e → ChangesWord e → HoldsTurn (seat_of x (by_of e)) Sync
   changer_holds (MoveCurrent by order group) a c = held_holds (seat_of x by) (Opened order)
       (begun_is_held (seat_of x by) (Opened order)
       (λ q. let r : Opened order ≡ Rest = q in cc) a.row.0)
@@ -246,7 +246,7 @@ module _ (x : PathState) (L : IsLawfulLog x) where
   changer_holds e a c = absurd c
 
   -- what a seat knew before such a step, it knows after it
-  pub known_left : (e : Event) → IsAllowed x e → (ChangesWord e → ⊥) → (s : Seat) → KnowsWords x s
+  pub known_left : (e : Event) → IsStep x e → (ChangesWord e → ⊥) → (s : Seat) → KnowsWords x s
       → KnowsWords (next_of x e) s
   known_left e a other s K = record {
     words = words_stay e a s.found K.words;
@@ -254,7 +254,7 @@ module _ (x : PathState) (L : IsLawfulLog x) where
   }
 
   -- another seat knows what it knew
-  pub others_know : (e : Event) → IsAllowed x e → (w : ℕ) → w ≢ by_of e
+  pub others_know : (e : Event) → IsStep x e → (w : ℕ) → w ≢ by_of e
       → KnowsWords x (seat_of x w) → KnowsWords (next_of x e) (seat_of x w)
   others_know e a w apart K = record {
     words = words_stay e a (seat_of x w).found K.words;

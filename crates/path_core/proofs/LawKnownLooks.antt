@@ -19,7 +19,7 @@ use Rattle.path_core.specs.declared.seat.SyncTurn.{SyncTurn}
 use Rattle.path_core.specs.declared.state.PathState.{PathState}
 use Rattle.path_core.specs.Parts.{groups_of, tally_of, seat_of}
 use Rattle.path_core.specs.Words.{reading}
-use Rattle.path_core.specs.Allowed.{IsAllowed}
+use Rattle.path_core.specs.Allowed.{IsStep}
 use Rattle.path_core.specs.SeatAfter.{
   looked,
   keeps,
@@ -43,7 +43,7 @@ use Rattle.path_core.proofs.LawKnown.{
 
 module _ (x : PathState) (L : IsLawfulLog x) where
   -- A Look: what stands at the place is known.
-  pub looks_know : (by : ℕ) (at : Place) → IsAllowed x (Look by at)
+  pub looks_know : (by : ℕ) (at : Place) → IsStep x (Look by at)
       → KnowsWords (next_of x (Look by at)) (seat_of x by)
       → KnowsWords (next_of x (Look by at)) (looked (seat_of x by) at (reading x at))
   looks_know by (Count o group) a K = choose (is_finished (tally_of x o group)) refl

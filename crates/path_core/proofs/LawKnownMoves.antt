@@ -55,7 +55,7 @@ use Rattle.path_core.specs.Parts.{
   memtable_of,
 }
 use Rattle.path_core.specs.Words.{by_of}
-use Rattle.path_core.specs.Allowed.{IsAllowed}
+use Rattle.path_core.specs.Allowed.{IsStep}
 use Rattle.path_core.specs.SeatAfter.{at_table, raised_to, made_final}
 use Rattle.path_core.specs.Next.{next_of, with_memtable, with_bound, barred}
 use Rattle.path_core.specs.Lawful.{IsLawfulLog}
@@ -152,7 +152,7 @@ module _ (x : PathState) (L : IsLawfulLog x) where
   mark k = record k { bound = Raising (record { 0 = 0 }); mark = Some x.log }
 
   -- each table goes forward
-  pub table_grows : (e : Event) → IsAllowed x e → (t : ℕ)
+  pub table_grows : (e : Event) → IsStep x e → (t : ℕ)
       → TableGrows (table_of x t) (table_of (next_of x e) t)
   table_grows (MoveCurrent by Write group) a t = barred_at x.write.current
       (seat_of x by).tables x.tables (λ tb. TableGrows (table_of x t) tb) t
@@ -189,7 +189,7 @@ module _ (x : PathState) (L : IsLawfulLog x) where
   table_grows e a t = left_grows _ _ (left_itself (table_of x t))
 
   -- its words stay, or the holder of its turn acts
-  pub table_left : (e : Event) → IsAllowed x e → (t : ℕ)
+  pub table_left : (e : Event) → IsStep x e → (t : ℕ)
       → TableLeft (table_of x t) (table_of (next_of x e) t)
       ⊎ IsSome (seat_table (seat_of x (by_of e)) t).flush
   table_left (MoveCurrent by Write group) a t = inl (barred_at x.write.current

@@ -75,7 +75,7 @@ use Rattle.path_core.specs.Parts.{
   tally_of,
 }
 use Rattle.path_core.specs.Words.{reading, by_of}
-use Rattle.path_core.specs.Allowed.{IsAllowed}
+use Rattle.path_core.specs.Allowed.{IsStep}
 use Rattle.path_core.specs.SeatAfter.{
   looked,
   at_table,
@@ -151,7 +151,7 @@ module _ (x : PathState) (L : IsLawfulLog x) where
       (λ u n. subst (KnowsTable (table_of x u)) (sym (at_table_other t u f s n)) (others u))
 
   -- A Look: what stands at the place is known.
-  looks_at : (by : ℕ) (at : Place) → IsAllowed x (Look by at) → Knows (seat_of x by) → (t : ℕ)
+  looks_at : (by : ℕ) (at : Place) → IsStep x (Look by at) → Knows (seat_of x by) → (t : ℕ)
       → KnowsTable (table_of x t) (seat_table (looked (seat_of x by) at (reading x at)) t)
   looks_at by (Count Write group) a K t = choose (is_finished (tally_of x Write group))
     where
@@ -200,7 +200,7 @@ module _ (x : PathState) (L : IsLawfulLog x) where
   looks_at by (CursorWord Stopped) a K t = K t
 
   -- The acting seat knows the tables after its own step.
-  own_tables : (e : Event) → IsAllowed x e → Knows (seat_of x (by_of e)) → (t : ℕ)
+  own_tables : (e : Event) → IsStep x e → Knows (seat_of x (by_of e)) → (t : ℕ)
       → KnowsTable (table_of (next_of x e) t) (seat_table (own_after x e) t)
   own_tables (Look by at) a K t = looks_at by at a K t
   own_tables (Register by Write group) a K t = K t
@@ -286,7 +286,7 @@ module _ (x : PathState) (L : IsLawfulLog x) where
   own_tables e a K t = K t
 
   -- Another seat knows what it knew of a table.
-  other_tables : (e : Event) → IsAllowed x e → (w : ℕ) → w ≢ by_of e → Knows (seat_of x w)
+  other_tables : (e : Event) → IsStep x e → (w : ℕ) → w ≢ by_of e → Knows (seat_of x w)
       → (t : ℕ) → KnowsTable (table_of (next_of x e) t) (seat_table (seat_of x w) t)
   other_tables e a w apart K t = elim (table_left x L e a t) [
     | inl left ↦ known_still (table_of x t) _ left _ (K t)
@@ -331,7 +331,7 @@ seat_knows x w W K = record {
 
 -- Each allowed step keeps that what each seat found or put still stands.
 pub keeps_seats_know : (x : PathState) → IsLawfulLog x → ((w : ℕ) → SeatKnows x w) → (e : Event)
-    → IsAllowed x e → (w : ℕ) → SeatKnows (next_of x e) w
+    → IsStep x e → (w : ℕ) → SeatKnows (next_of x e) w
 keeps_seats_know x L K e a w =
     let A = each_seat x e a.seat (λ _ s. KnowsAll (next_of x e) s)
     (let own = all_known x (by_of e) (K (by_of e)) in record {

@@ -33,7 +33,7 @@ use Rattle.path_core.specs.declared.seat.SyncTurn.{SyncTurn}
 use Rattle.path_core.specs.declared.state.PathState.{PathState}
 use Rattle.path_core.specs.Parts.{seat_of}
 use Rattle.path_core.specs.Words.{by_of}
-use Rattle.path_core.specs.Allowed.{IsAllowed}
+use Rattle.path_core.specs.Allowed.{IsStep}
 use Rattle.path_core.specs.SeatAfter.{
   in_sync,
   in_turn_groups,
@@ -97,7 +97,7 @@ new_turn_known x = record {
 
 module _ (x : PathState) (L : IsLawfulLog x) where
   -- The holder of the Sync turn makes the next group current.
-  moves_know : (by : ℕ) (o : Order) (group : ℕ) → IsAllowed x (MoveCurrent by o group)
+  moves_know : (by : ℕ) (o : Order) (group : ℕ) → IsStep x (MoveCurrent by o group)
       → KnowsWords x (seat_of x by)
       → KnowsWords (next_of x (MoveCurrent by o group)) (own_after x (MoveCurrent by o group))
   moves_know by Write group a K = let e = MoveCurrent by Write group in record {
@@ -142,7 +142,7 @@ module _ (x : PathState) (L : IsLawfulLog x) where
   }
 
   -- It advances the oldest one.
-  advances_know : (by : ℕ) (o : Order) (group : ℕ) → IsAllowed x (Advance by o group)
+  advances_know : (by : ℕ) (o : Order) (group : ℕ) → IsStep x (Advance by o group)
       → KnowsWords x (seat_of x by)
       → KnowsWords (next_of x (Advance by o group)) (own_after x (Advance by o group))
   advances_know by Write group a K = let e = Advance by Write group in record {
@@ -203,7 +203,7 @@ module _ (x : PathState) (L : IsLawfulLog x) where
   }
 
   -- It puts the synced key, retires a memtable, or stops the log.
-  puts_know : (by : ℕ) (cursor : Cursor) (value : ℕ) → IsAllowed x (Put by cursor value)
+  puts_know : (by : ℕ) (cursor : Cursor) (value : ℕ) → IsStep x (Put by cursor value)
       → KnowsWords x (seat_of x by)
       → KnowsWords (next_of x (Put by cursor value)) (own_after x (Put by cursor value))
   puts_know by Synced value a K = let e = Put by Synced value in record {
@@ -272,7 +272,7 @@ module _ (x : PathState) (L : IsLawfulLog x) where
   }
 
   -- The acting seat knows the words after its own step.
-  pub own_knows : (e : Event) → IsAllowed x e → KnowsWords x (seat_of x (by_of e))
+  pub own_knows : (e : Event) → IsStep x e → KnowsWords x (seat_of x (by_of e))
       → KnowsWords (next_of x e) (own_after x e)
   own_knows (MoveCurrent by order group) a K = moves_know by order group a K
   own_knows (Advance by order group) a K = advances_know by order group a K

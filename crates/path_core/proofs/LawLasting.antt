@@ -9,7 +9,7 @@ use Rattle.path_core.specs.declared.state.Memtable.{Memtable}
 use Rattle.path_core.specs.declared.state.PathState.{PathState}
 use Rattle.path_core.specs.declared.state.TableState.{TableState}
 use Rattle.path_core.specs.Parts.{fresh_seat, untouched, table_of, seat_table}
-use Rattle.path_core.specs.Allowed.{IsAllowed}
+use Rattle.path_core.specs.Allowed.{IsStep}
 use Rattle.path_core.specs.Next.{next_of}
 use Rattle.path_core.specs.Runs.{opening}
 use Rattle.path_core.specs.Whole.{CarriesWhole}
@@ -35,7 +35,7 @@ use Rattle.path_core.proofs.LawKnownTables.{KnowsTable}
 use Rattle.path_core.proofs.LawKnownSeats.{seat_knows, keeps_seats_know}
 
 -- Each allowed step keeps it.
-pub keeps_logged_part : (x : PathState) → IsLawfulLogged x → (e : Event) → IsAllowed x e
+pub keeps_logged_part : (x : PathState) → IsLawfulLogged x → (e : Event) → IsStep x e
     → CarriesWhole e → IsLawfulLogged (next_of x e)
 keeps_logged_part x G e a whole =
     let C = G.placing.core in

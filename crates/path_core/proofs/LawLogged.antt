@@ -67,7 +67,7 @@ use Rattle.path_core.specs.Parts.{
   is_marker_kind,
   key_of_bound,
 }
-use Rattle.path_core.specs.Allowed.{IsAllowed, IsSyncPoint}
+use Rattle.path_core.specs.Allowed.{IsStep, IsSyncPoint}
 use Rattle.path_core.specs.Steps.{IsPassedMarker, HasPassedMarker}
 use Rattle.path_core.specs.Promises.{IsDeposited}
 use Rattle.path_core.specs.Next.{next_of, is_between}
@@ -229,7 +229,7 @@ module _ (x : PathState) (L : IsLawfulLog x) where
     }
 
     -- an entry claim that is noted once stays so
-    noted_still : (e : Event) → IsAllowed x e → (c : ClaimOf) → Contains x.claims c
+    noted_still : (e : Event) → IsStep x e → (c : ClaimOf) → Contains x.claims c
         → IsTrue (is_entry c) → count_by (is_note_at c.end) x.notes ≡ 1
         → count_by (is_note_at c.end) (next_of x e).notes ≡ 1
     noted_still e a c h entry one =
@@ -244,7 +244,7 @@ module _ (x : PathState) (L : IsLawfulLog x) where
         omega arith
 
     -- what ends at or below the synced key after a step was noted before it
-    noted_below : (e : Event) → IsAllowed x e → (c : ClaimOf) → Contains x.claims c
+    noted_below : (e : Event) → IsStep x e → (c : ClaimOf) → Contains x.claims c
         → IsTrue (is_entry c) → c.end ≤ (next_of x e).synced
         → count_by (is_note_at c.end) x.notes ≡ 1
     noted_below (Put by Synced value) a c h entry low =
@@ -256,7 +256,7 @@ module _ (x : PathState) (L : IsLawfulLog x) where
     noted_below e a c h entry low = G.gathered c h entry low
 
     -- what a step claims ends above the synced key
-    not_claimed_now : (e : Event) → IsAllowed x e → (c : ClaimOf)
+    not_claimed_now : (e : Event) → IsStep x e → (c : ClaimOf)
         → ClaimedNow x L.sized T L.orders L.own_claim L.each_claim_noted_once L.notes_are_claims e c
         → c.end ≤ (next_of x e).synced → ⊥
     not_claimed_now (Claim by from to Entry) a c is low =
@@ -268,7 +268,7 @@ module _ (x : PathState) (L : IsLawfulLog x) where
     not_claimed_now e a c is low = is
 
     -- a note that is deposited ends above the synced key
-    deposits_above : (by g : ℕ) (note : EntryNote) → IsAllowed x (Close by Append g (Deposit note))
+    deposits_above : (by g : ℕ) (note : EntryNote) → IsStep x (Close by Append g (Deposit note))
         → is_at_most x.synced note ≡ false
     deposits_above by g note a = dite (dec_le note.end.0 x.synced)
         (λ low. absurd (
@@ -285,7 +285,7 @@ module _ (x : PathState) (L : IsLawfulLog x) where
     ends l = map (λ (n : EntryNote). n.end.0) l
 
     -- what is logged after a step
-    logged_now : (e : Event) → IsAllowed x e
+    logged_now : (e : Event) → IsStep x e
         → (next_of x e).logged ≡ ends (filter (is_at_most (next_of x e).synced) (next_of x e).notes)
     logged_now (Put by Synced value) a =
         ap (λ l. l ++ ends (filter (is_between x.synced value) x.notes)) G.logged
@@ -306,7 +306,7 @@ module _ (x : PathState) (L : IsLawfulLog x) where
     logged_now e a = G.logged
 
     -- files end where the log is lasting
-    files_below : (e : Event) → IsAllowed x e → (f : WrittenFile) → Contains (next_of x e).files f
+    files_below : (e : Event) → IsStep x e → (f : WrittenFile) → Contains (next_of x e).files f
         → f.upper ≤ after x.capacity (next_of x e).synced
     files_below (Put by Synced value) a f h =
         let u = G.files_are_below f h in
@@ -335,7 +335,7 @@ module _ (x : PathState) (L : IsLawfulLog x) where
     files_below e a f h = G.files_are_below f h
 
     -- Each allowed step keeps it.
-    pub keeps_logged_synced : (e : Event) → IsAllowed x e → LoggedIsSynced (next_of x e)
+    pub keeps_logged_synced : (e : Event) → IsStep x e → LoggedIsSynced (next_of x e)
     keeps_logged_synced e a = record {
       gathered = λ c h entry low. elim (claims_were x L.sized T L.orders L.own_claim
           L.each_claim_noted_once L.notes_are_claims e c entry h) [

@@ -44,7 +44,7 @@ use Rattle.path_core.specs.declared.state.Bound.TheVariants.{Live, Raising, Fina
 use Rattle.path_core.specs.declared.state.Memtable.{Memtable}
 use Rattle.path_core.specs.declared.state.TableState.{TableState}
 use Rattle.path_core.specs.Parts.{fresh_memtable, fresh_table, table_of, memtable_at, key_of_bound}
-use Rattle.path_core.specs.Allowed.{IsAllowed}
+use Rattle.path_core.specs.Allowed.{IsStep}
 use Rattle.path_core.specs.Next.{with_memtable, with_bound}
 use Rattle.path_core.specs.Lawful.{IsSized}
 use Rattle.path_core.specs.LawfulLog.{ClaimsTile}
@@ -204,7 +204,7 @@ finalises log group m table b key inside is mark raised = changes log group m ta
 module _ (x : PathState) (sized : IsSized x) (T : ClaimsTile x) (O : IsOrderly x)
     (W : SwitchesAre x) where
   -- each table moves so
-  pub table_moves : (e : Event) → IsAllowed x e → (t : ℕ)
+  pub table_moves : (e : Event) → IsStep x e → (t : ℕ)
       → TableMoves x.log x.write.current (table_of x t) (table_of (next_of x e) t)
   table_moves (MoveCurrent by Write group) a t =
       barred_at x.write.current (seat_of x by).tables x.tables

@@ -36,7 +36,7 @@ use Rattle.path_core.specs.declared.event.Event.{Event}
 use Rattle.path_core.specs.declared.event.Event.TheVariants.{Close}
 use Rattle.path_core.specs.declared.state.PathState.{PathState}
 use Rattle.path_core.specs.Parts.{fresh_seat, seat_of}
-use Rattle.path_core.specs.Allowed.{IsAllowed}
+use Rattle.path_core.specs.Allowed.{IsStep}
 use Rattle.path_core.specs.Next.{next_of, joined}
 use Rattle.path_core.specs.Lawful.{IsSized}
 use Rattle.path_core.specs.LawfulOrders.{IsOrderly}
@@ -71,13 +71,13 @@ module _ (x : PathState) (sized : IsSized x) (T : ClaimsTile x) (O : IsOrderly x
   }
 
   -- the claim of a note that is deposited
-  pub own_range : (by g : ℕ) (note : EntryNote) → IsAllowed x (Close by Append g (Deposit note))
+  pub own_range : (by g : ℕ) (note : EntryNote) → IsStep x (Close by Append g (Deposit note))
       → Contains x.claims (entry_claim note.writer.0 note.start.0 note.end.0)
   own_range by g note a = subst (λ k. Contains x.claims (entry_claim k note.start.0 note.end.0))
       (sym a.row.1.writer) (owned by _ a.row.1.range)
 
   -- a note that is deposited was not noted before
-  pub not_noted : (by g : ℕ) (note : EntryNote) → IsAllowed x (Close by Append g (Deposit note))
+  pub not_noted : (by g : ℕ) (note : EntryNote) → IsStep x (Close by Append g (Deposit note))
       → (n : EntryNote) → Contains x.notes n → n.end.0 ≡ note.end.0 → ⊥
   not_noted by g note a n h is =
       let o = noted.once (entry_claim note.writer.0 note.start.0 note.end.0)
@@ -91,7 +91,7 @@ module _ (x : PathState) (sized : IsSized x) (T : ClaimsTile x) (O : IsOrderly x
       omega arith
 
   -- where a note that is deposited stands among the others
-  stands_apart : (by g : ℕ) (note : EntryNote) → IsAllowed x (Close by Append g (Deposit note))
+  stands_apart : (by g : ℕ) (note : EntryNote) → IsStep x (Close by Append g (Deposit note))
       → (n : EntryNote) → Contains x.notes n
       → (n.end.0 ≤ note.start.0) ⊎ (note.end.0 ≤ n.start.0)
   stands_apart by g note a n h = elim (one_or_apart x.capacity x.ordinals x.log x.claims T
@@ -106,7 +106,7 @@ module _ (x : PathState) (sized : IsSized x) (T : ClaimsTile x) (O : IsOrderly x
   note_long n h = entry_is_long x.capacity x.ordinals x.log x.claims T
       (entry_claim n.writer.0 n.start.0 n.end.0) (notes.each n h).claim refl
 
-  keeps_order : (by g : ℕ) (note : EntryNote) → IsAllowed x (Close by Append g (Deposit note))
+  keeps_order : (by g : ℕ) (note : EntryNote) → IsStep x (Close by Append g (Deposit note))
       → AllPairs (λ (a b : EntryNote). a.end.0 ≤ b.start.0) (joined note x.notes)
   keeps_order by g note a =
       order_insert (λ (a b : EntryNote). a.end.0 ≤ b.start.0) x.notes place note
@@ -153,7 +153,7 @@ module _ (x : PathState) (sized : IsSized x) (T : ClaimsTile x) (O : IsOrderly x
             | inr q ↦ q
           ]
 
-  pub keeps_notes : (e : Event) → IsAllowed x e → CarriesWhole e → NotesAreClaims (next_of x e)
+  pub keeps_notes : (e : Event) → IsStep x e → CarriesWhole e → NotesAreClaims (next_of x e)
   keeps_notes (Close by Append g (Deposit note)) a whole = record {
     each = λ n h. elim (insert_cases x.notes _ note n h) [
       | inl old ↦ is_claimed_still (Close by Append g (Deposit note)) n (notes.each n old)

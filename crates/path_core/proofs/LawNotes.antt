@@ -55,7 +55,7 @@ use Rattle.path_core.specs.declared.seat.Seat.{Seat}
 use Rattle.path_core.specs.declared.state.PathState.{PathState}
 use Rattle.path_core.specs.Parts.{fresh_seat, seat_of}
 use Rattle.path_core.specs.Words.{by_of}
-use Rattle.path_core.specs.Allowed.{IsAllowed, is_unbarred_marker}
+use Rattle.path_core.specs.Allowed.{IsStep, is_unbarred_marker}
 use Rattle.path_core.specs.Next.{next_of, claim_of, barred_marker, joined}
 use Rattle.path_core.specs.Lawful.{IsSized}
 use Rattle.path_core.specs.LawfulOrders.{IsOrderly}
@@ -144,7 +144,7 @@ module _ (x : PathState) (sized : IsSized x) (T : ClaimsTile x) (O : IsOrderly x
 
   -- A seat's claim is among the claims.
 
-  pub keeps_owned : (e : Event) → IsAllowed x e → OwnClaims (next_of x e)
+  pub keeps_owned : (e : Event) → IsStep x e → OwnClaims (next_of x e)
   keeps_owned e a w = each_seat x e a.seat (λ w s. (r : Range) → s.claim ≡ Some r
       → Contains (next_of x e).claims (entry_claim w r.start r.end))
       (λ r h. own e r a (sym (columns_of x sized O e a.is_there).claim ∙ h))
@@ -154,7 +154,7 @@ module _ (x : PathState) (sized : IsSized x) (T : ClaimsTile x) (O : IsOrderly x
           → Contains (next_of x e).claims (entry_claim (by_of e) r.start r.end)
       stays e r h = claims_stay e (entry_claim (by_of e) r.start r.end) refl (owned (by_of e) r h)
 
-      own : (e : Event) (r : Range) → IsAllowed x e
+      own : (e : Event) (r : Range) → IsStep x e
           → claim_after (seat_of x (by_of e)).claim e ≡ Some r
           → Contains (next_of x e).claims (entry_claim (by_of e) r.start r.end)
       own (Claim by from to Entry) r a h =
@@ -169,7 +169,7 @@ module _ (x : PathState) (sized : IsSized x) (T : ClaimsTile x) (O : IsOrderly x
   -- Each entry claim is noted once.
 
   -- how the seats that have not deposited a claim change
-  undeposited_after : (e : Event) → IsAllowed x e → (end : ℕ)
+  undeposited_after : (e : Event) → IsStep x e → (end : ℕ)
       → count_by (is_undeposited end) (next_of x e).seats
       + cond {A = ℕ} (is_undeposited end (seat_of x (by_of e))) 1 0
       ≡ count_by (is_undeposited end) x.seats
@@ -189,7 +189,7 @@ module _ (x : PathState) (sized : IsSized x) (T : ClaimsTile x) (O : IsOrderly x
       omega arith
 
   -- what a step leaves of a claim that was there
-  once_stays : (e : Event) → IsAllowed x e → (next_of x e).notes ≡ x.notes → (c : ClaimOf)
+  once_stays : (e : Event) → IsStep x e → (next_of x e).notes ≡ x.notes → (c : ClaimOf)
       → IsTrue (is_entry c) → Contains x.claims c
       → undeposited_by c.end (claim_after (seat_of x (by_of e)).claim e)
       (note_after (seat_of x (by_of e)).note e) ≡ is_undeposited c.end (seat_of x (by_of e))
@@ -247,13 +247,13 @@ module _ (x : PathState) (sized : IsSized x) (T : ClaimsTile x) (O : IsOrderly x
       by None e = refl
       by (Some t) e = absurd (none-some g (sym ((O.orders_nest w).deposited t e).0 ∙ inside))
 
-  pub claimed_above : (by : ℕ) (from to : Key) → IsAllowed x (Claim by from to Entry) → x.log < to.0
+  pub claimed_above : (by : ℕ) (from to : Key) → IsStep x (Claim by from to Entry) → x.log < to.0
   claimed_above by from to a =
       goes_above x.capacity x.ordinals x.log to.0 x.claims
       (claim_of x.capacity by from.0 to.0 Entry)
       (entry_goes_on x by from to sized T a.row.3 a.row.4) refl
 
-  once_claimed : (by : ℕ) (from to : Key) (a : IsAllowed x (Claim by from to Entry)) (c : ClaimOf)
+  once_claimed : (by : ℕ) (from to : Key) (a : IsStep x (Claim by from to Entry)) (c : ClaimOf)
       → IsTrue (is_entry c) → Contains x.claims c ⊎ (claim_of x.capacity by from.0 to.0 Entry ≡ c)
       → count_by (is_undeposited c.end) (next_of x (Claim by from to Entry)).seats
       + count_by (is_note_at c.end) x.notes ≡ 1
@@ -279,7 +279,7 @@ module _ (x : PathState) (sized : IsSized x) (T : ClaimsTile x) (O : IsOrderly x
       omega arith)
 
   once_deposited : (by g : ℕ) (note : EntryNote)
-      (a : IsAllowed x (Close by Append g (Deposit note))) (c : ClaimOf)
+      (a : IsStep x (Close by Append g (Deposit note))) (c : ClaimOf)
       → IsTrue (is_entry c) → Contains x.claims c
       → count_by (is_undeposited c.end) (next_of x (Close by Append g (Deposit note))).seats
       + count_by (is_note_at c.end) (joined note x.notes) ≡ 1
@@ -300,7 +300,7 @@ module _ (x : PathState) (sized : IsSized x) (T : ClaimsTile x) (O : IsOrderly x
       let o = noted.once c h entry in
       omega arith
 
-  keeps_once : (e : Event) → IsAllowed x e → (c : ClaimOf) → Contains (next_of x e).claims c
+  keeps_once : (e : Event) → IsStep x e → (c : ClaimOf) → Contains (next_of x e).claims c
       → IsTrue (is_entry c) → count_by (is_undeposited c.end) (next_of x e).seats
       + count_by (is_note_at c.end) (next_of x e).notes ≡ 1
   keeps_once (Claim by from to Entry) a c h entry = once_claimed by from to a c entry
@@ -349,7 +349,7 @@ module _ (x : PathState) (sized : IsSized x) (T : ClaimsTile x) (O : IsOrderly x
     range = H.range;
   }
 
-  keeps_own_note : (e : Event) → IsAllowed x e → (w t : ℕ) → (seat_of (next_of x e) w).note ≡ Some t
+  keeps_own_note : (e : Event) → IsStep x e → (w t : ℕ) → (seat_of (next_of x e) w).note ≡ Some t
       → HasNote (next_of x e).notes (seat_of (next_of x e) w).claim w t
   keeps_own_note e a w = each_seat x e a.seat (λ w s. (t : ℕ) → s.note ≡ Some t
       → HasNote (next_of x e).notes s.claim w t)
@@ -359,7 +359,7 @@ module _ (x : PathState) (sized : IsSized x) (T : ClaimsTile x) (O : IsOrderly x
       C : Columns e (seat_of x (by_of e)) (own_after x e)
       C = columns_of x sized O e a.is_there
 
-      own : (e : Event) → IsAllowed x e → (t : ℕ)
+      own : (e : Event) → IsStep x e → (t : ℕ)
           → note_after (seat_of x (by_of e)).note e ≡ Some t
           → HasNote (next_of x e).notes (claim_after (seat_of x (by_of e)).claim e) (by_of e) t
       own (Close by Append g (Deposit note)) a t h = record {
@@ -379,7 +379,7 @@ module _ (x : PathState) (sized : IsSized x) (T : ClaimsTile x) (O : IsOrderly x
           note_stays (Claim by from to Marker) _ by t (noted.own by t h)
       own e a t h = note_stays e _ (by_of e) t (noted.own (by_of e) t h)
 
-  pub keeps_noted : (e : Event) → IsAllowed x e → EachClaimNoted (next_of x e)
+  pub keeps_noted : (e : Event) → IsStep x e → EachClaimNoted (next_of x e)
   keeps_noted e a = record {
     once = keeps_once e a;
     own = keeps_own_note e a;

@@ -56,7 +56,7 @@ use Rattle.path_core.specs.declared.state.PathState.{PathState}
 use Rattle.path_core.specs.declared.state.Placed.{Placed}
 use Rattle.path_core.specs.Parts.{fresh_seat, seat_of, seat_table}
 use Rattle.path_core.specs.Words.{by_of}
-use Rattle.path_core.specs.Allowed.{IsAllowed}
+use Rattle.path_core.specs.Allowed.{IsStep}
 use Rattle.path_core.specs.Next.{next_of, places_from, end_of_claim}
 use Rattle.path_core.specs.Lawful.{IsLawfulLog, IsLawfulPlacing}
 use Rattle.path_core.specs.LawfulLog.{is_write_of}
@@ -171,7 +171,7 @@ module _ (x : PathState) (Z : IsLawfulPlacing x) where
       (L.notes_are_claims.each I.note I.among).claim in omega arith
 
   -- Each allowed step keeps that a running write's entry is placed nowhere.
-  pub keeps_unplaced : RunningAreUnplaced x → (e : Event) → IsAllowed x e
+  pub keeps_unplaced : RunningAreUnplaced x → (e : Event) → IsStep x e
       → RunningAreUnplaced (next_of x e)
   keeps_unplaced U e a w r p claim h is = each_seat x e a.seat
       (λ _ s. (r : Range) → s.claim ≡ Some r → p.entry ≡ r.end → ⊥)
@@ -182,7 +182,7 @@ module _ (x : PathState) (Z : IsLawfulPlacing x) where
             other (sym (one_claimant x Z (by_of e) v I.range r I.claim c (sym I.entry ∙ is)))
       ]) w r claim is
     where
-      own : (e : Event) → IsAllowed x e → (r : Range) → Contains (next_of x e).placed p
+      own : (e : Event) → IsStep x e → (r : Range) → Contains (next_of x e).placed p
           → claim_after (seat_of x (by_of e)).claim e ≡ Some r → p.entry ≡ r.end → ⊥
       own (Close by Write g carried) a r h c is = none-some r c
       own (Close by Append g carried) a r h c is = U by r p c h is
@@ -196,7 +196,7 @@ module _ (x : PathState) (Z : IsLawfulPlacing x) where
       own e a r h c is = U (by_of e) r p c h is
 
   -- Each allowed step keeps that each entry has at most one placing at a table.
-  pub keeps_one : RunningAreUnplaced x → PlacedOnce x → (e : Event) → IsAllowed x e
+  pub keeps_one : RunningAreUnplaced x → PlacedOnce x → (e : Event) → IsStep x e
       → (t entry : ℕ) → count_by (is_placing t entry) (next_of x e).placed ≤ 1
   keeps_one U S (Close by Write g (Applied places)) a t entry =
       let s = sum_by-append (λ p. cond (is_placing t entry p) 1 0) x.placed

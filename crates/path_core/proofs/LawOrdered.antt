@@ -45,7 +45,7 @@ use Rattle.path_core.specs.declared.seat.Issue.{Issue}
 use Rattle.path_core.specs.declared.seat.Issue.TheVariants.{Rest}
 use Rattle.path_core.specs.declared.state.PathState.{PathState}
 use Rattle.path_core.specs.Parts.{groups_of, seat_of, HoldsTurn, HoldsNoTurn}
-use Rattle.path_core.specs.Allowed.{IsAllowed}
+use Rattle.path_core.specs.Allowed.{IsStep}
 use Rattle.path_core.specs.Next.{next_of}
 use Rattle.path_core.specs.Lawful.{IsSized}
 use Rattle.path_core.specs.LawfulOrders.{CountsOf, MadeOf, TurnsHeld, OrdersNest, IsOrderly}
@@ -85,7 +85,7 @@ module _ (x : PathState) (sized : IsSized x) (O : IsOrderly x) where
   no_holder by none Sync h = false≢true (sym (ap (λ o. is_some o) none.sync) ∙ h)
   no_holder by none (Flush t) h = false≢true (sym (ap (λ o. is_some o) (none.flush t.0)) ∙ h)
 
-  registers : (by : ℕ) (o : Order) (g : ℕ) → IsAllowed x (Register by o g)
+  registers : (by : ℕ) (o : Order) (g : ℕ) → IsStep x (Register by o g)
       → IsOrderly (next_of x (Register by o g))
   registers by Write g a = let e = Register by Write g in
       let C = columns_of x sized O e a.is_there in
@@ -151,7 +151,7 @@ module _ (x : PathState) (sized : IsSized x) (O : IsOrderly x) where
 
   -- Close: the seat leaves its group.
 
-  closes_append : (by g : ℕ) (carried : Carried) → (a : IsAllowed x (Close by Append g carried))
+  closes_append : (by g : ℕ) (carried : Carried) → (a : IsStep x (Close by Append g carried))
       → OrdersNest (own_after x (Close by Append g carried))
       → IsOrderly (next_of x (Close by Append g carried))
   closes_append by g carried a nest = let e = Close by Append g carried in
@@ -174,7 +174,7 @@ module _ (x : PathState) (sized : IsSized x) (O : IsOrderly x) where
         orders_nest = each_seat x e a.seat (λ _ s. OrdersNest s) nest (λ w _. O.orders_nest w);
       }
 
-  closes_write : (by g : ℕ) (carried : Carried) → (a : IsAllowed x (Close by Write g carried))
+  closes_write : (by g : ℕ) (carried : Carried) → (a : IsStep x (Close by Write g carried))
       → (seat_of x by).append ≡ None → IsOrderly (next_of x (Close by Write g carried))
   closes_write by g carried a out = let e = Close by Write g carried in
       let C = columns_of x sized O e a.is_there in
@@ -201,7 +201,7 @@ module _ (x : PathState) (sized : IsSized x) (O : IsOrderly x) where
         }) (λ w _. O.orders_nest w);
       }
 
-  closes : (by g : ℕ) (o : Order) (carried : Carried) → IsAllowed x (Close by o g carried)
+  closes : (by g : ℕ) (o : Order) (carried : Carried) → IsStep x (Close by o g carried)
       → IsOrderly (next_of x (Close by o g carried))
   closes by g Write Nothing a = closes_write by g Nothing a a.row.1.0
   closes by g Write (Deposit note) a = absurd a.row.1
@@ -225,14 +225,14 @@ module _ (x : PathState) (sized : IsSized x) (O : IsOrderly x) where
         deposited = λ t h. (C.append, subst IsSome (sym (C.claim ∙ a.row.1.range)) refl);
       })
 
-  takes : (by : ℕ) (turn : Turn) → IsAllowed x (TakeTurn by turn)
+  takes : (by : ℕ) (turn : Turn) → IsStep x (TakeTurn by turn)
       → IsOrderly (next_of x (TakeTurn by turn))
   takes by turn a = let e = TakeTurn by turn in let C = columns_of x sized O e a.is_there in
       orders_stay x sized O e a.seat C refl refl refl refl
       (turns_taken x by turn a.seat C i T a.row.0 a.row.1)
       (nest_stays x sized O e _ _ C (O.orders_nest by) refl refl refl refl)
 
-  gives : (by : ℕ) (turn : Turn) → IsAllowed x (GiveTurn by turn)
+  gives : (by : ℕ) (turn : Turn) → IsStep x (GiveTurn by turn)
       → IsOrderly (next_of x (GiveTurn by turn))
   gives by (Flush table) a = quiet x sized O (GiveTurn by (Flush table)) a
       (λ b. b) refl refl refl refl refl refl refl
@@ -247,7 +247,7 @@ module _ (x : PathState) (sized : IsSized x) (O : IsOrderly x) where
       (idle_where_same x sized O e a.seat refl refl))
       (nest_stays x sized O e _ _ C (O.orders_nest by) refl refl refl refl)
 
-  claims : (by : ℕ) (from to : Key) → (a : IsAllowed x (Claim by from to Entry))
+  claims : (by : ℕ) (from to : Key) → (a : IsStep x (Claim by from to Entry))
       → IsOrderly (next_of x (Claim by from to Entry))
   claims by from to a = let e = Claim by from to Entry in
       let C = columns_of x sized O e a.is_there in
@@ -265,7 +265,7 @@ module _ (x : PathState) (sized : IsSized x) (O : IsOrderly x) where
       not_both none some = false≢true (sym (ap (λ o. is_some o) none) ∙ some)
 
   -- Each allowed step keeps that groups and turns are in order.
-  pub keeps_orders : (e : Event) → IsAllowed x e → IsOrderly (next_of x e)
+  pub keeps_orders : (e : Event) → IsStep x e → IsOrderly (next_of x e)
   keeps_orders (Look by at) a = quiet x sized O (Look by at) a
       (λ b. b) refl refl refl refl refl refl refl
   keeps_orders (Register by o g) a = registers by o g a

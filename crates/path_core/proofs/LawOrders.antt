@@ -32,7 +32,7 @@ use Rattle.path_core.specs.declared.state.OrderGroups.{OrderGroups}
 use Rattle.path_core.specs.declared.state.PathState.{PathState}
 use Rattle.path_core.specs.Parts.{groups_of, seat_of, group_in, found_of, HoldsTurn}
 use Rattle.path_core.specs.Words.{reading, by_of, place_of}
-use Rattle.path_core.specs.Allowed.{IsAllowed, IsThere}
+use Rattle.path_core.specs.Allowed.{IsStep, IsThere}
 use Rattle.path_core.specs.Next.{next_of, gives_file}
 use Rattle.path_core.specs.Lawful.{IsSized}
 use Rattle.path_core.specs.LawfulOrders.{
@@ -212,7 +212,7 @@ module _ (x : PathState) (sized : IsSized x) (O : IsOrderly x) where
       (fits_seat e there)
 
   -- a step that takes and gives no turn and leaves the orders
-  pub quiet : (e : Event) → IsAllowed x e → (TakesTurn e → ⊥)
+  pub quiet : (e : Event) → IsStep x e → (TakesTurn e → ⊥)
       → (next_of x e).write ≡ x.write → (next_of x e).append ≡ x.append
       → write_after (seat_of x (by_of e)).write e ≡ (seat_of x (by_of e)).write
       → append_after (seat_of x (by_of e)).append e ≡ (seat_of x (by_of e)).append

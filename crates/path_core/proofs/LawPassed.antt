@@ -72,7 +72,7 @@ use Rattle.path_core.specs.Parts.{
   HasPassedBarrier,
 }
 use Rattle.path_core.specs.Words.{by_of}
-use Rattle.path_core.specs.Allowed.{IsAllowed, IsSettled}
+use Rattle.path_core.specs.Allowed.{IsStep, IsSettled}
 use Rattle.path_core.specs.Next.{next_of, groups_after, with_tally}
 use Rattle.path_core.specs.Lawful.{IsSized}
 use Rattle.path_core.specs.LawfulOrders.{IsOrderly, SwitchesHeld}
@@ -129,7 +129,7 @@ same_order Append Append e = refl
 
 module _ (x : PathState) (O : IsOrderly x) where
   -- the groups of an order, as a step of any order leaves them
-  moves_by : (o : Order) (e : Event) → IsAllowed x e
+  moves_by : (o : Order) (e : Event) → IsStep x e
       → GroupsMove (groups_of x o) (groups_after o (groups_of x o) e)
   moves_by o (Register by order group) a = cond_both (is_same_order o order)
       (with_tally (groups_of x o) group one_more) (groups_of x o) (GroupsMove (groups_of x o))
@@ -179,13 +179,13 @@ module _ (x : PathState) (O : IsOrderly x) where
   moves_by o e a = groups_still (groups_of x o)
 
   -- each allowed step moves the groups of an order so
-  pub groups_move : (o : Order) (e : Event) → IsAllowed x e
+  pub groups_move : (o : Order) (e : Event) → IsStep x e
       → GroupsMove (groups_of x o) (groups_of (next_of x e) o)
   groups_move Write e a = moves_by Write e a
   groups_move Append e a = moves_by Append e a
 
   -- a passed barrier of a memtable stays passed
-  pub passed_stays : (e : Event) → IsAllowed x e → (t m : ℕ) → HasPassedBarrier x t m
+  pub passed_stays : (e : Event) → IsStep x e → (t m : ℕ) → HasPassedBarrier x t m
       → HasPassedBarrier (next_of x e) t m
   passed_stays e a t m B = let M = groups_move Write e a in record {
     group = B.group;
@@ -198,11 +198,11 @@ module _ (x : PathState) (O : IsOrderly x) where
 
 module _ (x : PathState) (sized : IsSized x) (O : IsOrderly x) where
   -- The acting seat after its step.
-  own_is : (e : Event) → IsAllowed x e → own_after x e ≡ seat_of (next_of x e) (by_of e)
+  own_is : (e : Event) → IsStep x e → own_after x e ≡ seat_of (next_of x e) (by_of e)
   own_is e a = sym (get_or-set_same x.seats (by_of e) (own_after x e) fresh_seat a.seat)
 
   -- what is newest stays, or the holder of the table's turn acts
-  newest_is : (e : Event) → IsAllowed x e → (t : ℕ)
+  pub newest_is : (e : Event) → IsStep x e → (t : ℕ)
       → ((table_of (next_of x e) t).newest ≡ (table_of x t).newest)
       ⊎ IsSome (seat_table (seat_of (next_of x e) (by_of e)) t).flush
   newest_is (MoveCurrent by Write group) a t = inl (barred_at x.write.current
@@ -230,7 +230,7 @@ module _ (x : PathState) (sized : IsSized x) (O : IsOrderly x) where
   newest_is e a t = inl refl
 
   -- the holder of a table's turn keeps it, or the newest switch is through
-  holder_stays : (e : Event) → IsAllowed x e → (t w : ℕ) → IsSome (seat_table (seat_of x w) t).flush
+  holder_stays : (e : Event) → IsStep x e → (t w : ℕ) → IsSome (seat_table (seat_of x w) t).flush
       → IsSome (seat_table (seat_of (next_of x e) w) t).flush ⊎ IsSettled x t
   holder_stays e a t w = each_seat x e a.seat
       (λ w s. IsSome (seat_table (seat_of x w) t).flush
@@ -240,7 +240,7 @@ module _ (x : PathState) (sized : IsSized x) (O : IsOrderly x) where
         | inr q ↦ inr q
       ]) (λ _ _ h. inl h) w
     where
-      own : (e : Event) → IsAllowed x e → IsSome (seat_table (seat_of x (by_of e)) t).flush
+      own : (e : Event) → IsStep x e → IsSome (seat_table (seat_of x (by_of e)) t).flush
           → IsTrue (flush_after t (is_some (seat_table (seat_of x (by_of e)) t).flush) e)
           ⊎ IsSettled x t
       own (TakeTurn by (Flush table)) a h = inl (cond_both (table.0 == t) true
@@ -257,14 +257,14 @@ module _ (x : PathState) (sized : IsSized x) (O : IsOrderly x) where
       own e a h = inl h
 
   -- a switch that is through stays so, while no newer one is made
-  settled_stays : (e : Event) → IsAllowed x e → (t : ℕ)
+  pub settled_stays : (e : Event) → IsStep x e → (t : ℕ)
       → (table_of (next_of x e) t).newest ≡ (table_of x t).newest → IsSettled x t
       → IsSettled (next_of x e) t
   settled_stays e a t same S l = subst (λ n. HasPassedBarrier (next_of x e) t (n - 1)) (sym same)
       (passed_stays x O e a t _ (S (subst (λ n. 0 < n) same l)))
 
   -- Each allowed step keeps that a switch that is not through has a holder.
-  pub keeps_switches_held : SwitchesHeld x → (e : Event) → IsAllowed x e
+  pub keeps_switches_held : SwitchesHeld x → (e : Event) → IsStep x e
       → SwitchesHeld (next_of x e)
   keeps_switches_held S e a t inside = elim (newest_is e a t) [
     | inr holds ↦ inr (by_of e, holds)

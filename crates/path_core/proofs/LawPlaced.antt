@@ -79,7 +79,7 @@ use Rattle.path_core.specs.Parts.{
   memtable_of,
   key_of_bound,
 }
-use Rattle.path_core.specs.Allowed.{IsAllowed}
+use Rattle.path_core.specs.Allowed.{IsStep}
 use Rattle.std.proofs.lemmas.Bool.{false≢true, and_parts, eqb-true, leb-true, leb-false}
 use Rattle.path_core.proofs.LawColumns.{each_seat, own_after, at_table_same, at_table_other}
 use Rattle.path_core.specs.Parts.{marked_of, touches}
@@ -153,7 +153,7 @@ module _ (x : PathState) (C : IsLawfulCore x) (P : PlacesAre x) where
       pair None None e f = ap (λ (o : Option ℕ). (o, (seat_table (seat_of x w) t).place)) e
           ∙ ap (λ (o : Option ℕ). (None, o)) f
 
-  moved : (e : Event) → IsAllowed x e → (w t : ℕ)
+  moved : (e : Event) → IsStep x e → (w t : ℕ)
       → Tries e t (seat_of x w).claim (seat_of x w).note (tried_in (seat_table (seat_of x w) t))
   moved e a w t = tries_move (length x.tables) (length (next_of x e).tables) t x.log x.write.current
       (table_of x t) (table_of (next_of x e) t) (seat_of x w).claim (seat_of x w).note
@@ -161,7 +161,7 @@ module _ (x : PathState) (C : IsLawfulCore x) (P : PlacesAre x) where
       (as_many_tables x e) (moves_of x C P e a t) (λ r h. claim_low x C P w r h) (P.tries w t)
 
   -- where what is tried stays, and the claim and the note as well
-  own_same : (e : Event) → IsAllowed x e → (ChangesTry e → ⊥) → (t : ℕ)
+  own_same : (e : Event) → IsStep x e → (ChangesTry e → ⊥) → (t : ℕ)
       → claim_after (own e).claim e ≡ (own e).claim → note_after (own e).note e ≡ (own e).note
       → Tries e t (own_after x e).claim (own_after x e).note (tried_in (seat_table
       (own_after x e) t))
@@ -171,7 +171,7 @@ module _ (x : PathState) (C : IsLawfulCore x) (P : PlacesAre x) where
       (by_of e) t)
 
   -- where nothing was tried
-  own_none : (e : Event) → IsAllowed x e → (ChangesTry e → ⊥) → (t : ℕ) → (own e).note ≡ None
+  own_none : (e : Event) → IsStep x e → (ChangesTry e → ⊥) → (t : ℕ) → (own e).note ≡ None
       → Tries e t (own_after x e).claim (own_after x e).note (tried_in (seat_table
       (own_after x e) t))
   own_none e a other t none =
@@ -341,7 +341,7 @@ module _ (x : PathState) (C : IsLawfulCore x) (P : PlacesAre x) where
   seat_fits : (w t : ℕ) → t < length x.tables → t < length (seat_of x w).tables
   seat_fits w t inside = let l = L.sized.seats w in let f = L.sized.limits.few_tables in omega arith
 
-  at_one : (e : Event) → IsAllowed x e → (u t : ℕ) → u < length x.tables → (f : SeatTable
+  at_one : (e : Event) → IsStep x e → (u t : ℕ) → u < length x.tables → (f : SeatTable
       → SeatTable)
       → claim_after (own e).claim e ≡ (own e).claim → note_after (own e).note e ≡ (own e).note
       → seat_table (own_after x e) t ≡ seat_table (at_table u f (own e)) t
@@ -358,7 +358,7 @@ module _ (x : PathState) (C : IsLawfulCore x) (P : PlacesAre x) where
       (sym (at_table_other u t f (own e) q)) (moved e a (by_of e) t)))
 
   -- the end to which a writer raises
-  raised_end : (by : ℕ) (table : Table) (m : ℕ) (to : Key) → IsAllowed x (Raise by table m to)
+  raised_end : (by : ℕ) (table : Table) (m : ℕ) (to : Key) → IsStep x (Raise by table m to)
       → (r : Range) → (seat_of x by).claim ≡ Some r → r.end ≡ to.0
   raised_end by table m to a r c = elim a.row.1 [
     | inl w ↦ sym (ap (λ (z : Range). z.end) (same_Some _ r (sym w.end ∙ c)))
@@ -377,7 +377,7 @@ module _ (x : PathState) (C : IsLawfulCore x) (P : PlacesAre x) where
           some_flush (Some turn) e = refl
 
   -- A Raise: a writer that found its try raising has its place there.
-  raise_tries : (by : ℕ) (table : Table) (m : ℕ) (to : Key) (a : IsAllowed x (Raise by table m to))
+  raise_tries : (by : ℕ) (table : Table) (m : ℕ) (to : Key) (a : IsStep x (Raise by table m to))
       → (b : BoundOf) → (memtable_of x table.0 m).bound ≡ b → (c : Bool)
       → (is_some (seat_of x by).note && is_at (seat_table (seat_of x by) table.0).trying m
       && is_raising b) ≡ c
@@ -442,7 +442,7 @@ module _ (x : PathState) (C : IsLawfulCore x) (P : PlacesAre x) where
   raise_again by table m to true T = T
   raise_again by table m to false T = T
 
-  own_tries : (e : Event) → IsAllowed x e → (t : ℕ)
+  own_tries : (e : Event) → IsStep x e → (t : ℕ)
       → Tries e t (own_after x e).claim (own_after x e).note (tried_in (seat_table
       (own_after x e) t))
   own_tries (Close by Write g carried) a t =
@@ -492,7 +492,7 @@ module _ (x : PathState) (C : IsLawfulCore x) (P : PlacesAre x) where
       && is_raising (memtable_of x table.0 m).bound) refl))
   own_tries e a t = own_same e a (λ b. b) t refl refl
 
-  pub keeps_tries : (e : Event) → IsAllowed x e → (w t : ℕ)
+  pub keeps_tries : (e : Event) → IsStep x e → (w t : ℕ)
       → Tries e t (seat_of (next_of x e) w).claim (seat_of (next_of x e) w).note
       (tried_in (seat_table (seat_of (next_of x e) w) t))
   keeps_tries e a w t = each_seat x e a.seat

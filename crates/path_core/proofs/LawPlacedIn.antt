@@ -35,7 +35,7 @@ use Rattle.path_core.specs.declared.state.PathState.{PathState}
 use Rattle.path_core.specs.Parts.{untouched, seat_of}
 use Rattle.path_core.specs.Next.{next_of}
 use Rattle.path_core.specs.Parts.{table_of}
-use Rattle.path_core.specs.Allowed.{IsAllowed}
+use Rattle.path_core.specs.Allowed.{IsStep}
 use Rattle.path_core.specs.Next.{places_from, end_of_claim}
 use Rattle.path_core.proofs.LawEnds.{ends_below}
 use Rattle.path_core.specs.Parts.{touches}
@@ -58,7 +58,7 @@ module _ (x : PathState) (C : IsLawfulCore x) (P : PlacesAre x) where
   note_low n h = ends_below x.capacity x.ordinals x.log x.claims L.claims_tile_the_log _
       (L.notes_are_claims.each n h).claim
 
-  placed_moved : (e : Event) → IsAllowed x e → (p : Placed) → PlacedIs x p
+  placed_moved : (e : Event) → IsStep x e → (p : Placed) → PlacedIs x p
       → PlacedIs (next_of x e) p
   placed_moved e a p I = record {
     table = subst (λ k. p.table < k) (sym (as_many_tables x e)) I.table;
@@ -172,7 +172,7 @@ module _ (x : PathState) (C : IsLawfulCore x) (P : PlacesAre x) where
             (T.accepted p.memtable _ I.place H.range));
       }
 
-  pub keeps_placed : (e : Event) → IsAllowed x e → (p : Placed) → Contains (next_of x e).placed p
+  pub keeps_placed : (e : Event) → IsStep x e → (p : Placed) → Contains (next_of x e).placed p
       → PlacedIs (next_of x e) p
   keeps_placed e a p h = placed_moved e a p (was e h)
     where

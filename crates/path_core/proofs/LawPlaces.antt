@@ -46,7 +46,7 @@ use Rattle.path_core.specs.Next.{next_of}
 use Rattle.clog_base.specs.declared.position.Key.{Key}
 use Rattle.path_core.specs.declared.state.Bound.TheVariants.{Final}
 use Rattle.path_core.specs.Parts.{fresh_table, table_of, memtable_of, key_of_bound}
-use Rattle.path_core.specs.Allowed.{IsAllowed}
+use Rattle.path_core.specs.Allowed.{IsStep}
 use Rattle.path_core.specs.LawfulOrders.{IsOrderly}
 use Rattle.path_core.specs.LawfulTables.{SwitchesAre}
 use Rattle.std.proofs.lemmas.Bool.{false≢true}
@@ -77,10 +77,10 @@ module _ (x : PathState) (C : IsLawfulCore x) (P : PlacesAre x) where
   abbrev W : SwitchesAre x
   W = C.switches
 
-  pub column : (e : Event) → IsAllowed x e → Columns e (seat_of x (by_of e)) (own_after x e)
+  pub column : (e : Event) → IsStep x e → Columns e (seat_of x (by_of e)) (own_after x e)
   column e a = columns_of x L.sized O e a.is_there
 
-  pub moves_of : (e : Event) → IsAllowed x e → (t : ℕ)
+  pub moves_of : (e : Event) → IsStep x e → (t : ℕ)
       → TableMoves x.log x.write.current (table_of x t) (table_of (next_of x e) t)
   moves_of e a t = table_moves x L.sized L.claims_tile_the_log O W e a t
 
@@ -88,13 +88,13 @@ module _ (x : PathState) (C : IsLawfulCore x) (P : PlacesAre x) where
   claim_low w r h = ends_below x.capacity x.ordinals x.log x.claims L.claims_tile_the_log _
       (L.own_claim w r h)
 
-  claims_high : (by : ℕ) (from to : Key) → IsAllowed x (Claim by from to Entry) → x.log < to.0
+  claims_high : (by : ℕ) (from to : Key) → IsStep x (Claim by from to Entry) → x.log < to.0
   claims_high by from to a = claimed_above x L.sized L.claims_tile_the_log O L.own_claim
       L.each_claim_noted_once L.notes_are_claims by from to a
 
   -- Later groups log above.
 
-  pub keeps_later : (e : Event) → IsAllowed x e → (t m g h w : ℕ) (u : Key) (r : Range)
+  pub keeps_later : (e : Event) → IsStep x e → (t m g h w : ℕ) (u : Key) (r : Range)
       → (memtable_of (next_of x e) t m).barrier ≡ Some g
       → (memtable_of (next_of x e) t m).bound ≡ Final u
       → (seat_of (next_of x e) w).write ≡ Some h → g < h
@@ -105,7 +105,7 @@ module _ (x : PathState) (C : IsLawfulCore x) (P : PlacesAre x) where
         | inr now ↦ absurd (let n = nobody_above_now x O L.sized Write e a w h write in omega arith)
       ]
     where
-      own : (e : Event) → IsAllowed x e → (v : Key) → v.0 ≤ x.log
+      own : (e : Event) → IsStep x e → (v : Key) → v.0 ≤ x.log
           → ((h : ℕ) (r : Range) → (seat_of x (by_of e)).write ≡ Some h → g < h
           → (seat_of x (by_of e)).claim ≡ Some r → v.0 < r.end)
           → (h : ℕ) (r : Range) → write_after (seat_of x (by_of e)).write e ≡ Some h → g < h
@@ -138,7 +138,7 @@ module _ (x : PathState) (C : IsLawfulCore x) (P : PlacesAre x) where
 
   -- No unfinished write ends at or below a retired memtable's bound.
 
-  retired_were : (e : Event) → IsAllowed x e → (t m : ℕ)
+  retired_were : (e : Event) → IsStep x e → (t m : ℕ)
       → m < (table_of (next_of x e) t).oldest_live
       → (m < (table_of x t).oldest_live) ⊎ HasPassedBarrier x t m
   retired_were (MoveCurrent by Write group) a t m l = inl (barred_at x.write.current
@@ -182,7 +182,7 @@ module _ (x : PathState) (C : IsLawfulCore x) (P : PlacesAre x) where
           (λ n. absurd (let s = in_group x O Write w h e in
           let z = ap running_of (B.passed.finished h (omega arith)) in omega arith))
 
-  pub keeps_none_below : (e : Event) → IsAllowed x e → (t m : ℕ)
+  pub keeps_none_below : (e : Event) → IsStep x e → (t m : ℕ)
       → m < (table_of (next_of x e) t).oldest_live
       → NoneBelow (next_of x e) t (key_of_bound (memtable_of (next_of x e) t m).bound)
   keeps_none_below e a t m l = elim (retired_were e a t m l) [
@@ -195,7 +195,7 @@ module _ (x : PathState) (C : IsLawfulCore x) (P : PlacesAre x) where
       may : ℕ → Option ℕ → Bool
       may t note = option_map_or (λ (tables : ℕ). touches tables t) note true
 
-      own : (e : Event) → IsAllowed x e → (u : Key) → u.0 ≤ x.log → NoneBelow x t u.0 → (r : Range)
+      own : (e : Event) → IsStep x e → (u : Key) → u.0 ≤ x.log → NoneBelow x t u.0 → (r : Range)
           → claim_after (seat_of x (by_of e)).claim e ≡ Some r
           → IsTrue (option_map_or (λ (tables : ℕ). touches tables t) (note_after (seat_of x
           (by_of e)).note e) true)

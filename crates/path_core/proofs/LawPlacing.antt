@@ -57,7 +57,7 @@ use Rattle.path_core.specs.Parts.{
   group_in,
   found_of,
 }
-use Rattle.path_core.specs.Allowed.{IsAllowed}
+use Rattle.path_core.specs.Allowed.{IsStep}
 use Rattle.path_core.specs.Next.{next_of}
 use Rattle.path_core.specs.Runs.{opening, first_group}
 use Rattle.path_core.specs.Lawful.{IsLawfulLog, IsLawfulCore, IsLawfulPlacing}
@@ -93,7 +93,7 @@ use Rattle.path_core.proofs.LawGroups.{fresh_out}
 use Rattle.path_core.proofs.LawOrdered.{keeps_orders}
 use Rattle.path_core.proofs.LawOrders.{both}
 
-pub keeps_log : (x : PathState) → IsLawfulLog x → (e : Event) → IsAllowed x e → CarriesWhole e
+pub keeps_log : (x : PathState) → IsLawfulLog x → (e : Event) → IsStep x e → CarriesWhole e
     → IsLawfulLog (next_of x e)
 keeps_log x L e a whole = record {
   sized = keeps_sizes x L.sized L.orders e a;
@@ -337,7 +337,7 @@ opening_places tables seats capacity ordinals base = record {
 
 -- Each allowed step keeps it.
 
-pub keeps_core : (x : PathState) → IsLawfulCore x → (e : Event) → IsAllowed x e → CarriesWhole e
+pub keeps_core : (x : PathState) → IsLawfulCore x → (e : Event) → IsStep x e → CarriesWhole e
     → IsLawfulCore (next_of x e)
 keeps_core x C e a whole = let L = C.log in record {
   log = keeps_log x L e a whole;
@@ -345,7 +345,7 @@ keeps_core x C e a whole = let L = C.log in record {
       L.each_claim_noted_once L.notes_are_claims L.logged_are_notes C.switches e a;
 }
 
-pub keeps_placing : (x : PathState) → IsLawfulPlacing x → (e : Event) → IsAllowed x e
+pub keeps_placing : (x : PathState) → IsLawfulPlacing x → (e : Event) → IsStep x e
     → CarriesWhole e
     → IsLawfulPlacing (next_of x e)
 keeps_placing x C e a whole = record {

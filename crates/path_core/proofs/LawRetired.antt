@@ -45,7 +45,7 @@ use Rattle.path_core.specs.Parts.{
   last_upper,
   HasPassedBarrier,
 }
-use Rattle.path_core.specs.Allowed.{IsAllowed}
+use Rattle.path_core.specs.Allowed.{IsStep}
 use Rattle.path_core.specs.Words.{by_of}
 use Rattle.path_core.specs.Next.{next_of}
 use Rattle.path_core.specs.Lawful.{IsLawfulLog, IsLawfulPlacing}
@@ -106,7 +106,7 @@ module _ (x : PathState) (Z : IsLawfulPlacing x) where
 
   -- what was retired was so before, or is the table's oldest live memtable of this step
   pub retired_by : (by : ℕ) (table : Table) (value : ℕ)
-      → IsAllowed x (Put by (OldestLive table) value) → (t m : ℕ)
+      → IsStep x (Put by (OldestLive table) value) → (t m : ℕ)
       → m < (table_of (next_of x (Put by (OldestLive table) value)) t).oldest_live
       → (m < (table_of x t).oldest_live)
       ⊎ ((t ≡ table.0) × (m ≡ (table_of x table.0).oldest_live))
@@ -127,7 +127,7 @@ module _ (x : PathState) (Z : IsLawfulPlacing x) where
       (and_from (t == t) (m == m) (eq-eqb t t refl) (eq-eqb m m refl)))) ∙ empty)
 
   -- the file of a retired memtable stays
-  file_stays : (e : Event) → IsAllowed x e → (t m : ℕ) → m < (table_of x t).oldest_live
+  file_stays : (e : Event) → IsStep x e → (t m : ℕ) → m < (table_of x t).oldest_live
       → HasFile x t m → HasFile (next_of x e) t m
   file_stays e a t m old H = record {
     file = H.file;
@@ -151,7 +151,7 @@ module _ (x : PathState) (Z : IsLawfulPlacing x) where
 
   module _ (F : LastFiles x) (R : RetiredAreFiled x) where
     -- what was placed in a memtable that was retired before has its file still
-    old_filed : (e : Event) → IsAllowed x e → (t m entry : ℕ) → t < length x.tables
+    old_filed : (e : Event) → IsStep x e → (t m entry : ℕ) → t < length x.tables
         → m < (table_of x t).oldest_live
         → Contains (next_of x e).placed (record { table = t; entry = entry; memtable = m })
         → HasFile (next_of x e) t m
@@ -159,7 +159,7 @@ module _ (x : PathState) (Z : IsLawfulPlacing x) where
         ((R.each t m inside old).filed entry (placed_before e t m entry old h))
 
     -- a memtable that is retired with something in it has its file now
-    new_filed : (by : ℕ) (table : Table) (value : ℕ) → (a : IsAllowed x
+    new_filed : (by : ℕ) (table : Table) (value : ℕ) → (a : IsStep x
         (Put by (OldestLive table) value)) → (entry : ℕ)
         → Contains x.placed (record {
           table = table.0;
@@ -182,7 +182,7 @@ module _ (x : PathState) (Z : IsLawfulPlacing x) where
     }
 
     -- what was placed in a retired memtable has its file
-    filed : (e : Event) → IsAllowed x e → (t m : ℕ) → t < length x.tables
+    filed : (e : Event) → IsStep x e → (t m : ℕ) → t < length x.tables
         → m < (table_of (next_of x e) t).oldest_live → (entry : ℕ)
         → Contains (next_of x e).placed (record { table = t; entry = entry; memtable = m })
         → HasFile (next_of x e) t m
@@ -210,7 +210,7 @@ module _ (x : PathState) (Z : IsLawfulPlacing x) where
         (subst (λ k. m < k) (oldest_same x e a (λ b. b) t) l) h
 
     -- a retired memtable's barrier is passed
-    passed : (e : Event) → IsAllowed x e → (t m : ℕ) → t < length x.tables
+    passed : (e : Event) → IsStep x e → (t m : ℕ) → t < length x.tables
         → m < (table_of (next_of x e) t).oldest_live → HasPassedBarrier (next_of x e) t m
     passed (Put by (OldestLive table) value) a t m inside l =
         passed_stays x L.orders (Put by (OldestLive table) value) a t m
@@ -227,7 +227,7 @@ module _ (x : PathState) (Z : IsLawfulPlacing x) where
         (R.each t m inside (subst (λ k. m < k) (oldest_same x e a (λ b. b) t) l)).passed
 
     -- the files follow one another
-    follows : (e : Event) → IsAllowed x e → (t : ℕ)
+    follows : (e : Event) → IsStep x e → (t : ℕ)
         → FollowFrom 0 (filter (is_file_of t) (next_of x e).files)
     follows (Put by (OldestLive table) value) a t = files_retired x by table value
         (λ fs. FollowFrom 0 (filter (is_file_of t) fs)) (λ _. R.follow t)
@@ -239,7 +239,7 @@ module _ (x : PathState) (Z : IsLawfulPlacing x) where
         (sym (files_same x e (λ b. b))) (R.follow t)
 
     -- Each allowed step keeps that retired memtables are filed.
-    pub keeps_retired : (e : Event) → IsAllowed x e → IsLawfulPlacing (next_of x e)
+    pub keeps_retired : (e : Event) → IsStep x e → IsLawfulPlacing (next_of x e)
         → RetiredAreFiled (next_of x e)
     keeps_retired e a N = record {
       each = λ t m inside l. let here = subst (λ k. t < k) (as_many_tables x e) inside in record {

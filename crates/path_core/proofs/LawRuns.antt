@@ -1,11 +1,12 @@
 -- Every run is lawful: the opening is, each allowed step keeps it, and so does each list of steps.
-use Rattle.std.proofs.Common.{ℕ, List, [], ◌∷◌, sym, subst}
+use Rattle.std.proofs.Common.{ℕ, List, [], ◌∷◌, refl, sym, subst}
+use mathlib.Core.List.{reverse_aux}
 use Rattle.std.specs.List.{Contains, filter}
 use Rattle.clog_base.specs.Sizes.{IsWithinLimits}
 use Rattle.path_core.specs.declared.event.Event.{Event}
 use Rattle.path_core.specs.declared.note.EntryNote.{EntryNote}
 use Rattle.path_core.specs.declared.state.PathState.{PathState}
-use Rattle.path_core.specs.Allowed.{IsAllowed}
+use Rattle.path_core.specs.Allowed.{IsStep}
 use Rattle.path_core.specs.Next.{next_of}
 use Rattle.path_core.specs.Runs.{opening, IsOpening, Run, Past}
 use Rattle.path_core.specs.Whole.{CarriesWhole}
@@ -18,6 +19,7 @@ use Rattle.path_core.specs.Lawful.{
   IsLawfulPath,
 }
 use Rattle.path_core.specs.LawfulLog.{is_at_most, LoggedAreNotes, LoggedIsSynced}
+use Rattle.path_core.proofs.LawLoose.{loosened}
 use Rattle.path_core.proofs.LawElements.{map_from}
 use Rattle.path_core.proofs.LawTests.{filter_from}
 use Rattle.path_core.proofs.LawLasting.{keeps_logged_part, opening_logged}
@@ -101,7 +103,7 @@ both_parts x G K = let W = G.placing.core in let L = W.log in record {
 }
 
 -- Each allowed step keeps that the state is lawful.
-pub keeps_lawful : (x : PathState) → IsLawfulPath x → (e : Event) → IsAllowed x e → CarriesWhole e
+pub keeps_lawful : (x : PathState) → IsLawfulPath x → (e : Event) → IsStep x e → CarriesWhole e
     → IsLawfulPath (next_of x e)
 keeps_lawful x L e a whole = both_parts (next_of x e)
     (keeps_logged_part x (logged_of x L) e a whole) (keeps_filing x (filing_of x L) e a whole)
@@ -119,9 +121,9 @@ opening_lawful tables seats capacity ordinals base limits =
 pub run_lawful : (es : List Event) (x y : PathState) → IsLawfulPath x → Run x es y → IsLawfulPath y
 run_lawful [] x y law run = subst IsLawfulPath run law
 run_lawful (e ∷ es) x y law run =
-    run_lawful es (next_of x e) y (keeps_lawful x law e run.1 run.0) run.2
+    run_lawful es (next_of x e) y (keeps_lawful x law e (loosened x e run.1) run.0) run.2
 
--- the same with the newest step first
+-- So does each run that is told from its end.
 pub past_lawful : (es : List Event) (x y : PathState) → IsLawfulPath x → Past x es y
     → IsLawfulPath y
 past_lawful [] x y law past = subst IsLawfulPath past law
@@ -132,3 +134,16 @@ past_lawful (e ∷ es) x y law past = subst IsLawfulPath past.4
 pub from_opening : (x y : PathState) (es : List Event) → IsOpening x → Run x es y → IsLawfulPath y
 from_opening x y es start run = run_lawful es x y (subst IsLawfulPath (sym start.is)
     (opening_lawful start.tables start.seats x.capacity x.ordinals x.base start.limits)) run
+
+-- So does each that is told from its end.
+pub past_from_opening : (x y : PathState) (es : List Event) → IsOpening x → Past x es y
+    → IsLawfulPath y
+past_from_opening x y es start past = past_lawful es x y (subst IsLawfulPath (sym start.is)
+    (opening_lawful start.tables start.seats x.capacity x.ordinals x.base start.limits)) past
+
+-- A list of allowed steps, told from its end, behind what was told before.
+pub told_back : (es before : List Event) (x y z : PathState) → Past x before y → Run y es z
+    → Past x (reverse_aux es before) z
+told_back [] before x y z past run = subst (Past x before) run past
+told_back (e ∷ es) before x y z past run = told_back es (e ∷ before) x (next_of y e) z
+    (y, past, run.0, loosened y e run.1, refl) run.2

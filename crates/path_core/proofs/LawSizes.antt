@@ -31,7 +31,7 @@ use Rattle.path_core.specs.declared.state.PathState.{PathState}
 use Rattle.path_core.specs.declared.state.TableState.{TableState}
 use Rattle.path_core.specs.Parts.{seat_of}
 use Rattle.path_core.specs.Words.{by_of}
-use Rattle.path_core.specs.Allowed.{IsAllowed}
+use Rattle.path_core.specs.Allowed.{IsStep}
 use Rattle.path_core.specs.Next.{next_of, barred_tables}
 use Rattle.path_core.specs.Lawful.{IsSized}
 use Rattle.path_core.specs.LawfulOrders.{IsOrderly}
@@ -62,7 +62,7 @@ as_many_tables x e = refl
 pub as_many_seats : (x : PathState) (e : Event) → length (next_of x e).seats ≡ length x.seats
 as_many_seats x e = length-set x.seats (by_of e) (own_after x e)
 
-pub keeps_sizes : (x : PathState) → IsSized x → IsOrderly x → (e : Event) → IsAllowed x e
+pub keeps_sizes : (x : PathState) → IsSized x → IsOrderly x → (e : Event) → IsStep x e
     → IsSized (next_of x e)
 keeps_sizes x sized O e a = record {
   limits = subst (λ n. IsWithinLimits n (length (next_of x e).seats) x.capacity x.ordinals)

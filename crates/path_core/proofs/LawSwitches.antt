@@ -89,7 +89,7 @@ use Rattle.path_core.specs.Parts.{
   memtable_of,
   IsFinal,
 }
-use Rattle.path_core.specs.Allowed.{IsAllowed}
+use Rattle.path_core.specs.Allowed.{IsStep}
 use Rattle.path_core.specs.SeatAfter.{marks as marks_seat}
 use Rattle.path_core.specs.Next.{with_memtable, with_bound}
 use Rattle.path_core.specs.Lawful.{IsSized}
@@ -137,7 +137,7 @@ module _ (x : PathState) (sized : IsSized x) (T : ClaimsTile x) (O : IsOrderly x
     (owned : OwnClaims x) (noted : EachClaimNoted x) (notes : NotesAreClaims x)
     (logged : LoggedAreNotes x) (W : SwitchesAre x) where
   -- the key to which a bound is raised is at most the log key
-  raises_low : (by : ℕ) (table : Table) (m : ℕ) (to : Key) → IsAllowed x (Raise by table m to)
+  raises_low : (by : ℕ) (table : Table) (m : ℕ) (to : Key) → IsStep x (Raise by table m to)
       → to.0 ≤ x.log
   raises_low by table m to a = elim a.row.1 [
     | inl w ↦ ends_below x.capacity x.ordinals x.log x.claims T _ (owned by _ w.end)
@@ -154,7 +154,7 @@ module _ (x : PathState) (sized : IsSized x) (T : ClaimsTile x) (O : IsOrderly x
   inside_of : (t m : ℕ) → suc m ≡ (table_of x t).newest → m < length (table_of x t).memtables
   inside_of t m last = let l = (W.tables t).bounds_rise.made in omega arith
 
-  keeps_tables : (e : Event) → IsAllowed x e → (t : ℕ)
+  keeps_tables : (e : Event) → IsStep x e → (t : ℕ)
       → MemtablesAre (next_of x e).log (table_of (next_of x e) t)
   keeps_tables (Claim by from to what) a t = log_grown x.log (table_of x t) (W.tables t) to.0
       (log_grows x sized T O owned noted notes logged (Claim by from to what) a)
@@ -198,7 +198,7 @@ module _ (x : PathState) (sized : IsSized x) (T : ClaimsTile x) (O : IsOrderly x
       → MarkedIsRaising (next_of x e).log (table_of (next_of x e) t) k
 
   -- a step that changes no mark: what was marked stays raising
-  marks_stay : (e : Event) → IsAllowed x e → (ChangesMark e → ⊥) → (t : ℕ)
+  marks_stay : (e : Event) → IsStep x e → (ChangesMark e → ⊥) → (t : ℕ)
       → ((w : ℕ) (k : Marked) → marked_of (seat_of x w) t ≡ Some k
       → MarkedIsRaising x.log (table_of x t) k
       → MarkedIsRaising (next_of x e).log (table_of (next_of x e) t) k)
@@ -269,7 +269,7 @@ module _ (x : PathState) (sized : IsSized x) (T : ClaimsTile x) (O : IsOrderly x
           ≡ marked_memtable (memtable_at (table_of x t) m)
       here = get_or-set_same (table_of x t).memtables m _ fresh_memtable (inside_of t m last)
 
-  marks : (by : ℕ) (table : Table) (m : ℕ) (a : IsAllowed x (Switch by table m Mark)) (t w : ℕ)
+  marks : (by : ℕ) (table : Table) (m : ℕ) (a : IsStep x (Switch by table m Mark)) (t w : ℕ)
       → Marks (Switch by table m Mark) t (seat_of (next_of x (Switch by table m Mark)) w)
   marks by table m a t = each_seat x (Switch by table m Mark) a.seat
       (λ _ s. Marks (Switch by table m Mark) t s)
@@ -294,7 +294,7 @@ module _ (x : PathState) (sized : IsSized x) (T : ClaimsTile x) (O : IsOrderly x
           let q : Live ≡ Raising M.bound = sym a.row.2
           ∙ ap (λ j. (memtable_at (table_of x table.0) j).bound) (sym same) ∙ M.raising in cc
 
-  raises : (by : ℕ) (table : Table) (m : ℕ) (to : Key) (a : IsAllowed x (Raise by table m to))
+  raises : (by : ℕ) (table : Table) (m : ℕ) (to : Key) (a : IsStep x (Raise by table m to))
       (t w : ℕ)
       → Marks (Raise by table m to) t (seat_of (next_of x (Raise by table m to)) w)
   raises by table m to a t = each_seat x (Raise by table m to) a.seat
@@ -335,7 +335,7 @@ module _ (x : PathState) (sized : IsSized x) (T : ClaimsTile x) (O : IsOrderly x
           ∙ ap (option_map _) (marked_same (seat_table (seat_of x by) table.0).flush _
           (λ turn. refl))
 
-  finalises : (by : ℕ) (table : Table) (m : ℕ) (a : IsAllowed x (Finalise by table m)) (t w : ℕ)
+  finalises : (by : ℕ) (table : Table) (m : ℕ) (a : IsStep x (Finalise by table m)) (t w : ℕ)
       → Marks (Finalise by table m) t (seat_of (next_of x (Finalise by table m)) w)
   finalises by table m a t = each_seat x (Finalise by table m) a.seat
       (λ _ s. Marks (Finalise by table m) t s)
@@ -351,7 +351,7 @@ module _ (x : PathState) (sized : IsSized x) (T : ClaimsTile x) (O : IsOrderly x
       (marked_holds by table.0 _ a.row.marked))))
       (λ _. W.marked w t k h))
 
-  takes_flush : (by : ℕ) (table : Table) (a : IsAllowed x (TakeTurn by (Flush table))) (t w : ℕ)
+  takes_flush : (by : ℕ) (table : Table) (a : IsStep x (TakeTurn by (Flush table))) (t w : ℕ)
       → Marks (TakeTurn by (Flush table)) t (seat_of (next_of x (TakeTurn by (Flush table))) w)
   takes_flush by table a t = each_seat x (TakeTurn by (Flush table)) a.seat
       (λ _ s. Marks (TakeTurn by (Flush table)) t s)
@@ -362,7 +362,7 @@ module _ (x : PathState) (sized : IsSized x) (T : ClaimsTile x) (O : IsOrderly x
       (λ (st : SeatTable). record st { flush = Some new_flush }) n) ∙ h)))
       (λ w _ k h. W.marked w t k h)
 
-  gives : (by : ℕ) (table : Table) (a : IsAllowed x (GiveTurn by (Flush table))) (t w : ℕ)
+  gives : (by : ℕ) (table : Table) (a : IsStep x (GiveTurn by (Flush table))) (t w : ℕ)
       → Marks (GiveTurn by (Flush table)) t (seat_of (next_of x (GiveTurn by (Flush table))) w)
   gives by table a t = each_seat x (GiveTurn by (Flush table)) a.seat
       (λ _ s. Marks (GiveTurn by (Flush table)) t s)
@@ -373,7 +373,7 @@ module _ (x : PathState) (sized : IsSized x) (T : ClaimsTile x) (O : IsOrderly x
       (λ (st : SeatTable). record st { flush = None }) n) ∙ h)))
       (λ w _ k h. W.marked w t k h)
 
-  keeps_marks : (e : Event) → IsAllowed x e → (t w : ℕ) → Marks e t (seat_of (next_of x e) w)
+  keeps_marks : (e : Event) → IsStep x e → (t w : ℕ) → Marks e t (seat_of (next_of x e) w)
   keeps_marks (Claim by from to Entry) a t = marks_stay (Claim by from to Entry) a (λ b. b) t
       (λ w k h M. grown x.log to.0 (table_of x t) k
       (log_grows x sized T O owned noted notes logged (Claim by from to Entry) a) M)
@@ -440,7 +440,7 @@ module _ (x : PathState) (sized : IsSized x) (T : ClaimsTile x) (O : IsOrderly x
   keeps_marks (GiveTurn by (Flush table)) a t = gives by table a t
   keeps_marks e a t = marks_stay e a (λ b. b) t (λ w k h M. M)
 
-  pub keeps_switches : (e : Event) → IsAllowed x e → SwitchesAre (next_of x e)
+  pub keeps_switches : (e : Event) → IsStep x e → SwitchesAre (next_of x e)
   keeps_switches e a = record {
     tables = keeps_tables e a;
     marked = λ w t k h. keeps_marks e a t w k h;

@@ -42,7 +42,7 @@ use Rattle.path_core.specs.declared.state.Claim.{Claim as ClaimOf}
 use Rattle.path_core.specs.declared.state.PathState.{PathState}
 use Rattle.path_core.specs.Parts.{no_claim, seat_of, claim_at, is_marker}
 use Rattle.path_core.specs.Words.{by_of}
-use Rattle.path_core.specs.Allowed.{IsAllowed, is_unbarred_marker}
+use Rattle.path_core.specs.Allowed.{IsStep, is_unbarred_marker}
 use Rattle.path_core.specs.Next.{next_of, claim_of, barred_marker}
 use Rattle.path_core.specs.Lawful.{IsLawfulLog}
 use Rattle.path_core.specs.LawfulLog.{ClaimsTile, SyncedIsMarker}
@@ -64,21 +64,21 @@ module _ (x : PathState) (L : IsLawfulLog x) where
   T = L.claims_tile_the_log
 
   -- what the step leaves of the fields of the acting seat
-  column : (e : Event) → IsAllowed x e → Columns e (seat_of x (by_of e)) (own_after x e)
+  column : (e : Event) → IsStep x e → Columns e (seat_of x (by_of e)) (own_after x e)
   column e a = columns_of x L.sized O e a.is_there
 
   -- the log key only grows
-  pub grows : (e : Event) → IsAllowed x e → x.log ≤ (next_of x e).log
+  pub grows : (e : Event) → IsStep x e → x.log ≤ (next_of x e).log
   grows e a = log_grows x L.sized T O L.own_claim L.each_claim_noted_once L.notes_are_claims
       L.logged_are_notes e a
 
   -- an entry that is claimed ends above the log key
-  claims_high : (by : ℕ) (from to : Key) → IsAllowed x (Claim by from to Entry) → x.log < to.0
+  claims_high : (by : ℕ) (from to : Key) → IsStep x (Claim by from to Entry) → x.log < to.0
   claims_high by from to a = claimed_above x L.sized T O L.own_claim L.each_claim_noted_once
       L.notes_are_claims by from to a
 
   -- Each allowed step keeps that later groups log above a marker.
-  pub keeps_later_groups : LaterGroupsAbove x → (e : Event) → IsAllowed x e
+  pub keeps_later_groups : LaterGroupsAbove x → (e : Event) → IsStep x e
       → LaterGroupsAbove (next_of x e)
   keeps_later_groups A e a = record {
     markers = λ i g h w r inside marker barrier append less claim.
@@ -90,7 +90,7 @@ module _ (x : PathState) (L : IsLawfulLog x) where
         ];
   }
     where
-      own : (e : Event) → IsAllowed x e → (key g : ℕ) → key ≤ x.log
+      own : (e : Event) → IsStep x e → (key g : ℕ) → key ≤ x.log
           → ((h : ℕ) (r : Range) → (seat_of x (by_of e)).append ≡ Some h → g < h
           → (seat_of x (by_of e)).claim ≡ Some r → key < r.end)
           → (h : ℕ) (r : Range) → append_after (seat_of x (by_of e)).append e ≡ Some h → g < h
@@ -161,17 +161,17 @@ module _ (x : PathState) (L : IsLawfulLog x) where
       (omega arith)
 
   -- Each allowed step keeps that the synced key is the start of a marker.
-  pub keeps_synced : SyncedIsMarker x → (e : Event) → IsAllowed x e → SyncedIsMarker (next_of x e)
+  pub keeps_synced : SyncedIsMarker x → (e : Event) → IsStep x e → SyncedIsMarker (next_of x e)
   keeps_synced S e a = record { below_log = low e a; marker = at e a }
     where
-      low : (e : Event) → IsAllowed x e → (next_of x e).synced ≤ (next_of x e).log
+      low : (e : Event) → IsStep x e → (next_of x e).synced ≤ (next_of x e).log
       low (Put by Synced value) a = let P = a.row.3 in
           subst (λ k. k ≤ x.log) P.start (starts_below P.marker P.claimed)
       low (Put by (OldestLive table) value) a = S.below_log
       low (Put by Stopped value) a = S.below_log
       low e a = let g = grows e a in let l = S.below_log in omega arith
 
-      at : (e : Event) → IsAllowed x e → 0 < (next_of x e).synced
+      at : (e : Event) → IsStep x e → 0 < (next_of x e).synced
           → MarkerAt (next_of x e) (next_of x e).synced
       at (Put by Synced value) a some = let P = a.row.3 in (P.marker, P.claimed, P.is, P.start)
       at (Put by (OldestLive table) value) a some = S.marker some

@@ -59,3 +59,4 @@ pub mod LawRuns
 pub mod Ranges
 pub mod Filed
 pub mod Stepping
+pub mod LawLoose

@@ -211,6 +211,12 @@ pub record MayFile (x : PathState) (by t m : ℕ) : Type 0 where
   pub final : (memtable_of x t m).bound ≡ Final (record { 0 = bound })
   pub lasting : bound ≤ after x.capacity x.synced
 
+-- OpenGroup: the holder of the Sync turn, while no barrier is being issued, makes the next group.
+abbrev pub MayOpenGroup : PathState → ℕ → Order → ℕ → Type 0
+MayOpenGroup x by order group =
+    let s = seat_of x by in
+    HoldsTurn s Sync × (issue_of s ≡ Rest) × (group ≡ suc (groups_of x order).current)
+
 -- The row of the step's kind.
 abbrev pub Row : PathState → Event → Type 0
 Row x (Look by at) = Unit {0}
@@ -221,10 +227,7 @@ Row x (Register by order group) =
 Row x (Close by order group carried) =
     let s = seat_of x by in
     (group_in order s ≡ Some group) × MayCarry order by (length x.tables) s carried
-Row x (OpenGroup by order group) =
-    let s = seat_of x by in
-    HoldsTurn s Sync × (issue_of s ≡ Rest) × (group ≡ suc (groups_of x order).current)
-    × WantsBarrier order x by
+Row x (OpenGroup by order group) = MayOpenGroup x by order group × WantsBarrier order x by
 Row x (MoveCurrent by order group) =
     (issue_of (seat_of x by) ≡ Opened order) × (group ≡ suc (groups_of x order).current)
 Row x (Expire by order group) =
@@ -269,3 +272,14 @@ pub record IsAllowed (x : PathState) (e : Event) : Type 0 where
   pub seat : by_of e < length x.seats
   pub is_there : IsThere x e
   pub row : Row x e
+
+-- The same, where a barrier may also be issued for nothing.
+abbrev pub StepRow : PathState → Event → Type 0
+StepRow x (OpenGroup by order group) = MayOpenGroup x by order group
+StepRow x e = Row x e
+
+-- What the law of the path needs of a step: that it is allowed, but for what a barrier is for.
+pub record IsStep (x : PathState) (e : Event) : Type 0 where
+  pub seat : by_of e < length x.seats
+  pub is_there : IsThere x e
+  pub row : StepRow x e

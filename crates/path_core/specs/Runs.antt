@@ -7,7 +7,7 @@ use Rattle.path_core.specs.declared.state.OrderGroups.{OrderGroups}
 use Rattle.path_core.specs.declared.state.PathState.{PathState}
 use Rattle.path_core.specs.Keys.{first_offset}
 use Rattle.path_core.specs.Parts.{fresh_seat, fresh_table}
-use Rattle.path_core.specs.Allowed.{IsAllowed}
+use Rattle.path_core.specs.Allowed.{IsAllowed, IsStep}
 use Rattle.path_core.specs.Next.{next_of}
 use Rattle.path_core.specs.Whole.{CarriesWhole}
 
@@ -49,8 +49,9 @@ abbrev pub Run : PathState → List Event → PathState → Type 0
 Run x [] y = x ≡ y
 Run x (e ∷ es) y = CarriesWhole e × IsAllowed x e × Run (next_of x e) es y
 
--- the same with the newest step first
+-- y is the state after these steps, the newest one first. Each was a step of the law, so barriers may
+-- have been issued for nothing, and carried whole notes.
 abbrev pub Past : PathState → List Event → PathState → Type 0
 Past x [] y = x ≡ y
 Past x (e ∷ es) y =
-    (z : PathState) × Past x es z × CarriesWhole e × IsAllowed z e × (next_of z e ≡ y)
+    (z : PathState) × Past x es z × CarriesWhole e × IsStep z e × (next_of z e ≡ y)

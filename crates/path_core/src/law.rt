@@ -1,6 +1,6 @@
 //! What the path keeps, whatever the order of its steps: over each list of allowed steps from an
 //! opening. Nothing here runs; each function's contract is a promise of the path.
-ghost use Rattle.std.specs.Prelude.{◌≡◌, ℕ, suc, ◌<◌, ◌≤◌, List, length, Some, IsTrue};
+ghost use Rattle.std.specs.Prelude.{◌≡◌, ℕ, suc, ◌<◌, ◌≤◌, List, reverse, length, Some, IsTrue};
 ghost use Rattle.std.specs.List.{Contains};
 ghost use Rattle.clog_base.specs.declared.cell.Table.{Table};
 ghost use Rattle.op_core.specs.declared.count.Order.{Order};
@@ -26,7 +26,7 @@ ghost use Rattle.path_core.specs.Whole.{IsWhole};
 ghost use Rattle.path_core.specs.History.{IsHistory};
 ghost use Rattle.path_core.specs.Allowed.{IsAllowed};
 ghost use Rattle.path_core.specs.Steps.{HasPassedMarker};
-ghost use Rattle.path_core.specs.Runs.{IsOpening, Run};
+ghost use Rattle.path_core.specs.Runs.{IsOpening, Run, Past};
 ghost use Rattle.path_core.specs.Droppable.{IsDroppable};
 ghost use Rattle.path_core.specs.Lawful.{IsLawfulPath};
 ghost use Rattle.path_core.specs.LawfulLog.{LoggedIsSynced, SyncedIsMarker};
@@ -72,6 +72,19 @@ ghost use Rattle.path_core.specs.Promises.{
 pub fn every_run_is_lawful()
     ensures { (x y : PathState) (events : List Event) → IsOpening x → Run x events y
         → IsLawfulPath y }
+{}
+
+/// So does each run that is told from its end, in which barriers may be issued for nothing: the law
+/// needs no marker and no memtable that waits for one.
+pub fn every_past_is_lawful()
+    ensures { (x y : PathState) (events : List Event) → IsOpening x → Past x events y
+        → IsLawfulPath y }
+{}
+
+/// Each list of allowed steps is such a run, told from its end.
+pub fn runs_are_told_from_their_end()
+    ensures { (x y : PathState) (events : List Event) → Run x events y
+        → Past x (reverse events) y }
 {}
 
 /// Claimed ranges never overlap, and stand in the order in which they were claimed.

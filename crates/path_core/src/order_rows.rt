@@ -29,6 +29,7 @@ ghost use Rattle.path_core.specs.Parts.{
 ghost use Rattle.path_core.specs.Allowed.{
   IsReadyFor,
   MayCarry,
+  MayOpenGroup,
   WantsBarrier,
   HasUnbarredMemtable,
   is_unbarred,
@@ -138,8 +139,8 @@ pub(crate) fn allows_open_group(
 ) -> bool
     requires few { length state.now.tables ≤ 16 }
     requires seat { seat.now ≡ seat_of state.now by }
-    ensures { IsTrue result ↔ (HoldsTurn seat.now Turn.Sync × (issue_of seat.now ≡ Issue.Rest)
-        × (group ≡ suc (groups_of state.now order).current) × WantsBarrier order state.now by) }
+    ensures { IsTrue result ↔ (MayOpenGroup state.now by order group
+        × WantsBarrier order state.now by) }
 {
     seat.sync.is_some()
         && issue_of(seat) == Issue::Rest

@@ -1,7 +1,10 @@
 use Rattle.path_core.proofs.LawRuns.{from_opening}
+use Rattle.path_core.specs.declared.event.Event.TheVariants.{Switch}
+use Rattle.path_core.specs.declared.event.SwitchPart.TheVariants.{Open}
+use Rattle.path_core.proofs.LawLoose.{loosened}
 use Rattle.path_core.proofs.LawAtRest.{opens_new_memtable}
 use Rattle.path_core.proofs.law.opened_memtables_are_new.Goals as goal
 
 pub returns : goal.returns
 returns c = λ x y events by memtable table start run allowed.
-    opens_new_memtable y (from_opening x y events start run).switches by table memtable allowed
+    opens_new_memtable y (from_opening x y events start run).switches by table memtable (loosened y (Switch by table memtable Open) allowed)
