@@ -49,8 +49,8 @@ abbrev pub Run : PathState → List Event → PathState → Type 0
 Run x [] y = x ≡ y
 Run x (e ∷ es) y = CarriesWhole e × IsAllowed x e × Run (next_of x e) es y
 
--- y is the state after these steps, the newest one first. Each was a step of the law, so barriers may
--- have been issued for nothing, and carried whole notes.
+-- y is the state after these steps, the newest one first. Each was a step of the law, so barriers
+-- may have been issued for nothing, and carried whole notes.
 abbrev pub Past : PathState → List Event → PathState → Type 0
 Past x [] y = x ≡ y
 Past x (e ∷ es) y =

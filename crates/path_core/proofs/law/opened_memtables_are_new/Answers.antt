@@ -7,4 +7,5 @@ use Rattle.path_core.proofs.law.opened_memtables_are_new.Goals as goal
 
 pub returns : goal.returns
 returns c = λ x y events by memtable table start run allowed.
-    opens_new_memtable y (from_opening x y events start run).switches by table memtable (loosened y (Switch by table memtable Open) allowed)
+    opens_new_memtable y (from_opening x y events start run).switches by table memtable
+    (loosened y (Switch by table memtable Open) allowed)
