@@ -3,3 +3,4 @@ pub mod Objects
 pub mod UpdateLists
 pub mod CellPrinted
 pub mod FileReading
+pub mod FileParts

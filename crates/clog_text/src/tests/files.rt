@@ -1,6 +1,7 @@
 //! Whole files.
 use super::{GOOD, with_updates};
-use crate::{BadLine, Part, SplitFault, read_lines, split_file};
+use crate::{BadLine, Part, SplitFault, read_lines, read_lines_in_parts, split_file};
+use std::alloc::{AllocError, Global};
 use std::test::Fail;
 
 #[test]
@@ -48,6 +49,40 @@ fn the_first_bad_line_is_named(rt: HostRuntime) -> Result<(), Fail> {
         match read_lines(rt.alloc(), text.as_bytes(), &lines) {
             Ok(mutations) => {
                 assert_eq!(rt; mutations.as_slice().len(), 2);
+                assert!(rt; want.is_none());
+            }
+            Err(refused) => assert_eq!(rt; Some(refused), want),
+        }
+    }
+    Ok(())
+}
+
+// 1,500 lines of 64 bytes and more, of which these are bad.
+fn many_lines(alloc: Global, bad: &[usize]) -> Result<String, AllocError> {
+    let good = with_updates(alloc, GOOD)?;
+    let mut text = String::new(alloc);
+    for number in 1..1_501 {
+        text.push_str(if bad.contains(&number) {
+            ""
+        } else {
+            good.as_str()
+        })?;
+        text.push('\n')?;
+    }
+    Ok(text)
+}
+
+#[test]
+fn a_large_file_is_read_in_parts(rt: HostRuntime) -> Result<(), Fail> {
+    for (bad, want) in [
+        (&[][..], None),
+        (&[1_400, 300][..], Some((300, BadLine::NotJson))),
+    ] {
+        let text = many_lines(rt.alloc(), bad)?;
+        let lines = split_file(rt.alloc(), text.as_bytes())?;
+        match read_lines_in_parts(&rt, rt.alloc(), text.as_bytes(), &lines) {
+            Ok(mutations) => {
+                assert_eq!(rt; mutations.as_slice().len(), 1_500);
                 assert!(rt; want.is_none());
             }
             Err(refused) => assert_eq!(rt; Some(refused), want),
