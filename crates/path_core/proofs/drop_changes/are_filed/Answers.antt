@@ -18,7 +18,7 @@ use mathlib.Core.Logic.{dite}
 use native.Mathlib.Decide.{dec_lt}
 use Rattle.path_core.specs.declared.state.WrittenFile.{WrittenFile}
 use Rattle.path_core.specs.Droppable.{is_filed, are_filed}
-use Rattle.path_core.proofs.Ranges.{range_all, range_fails}
+use Rattle.path_core.proofs.lists.Ranges.{range_all, range_fails}
 use Rattle.path_core.proofs.drop_changes.are_filed.Goals as goal
 
 -- the last key decides where those before it are filed

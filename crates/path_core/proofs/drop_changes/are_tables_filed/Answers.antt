@@ -2,8 +2,8 @@ use Rattle.std.proofs.Common.{◌≡◌, length, sym, ap, ◌∙◌, arith}
 use mathlib.Core.Logic.{dite}
 use native.Mathlib.Decide.{dec_lt}
 use Rattle.path_core.specs.Droppable.{is_table_filed}
-use Rattle.path_core.proofs.Filed.{table_filed-is}
-use Rattle.path_core.proofs.Ranges.{range_all, range_fails}
+use Rattle.path_core.proofs.steps.Filed.{table_filed-is}
+use Rattle.path_core.proofs.lists.Ranges.{range_all, range_fails}
 use Rattle.path_core.proofs.drop_changes.are_tables_filed.Goals as goal
 
 pub returns-then-not-is_table_filed : goal.returns-then-not-is_table_filed

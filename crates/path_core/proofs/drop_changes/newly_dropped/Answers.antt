@@ -1,6 +1,6 @@
 use Rattle.std.proofs.Common.{ℕ, ◌∷◌, [], ◌++◌, ◌&&◌, not, Vec, Global, sym, ap, ◌∙◌}
 use Rattle.path_core.specs.Droppable.{is_logged, is_droppable}
-use Rattle.path_core.proofs.Ranges.{filter-range_kept, filter-range_left}
+use Rattle.path_core.proofs.lists.Ranges.{filter-range_kept, filter-range_left}
 use Rattle.path_core.proofs.drop_changes.newly_dropped.Goals as goal
 use Rattle.path_core.proofs.drop_changes.newly_dropped.Goals.{then-goes+in_ok-push, else-goes}
 

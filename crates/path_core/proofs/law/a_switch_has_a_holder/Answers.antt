@@ -1,4 +1,4 @@
-use Rattle.path_core.proofs.LawRuns.{from_opening}
+use Rattle.path_core.proofs.runs.EveryRun.{from_opening}
 use Rattle.path_core.proofs.law.a_switch_has_a_holder.Goals as goal
 
 pub returns : goal.returns

@@ -1,5 +1,5 @@
-use Rattle.path_core.proofs.LawRuns.{from_opening}
-use Rattle.path_core.proofs.LawClaims.{are_apart}
+use Rattle.path_core.proofs.runs.EveryRun.{from_opening}
+use Rattle.path_core.proofs.log.KeepsClaims.{are_apart}
 use Rattle.path_core.proofs.law.claims_never_overlap.Goals as goal
 
 pub returns : goal.returns

@@ -1,5 +1,5 @@
-use Rattle.path_core.proofs.LawRuns.{core_of, from_opening}
-use Rattle.path_core.proofs.LawPromises.{placed_right}
+use Rattle.path_core.proofs.runs.EveryRun.{core_of, from_opening}
+use Rattle.path_core.proofs.places.HoldsInterval.{placed_right}
 use Rattle.path_core.proofs.law.closed_writes_are_placed_in_one_memtable.Goals as goal
 
 pub returns : goal.returns

@@ -1,5 +1,5 @@
-use Rattle.path_core.proofs.LawRuns.{placing_of, from_opening}
-use Rattle.path_core.proofs.LawOnce.{one_place}
+use Rattle.path_core.proofs.runs.EveryRun.{placing_of, from_opening}
+use Rattle.path_core.proofs.places.KeepsOnce.{one_place}
 use Rattle.path_core.proofs.law.closed_writes_are_placed_once.Goals as goal
 
 pub returns : goal.returns

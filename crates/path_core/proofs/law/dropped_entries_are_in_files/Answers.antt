@@ -1,5 +1,5 @@
-use Rattle.path_core.proofs.LawRuns.{from_opening}
-use Rattle.path_core.proofs.LawGone.{is_in_file_of}
+use Rattle.path_core.proofs.runs.EveryRun.{from_opening}
+use Rattle.path_core.proofs.files.DroppedInFiles.{is_in_file_of}
 use Rattle.path_core.proofs.law.dropped_entries_are_in_files.Goals as goal
 
 pub returns : goal.returns

@@ -1,4 +1,4 @@
-use Rattle.path_core.proofs.LawRuns.{past_from_opening}
+use Rattle.path_core.proofs.runs.EveryRun.{past_from_opening}
 use Rattle.path_core.proofs.law.every_past_is_lawful.Goals as goal
 
 pub returns : goal.returns

@@ -1,4 +1,4 @@
-use Rattle.path_core.proofs.LawRuns.{from_opening}
+use Rattle.path_core.proofs.runs.EveryRun.{from_opening}
 use Rattle.path_core.proofs.law.every_run_is_lawful.Goals as goal
 
 pub returns : goal.returns

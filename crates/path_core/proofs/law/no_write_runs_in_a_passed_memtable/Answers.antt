@@ -1,5 +1,5 @@
-use Rattle.path_core.proofs.LawRuns.{placing_of, from_opening}
-use Rattle.path_core.proofs.LawAtRest.{none_runs}
+use Rattle.path_core.proofs.runs.EveryRun.{placing_of, from_opening}
+use Rattle.path_core.proofs.places.AtRest.{none_runs}
 use Rattle.path_core.proofs.law.no_write_runs_in_a_passed_memtable.Goals as goal
 
 pub returns : goal.returns

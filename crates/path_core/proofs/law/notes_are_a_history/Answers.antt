@@ -1,5 +1,5 @@
-use Rattle.path_core.proofs.LawRuns.{from_opening}
-use Rattle.path_core.proofs.LawHistory.{is_history}
+use Rattle.path_core.proofs.runs.EveryRun.{from_opening}
+use Rattle.path_core.proofs.log.History.{is_history}
 use Rattle.path_core.proofs.law.notes_are_a_history.Goals as goal
 
 pub returns : goal.returns

@@ -1,4 +1,4 @@
-use Rattle.path_core.proofs.LawRuns.{from_opening}
+use Rattle.path_core.proofs.runs.EveryRun.{from_opening}
 use Rattle.path_core.proofs.law.notes_are_whole.Goals as goal
 
 pub returns : goal.returns

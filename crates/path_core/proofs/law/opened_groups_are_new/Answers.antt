@@ -1,7 +1,7 @@
-use Rattle.path_core.proofs.LawRuns.{from_opening}
+use Rattle.path_core.proofs.runs.EveryRun.{from_opening}
 use Rattle.path_core.specs.declared.event.Event.TheVariants.{OpenGroup}
-use Rattle.path_core.proofs.LawLoose.{loosened}
-use Rattle.path_core.proofs.LawAtRest.{opens_new}
+use Rattle.path_core.proofs.runs.Loosened.{loosened}
+use Rattle.path_core.proofs.places.AtRest.{opens_new}
 use Rattle.path_core.proofs.law.opened_groups_are_new.Goals as goal
 
 pub returns : goal.returns

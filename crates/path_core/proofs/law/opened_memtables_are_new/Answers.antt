@@ -1,8 +1,8 @@
-use Rattle.path_core.proofs.LawRuns.{from_opening}
+use Rattle.path_core.proofs.runs.EveryRun.{from_opening}
 use Rattle.path_core.specs.declared.event.Event.TheVariants.{Switch}
 use Rattle.path_core.specs.declared.event.SwitchPart.TheVariants.{Open}
-use Rattle.path_core.proofs.LawLoose.{loosened}
-use Rattle.path_core.proofs.LawAtRest.{opens_new_memtable}
+use Rattle.path_core.proofs.runs.Loosened.{loosened}
+use Rattle.path_core.proofs.places.AtRest.{opens_new_memtable}
 use Rattle.path_core.proofs.law.opened_memtables_are_new.Goals as goal
 
 pub returns : goal.returns

@@ -1,5 +1,5 @@
-use Rattle.path_core.proofs.LawRuns.{from_opening}
-use Rattle.path_core.proofs.LawAtRest.{in_current}
+use Rattle.path_core.proofs.runs.EveryRun.{from_opening}
+use Rattle.path_core.proofs.places.AtRest.{in_current}
 use Rattle.path_core.proofs.law.operations_run_in_the_current_group.Goals as goal
 
 pub returns : goal.returns

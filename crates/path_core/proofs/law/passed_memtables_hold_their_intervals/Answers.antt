@@ -1,5 +1,5 @@
-use Rattle.path_core.proofs.LawRuns.{core_of, from_opening}
-use Rattle.path_core.proofs.LawPromises.{holds_interval}
+use Rattle.path_core.proofs.runs.EveryRun.{core_of, from_opening}
+use Rattle.path_core.proofs.places.HoldsInterval.{holds_interval}
 use Rattle.path_core.proofs.law.passed_memtables_hold_their_intervals.Goals as goal
 
 pub returns : goal.returns

@@ -1,5 +1,5 @@
-use Rattle.path_core.proofs.LawRuns.{placing_of, from_opening}
-use Rattle.path_core.proofs.LawAtRest.{leaves_placed}
+use Rattle.path_core.proofs.runs.EveryRun.{placing_of, from_opening}
+use Rattle.path_core.proofs.places.AtRest.{leaves_placed}
 use Rattle.path_core.proofs.law.passed_memtables_rest.Goals as goal
 
 pub returns : goal.returns

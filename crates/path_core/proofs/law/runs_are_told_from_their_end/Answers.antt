@@ -1,5 +1,5 @@
 use Rattle.std.proofs.Common.{[], refl}
-use Rattle.path_core.proofs.LawRuns.{told_back}
+use Rattle.path_core.proofs.runs.EveryRun.{told_back}
 use Rattle.path_core.proofs.law.runs_are_told_from_their_end.Goals as goal
 
 pub returns : goal.returns

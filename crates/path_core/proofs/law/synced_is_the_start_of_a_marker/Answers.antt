@@ -1,4 +1,4 @@
-use Rattle.path_core.proofs.LawRuns.{from_opening}
+use Rattle.path_core.proofs.runs.EveryRun.{from_opening}
 use Rattle.path_core.proofs.law.synced_is_the_start_of_a_marker.Goals as goal
 
 pub returns : goal.returns

@@ -1,4 +1,4 @@
-use Rattle.path_core.proofs.LawRuns.{from_opening}
+use Rattle.path_core.proofs.runs.EveryRun.{from_opening}
 use Rattle.path_core.proofs.law.writes_are_placed_at_most_once.Goals as goal
 
 pub returns : goal.returns

@@ -1,6 +1,6 @@
 use Rattle.std.proofs.Common.{◌<◌, ◌++◌, ◌∷◌, [], length, sym, ap, ◌∙◌, Vec, Global, arith}
 use Rattle.path_core.specs.declared.state.Placed.{Placed}
-use Rattle.path_core.proofs.Placings.{placed_at, places_from-more, places_from-same}
+use Rattle.path_core.proofs.steps.SeatPlaces.{placed_at, places_from-more, places_from-same}
 use Rattle.path_core.proofs.log_changes.places_of.Goals as goal
 use Rattle.path_core.proofs.log_changes.places_of.Goals.{in-Some+in_ok-push, in_default}
 

@@ -1,4 +1,4 @@
-use Rattle.path_core.proofs.Asked.{taken}
+use Rattle.path_core.proofs.steps.Asked.{taken}
 use Rattle.path_core.proofs.log_rows.allows_take.Goals as goal
 
 pub returns-then-is_idle : goal.returns-then-is_idle

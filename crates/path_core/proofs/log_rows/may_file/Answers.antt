@@ -1,6 +1,6 @@
 use Rattle.std.proofs.Common.{is_some, ap, sym, ◌∙◌}
 use Rattle.path_core.specs.declared.seat.Seat.{Seat}
-use Rattle.path_core.proofs.Asked.{files_by}
+use Rattle.path_core.proofs.steps.Asked.{files_by}
 use Rattle.path_core.proofs.log_rows.may_file.Goals as goal
 
 pub returns-in-Final : goal.returns-in-Final

@@ -1,6 +1,6 @@
 use Rattle.std.proofs.Common.{◌<◌, length, arith}
 use Rattle.path_core.specs.Next.{barred}
-use Rattle.path_core.proofs.Mapped.{set-mapped}
+use Rattle.path_core.proofs.lists.Mapped.{set-mapped}
 use Rattle.path_core.proofs.move_changes.bar.Goals as goal
 
 pub loop-memtable-preserved : goal.loop-memtable-preserved

@@ -1,6 +1,6 @@
 use Rattle.std.proofs.Common.{◌<◌, length, arith}
 use Rattle.path_core.specs.Next.{barred_marker}
-use Rattle.path_core.proofs.Mapped.{set-mapped}
+use Rattle.path_core.proofs.lists.Mapped.{set-mapped}
 use Rattle.path_core.proofs.move_changes.bar_markers.Goals as goal
 
 pub loop-claim-preserved : goal.loop-claim-preserved

@@ -1,5 +1,5 @@
 use Rattle.std.proofs.Common.{◌<◌, refl, arith}
-use Rattle.path_core.proofs.Asked.{touched_below}
+use Rattle.path_core.proofs.steps.Asked.{touched_below}
 use Rattle.path_core.proofs.seat_asks.are_places_of.Goals as goal
 
 pub returns : goal.returns

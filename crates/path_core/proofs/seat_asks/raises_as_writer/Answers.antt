@@ -1,5 +1,5 @@
 use Rattle.std.proofs.Common.{sym, ◌∙◌}
-use Rattle.path_core.proofs.Asked.{writer_raises}
+use Rattle.path_core.proofs.steps.Asked.{writer_raises}
 use Rattle.path_core.proofs.seat_asks.raises_as_writer.Goals as goal
 
 pub returns-then-claim-to : goal.returns-then-claim-to

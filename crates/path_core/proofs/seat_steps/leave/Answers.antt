@@ -1,6 +1,6 @@
 use Rattle.std.proofs.Common.{◌<◌, length, arith}
 use Rattle.path_core.specs.SeatAfter.{left_table}
-use Rattle.path_core.proofs.Mapped.{set-mapped}
+use Rattle.path_core.proofs.lists.Mapped.{set-mapped}
 use Rattle.path_core.proofs.seat_steps.leave.Goals as goal
 
 pub loop-at-preserved : goal.loop-at-preserved

@@ -1,4 +1,4 @@
-use Rattle.path_core.proofs.Stepping.{made_within}
+use Rattle.path_core.proofs.steps.Limits.{made_within}
 use Rattle.path_core.proofs.path.Path.step.Goals as goal
 
 pub invariant_of-self-inside : goal.invariant_of-self-inside

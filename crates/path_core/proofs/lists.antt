@@ -1,0 +1,6 @@
+-- Lists: what an element, a test or a range of them tells.
+pub mod Replaced
+pub mod Inserted
+pub mod Passing
+pub mod Ranges
+pub mod Mapped

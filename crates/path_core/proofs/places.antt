@@ -1,0 +1,11 @@
+-- The memtables that writes try, and in which they are placed.
+pub mod TableMoves
+pub mod Tries
+pub mod KeepsLater
+pub mod KeepsTries
+pub mod KeepsPlaced
+pub mod Closing
+pub mod KeepsPlaces
+pub mod KeepsOnce
+pub mod HoldsInterval
+pub mod AtRest

@@ -1,0 +1,7 @@
+-- The parts of the invariant joined, and kept along runs.
+pub mod Loosened
+pub mod Sizes
+pub mod KeepsPlacing
+pub mod KeepsLasting
+pub mod KeepsFiling
+pub mod EveryRun

@@ -1,0 +1,6 @@
+-- What the functions that make steps rest on.
+pub mod Asked
+pub mod BarriersPut
+pub mod Filed
+pub mod SeatPlaces
+pub mod Limits

@@ -1,0 +1,7 @@
+-- The memtables of tables: bounds, barriers and marks.
+pub mod WithBarriers
+pub mod Memtables
+pub mod Marks
+pub mod Marked
+pub mod KeepsSwitches
+pub mod KeepsBarriers
