@@ -13,6 +13,7 @@ pub trait Clock {
     /// What it may answer from now on.
     ghost tells: { Self → ℕ → Type 0 };
 
+    /// The moment, in ms since the start of 1970; below 2^62.
     fn now_ms(&self) -> u64
         ensures told { tells self.now result }
         ensures bound { result < 2 ^ 62 };

@@ -1,4 +1,6 @@
 //! A gate is told where each writer is. It may hold a thread up, and changes nothing else.
+ghost use Rattle.std.specs.Prelude.{◌≡◌};
+
 use clog_base::Writer;
 
 /// How far a writer is in the write that it has in hand.
@@ -10,7 +12,7 @@ pub enum Point {
     Claimed,
     /// Its entry lies in the writer's box.
     Deposited,
-    /// All its tables have taken its updates.
+    /// A memtable has accepted the write: told each time, once for each of its tables.
     Accepted,
     /// It counts in the write order no more.
     Finished,
@@ -29,8 +31,10 @@ pub trait Gate {
 pub struct OpenGate;
 
 impl OpenGate {
-    /// The open gate.
-    pub fn new() -> OpenGate {
+    /// The open gate, which is but one.
+    pub fn new() -> OpenGate
+        ensures { (gate : OpenGate) → result ≡ gate }
+    {
         OpenGate
     }
 }

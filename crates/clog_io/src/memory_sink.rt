@@ -1,5 +1,6 @@
 //! A sink in memory, for tests. It holds what was written, and fails where it is told.
 ghost use Rattle.std.specs.Prelude.{◌≡◌, [], Some};
+ghost use Rattle.clog_io.specs.Calls.{first_of};
 
 use crate::calls::FailingCalls;
 use crate::sink::Sink;
@@ -18,6 +19,7 @@ impl MemSink {
     pub fn new(alloc: Global, calls: Vec<u64>) -> MemSink
         ensures held { ⟦<MemSink as Sink>⟧.held result ≡ Some [] }
         ensures faults { ⟦<MemSink as Sink>⟧.faults result ≡ 0 }
+        ensures calls { result.calls ≡ first_of calls.items }
     {
         MemSink {
             bytes: Vec::new(alloc),

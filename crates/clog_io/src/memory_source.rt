@@ -24,6 +24,8 @@ impl MemSource {
         ensures left { ⟦<MemSource as Source>⟧.left result ≡ Some bytes.items }
         ensures faults { ⟦<MemSource as Source>⟧.faults result ≡ 0 }
         ensures reliable { calls.items ≡ [] → ⟦<MemSource as Source>⟧.reliable result }
+        ensures piece { result.piece ≡ piece }
+        ensures calls { result.calls ≡ first_of calls.items }
     {
         MemSource {
             bytes,

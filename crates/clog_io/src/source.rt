@@ -5,6 +5,7 @@ ghost use Rattle.std.specs.Io.KnownBytes.{ReadConsumes};
 ghost use Rattle.clog_io.specs.Causes.{HasCause, StaysReliable};
 
 use clog_base::Failed;
+use std::io;
 use std::io::{ErrorKind, Read};
 
 /// What gives bytes.
@@ -32,6 +33,8 @@ pub trait Source {
 pub struct StdSource<R: Read + Drop> {
     inner: R,
     faults: u64,
+    /// Why the reader last failed, as the system says it. No clause speaks of it.
+    refusal: Option<io::Error>,
 }
 
 impl<R: Read + Drop> StdSource<R> {
@@ -39,8 +42,21 @@ impl<R: Read + Drop> StdSource<R> {
     pub fn new(inner: R) -> Self
         ensures left { ⟦<StdSource<R> as Source>⟧.left result ≡ R.remaining inner }
         ensures faults { ⟦<StdSource<R> as Source>⟧.faults result ≡ 0 }
+        ensures inner { result.inner ≡ inner }
     {
-        StdSource { inner, faults: 0 }
+        StdSource {
+            inner,
+            faults: 0,
+            refusal: None,
+        }
+    }
+
+    /// Why the reader last failed, for people to read. It may be absent after `Failed` only where a
+    /// read was broken off 2^64 times.
+    pub fn last_refusal(&self) -> Option<io::Error>
+        ensures { result ≡ self.now.refusal }
+    {
+        self.refusal
     }
 }
 
@@ -55,7 +71,10 @@ impl<R: Read + Drop> Source for StdSource<R> {
             match self.inner.read(room) {
                 Ok(count) => return Ok(count),
                 Err(e) if e.kind() == ErrorKind::Interrupted => {}
-                Err(_) => break,
+                Err(e) => {
+                    self.refusal = Some(e);
+                    break;
+                }
             }
         }
         self.faults = self.faults.saturating_add(1);

@@ -18,6 +18,27 @@ impl Write for FullDevice {
     }
 }
 
+/// A writer that counts how often it is flushed, and refuses the flush of this number, from 1.
+#[derive(Drop)]
+struct FlushCounter {
+    flushes: u32,
+    refused: u32,
+}
+
+impl Write for FlushCounter {
+    fn write(&mut self, buf: &[u8]) -> IoResult<usize> {
+        Ok(buf.len())
+    }
+
+    fn flush(&mut self) -> IoResult<()> {
+        self.flushes = self.flushes.saturating_add(1);
+        if self.flushes == self.refused {
+            return Err(ErrorKind::StorageFull.into());
+        }
+        Ok(())
+    }
+}
+
 /// A reader that always fails for the same cause.
 #[derive(Drop)]
 struct BrokenDevice(ErrorKind);
@@ -25,6 +46,46 @@ struct BrokenDevice(ErrorKind);
 impl Read for BrokenDevice {
     fn read(&mut self, _buf: &mut [u8]) -> IoResult<usize> {
         Err(self.0.into())
+    }
+}
+
+/// A device for so many bytes, which a signal breaks off once before each.
+#[derive(Drop)]
+struct SlowDevice {
+    left: u8,
+    breaks: bool,
+}
+
+impl Read for SlowDevice {
+    fn read(&mut self, buf: &mut [u8]) -> IoResult<usize> {
+        self.breaks = !self.breaks;
+        if self.breaks {
+            return Err(ErrorKind::Interrupted.into());
+        }
+        if self.left == 0 || buf.is_empty() {
+            return Ok(0);
+        }
+        self.left -= 1;
+        buf[0] = self.left;
+        Ok(1)
+    }
+}
+
+impl Write for SlowDevice {
+    fn write(&mut self, buf: &[u8]) -> IoResult<usize> {
+        self.breaks = !self.breaks;
+        if self.breaks {
+            return Err(ErrorKind::Interrupted.into());
+        }
+        if self.left == 0 || buf.is_empty() {
+            return Ok(0);
+        }
+        self.left -= 1;
+        Ok(1)
+    }
+
+    fn flush(&mut self) -> IoResult<()> {
+        Ok(())
     }
 }
 
@@ -85,10 +146,27 @@ fn a_reader_of_std_is_read_to_its_end(rt: HostRuntime) -> Result<(), Fail> {
 }
 
 #[test]
+fn a_read_that_was_broken_off_is_made_again_and_a_short_one_is_not_the_end(
+    rt: HostRuntime,
+) -> Result<(), Fail> {
+    let mut source = StdSource::new(SlowDevice {
+        left: 3,
+        breaks: false,
+    });
+    let read = read_all(rt.alloc(), &mut source, 9)?;
+    assert_eq!(rt; read.as_slice(), [2, 1, 0].as_slice());
+    assert!(rt; source.last_refusal().is_none());
+    Ok(())
+}
+
+#[test]
 fn a_reader_of_std_that_fails_is_a_fault_of_the_source(rt: HostRuntime) -> Result<(), Fail> {
     let mut source = StdSource::new(BrokenDevice(ErrorKind::PermissionDenied));
     let mut room = [0u8; 4];
+    assert!(rt; source.last_refusal().is_none());
     assert_eq!(rt; source.read(&mut room), Err(Failed));
+    let said = source.last_refusal().map(|e| e.kind());
+    assert_eq!(rt; said, Some(ErrorKind::PermissionDenied));
     assert!(rt;
         matches!(
             read_all(rt.alloc(), &mut source, 9),
@@ -119,7 +197,33 @@ fn a_writer_of_std_takes_all_or_has_failed(rt: HostRuntime) -> Result<(), Fail> 
     let mut full = StdSink::new(FullDevice);
     assert_eq!(rt; full.write_all(b""), Ok(()));
     assert_eq!(rt; full.write_all(b"a"), Err(Failed));
+    let said = full.last_refusal().map(|e| e.kind());
+    assert_eq!(rt; said, Some(ErrorKind::WriteZero));
     Ok(())
+}
+
+#[test]
+fn a_write_that_was_broken_off_is_made_again_and_a_short_one_goes_on(rt: HostRuntime) {
+    let mut sink = StdSink::new(SlowDevice {
+        left: 3,
+        breaks: false,
+    });
+    assert_eq!(rt; sink.write_all(b"abc"), Ok(()));
+    assert_eq!(rt; sink.write_all(b"d"), Err(Failed));
+    assert_eq!(rt; sink.into_inner().left, 0);
+}
+
+#[test]
+fn each_call_flushes_the_writer_once_and_a_refused_flush_is_a_fault(rt: HostRuntime) {
+    let mut sink = StdSink::new(FlushCounter {
+        flushes: 0,
+        refused: 2,
+    });
+    assert_eq!(rt; sink.write_all(b"applied 1\n"), Ok(()));
+    assert_eq!(rt; sink.write_all(b"applied 2\n"), Err(Failed));
+    let said = sink.last_refusal().map(|e| e.kind());
+    assert_eq!(rt; said, Some(ErrorKind::StorageFull));
+    assert_eq!(rt; sink.into_inner().flushes, 2);
 }
 
 #[test]
