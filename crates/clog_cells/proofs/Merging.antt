@@ -2,7 +2,7 @@
 use Rattle.std.proofs.Common.{◌≡◌, List, [], ◌∷◌, ◌++◌, Bool, true, false, cond, Option, Some, None}
 use Rattle.std.proofs.Common.{refl, sym, ap, subst, ◌∙◌, inl, inr, append_assoc}
 use Rattle.std.proofs.lemmas.List.{append-nil}
-use Rattle.std.specs.Prelude.{Contains, IfSome, T, ◌&&◌}
+use Rattle.std.specs.Prelude.{Contains, IfSome, T, ◌&&◌, ◌↔◌}
 use Rattle.std.proofs.lemmas.Bool.{true≢false}
 use Rattle.std.specs.Ordering.{eq_by_cmp, is_lt}
 use Rattle.std.specs.BTreeMap.{is_at}
@@ -20,22 +20,13 @@ use Rattle.std.proofs.lemmas.List.Elements.{Contains-append_cases, Contains-push
 use Rattle.std.proofs.lemmas.List.Elements.{Contains-push_cases}
 use Rattle.clog_base.specs.declared.cell.Cell.{Cell}
 use Rattle.clog_base.specs.declared.cell.CellKey.{CellKey}
-use Rattle.clog_cells.specs.Merge.{key_cmp, is_newer, found_at, AreInOrder, IsNewestAt, IsMerge}
-use Rattle.clog_cells.specs.Merge.{HaveSameMembers}
+use Rattle.clog_cells.specs.Merge.{key_cmp, is_newer, found_at, AreInOrder, IsNewestAt}
+use Rattle.clog_cells.specs.Merge.{IsNewestAmong, IsMerge, IsMergeOf, HaveSameMembers}
 use Rattle.clog_cells.proofs.Orders.{key_total, exact_keys, key_equiv, one_key, one_cell, not_newer}
 use Rattle.clog_cells.proofs.Orders.{not_newer_itself, not_both_newer}
 
 abbrev Pairs : Type 0
 Pairs = List (CellKey × Cell)
-
--- ---- one newest cell
-pub one_newest : (pairs : Pairs) (key : CellKey) (a b : Option Cell) → IsNewestAt pairs key a
-    → IsNewestAt pairs key b → a ≡ b
-one_newest pairs key None None p q = refl
-one_newest pairs key None (Some d) p q = absurd (p d q.listed)
-one_newest pairs key (Some c) None p q = absurd (q c p.listed)
-one_newest pairs key (Some c) (Some d) p q =
-    ap Some (one_cell c d (q.greatest c p.listed) (p.greatest d q.listed))
 
 -- rows in order that read alike are the same, as finite maps are
 both : (a b : Bool) → T a → T b → T (a && b)
@@ -50,14 +41,14 @@ below_rest key (row ∷ rows) h =
     both (is_lt (key_cmp key row.0)) (below_all key_cmp key rows)
     (subst (λ r. T (is_lt r)) (sym h.0) tt) (below_rest key rows h.1)
 
-rises : (rows : Pairs) → AreInOrder rows → T (is_sorted key_cmp rows)
+pub rises : (rows : Pairs) → AreInOrder rows → T (is_sorted key_cmp rows)
 unfolding IsStrictlySortedBy
 rises [] h = tt
 rises (row ∷ rows) h =
     both (below_all key_cmp row.0 rows) (is_sorted key_cmp rows) (below_rest row.0 rows h.0)
     (rises rows h.1)
 
-found_as : (rows : Pairs) (key : CellKey) → find key_cmp key rows ≡ found_at rows key
+pub found_as : (rows : Pairs) (key : CellKey) → find key_cmp key rows ≡ found_at rows key
 found_as [] key = refl
 found_as (row ∷ rows) key = ap (cond (eq_by_cmp key_cmp key row.0) (Some row.1)) (found_as rows key)
 
@@ -73,27 +64,45 @@ same_rows rows others p q h =
     sym (entries-from_sorted key_cmp rows a) ∙ ap entries same
     ∙ entries-from_sorted key_cmp others b
 
-pub unique : (pairs rows others : Pairs) → IsMerge pairs rows → IsMerge pairs others → rows ≡ others
-unique pairs rows others p q =
+-- ---- of cells that have P
+one_newest : (P : CellKey × Cell → Type 0) (key : CellKey) (a b : Option Cell)
+    → IsNewestAmong P key a → IsNewestAmong P key b → a ≡ b
+one_newest P key None None p q = refl
+one_newest P key None (Some d) p q = absurd (p d q.listed)
+one_newest P key (Some c) None p q = absurd (q c p.listed)
+one_newest P key (Some c) (Some d) p q =
+    ap Some (one_cell c d (q.greatest c p.listed) (p.greatest d q.listed))
+
+pub unique_of : (P : CellKey × Cell → Type 0) (rows others : Pairs) → IsMergeOf P rows
+    → IsMergeOf P others → rows ≡ others
+unique_of P rows others p q =
     same_rows rows others p.ordered q.ordered
-    (λ key. one_newest pairs key (found_at rows key) (found_at others key) (p.newest key)
+    (λ key. one_newest P key (found_at rows key) (found_at others key) (p.newest key)
     (q.newest key))
 
--- ---- the order of the list
-same_newest : (pairs others : Pairs) → HaveSameMembers pairs others
-    → (key : CellKey) (o : Option Cell) → IsNewestAt pairs key o → IsNewestAt others key o
-same_newest pairs others same key None p = λ cell h. p cell ((same (key, cell)).1 h)
-same_newest pairs others same key (Some c) p = record {
+newest_of_same : (P Q : CellKey × Cell → Type 0) → ((pair : CellKey × Cell) → P pair ↔ Q pair)
+    → (key : CellKey) (o : Option Cell) → IsNewestAmong P key o → IsNewestAmong Q key o
+newest_of_same P Q same key None p = λ cell h. p cell ((same (key, cell)).1 h)
+newest_of_same P Q same key (Some c) p = record {
   listed = (same (key, c)).0 p.listed;
   greatest = λ other h. p.greatest other ((same (key, other)).1 h);
 }
 
+-- what holds of the same cells has the same merge
+pub of_same : (P Q : CellKey × Cell → Type 0) (rows : Pairs)
+    → ((pair : CellKey × Cell) → P pair ↔ Q pair) → IsMergeOf P rows → IsMergeOf Q rows
+of_same P Q rows same p = record {
+  ordered = p.ordered;
+  newest = λ key. newest_of_same P Q same key (found_at rows key) (p.newest key);
+}
+
+-- ---- of a list: its members alone decide
+pub unique : (pairs rows others : Pairs) → IsMerge pairs rows → IsMerge pairs others → rows ≡ others
+unique pairs rows others p q = unique_of (Contains pairs) rows others p q
+
 pub of_members : (pairs others rows : Pairs) → HaveSameMembers pairs others → IsMerge pairs rows
     → IsMerge others rows
-of_members pairs others rows same p = record {
-  ordered = p.ordered;
-  newest = λ key. same_newest pairs others same key (found_at rows key) (p.newest key);
-}
+of_members pairs others rows same p = of_same (Contains pairs) (Contains others) rows same p
 
 -- ---- rows in order are their own merge
 newest_of_itself : (rows : Pairs) → AreInOrder rows → (key : CellKey) (o : Option Cell)

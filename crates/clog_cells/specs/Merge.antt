@@ -1,6 +1,7 @@
 -- Which of two cells counts, and what a list of cells comes to.
 use Rattle.std.specs.Prelude.{◌≡◌, ◌↔◌, ◌<◌, ◌^◌, ℕ, List, ◌++◌, Bool, false, length}
-use Rattle.std.specs.Prelude.{Option, Some, None, Contains}
+use Rattle.std.specs.Prelude.{Option, Some, None, Contains, ◌==◌}
+use Rattle.std.specs.List.{filter}
 use Rattle.std.specs.declared.cmp.Ordering.{Ordering}
 use Rattle.std.specs.Ordering.{nat_cmp, int_cmp, ordering_then, is_gt}
 use Rattle.std.specs.Cmp.Lexicographic.{slice_cmp}
@@ -11,6 +12,7 @@ use Rattle.clog_base.specs.declared.cell.Kind.{Kind}
 use Rattle.clog_base.specs.declared.cell.Kind.TheVariants.{Deletion, Live}
 use Rattle.clog_base.specs.declared.cell.Cell.{Cell}
 use Rattle.clog_base.specs.declared.cell.CellKey.{CellKey}
+use Rattle.clog_base.specs.declared.cell.Table.{Table}
 
 -- a deletion is greater
 abbrev pub kind_rank : Kind → ℕ
@@ -33,15 +35,22 @@ key_cmp a b =
     ordering_then (nat_cmp a.table.0 b.table.0)
     (ordering_then (slice_cmp nat_cmp a.key b.key) (slice_cmp nat_cmp a.column b.column))
 
--- one of the key's cells in the list, and none of them is newer
-pub record IsNewestOf (pairs : List (CellKey × Cell)) (key : CellKey) (cell : Cell) : Type 0 where
-  pub listed : Contains pairs (key, cell)
-  pub greatest : (other : Cell) → Contains pairs (key, other) → is_newer other cell ≡ false
+-- one of the key's cells among those that have P, and none of them is newer
+pub record IsNewestIn (P : CellKey × Cell → Type 0) (key : CellKey) (cell : Cell) : Type 0 where
+  pub listed : P (key, cell)
+  pub greatest : (other : Cell) → P (key, other) → is_newer other cell ≡ false
 
--- the newest of the key's cells in the list, and none exactly where the list has no cell of the key
+-- the newest of the key's cells among those that have P, and none exactly where the key has none
+abbrev pub IsNewestAmong : (CellKey × Cell → Type 0) → CellKey → Option Cell → Type 0
+IsNewestAmong P key None = (cell : Cell) → ¬ P (key, cell)
+IsNewestAmong P key (Some cell) = IsNewestIn P key cell
+
+-- the same among the cells of a list
+abbrev pub IsNewestOf : List (CellKey × Cell) → CellKey → Cell → Type 0
+IsNewestOf pairs key cell = IsNewestIn (Contains pairs) key cell
+
 abbrev pub IsNewestAt : List (CellKey × Cell) → CellKey → Option Cell → Type 0
-IsNewestAt pairs key None = (cell : Cell) → ¬ Contains pairs (key, cell)
-IsNewestAt pairs key (Some cell) = IsNewestOf pairs key cell
+IsNewestAt pairs key found = IsNewestAmong (Contains pairs) key found
 
 -- what rows have at a key: the rows as a finite map
 abbrev pub found_at : List (CellKey × Cell) → CellKey → Option Cell
@@ -51,15 +60,26 @@ found_at rows key = lookup (is_at (key_cmp key)) rows
 abbrev pub AreInOrder : List (CellKey × Cell) → Type 0
 AreInOrder rows = IsStrictlySortedBy key_cmp (keys_of rows)
 
--- The merge of a list of cells under their keys: the rows stand in strictly ascending order of
--- their keys, and have at each key the newest of the key's cells in the list, and nothing else.
-pub record IsMerge (pairs rows : List (CellKey × Cell)) : Type 0 where
+-- The merge of all cells that have P under their keys: the rows stand in strictly ascending order of
+-- their keys, and have at each key the newest of the key's cells that have P, and nothing else.
+pub record IsMergeOf (P : CellKey × Cell → Type 0) (rows : List (CellKey × Cell)) : Type 0 where
   pub ordered : AreInOrder rows
-  pub newest : (key : CellKey) → IsNewestAt pairs key (found_at rows key)
+  pub newest : (key : CellKey) → IsNewestAmong P key (found_at rows key)
+
+-- the merge of a list of cells
+abbrev pub IsMerge : List (CellKey × Cell) → List (CellKey × Cell) → Type 0
+IsMerge pairs rows = IsMergeOf (Contains pairs) rows
 
 -- two lists with the same members, each as often and wherever it stands
 abbrev pub HaveSameMembers : List (CellKey × Cell) → List (CellKey × Cell) → Type 0
 HaveSameMembers pairs others = (pair : CellKey × Cell) → Contains pairs pair ↔ Contains others pair
+
+-- the cells of one table, in their order
+abbrev pub is_of_table : Table → CellKey → Bool
+is_of_table table key = key.table.0 == table.0
+
+abbrev pub part_on : Table → List (CellKey × Cell) → List (CellKey × Cell)
+part_on table pairs = filter (λ pair. is_of_table table pair.0) pairs
 
 -- new rows are the old ones merged with a first part of the others
 pub record MergesPart (old others new : List (CellKey × Cell)) : Type 0 where

@@ -18,7 +18,14 @@ ghost use Rattle.std.specs.Prelude.{
   IfOk,
   IfErr,
 };
-ghost use Rattle.clog_cells.specs.Merge.{is_newer, found_at, IsMerge, MergesPart, IsCellMap};
+ghost use Rattle.clog_cells.specs.Merge.{
+  is_newer,
+  found_at,
+  AreInOrder,
+  IsMerge,
+  MergesPart,
+  IsCellMap,
+};
 
 use crate::newest::newer;
 use clog_base::{Cell, CellKey, OutOfMemory, Text};
@@ -79,13 +86,36 @@ impl CellMap {
         put(&mut self.cells, key, cell)
     }
 
+    /// Adds a cell whose key is above all others. For want of memory the pair comes back, and the
+    /// map is as it was.
+    pub fn push_last(&mut self, key: CellKey, cell: Cell) -> Result<(), (CellKey, Cell)>
+        requires { AreInOrder (self.old ++ (key, cell) ∷ []) }
+        ensures pushed { OnOk result (self.new ≡ self.old ++ (key, cell) ∷ []) }
+        ensures returned { IfErr result (λ pair. pair ≡ (key, cell)) }
+        ensures unchanged { OnErr result (self.new ≡ self.old) }
+    {
+        push_last(&mut self.cells, key, cell)
+    }
+
     /// Moves the cells of another map in. After a refusal the map is its old content merged with a
-    /// first part of the other.
+    /// first part of the other, and what is left of the other is dropped: who has to hand all back
+    /// puts pair by pair, since `put` gives its pair back.
     pub fn merge(&mut self, other: CellMap) -> Result<(), OutOfMemory>
         ensures merged { OnOk result (IsMerge (self.old ++ other) self.new) }
         ensures part { OnErr result (MergesPart self.old other self.new) }
     {
         merge(&mut self.cells, other.cells)
+    }
+
+    /// A map with copies of the same cells.
+    pub fn copy(&self) -> Result<CellMap, OutOfMemory>
+        ensures { IfOk result (λ copy. copy ≡ self.now) }
+    {
+        let cells = copy_of_all(self.alloc, &self.cells)?;
+        Ok(CellMap {
+            alloc: self.alloc,
+            cells,
+        })
     }
 
     /// A copy of the pairs, ascending.
@@ -153,6 +183,22 @@ fn put(cells: &mut BTreeMap<CellKey, Cell>, key: CellKey, cell: Cell) -> Result<
     }
 }
 
+fn push_last(
+    cells: &mut BTreeMap<CellKey, Cell>,
+    key: CellKey,
+    cell: Cell,
+) -> Result<(), (CellKey, Cell)>
+    requires map { IsCellMap cells.old.entries }
+    requires last { AreInOrder (cells.old.entries ++ (key, cell) ∷ []) }
+    ensures pushed { OnOk result
+        (cells.new.entries ≡ cells.old.entries ++ (key, cell) ∷ []) }
+    ensures returned { IfErr result (λ pair. pair ≡ (key, cell)) }
+    ensures unchanged { OnErr result (cells.new.entries ≡ cells.old.entries) }
+    ensures map { IsCellMap cells.new.entries }
+{
+    put(cells, key, cell)
+}
+
 fn merge(
     cells: &mut BTreeMap<CellKey, Cell>,
     others: BTreeMap<CellKey, Cell>,
@@ -184,6 +230,23 @@ fn copy_of(alloc: Global, key: &CellKey, cell: &Cell) -> Result<(CellKey, Cell),
         value: Text::copy_of(alloc, cell.value.as_str())?,
     };
     Ok((key, cell))
+}
+
+fn copy_of_all(
+    alloc: Global,
+    cells: &BTreeMap<CellKey, Cell>,
+) -> Result<BTreeMap<CellKey, Cell>, OutOfMemory>
+    requires { IsCellMap cells.now.entries }
+    ensures { IfOk result (λ copy. copy.entries ≡ cells.now.entries) }
+{
+    let mut copies = BTreeMap::new(alloc);
+    for (key, cell) in cells {
+        let (key, cell) = copy_of(alloc, key, cell)?;
+        let Ok(()) = push_last(&mut copies, key, cell) else {
+            return Err(OutOfMemory);
+        };
+    }
+    Ok(copies)
 }
 
 fn rows_of(

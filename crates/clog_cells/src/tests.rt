@@ -108,7 +108,7 @@ fn merged_rows_ascend_by_table_key_and_column(rt: HostRuntime) -> Result<(), Fai
         put(alloc, &mut others, (0, "a", column), 9, Kind::Live, value)?;
     }
     cells.merge(others)?;
-    let rows = cells.rows()?;
+    let rows = cells.copy()?.rows()?;
     let expected = [
         (0, "a", "ab", "4"),
         (0, "a", "b", "b"),
@@ -122,5 +122,26 @@ fn merged_rows_ascend_by_table_key_and_column(rt: HostRuntime) -> Result<(), Fai
         assert_eq!(rt; row.0.column.as_str(), expected.2);
         assert_eq!(rt; row.1.value.as_str(), expected.3);
     }
+    Ok(())
+}
+
+#[test]
+fn a_map_holds_thousands_of_cells(rt: HostRuntime) -> Result<(), Fail> {
+    let alloc = rt.alloc();
+    let mut cells = CellMap::new(alloc);
+    for n in 0..5000u64 {
+        // Each number below 5000 once, in no order.
+        let name = format!(in alloc; "{}", n * 7919 % 5000)?;
+        put(
+            alloc,
+            &mut cells,
+            (0, name.as_str(), "c"),
+            9,
+            Kind::Live,
+            "v",
+        )?;
+    }
+    assert_eq!(rt; cells.len(), 5000);
+    assert_eq!(rt; cells.copy()?.len(), 5000);
     Ok(())
 }

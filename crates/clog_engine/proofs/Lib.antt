@@ -9,7 +9,6 @@ pub mod Landed
 pub mod Listed
 pub mod Looked
 pub mod Members
-pub mod MergeMade
 pub mod Merged
 pub mod PlainFolder
 pub mod Restored

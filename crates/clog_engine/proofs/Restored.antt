@@ -91,7 +91,7 @@ use Rattle.clog_engine.specs.Restore.{
 }
 use Rattle.clog_engine.proofs.Members.{all_have, in_map, from_map, in_flat, from_flat}
 use Rattle.clog_engine.proofs.Members.{payload_in, entry_in}
-use Rattle.clog_engine.proofs.MergeMade.{merge_of}
+use Rattle.clog_cells.proofs.Made.{merge_of}
 use Rattle.clog_engine.proofs.PlainFolder.{read_of, one_table_file}
 use Rattle.clog_engine.proofs.SegmentHeld.{held, segment_is_file}
 

@@ -62,7 +62,8 @@ use Rattle.clog_table.specs.Refusals.{IsFileOf, HasAllCells, Refuses, Decodes, I
 use Rattle.clog_table.proofs.Numbers.{four_once}
 use Rattle.clog_table.proofs.HeadParts.{head_is_long}
 use Rattle.clog_table.proofs.Grammar.{parts, cell_again, pair_of-parts}
-use Rattle.clog_table.proofs.Keys.{Pairs, front_in_order}
+use Rattle.clog_table.proofs.Keys.{Pairs}
+use Rattle.clog_cells.proofs.InOrder.{front_in_order}
 
 -- ---- one head
 head_again : (head : Head) → IsStoredHead head → head_at (head_bytes head) ≡ head

@@ -46,7 +46,8 @@ use Rattle.clog_table.specs.Limits.{IsStoredCell}
 use Rattle.clog_table.specs.Heads.{HasHead}
 use Rattle.clog_table.specs.Cells.{HasCells}
 use Rattle.clog_table.specs.Refusals.{place, IsTaken, RefusesCell, RefusesCells}
-use Rattle.clog_table.proofs.Keys.{Pairs, nothing_in_order}
+use Rattle.clog_table.proofs.Keys.{Pairs}
+use Rattle.clog_cells.proofs.InOrder.{nothing_in_order}
 
 -- at first no cell is read
 pub no_cells : (bytes : List ℕ) (head : Head) → HasHead head.table bytes head

@@ -26,9 +26,8 @@ use Rattle.std.specs.declared.cmp.Ordering.TheVariants.{Less, Equal, Greater}
 use Rattle.std.proofs.lemmas.List.Elements.{recursion_from_All}
 use Rattle.clog_base.specs.declared.cell.Cell.{Cell}
 use Rattle.clog_base.specs.declared.cell.CellKey.{CellKey}
-use Rattle.clog_cells.specs.Merge.{key_cmp, found_at, AreInOrder, IsMerge}
+use Rattle.clog_cells.specs.Merge.{key_cmp, found_at, AreInOrder}
 use Rattle.clog_cells.proofs.Orders.{key_total, one_key}
-use Rattle.clog_cells.proofs.Merging.{unique, of_itself}
 use Rattle.clog_table.specs.Cells.{IsAbove}
 
 abbrev pub Pairs : Type 0
@@ -89,26 +88,6 @@ unfolding IsStrictlySortedBy
 last_is_above [] key cell h = tt
 last_is_above (row ∷ rows) key cell h =
     (last_below row.0 key cell rows h.0, last_is_above rows key cell h.1)
-
-front_below : (first : CellKey) (rows more : Pairs)
-    → AllByRecursion (λ other. key_cmp first other ≡ Less) (keys_of (rows ++ more))
-    → AllByRecursion (λ other. key_cmp first other ≡ Less) (keys_of rows)
-front_below first [] more h = tt
-front_below first (row ∷ rows) more h = (h.0, front_below first rows more h.1)
-
--- a front of what is in order is in order
-pub front_in_order : (rows more : Pairs) → AreInOrder (rows ++ more) → AreInOrder rows
-unfolding IsStrictlySortedBy
-front_in_order [] more h = tt
-front_in_order (row ∷ rows) more h = (front_below row.0 rows more h.0, front_in_order rows more h.1)
-
--- a merge of what is in order is itself
-pub merge_in_order : (rows merged : Pairs) → AreInOrder rows → IsMerge rows merged → merged ≡ rows
-merge_in_order rows merged ordered h = unique rows merged rows h (of_itself rows ordered)
-
-pub nothing_in_order : AreInOrder []
-unfolding IsStrictlySortedBy
-nothing_in_order = tt
 
 found_below : (last key : CellKey) (v : Cell) (row : CellKey × Cell) (rows : Pairs) (b : Bool)
     → eq_by_cmp key_cmp last row.0 ≡ b → cond b (Some row.1) (found_at rows last) ≡ Some v

@@ -25,19 +25,7 @@ use Rattle.std.specs.declared.cmp.Ordering.{Ordering}
 use Rattle.std.specs.declared.cmp.Ordering.TheVariants.{Less, Equal, Greater}
 use Rattle.std.specs.Map.{keys_of}
 use Rattle.std.specs.BTreeMap.{is_at}
-use Rattle.std.specs.FinMap.{
-  FinMap,
-  entries,
-  find,
-  from_sorted,
-  insert,
-  get,
-  get-insert,
-  get-entries,
-  get-from_sorted,
-  entries_sorted,
-  is_sorted,
-}
+use Rattle.std.specs.FinMap.{FinMap, entries, from_sorted, insert, get, get-insert, get-entries, get-from_sorted, entries_sorted, is_sorted}
 use Rattle.std.specs.FinMap.Entries.{below_all}
 use Rattle.std.specs.List.{AllByRecursion}
 use Rattle.std.specs.List.Sorted.{IsStrictlySortedBy}
@@ -45,16 +33,13 @@ use Rattle.clog_base.specs.declared.cell.Cell.{Cell}
 use Rattle.clog_base.specs.declared.cell.CellKey.{CellKey}
 use Rattle.clog_cells.specs.Merge.{key_cmp, is_newer, found_at, AreInOrder, IsMerge}
 use Rattle.clog_cells.proofs.Orders.{key_total, key_equiv}
-use Rattle.clog_cells.proofs.Merging.{kept, grown, continues, none_yet}
+use Rattle.clog_cells.proofs.InOrder.{nothing_in_order}
+use Rattle.clog_cells.proofs.Merging.{rises, found_as, kept, grown, continues, none_yet}
 
 abbrev Pairs : Type 0
 Pairs = List (CellKey × Cell)
 
--- ---- rows in order, as a finite map tells it and as a merge does
-
-both : (a b : Bool) → T a → T b → T (a && b)
-both true b p q = q
-both false b p q = p
+-- ---- the rows of a finite map are in order
 
 first_of : (a b : Bool) → T (a && b) → T a
 first_of true b p = tt
@@ -69,17 +54,6 @@ is_less Less p = refl
 is_less Equal p = absurd p
 is_less Greater p = absurd p
 
-of_less : (r : Ordering) → r ≡ Less → T (is_lt r)
-of_less r e = subst (λ (o : Ordering). T (is_lt o)) (sym e) tt
-
-below_tested : (key : CellKey) (rows : Pairs)
-    → AllByRecursion (λ other. key_cmp key other ≡ Less) (keys_of rows)
-    → T (below_all key_cmp key rows)
-below_tested key [] h = tt
-below_tested key (row ∷ rows) h =
-    both (is_lt (key_cmp key row.0)) (below_all key_cmp key rows)
-    (of_less (key_cmp key row.0) h.0) (below_tested key rows h.1)
-
 below_listed : (key : CellKey) (rows : Pairs) → T (below_all key_cmp key rows)
     → AllByRecursion (λ other. key_cmp key other ≡ Less) (keys_of rows)
 below_listed key [] h = tt
@@ -90,13 +64,6 @@ below_listed key (row ∷ rows) h =
       below_listed key rows (second_of test rest h),
     )
 
-rises : (rows : Pairs) → AreInOrder rows → T (is_sorted key_cmp rows)
-unfolding IsStrictlySortedBy
-rises [] h = tt
-rises (row ∷ rows) h =
-    both (below_all key_cmp row.0 rows) (is_sorted key_cmp rows) (below_tested row.0 rows h.0)
-    (rises rows h.1)
-
 in_order : (rows : Pairs) → T (is_sorted key_cmp rows) → AreInOrder rows
 unfolding IsStrictlySortedBy
 in_order [] h = tt
@@ -104,10 +71,6 @@ in_order (row ∷ rows) h =
     let test = below_all key_cmp row.0 rows in
     let rest = is_sorted key_cmp rows in
     (below_listed row.0 rows (first_of test rest h), in_order rows (second_of test rest h))
-
-found_as : (rows : Pairs) (key : CellKey) → find key_cmp key rows ≡ found_at rows key
-found_as [] key = refl
-found_as (row ∷ rows) key = ap (cond (eq_by_cmp key_cmp key row.0) (Some row.1)) (found_as rows key)
 
 -- ---- one pair more
 
@@ -166,10 +129,6 @@ merge_on old (p ∷ ps) ordered =
       subst (λ (l : Pairs). IsMerge l all.0) (append_assoc old (p ∷ []) ps)
           (continues (old ++ p ∷ []) next.0 ps all.0 next.1 all.1),
     )
-
-nothing_in_order : AreInOrder []
-unfolding IsStrictlySortedBy
-nothing_in_order = tt
 
 pub merge_of : (pairs : Pairs) → (rows : Pairs) × IsMerge pairs rows
 merge_of pairs = merge_on [] pairs nothing_in_order
