@@ -1,1 +1,3 @@
 pub mod Divide
+pub mod Examples
+pub mod Lengths

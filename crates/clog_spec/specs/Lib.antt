@@ -1,3 +1,4 @@
 pub mod Crc
 pub mod Names
 pub mod Segment
+pub mod Sizes

@@ -17,6 +17,7 @@ use Rattle.std.specs.Prelude.{
   decimal,
 }
 use Rattle.std.specs.List.{list_all}
+use Rattle.clog_spec.specs.Sizes.{longest_file_name, most_tables}
 
 -- ASCII, and neither `/` nor 0
 abbrev pub is_name_byte : ℕ → Bool
@@ -24,7 +25,9 @@ is_name_byte b = nat_lt 0 b && nat_lt b 128 && not (b == 47)
 
 -- 1 to 64 such bytes
 abbrev pub is_name : List ℕ → Bool
-is_name bytes = nat_lt 0 (length bytes) && nat_le (length bytes) 64 && list_all is_name_byte bytes
+is_name bytes =
+    nat_lt 0 (length bytes) && nat_le (length bytes) longest_file_name
+    && list_all is_name_byte bytes
 
 -- a segment's name
 abbrev pub segment_name_of : ℕ → ℕ → List ℕ
@@ -54,7 +57,7 @@ pub record IsArchiveName (name : List ℕ) (id : ℕ) : Type 0 where
 -- The name is that of a table file of this table and sequence.
 pub record IsTableName (name : List ℕ) (table sequence : ℕ) : Type 0 where
   pub form : name ≡ table_name_of table sequence
-  pub table_fits : table < 16
+  pub table_fits : table < most_tables
   pub sequence_starts : 0 < sequence
   pub sequence_fits : sequence < 2 ^ 63
 

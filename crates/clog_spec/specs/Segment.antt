@@ -2,6 +2,7 @@
 use Rattle.std.specs.Prelude.{ℕ, ◌+◌, ◌/◌, ◌%◌, ◌^◌, List, ◌++◌, length, codes}
 use Rattle.std.specs.Int.{w16, w32, w64, to_be_bytes}
 use Rattle.clog_spec.specs.Crc.{crc32_of}
+use Rattle.clog_spec.specs.Sizes.{marker_size}
 
 abbrev pub low_half : ℕ → ℕ
 low_half id = id % 2 ^ 32
@@ -44,4 +45,4 @@ entry_bytes payload =
 
 -- a section at a place in the segment of an id: its marker, and its entries laid end to end
 abbrev pub section_bytes : ℕ → ℕ → List ℕ → List ℕ
-section_bytes id at entries = marker_bytes id at (at + 8 + length entries) ++ entries
+section_bytes id at entries = marker_bytes id at (at + marker_size + length entries) ++ entries
