@@ -1,5 +1,6 @@
 pub mod CrcBlocks
 pub mod CrcTable
+pub mod Members
 pub mod NameLaws
 pub mod Names
 pub mod Readings

@@ -1,5 +1,9 @@
 //! Cells and where they stand.
+ghost use Rattle.std.specs.Prelude.{◌≡◌};
+ghost use Rattle.clog_base.specs.CellKeys.{key_cmp};
+
 use crate::text::Text;
+use std::cmp::Ordering;
 
 /// The number of a table, below 16.
 #[derive(Clone, Copy, Debug, PartialEq, Eq, PartialOrd, Ord)]
@@ -30,4 +34,13 @@ pub struct CellKey {
     pub table: Table,
     pub key: Text,
     pub column: Text,
+}
+
+impl CellKey {
+    /// How it stands to another in the order of cells.
+    pub fn compare(&self, other: &CellKey) -> Ordering
+        ensures { result ≡ key_cmp self.now other.now }
+    {
+        self.cmp(other)
+    }
 }

@@ -15,6 +15,7 @@ ghost use Rattle.std.specs.Cmp.Lexicographic.{
 };
 ghost use Rattle.clog_spec.specs.Names.{is_name, is_name_byte as is_byte_of_name};
 
+use crate::format::LONGEST_FILE_NAME;
 use crate::row::put;
 use std::cmp::Ordering;
 use std::marker::Model;
@@ -22,7 +23,7 @@ use std::marker::Model;
 /// 1 to 64 ASCII bytes, none of them `/` or 0.
 #[derive(Clone, Copy, Debug)]
 pub struct Name {
-    bytes: [u8; 64],
+    bytes: [u8; LONGEST_FILE_NAME],
     len: usize,
 }
 
@@ -95,7 +96,7 @@ fn all_of_name(bytes: &[u8]) -> bool
 fn is_name(bytes: &[u8]) -> bool
     ensures { result ≡ is_name bytes.now }
 {
-    if bytes.is_empty() || bytes.len() > 64 {
+    if bytes.is_empty() || bytes.len() > LONGEST_FILE_NAME {
         return false;
     }
     all_of_name(bytes)
@@ -106,7 +107,7 @@ pub(crate) fn padded(bytes: &[u8]) -> Name
     requires { is_name bytes.now ≡ true }
     ensures { result ≡ bytes.now }
 {
-    let mut row = [0u8; 64];
+    let mut row = [0u8; LONGEST_FILE_NAME];
     let len = put(&mut row, 0, bytes);
     Name { bytes: row, len }
 }

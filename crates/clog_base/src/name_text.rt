@@ -5,8 +5,8 @@ ghost use Rattle.clog_base.specs.NameText.{numbered, two_numbered};
 use crate::row::put;
 use itoa::Buffer;
 
-/// Puts a number behind what stands in a row, and says where it ends.
-fn put_number(row: &mut [u8], at: usize, number: u64) -> usize
+/// Puts a number in decimal behind what stands in a row, and says where it ends.
+pub(crate) fn put_number(row: &mut [u8], at: usize, number: u64) -> usize
     requires { at + 20 ≤ length row.old }
     ensures end { result ≡ at + length (decimal number) }
     ensures front { take result row.new ≡ take at row.old ++ decimal number }

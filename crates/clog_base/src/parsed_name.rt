@@ -11,6 +11,7 @@ ghost use Rattle.clog_spec.specs.Names.{
 };
 
 use crate::cell::Table;
+use crate::format::MOST_TABLES;
 use crate::name::Name;
 use crate::name_reading::{between, number_of, two_numbers_of};
 
@@ -68,7 +69,7 @@ pub fn parse_table_name(name: &Name) -> Option<(Table, u64)>
     let Some((table, sequence)) = two_numbers_of(middle) else {
         return None;
     };
-    if table > 15 || sequence == 0 || sequence > 0x7fff_ffff_ffff_ffff {
+    if table >= u64::from(MOST_TABLES) || sequence == 0 || sequence > 0x7fff_ffff_ffff_ffff {
         return None;
     }
     Some((Table(table as u8), sequence))
@@ -76,12 +77,16 @@ pub fn parse_table_name(name: &Name) -> Option<(Table, u64)>
 
 /// A name says one thing at most: it is of one kind, and what it says is determined.
 pub fn name_laws()
-    ensures one_segment { (name : List ℕ) (version id version' id' : ℕ) → IsSegmentName name version id
-        → IsSegmentName name version' id' → (version ≡ version') × (id ≡ id') }
-    ensures one_archive { (name : List ℕ) (id id' : ℕ) → IsArchiveName name id → IsArchiveName name id' → id ≡ id' }
-    ensures one_table { (name : List ℕ) (table sequence table' sequence' : ℕ) → IsTableName name table sequence
-        → IsTableName name table' sequence' → (table ≡ table') × (sequence ≡ sequence') }
-    ensures segment_is_no_other { (name : List ℕ) (version id : ℕ) → IsSegmentName name version id
-        → IsNoArchiveName name × IsNoTableName name }
-    ensures archive_is_no_table { (name : List ℕ) (id : ℕ) → IsArchiveName name id → IsNoTableName name }
+    ensures one_segment { (name : List ℕ) (version id version' id' : ℕ)
+        → IsSegmentName name version id → IsSegmentName name version' id'
+        → (version ≡ version') × (id ≡ id') }
+    ensures one_archive { (name : List ℕ) (id id' : ℕ) → IsArchiveName name id
+        → IsArchiveName name id' → id ≡ id' }
+    ensures one_table { (name : List ℕ) (table sequence table' sequence' : ℕ)
+        → IsTableName name table sequence → IsTableName name table' sequence'
+        → (table ≡ table') × (sequence ≡ sequence') }
+    ensures segment_is_no_other { (name : List ℕ) (version id : ℕ)
+        → IsSegmentName name version id → IsNoArchiveName name × IsNoTableName name }
+    ensures archive_is_no_table { (name : List ℕ) (id : ℕ) → IsArchiveName name id
+        → IsNoTableName name }
 {}

@@ -2,6 +2,8 @@
 ghost use Rattle.std.specs.Prelude.{◌≡◌, ◌↔◌, IsSome, IfSome};
 ghost use Rattle.clog_base.specs.Sizes.{IsWithinLimits};
 
+use crate::format::{GREATEST_CAPACITY, LEAST_CAPACITY, MOST_SEGMENTS, MOST_TABLES, MOST_WRITERS};
+
 /// The number of tables (1 to 16) and writers (1 to 64), the capacity of a segment in bytes (4096 to
 /// 33554432), and the number of segments that a path may use (1 to 2147483647).
 #[derive(Clone, Copy, Debug, PartialEq, Eq)]
@@ -20,10 +22,13 @@ impl Sizes {
         ensures same { IfSome result (λ s. (s.tables ≡ tables) × (s.writers ≡ writers)
             × (s.capacity ≡ capacity) × (s.ordinals ≡ ordinals)) }
     {
-        if !(1..=16).contains(&tables) || !(1..=64).contains(&writers) {
+        if !(1..=MOST_TABLES).contains(&tables) || !(1..=MOST_WRITERS).contains(&writers) {
             return None;
         }
-        if !(4096..=33_554_432).contains(&capacity) || !(1..=2_147_483_647).contains(&ordinals) {
+        if !(LEAST_CAPACITY..=GREATEST_CAPACITY).contains(&capacity) {
+            return None;
+        }
+        if !(1..=MOST_SEGMENTS).contains(&ordinals) {
             return None;
         }
         Some(Sizes {

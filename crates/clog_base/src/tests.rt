@@ -1,6 +1,6 @@
 //! Names, sizes and checks against values that were worked out elsewhere.
 use crate::{
-    Name, SegmentName, Sizes, Table, archive_name, crc32, crc32_int, crc32_more,
+    Name, OutOfMemory, SegmentName, Sizes, Table, Text, archive_name, crc32, crc32_int, crc32_more,
     parse_archive_name, parse_segment_name, parse_table_name, segment_name, table_name,
 };
 use std::rt::HostRuntime;
@@ -87,10 +87,18 @@ fn other_names_say_nothing(rt: HostRuntime) {
 }
 
 #[test]
+fn a_text_is_copied(rt: HostRuntime) -> Result<(), OutOfMemory> {
+    let copy = Text::copy_of(rt.alloc(), "ab")?;
+    assert_eq!(rt; copy.as_str(), "ab");
+    Ok(())
+}
+
+#[test]
 fn names_and_sizes_have_their_limits(rt: HostRuntime) {
     assert!(rt; Name::make(b"").is_none() && Name::make(b"a/b").is_none());
     assert!(rt; Name::make(&[b'a'; 64]).is_some() && Name::make(&[b'a'; 65]).is_none());
     assert!(rt; Name::make(b"a\0").is_none() && Name::make(b"\x80").is_none());
+    assert!(rt; Name::make(b"\x01").is_some() && Name::make(b"\x7f").is_some());
     assert!(rt; Sizes::make(16, 64, 33_554_432, 2_147_483_647).is_some());
     assert!(rt; Sizes::make(1, 1, 4096, 1).is_some());
     let outside = [

@@ -85,6 +85,7 @@ impl Text {
         Ok(Text { text })
     }
 
+    /// The text as a string slice.
     pub fn as_str(&self) -> &str
         ensures { result.now ≡ self.now }
     {

@@ -1,3 +1,5 @@
+pub mod Bytes
 pub mod Divide
 pub mod Examples
 pub mod Lengths
+pub mod StoredBytes

@@ -33,14 +33,18 @@ marker_checked id at =
 abbrev pub marker_bytes : ℕ → ℕ → ℕ → List ℕ
 marker_bytes id at end = to_be_bytes w32 end ++ to_be_bytes w32 (crc32_of (marker_checked id at))
 
--- what an entry's first check is of
+-- what an entry's first check is of, and the second begins with
 abbrev pub size_bytes : List ℕ → List ℕ
 size_bytes payload = to_be_bytes w32 (length payload)
+
+-- what stands before a payload of a size: the size, and its check
+abbrev pub entry_front : ℕ → List ℕ
+entry_front size = to_be_bytes w32 size ++ to_be_bytes w32 (crc32_of (to_be_bytes w32 size))
 
 -- an entry, 12 bytes longer than its payload
 abbrev pub entry_bytes : List ℕ → List ℕ
 entry_bytes payload =
-    size_bytes payload ++ to_be_bytes w32 (crc32_of (size_bytes payload)) ++ payload
+    entry_front (length payload) ++ payload
     ++ to_be_bytes w32 (crc32_of (size_bytes payload ++ payload))
 
 -- a section at a place in the segment of an id: its marker, and its entries laid end to end
