@@ -47,13 +47,18 @@ use Rattle.clog_entry.specs.declared.cause.Cause.TheVariants.{
   BodyCheck,
   PastSection,
 }
-use Rattle.clog_entry.specs.Reading.{first_of, number_at, entry_read}
+use Rattle.clog_entry.specs.Reading.{
+  first_of,
+  number_at,
+  then_ok,
+  size_judged,
+  body_judged,
+  entry_read,
+}
 use Rattle.clog_entry.specs.Spelled.{IsEntryAt, payload_at}
-use Rattle.clog_entry.proofs.Checks.{number-IsBytes, append-IsBytes}
+use Rattle.clog_spec.proofs.Bytes.{number-IsBytes, append-IsBytes, drop-IsBytes, front-IsBytes}
 use Rattle.clog_entry.proofs.Pieces.{
   drop_more,
-  drop-IsBytes,
-  front-IsBytes,
   behind,
   check_fits,
   number_back,
@@ -67,16 +72,36 @@ judged at end size first payload second =
     (nat_lt (end - at) 8, Err Short)
     ∷ (nat_lt size 10, Err SizeUnder10)
     ∷ (not (first == crc32_of (to_be_bytes w32 size)), Err SizeCheck)
-    ∷ (nat_lt end (at + 12 + size), Err PastSection)
+    ∷ (nat_lt (end - at) (12 + size), Err PastSection)
     ∷ (not (second == crc32_of (to_be_bytes w32 size ++ payload)), Err BodyCheck)
     ∷ [])
     (Ok size)
 
+-- one judgement after another is one table of rules
+through : (a b c d : Bool) (size : ℕ)
+    → then_ok (cond a (Err SizeUnder10) (cond b (Err SizeCheck) (cond c (Err PastSection) (Ok tt))))
+    (cond d (Err BodyCheck) (Ok tt)) size
+    ≡ cond a (Err SizeUnder10) (cond b (Err SizeCheck)
+    (cond c (Err PastSection) (cond d (Err BodyCheck) (Ok size))))
+through true b c d size = refl
+through false true c d size = refl
+through false false true d size = refl
+through false false false true size = refl
+through false false false false size = refl
+
 entry_read_is : (bytes : List ℕ) (at end : ℕ) → entry_read bytes at end
     ≡ judged at end (number_at bytes at) (number_at bytes (at + 4))
     (payload_at bytes at (number_at bytes at)) (number_at bytes (at + 8 + number_at bytes at))
-unfolding entry_read judged
-entry_read_is bytes at end = refl
+unfolding entry_read size_judged body_judged judged
+entry_read_is bytes at end =
+    let size = number_at bytes at in
+    let first = number_at bytes (at + 4) in
+    let second = number_at bytes (at + 8 + size) in
+    let payload = payload_at bytes at size in
+    ap (λ later. cond (nat_lt (end - at) 8) (Err Short) later)
+    (through (nat_lt size 10) (not (first == crc32_of (to_be_bytes w32 size)))
+    (nat_lt (end - at) (12 + size)) (not (second == crc32_of (to_be_bytes w32 size ++ payload)))
+    size)
 
 -- no rule applied
 none_applied : (a b c d e : Bool) (size n : ℕ)
@@ -103,7 +128,7 @@ passed : (at end size first : ℕ) (payload : List ℕ) (second n : ℕ)
 unfolding judged
 passed at end size first payload second n h =
     let tests = none_applied (nat_lt (end - at) 8) (nat_lt size 10)
-    (not (first == crc32_of (to_be_bytes w32 size))) (nat_lt end (at + 12 + size))
+    (not (first == crc32_of (to_be_bytes w32 size))) (nat_lt (end - at) (12 + size))
     (not (second == crc32_of (to_be_bytes w32 size ++ payload))) size n h in
     record {
       room = let t = tests.0 in grind (arith, nat_tests);
@@ -123,7 +148,7 @@ passes at end size payload least fits =
     let enough : nat_lt size 10 ≡ false = grind (arith, nat_tests) in
     let first : not (crc32_of (to_be_bytes w32 size) == crc32_of (to_be_bytes w32 size))
     ≡ false = grind (arith, nat_tests) in
-    let within : nat_lt end (at + 12 + size) ≡ false = grind (arith, nat_tests) in
+    let within : nat_lt (end - at) (12 + size) ≡ false = grind (arith, nat_tests) in
     let second : not (crc32_of (to_be_bytes w32 size ++ payload)
     == crc32_of (to_be_bytes w32 size ++ payload)) ≡ false = grind (arith, nat_tests) in
     rw (room, enough, first, within, second) refl

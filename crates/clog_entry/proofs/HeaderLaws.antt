@@ -54,7 +54,7 @@ use Rattle.clog_entry.specs.declared.cause.Cause.TheVariants.{
 use Rattle.clog_entry.specs.Fields.{header_fields}
 use Rattle.clog_entry.specs.Reading.{first_of, number_at, header_judged, header_read}
 use Rattle.clog_entry.specs.Spelled.{IsHeaderAt}
-use Rattle.clog_entry.proofs.Checks.{number-IsBytes, append-IsBytes}
+use Rattle.clog_spec.proofs.Bytes.{number-IsBytes, append-IsBytes}
 use Rattle.clog_entry.proofs.Pieces.{
   check_fits,
   number_back,

@@ -41,9 +41,9 @@ use Rattle.clog_entry.specs.declared.cause.Cause.{Cause}
 use Rattle.clog_entry.specs.declared.cause.Cause.TheVariants.{MarkerCheck, MarkerTarget}
 use Rattle.clog_entry.specs.declared.marker.Marker.{Marker}
 use Rattle.clog_entry.specs.declared.marker.Marker.TheVariants.{End, Section}
-use Rattle.clog_entry.specs.Reading.{first_of, number_at, marker_read}
+use Rattle.clog_entry.specs.Reading.{first_of, number_at, marker_judged, marker_read}
 use Rattle.clog_entry.specs.Spelled.{IsMarkerAt}
-use Rattle.clog_entry.proofs.Checks.{number-IsBytes, append-IsBytes}
+use Rattle.clog_spec.proofs.Bytes.{number-IsBytes, append-IsBytes}
 use Rattle.clog_entry.proofs.Pieces.{behind, check_fits, number_back, number_here}
 
 -- the rules on what was found: the length of the file, the target and the check
@@ -59,7 +59,7 @@ judged id at len target check =
 
 marker_read_is : (bytes : List ℕ) (id at : ℕ) → marker_read bytes id at
     ≡ judged id at (length bytes) (number_at bytes at) (number_at bytes (at + 4))
-unfolding marker_read judged
+unfolding marker_read marker_judged judged
 marker_read_is bytes id at = refl
 
 -- no rule applied

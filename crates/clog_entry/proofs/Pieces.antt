@@ -19,7 +19,6 @@ use Rattle.std.proofs.Common.{
   ◌∙◌,
   ap,
   arith,
-  lit<,
 }
 use Rattle.std.proofs.lemmas.List.{drop_all, length-drop}
 use Rattle.std.proofs.lemmas.Nat.{be_bytes_2, be_bytes_4, be_bytes_8}
@@ -28,6 +27,7 @@ use Rattle.std.specs.Int.{w16, w32, w64, to_be_bytes}
 use Rattle.byteorder.specs.Endian.{big_number}
 use Rattle.byteorder.specs.Numbers.{big_number-reads_back}
 use Rattle.clog_spec.specs.Crc.{IsBytes, crc32_of}
+use Rattle.clog_spec.proofs.Bytes.{drop-IsBytes, front-IsBytes}
 use Rattle.clog_spec.proofs.Divide.{crc32_of_is_remainder}
 use Rattle.clog_entry.specs.Reading.{number_at}
 
@@ -39,20 +39,6 @@ drop_more (suc n) m [] =
 drop_more (suc n) m (x ∷ l) =
     let e : suc n + m ≡ suc (n + m) = omega arith in
     ap (λ k. drop k (x ∷ l)) e ∙ drop_more n m l
-
-pub drop-IsBytes : (n : ℕ) (bytes : List ℕ) → IsBytes bytes → IsBytes (drop n bytes)
-drop-IsBytes zero bytes fits i = fits i
-drop-IsBytes (suc n) [] fits i = lit< tt
-drop-IsBytes (suc n) (b ∷ bytes) fits i = drop-IsBytes n bytes (λ j. fits (suc j)) i
-
-pub front-IsBytes : (front back : List ℕ) → IsBytes (front ++ back) → IsBytes front
-front-IsBytes [] back fits i = lit< tt
-front-IsBytes (b ∷ front) back fits zero = fits 0
-front-IsBytes (b ∷ front) back fits (suc i) = front-IsBytes front back (λ j. fits (suc j)) i
-
-pub back-IsBytes : (front back : List ℕ) → IsBytes (front ++ back) → IsBytes back
-back-IsBytes [] back fits i = fits i
-back-IsBytes (b ∷ front) back fits i = back-IsBytes front back (λ j. fits (suc j)) i
 
 -- what stands behind a front that is known
 pub behind : (bytes front rest : List ℕ) (at next : ℕ) → drop at bytes ≡ front ++ rest

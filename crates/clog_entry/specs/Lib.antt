@@ -1,5 +1,5 @@
 pub mod CauseText
 pub mod Fields
 pub mod Reading
+pub mod Soft
 pub mod Spelled
-pub mod TextRow

@@ -27,6 +27,7 @@ use Rattle.std.specs.Int.{w32, to_be_bytes}
 use Rattle.byteorder.specs.Endian.{big_number}
 use Rattle.clog_spec.specs.Crc.{crc32_of}
 use Rattle.clog_spec.specs.Segment.{marker_checked}
+use Rattle.clog_spec.specs.Sizes.{marker_size, frame_size, least_payload}
 use Rattle.clog_entry.specs.Fields.{header_fields}
 use Rattle.clog_entry.specs.declared.cause.Cause.{Cause}
 use Rattle.clog_entry.specs.declared.cause.Cause.TheVariants.{
@@ -77,30 +78,51 @@ header_read bytes id =
     (header_judged (number_at bytes 0) (big_number 8 (drop 4 bytes)) (take size (drop 14 bytes))
     (number_at bytes (14 + size)) id)
 
+-- A marker of this target and check at an offset, in a file of this length that has room for it.
+unfoldable pub marker_judged : ℕ → ℕ → ℕ → ℕ → ℕ → Result Marker Cause
+marker_judged len id at target check =
+    first_of (
+    ((target == 0) && (check == 0), Ok End)
+    ∷ (not (check == crc32_of (marker_checked id at)), Err MarkerCheck)
+    ∷ (nat_lt target (at + marker_size) || nat_lt len target, Err (MarkerTarget target))
+    ∷ [])
+    (Ok (Section target))
+
 -- the marker at an offset
 unfoldable pub marker_read : List ℕ → ℕ → ℕ → Result Marker Cause
 marker_read bytes id at =
-    let target = number_at bytes at in
-    let check = number_at bytes (at + 4) in
+    first_of ((nat_lt (length bytes) (at + marker_size), Ok End) ∷ [])
+    (marker_judged (length bytes) id at (number_at bytes at) (number_at bytes (at + 4)))
+
+-- The size of a payload and its check, in an entry that begins where so many bytes are left in its
+-- section.
+unfoldable pub size_judged : ℕ → ℕ → ℕ → Result Unit Cause
+size_judged room size check =
     first_of (
-    (nat_lt (length bytes) (at + 8), Ok End)
-    ∷ ((target == 0) && (check == 0), Ok End)
-    ∷ (not (check == crc32_of (marker_checked id at)), Err MarkerCheck)
-    ∷ (nat_lt target (at + 8) || nat_lt (length bytes) target, Err (MarkerTarget target))
+    (nat_lt size least_payload, Err SizeUnder10)
+    ∷ (not (check == crc32_of (to_be_bytes w32 size)), Err SizeCheck)
+    ∷ (nat_lt room (frame_size + size), Err PastSection)
     ∷ [])
-    (Ok (Section target))
+    (Ok tt)
+
+-- a payload of a size, and the check behind it
+unfoldable pub body_judged : ℕ → ℕ → List ℕ → Result Unit Cause
+body_judged size check payload =
+    first_of (
+    (not (check == crc32_of (to_be_bytes w32 size ++ payload)), Err BodyCheck) ∷ [])
+    (Ok tt)
+
+-- a second judgement where the first lets pass, and then an answer
+abbrev pub then_ok : Result Unit Cause → Result Unit Cause → ℕ → Result ℕ Cause
+then_ok (Err cause) second answer = Err cause
+then_ok (Ok done) (Err cause) answer = Err cause
+then_ok (Ok done) (Ok done') answer = Ok answer
 
 -- the entry at an offset in a section that ends at an offset behind it: the size of its payload
 unfoldable pub entry_read : List ℕ → ℕ → ℕ → Result ℕ Cause
 entry_read bytes at end =
     let size = number_at bytes at in
-    let first = to_be_bytes w32 size in
-    let payload = take size (drop (at + 8) bytes) in
-    first_of (
-    (nat_lt (end - at) 8, Err Short)
-    ∷ (nat_lt size 10, Err SizeUnder10)
-    ∷ (not (number_at bytes (at + 4) == crc32_of first), Err SizeCheck)
-    ∷ (nat_lt end (at + 12 + size), Err PastSection)
-    ∷ (not (number_at bytes (at + 8 + size) == crc32_of (first ++ payload)), Err BodyCheck)
-    ∷ [])
-    (Ok size)
+    first_of ((nat_lt (end - at) 8, Err Short) ∷ [])
+    (then_ok (size_judged (end - at) size (number_at bytes (at + 4)))
+    (body_judged size (number_at bytes (at + 8 + size)) (take size (drop (at + 8) bytes)))
+    size)

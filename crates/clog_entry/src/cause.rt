@@ -7,7 +7,8 @@ use clog_base::PayloadFault;
 pub enum Cause {
     /// The file, or the section, ends before the header or the entry does.
     Short,
-    /// The size of an entry is below 10, the least that a payload has.
+    /// The size of an entry is below 10, which is Cassandra's own bound. The least payload of this
+    /// project has 18 bytes.
     SizeUnder10,
     /// The check of an entry's size is wrong.
     SizeCheck,

@@ -1,5 +1,5 @@
-//! The printed text of a cause, in a row of bytes, without memory.
-ghost use Rattle.std.specs.Prelude.{◌≡◌, ◌≤◌, ◌+◌, ◌++◌, length, take, codes, decimal};
+//! The printed text of a cause, which takes no memory.
+ghost use Rattle.std.specs.Prelude.{◌≡◌, ◌≤◌, length};
 ghost use Rattle.clog_entry.specs.CauseText.{
   with_number,
   cause_text,
@@ -10,59 +10,31 @@ ghost use Rattle.clog_entry.specs.CauseText.{
 };
 
 use crate::cause::Cause;
-use clog_base::{PayloadFault, put};
-use itoa::Buffer;
-use std::marker::Model;
-
-/// A cause as it is printed: `MarkerCheck`, `MarkerTarget 61`, `Payload Short 2`.
-#[derive(Drop)]
-pub struct CauseText {
-    row: [u8; 64],
-    len: usize,
-}
-
-impl Model for CauseText {
-    ghost use Rattle.std.specs.Prelude.{List, ℕ};
-    ghost use Rattle.clog_entry.specs.TextRow.{row_text, IsTextRow};
-
-    ghost Value = { List ℕ };
-
-    ghost view = { row_text };
-
-    ghost invariant = { IsTextRow };
-}
-
-impl CauseText {
-    pub fn as_bytes(&self) -> &[u8]
-        ensures { result.now ≡ self.now }
-    {
-        &self.row[..self.len]
-    }
-}
+use clog_base::{PayloadFault, TextRow};
 
 impl Cause {
-    /// The text of the cause: its name and, where it has one, its number or the payload's fault.
+    /// The text of the cause: its name and, behind a space where it has one, its number:
+    /// `MarkerCheck`, `MarkerTarget 61`, `Payload Short 2`.
     #[tactic(auto, unfolding(crate::specs::CauseText::cause_text))]
-    pub fn text(&self) -> CauseText
+    pub fn text(&self) -> TextRow
         ensures { result ≡ cause_text self.now }
     {
         text_of(name_of(*self), number_of(*self))
     }
 }
 
-fn text_of(name: &str, number: Option<u64>) -> CauseText
+fn text_of(name: &str, number: Option<u64>) -> TextRow
     requires { length name.now ≤ 20 }
     ensures { result ≡ with_number name.now number }
 {
-    let mut row = [0; 64];
-    let len = put(&mut row, 0, name.as_bytes());
-    match number {
-        None => CauseText { row, len },
-        Some(number) => {
-            let len = put_number(&mut row, len, number);
-            CauseText { row, len }
-        }
-    }
+    let mut text = TextRow::new();
+    text.put(name.as_bytes());
+    let Some(number) = number else {
+        return text;
+    };
+    text.put(b" ");
+    text.put_number(number);
+    text
 }
 
 fn name_of(cause: Cause) -> &'static str
@@ -124,15 +96,4 @@ fn payload_number_of(fault: PayloadFault) -> Option<u64>
         | PayloadFault::BadTable(at) => Some(at),
         PayloadFault::Count | PayloadFault::OutOfMemory => None,
     }
-}
-
-/// Puts a space and a number behind what stands in a row, and says where it ends.
-fn put_number(row: &mut [u8], at: usize, number: u64) -> usize
-    requires { at + 21 ≤ length row.old }
-    ensures front { take result row.new ≡ take at row.old ++ codes " " ++ decimal number }
-    ensures short { result ≤ at + 21 }
-{
-    let at = put(row, at, b" ");
-    let mut buffer = Buffer::new();
-    put(row, at, buffer.format(number).as_bytes())
 }

@@ -6,6 +6,7 @@
 mod cause;
 mod cause_text;
 mod check;
+mod judging;
 mod marker;
 mod reader;
 #[cfg(test)]
@@ -13,7 +14,7 @@ mod tests;
 mod writer;
 
 pub use cause::Cause;
-pub use cause_text::CauseText;
+pub use judging::{judge_body, judge_header, judge_marker, judge_size};
 pub use marker::Marker;
 pub use reader::{read_entry, read_header, read_marker};
-pub use writer::{put_entry, write_entry, write_header, write_marker};
+pub use writer::{begin_entry, end_entry, put_entry, write_entry, write_header, write_marker};

@@ -1,17 +1,14 @@
-//! Reading headers, markers and entries: the first rule that applies, of the table of each.
+//! Reading headers, markers and entries where they lie in the bytes of a whole segment. The rules
+//! on what is found there are those of `judging`.
 ghost use Rattle.std.specs.Prelude.{◌≡◌, ◌≤◌, ◌<◌, ◌^◌, ℕ, List, length};
-ghost use Rattle.clog_entry.specs.Reading.{
-  header_judged,
-  header_read,
-  marker_read,
-  entry_read,
-};
+ghost use Rattle.clog_entry.specs.Reading.{header_read, marker_read, entry_read};
 ghost use Rattle.clog_entry.specs.Spelled.{IsHeaderAt, IsMarkerAt, IsEntryAt, payload_at};
 
 use crate::cause::Cause;
-use crate::check::{body_check, header_check, marker_check, number_check};
+use crate::judging::{judge_body, judge_header, judge_marker, judge_size};
 use crate::marker::Marker;
 use byteorder::{BigEndian, ByteOrder};
+use clog_base::MARKER_SIZE;
 
 /// Reads the header of the segment of an id, at the front of the segment's bytes.
 pub fn read_header(bytes: &[u8], id: u64) -> Result<(), Cause>
@@ -65,53 +62,17 @@ fn header_of(bytes: &[u8], id: u64) -> Result<(), Cause>
     judge_header(version, found, &bytes[14..14 + size], check, id)
 }
 
-#[tactic(auto, unfolding(crate::specs::Reading::header_judged))]
-fn judge_header(
-    version: u32,
-    found: u64,
-    parameters: &[u8],
-    check: u32,
-    id: u64,
-) -> Result<(), Cause>
-    requires { length parameters.now < 2 ^ 16 }
-    ensures { result ≡ header_judged version found parameters.now check id }
-{
-    if check != header_check(version, found, parameters) {
-        return Err(Cause::HeaderCheck);
-    }
-    if version != 6 {
-        return Err(Cause::Version(version));
-    }
-    if found != id {
-        return Err(Cause::HeaderId(found));
-    }
-    if parameters != b"{}".as_slice() {
-        return Err(Cause::Parameters);
-    }
-    Ok(())
-}
-
 #[tactic(auto, unfolding(crate::specs::Reading::marker_read))]
 fn marker_of(bytes: &[u8], id: u64, at: u32) -> Result<Marker, Cause>
     ensures { result ≡ marker_read bytes.now id at }
 {
     let start = at as usize;
-    if bytes.len() < start + 8 {
+    if bytes.len() < start + MARKER_SIZE {
         return Ok(Marker::End);
     }
     let target = BigEndian::read_u32(&bytes[start..]);
     let check = BigEndian::read_u32(&bytes[start + 4..]);
-    if target == 0 && check == 0 {
-        return Ok(Marker::End);
-    }
-    if check != marker_check(id, at) {
-        return Err(Cause::MarkerCheck);
-    }
-    let end = target as usize;
-    if end < start + 8 || bytes.len() < end {
-        return Err(Cause::MarkerTarget(target));
-    }
-    Ok(Marker::Section(target))
+    judge_marker(bytes.len() as u64, id, at, target, check)
 }
 
 #[tactic(auto, unfolding(crate::specs::Reading::entry_read))]
@@ -125,20 +86,9 @@ fn entry_of(bytes: &[u8], at: u32, end: u32) -> Result<u32, Cause>
     }
     let start = at as usize;
     let size = BigEndian::read_u32(&bytes[start..]);
-    if size < 10 {
-        return Err(Cause::SizeUnder10);
-    }
-    let first = number_check(size);
-    if BigEndian::read_u32(&bytes[start + 4..]) != first {
-        return Err(Cause::SizeCheck);
-    }
+    judge_size(end - at, size, BigEndian::read_u32(&bytes[start + 4..]))?;
     let behind = start + 8 + size as usize;
-    if (end as usize) < behind + 4 {
-        return Err(Cause::PastSection);
-    }
-    let second = body_check(first, size, &bytes[start + 8..behind]);
-    if BigEndian::read_u32(&bytes[behind..]) != second {
-        return Err(Cause::BodyCheck);
-    }
+    let payload = &bytes[start + 8..behind];
+    judge_body(size, BigEndian::read_u32(&bytes[behind..]), payload)?;
     Ok(size)
 }

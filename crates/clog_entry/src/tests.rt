@@ -1,7 +1,7 @@
 //! A segment of 60 bytes whose checks were worked out elsewhere, and bytes that are none.
 use crate::{
-    Cause, Marker, put_entry, read_entry, read_header, read_marker, write_entry, write_header,
-    write_marker,
+    Cause, Marker, begin_entry, end_entry, put_entry, read_entry, read_header, read_marker,
+    write_entry, write_header, write_marker,
 };
 use clog_base::PayloadFault;
 use std::test::*;
@@ -23,13 +23,17 @@ fn writers_give_the_bytes_of_the_format(rt: HostRuntime) -> Result<(), Fail> {
     assert_eq!(rt; entries.as_slice(), ENTRY.as_slice());
     put_entry(&mut entries, &PAYLOAD)?;
     assert_eq!(rt; entries.len(), 64);
+    begin_entry(&mut entries, 20)?;
+    entries.extend_from_slice(&PAYLOAD)?;
+    end_entry(&mut entries, 64)?;
+    assert_eq!(rt; &entries[64..], ENTRY.as_slice());
     Ok(())
 }
 
 #[test]
 fn headers_are_refused_by_the_first_rule(rt: HostRuntime) -> Result<(), Fail> {
     // The checks are of the fields as they stand there.
-    let cases: [(&[u8], Result<(), Cause>); 8] = [
+    let cases: [(&[u8], Result<(), Cause>); 11] = [
         (&HEADER, Ok(())),
         (b"\0\0\0\x06\0\0\0\0\0\0\x03\xe8\0", Err(Cause::Short)),
         (
@@ -55,6 +59,19 @@ fn headers_are_refused_by_the_first_rule(rt: HostRuntime) -> Result<(), Fail> {
         (
             b"\0\0\0\x06\0\0\0\0\0\0\x03\xe8\0\0\x26\x87\x0c\x78",
             Err(Cause::Parameters),
+        ),
+        // Two rules are broken: the version comes before the id, and the id before the parameters.
+        (
+            b"\0\0\0\x07\0\0\0\0\0\0\x03\xe9\0\x02{}\x36\x07\xf6\x57",
+            Err(Cause::Version(7)),
+        ),
+        (
+            b"\0\0\0\x06\0\0\0\0\0\0\x03\xe9\0\x02[]\x21\x16\x29\xd5",
+            Err(Cause::HeaderId(1001)),
+        ),
+        (
+            b"\0\0\0\x07\0\0\0\0\0\0\x03\xe8\0\x02[]\x59\x63\x2d\xfd",
+            Err(Cause::Version(7)),
         ),
     ];
     for (bytes, answer) in cases {
@@ -88,7 +105,7 @@ fn markers_and_entries_are_read_in_their_places(rt: HostRuntime) -> Result<(), F
 
 #[test]
 fn causes_are_printed_by_name_and_number(rt: HostRuntime) -> Result<(), Fail> {
-    let cases: [(Cause, &str); 14] = [
+    let cases: [(Cause, &str); 11] = [
         (Cause::Short, "Short"),
         (Cause::SizeUnder10, "SizeUnder10"),
         (Cause::SizeCheck, "SizeCheck"),
@@ -103,15 +120,27 @@ fn causes_are_printed_by_name_and_number(rt: HostRuntime) -> Result<(), Fail> {
             Cause::HeaderId(18_446_744_073_709_551_615),
             "HeaderId 18446744073709551615",
         ),
-        (Cause::Payload(PayloadFault::Short(2)), "Payload Short 2"),
-        (
-            Cause::Payload(PayloadFault::NameLength(0)),
-            "Payload NameLength 0",
-        ),
-        (Cause::Payload(PayloadFault::Count), "Payload Count"),
     ];
     for (cause, text) in cases {
         assert_eq!(rt; cause.text().as_bytes(), text.as_bytes());
+    }
+    Ok(())
+}
+
+#[test]
+fn payload_causes_are_printed_behind_their_kind(rt: HostRuntime) -> Result<(), Fail> {
+    let cases: [(PayloadFault, &str); 8] = [
+        (PayloadFault::Short(2), "Payload Short 2"),
+        (PayloadFault::BadTag(28), "Payload BadTag 28"),
+        (PayloadFault::Count, "Payload Count"),
+        (PayloadFault::NotUtf8(2), "Payload NotUtf8 2"),
+        (PayloadFault::Trailing(20), "Payload Trailing 20"),
+        (PayloadFault::NameLength(0), "Payload NameLength 0"),
+        (PayloadFault::BadTable(6), "Payload BadTable 6"),
+        (PayloadFault::OutOfMemory, "Payload OutOfMemory"),
+    ];
+    for (fault, text) in cases {
+        assert_eq!(rt; Cause::Payload(fault).text().as_bytes(), text.as_bytes());
     }
     Ok(())
 }

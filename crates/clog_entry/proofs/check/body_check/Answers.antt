@@ -1,6 +1,7 @@
 use Rattle.std.proofs.Common.{◌∙◌}
 use Rattle.std.specs.Int.{w32, to_be_bytes}
-use Rattle.clog_entry.proofs.Checks.{number-IsBytes, goes_on}
+use Rattle.clog_spec.proofs.Bytes.{number-IsBytes}
+use Rattle.clog_entry.proofs.Checks.{goes_on}
 use Rattle.clog_entry.proofs.check.body_check.Goals as goal
 
 pub returns : goal.returns

@@ -2,7 +2,8 @@ use Rattle.std.proofs.Common.{◌++◌, ap, ◌∙◌, length}
 use Rattle.std.specs.Int.{w32, to_be_bytes}
 use Rattle.clog_spec.specs.Crc.{crc32_after}
 use Rattle.clog_spec.specs.Segment.{low_half, high_half}
-use Rattle.clog_entry.proofs.Checks.{number-IsBytes, append-IsBytes, goes_on}
+use Rattle.clog_spec.proofs.Bytes.{number-IsBytes, append-IsBytes}
+use Rattle.clog_entry.proofs.Checks.{goes_on}
 use Rattle.clog_entry.proofs.check.header_check.Goals as goal
 
 pub returns : goal.returns
