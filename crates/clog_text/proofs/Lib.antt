@@ -4,3 +4,4 @@ pub mod UpdateLists
 pub mod CellPrinted
 pub mod FileReading
 pub mod FileParts
+pub mod UsualLines

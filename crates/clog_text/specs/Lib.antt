@@ -3,3 +3,4 @@ pub mod LineMutation
 pub mod FileMutations
 pub mod Refusals
 pub mod CellTexts
+pub mod UsualLines

@@ -7,10 +7,11 @@ ghost use Rattle.clog_text.specs.FileMutations.{mutations_from, GivesLines, Read
 ghost use Rattle.clog_text.specs.FileMutations.{joined, PartsRead, part_from};
 ghost use Rattle.clog_mutation.specs.Limits.{IsWithinLimits};
 
-use crate::read::read_line;
 use crate::refusal::BadLine;
 use crate::split::Lines;
+use crate::usual::read_with;
 use clog_mutation::Mutations;
+use json::Scratch;
 use std::alloc::Global;
 use std::marker::Sync;
 use std::thread;
@@ -104,11 +105,12 @@ fn read_part(
     ensures reads { GivesLines (part_from bytes.now before ranges.now) result }
     ensures within { IfOk result (AllByRecursion IsWithinLimits) }
 {
+    let mut scratch = Scratch::new(alloc);
     let mut mutations = Vec::new(alloc);
     let mut number = before as u32;
     for range in ranges {
         number += 1;
-        match read_line(alloc, &bytes[range.0..range.1]) {
+        match read_with(alloc, &mut scratch, &bytes[range.0..range.1]) {
             Ok(mutation) => match mutations.push(mutation) {
                 Ok(()) => {}
                 Err(_) => return Err((number, BadLine::OutOfMemory)),

@@ -8,6 +8,7 @@ mod refusal;
 mod split;
 #[cfg(test)]
 mod tests;
+mod usual;
 
 pub use cell_text::{cell_line, put_cell_line};
 pub use file::{read_lines, read_lines_in_parts, reading_laws};

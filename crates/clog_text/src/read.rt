@@ -170,7 +170,7 @@ fn mutation_of(alloc: Global, value: &Value) -> Result<Mutation, BadLine>
 }
 
 // The bytes as text, if they are UTF-8.
-fn text_of(bytes: &[u8]) -> Option<&str>
+pub(crate) fn text_of(bytes: &[u8]) -> Option<&str>
     ensures { MatchOption result (is_text bytes.now ≡ false)
         (λ text. (text.now ≡ bytes.now) × (is_text bytes.now ≡ true)) }
 {
