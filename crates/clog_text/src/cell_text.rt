@@ -59,7 +59,49 @@ fn write_cell(writer: &mut Writer, key: &CellKey, cell: &Cell) -> Result<(), All
     Ok(())
 }
 
-/// Puts a cell's line at the end of `out`: its object and 0A. After a refusal `out` is as before.
+/// A printer of cells' lines. It keeps the memory in which it makes a line.
+#[derive(Drop)]
+pub struct CellPrinter {
+    alloc: Global,
+    line: Vec<u8>,
+}
+
+impl CellPrinter {
+    /// A printer that has printed nothing.
+    pub fn new(alloc: Global) -> CellPrinter {
+        CellPrinter {
+            alloc,
+            line: Vec::new(alloc),
+        }
+    }
+
+    // Makes a cell's line alone.
+    fn make(&mut self, key: &CellKey, cell: &Cell) -> Result<(), AllocError>
+        ensures { OnOk result (self.new.line.items ≡ cell_line key.now cell.now) }
+    {
+        let mut line = mem::replace(&mut self.line, Vec::new(self.alloc));
+        line.clear();
+        let mut writer = Writer::new(line);
+        let written = write_cell(&mut writer, key, cell);
+        self.line = writer.into_inner();
+        written?;
+        Ok(self.line.push(b'\n')?)
+    }
+
+    /// Puts a cell's line at the end of `out`: the compact JSON object with the names `column`,
+    /// `key`, `table`, `ts` and `value`, the value null for a deletion, and 0A. After a refusal
+    /// `out` is as before.
+    pub fn put(&mut self, out: &mut Vec<u8>, key: &CellKey, cell: &Cell) -> Result<(), OutOfMemory>
+        ensures ok { OnOk result (out.new.items ≡ out.old.items ++ cell_line key.now cell.now) }
+        ensures err { OnErr result (out.new.items ≡ out.old.items) }
+    {
+        self.make(key, cell)?;
+        out.extend_from_slice(self.line.as_slice())?;
+        Ok(())
+    }
+}
+
+/// Puts one cell's line at the end of `out`, as a new printer does.
 pub fn put_cell_line(
     alloc: Global,
     out: &mut Vec<u8>,
@@ -69,23 +111,11 @@ pub fn put_cell_line(
     ensures ok { OnOk result (out.new.items ≡ out.old.items ++ cell_line key.now cell.now) }
     ensures err { OnErr result (out.new.items ≡ out.old.items) }
 {
-    let len = out.len();
-    let mut writer = Writer::new(mem::replace(out, Vec::new(alloc)));
-    let written = write_cell(&mut writer, key, cell);
-    *out = writer.into_inner();
-    match written {
-        Ok(()) => match out.push(b'\n') {
-            Ok(()) => return Ok(()),
-            Err(_) => {}
-        },
-        Err(_) => {}
-    }
-    out.truncate(len);
-    Err(OutOfMemory)
+    let mut printer = CellPrinter::new(alloc);
+    printer.put(out, key, cell)
 }
 
-/// A cell's line: the compact JSON object with the names `column`, `key`, `table`, `ts` and
-/// `value`, the value null for a deletion, and 0A.
+/// A cell's line alone.
 pub fn cell_line(alloc: Global, key: &CellKey, cell: &Cell) -> Result<Vec<u8>, OutOfMemory>
     ensures { IfOk result (λ line. line.items ≡ cell_line key.now cell.now) }
 {
