@@ -1,3 +1,4 @@
+pub mod Causes
 pub mod Checks
 pub mod EntryLaws
 pub mod HeaderLaws

@@ -1,7 +1,8 @@
 //! Reading headers, markers and entries where they lie in the bytes of a whole segment. The rules
 //! on what is found there are those of `judging`.
-ghost use Rattle.std.specs.Prelude.{◌≡◌, ◌≤◌, ◌<◌, ◌^◌, ℕ, List, length};
+ghost use Rattle.std.specs.Prelude.{◌≡◌, ◌≤◌, ◌<◌, ◌^◌, ◌⊎◌, ℕ, List, length};
 ghost use Rattle.clog_entry.specs.Reading.{header_read, marker_read, entry_read};
+ghost use Rattle.clog_entry.specs.Soft.{IsSoft, IsOfHeader, PassesAsHeader};
 ghost use Rattle.clog_entry.specs.Spelled.{IsHeaderAt, IsMarkerAt, IsEntryAt, payload_at};
 
 use crate::cause::Cause;
@@ -10,11 +11,14 @@ use crate::marker::Marker;
 use byteorder::{BigEndian, ByteOrder};
 use clog_base::MARKER_SIZE;
 
-/// Reads the header of the segment of an id, at the front of the segment's bytes.
+/// Reads the header of the segment of an id, at the front of the segment's bytes. Where it is of
+/// another version, id or parameters, its check is right.
 pub fn read_header(bytes: &[u8], id: u64) -> Result<(), Cause>
     ensures rule { result ≡ header_read bytes.now id }
     ensures written { result ≡ Ok tt → IsHeaderAt bytes.now id }
     ensures again { IsHeaderAt bytes.now id → result ≡ Ok tt }
+    ensures refused { (cause : Cause) → result ≡ Err cause
+        → IsSoft cause ⊎ (IsOfHeader cause × PassesAsHeader bytes.now) }
 {
     header_of(bytes, id)
 }
@@ -27,6 +31,7 @@ pub fn read_marker(bytes: &[u8], id: u64, at: u32) -> Result<Marker, Cause>
         → IsMarkerAt bytes.now id at end }
     ensures again { (end : ℕ) → end < 2 ^ 32 → IsMarkerAt bytes.now id at end
         → result ≡ Ok (Marker.Section end) }
+    ensures soft { (cause : Cause) → result ≡ Err cause → IsSoft cause }
 {
     marker_of(bytes, id, at)
 }
@@ -41,6 +46,7 @@ pub fn read_entry(bytes: &[u8], at: u32, end: u32) -> Result<u32, Cause>
         → IsEntryAt bytes.now at end (payload_at bytes.now at size) }
     ensures again { (payload : List ℕ) → length payload < 2 ^ 32
         → IsEntryAt bytes.now at end payload → result ≡ Ok (length payload) }
+    ensures soft { (cause : Cause) → result ≡ Err cause → IsSoft cause }
 {
     entry_of(bytes, at, end)
 }

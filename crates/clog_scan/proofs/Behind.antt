@@ -37,7 +37,8 @@ use Rattle.clog_scan.specs.Cut.{Section, front_bytes, last_until, IsFront}
 use Rattle.clog_scan.specs.Laws.{IsFile, HoldsThem, place_of}
 use Rattle.clog_scan.specs.Segment.{Entry, entry_from, front_entries, EndsBy, IsSegment}
 use Rattle.clog_scan.proofs.Trace.{Item, Marked, Held, Trace, held_from, goes_forward, one_way}
-use Rattle.clog_scan.proofs.Sections.{items_of, length-entry_bytes, held_from-items_of}
+use Rattle.clog_spec.proofs.Lengths.{length-entry_bytes}
+use Rattle.clog_scan.proofs.Sections.{items_of, held_from-items_of}
 use Rattle.clog_scan.proofs.Theorems.{
   front_header,
   front_way,
@@ -71,7 +72,7 @@ text_kept bytes other text at next place same is_next less spelled =
     (sym (drop_more at m other) ∙ ap (λ k. drop k other) (sym is_next))
 
 marker_kept : (bytes other : List ℕ) (id at until place : ℕ) → take place other ≡ take place bytes
-    → length other ≡ length bytes → at + 8 ≤ place → IsMarkerAt bytes id at until
+    → length bytes ≤ length other → at + 8 ≤ place → IsMarkerAt bytes id at until
     → IsMarkerAt other id at until
 marker_kept bytes other id at until place same size less is = record {
   spelled = text_kept bytes other (marker_bytes id at until) at (at + 8) place same refl less
@@ -91,7 +92,7 @@ entry_kept bytes other at until place p same less is = record {
 }
 
 way_kept : (bytes other : List ℕ) (id at until : ℕ) (items : List Item) (place end : ℕ)
-    → take place other ≡ take place bytes → length other ≡ length bytes
+    → take place other ≡ take place bytes → length bytes ≤ length other
     → Trace bytes id at until items place end → Trace other id at until items place end
 way_kept bytes other id at until [] place end same size way = way
 way_kept bytes other id at until (Marked next ∷ items) place end same size way = (
@@ -107,7 +108,7 @@ way_kept bytes other id at until (Held p ∷ items) place end same size way = (
   way_kept bytes other id (at + 12 + length p) until items place end same size way.2,
 )
 
-held_from-append : (bytes : List ℕ) (id at until : ℕ) (items more : List Item) (place end : ℕ)
+pub held_from-append : (bytes : List ℕ) (id at until : ℕ) (items more : List Item) (place end : ℕ)
     → Trace bytes id at until items place end
     → held_from at (items ++ more) ≡ held_from at items ++ held_from place more
 held_from-append bytes id at until [] more place end way = ap (λ k. held_from k more) way.0
@@ -144,7 +145,7 @@ whole_of other id entries' end' (Some ss) file fits header is' are' ends' items 
 
 holds : (bytes other : List ℕ) (id : ℕ) (entries entries' : List Entry) (end end' : End)
     (front front' : Option (List Section)) → IsFile other → id < 2 ^ 64
-    → length other ≡ length bytes → take (place_of end) other ≡ take (place_of end) bytes
+    → length bytes ≤ length other → take (place_of end) other ≡ take (place_of end) bytes
     → IsFront bytes id front → IsFront other id front' → entries ≡ front_entries front
     → entries' ≡ front_entries front' → EndsBy bytes id front end → EndsBy other id front' end'
     → HoldsThem entries (place_of end) entries' (place_of end')
@@ -177,9 +178,9 @@ holds bytes other id entries entries' end end' (Some ss) front' file fits size s
       behind = omega (arith, place_is, all.behind);
     }
 
--- Bytes that are as many, and that are the same in front of the end, hold the same entries there.
+-- Bytes that are as many or more, and the same in front of the end, hold the same entries there.
 pub same_in_front : (bytes other : List ℕ) (id : ℕ) (entries entries' : List Entry)
-    (end end' : End) → IsFile other → id < 2 ^ 64 → length other ≡ length bytes
+    (end end' : End) → IsFile other → id < 2 ^ 64 → length bytes ≤ length other
     → take (place_of end) other ≡ take (place_of end) bytes → IsSegment bytes id entries end
     → IsSegment other id entries' end' → HoldsThem entries (place_of end) entries' (place_of end')
 same_in_front bytes other id entries entries' end end' file fits size same is is' =

@@ -1,7 +1,10 @@
+pub mod Appended
 pub mod Behind
+pub mod EntryMembers
 pub mod Order
 pub mod Reached
 pub mod Sections
+pub mod Tears
 pub mod Theorems
 pub mod Total
 pub mod Trace

@@ -10,6 +10,7 @@ use Rattle.std.proofs.Common.{
   List,
   [],
   ◌∷◌,
+  ◌++◌,
   length,
   map,
   take,
@@ -32,13 +33,13 @@ use Rattle.std.specs.Prelude.{IfOk}
 use Rattle.std.specs.List.{All, AllByRecursion, slice_range}
 use Rattle.std.proofs.lemmas.List.Elements.{All-from_recursion}
 use Rattle.clog_base.specs.declared.fault.OutOfMemory.{OutOfMemory}
-use Rattle.clog_entry.specs.Spelled.{IsMarkerAt, IsEntryAt}
+use Rattle.clog_entry.specs.Spelled.{IsHeaderAt, IsMarkerAt, IsEntryAt}
 use Rattle.clog_entry.proofs.EntryLaws.{entry_payload}
 use Rattle.clog_scan.specs.declared.answer.End.{End}
 use Rattle.clog_scan.specs.declared.answer.End.TheVariants.{Clean, Torn}
 use Rattle.clog_scan.specs.declared.answer.Scan.{Scan}
 use Rattle.clog_scan.specs.Cut.{Section, front_bytes, last_until, IsFront}
-use Rattle.clog_scan.specs.Laws.{AreLaidOut, place_of, IsRange, HasRanges}
+use Rattle.clog_scan.specs.Laws.{AreLaidOut, Reaches, place_of, IsRange, HasRanges}
 use Rattle.clog_scan.specs.Segment.{
   Entry,
   front_entries,
@@ -48,14 +49,25 @@ use Rattle.clog_scan.specs.Segment.{
   found_of,
   Scans,
 }
-use Rattle.clog_scan.proofs.Trace.{Item, Marked, Held, Trace, held_from}
+use Rattle.clog_scan.proofs.Trace.{
+  Item,
+  Marked,
+  Held,
+  Trace,
+  held_from,
+  marked_last,
+  held_last,
+  goes_forward,
+}
 use Rattle.clog_scan.proofs.Sections.{items_of, held_from-items_of}
-use Rattle.clog_scan.proofs.Theorems.{front_way}
+use Rattle.clog_scan.proofs.Theorems.{front_header, front_way, front_by_way}
 
 -- the marker of the section that the cursor is in, at or before an offset
 record Within (bytes : List ℕ) (id at until : ℕ) : Type 0 where
   marker : ℕ
+  reached : Reaches bytes id marker marker
   is_marker : IsMarkerAt bytes id marker until
+  first : 20 ≤ marker
   behind : marker + 8 ≤ at
 
 laid_from : (bytes : List ℕ) (id from at : ℕ) (es : List Entry) (place : ℕ) → from ≤ at
@@ -70,17 +82,28 @@ payload_between bytes at until p is =
     let size : at + 12 + length p - 4 - (at + 8) ≡ length p = omega arith in
     ap (λ n. take n (drop (at + 8) bytes)) size ∙ entry_payload bytes at until p is
 
+-- The items behind those that are done, by which the cursor came from the header to where it is.
 laid_out : (bytes : List ℕ) (id at until : ℕ) (items : List Item) (place end : ℕ)
+    (done : List Item) → IsHeaderAt bytes id → Trace bytes id 20 20 done at until
     → (at ≡ until) ⊎ Within bytes id at until → Trace bytes id at until items place end
     → AreLaidOut bytes id at (held_from at items) place
-laid_out bytes id at until [] place end known way = omega (arith, way.0)
-laid_out bytes id at until (Marked next ∷ items) place end known way =
+laid_out bytes id at until [] place end done header past known way = omega (arith, way.0)
+laid_out bytes id at until (Marked next ∷ items) place end done header past known way =
+    let Goes : ℕ → Type 0 = λ u. Trace bytes id 20 20 done at u in
+    let to_marker = subst Goes (sym way.0) past in
     laid_from bytes id at (at + 8) (held_from (at + 8) items) place (omega arith)
-    (laid_out bytes id (at + 8) next items place end
-    (inr (record { marker = at; is_marker = way.1; behind = omega arith })) way.2)
-laid_out bytes id at until (Held p ∷ items) place end (inl full) way =
+    (laid_out bytes id (at + 8) next items place end (done ++ Marked next ∷ []) header
+    (marked_last bytes id 20 20 done at until next past way.0 way.1)
+    (inr (record {
+      marker = at;
+      reached = front_by_way bytes id done at at header to_marker;
+      is_marker = way.1;
+      first = goes_forward bytes id 20 20 done at until past;
+      behind = omega arith;
+    })) way.2)
+laid_out bytes id at until (Held p ∷ items) place end done header past (inl full) way =
     absurd (omega (arith, full, way.0))
-laid_out bytes id at until (Held p ∷ items) place end (inr known) way = (
+laid_out bytes id at until (Held p ∷ items) place end done header past (inr known) way = (
   omega arith,
   record {
     spelled = way.1.spelled;
@@ -90,16 +113,21 @@ laid_out bytes id at until (Held p ∷ items) place end (inr known) way = (
     section = record {
       marker = known.marker;
       until = until;
+      reached = known.reached;
       is_marker = known.is_marker;
+      first = omega (arith, known.first, known.behind);
       behind = known.behind;
       within = way.1.fits;
     };
   },
-  laid_out bytes id (at + 12 + length p) until items place end (inr (record {
-    marker = known.marker;
-    is_marker = known.is_marker;
-    behind = omega (arith, known.behind);
-  })) way.2,
+  laid_out bytes id (at + 12 + length p) until items place end (done ++ Held p ∷ []) header
+      (held_last bytes id 20 20 done at until p past way.0 way.1) (inr (record {
+        marker = known.marker;
+        reached = known.reached;
+        is_marker = known.is_marker;
+        first = known.first;
+        behind = omega (arith, known.behind);
+      })) way.2,
 )
 
 pub stop_place : (bytes : List ℕ) (id at until : ℕ) (end : End) → StopsAt bytes id at until end
@@ -115,8 +143,8 @@ laid_in_front bytes id entries end None front are ends =
 laid_in_front bytes id entries end (Some ss) front are ends =
     let at = length (front_bytes id (Some ss)) in
     let laid = laid_from bytes id 0 20 (held_from 20 (items_of ss)) at (omega arith)
-    (laid_out bytes id 20 20 (items_of ss) at (last_until 20 ss) (inl refl)
-    (front_way bytes id ss front)) in
+    (laid_out bytes id 20 20 (items_of ss) at (last_until 20 ss) []
+    (front_header bytes id ss front) (refl, refl) (inl refl) (front_way bytes id ss front)) in
     let entries_are : held_from 20 (items_of ss) ≡ entries =
     held_from-items_of (length bytes) 20 ss front.sections ∙ sym are in
     let Laid : List Entry → ℕ → Type 0 = λ es k. AreLaidOut bytes id 0 es k in

@@ -20,11 +20,9 @@ use Rattle.std.proofs.Common.{
   append_assoc,
 }
 use Rattle.std.specs.Prelude.{⊤}
-use Rattle.std.specs.List.{AllByRecursion}
 use Rattle.std.proofs.lemmas.List.{length-append}
-use Rattle.clog_spec.specs.Segment.{marker_bytes, entry_bytes, size_bytes}
-use Rattle.clog_spec.specs.Crc.{crc32_of}
-use Rattle.std.specs.Int.{w32, to_be_bytes}
+use Rattle.clog_spec.specs.Segment.{marker_bytes, entry_bytes}
+use Rattle.clog_spec.proofs.Lengths.{length-entry_bytes}
 use Rattle.clog_entry.specs.Spelled.{IsMarkerAt}
 use Rattle.clog_entry.proofs.Pieces.{behind}
 use Rattle.clog_scan.specs.Cut.{
@@ -32,6 +30,7 @@ use Rattle.clog_scan.specs.Cut.{
   entries_bytes,
   sections_bytes,
   filled_to,
+  AreLong,
   IsSection,
   AreSections,
   last_until,
@@ -57,13 +56,6 @@ pub IsFull : List Section → ℕ → ℕ → Type 0
 IsFull [] filled until = ⊤
 IsFull (s ∷ ss) filled until = filled ≡ until
 
-abbrev pub AreLong : List (List ℕ) → Type 0
-AreLong ps = AllByRecursion (λ payload. 10 ≤ length payload) ps
-
-pub length-entry_bytes : (p : List ℕ) → length (entry_bytes p) ≡ 12 + length p
-length-entry_bytes p =
-    omega (arith, length-append p (to_be_bytes w32 (crc32_of (size_bytes p ++ p))))
-
 pub more_sections : (len at : ℕ) (s : Section) (ss : List Section) → IsSection len at s
     → IsFull ss (filled_to at s) s.until → AreSections len s.until ss → AreSections len at (s ∷ ss)
 unfolding IsFull
@@ -88,7 +80,7 @@ pub record Splits (bytes : List ℕ) (id at until : ℕ) (items : List Item) (pl
       held_from at items
       ≡ entries_from at (payloads_of items) ++ entries_of until (sections_of items)
 
-regroup : (m e s r : List ℕ) → m ++ (e ++ (s ++ r)) ≡ (m ++ (e ++ s)) ++ r
+pub regroup : (m e s r : List ℕ) → m ++ (e ++ (s ++ r)) ≡ (m ++ (e ++ s)) ++ r
 regroup m e s r =
     ap (λ l. m ++ l) (sym (append_assoc e s r)) ∙ sym (append_assoc m (e ++ s) r)
 
@@ -162,12 +154,12 @@ none_before bytes id at until (Held p ∷ items) place end way full =
     absurd (omega (arith, full, way.0))
 
 -- entries, and what comes behind them
-pub helds : List (List ℕ) → List Item → List Item
+unfoldable pub helds : List (List ℕ) → List Item → List Item
 helds [] tail = tail
 helds (p ∷ ps) tail = Held p ∷ helds ps tail
 
 -- the items of sections
-pub items_of : List Section → List Item
+unfoldable pub items_of : List Section → List Item
 items_of [] = []
 items_of (s ∷ ss) = Marked s.until ∷ helds s.payloads (items_of ss)
 

@@ -52,7 +52,7 @@ use Rattle.clog_scan.specs.Segment.{
   EndsBy,
   IsSegment,
 }
-use Rattle.clog_scan.specs.Laws.{IsFile, AreOne}
+use Rattle.clog_scan.specs.Laws.{IsFile, AreOne, Reaches}
 use Rattle.clog_scan.proofs.Trace.{Item, Trace, held_from, goes_forward, goes_nowhere, one_way}
 use Rattle.clog_scan.proofs.Sections.{
   none_before,
@@ -103,11 +103,10 @@ no_longer bytes id items at until end file header way stops (Some ss) front =
     goes_forward bytes id (length (front_bytes id (Some ss))) (last_until 20 ss) on.more at until
     on.way
 
--- a way that stops tells what the bytes hold
-pub segment_by_way : (bytes : List ℕ) (id : ℕ) (items : List Item) (at until : ℕ) (end : End)
-    → IsFile bytes → IsHeaderAt bytes id → Trace bytes id 20 20 items at until
-    → StopsAt bytes id at until end → IsSegment bytes id (held_from 20 items) end
-segment_by_way bytes id items at until end file header way stops =
+-- a way behind the header is a front
+pub front_by_way : (bytes : List ℕ) (id : ℕ) (items : List Item) (at until : ℕ)
+    → IsHeaderAt bytes id → Trace bytes id 20 20 items at until → Reaches bytes id at until
+front_by_way bytes id items at until header way =
     let ss = sections_of items in
     let s = sections_bytes id 20 ss in
     let parts = splits bytes id 20 20 items at until (omega arith) way in
@@ -117,21 +116,39 @@ segment_by_way bytes id items at until end file header way stops =
     ∙ ap (λ ps. 20 + length (entries_bytes ps) + length s) none ∙ omega arith in
     let behind : drop 20 bytes ≡ s ++ drop at bytes =
     parts.spelled ∙ ap (λ ps. entries_bytes ps ++ (s ++ drop at bytes)) none in
-    let Stops : ℕ → ℕ → Type 0 = λ a u. StopsAt bytes id a u end in
     record {
-      front = Some ss;
-      is_front = record {
+      sections = ss;
+      front = record {
         cut = header ∙ ap (λ l. header_bytes id ++ l) behind
             ∙ sym (append_assoc (header_bytes id) s (drop at bytes))
             ∙ ap (λ k. (header_bytes id ++ s) ++ drop k bytes) ends;
         sections = parts.lawful;
       };
+      place = ends;
+      end = parts.end_is;
+    }
+
+-- a way that stops tells what the bytes hold
+pub segment_by_way : (bytes : List ℕ) (id : ℕ) (items : List Item) (at until : ℕ) (end : End)
+    → IsFile bytes → IsHeaderAt bytes id → Trace bytes id 20 20 items at until
+    → StopsAt bytes id at until end → IsSegment bytes id (held_from 20 items) end
+unfolding front_by_way
+segment_by_way bytes id items at until end file header way stops =
+    let reached = front_by_way bytes id items at until header way in
+    let ss = sections_of items in
+    let parts = splits bytes id 20 20 items at until (omega arith) way in
+    let none : payloads_of items ≡ [] = none_before bytes id 20 20 items at until way refl in
+    let Stops : ℕ → ℕ → Type 0 = λ a u. StopsAt bytes id a u end in
+    record {
+      front = Some ss;
+      is_front = reached.front;
       longest = λ other front.
           let most = no_longer bytes id items at until end file header way stops other front in
-          omega (arith, most, ends);
+          omega (arith, most, reached.place);
       entries_are = parts.entries
           ∙ ap (λ ps. entries_from 20 ps ++ entries_of 20 ss) none;
-      ends = subst (λ a. Stops a (last_until 20 ss)) ends (subst (Stops at) parts.end_is stops);
+      ends = subst (λ a. Stops a (last_until 20 ss)) reached.place
+          (subst (Stops at) reached.end stops);
     }
 
 pub no_front_without_header : (bytes : List ℕ) (id : ℕ) (cause : Cause) → id < 2 ^ 64

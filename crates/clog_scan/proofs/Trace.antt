@@ -157,14 +157,14 @@ no_entry_where_it_stops bytes id at until size (Torn place cause) stops room rea
       | inr torn ↦ let none = torn.1 in absurd cc
     ]
 
-same_marker : (bytes : List ℕ) (id at m n : ℕ) → IsFile bytes → IsMarkerAt bytes id at m
+pub same_marker : (bytes : List ℕ) (id at m n : ℕ) → IsFile bytes → IsMarkerAt bytes id at m
     → IsMarkerAt bytes id at n → m ≡ n
 same_marker bytes id at m n file one other =
     let a = marker_again bytes id at m (omega (arith, one.within, file.short)) one in
     let b = marker_again bytes id at n (omega (arith, other.within, file.short)) other in
     cc
 
-same_entry : (bytes : List ℕ) (at until : ℕ) (p q : List ℕ) → IsFile bytes → until ≤ length bytes
+pub same_entry : (bytes : List ℕ) (at until : ℕ) (p q : List ℕ) → IsFile bytes → until ≤ length bytes
     → IsEntryAt bytes at until p → IsEntryAt bytes at until q → p ≡ q
 same_entry bytes at until p q file within one other =
     let a = entry_again bytes at until p file.are_bytes

@@ -41,13 +41,13 @@ use Rattle.clog_scan.specs.Segment.{Entry, entries_of, IsSegment}
 use Rattle.clog_scan.proofs.Sections.{items_of, held_from-items_of}
 use Rattle.clog_scan.proofs.Theorems.{front_header, front_way, segment_by_way}
 
-whole_sections : (len at : ℕ) (ss : List Section) → AreWhole len at ss → AreSections len at ss
+pub whole_sections : (len at : ℕ) (ss : List Section) → AreWhole len at ss → AreSections len at ss
 whole_sections len at [] whole = tt
 whole_sections len at (s ∷ []) whole = whole.0
 whole_sections len at (s ∷ t ∷ ss) whole =
     (whole.0, whole.1, whole_sections len s.until (t ∷ ss) whole.2)
 
-whole_until : (id len at : ℕ) (ss : List Section) → AreWhole len at ss
+pub whole_until : (id len at : ℕ) (ss : List Section) → AreWhole len at ss
     → at + length (sections_bytes id at ss) ≡ last_until at ss
 whole_until id len at [] whole = omega arith
 whole_until id len at (s ∷ ss) whole =
@@ -58,7 +58,7 @@ whole_until id len at (s ∷ ss) whole =
     size ∙ whole_until id len s.until ss whole.2
 
 -- the file's end is no marker
-ends_there : (bytes : List ℕ) (id at : ℕ) → length bytes < at + 8
+pub ends_there : (bytes : List ℕ) (id at : ℕ) → length bytes < at + 8
     → marker_read bytes id at ≡ Ok no_marker
 unfolding marker_read
 ends_there bytes id at short =

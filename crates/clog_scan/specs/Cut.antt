@@ -17,6 +17,7 @@ use Rattle.std.specs.Prelude.{
 }
 use Rattle.std.specs.List.{AllByRecursion}
 use Rattle.clog_spec.specs.Segment.{header_bytes, marker_bytes, entry_bytes}
+use Rattle.clog_spec.specs.Sizes.{header_size, marker_size, least_payload}
 
 -- a section: the offset where it ends, and the payloads of its entries
 pub record Section : Type 0 where
@@ -36,18 +37,22 @@ sections_bytes id at (s ∷ ss) =
 
 abbrev pub front_bytes : ℕ → Option (List Section) → List ℕ
 front_bytes id None = []
-front_bytes id (Some ss) = header_bytes id ++ sections_bytes id 20 ss
+front_bytes id (Some ss) = header_bytes id ++ sections_bytes id header_size ss
 
 -- where the entries of a section end whose marker stands at an offset
 abbrev pub filled_to : ℕ → Section → ℕ
-filled_to at s = at + 8 + length (entries_bytes s.payloads)
+filled_to at s = at + marker_size + length (entries_bytes s.payloads)
+
+-- none is below the least that a reader takes
+abbrev pub AreLong : List (List ℕ) → Type 0
+AreLong payloads = AllByRecursion (λ payload. least_payload ≤ length payload) payloads
 
 -- a section whose marker stands at an offset of a file of this length
 pub record IsSection (len at : ℕ) (s : Section) : Type 0 where
-  pub behind : at + 8 ≤ s.until
+  pub behind : at + marker_size ≤ s.until
   pub within : s.until ≤ len
   pub fits : filled_to at s ≤ s.until
-  pub least : AllByRecursion (λ payload. 10 ≤ length payload) s.payloads
+  pub least : AreLong s.payloads
 
 -- sections from an offset on, each where the one before it ends. Only the last may be unfinished.
 abbrev pub AreSections : ℕ → ℕ → List Section → Type 0
@@ -59,7 +64,7 @@ AreSections len at (s ∷ t ∷ ss) =
 -- the sections of a front are sections
 abbrev pub AreSectionsOf : ℕ → Option (List Section) → Type 0
 AreSectionsOf len None = ⊤
-AreSectionsOf len (Some ss) = AreSections len 20 ss
+AreSectionsOf len (Some ss) = AreSections len header_size ss
 
 -- the bytes begin with this front
 pub record IsFront (bytes : List ℕ) (id : ℕ) (front : Option (List Section)) : Type 0 where

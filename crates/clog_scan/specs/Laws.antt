@@ -13,17 +13,34 @@ use Rattle.std.specs.Prelude.{
   ◌++◌,
   length,
   drop,
+  Some,
   ⊤,
 }
 use Rattle.std.specs.List.{All, slice_range}
 use Rattle.clog_spec.specs.Crc.{IsBytes}
 use Rattle.clog_spec.specs.Segment.{entry_bytes}
+use Rattle.clog_spec.specs.Sizes.{
+  header_size,
+  marker_size,
+  front_size,
+  frame_size,
+  least_payload,
+}
+use Rattle.clog_entry.specs.declared.cause.Cause.{Cause}
+use Rattle.clog_entry.specs.Soft.{IsOfHeader, PassesAsHeader}
 use Rattle.clog_entry.specs.Spelled.{IsMarkerAt}
 use Rattle.clog_scan.specs.declared.answer.End.{End}
 use Rattle.clog_scan.specs.declared.answer.Found.{Found}
 use Rattle.clog_scan.specs.declared.answer.Scan.{Scan}
 use Rattle.clog_scan.specs.declared.answer.End.TheVariants.{Clean, Torn}
-use Rattle.clog_scan.specs.Cut.{Section, IsSection, filled_to}
+use Rattle.clog_scan.specs.Cut.{
+  Section,
+  IsSection,
+  IsFront,
+  front_bytes,
+  filled_to,
+  last_until,
+}
 use Rattle.clog_scan.specs.Segment.{Entry, IsSegment}
 
 -- the bytes of a file that a scan takes
@@ -46,19 +63,30 @@ pub record AreOne (entries : List Entry) (end : End) (entries' : List Entry) (en
   pub entries_are : entries ≡ entries'
   pub ends_are : end ≡ end'
 
--- an entry lies behind the marker of a section, and ends at or below the section's end
+-- Reading the bytes comes to an offset, in a section that ends at another: some front ends there,
+-- whether or not it is the longest.
+pub record Reaches (bytes : List ℕ) (id at until : ℕ) : Type 0 where
+  pub sections : List Section
+  pub front : IsFront bytes id (Some sections)
+  pub place : at ≡ length (front_bytes id (Some sections))
+  pub end : until ≡ last_until header_size sections
+
+-- An entry lies behind a marker that reading comes to, so at 28 or later, and ends at or below the
+-- end of the marker's section.
 pub record IsInSection (bytes : List ℕ) (id : ℕ) (e : Entry) : Type 0 where
   pub marker : ℕ
   pub until : ℕ
+  pub reached : Reaches bytes id marker marker
   pub is_marker : IsMarkerAt bytes id marker until
-  pub behind : marker + 8 ≤ e.start
+  pub first : front_size ≤ e.start
+  pub behind : marker + marker_size ≤ e.start
   pub within : e.end ≤ until
 
 -- the bytes in an entry's range are the entry of its payload
 pub record IsHeld (bytes : List ℕ) (id : ℕ) (e : Entry) : Type 0 where
   pub spelled : drop e.start bytes ≡ entry_bytes e.payload ++ drop e.end bytes
-  pub range : e.end ≡ e.start + 12 + length e.payload
-  pub least : 10 ≤ length e.payload
+  pub range : e.end ≡ e.start + frame_size + length e.payload
+  pub least : least_payload ≤ length e.payload
   pub payload_is : slice_range bytes (e.start + 8) (e.end - 4) ≡ e.payload
   pub section : IsInSection bytes id e
 
@@ -83,9 +111,15 @@ AreWhole len at [] = ⊤
 AreWhole len at (s ∷ ss) =
     IsSection len at s × (filled_to at s ≡ s.until) × AreWhole len s.until ss
 
--- other bytes, as many, hold these entries too, and perhaps more behind the place
+-- other bytes hold these entries too, and perhaps more behind the place
 pub record HoldsThem (entries : List Entry) (place : ℕ) (entries' : List Entry) (place' : ℕ)
     : Type 0 where
   pub more : List Entry
   pub are : entries' ≡ entries ++ more
   pub behind : place ≤ place'
+
+-- The header is another's: its check is right, and the segment is torn at its start.
+pub record IsForeign (bytes : List ℕ) (place : ℕ) (cause : Cause) : Type 0 where
+  pub start : place ≡ 0
+  pub cause_is : IsOfHeader cause
+  pub passes : PassesAsHeader bytes

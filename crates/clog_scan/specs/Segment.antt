@@ -18,6 +18,7 @@ use Rattle.std.specs.Prelude.{
   Ok,
   Err,
 }
+use Rattle.clog_spec.specs.Sizes.{header_size, marker_size, frame_size}
 use Rattle.clog_entry.specs.declared.cause.Cause.{Cause}
 use Rattle.clog_entry.specs.declared.marker.Marker.TheVariants.{End as no_marker}
 use Rattle.clog_entry.specs.Reading.{header_read, marker_read, entry_read}
@@ -37,23 +38,23 @@ pub record Entry : Type 0 where
 abbrev pub entry_from : ℕ → List ℕ → Entry
 entry_from at payload = record {
   start = at;
-  end = at + 12 + length payload;
+  end = at + frame_size + length payload;
   payload = payload;
 }
 
 -- entries from an offset on, laid end to end
 abbrev pub entries_from : ℕ → List (List ℕ) → List Entry
 entries_from at [] = []
-entries_from at (p ∷ ps) = entry_from at p ∷ entries_from (at + 12 + length p) ps
+entries_from at (p ∷ ps) = entry_from at p ∷ entries_from (at + frame_size + length p) ps
 
 -- the entries of sections, the first of which begins at an offset
 abbrev pub entries_of : ℕ → List Section → List Entry
 entries_of at [] = []
-entries_of at (s ∷ ss) = entries_from (at + 8) s.payloads ++ entries_of s.until ss
+entries_of at (s ∷ ss) = entries_from (at + marker_size) s.payloads ++ entries_of s.until ss
 
 abbrev pub front_entries : Option (List Section) → List Entry
 front_entries None = []
-front_entries (Some ss) = entries_of 20 ss
+front_entries (Some ss) = entries_of header_size ss
 
 -- Where a front ends at an offset, and its last section at another: a marker is read where they are
 -- one, and an entry where they are not. The first rule that applies to what stands there ends the
@@ -70,7 +71,7 @@ abbrev pub EndsBy : List ℕ → ℕ → Option (List Section) → End → Type 
 EndsBy bytes id None end =
     (cause : Cause) × (header_read bytes id ≡ Err cause) × (end ≡ Torn 0 cause)
 EndsBy bytes id (Some ss) end =
-    StopsAt bytes id (length (front_bytes id (Some ss))) (last_until 20 ss) end
+    StopsAt bytes id (length (front_bytes id (Some ss))) (last_until header_size ss) end
 
 -- the bytes of the segment of an id hold these entries and end so
 pub record IsSegment (bytes : List ℕ) (id : ℕ) (entries : List Entry) (end : End) : Type 0 where

@@ -7,7 +7,7 @@ ghost use Rattle.clog_scan.specs.Segment.{Scans};
 
 use crate::answer::{End, Found, Founds, Scan};
 use crate::step::{Step, next_step};
-use clog_base::OutOfMemory;
+use clog_base::{FRAME_SIZE, HEADER_SIZE, MARKER_SIZE, OutOfMemory};
 use clog_entry::read_header;
 use std::alloc::Global;
 
@@ -39,16 +39,16 @@ fn scan_sections(alloc: Global, bytes: &[u8], id: u64) -> Result<Scan, OutOfMemo
     ensures { IfOk result (Scans bytes.now id) }
 {
     let mut entries = Vec::new(alloc);
-    let mut at = 20;
-    let mut until = 20;
+    let mut at = HEADER_SIZE as u32;
+    let mut until = at;
     loop {
         match next_step(bytes, id, at, until) {
             Step::Section(next) => {
-                at += 8;
+                at += MARKER_SIZE as u32;
                 until = next;
             }
             Step::Entry(size) => {
-                let end = at + size + 12;
+                let end = at + size + FRAME_SIZE as u32;
                 entries.push(Found { start: at, end })?;
                 at = end;
             }

@@ -1,5 +1,6 @@
 use Rattle.std.proofs.Common.{◌∙◌, sym, arith}
 use Rattle.clog_entry.proofs.HeaderLaws.{header_found, header_again}
+use Rattle.clog_entry.proofs.Causes.{header_refused}
 use Rattle.clog_entry.proofs.reader.read_header.Goals as goal
 
 pub returns-clause-written : goal.returns-clause-written
@@ -10,3 +11,7 @@ returns-clause-written c ok =
 pub returns-clause-again : goal.returns-clause-again
 returns-clause-again c is =
     c.header_of.ensures ∙ header_again c.args.bytes.now c.args.id c.ranges.id.fits is
+
+pub returns-clause-refused : goal.returns-clause-refused
+returns-clause-refused c cause refused =
+    header_refused c.args.bytes.now c.args.id cause (sym c.header_of.ensures ∙ refused)
