@@ -1,6 +1,6 @@
-//! The rules on what was found in a header's, a marker's or an entry's place, over plain numbers: of
-//! each table the first rule that applies. They ask for no bytes but those judged, so a reader of
-//! pieces calls them too.
+//! The rules on what was found in a header's, a marker's or an entry's place, over plain numbers:
+//! of each table the first rule that applies. They ask for no bytes but those judged, so a reader
+//! of pieces calls them too.
 ghost use Rattle.std.specs.Prelude.{◌≡◌, ◌<◌, ◌≤◌, ◌+◌, ◌^◌, length, OnOk};
 ghost use Rattle.clog_spec.specs.Sizes.{frame_size};
 ghost use Rattle.clog_entry.specs.Reading.{
@@ -15,8 +15,8 @@ use crate::check::{body_check, header_check, marker_check, number_check};
 use crate::marker::Marker;
 use clog_base::{FRAME_SIZE, LEAST_PAYLOAD, MARKER_SIZE};
 
-/// Judges a header with these fields in the segment of an id: its check, its version (6), its id and
-/// its parameters (`{}`), in this order.
+/// Judges a header with these fields in the segment of an id: its check, its version (6), its id
+/// and its parameters (`{}`), in this order.
 #[tactic(auto, unfolding(crate::specs::Reading::header_judged))]
 pub fn judge_header(
     version: u32,

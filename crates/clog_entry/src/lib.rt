@@ -1,6 +1,6 @@
 //! The framing of a segment: its header, the markers of its sections and its entries, written and
-//! read (Cassandra's `CommitLogDescriptor`, and the sync markers of its `CommitLogSegment`). Writers
-//! and readers meet only in the format, the definitions of `clog_spec`.
+//! read (Cassandra's `CommitLogDescriptor`, and the sync markers of its `CommitLogSegment`).
+//! Writers and readers meet only in the format, the definitions of `clog_spec`.
 #![tactic(auto)]
 
 mod cause;

@@ -19,7 +19,7 @@ use Rattle.std.specs.List.{AllByRecursion, AllWithin}
 use Rattle.std.specs.List.Sorted.{IsPartitionedBy}
 use Rattle.clog_base.specs.declared.position.Position.{Position}
 use Rattle.clog_intervals.specs.declared.interval.Interval.{Interval}
-use Rattle.clog_intervals.specs.Positions.{IsBelow, IsUpTo, is_below}
+use Rattle.clog_base.specs.Positions.{IsBelow, IsUpTo, is_below}
 use Rattle.clog_intervals.specs.Union.{AreApart}
 use Rattle.clog_intervals.specs.Joined.{BeginAbove}
 use Rattle.clog_intervals.proofs.Order.{

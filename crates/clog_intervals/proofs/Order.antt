@@ -2,7 +2,7 @@
 use Rattle.std.proofs.Common.{◌≡◌, ◌+◌, ◌⊎◌, true, false, not, arith}
 use Rattle.std.proofs.lemmas.Bool.Decides.{nat_tests}
 use Rattle.clog_base.specs.declared.position.Position.{Position}
-use Rattle.clog_intervals.specs.Positions.{IsBelow, IsUpTo, is_below}
+use Rattle.clog_base.specs.Positions.{IsBelow, IsUpTo, is_below}
 use Rattle.clog_intervals.specs.Hulls.{IsBetween}
 
 pub below_trans : (a b c : Position) → IsBelow a b → IsBelow b c → IsBelow a c

@@ -32,7 +32,7 @@ use Rattle.std.proofs.Common.{
 use Rattle.std.proofs.lemmas.List.{take_all}
 use Rattle.clog_base.specs.declared.position.Position.{Position}
 use Rattle.clog_intervals.specs.declared.interval.Interval.{Interval}
-use Rattle.clog_intervals.specs.Positions.{IsBelow, IsUpTo}
+use Rattle.clog_base.specs.Positions.{IsBelow, IsUpTo}
 use Rattle.clog_intervals.specs.Union.{IsWithin, Holds, IsBefore, IsCovered, AreApart}
 use Rattle.clog_intervals.specs.Hulls.{IsBetween}
 use Rattle.clog_intervals.specs.Joined.{

@@ -3,7 +3,7 @@ use Rattle.std.specs.Prelude.{◌≡◌, ℕ, ◌+◌, ◌≤◌, ◌⊎◌, Lis
 use Rattle.std.specs.List.{AllByRecursion}
 use Rattle.clog_base.specs.declared.position.Position.{Position}
 use Rattle.clog_intervals.specs.declared.interval.Interval.{Interval}
-use Rattle.clog_intervals.specs.Positions.{IsBelow, IsUpTo}
+use Rattle.clog_base.specs.Positions.{IsBelow, IsUpTo}
 use Rattle.clog_intervals.specs.Union.{IsWithin, Holds}
 
 -- each of the intervals ends below a place

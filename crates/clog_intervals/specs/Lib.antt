@@ -1,4 +1,4 @@
-pub mod Positions
 pub mod Hulls
-pub mod Union
 pub mod Joined
+pub mod Kept
+pub mod Union

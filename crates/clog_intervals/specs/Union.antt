@@ -2,7 +2,7 @@
 use Rattle.std.specs.Prelude.{List, [], ◌∷◌, ◌⊎◌, Option, Some, None, ⊤}
 use Rattle.clog_base.specs.declared.position.Position.{Position}
 use Rattle.clog_intervals.specs.declared.interval.Interval.{Interval}
-use Rattle.clog_intervals.specs.Positions.{IsBelow, IsUpTo}
+use Rattle.clog_base.specs.Positions.{IsBelow, IsUpTo}
 use Rattle.clog_intervals.specs.Hulls.{IsBetween}
 
 -- the position stands above the interval's lower end and at or below its upper one

@@ -12,12 +12,13 @@ ghost use Rattle.std.specs.Prelude.{
   ◌++◌,
   length,
   vec_len,
+  vec_capacity,
   take,
   drop,
 };
-ghost use Rattle.std.specs.Prelude.{IsTrue, OnOk, OnErr, Some};
+ghost use Rattle.std.specs.Prelude.{IsTrue, IsOk, OnOk, OnErr, Some};
 ghost use Rattle.clog_base.specs.declared.position.Position.{Position as At};
-ghost use Rattle.clog_intervals.specs.Positions.{IsBelow, IsUpTo};
+ghost use Rattle.clog_base.specs.Positions.{IsBelow, IsUpTo};
 ghost use Rattle.clog_intervals.specs.Union.{IsWithin, Holds, IsCovered, AreApart};
 ghost use Rattle.clog_intervals.specs.Hulls.{IsBetween};
 ghost use Rattle.clog_intervals.specs.Joined.{
@@ -35,21 +36,23 @@ use clog_base::{OutOfMemory, Position};
 use std::alloc::Global;
 use std::marker::Model;
 
-/// Intervals of the log, which contracts see as a list that is their union.
+/// Intervals of the log. Contracts see a list that is their union, and for how many more there is
+/// room in memory.
 #[derive(Drop)]
 pub struct Cleans {
     intervals: Vec<Interval>,
 }
 
 impl Model for Cleans {
-    ghost use Rattle.std.specs.Prelude.{List};
-    ghost use Rattle.clog_intervals.specs.declared.interval.Interval.{Interval};
+    ghost use Rattle.std.specs.Prelude.{◌-◌, vec_len, vec_capacity};
+    ghost use Rattle.clog_intervals.specs.Kept.{Kept};
 
-    ghost Value = { List Interval };
+    ghost Value = { Kept };
 
     ghost use Rattle.clog_intervals.specs.Union.{AreApart};
 
-    ghost view = { λ c. c.intervals.items };
+    ghost view = { λ c. record {
+        intervals = c.intervals.items; room = vec_capacity c.intervals - vec_len c.intervals } };
 
     ghost invariant = { λ c. AreApart c.intervals.items };
 }
@@ -57,20 +60,30 @@ impl Model for Cleans {
 impl Cleans {
     /// No interval; takes no memory.
     pub fn new(alloc: Global) -> Cleans
-        ensures { result ≡ [] }
+        ensures { result.intervals ≡ [] }
     {
         Cleans {
             intervals: Vec::new(alloc),
         }
     }
 
+    /// Takes memory for one more interval, so that the next `add` is not refused. The union stays.
+    pub fn reserve(&mut self) -> Result<(), OutOfMemory>
+        ensures same { self.new.intervals ≡ self.old.intervals }
+        ensures room { OnOk result (0 < self.new.room) }
+    {
+        Ok(self.intervals.reserve(1)?)
+    }
+
     /// Takes one more interval in, the positions above `lower` and at or below `upper`, in time
-    /// linear in the number of intervals. Where memory is refused, nothing changes.
+    /// linear in the number of intervals. Where memory is refused, nothing changes; where there is
+    /// room, none is asked for.
     pub fn add(&mut self, lower: Position, upper: Position) -> Result<(), OutOfMemory>
         requires { IsUpTo lower upper }
-        ensures ok { OnOk result ((p : At) → Holds self.new p
-            ↔ (Holds self.old p ⊎ IsWithin (record { lower = lower; upper = upper }) p)) }
-        ensures err { OnErr result (self.new ≡ self.old) }
+        ensures ok { OnOk result ((p : At) → Holds self.new.intervals p
+            ↔ (Holds self.old.intervals p ⊎ IsWithin (record { lower = lower; upper = upper }) p)) }
+        ensures err { OnErr result (self.new.intervals ≡ self.old.intervals) }
+        ensures room { 0 < self.old.room → IsOk result }
     {
         if lower == upper {
             return Ok(());
@@ -80,7 +93,7 @@ impl Cleans {
 
     /// Whether a position lies in the union, in time logarithmic in the number of intervals.
     pub fn holds(&self, at: Position) -> bool
-        ensures { IsTrue result ↔ Holds self.now at }
+        ensures { IsTrue result ↔ Holds self.now.intervals at }
     {
         holder(&self.intervals, at).is_some()
     }
@@ -88,7 +101,7 @@ impl Cleans {
     /// Whether every position of a hull lies in the union, in time logarithmic in the number of
     /// intervals. An empty hull does.
     pub fn covers(&self, hull: &Hull) -> bool
-        ensures { IsTrue result ↔ IsCovered self.now hull.now }
+        ensures { IsTrue result ↔ IsCovered self.now.intervals hull.now }
     {
         match hull.ends() {
             Some((least, greatest)) => holds_from(&self.intervals, least, greatest),
@@ -162,6 +175,7 @@ fn take_in(intervals: &mut Vec<Interval>, new: Interval) -> Result<(), OutOfMemo
     ensures ok { OnOk result ((p : At) → Holds intervals.new.items p
         ↔ (Holds intervals.old.items p ⊎ IsWithin new p)) }
     ensures err { OnErr result (intervals.new.items ≡ intervals.old.items) }
+    ensures room { vec_len intervals.old < vec_capacity intervals.old → IsOk result }
 {
     let (first, last) = touched_by(intervals, new);
     if first == last {

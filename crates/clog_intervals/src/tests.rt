@@ -13,6 +13,7 @@ fn at(id: u64, offset: u32) -> Position
 #[test]
 fn touching_intervals_cover_the_places_between_them(rt: HostRuntime) -> Result<(), Fail> {
     let mut cleans = Cleans::new(rt.alloc());
+    cleans.reserve()?;
     cleans.add(at(7, 10), at(7, 20))?;
     cleans.add(at(7, 20), at(7, 35))?;
     let mut hull = Hull::empty();

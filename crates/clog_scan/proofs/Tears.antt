@@ -1,5 +1,19 @@
 -- For which causes segments are torn.
-use Rattle.std.proofs.Common.{◌≡◌, ℕ, ◌^◌, ◌<◌, ◌⊎◌, inl, inr, List, Option, Some, None, subst, length}
+use Rattle.std.proofs.Common.{
+  ◌≡◌,
+  ℕ,
+  ◌^◌,
+  ◌<◌,
+  ◌⊎◌,
+  inl,
+  inr,
+  List,
+  Option,
+  Some,
+  None,
+  subst,
+  length,
+}
 use Rattle.clog_entry.specs.declared.cause.Cause.{Cause}
 use Rattle.clog_entry.specs.Soft.{IsSoft, IsOfHeader}
 use Rattle.clog_entry.specs.Spelled.{IsHeaderAt}

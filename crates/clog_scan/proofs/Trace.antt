@@ -164,8 +164,8 @@ same_marker bytes id at m n file one other =
     let b = marker_again bytes id at n (omega (arith, other.within, file.short)) other in
     cc
 
-pub same_entry : (bytes : List ℕ) (at until : ℕ) (p q : List ℕ) → IsFile bytes → until ≤ length bytes
-    → IsEntryAt bytes at until p → IsEntryAt bytes at until q → p ≡ q
+pub same_entry : (bytes : List ℕ) (at until : ℕ) (p q : List ℕ) → IsFile bytes
+    → until ≤ length bytes → IsEntryAt bytes at until p → IsEntryAt bytes at until q → p ≡ q
 same_entry bytes at until p q file within one other =
     let a = entry_again bytes at until p file.are_bytes
     (omega (arith, one.fits, within, file.short)) one in

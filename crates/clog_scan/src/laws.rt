@@ -29,8 +29,8 @@ pub fn one_answer_for_any_bytes()
         → AreOne entries end entries' end' }
 {}
 
-/// Entries lie in order in front of the end, none over another. Each is the entry of its payload, at
-/// offset 28 or later, and lies within a section whose marker reading comes to.
+/// Entries lie in order in front of the end, none over another. Each is the entry of its payload,
+/// at offset 28 or later, and lies within a section whose marker reading comes to.
 pub fn entries_in_order()
     ensures { (bytes : List ℕ) (id : ℕ) (entries : List Entry) (end : segment_end)
         → IsSegment bytes id entries end → AreLaidOut bytes id 0 entries (place_of end) }
@@ -61,8 +61,8 @@ pub fn sections_are_appended()
 {}
 
 /// What stands at and behind a segment's end does not matter to the entries in front of it: any
-/// bytes that are as many or more, and the same in front of that place, begin with the same entries,
-/// and do not end before it.
+/// bytes that are as many or more, and the same in front of that place, begin with the same
+/// entries, and do not end before it.
 pub fn bytes_behind_the_end()
     ensures { (bytes other : List ℕ) (id : ℕ) (entries entries' : List Entry)
         (end end' : segment_end) → IsFile other → id < 2 ^ 64 → length bytes ≤ length other
@@ -71,9 +71,9 @@ pub fn bytes_behind_the_end()
         → HoldsThem entries (place_of end) entries' (place_of end') }
 {}
 
-/// A segment is torn for a soft cause, one that a crash may leave, or at its start, where its header
-/// has a right check and another version, id or parameters. Behind its own header it is torn for a
-/// soft cause alone. So a scan never tells that a payload is bad.
+/// A segment is torn for a soft cause, one that a crash may leave, or at its start, where its
+/// header has a right check and another version, id or parameters. Behind its own header it is torn
+/// for a soft cause alone. So a scan never tells that a payload is bad.
 pub fn tears_are_soft_behind_the_header()
     ensures tear { (bytes : List ℕ) (id : ℕ) (entries : List Entry) (place : ℕ)
         (cause : tear_cause) → IsSegment bytes id entries (Torn place cause)

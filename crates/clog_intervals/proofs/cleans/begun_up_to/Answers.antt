@@ -1,6 +1,6 @@
 use Rattle.std.proofs.Common.{rules, not}
 use Rattle.std.proofs.lemmas.List.Sorted.{IsPartitionPoint-from_clause}
-use Rattle.clog_intervals.specs.Positions.{IsBelow, IsUpTo, is_below}
+use Rattle.clog_base.specs.Positions.{IsBelow, IsUpTo, is_below}
 use Rattle.clog_intervals.proofs.Order.{not_below-upto, not_not_below}
 use Rattle.clog_intervals.proofs.Halves.{begins_parted, all_in_front, all_in_back}
 use Rattle.clog_intervals.proofs.cleans.begun_up_to.Goals as goal
