@@ -8,3 +8,5 @@ pub mod KeepsDropped
 pub mod KeepsSynced
 pub mod Between
 pub mod KeepsLogged
+pub mod KeepsMarkers
+pub mod MarkerTells

@@ -5,3 +5,5 @@ pub mod Marks
 pub mod Marked
 pub mod KeepsSwitches
 pub mod KeepsBarriers
+pub mod KeepsStages
+pub mod StageTells

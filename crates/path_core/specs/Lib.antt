@@ -18,3 +18,4 @@ pub mod Lawful
 pub mod SeatSteps
 pub mod Steps
 pub mod Promises
+pub mod Holders

@@ -21,7 +21,7 @@ use Rattle.std.specs.Prelude.{
   if◌then◌else◌,
 }
 use Rattle.std.specs.List.{list_any, fold}
-use Rattle.std.specs.Option.{option_map_or, option_and_then}
+use Rattle.std.specs.Option.{option_map, option_map_or, option_and_then}
 use Rattle.std.specs.Int.{bit_at}
 use Rattle.op_core.specs.declared.count.Order.{Order}
 use Rattle.op_core.specs.declared.count.Order.TheVariants.{Write, Append}
@@ -39,6 +39,15 @@ use Rattle.path_core.specs.declared.seat.FlushTurn.{FlushTurn}
 use Rattle.path_core.specs.declared.seat.Marked.{Marked}
 use Rattle.path_core.specs.declared.seat.Issue.{Issue}
 use Rattle.path_core.specs.declared.seat.Issue.TheVariants.{Rest}
+use Rattle.path_core.specs.declared.seat.LastMarker.{LastMarker}
+use Rattle.path_core.specs.declared.seat.Switching.{Switching}
+use Rattle.path_core.specs.declared.seat.Switching.TheVariants.{
+  Settled,
+  Begun,
+  Marked as MarkedStage,
+  Waiting,
+  WithBarrier,
+}
 use Rattle.path_core.specs.declared.seat.SyncTurn.{SyncTurn}
 use Rattle.path_core.specs.declared.state.Bound.{Bound}
 use Rattle.path_core.specs.declared.state.Bound.TheVariants.{Live, Raising, Final}
@@ -129,9 +138,25 @@ found_of Append s = s.found.append
 abbrev pub issue_of : Seat → Issue
 issue_of s = option_map_or (λ (turn : SyncTurn). turn.issue) s.sync Rest
 
+-- what the holder of the Sync turn keeps of the last marker, where it claimed it
+abbrev pub marker_of : Seat → Option LastMarker
+marker_of s = option_and_then (λ (turn : SyncTurn). turn.marker) s.sync
+
+-- how far the holder of a table's turn has got with a switch
+abbrev pub stage_of : Seat → ℕ → Option Switching
+stage_of s t = option_map (λ (turn : FlushTurn). turn.stage) (seat_table s t).flush
+
+-- the memtable that is marked at a stage of a switch
+abbrev pub marked_in : Switching → Option Marked
+marked_in Settled = None
+marked_in (Begun m) = None
+marked_in (MarkedStage k) = Some k
+marked_in (Waiting m) = None
+marked_in (WithBarrier m group) = None
+
 -- the memtable that the holder of a table's turn has marked
 abbrev pub marked_of : Seat → ℕ → Option Marked
-marked_of s t = option_and_then (λ (turn : FlushTurn). turn.marked) (seat_table s t).flush
+marked_of s t = option_and_then (λ (turn : FlushTurn). marked_in turn.stage) (seat_table s t).flush
 
 -- Asking a part.
 
@@ -152,6 +177,10 @@ is_entry c = not (is_marker c)
 -- an entry of the segment of an ordinal
 abbrev pub is_entry_in : ℕ → Claim → Bool
 is_entry_in o c = is_entry c && (ordinal_of c.start == o)
+
+-- the last marker of the log, if there is one
+abbrev pub last_marker : PathState → Option Claim
+last_marker x = fold (λ (o : Option Claim) (c : Claim). if is_marker c then Some c else o) None x.claims
 
 -- whether a set of tables, bit t for table t, holds a table
 abbrev pub touches : ℕ → ℕ → Bool

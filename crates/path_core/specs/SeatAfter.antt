@@ -14,6 +14,7 @@ use Rattle.std.specs.Prelude.{
   false,
   ◌&&◌,
   ◌||◌,
+  List,
   map,
   set,
   Option,
@@ -68,10 +69,18 @@ use Rattle.path_core.specs.declared.seat.FoundBound.{FoundBound}
 use Rattle.path_core.specs.declared.seat.FoundGroups.{FoundGroups}
 use Rattle.path_core.specs.declared.seat.Issue.{Issue}
 use Rattle.path_core.specs.declared.seat.Issue.TheVariants.{Rest, Opened, Moved}
-use Rattle.path_core.specs.declared.seat.Marked.{Marked}
+use Rattle.path_core.specs.declared.seat.LastMarker.{LastMarker}
 use Rattle.path_core.specs.declared.seat.Range.{Range}
 use Rattle.path_core.specs.declared.seat.Seat.{Seat}
 use Rattle.path_core.specs.declared.seat.SeatTable.{SeatTable}
+use Rattle.path_core.specs.declared.seat.Switching.{Switching}
+use Rattle.path_core.specs.declared.seat.Switching.TheVariants.{
+  Settled,
+  Begun,
+  Marked as MarkedStage,
+  Waiting,
+  WithBarrier,
+}
 use Rattle.path_core.specs.declared.seat.SyncTurn.{SyncTurn}
 use Rattle.path_core.specs.declared.state.Bound.{Bound}
 use Rattle.path_core.specs.declared.state.Bound.TheVariants.{Live, Raising, Final}
@@ -155,11 +164,35 @@ bound_found m b st =
     in_flush (λ (turn : FlushTurn). record turn { bound = Some found })
     (record st { bound = Some found })
 
--- The log key, found by a seat that has marked a memtable.
+-- How far the holder of a table's turn has got with a switch.
+
+-- A stage that is reached.
+abbrev pub reaches : Switching → SeatTable → SeatTable
+reaches stage st = in_flush (λ (turn : FlushTurn). record turn { stage = stage }) st
+
+-- The log key, found since a memtable was marked.
+abbrev pub key_found : ℕ → Switching → Switching
+key_found n Settled = Settled
+key_found n (Begun m) = Begun m
+key_found n (MarkedStage k) = MarkedStage (record k { key = Some n })
+key_found n (Waiting m) = Waiting m
+key_found n (WithBarrier m group) = WithBarrier m group
+
 abbrev pub log_found : ℕ → SeatTable → SeatTable
 log_found n st =
-    in_flush (λ (turn : FlushTurn).
-    record turn { marked = option_map (λ (k : Marked). record k { key = Some n }) turn.marked }) st
+    in_flush (λ (turn : FlushTurn). record turn { stage = key_found n turn.stage }) st
+
+-- The barrier of a memtable that waited for one, once it is issued.
+abbrev pub with_barrier : ℕ → Switching → Switching
+with_barrier group Settled = Settled
+with_barrier group (Begun m) = Begun m
+with_barrier group (MarkedStage k) = MarkedStage k
+with_barrier group (Waiting m) = WithBarrier m group
+with_barrier group (WithBarrier m g) = WithBarrier m g
+
+abbrev pub barrier_issued : ℕ → SeatTable → SeatTable
+barrier_issued group st =
+    in_flush (λ (turn : FlushTurn). record turn { stage = with_barrier group turn.stage }) st
 
 -- The bound of the memtable that a deposited write tries: one that takes it is its place, after one
 -- that is final below its end the next is tried.
@@ -231,12 +264,50 @@ raised_as_writer deposited m b st =
     if deposited && is_at st.trying m && is_raising b then record st { place = Some m } else st
 
 -- The turn's holder has raised the memtable that it marked.
+abbrev pub raised_stage : ℕ → ℕ → Switching → Switching
+raised_stage m to Settled = Settled
+raised_stage m to (Begun n) = Begun n
+raised_stage m to (MarkedStage k) =
+    MarkedStage (record k { raised = k.raised || ((k.memtable == m) && is_at k.key to) })
+raised_stage m to (Waiting n) = Waiting n
+raised_stage m to (WithBarrier n group) = WithBarrier n group
+
 abbrev pub raised_as_holder : ℕ → ℕ → SeatTable → SeatTable
 raised_as_holder m to st =
-    in_flush (λ (turn : FlushTurn). record turn {
-      marked = option_map (λ (k : Marked).
-          record k { raised = k.raised || ((k.memtable == m) && is_at k.key to) }) turn.marked;
-    }) st
+    in_flush (λ (turn : FlushTurn). record turn { stage = raised_stage m to turn.stage }) st
+
+-- The last marker, as the holder of the Sync turn claims it and issues its barrier.
+
+abbrev pub marker_claimed : ℕ → SyncTurn → SyncTurn
+marker_claimed start turn =
+    let marker : LastMarker = record { start = start; barrier = None } in
+    record turn { marker = Some marker }
+
+abbrev pub marker_barrier : ℕ → LastMarker → LastMarker
+marker_barrier group k = if is_some k.barrier then k else record k { barrier = Some group }
+
+abbrev pub marker_after : Order → ℕ → Option LastMarker → Option LastMarker
+marker_after Write group marker = marker
+marker_after Append group marker = option_map (marker_barrier group) marker
+
+-- The tables' switches after a barrier of an order was issued.
+abbrev pub stages_after : Order → ℕ → List SeatTable → List SeatTable
+stages_after Write group tables = map (barrier_issued group) tables
+stages_after Append group tables = tables
+
+-- A new group is current: the one before it is the barrier of what waited for one.
+abbrev pub moved_turn : Order → ℕ → ℕ → SyncTurn → SyncTurn
+moved_turn order before group turn =
+    record (in_turn_groups order (current_found group) turn) {
+      issue = Moved order;
+      marker = marker_after order before turn.marker;
+    }
+
+abbrev pub moved : Order → ℕ → ℕ → Seat → Seat
+moved order before group s = record s {
+  sync = option_map (moved_turn order before group) s.sync;
+  tables = stages_after order before s.tables;
+}
 
 -- A turn that was just taken.
 
@@ -244,6 +315,7 @@ abbrev pub new_sync : SyncTurn
 new_sync = record {
   issue = Rest;
   filed = false;
+  marker = None;
   write = nothing_found;
   append = nothing_found;
   synced = None;
@@ -251,11 +323,13 @@ new_sync = record {
 }
 
 abbrev pub new_flush : FlushTurn
-new_flush = record { marked = None; newest = None; oldest_live = None; bound = None }
+new_flush = record { stage = Settled; newest = None; oldest_live = None; bound = None }
 
--- What the holder of a table's turn has marked.
-abbrev pub marks : Option Marked → SeatTable → SeatTable
-marks marked st = in_flush (λ (turn : FlushTurn). record turn { marked = marked }) st
+-- the number that stood at a place, 0 where that is no number
+abbrev pub number_read : Reading → ℕ
+number_read (Operations k) = 0
+number_read (Number n) = n
+number_read (Limit b) = 0
 
 -- The seat after its step, at whose place `found` stood, and which gives a file or not.
 abbrev pub seat_after : Seat → Event → Reading → Bool → Seat
@@ -263,9 +337,7 @@ seat_after s (Look by at) found files = looked s at found
 seat_after s (Register by order group) found files = registered order group s
 seat_after s (Close by order group carried) found files = closed order carried s
 seat_after s (OpenGroup by order group) found files = in_sync (with_issue (Opened order)) s
-seat_after s (MoveCurrent by order group) found files =
-    in_sync (λ (turn : SyncTurn).
-    with_issue (Moved order) (in_turn_groups order (current_found group) turn)) s
+seat_after s (MoveCurrent by order group) found files = moved order (number_read found) group s
 seat_after s (Expire by order group) found files = in_sync (with_issue Rest) s
 seat_after s (Advance by order group) found files = keeps order (oldest_found group) s
 seat_after s (Claim by from to Entry) found files =
@@ -274,19 +346,22 @@ seat_after s (Claim by from to Entry) found files =
       found = record s.found { log = Some to.0 };
     }
 seat_after s (Claim by from to Marker) found files =
-    record s { found = record s.found { log = Some to.0 } }
+    in_sync (marker_claimed (claim_start Marker from.0 to.0))
+    (record s { found = record s.found { log = Some to.0 } })
 seat_after s (Switch by table memtable OpenPart) found files =
-    at_table table.0 (in_flush (λ (turn : FlushTurn). record turn { newest = Some memtable })) s
+    at_table table.0 (λ (st : SeatTable). reaches (Begun memtable)
+    (in_flush (λ (turn : FlushTurn). record turn { newest = Some memtable }) st)) s
 seat_after s (Switch by table memtable Mark) found files =
     at_table table.0 (λ (st : SeatTable).
-    marks (Some (record { memtable = memtable; key = None; raised = false }))
+    reaches (MarkedStage (record { memtable = memtable; key = None; raised = false }))
     (bound_found memtable (Raising (record { 0 = 0 })) st)) s
 seat_after s (Raise by table memtable to) (Limit b) files =
     at_table table.0 (λ (st : SeatTable). raised_as_holder memtable to.0
     (raised_as_writer (is_some s.note) memtable b
     (bound_found memtable (raised_to to.0 b) st))) s
 seat_after s (Finalise by table memtable) (Limit b) files =
-    at_table table.0 (λ (st : SeatTable). marks None (bound_found memtable (made_final b) st)) s
+    at_table table.0 (λ (st : SeatTable).
+    reaches (Waiting memtable) (bound_found memtable (made_final b) st)) s
 seat_after s (TakeTurn by Sync) found files = record s { sync = Some new_sync }
 seat_after s (TakeTurn by (Flush table)) found files =
     at_table table.0 (λ (st : SeatTable). record st { flush = Some new_flush }) s

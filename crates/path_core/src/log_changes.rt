@@ -6,7 +6,7 @@ ghost use Rattle.path_core.specs.declared.note.EntryNote.{EntryNote};
 ghost use Rattle.op_core.specs.Tallies.{one_less};
 ghost use Rattle.path_core.specs.Keys.{behind_marker};
 ghost use Rattle.path_core.specs.Parts.{seat_of};
-ghost use Rattle.path_core.specs.SeatAfter.{closed};
+ghost use Rattle.path_core.specs.SeatAfter.{closed, in_sync, marker_claimed};
 ghost use Rattle.path_core.specs.Next.{
   next_of,
   joined,
@@ -22,12 +22,27 @@ use crate::group_changes::take_one;
 use crate::keys::{claim_end, claim_start};
 use crate::note::EntryNote;
 use crate::rows::Rows;
-use crate::seat::{Range, Seat, SeatTable};
+use crate::seat::{LastMarker, Range, Seat, SeatTable, SyncTurn};
 use crate::seat_steps::{become_idle, find_synced};
 use crate::state::{Claim, PathState, Placed};
 use clog_base::{Bytes, Key, OutOfMemory};
 use op_core::Order;
 use std::alloc::Global;
+
+// The holder of the Sync turn has claimed a marker.
+fn claim_marker(seat: &mut Seat, start: u64)
+    ensures { seat.new ≡ in_sync (marker_claimed start) seat.old }
+{
+    if let Some(turn) = seat.sync {
+        seat.sync = Some(SyncTurn {
+            marker: Some(LastMarker {
+                start,
+                barrier: None,
+            }),
+            ..turn
+        });
+    }
+}
 
 pub(crate) fn make_claim(
     state: &mut PathState,
@@ -54,8 +69,9 @@ pub(crate) fn make_claim(
     let seats = &mut state.seats;
     let seat = &mut seats.items[by as usize];
     seat.found.log = Some(to.0);
-    if what == ClaimKind::Entry {
-        seat.claim = Some(Range { start, end: to.0 });
+    match what {
+        ClaimKind::Entry => seat.claim = Some(Range { start, end: to.0 }),
+        ClaimKind::Marker => claim_marker(seat, start),
     }
     Ok(())
 }

@@ -1,21 +1,23 @@
 //! The step that makes a new group current: what waits for a barrier gets the group before.
 ghost use Rattle.std.specs.Prelude.{◌≡◌, ◌≤◌, map, length};
 ghost use Rattle.path_core.specs.declared.event.Event.{Event};
-ghost use Rattle.path_core.specs.declared.seat.SyncTurn.{SyncTurn};
 ghost use Rattle.path_core.specs.SeatAfter.{
-  in_sync,
-  with_issue,
-  in_turn_groups,
-  current_found,
+  marker_barrier,
+  marker_after,
+  barrier_issued,
+  moved_turn,
+  moved,
 };
+ghost use Rattle.std.specs.Option.{option_map};
 ghost use Rattle.path_core.specs.Allowed.{is_unbarred, is_unbarred_marker};
 ghost use Rattle.path_core.specs.Next.{next_of, barred, barred_marker, barred_tables};
 ghost use Rattle.path_core.specs.Steps.{Names};
 
 use crate::event::ClaimKind;
 use crate::groups_known::{GroupWord, in_turn};
-use crate::seat::{Issue, Seat, SeatTable, SyncTurn};
+use crate::seat::{Issue, LastMarker, Seat, SeatTable, SyncTurn};
 use crate::state::{Bound, Claim, Memtable, PathState, TableState};
+use crate::table_steps::barrier_issued;
 use op_core::Order;
 
 /// Whether a memtable waits for its barrier.
@@ -92,17 +94,65 @@ fn bar_tables(tables: &mut [TableState], seat: &[SeatTable; 16], group: u64)
     }
 }
 
-fn move_current(seat: &mut Seat, order: Order, group: u64)
-    ensures { seat.new ≡ in_sync (λ (turn : SyncTurn).
-        with_issue (Issue.Moved order) (in_turn_groups order (current_found group) turn)) seat.old }
+fn barrier_of(marker: LastMarker, group: u64) -> LastMarker
+    ensures { result ≡ marker_barrier group marker }
+{
+    match marker.barrier {
+        Some(_) => marker,
+        None => LastMarker {
+            barrier: Some(group),
+            ..marker
+        },
+    }
+}
+
+// The last marker after an issue of an order's barrier of a group.
+fn issued(marker: Option<LastMarker>, order: Order, group: u64) -> Option<LastMarker>
+    ensures { result ≡ marker_after order group marker }
+{
+    match (order, marker) {
+        (Order::Append, Some(marker)) => Some(barrier_of(marker, group)),
+        _ => marker,
+    }
+}
+
+fn issue_stages(tables: &mut [SeatTable], group: u64)
+    ensures { tables.new ≡ map (barrier_issued group) tables.old }
+{
+    for at in tables.iter_mut() {
+        *at = barrier_issued(*at, group);
+    }
+}
+
+fn moved_turn(turn: SyncTurn, order: Order, before: u64, group: u64) -> SyncTurn
+    ensures { result ≡ moved_turn order before group turn }
+{
+    let marker = issued(turn.marker, order, before);
+    let turn = in_turn(turn, order, GroupWord::Current(group));
+    SyncTurn {
+        issue: Issue::Moved(order),
+        marker,
+        ..turn
+    }
+}
+
+// The group before is the barrier of a marker that waited for one.
+fn move_turn(seat: &mut Seat, order: Order, before: u64, group: u64)
+    ensures { seat.new ≡ record seat.old {
+      sync = option_map (moved_turn order before group) seat.old.sync;
+    } }
 {
     if let Some(turn) = seat.sync {
-        let turn = in_turn(turn, order, GroupWord::Current(group));
-        seat.sync = Some(SyncTurn {
-            issue: Issue::Moved(order),
-            ..turn
-        });
+        seat.sync = Some(moved_turn(turn, order, before, group));
     }
+}
+
+// It is the barrier of the memtables that waited for one, too.
+fn move_write(seat: &mut Seat, before: u64, group: u64)
+    ensures { seat.new ≡ moved Order.Write before group seat.old }
+{
+    move_turn(seat, Order::Write, before, group);
+    issue_stages(&mut seat.tables, before);
 }
 
 pub(crate) fn make_move_append(state: &mut PathState, by: u8, group: u64)
@@ -114,7 +164,7 @@ pub(crate) fn make_move_append(state: &mut PathState, by: u8, group: u64)
     bar_markers(&mut claims.items, by, before);
     state.append.current = group;
     let seats = &mut state.seats;
-    move_current(&mut seats.items[by as usize], Order::Append, group);
+    move_turn(&mut seats.items[by as usize], Order::Append, before, group);
 }
 
 pub(crate) fn make_move_write(state: &mut PathState, by: u8, group: u64)
@@ -127,5 +177,5 @@ pub(crate) fn make_move_write(state: &mut PathState, by: u8, group: u64)
     bar_tables(&mut tables.items, &held, before);
     state.write.current = group;
     let seats = &mut state.seats;
-    move_current(&mut seats.items[by as usize], Order::Write, group);
+    move_write(&mut seats.items[by as usize], before, group);
 }

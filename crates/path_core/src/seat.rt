@@ -41,12 +41,23 @@ pub struct Found {
     pub stopped: Option<u64>,
 }
 
+/// The last marker of the log, in the hand of the seat that claimed it while it held the Sync turn.
+#[derive(Clone, Copy, Debug, PartialEq, Eq)]
+pub struct LastMarker {
+    /// The key at which it starts.
+    pub start: u64,
+    /// The group of the append order's barrier that was issued for it.
+    pub barrier: Option<u64>,
+}
+
 /// The Sync turn in a seat's hand. What is kept of the words was found or put while it is held.
 #[derive(Clone, Copy, Debug, PartialEq, Eq)]
 pub struct SyncTurn {
     pub issue: Issue,
     /// Whether it retired a memtable with a file.
     pub filed: bool,
+    /// The last marker, where it claimed it while it holds the turn.
+    pub marker: Option<LastMarker>,
     pub write: FoundGroups,
     pub append: FoundGroups,
     pub synced: Option<u64>,
@@ -70,10 +81,25 @@ pub struct Marked {
     pub raised: bool,
 }
 
+/// How far the holder of a Flush turn has got with a switch.
+#[derive(Clone, Copy, Debug, PartialEq, Eq)]
+pub enum Switching {
+    /// The newest switch of the table is through.
+    Settled,
+    /// It made this memtable the newest; the one below is still live.
+    Begun(u64),
+    /// It marked the one below, which is raising.
+    Marked(Marked),
+    /// It made this one final, and it waits for its barrier.
+    Waiting(u64),
+    /// The barrier of this one is issued.
+    WithBarrier { memtable: u64, group: u64 },
+}
+
 /// A Flush turn in a seat's hand. What is kept of the words was found or put while it is held.
 #[derive(Clone, Copy, Debug, PartialEq, Eq)]
 pub struct FlushTurn {
-    pub marked: Option<Marked>,
+    pub stage: Switching,
     pub newest: Option<u64>,
     pub oldest_live: Option<u64>,
     pub bound: Option<FoundBound>,

@@ -5,6 +5,7 @@ ghost use Rattle.path_core.specs.Parts.{
   group_in,
   found_of,
   issue_of,
+  marked_in,
   marked_of,
   HoldsNoTurn,
   IsIdle,
@@ -22,7 +23,7 @@ ghost use Rattle.path_core.specs.Allowed.{
 
 use crate::event::Carried;
 use crate::note::EntryNote;
-use crate::seat::{FoundGroups, Issue, Marked, Range, Seat};
+use crate::seat::{FoundGroups, Issue, Marked, Range, Seat, Switching};
 use crate::seat_steps::touches;
 use clog_base::Table;
 use op_core::Order;
@@ -155,12 +156,21 @@ pub(crate) fn may_carry(by: u8, tables: u8, seat: &Seat, order: Order, carried: 
     }
 }
 
+fn marked_in(stage: Switching) -> Option<Marked>
+    ensures { result ≡ marked_in stage }
+{
+    match stage {
+        Switching::Marked(marked) => Some(marked),
+        _ => None,
+    }
+}
+
 fn marked_of(seat: &Seat, table: u8) -> Option<Marked>
     requires { table < 16 }
     ensures { result ≡ marked_of seat.now table }
 {
     match seat.tables[table as usize].flush {
-        Some(turn) => turn.marked,
+        Some(turn) => marked_in(turn.stage),
         None => None,
     }
 }

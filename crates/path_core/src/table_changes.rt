@@ -7,9 +7,11 @@ ghost use Rattle.path_core.specs.Steps.{Names, Makes};
 
 use crate::bound::{finalised, raised};
 use crate::event::SwitchPart;
-use crate::seat::Marked;
+use crate::seat::{Marked, Switching};
 use crate::state::{Bound, Memtable, PathState, TableState};
-use crate::table_steps::{bound_found, marks, newest_found, raised_as_holder, raised_as_writer};
+use crate::table_steps::{
+    bound_found, newest_found, raised_as_holder, raised_as_writer, reaches,
+};
 use clog_base::{Key, OutOfMemory, Table};
 
 pub(crate) const FRESH: Memtable = Memtable {
@@ -54,7 +56,8 @@ pub(crate) fn make_open(
     let seats = &mut state.seats;
     let seat = &mut seats.items[by as usize];
     let i = table.0 as usize;
-    seat.tables[i] = newest_found(seat.tables[i], memtable);
+    let at = newest_found(seat.tables[i], memtable);
+    seat.tables[i] = reaches(at, Switching::Begun(memtable));
     Ok(())
 }
 
@@ -78,9 +81,9 @@ pub(crate) fn make_mark(state: &mut PathState, by: u8, table: Table, memtable: u
     let seat = &mut seats.items[by as usize];
     let i = table.0 as usize;
     let at = bound_found(seat.tables[i], memtable, Bound::Raising(Key(0)));
-    seat.tables[i] = marks(
+    seat.tables[i] = reaches(
         at,
-        Some(Marked {
+        Switching::Marked(Marked {
             memtable,
             key: None,
             raised: false,
@@ -124,5 +127,6 @@ pub(crate) fn make_final(state: &mut PathState, by: u8, table: Table, memtable: 
     let seats = &mut state.seats;
     let seat = &mut seats.items[by as usize];
     let i = table.0 as usize;
-    seat.tables[i] = marks(bound_found(seat.tables[i], memtable, bound), None);
+    let at = bound_found(seat.tables[i], memtable, bound);
+    seat.tables[i] = reaches(at, Switching::Waiting(memtable));
 }

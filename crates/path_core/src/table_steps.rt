@@ -9,12 +9,16 @@ ghost use Rattle.path_core.specs.SeatAfter.{
   begins_at,
   left_table,
   raised_as_writer,
+  raised_stage,
   raised_as_holder,
-  marks,
+  key_found,
+  reaches,
+  with_barrier,
+  barrier_issued,
 };
 
 use crate::bound::{ends_below, rises, takes};
-use crate::seat::{FlushTurn, FoundBound, Marked, SeatTable};
+use crate::seat::{FlushTurn, FoundBound, Marked, SeatTable, Switching};
 use crate::state::Bound;
 
 /// The holder of the table's turn found the newest memtable, or made it.
@@ -69,23 +73,38 @@ pub(crate) fn bound_found(at: SeatTable, memtable: u64, bound: Bound) -> SeatTab
     }
 }
 
+/// A switch has got to a stage.
+pub(crate) fn reaches(at: SeatTable, stage: Switching) -> SeatTable
+    ensures { result ≡ reaches stage at }
+{
+    match at.flush {
+        Some(turn) => SeatTable {
+            flush: Some(FlushTurn { stage, ..turn }),
+            ..at
+        },
+        None => at,
+    }
+}
+
+fn key_found(stage: Switching, key: u64) -> Switching
+    ensures { result ≡ key_found key stage }
+{
+    match stage {
+        Switching::Marked(marked) => Switching::Marked(Marked {
+            key: Some(key),
+            ..marked
+        }),
+        _ => stage,
+    }
+}
+
 /// The log key was found; it counts for the memtable that is marked.
 pub(crate) fn log_found(at: SeatTable, key: u64) -> SeatTable
     ensures { result ≡ log_found key at }
 {
-    let Some(turn) = at.flush else {
-        return at;
-    };
-    let Some(marked) = turn.marked else {
-        return at;
-    };
-    let marked = Some(Marked {
-        key: Some(key),
-        ..marked
-    });
-    SeatTable {
-        flush: Some(FlushTurn { marked, ..turn }),
-        ..at
+    match at.flush {
+        Some(turn) => reaches(at, key_found(turn.stage, key)),
+        None => at,
     }
 }
 
@@ -159,36 +178,46 @@ pub(crate) fn raised_as_writer(
     }
 }
 
+fn raised_stage(stage: Switching, memtable: u64, to: u64) -> Switching
+    ensures { result ≡ raised_stage memtable to stage }
+{
+    match stage {
+        Switching::Marked(marked) => {
+            let raises = marked.memtable == memtable && marked.key == Some(to);
+            Switching::Marked(Marked {
+                raised: marked.raised || raises,
+                ..marked
+            })
+        }
+        _ => stage,
+    }
+}
+
 /// The holder of the table's turn has raised the memtable that it marked.
 pub(crate) fn raised_as_holder(at: SeatTable, memtable: u64, to: u64) -> SeatTable
     ensures { result ≡ raised_as_holder memtable to at }
 {
-    let Some(turn) = at.flush else {
-        return at;
-    };
-    let Some(marked) = turn.marked else {
-        return at;
-    };
-    let raises = marked.memtable == memtable && marked.key == Some(to);
-    let marked = Some(Marked {
-        raised: marked.raised || raises,
-        ..marked
-    });
-    SeatTable {
-        flush: Some(FlushTurn { marked, ..turn }),
-        ..at
+    match at.flush {
+        Some(turn) => reaches(at, raised_stage(turn.stage, memtable, to)),
+        None => at,
     }
 }
 
-/// What the holder of the table's turn has marked.
-pub(crate) fn marks(at: SeatTable, marked: Option<Marked>) -> SeatTable
-    ensures { result ≡ marks marked at }
+fn with_barrier(stage: Switching, group: u64) -> Switching
+    ensures { result ≡ with_barrier group stage }
+{
+    match stage {
+        Switching::Waiting(memtable) => Switching::WithBarrier { memtable, group },
+        _ => stage,
+    }
+}
+
+/// Barriers were issued for the memtables that wait for one.
+pub(crate) fn barrier_issued(at: SeatTable, group: u64) -> SeatTable
+    ensures { result ≡ barrier_issued group at }
 {
     match at.flush {
-        Some(turn) => SeatTable {
-            flush: Some(FlushTurn { marked, ..turn }),
-            ..at
-        },
+        Some(turn) => reaches(at, with_barrier(turn.stage, group)),
         None => at,
     }
 }

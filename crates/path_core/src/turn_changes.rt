@@ -4,12 +4,11 @@ ghost use Rattle.path_core.specs.declared.event.Event.{Event};
 ghost use Rattle.path_core.specs.Next.{next_of};
 ghost use Rattle.path_core.specs.Steps.{Names, Makes};
 
-use crate::event::{ClaimKind, Cursor, SwitchPart, Turn};
-use crate::seat::{FlushTurn, FoundGroups, Issue, Marked, Seat, SeatTable, SyncTurn};
-use crate::seat_steps::{find_stopped, find_synced};
+use crate::event::{Cursor, Turn};
+use crate::seat::{FlushTurn, FoundGroups, Issue, Seat, SeatTable, Switching, SyncTurn};
+use crate::seat_steps::find_stopped;
 use crate::state::PathState;
-use crate::table_steps::{bound_found, marks, newest_found, oldest_live_found};
-use clog_base::{Key, OutOfMemory, Table};
+use clog_base::Table;
 
 const NOTHING_FOUND: FoundGroups = FoundGroups {
     current: None,
@@ -21,6 +20,7 @@ const NOTHING_FOUND: FoundGroups = FoundGroups {
 const NEW_SYNC: SyncTurn = SyncTurn {
     issue: Issue::Rest,
     filed: false,
+    marker: None,
     write: NOTHING_FOUND,
     append: NOTHING_FOUND,
     synced: None,
@@ -28,7 +28,7 @@ const NEW_SYNC: SyncTurn = SyncTurn {
 };
 
 const NEW_FLUSH: FlushTurn = FlushTurn {
-    marked: None,
+    stage: Switching::Settled,
     newest: None,
     oldest_live: None,
     bound: None,

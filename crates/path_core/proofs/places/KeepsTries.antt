@@ -82,7 +82,7 @@ use Rattle.path_core.specs.Parts.{
 use Rattle.path_core.specs.Allowed.{IsStep}
 use Rattle.std.proofs.lemmas.Bool.{false≢true, and_parts, eqb-true, leb-true, leb-false}
 use Rattle.path_core.proofs.seats.Columns.{each_seat, own_after, at_table_same, at_table_other}
-use Rattle.path_core.specs.Parts.{marked_of, touches}
+use Rattle.path_core.specs.Parts.{marked_in, marked_of, touches}
 use Rattle.path_core.specs.Lawful.{IsLawfulLog, IsLawfulCore}
 use Rattle.path_core.specs.LawfulPlaces.{IsAccepted, TriesAbove, TriesAre, PlacesAre}
 use Rattle.path_core.proofs.seats.Columns.{claim_after, note_after}
@@ -372,7 +372,7 @@ module _ (x : PathState) (C : IsLawfulCore x) (P : PlacesAre x) where
       holds h = some_flush (seat_table (seat_of x by) table.0).flush h
         where
           some_flush : {k : Marked} (o : Option FlushTurn)
-              → option_and_then (λ (turn : FlushTurn). turn.marked) o ≡ Some k → is_some o ≡ true
+              → option_and_then (λ (turn : FlushTurn). marked_in turn.stage) o ≡ Some k → is_some o ≡ true
           some_flush {k} None e = absurd (none-some k e)
           some_flush (Some turn) e = refl
 

@@ -38,6 +38,11 @@ use Rattle.path_core.specs.declared.event.Turn.TheVariants.{Sync, Flush}
 use Rattle.path_core.specs.declared.seat.FlushTurn.{FlushTurn}
 use Rattle.path_core.specs.declared.seat.Seat.{Seat}
 use Rattle.path_core.specs.declared.seat.SeatTable.{SeatTable}
+use Rattle.path_core.specs.declared.seat.Switching.TheVariants.{
+  Begun,
+  Marked as MarkedStage,
+  Waiting,
+}
 use Rattle.path_core.specs.Parts.{untouched, seat_table}
 use Rattle.path_core.specs.declared.state.Bound.TheVariants.{Raising}
 use Rattle.path_core.specs.SeatAfter.{
@@ -51,7 +56,9 @@ use Rattle.path_core.specs.SeatAfter.{
   bound_found,
   log_found,
   made_final,
-  marks,
+  reaches,
+  barrier_issued,
+  number_read,
   new_flush,
 }
 use Rattle.path_core.proofs.seats.Columns.{at_table_keeps}
@@ -118,19 +125,22 @@ tries_same (Close by Append group (Deposit note)) s found files u other = refl
 tries_same (Close by Append group Nothing) s found files u other = refl
 tries_same (Close by Append group (Applied places)) s found files u other = refl
 tries_same (Close by Write group carried) s found files u other = absurd (other tt)
-tries_same (MoveCurrent by Write group) s found files u other = refl
+tries_same (MoveCurrent by Write group) s found files u other =
+    ap tried_in (get_or-map_default (barrier_issued (number_read found)) s.tables u untouched)
 tries_same (MoveCurrent by Append group) s found files u other = refl
 tries_same (Advance by Write group) s found files u other = refl
 tries_same (Advance by Append group) s found files u other = refl
 tries_same (Claim by from to Entry) s found files u other = refl
 tries_same (Claim by from to Marker) s found files u other = refl
-tries_same (Switch by table memtable Open) s found files u other = flush_tries table.0 u _ s
+tries_same (Switch by table memtable Open) s found files u other = at_table_keeps table.0 u
+    (λ (st : SeatTable). reaches (Begun memtable)
+    (in_flush (λ (turn : FlushTurn). record turn { newest = Some memtable }) st)) s tried_in refl
 tries_same (Switch by table memtable Mark) s found files u other = at_table_keeps table.0 u
-    (λ (st : SeatTable). marks (Some (record { memtable = memtable; key = None; raised = false }))
+    (λ (st : SeatTable). reaches (MarkedStage (record { memtable = memtable; key = None; raised = false }))
     (bound_found memtable (Raising (record { 0 = 0 })) st)) s tried_in refl
 tries_same (Raise by table memtable to) s found files u other = absurd (other tt)
 tries_same (Finalise by table memtable) s (Limit b) files u other = at_table_keeps table.0 u
-    (λ (st : SeatTable). marks None (bound_found memtable (made_final b) st)) s tried_in refl
+    (λ (st : SeatTable). reaches (Waiting memtable) (bound_found memtable (made_final b) st)) s tried_in refl
 tries_same (TakeTurn by Sync) s found files u other = refl
 tries_same (TakeTurn by (Flush table)) s found files u other = at_table_keeps table.0 u
     (λ (st : SeatTable). record st { flush = Some new_flush }) s tried_in refl

@@ -1,14 +1,16 @@
 -- What is made lasting, and what seats found: what is true of it holds at the opening, and each
 -- allowed step keeps it.
-use Rattle.std.proofs.Common.{◌≡◌, ℕ, refl, sym, ap, ◌∙◌, subst, arith}
+use Rattle.std.proofs.Common.{◌≡◌, ℕ, Some, refl, sym, ap, ◌∙◌, subst, arith}
 use Rattle.std.proofs.lemmas.Option.{none-some}
 use mathlib.Core.Logic.{inl}
 use Rattle.clog_base.specs.Sizes.{IsWithinLimits}
 use Rattle.path_core.specs.declared.event.Event.{Event}
+use Rattle.path_core.specs.declared.seat.FlushTurn.{FlushTurn}
+use Rattle.path_core.specs.declared.seat.SeatTable.{SeatTable}
 use Rattle.path_core.specs.declared.state.Memtable.{Memtable}
 use Rattle.path_core.specs.declared.state.PathState.{PathState}
 use Rattle.path_core.specs.declared.state.TableState.{TableState}
-use Rattle.path_core.specs.Parts.{fresh_seat, untouched, table_of, seat_table}
+use Rattle.path_core.specs.Parts.{fresh_seat, untouched, table_of, seat_table, marker_of}
 use Rattle.path_core.specs.Allowed.{IsStep}
 use Rattle.path_core.specs.Next.{next_of}
 use Rattle.path_core.specs.Runs.{opening}
@@ -16,7 +18,7 @@ use Rattle.path_core.specs.Whole.{CarriesWhole}
 use Rattle.path_core.specs.Lawful.{IsLawfulLogged}
 use Rattle.path_core.specs.LawfulLog.{LoggedIsSynced, SyncedIsMarker}
 use Rattle.path_core.specs.LawfulOrders.{SwitchesHeld}
-use Rattle.path_core.specs.LawfulSeats.{SeatKnows}
+use Rattle.path_core.specs.LawfulSeats.{SeatKnows, StageIs}
 use Rattle.path_core.specs.LawfulTables.{BarriersBelow, LaterGroupsAbove}
 use Rattle.path_core.proofs.runs.KeepsPlacing.{
   at_first,
@@ -29,6 +31,7 @@ use Rattle.path_core.proofs.runs.KeepsPlacing.{
 use Rattle.path_core.proofs.tables.KeepsBarriers.{keeps_barriers}
 use Rattle.path_core.proofs.orders.GroupsMove.{groups_move, keeps_switches_held}
 use Rattle.path_core.proofs.log.KeepsSynced.{keeps_later_groups, keeps_synced}
+use Rattle.path_core.proofs.log.KeepsMarkers.{KeptIs}
 use Rattle.path_core.proofs.log.KeepsLogged.{keeps_logged_synced}
 use Rattle.path_core.proofs.seats.KnownWords.{KnowsWords}
 use Rattle.path_core.proofs.seats.KnownTables.{KnowsTable}
@@ -39,8 +42,9 @@ pub keeps_logged_part : (x : PathState) → IsLawfulLogged x → (e : Event) →
     → CarriesWhole e → IsLawfulLogged (next_of x e)
 keeps_logged_part x G e a whole =
     let C = G.placing.core in
-    let L = C.log in record {
-      placing = keeps_placing x G.placing e a whole;
+    let L = C.log in
+    let P = keeps_placing x G.placing e a whole in record {
+      placing = P;
       barriers_below_current = keeps_barriers x L.sized L.claims_tile_the_log L.orders C.switches
           G.barriers_below_current e a (λ o. (groups_move x L.orders o e a).current);
       a_switch_has_a_holder = keeps_switches_held x L.sized L.orders G.a_switch_has_a_holder e a;
@@ -48,7 +52,7 @@ keeps_logged_part x G e a whole =
       synced_below_the_log = keeps_synced x L G.synced_below_the_log e a;
       logged_is_the_synced_part = keeps_logged_synced x L G.later_groups_log_above
           G.synced_below_the_log G.logged_is_the_synced_part e a;
-      seats_know = keeps_seats_know x L G.seats_know e a;
+      seats_know = keeps_seats_know x C G.a_switch_has_a_holder G.seats_know e a P.core.switches;
     }
 
 -- It holds at the opening.
@@ -119,6 +123,11 @@ module _ (tables seats capacity ordinals base : ℕ) where
       (at_first seats (λ s. (t : ℕ) → KnowsTable (table_of first t) (seat_table s t))
       (λ t. subst (KnowsTable (table_of first t)) (sym (untouched_there t))
       (untouched_known (table_of first t))) w)
+      (at_first seats (λ s. KeptIs first w (marker_of s)) (λ kept h. absurd (none-some kept h)) w)
+      (at_first seats (λ s. (t : ℕ) (turn : FlushTurn) → (seat_table s t).flush ≡ Some turn
+      → StageIs first t turn.stage)
+      (λ t turn h. absurd (none-some turn (sym (ap (λ (st : SeatTable). st.flush)
+      (untouched_there t)) ∙ h))) w)
 
   -- all of it at the opening
   pub opening_logged : IsWithinLimits tables seats capacity ordinals → IsLawfulLogged first

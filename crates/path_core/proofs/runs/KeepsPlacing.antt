@@ -46,6 +46,7 @@ use Rattle.path_core.specs.Parts.{
   fresh_table,
   memtable_at,
   memtable_of,
+  marked_in,
   marked_of,
   key_of_bound,
   fresh_seat,
@@ -292,7 +293,7 @@ fresh_is log = record {
 
 none_marked : (t : ℕ) → marked_of fresh_seat t ≡ None
 none_marked t = ap (λ (st : SeatTable). option_and_then (λ
-    (turn : FlushTurn). turn.marked) st.flush)
+    (turn : FlushTurn). marked_in turn.stage) st.flush)
     (untouched_there t)
 
 opening_switches : (tables seats capacity ordinals base : ℕ)

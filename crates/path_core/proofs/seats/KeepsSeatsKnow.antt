@@ -1,5 +1,6 @@
 -- What seats found or put still stands: each allowed step keeps it.
 use Rattle.std.proofs.Common.{
+  ◌≡◌,
   ◌≢◌,
   ℕ,
   ◌<◌,
@@ -18,11 +19,13 @@ use Rattle.std.proofs.Common.{
   is_some,
   refl,
   sym,
+  ap,
+  ◌∙◌,
   subst,
   arith,
   length-append,
 }
-use Rattle.std.specs.Option.{option_map}
+use Rattle.std.specs.Option.{option_and_then}
 use Rattle.std.proofs.Math.ListN.{get_or-map as get_or-map_default}
 use mathlib.Core.Logic.{inl, inr}
 use Rattle.op_core.specs.declared.count.Order.TheVariants.{Write, Append}
@@ -58,9 +61,14 @@ use Rattle.path_core.specs.declared.event.Place.TheVariants.{
 use Rattle.path_core.specs.declared.event.SwitchPart.TheVariants.{Open, Mark}
 use Rattle.path_core.specs.declared.event.Turn.TheVariants.{Sync, Flush}
 use Rattle.path_core.specs.declared.seat.FlushTurn.{FlushTurn}
-use Rattle.path_core.specs.declared.seat.Marked.{Marked}
 use Rattle.path_core.specs.declared.seat.Seat.{Seat}
 use Rattle.path_core.specs.declared.seat.SeatTable.{SeatTable}
+use Rattle.path_core.specs.declared.seat.SyncTurn.{SyncTurn}
+use Rattle.path_core.specs.declared.seat.Switching.TheVariants.{
+  Begun,
+  Marked as MarkedStage,
+  Waiting,
+}
 use Rattle.path_core.specs.declared.state.Bound.TheVariants.{Raising}
 use Rattle.path_core.specs.declared.state.PathState.{PathState}
 use Rattle.path_core.specs.declared.state.TableState.{TableState}
@@ -73,6 +81,7 @@ use Rattle.path_core.specs.Parts.{
   table_of,
   memtable_of,
   tally_of,
+  marker_of,
 }
 use Rattle.path_core.specs.Words.{reading, by_of}
 use Rattle.path_core.specs.Allowed.{IsStep}
@@ -93,16 +102,23 @@ use Rattle.path_core.specs.SeatAfter.{
   made_final,
   raised_as_writer,
   raised_as_holder,
-  marks,
+  reaches,
+  key_found,
+  with_barrier,
+  barrier_issued,
   left_table,
   new_flush,
 }
 use Rattle.path_core.specs.Next.{next_of, with_memtable, with_bound}
-use Rattle.path_core.specs.Lawful.{IsLawfulLog}
-use Rattle.path_core.specs.LawfulSeats.{SeatKnows}
+use Rattle.path_core.specs.Lawful.{IsLawfulLog, IsLawfulCore}
+use Rattle.path_core.specs.LawfulOrders.{SwitchesHeld}
+use Rattle.path_core.specs.LawfulTables.{SwitchesAre}
+use Rattle.path_core.specs.LawfulSeats.{SeatKnows, StageIs}
 use Rattle.path_core.proofs.lists.Replaced.{put_at}
 use Rattle.path_core.proofs.seats.Columns.{each_seat, own_after, at_table_same, at_table_other}
 use Rattle.path_core.proofs.tables.WithBarriers.{barred_at}
+use Rattle.path_core.proofs.log.KeepsMarkers.{KeptIs, keeps_markers, kept_from}
+use Rattle.path_core.proofs.tables.KeepsStages.{keeps_stages, staged_from, stage_is}
 use Rattle.path_core.proofs.seats.KnownWords.{KnowsWords, others_know}
 use Rattle.path_core.proofs.seats.KnownSteps.{own_knows}
 use Rattle.path_core.proofs.seats.KnownTables.{
@@ -110,7 +126,7 @@ use Rattle.path_core.proofs.seats.KnownTables.{
   known_still,
   known_unheld,
   same_table,
-  marks_known,
+  stage_known,
   newest_known,
   oldest_known,
   bound_known,
@@ -171,8 +187,8 @@ module _ (x : PathState) (L : IsLawfulLog x) where
   looks_at by (Oldest Append) a K t = K t
   looks_at by Log a K t = subst (KnowsTable (table_of x t))
       (sym (get_or-map_default (log_found x.log) (seat_of x by).tables t untouched))
-      (marks_known (table_of x t) (seat_table (seat_of x by) t)
-      (λ turn. option_map (λ (k : Marked). record k { key = Some x.log }) turn.marked) (K t))
+      (stage_known (table_of x t) (seat_table (seat_of x by) t)
+      (λ turn. key_found x.log turn.stage) (K t))
   looks_at by (Newest table) a K t = at_each table.0
       (in_flush (λ (turn : FlushTurn). record turn { newest = Some (table_of x table.0).newest }))
       (seat_of x by) (λ u st. KnowsTable (table_of x u) st) (fits table.0 by a.is_there)
@@ -212,8 +228,16 @@ module _ (x : PathState) (L : IsLawfulLog x) where
       (sym (get_or-map_default left_table (seat_of x by).tables t untouched))
       (same_table (table_of x t) (seat_table (seat_of x by) t) _ refl refl (K t))
   own_tables (MoveCurrent by Write group) a K t = barred_at x.write.current
-      (seat_of x by).tables x.tables (λ tb. KnowsTable tb (seat_table (seat_of x by) t)) t (K t)
-      (known_still (table_of x t) _ (barred_left x.write.current (table_of x t)) _ (K t))
+      (seat_of x by).tables x.tables (λ tb. KnowsTable tb (seat_table
+      (own_after x (MoveCurrent by Write group)) t)) t (issued (table_of x t) (K t))
+      (issued _ (known_still (table_of x t) _ (barred_left x.write.current (table_of x t)) _ (K t)))
+    where
+      issued : (table : TableState) → KnowsTable table (seat_table (seat_of x by) t)
+          → KnowsTable table (seat_table (own_after x (MoveCurrent by Write group)) t)
+      issued table known = subst (KnowsTable table) (sym (get_or-map_default
+          (barrier_issued x.write.current) (seat_of x by).tables t untouched))
+          (stage_known table (seat_table (seat_of x by) t)
+          (λ turn. with_barrier x.write.current turn.stage) known)
   own_tables (MoveCurrent by Append group) a K t = K t
   own_tables (Advance by Write group) a K t = K t
   own_tables (Advance by Append group) a K t = K t
@@ -224,17 +248,19 @@ module _ (x : PathState) (L : IsLawfulLog x) where
         newest = m;
         memtables = (table_of x table.0).memtables ++ fresh_memtable ∷ [];
       })
-      (in_flush (λ (turn : FlushTurn). record turn { newest = Some m })) a.is_there
+      (λ (st : SeatTable). reaches (Begun m)
+      (in_flush (λ (turn : FlushTurn). record turn { newest = Some m }) st)) a.is_there
       (fits table.0 by a.is_there)
       (let long = length-append (table_of x table.0).memtables (fresh_memtable ∷ []) in
-      newest_known (table_of x table.0) _ m (seat_table (seat_of x by) table.0) (omega arith)
-      (opened_same (table_of x table.0) m) refl refl (K table.0)) K t
+      stage_known _ _ (λ _. Begun m)
+      (newest_known (table_of x table.0) _ m (seat_table (seat_of x by) table.0) (omega arith)
+      (opened_same (table_of x table.0) m) refl refl (K table.0))) K t
   own_tables (Switch by table m Mark) a K t = both_at (seat_of x by) table.0
       (with_memtable (table_of x table.0) m (mark x L))
-      (λ (st : SeatTable). marks
-      (Some (record { memtable = m; key = None; raised = false }))
+      (λ (st : SeatTable). reaches
+      (MarkedStage (record { memtable = m; key = None; raised = false }))
       (bound_found m (Raising (record { 0 = 0 })) st)) a.is_there.0 (fits table.0 by a.is_there.0)
-      (marks_known _ _ (λ _. Some (record { memtable = m; key = None; raised = false }))
+      (stage_known _ _ (λ _. MarkedStage (record { memtable = m; key = None; raised = false }))
       (bound_known (table_of x table.0) (with_memtable (table_of x table.0) m (mark x L)) m
       (Raising (record { 0 = 0 })) (seat_table (seat_of x by) table.0)
       (changed_made (table_of x table.0) m (mark x L) a.is_there.1)
@@ -258,9 +284,9 @@ module _ (x : PathState) (L : IsLawfulLog x) where
       let f = with_bound made_final in
       both_at (seat_of x by) table.0
       (with_memtable (table_of x table.0) m f)
-      (λ (st : SeatTable). marks None (bound_found m (made_final b) st))
+      (λ (st : SeatTable). reaches (Waiting m) (bound_found m (made_final b) st))
       a.is_there.0 (fits table.0 by a.is_there.0)
-      (marks_known _ _ (λ _. None) (bound_known (table_of x table.0)
+      (stage_known _ _ (λ _. Waiting m) (bound_known (table_of x table.0)
       (with_memtable (table_of x table.0) m f) m (made_final b)
       (seat_table (seat_of x by) table.0)
       (changed_made (table_of x table.0) m f a.is_there.1)
@@ -303,7 +329,15 @@ record KnowsAll (x : PathState) (s : Seat) : Type 0 where
 -- from what a seat knows to its parts
 all_known : (x : PathState) (w : ℕ) → SeatKnows x w → KnowsAll x (seat_of x w)
 all_known x w K = record {
-  words = record { words = K.words; sync = K.sync };
+  words = record {
+    words = K.words;
+    sync = λ turn h. let E = K.sync turn h in record {
+      write = E.write;
+      append = E.append;
+      synced = E.synced;
+      stopped = E.stopped;
+    };
+  };
   tables = λ t. record {
     bounds = λ found h. let B = K.bounds t found h in record { made = B.made; stays = B.stays };
     flush = λ turn h. let F = K.flush t turn h in record {
@@ -316,23 +350,36 @@ all_known x w K = record {
 
 -- and back
 pub seat_knows : (x : PathState) (w : ℕ) → KnowsWords x (seat_of x w)
-    → ((t : ℕ) → KnowsTable (table_of x t) (seat_table (seat_of x w) t)) → SeatKnows x w
-seat_knows x w W K = record {
+    → ((t : ℕ) → KnowsTable (table_of x t) (seat_table (seat_of x w) t))
+    → KeptIs x w (marker_of (seat_of x w))
+    → ((t : ℕ) (turn : FlushTurn) → (seat_table (seat_of x w) t).flush ≡ Some turn
+    → StageIs x t turn.stage) → SeatKnows x w
+seat_knows x w W K kept stages = record {
   words = W.words;
-  sync = W.sync;
+  sync = λ turn h. let E = W.sync turn h in record {
+    write = E.write;
+    append = E.append;
+    synced = E.synced;
+    stopped = E.stopped;
+    marker = λ marker q. kept marker
+        (ap (option_and_then (λ (turn : SyncTurn). turn.marker)) h ∙ q);
+  };
   bounds = λ t found h. let B = (K t).bounds found h in
       record { made = B.made; stays = B.stays };
   flush = λ t turn h. let F = (K t).flush turn h in record {
     newest = F.newest;
     oldest_live = F.oldest_live;
     bound = F.bound;
+    stage = stages t turn h;
   };
 }
 
 -- Each allowed step keeps that what each seat found or put still stands.
-pub keeps_seats_know : (x : PathState) → IsLawfulLog x → ((w : ℕ) → SeatKnows x w) → (e : Event)
-    → IsStep x e → (w : ℕ) → SeatKnows (next_of x e) w
-keeps_seats_know x L K e a w =
+pub keeps_seats_know : (x : PathState) → IsLawfulCore x → SwitchesHeld x
+    → ((w : ℕ) → SeatKnows x w) → (e : Event) → IsStep x e → SwitchesAre (next_of x e) → (w : ℕ)
+    → SeatKnows (next_of x e) w
+keeps_seats_know x C S K e a now w =
+    let L = C.log in
     let A = each_seat x e a.seat (λ _ s. KnowsAll (next_of x e) s)
     (let own = all_known x (by_of e) (K (by_of e)) in record {
       words = own_knows x L e a own.words;
@@ -343,3 +390,8 @@ keeps_seats_know x L K e a w =
       tables = other_tables x L e a v apart other.tables;
     }) w in
     seat_knows (next_of x e) w A.words A.tables
+    (keeps_markers x L.orders (λ v. kept_from x v (seat_of x v).sync
+    (λ turn h. ((K v).sync turn h).marker)) e a w)
+    (λ t. stage_is (next_of x e) now w t (keeps_stages x C S
+    (λ v u. staged_from x u (seat_table (seat_of x v) u).flush
+    (λ turn h. ((K v).flush u turn h).stage)) e a w t))

@@ -30,9 +30,9 @@ use Rattle.path_core.specs.SeatAfter.{
 }
 use Rattle.path_core.specs.Next.{next_of}
 use Rattle.path_core.specs.Lawful.{IsLawfulLog}
-use Rattle.path_core.specs.LawfulSeats.{SyncExact}
 use Rattle.path_core.proofs.orders.GroupsMove.{groups_move}
 use Rattle.path_core.proofs.seats.KnownWords.{
+  SyncIs,
   KnowsWords,
   same_known,
   turn_mapped,
@@ -118,7 +118,7 @@ module _ (x : PathState) (L : IsLawfulLog x) where
       synced = λ key h. let is = same_Some x.synced key h in omega arith;
       stopped = W.stopped;
     };
-    sync = turn_mapped (SyncExact (next_of x (Look by (CursorWord Synced)))) (seat_of x by).sync
+    sync = turn_mapped (SyncIs (next_of x (Look by (CursorWord Synced)))) (seat_of x by).sync
         (λ (turn : SyncTurn). record turn { synced = Some x.synced })
         (λ turn h. let E = K.sync turn h in record {
           write = E.write;
@@ -136,7 +136,7 @@ module _ (x : PathState) (L : IsLawfulLog x) where
       synced = W.synced;
       stopped = λ n h some. sym (same_Some x.stopped n h);
     };
-    sync = turn_mapped (SyncExact (next_of x (Look by (CursorWord Stopped)))) (seat_of x by).sync
+    sync = turn_mapped (SyncIs (next_of x (Look by (CursorWord Stopped)))) (seat_of x by).sync
         (λ (turn : SyncTurn). record turn { stopped = Some x.stopped })
         (λ turn h. let E = K.sync turn h in record {
           write = E.write;

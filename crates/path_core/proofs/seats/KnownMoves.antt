@@ -53,6 +53,7 @@ use Rattle.path_core.specs.Parts.{
   table_of,
   memtable_at,
   memtable_of,
+  marked_in,
 }
 use Rattle.path_core.specs.Words.{by_of}
 use Rattle.path_core.specs.Allowed.{IsStep}
@@ -134,8 +135,8 @@ changed_made table m f inside =
     let long = length-set table.memtables m (f (memtable_at table m)) in omega arith
 
 -- who has marked a memtable holds the turn
-marked_held : (o : Option FlushTurn) (k : Marked)
-    → option_and_then (λ (turn : FlushTurn). turn.marked) o ≡ Some k → IsSome o
+pub marked_held : (o : Option FlushTurn) (k : Marked)
+    → option_and_then (λ (turn : FlushTurn). marked_in turn.stage) o ≡ Some k → IsSome o
 marked_held None k h = absurd (none-some k h)
 marked_held (Some turn) k h = refl
 

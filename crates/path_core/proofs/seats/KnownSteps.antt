@@ -31,6 +31,7 @@ use Rattle.path_core.specs.declared.seat.Issue.TheVariants.{Rest, Opened, Moved}
 use Rattle.path_core.specs.declared.seat.Seat.{Seat}
 use Rattle.path_core.specs.declared.seat.SyncTurn.{SyncTurn}
 use Rattle.path_core.specs.declared.state.PathState.{PathState}
+use Rattle.path_core.specs.Keys.{claim_start}
 use Rattle.path_core.specs.Parts.{seat_of}
 use Rattle.path_core.specs.Words.{by_of}
 use Rattle.path_core.specs.Allowed.{IsStep}
@@ -38,15 +39,16 @@ use Rattle.path_core.specs.SeatAfter.{
   in_sync,
   in_turn_groups,
   with_issue,
-  current_found,
+  marker_claimed,
+  moved_turn,
   oldest_found,
   new_sync,
 }
 use Rattle.path_core.specs.Next.{next_of, gives_file}
 use Rattle.path_core.specs.Lawful.{IsLawfulLog}
-use Rattle.path_core.specs.LawfulSeats.{SyncExact}
 use Rattle.path_core.proofs.seats.Columns.{own_after}
 use Rattle.path_core.proofs.seats.KnownWords.{
+  SyncIs,
   KnowsWords,
   same_known,
   turn_mapped,
@@ -60,7 +62,16 @@ issued : (x : PathState) (issue : Issue) (s : Seat) → KnowsWords x s
     → KnowsWords x (in_sync (with_issue issue) s)
 issued x issue s K = record {
   words = K.words;
-  sync = turn_mapped (SyncExact x) s.sync (with_issue issue) (λ turn h. let E = K.sync turn h in
+  sync = turn_mapped (SyncIs x) s.sync (with_issue issue) (λ turn h. let E = K.sync turn h in
+      record { write = E.write; append = E.append; synced = E.synced; stopped = E.stopped });
+}
+
+-- a marker is no word
+claimed : (x : PathState) (start : ℕ) (s : Seat) → KnowsWords x s
+    → KnowsWords x (in_sync (marker_claimed start) s)
+claimed x start s K = record {
+  words = K.words;
+  sync = turn_mapped (SyncIs x) s.sync (marker_claimed start) (λ turn h. let E = K.sync turn h in
       record { write = E.write; append = E.append; synced = E.synced; stopped = E.stopped });
 }
 
@@ -79,7 +90,7 @@ log_known x key s low K = record {
 }
 
 -- a Sync turn that was just taken knows nothing
-new_turn_known : (x : PathState) → SyncExact x new_sync
+new_turn_known : (x : PathState) → SyncIs x new_sync
 new_turn_known x = record {
   write = record {
     current = λ g h. absurd (none-some g h);
@@ -102,9 +113,8 @@ module _ (x : PathState) (L : IsLawfulLog x) where
       → KnowsWords (next_of x (MoveCurrent by o group)) (own_after x (MoveCurrent by o group))
   moves_know by Write group a K = let e = MoveCurrent by Write group in record {
     words = words_stay x L e a (seat_of x by).found K.words;
-    sync = turn_mapped (SyncExact (next_of x e)) (seat_of x by).sync
-        (λ (turn : SyncTurn).
-        with_issue (Moved Write) (in_turn_groups Write (current_found group) turn))
+    sync = turn_mapped (SyncIs (next_of x e)) (seat_of x by).sync
+        (moved_turn Write x.write.current group)
         (λ turn h. let E = K.sync turn h in record {
           write = let G = E.write in record {
             current = λ g h. sym (same_Some group g h);
@@ -122,9 +132,8 @@ module _ (x : PathState) (L : IsLawfulLog x) where
   }
   moves_know by Append group a K = let e = MoveCurrent by Append group in record {
     words = words_stay x L e a (seat_of x by).found K.words;
-    sync = turn_mapped (SyncExact (next_of x e)) (seat_of x by).sync
-        (λ (turn : SyncTurn).
-        with_issue (Moved Append) (in_turn_groups Append (current_found group) turn))
+    sync = turn_mapped (SyncIs (next_of x e)) (seat_of x by).sync
+        (moved_turn Append x.append.current group)
         (λ turn h. let E = K.sync turn h in record {
           write = let G = E.write in record {
             current = G.current;
@@ -157,7 +166,7 @@ module _ (x : PathState) (L : IsLawfulLog x) where
       synced = W.synced;
       stopped = W.stopped;
     };
-    sync = turn_mapped (SyncExact (next_of x e)) (seat_of x by).sync
+    sync = turn_mapped (SyncIs (next_of x e)) (seat_of x by).sync
         (in_turn_groups Write (oldest_found group)) (λ turn h. let E = K.sync turn h in record {
           write = let G = E.write in record {
             current = G.current;
@@ -185,7 +194,7 @@ module _ (x : PathState) (L : IsLawfulLog x) where
       synced = W.synced;
       stopped = W.stopped;
     };
-    sync = turn_mapped (SyncExact (next_of x e)) (seat_of x by).sync
+    sync = turn_mapped (SyncIs (next_of x e)) (seat_of x by).sync
         (in_turn_groups Append (oldest_found group)) (λ turn h. let E = K.sync turn h in record {
           write = let G = E.write in record {
             current = G.current;
@@ -214,7 +223,7 @@ module _ (x : PathState) (L : IsLawfulLog x) where
       synced = λ key h. let is = same_Some value key h in omega arith;
       stopped = W.stopped;
     };
-    sync = turn_mapped (SyncExact (next_of x e)) (seat_of x by).sync
+    sync = turn_mapped (SyncIs (next_of x e)) (seat_of x by).sync
         (λ (turn : SyncTurn). record turn { synced = Some value })
         (λ turn h. let E = K.sync turn h in record {
           write = let G = E.write in record {
@@ -236,7 +245,7 @@ module _ (x : PathState) (L : IsLawfulLog x) where
       let files = gives_file x e in
       let now = known_left x L e a (λ b. b) (seat_of x by) K in record {
         words = now.words;
-        sync = turn_mapped (SyncExact (next_of x e)) (seat_of x by).sync
+        sync = turn_mapped (SyncIs (next_of x e)) (seat_of x by).sync
             (λ (turn : SyncTurn). record turn { filed = turn.filed || files })
             (λ turn h. let E = now.sync turn h in record {
               write = E.write;
@@ -253,7 +262,7 @@ module _ (x : PathState) (L : IsLawfulLog x) where
       synced = W.synced;
       stopped = λ n h some. sym (same_Some value n h);
     };
-    sync = turn_mapped (SyncExact (next_of x e)) (seat_of x by).sync
+    sync = turn_mapped (SyncIs (next_of x e)) (seat_of x by).sync
         (λ (turn : SyncTurn). record turn { stopped = Some value })
         (λ turn h. let E = K.sync turn h in record {
           write = let G = E.write in record {
@@ -305,7 +314,9 @@ module _ (x : PathState) (L : IsLawfulLog x) where
   own_knows (Claim by from to Marker) a K =
       let e = Claim by from to Marker in
       let now = known_left x L e a (λ b. b) (seat_of x by) K in
-      log_known (next_of x e) to.0 (seat_of x by) (omega arith) now
+      claimed (next_of x e) (claim_start Marker from.0 to.0) (record (seat_of x by) {
+        found = record (seat_of x by).found { log = Some to.0 };
+      }) (log_known (next_of x e) to.0 (seat_of x by) (omega arith) now)
   own_knows (Switch by table memtable Open) a K = let e = Switch by table memtable Open in
       same_known _ (seat_of x by) _ refl refl (known_left x L e a (λ b. b) (seat_of x by) K)
   own_knows (Switch by table memtable Mark) a K = let e = Switch by table memtable Mark in
@@ -318,7 +329,7 @@ module _ (x : PathState) (L : IsLawfulLog x) where
       let e = TakeTurn by Sync in
       let now = known_left x L e a (λ b. b) (seat_of x by) K in record {
         words = now.words;
-        sync = λ turn h. subst (SyncExact (next_of x e)) (same_Some new_sync turn h)
+        sync = λ turn h. subst (SyncIs (next_of x e)) (same_Some new_sync turn h)
             (new_turn_known (next_of x e));
       }
   own_knows (TakeTurn by (Flush table)) a K = let e = TakeTurn by (Flush table) in

@@ -26,7 +26,7 @@ use Rattle.std.proofs.Common.{
 use Rattle.std.proofs.lemmas.Option.{none-some, same_Some}
 use Rattle.path_core.specs.declared.seat.FlushTurn.{FlushTurn}
 use Rattle.path_core.specs.declared.seat.FoundBound.{FoundBound}
-use Rattle.path_core.specs.declared.seat.Marked.{Marked}
+use Rattle.path_core.specs.declared.seat.Switching.{Switching}
 use Rattle.path_core.specs.declared.seat.SeatTable.{SeatTable}
 use Rattle.path_core.specs.declared.state.Bound.{Bound}
 use Rattle.path_core.specs.declared.state.Bound.TheVariants.{Live, Raising, Final}
@@ -205,14 +205,14 @@ same_table table st after b f K = record {
   flush = λ turn h. K.flush turn (sym f ∙ h);
 }
 
--- the turn changes in what is marked alone
-pub marks_known : (table : TableState) (st : SeatTable) (marked : FlushTurn → Option Marked)
+-- the turn changes in its switch's stage alone
+pub stage_known : (table : TableState) (st : SeatTable) (stage : FlushTurn → Switching)
     → KnowsTable table st
-    → KnowsTable table (in_flush (λ (turn : FlushTurn). record turn { marked = marked turn }) st)
-marks_known table st marked K = record {
+    → KnowsTable table (in_flush (λ (turn : FlushTurn). record turn { stage = stage turn }) st)
+stage_known table st stage K = record {
   bounds = K.bounds;
   flush = turn_mapped (TurnIs table) st.flush
-      (λ (turn : FlushTurn). record turn { marked = marked turn })
+      (λ (turn : FlushTurn). record turn { stage = stage turn })
       (λ turn h. let F = K.flush turn h in
       record { newest = F.newest; oldest_live = F.oldest_live; bound = F.bound });
 }
@@ -311,9 +311,9 @@ raises_known table deposited m to b st K =
   where
     choose : (c : Bool) → KnowsTable table
         (raised_as_holder m to (cond c (record st { place = Some m }) st))
-    choose true = marks_known table (record st { place = Some m }) _
+    choose true = stage_known table (record st { place = Some m }) _
         (same_table table st (record st { place = Some m }) refl refl K)
-    choose false = marks_known table st _ K
+    choose false = stage_known table st _ K
 
 -- A turn that was just taken knows nothing; one that is given back is not held.
 

@@ -51,15 +51,22 @@ use Rattle.path_core.specs.SeatAfter.{in_turn_groups, keeps, is_finished}
 use Rattle.path_core.specs.Next.{next_of, groups_after}
 use Rattle.path_core.specs.Lawful.{IsLawfulLog}
 use Rattle.path_core.specs.LawfulOrders.{IsOrderly}
-use Rattle.path_core.specs.LawfulSeats.{GroupsKnown, GroupsExact, WordsKnown, SyncExact}
+use Rattle.path_core.specs.LawfulSeats.{GroupsKnown, GroupsExact, WordsKnown}
 use Rattle.path_core.proofs.orders.HeldTurns.{begun_is_held, held_holds}
 use Rattle.path_core.proofs.orders.GroupsMove.{groups_move}
 use Rattle.path_core.proofs.log.KeepsSynced.{grows}
 
+-- What the holder of the Sync turn found or put is exact.
+pub record SyncIs (x : PathState) (turn : SyncTurn) : Type 0 where
+  pub write : GroupsExact x Write turn.write
+  pub append : GroupsExact x Append turn.append
+  pub synced : (key : ℕ) → turn.synced ≡ Some key → key ≡ x.synced
+  pub stopped : (n : ℕ) → turn.stopped ≡ Some n → n ≡ x.stopped
+
 -- What a seat knows of the words of no table.
 pub record KnowsWords (x : PathState) (s : Seat) : Type 0 where
   pub words : WordsKnown x s.found
-  pub sync : (turn : SyncTurn) → s.sync ≡ Some turn → SyncExact x turn
+  pub sync : (turn : SyncTurn) → s.sync ≡ Some turn → SyncIs x turn
 
 -- a seat that found the same and holds the same Sync turn
 pub same_known : (x : PathState) (s after : Seat) → after.found ≡ s.found → after.sync ≡ s.sync
@@ -88,7 +95,7 @@ keeps_known x Write f s known exact K = record {
     synced = W.synced;
     stopped = W.stopped;
   };
-  sync = turn_mapped (SyncExact x) s.sync (in_turn_groups Write f)
+  sync = turn_mapped (SyncIs x) s.sync (in_turn_groups Write f)
       (λ turn h. let E = K.sync turn h in record {
         write = exact turn.write E.write;
         append = E.append;
@@ -104,7 +111,7 @@ keeps_known x Append f s known exact K = record {
     synced = W.synced;
     stopped = W.stopped;
   };
-  sync = turn_mapped (SyncExact x) s.sync (in_turn_groups Append f)
+  sync = turn_mapped (SyncIs x) s.sync (in_turn_groups Append f)
       (λ turn h. let E = K.sync turn h in record {
         write = E.write;
         append = exact turn.append E.append;
@@ -214,7 +221,7 @@ module _ (x : PathState) (L : IsLawfulLog x) where
 
   -- what is known exactly of all guarded words
   sync_stays : (e : Event) → IsStep x e → (ChangesWord e → ⊥) → (turn : SyncTurn)
-      → SyncExact x turn → SyncExact (next_of x e) turn
+      → SyncIs x turn → SyncIs (next_of x e) turn
   sync_stays e a other turn E = record {
     write = exact_stays Write e a other turn.write E.write;
     append = exact_stays Append e a other turn.append E.append;

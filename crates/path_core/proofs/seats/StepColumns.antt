@@ -72,6 +72,11 @@ use Rattle.path_core.specs.declared.seat.Issue.{Issue}
 use Rattle.path_core.specs.declared.seat.Issue.TheVariants.{Rest, Opened, Moved}
 use Rattle.path_core.specs.declared.seat.Seat.{Seat}
 use Rattle.path_core.specs.declared.seat.SeatTable.{SeatTable}
+use Rattle.path_core.specs.declared.seat.Switching.TheVariants.{
+  Begun,
+  Marked as MarkedStage,
+  Waiting,
+}
 use Rattle.path_core.specs.declared.seat.SyncTurn.{SyncTurn}
 use Rattle.path_core.specs.Parts.{untouched, seat_table, is_at}
 use Rattle.path_core.specs.declared.state.Bound.{Bound as BoundOf}
@@ -103,7 +108,9 @@ use Rattle.path_core.specs.SeatAfter.{
   is_raising,
   raised_to,
   made_final,
-  marks,
+  reaches,
+  barrier_issued,
+  number_read,
   left_table,
   new_flush,
 }
@@ -396,8 +403,10 @@ columns (MoveCurrent by Write group) s found files fits = record {
   claim = refl;
   note = refl;
   issue = issue_kept s.sync _ (λ i. Moved Write) (λ turn. refl);
-  flush = λ t. refl;
-  tables = refl;
+  flush = λ t. ap holds_flush
+      (get_or-map_default (barrier_issued (number_read found)) s.tables t untouched)
+      ∙ still_some (seat_table s t).flush _;
+  tables = length-map s.tables (barrier_issued (number_read found));
 }
 columns (MoveCurrent by Append group) s found files fits = record {
   write = refl;
@@ -428,21 +437,17 @@ columns (Claim by from to Entry) s found files fits = record {
   flush = λ t. refl;
   tables = refl;
 }
-columns (Claim by from to Marker) s found files fits = record {
-  write = refl;
-  append = refl;
-  claim = refl;
-  note = refl;
-  issue = refl;
-  flush = λ t. refl;
-  tables = refl;
-}
+columns (Claim by from to Marker) s found files fits = columns_left (Claim by from to Marker) s _
+    (finds_in_sync _ _ s (λ turn. refl)) refl refl refl refl refl (λ t. refl)
 columns (Switch by table memtable Open) s found files fits =
-    columns_left (Switch by table memtable Open) s _ (leaves_flush table.0 _ s)
+    columns_left (Switch by table memtable Open) s _ (leaves_at_table table.0
+    (λ (st : SeatTable). reaches (Begun memtable)
+    (in_flush (λ (turn : FlushTurn). record turn { newest = Some memtable }) st)) s
+    (still_some _ _ ∙ still_some (seat_table s table.0).flush _))
     refl refl refl refl refl (λ t. refl)
 columns (Switch by table memtable Mark) s found files fits =
     columns_left (Switch by table memtable Mark) s _ (leaves_at_table table.0
-    (λ (st : SeatTable). marks (Some (record { memtable = memtable; key = None; raised = false }))
+    (λ (st : SeatTable). reaches (MarkedStage (record { memtable = memtable; key = None; raised = false }))
     (bound_found memtable (Raising (record { 0 = 0 })) st)) s
     (still_some _ _ ∙ still_some (seat_table s table.0).flush _))
     refl refl refl refl refl (λ t. refl)
@@ -455,7 +460,7 @@ columns (Raise by table memtable to) s (Limit b) files fits =
     refl refl refl refl refl (λ t. refl)
 columns (Finalise by table memtable) s (Limit b) files fits =
     columns_left (Finalise by table memtable) s _ (leaves_at_table table.0
-    (λ (st : SeatTable). marks None (bound_found memtable (made_final b) st)) s
+    (λ (st : SeatTable). reaches (Waiting memtable) (bound_found memtable (made_final b) st)) s
     (still_some _ _ ∙ still_some (seat_table s table.0).flush _))
     refl refl refl refl refl (λ t. refl)
 columns (TakeTurn by Sync) s found files fits = record {

@@ -59,6 +59,12 @@ use Rattle.path_core.specs.declared.event.Turn.TheVariants.{Flush}
 use Rattle.path_core.specs.declared.seat.FlushTurn.{FlushTurn}
 use Rattle.path_core.specs.declared.seat.Seat.{Seat}
 use Rattle.path_core.specs.declared.seat.SeatTable.{SeatTable}
+use Rattle.path_core.specs.declared.seat.Switching.{Switching}
+use Rattle.path_core.specs.declared.seat.Switching.TheVariants.{
+  Begun,
+  Marked as MarkedStage,
+  Waiting,
+}
 use Rattle.path_core.specs.declared.state.PathState.{PathState}
 use Rattle.path_core.specs.Parts.{untouched, seat_of, seat_table, is_at}
 use Rattle.path_core.specs.Words.{reading, by_of, place_of}
@@ -73,10 +79,12 @@ use Rattle.path_core.specs.SeatAfter.{
   raised_to,
   made_final,
   new_flush,
+  reaches,
+  in_flush,
 }
 use Rattle.path_core.specs.Next.{next_of, gives_file}
 use Rattle.path_core.specs.declared.seat.Marked.{Marked}
-use Rattle.path_core.specs.Parts.{marked_of}
+use Rattle.path_core.specs.Parts.{marked_in, marked_of}
 use Rattle.clog_base.specs.declared.position.Key.{Key}
 use Rattle.path_core.specs.declared.state.Bound.TheVariants.{Live, Raising}
 use Rattle.path_core.specs.declared.state.Memtable.{Memtable}
@@ -90,7 +98,6 @@ use Rattle.path_core.specs.Parts.{
   IsFinal,
 }
 use Rattle.path_core.specs.Allowed.{IsStep}
-use Rattle.path_core.specs.SeatAfter.{marks as marks_seat}
 use Rattle.path_core.specs.Next.{with_memtable, with_bound}
 use Rattle.path_core.specs.Lawful.{IsSized}
 use Rattle.path_core.specs.LawfulLog.{
@@ -110,11 +117,13 @@ use Rattle.path_core.proofs.log.KeepsDropped.{log_grows}
 use Rattle.path_core.proofs.tables.WithBarriers.{barred_at}
 use Rattle.path_core.proofs.tables.Marks.{
   ChangesMark,
-  marked_in,
+  marked_at,
   marked_same,
   marked_changed,
   mapped_some,
   marks_left,
+  key_found_marked,
+  raised_marked_stage,
 }
 use Rattle.path_core.proofs.tables.Memtables.{
   log_grown,
@@ -214,7 +223,7 @@ module _ (x : PathState) (sized : IsSized x) (T : ClaimsTile x) (O : IsOrderly x
       → is_some (seat_table (seat_of x w) t).flush ≡ true
   marked_holds w t k h = by (seat_table (seat_of x w) t).flush h
     where
-      by : (o : Option FlushTurn) → option_and_then (λ (turn : FlushTurn). turn.marked) o ≡ Some k
+      by : (o : Option FlushTurn) → option_and_then (λ (turn : FlushTurn). marked_in turn.stage) o ≡ Some k
           → is_some o ≡ true
       by None e = absurd (none-some k e)
       by (Some turn) e = refl
@@ -233,19 +242,24 @@ module _ (x : PathState) (sized : IsSized x) (T : ClaimsTile x) (O : IsOrderly x
 
   -- what the acting seat has marked, where its part of one table changes
   own_at : (w t u : ℕ) (f : SeatTable → SeatTable) → t < length x.tables → u ≡ t
-      → marked_of (at_table t f (seat_of x w)) u ≡ marked_in (f (seat_table (seat_of x w) t))
+      → marked_of (at_table t f (seat_of x w)) u ≡ marked_at (f (seat_table (seat_of x w) t))
   own_at w t u f inside e = ap (marked_of (at_table t f (seat_of x w))) e
-      ∙ ap marked_in (at_table_same t f (seat_of x w) (seat_fits w t inside))
+      ∙ ap marked_at (at_table_same t f (seat_of x w) (seat_fits w t inside))
 
   own_other : (w t u : ℕ) (f : SeatTable → SeatTable) → u ≢ t
       → marked_of (at_table t f (seat_of x w)) u ≡ marked_of (seat_of x w) u
-  own_other w t u f n = ap marked_in (at_table_other t u f (seat_of x w) n)
+  own_other w t u f n = ap marked_at (at_table_other t u f (seat_of x w) n)
 
-  marks_new : (o : Option FlushTurn) (f : FlushTurn → FlushTurn) (new : Option Marked) (k : Marked)
-      → ((turn : FlushTurn) → (f turn).marked ≡ new)
-      → option_and_then (λ (turn : FlushTurn). turn.marked) (option_map f o) ≡ Some k → new ≡ Some k
-  marks_new None f new k is e = absurd (none-some k e)
-  marks_new (Some turn) f new k is e = sym (is turn) ∙ e
+  -- what is marked at a stage that is reached
+  marks_new : (st : SeatTable) (stage : Switching) (k : Marked)
+      → marked_at (reaches stage st) ≡ Some k → marked_in stage ≡ Some k
+  marks_new st stage k = by st.flush
+    where
+      by : (o : Option FlushTurn) → option_and_then (λ (turn : FlushTurn). marked_in turn.stage)
+          (option_map (λ (turn : FlushTurn). record turn { stage = stage }) o) ≡ Some k
+          → marked_in stage ≡ Some k
+      by None e = absurd (none-some k e)
+      by (Some turn) e = e
 
   abbrev marked_memtable : Memtable → Memtable
   marked_memtable k = record k { bound = Raising (record { 0 = 0 }); mark = Some x.log }
@@ -276,12 +290,12 @@ module _ (x : PathState) (sized : IsSized x) (T : ClaimsTile x) (O : IsOrderly x
       (λ k h. at_table_set table.0 _ a.is_there.0 t (λ tb. MarkedIsRaising x.log tb k)
       (λ e. subst (λ j. MarkedIsRaising x.log
       (with_memtable (table_of x table.0) m marked_memtable) j)
-      (same_Some (new_mark m) k (marks_new _ _ (Some (new_mark m)) k (λ turn. refl)
-      (sym (own_at by table.0 t (λ (st : SeatTable). marks_seat (Some (new_mark m))
+      (same_Some (new_mark m) k (marks_new (bound_found m (Raising (record { 0 = 0 })) (seat_table (seat_of x by) table.0))
+      (MarkedStage (new_mark m)) k
+      (sym (own_at by table.0 t (λ (st : SeatTable). reaches (MarkedStage (new_mark m))
       (bound_found m (Raising (record { 0 = 0 })) st)) a.is_there.0 e) ∙ h)))
       (new_is_raising table.0 m a.row.1))
-      (λ n. W.marked by t k (sym (own_other by table.0 t (λ (st : SeatTable). marks_seat (Some
-      (new_mark m))
+      (λ n. W.marked by t k (sym (own_other by table.0 t (λ (st : SeatTable). reaches (MarkedStage (new_mark m))
       (bound_found m (Raising (record { 0 = 0 })) st)) n) ∙ h)))
       (λ w _ k h. at_table_set table.0 _ a.is_there.0 t (λ tb. MarkedIsRaising x.log tb k)
       (λ e. absurd (not_raising k (subst (λ u. MarkedIsRaising x.log (table_of x u) k) e
@@ -320,7 +334,7 @@ module _ (x : PathState) (sized : IsSized x) (T : ClaimsTile x) (O : IsOrderly x
       (subst (λ u. MarkedIsRaising x.log (table_of x u) k) e (W.marked w t k h)))
       (λ _. W.marked w t k h))
     where
-      holder : (c : Bool) → marked_in (raised_as_holder m to.0
+      holder : (c : Bool) → marked_at (raised_as_holder m to.0
           (cond c (record (bound_found m (raised_to to.0 (memtable_of x table.0 m).bound)
           (seat_table (seat_of x by) table.0)) { place = Some m })
           (bound_found m (raised_to to.0 (memtable_of x table.0 m).bound)
@@ -328,22 +342,43 @@ module _ (x : PathState) (sized : IsSized x) (T : ClaimsTile x) (O : IsOrderly x
           ≡ option_map (λ (k : Marked). record k {
             raised = k.raised || ((k.memtable == m) && is_at k.key to.0);
           }) (marked_of (seat_of x by) table.0)
-      holder true = marked_changed _ _ _ (λ turn. refl)
+      holder true = marked_changed _ _ _ (λ turn. raised_marked_stage m to.0 turn.stage)
           ∙ ap (option_map _) (marked_same (seat_table (seat_of x by) table.0).flush _
           (λ turn. refl))
-      holder false = marked_changed _ _ _ (λ turn. refl)
+      holder false = marked_changed _ _ _ (λ turn. raised_marked_stage m to.0 turn.stage)
           ∙ ap (option_map _) (marked_same (seat_table (seat_of x by) table.0).flush _
           (λ turn. refl))
+
+  opens : (by : ℕ) (table : Table) (m : ℕ) (a : IsStep x (Switch by table m Open)) (t w : ℕ)
+      → Marks (Switch by table m Open) t (seat_of (next_of x (Switch by table m Open)) w)
+  opens by table m a t = each_seat x (Switch by table m Open) a.seat
+      (λ _ s. Marks (Switch by table m Open) t s)
+      (λ k h. at_table_set table.0 _ a.is_there t (λ tb. MarkedIsRaising x.log tb k)
+      (λ e. absurd (none-some k (marks_new (in_flush (λ (turn : FlushTurn). record turn { newest = Some m })
+      (seat_table (seat_of x by) table.0)) (Begun m) k
+      (sym (own_at by table.0 t (λ (st : SeatTable). reaches (Begun m)
+      (in_flush (λ (turn : FlushTurn). record turn { newest = Some m }) st)) a.is_there e) ∙ h))))
+      (λ n. W.marked by t k (sym (own_other by table.0 t (λ (st : SeatTable). reaches (Begun m)
+      (in_flush (λ (turn : FlushTurn). record turn { newest = Some m }) st)) n) ∙ h)))
+      (λ w _ k h. at_table_set table.0 _ a.is_there t (λ tb. MarkedIsRaising x.log tb k)
+      (λ e. absurd (no_mark k (subst (λ u. MarkedIsRaising x.log (table_of x u) k) e
+      (W.marked w t k h)))) (λ _. W.marked w t k h))
+    where
+      -- where all below the newest are retired, none is marked
+      no_mark : (k : Marked) → MarkedIsRaising x.log (table_of x table.0) k → ⊥
+      no_mark k M = let b = M.below_newest in let all_retired = a.row.1 in
+          subst IsFinal M.raising ((W.tables table.0).retired_is_final k.memtable (omega arith))
 
   finalises : (by : ℕ) (table : Table) (m : ℕ) (a : IsStep x (Finalise by table m)) (t w : ℕ)
       → Marks (Finalise by table m) t (seat_of (next_of x (Finalise by table m)) w)
   finalises by table m a t = each_seat x (Finalise by table m) a.seat
       (λ _ s. Marks (Finalise by table m) t s)
       (λ k h. at_table_set table.0 _ a.is_there.0 t (λ tb. MarkedIsRaising x.log tb k)
-      (λ e. absurd (none-some k (marks_new _ _ None k (λ turn. refl)
-      (sym (own_at by table.0 t (λ (st : SeatTable). marks_seat None
+      (λ e. absurd (none-some k (marks_new (bound_found m (made_final (memtable_of x table.0 m).bound)
+      (seat_table (seat_of x by) table.0)) (Waiting m) k
+      (sym (own_at by table.0 t (λ (st : SeatTable). reaches (Waiting m)
       (bound_found m (made_final (memtable_of x table.0 m).bound) st)) a.is_there.0 e) ∙ h))))
-      (λ n. W.marked by t k (sym (own_other by table.0 t (λ (st : SeatTable). marks_seat None
+      (λ n. W.marked by t k (sym (own_other by table.0 t (λ (st : SeatTable). reaches (Waiting m)
       (bound_found m (made_final (memtable_of x table.0 m).bound) st)) n) ∙ h)))
       (λ w n k h. at_table_set table.0 _ a.is_there.0 t (λ tb. MarkedIsRaising x.log tb k)
       (λ e. absurd (n (O.one_holder_a_turn.one (Flush table) w by
@@ -387,16 +422,7 @@ module _ (x : PathState) (sized : IsSized x) (T : ClaimsTile x) (O : IsOrderly x
       (table_of x t) k M))
   keeps_marks (MoveCurrent by Append group) a t =
       marks_stay (MoveCurrent by Append group) a (λ b. b) t (λ w k h M. M)
-  keeps_marks (Switch by table m Open) a t = marks_stay (Switch by table m Open) a (λ b. b) t
-      (λ w k h M. at_table_set table.0 _ a.is_there t (λ tb. MarkedIsRaising x.log tb k)
-      (λ e. absurd (no_mark (subst (λ u. (table_of x u).oldest_live ≡ (table_of x u).newest) (sym e)
-      a.row.1) k M)) (λ _. M))
-    where
-      -- where all below the newest are retired, none is marked
-      no_mark : (table_of x t).oldest_live ≡ (table_of x t).newest → (k : Marked)
-          → MarkedIsRaising x.log (table_of x t) k → ⊥
-      no_mark all_retired k M = let b = M.below_newest in
-          subst IsFinal M.raising ((W.tables t).retired_is_final k.memtable (omega arith))
+  keeps_marks (Switch by table m Open) a t = opens by table m a t
   keeps_marks (Put by Synced value) a t = marks_stay (Put by Synced value) a (λ b. b) t
       (λ w k h M. M)
   keeps_marks (Put by (OldestLive table) value) a t =
@@ -416,8 +442,9 @@ module _ (x : PathState) (sized : IsSized x) (T : ClaimsTile x) (O : IsOrderly x
     where
       found : marked_of (own_after x (Look by Log)) t
           ≡ option_map (λ (j : Marked). record j { key = Some x.log }) (marked_of (seat_of x by) t)
-      found = ap marked_in (get_or-map_default (log_found x.log) (seat_of x by).tables t untouched)
-          ∙ marked_changed (seat_table (seat_of x by) t).flush _ _ (λ turn. refl)
+      found = ap marked_at (get_or-map_default (log_found x.log) (seat_of x by).tables t untouched)
+          ∙ marked_changed (seat_table (seat_of x by) t).flush _ _
+          (λ turn. key_found_marked x.log turn.stage)
 
       finds : {k : Marked} → MarkedIsRaising x.log (table_of x t) k
           → MarkedIsRaising x.log (table_of x t) (record k { key = Some x.log })

@@ -1,8 +1,12 @@
--- What the holder of a table's turn has marked: which steps change it.
+-- How far the holder of a table's turn has got with a switch, and what it has marked: which steps
+-- change them.
 use Rattle.std.proofs.Common.{
   ◌≡◌,
   ℕ,
   ◌+◌,
+  ◌==◌,
+  ◌&&◌,
+  ◌||◌,
   Bool,
   true,
   false,
@@ -57,6 +61,14 @@ use Rattle.path_core.specs.declared.event.Turn.TheVariants.{Sync, Flush}
 use Rattle.path_core.specs.declared.seat.FlushTurn.{FlushTurn}
 use Rattle.path_core.specs.declared.seat.Seat.{Seat}
 use Rattle.path_core.specs.declared.seat.SeatTable.{SeatTable}
+use Rattle.path_core.specs.declared.seat.Switching.{Switching}
+use Rattle.path_core.specs.declared.seat.Switching.TheVariants.{
+  Settled,
+  Begun,
+  Marked as MarkedStage,
+  Waiting,
+  WithBarrier,
+}
 use Rattle.path_core.specs.Parts.{untouched, seat_table, is_at}
 use Rattle.path_core.specs.declared.state.Bound.{Bound as BoundOf}
 use Rattle.path_core.specs.SeatAfter.{
@@ -75,27 +87,32 @@ use Rattle.path_core.specs.SeatAfter.{
   deposited_end,
   has_note_of,
   left_table,
+  number_read,
+  key_found,
+  raised_stage,
+  with_barrier,
+  barrier_issued,
 }
 use Rattle.path_core.specs.declared.seat.Marked.{Marked}
-use Rattle.path_core.specs.Parts.{marked_of}
+use Rattle.path_core.specs.Parts.{marked_in, marked_of, stage_of}
 use Rattle.path_core.proofs.seats.Columns.{at_table_keeps}
 
-abbrev pub marked_in : SeatTable → Option Marked
-marked_in st = option_and_then (λ (turn : FlushTurn). turn.marked) st.flush
+abbrev pub marked_at : SeatTable → Option Marked
+marked_at st = option_and_then (λ (turn : FlushTurn). marked_in turn.stage) st.flush
 
 -- a change of the turn that leaves what is marked
 pub marked_same : (o : Option FlushTurn) (f : FlushTurn → FlushTurn)
-    → ((turn : FlushTurn) → (f turn).marked ≡ turn.marked)
-    → option_and_then (λ (turn : FlushTurn). turn.marked) (option_map f o)
-    ≡ option_and_then (λ (turn : FlushTurn). turn.marked) o
+    → ((turn : FlushTurn) → marked_in (f turn).stage ≡ marked_in turn.stage)
+    → option_and_then (λ (turn : FlushTurn). marked_in turn.stage) (option_map f o)
+    ≡ option_and_then (λ (turn : FlushTurn). marked_in turn.stage) o
 marked_same None f same = refl
 marked_same (Some turn) f same = same turn
 
 -- a change of the turn that changes what is marked
 pub marked_changed : (o : Option FlushTurn) (f : FlushTurn → FlushTurn) (g : Marked → Marked)
-    → ((turn : FlushTurn) → (f turn).marked ≡ option_map g turn.marked)
-    → option_and_then (λ (turn : FlushTurn). turn.marked) (option_map f o)
-    ≡ option_map g (option_and_then (λ (turn : FlushTurn). turn.marked) o)
+    → ((turn : FlushTurn) → marked_in (f turn).stage ≡ option_map g (marked_in turn.stage))
+    → option_and_then (λ (turn : FlushTurn). marked_in turn.stage) (option_map f o)
+    ≡ option_map g (option_and_then (λ (turn : FlushTurn). marked_in turn.stage) o)
 marked_changed None f g same = refl
 marked_changed (Some turn) f g same = same turn
 
@@ -104,56 +121,96 @@ pub mapped_some : {A : Type 0} (o : Option A) (g : A → A) (b : A) → option_m
 mapped_some None g b e = absurd (none-some b e)
 mapped_some (Some a) g b e = (a, refl, sym (same_Some (g a) b e))
 
--- Steps that may change what is marked.
-abbrev pub ChangesMark : Event → Type 0
-ChangesMark (Look by Log) = Unit {0}
-ChangesMark (Switch by table memtable Mark) = Unit {0}
-ChangesMark (Raise by table memtable to) = Unit {0}
-ChangesMark (Finalise by table memtable) = Unit {0}
-ChangesMark (TakeTurn by (Flush table)) = Unit {0}
-ChangesMark (GiveTurn by (Flush table)) = Unit {0}
-ChangesMark _ = ⊥
+-- What is marked at a stage, after a log key was found, a raise, and an issue of barriers.
+
+pub key_found_marked : (n : ℕ) (stage : Switching) → marked_in (key_found n stage)
+    ≡ option_map (λ (k : Marked). record k { key = Some n }) (marked_in stage)
+key_found_marked n Settled = refl
+key_found_marked n (Begun m) = refl
+key_found_marked n (MarkedStage k) = refl
+key_found_marked n (Waiting m) = refl
+key_found_marked n (WithBarrier m group) = refl
+
+pub raised_marked_stage : (m to : ℕ) (stage : Switching) → marked_in (raised_stage m to stage)
+    ≡ option_map (λ (k : Marked). record k {
+      raised = k.raised || ((k.memtable == m) && is_at k.key to);
+    }) (marked_in stage)
+raised_marked_stage m to Settled = refl
+raised_marked_stage m to (Begun n) = refl
+raised_marked_stage m to (MarkedStage k) = refl
+raised_marked_stage m to (Waiting n) = refl
+raised_marked_stage m to (WithBarrier n group) = refl
+
+barrier_marked : (group : ℕ) (stage : Switching) → marked_in (with_barrier group stage)
+    ≡ marked_in stage
+barrier_marked group Settled = refl
+barrier_marked group (Begun m) = refl
+barrier_marked group (MarkedStage k) = refl
+barrier_marked group (Waiting m) = refl
+barrier_marked group (WithBarrier m g) = refl
+
+abbrev pub stage_at : SeatTable → Option Switching
+stage_at st = option_map (λ (turn : FlushTurn). turn.stage) st.flush
+
+-- a change of the turn that leaves the stage
+pub stage_same : (o : Option FlushTurn) (f : FlushTurn → FlushTurn)
+    → ((turn : FlushTurn) → (f turn).stage ≡ turn.stage)
+    → option_map (λ (turn : FlushTurn). turn.stage) (option_map f o)
+    ≡ option_map (λ (turn : FlushTurn). turn.stage) o
+stage_same None f same = refl
+stage_same (Some turn) f same = ap Some (same turn)
+
+-- Steps that may change the stage of a switch.
+abbrev pub ChangesStage : Event → Type 0
+ChangesStage (Look by Log) = Unit {0}
+ChangesStage (MoveCurrent by Write group) = Unit {0}
+ChangesStage (Switch by table memtable part) = Unit {0}
+ChangesStage (Raise by table memtable to) = Unit {0}
+ChangesStage (Finalise by table memtable) = Unit {0}
+ChangesStage (TakeTurn by (Flush table)) = Unit {0}
+ChangesStage (GiveTurn by (Flush table)) = Unit {0}
+ChangesStage _ = ⊥
 
 flush_left : (t u : ℕ) (f : FlushTurn → FlushTurn) (s : Seat)
-    → ((turn : FlushTurn) → (f turn).marked ≡ turn.marked)
-    → marked_of (at_table t (in_flush f) s) u ≡ marked_of s u
-flush_left t u f s same = at_table_keeps t u (in_flush f) s marked_in
-    (marked_same (seat_table s t).flush f same)
+    → ((turn : FlushTurn) → (f turn).stage ≡ turn.stage)
+    → stage_of (at_table t (in_flush f) s) u ≡ stage_of s u
+flush_left t u f s same = at_table_keeps t u (in_flush f) s stage_at
+    (stage_same (seat_table s t).flush f same)
 
 tries_left : (end : Option ℕ) (m : ℕ) (b : BoundOf) (st : SeatTable)
-    → marked_in (tries_bound end m b st) ≡ marked_in st
+    → stage_at (tries_bound end m b st) ≡ stage_at st
 tries_left None m b st = refl
 tries_left (Some end) m b st = choose (is_at st.trying m) (takes end b) (is_final_below end b)
   where
-    choose : (here takes below : Bool) → marked_in (cond here
+    choose : (here takes below : Bool) → stage_at (cond here
         (cond takes (record st { place = Some m })
-        (cond below (record st { trying = Some (m + 1) }) st)) st) ≡ marked_in st
+        (cond below (record st { trying = Some (m + 1) }) st)) st) ≡ stage_at st
     choose false takes below = refl
     choose true true below = refl
     choose true false true = refl
     choose true false false = refl
 
 begins_left : (touched : Bool) (n : ℕ) (st : SeatTable)
-    → marked_in (begins_at touched n st) ≡ marked_in st
+    → stage_at (begins_at touched n st) ≡ stage_at st
 begins_left false n st = refl
 begins_left true n st = choose (is_some st.trying)
   where
-    choose : (b : Bool) → marked_in (cond b st (record st { trying = Some n })) ≡ marked_in st
+    choose : (b : Bool) → stage_at (cond b st (record st { trying = Some n })) ≡ stage_at st
     choose true = refl
     choose false = refl
 
 looks_left : (s : Seat) (at : Place) (found : Reading) (u : ℕ) → (at ≡ Log → ⊥)
-    → marked_of (looked s at found) u ≡ marked_of s u
+    → stage_of (looked s at found) u ≡ stage_of s u
 looks_left s (Count Write group) (Operations k) u other = choose (is_finished k)
   where
-    choose : (b : Bool) → marked_of (cond b (keeps Write
-        (finished_found group) s) s) u ≡ marked_of s u
+    choose : (b : Bool) → stage_of (cond b (keeps Write
+        (finished_found group) s) s) u ≡ stage_of s u
     choose true = refl
     choose false = refl
 looks_left s (Count Append group) (Operations k) u other = choose (is_finished k)
   where
-    choose : (b : Bool) → marked_of (cond b (keeps Append
-        (finished_found group) s) s) u ≡ marked_of s u
+    choose : (b : Bool) → stage_of (cond b (keeps Append
+        (finished_found group) s) s) u ≡ stage_of s u
     choose true = refl
     choose false = refl
 looks_left s (Current Write) (Number n) u other = refl
@@ -163,19 +220,19 @@ looks_left s (Oldest Append) (Number n) u other = refl
 looks_left s Log found u other = absurd (other refl)
 looks_left s (Newest t) (Number n) u other = flush_left t.0 u _ s (λ turn. refl)
 looks_left s (Bound t m) (Limit b) u other = at_table_keeps t.0 u
-    (λ (st : SeatTable). tries_bound (deposited_end s) m b (bound_found m b st)) s marked_in
+    (λ (st : SeatTable). tries_bound (deposited_end s) m b (bound_found m b st)) s stage_at
     (tries_left (deposited_end s) m b (bound_found m b (seat_table s t.0))
-    ∙ marked_same (seat_table s t.0).flush _ (λ turn. refl))
+    ∙ stage_same (seat_table s t.0).flush _ (λ turn. refl))
 looks_left s (TurnWord turn) (Operations k) u other = refl
 looks_left s (TurnWord turn) (Number n) u other = refl
 looks_left s (TurnWord turn) (Limit b) u other = refl
 looks_left s (CursorWord Synced) (Number n) u other = refl
 looks_left s (CursorWord (OldestLive t)) (Number n) u other = at_table_keeps t.0 u
     (λ (st : SeatTable). begins_at (has_note_of s t.0) n
-    (in_flush (λ (turn : FlushTurn). record turn { oldest_live = Some n }) st)) s marked_in
+    (in_flush (λ (turn : FlushTurn). record turn { oldest_live = Some n }) st)) s stage_at
     (begins_left (has_note_of s t.0) n
     (in_flush (λ (turn : FlushTurn). record turn { oldest_live = Some n }) (seat_table s t.0))
-    ∙ marked_same (seat_table s t.0).flush _ (λ turn. refl))
+    ∙ stage_same (seat_table s t.0).flush _ (λ turn. refl))
 looks_left s (CursorWord Stopped) (Number n) u other = refl
 looks_left s (Count order group) (Number n) u other = refl
 looks_left s (Count order group) (Limit b) u other = refl
@@ -185,36 +242,69 @@ looks_left s (Oldest order) (Operations k) u other = refl
 looks_left s (Oldest order) (Limit b) u other = refl
 looks_left s at found u other = refl
 
+-- the stage stays
+pub stages_left : (e : Event) (s : Seat) (found : Reading) (files : Bool) (u : ℕ)
+    → (ChangesStage e → ⊥) → stage_of (seat_after s e found files) u ≡ stage_of s u
+stages_left (Look by Log) s found files u other = absurd (other tt)
+stages_left (Look by at) s found files u other =
+    looks_left s at found u (λ e. other (subst (λ p. ChangesStage (Look by p)) (sym e) tt))
+stages_left (Register by Write group) s found files u other = refl
+stages_left (Register by Append group) s found files u other = refl
+stages_left (Close by Append group (Deposit note)) s found files u other = refl
+stages_left (Close by Append group Nothing) s found files u other = refl
+stages_left (Close by Append group (Applied places)) s found files u other = refl
+stages_left (Close by Write group carried) s found files u other =
+    ap stage_at (get_or-map_default left_table s.tables u untouched)
+stages_left (MoveCurrent by Write group) s found files u other = absurd (other tt)
+stages_left (MoveCurrent by Append group) s found files u other = refl
+stages_left (Advance by Write group) s found files u other = refl
+stages_left (Advance by Append group) s found files u other = refl
+stages_left (Claim by from to Entry) s found files u other = refl
+stages_left (Claim by from to Marker) s found files u other = refl
+stages_left (Switch by table memtable part) s found files u other = absurd (other tt)
+stages_left (Raise by table memtable to) s found files u other = absurd (other tt)
+stages_left (Finalise by table memtable) s found files u other = absurd (other tt)
+stages_left (TakeTurn by Sync) s found files u other = refl
+stages_left (TakeTurn by (Flush table)) s found files u other = absurd (other tt)
+stages_left (GiveTurn by Sync) s found files u other = refl
+stages_left (GiveTurn by (Flush table)) s found files u other = absurd (other tt)
+stages_left (Put by Synced value) s found files u other = refl
+stages_left (Put by (OldestLive table) value) s found files u other =
+    flush_left table.0 u _ s (λ turn. refl)
+stages_left (Put by Stopped value) s found files u other = refl
+stages_left e s found files u other = refl
+
+-- What is marked is told by the stage.
+pub mark_of_stage : (s : Seat) (t : ℕ) → marked_of s t ≡ option_and_then marked_in (stage_of s t)
+mark_of_stage s t = by (seat_table s t).flush
+  where
+    by : (o : Option FlushTurn) → option_and_then (λ (turn : FlushTurn). marked_in turn.stage) o
+        ≡ option_and_then marked_in (option_map (λ (turn : FlushTurn). turn.stage) o)
+    by None = refl
+    by (Some turn) = refl
+
+-- Steps that may change what is marked.
+abbrev pub ChangesMark : Event → Type 0
+ChangesMark (Look by Log) = Unit {0}
+ChangesMark (Switch by table memtable part) = Unit {0}
+ChangesMark (Raise by table memtable to) = Unit {0}
+ChangesMark (Finalise by table memtable) = Unit {0}
+ChangesMark (TakeTurn by (Flush table)) = Unit {0}
+ChangesMark (GiveTurn by (Flush table)) = Unit {0}
+ChangesMark _ = ⊥
+
+-- where the stage stays, so does what is marked
+kept : (e : Event) (s : Seat) (found : Reading) (files : Bool) (u : ℕ) → (ChangesStage e → ⊥)
+    → marked_of (seat_after s e found files) u ≡ marked_of s u
+kept e s found files u other = mark_of_stage (seat_after s e found files) u
+    ∙ (ap (option_and_then marked_in) (stages_left e s found files u other)
+    ∙ sym (mark_of_stage s u))
+
 -- what is marked stays
 pub marks_left : (e : Event) (s : Seat) (found : Reading) (files : Bool) (u : ℕ)
     → (ChangesMark e → ⊥) → marked_of (seat_after s e found files) u ≡ marked_of s u
+marks_left (MoveCurrent by Write group) s found files u other =
+    ap marked_at (get_or-map_default (barrier_issued (number_read found)) s.tables u untouched)
+    ∙ marked_same (seat_table s u).flush _ (λ turn. barrier_marked (number_read found) turn.stage)
 marks_left (Look by Log) s found files u other = absurd (other tt)
-marks_left (Look by at) s found files u other =
-    looks_left s at found u (λ e. other (subst (λ p. ChangesMark (Look by p)) (sym e) tt))
-marks_left (Register by Write group) s found files u other = refl
-marks_left (Register by Append group) s found files u other = refl
-marks_left (Close by Append group (Deposit note)) s found files u other = refl
-marks_left (Close by Append group Nothing) s found files u other = refl
-marks_left (Close by Append group (Applied places)) s found files u other = refl
-marks_left (Close by Write group carried) s found files u other =
-    ap marked_in (get_or-map_default left_table s.tables u untouched)
-marks_left (MoveCurrent by Write group) s found files u other = refl
-marks_left (MoveCurrent by Append group) s found files u other = refl
-marks_left (Advance by Write group) s found files u other = refl
-marks_left (Advance by Append group) s found files u other = refl
-marks_left (Claim by from to Entry) s found files u other = refl
-marks_left (Claim by from to Marker) s found files u other = refl
-marks_left (Switch by table memtable Open) s found files u other =
-    flush_left table.0 u _ s (λ turn. refl)
-marks_left (Switch by table memtable Mark) s found files u other = absurd (other tt)
-marks_left (Raise by table memtable to) s found files u other = absurd (other tt)
-marks_left (Finalise by table memtable) s found files u other = absurd (other tt)
-marks_left (TakeTurn by Sync) s found files u other = refl
-marks_left (TakeTurn by (Flush table)) s found files u other = absurd (other tt)
-marks_left (GiveTurn by Sync) s found files u other = refl
-marks_left (GiveTurn by (Flush table)) s found files u other = absurd (other tt)
-marks_left (Put by Synced value) s found files u other = refl
-marks_left (Put by (OldestLive table) value) s found files u other =
-    flush_left table.0 u _ s (λ turn. refl)
-marks_left (Put by Stopped value) s found files u other = refl
-marks_left e s found files u other = refl
+marks_left e s found files u other = kept e s found files u other

@@ -1,0 +1,456 @@
+-- The last marker, as the holder of the Sync turn keeps it: which steps change it, and that each
+-- step keeps it exact.
+use Rattle.std.proofs.Common.{
+  ◌≡◌,
+  ◌≢◌,
+  ℕ,
+  Bool,
+  true,
+  false,
+  ◌⊎◌,
+  ◌||◌,
+  ◌&&◌,
+  ◌==◌,
+  cond,
+  List,
+  [],
+  ◌∷◌,
+  ◌++◌,
+  map,
+  Option,
+  Some,
+  None,
+  is_some,
+  is_none,
+  IsSome,
+  refl,
+  sym,
+  ap,
+  ◌∙◌,
+  subst,
+}
+use Rattle.std.specs.List.{list_any, fold}
+use Rattle.std.specs.Option.{option_map, option_and_then}
+use Rattle.std.proofs.lemmas.Bool.{and_from, and_right, eq-eqb}
+use Rattle.std.proofs.lemmas.List.Folds.{list_any-append}
+use Rattle.std.proofs.lemmas.List.Sums.{fold-append}
+use Rattle.std.proofs.lemmas.Option.{none-some, same_Some}
+use mathlib.Core.Logic.{inl, inr}
+use Rattle.clog_base.specs.declared.position.Key.{Key}
+use Rattle.op_core.specs.declared.count.Order.TheVariants.{Write, Append}
+use Rattle.path_core.specs.declared.event.ClaimKind.TheVariants.{Entry, Marker}
+use Rattle.path_core.specs.declared.event.Event.{Event}
+use Rattle.path_core.specs.declared.event.Event.TheVariants.{
+  Look,
+  Register,
+  Close,
+  OpenGroup,
+  MoveCurrent,
+  Expire,
+  Advance,
+  Claim,
+  Switch,
+  Raise,
+  Finalise,
+  TakeTurn,
+  GiveTurn,
+  Put,
+}
+use Rattle.path_core.specs.declared.event.Carried.TheVariants.{Nothing, Deposit, Applied}
+use Rattle.path_core.specs.declared.event.Cursor.TheVariants.{Synced, OldestLive, Stopped}
+use Rattle.path_core.specs.declared.event.Place.{Place}
+use Rattle.path_core.specs.declared.event.Place.TheVariants.{
+  Count,
+  Current,
+  Oldest,
+  Log,
+  Newest,
+  Bound,
+  TurnWord,
+  CursorWord,
+}
+use Rattle.path_core.specs.declared.event.Reading.{Reading}
+use Rattle.path_core.specs.declared.event.Reading.TheVariants.{Operations, Number, Limit}
+use Rattle.path_core.specs.declared.event.SwitchPart.TheVariants.{Open, Mark}
+use Rattle.path_core.specs.declared.event.Turn.TheVariants.{Sync, Flush}
+use Rattle.path_core.specs.declared.seat.Issue.TheVariants.{Rest, Opened}
+use Rattle.path_core.specs.declared.seat.LastMarker.{LastMarker}
+use Rattle.path_core.specs.declared.seat.Seat.{Seat}
+use Rattle.path_core.specs.declared.seat.SyncTurn.{SyncTurn}
+use Rattle.path_core.specs.declared.state.Claim.{Claim as ClaimOf}
+use Rattle.path_core.specs.declared.state.PathState.{PathState}
+use Rattle.path_core.specs.Parts.{seat_of, last_marker, marker_of, is_marker, HoldsTurn}
+use Rattle.path_core.specs.Words.{by_of, reading, place_of}
+use Rattle.path_core.specs.Allowed.{IsStep, is_unbarred_marker}
+use Rattle.path_core.specs.SeatAfter.{
+  seat_after,
+  looked,
+  is_finished,
+  keeps,
+  finished_found,
+  marker_barrier,
+}
+use Rattle.path_core.specs.Next.{next_of, gives_file, claim_of, barred_marker}
+use Rattle.path_core.specs.Holders.{ChangesLastMarker}
+use Rattle.path_core.specs.LawfulOrders.{IsOrderly}
+use Rattle.path_core.specs.LawfulSeats.{IsLastMarker}
+use Rattle.path_core.proofs.seats.Columns.{own_after, each_seat}
+use Rattle.path_core.proofs.tables.Marks.{mapped_some}
+use Rattle.path_core.proofs.orders.HeldTurns.{begun_is_held, held_holds}
+
+-- The last marker of a list of claims.
+
+abbrev pub later_marker : Option ClaimOf → ClaimOf → Option ClaimOf
+later_marker o c = cond (is_marker c) (Some c) o
+
+-- barriers that are given to markers
+last_mapped : (f : ClaimOf → ClaimOf) → ((c : ClaimOf) → is_marker (f c) ≡ is_marker c)
+    → (cs : List ClaimOf) (o : Option ClaimOf)
+    → fold later_marker (option_map f o) (map f cs) ≡ option_map f (fold later_marker o cs)
+last_mapped f same [] o = refl
+last_mapped f same (c ∷ cs) o =
+    ap (λ p. fold later_marker p (map f cs)) (choose (is_marker c) (same c))
+    ∙ last_mapped f same cs (later_marker o c)
+  where
+    choose : (b : Bool) → is_marker (f c) ≡ b
+        → cond (is_marker (f c)) (Some (f c)) (option_map f o)
+        ≡ option_map f (cond b (Some c) o)
+    choose true e = ap (λ (b : Bool). cond b (Some (f c)) (option_map f o)) e
+    choose false e = ap (λ (b : Bool). cond b (Some (f c)) (option_map f o)) e
+
+-- a claim that may get a barrier stays a marker, with its start and its writer
+barred_is_marker : (by g : ℕ) (c : ClaimOf) → is_marker (barred_marker by g c) ≡ is_marker c
+barred_is_marker by g c = choose (is_unbarred_marker by c)
+  where
+    choose : (b : Bool) → is_marker (cond b (record c { barrier = Some g }) c) ≡ is_marker c
+    choose true = refl
+    choose false = refl
+
+barred_writer : (by g : ℕ) (c : ClaimOf) → (barred_marker by g c).by ≡ c.by
+barred_writer by g c = choose (is_unbarred_marker by c)
+  where
+    choose : (b : Bool) → (cond b (record c { barrier = Some g }) c).by ≡ c.by
+    choose true = refl
+    choose false = refl
+
+barred_start : (by g : ℕ) (c : ClaimOf) → (barred_marker by g c).start ≡ c.start
+barred_start by g c = choose (is_unbarred_marker by c)
+  where
+    choose : (b : Bool) → (cond b (record c { barrier = Some g }) c).start ≡ c.start
+    choose true = refl
+    choose false = refl
+
+-- the last marker is one
+pub last_is_marker : (cs : List ClaimOf) (c : ClaimOf) → fold later_marker None cs ≡ Some c
+    → is_marker c ≡ true
+last_is_marker cs c h = found cs None (λ d q. absurd (none-some d q)) c h
+  where
+    found : (cs : List ClaimOf) (o : Option ClaimOf)
+        → ((c : ClaimOf) → o ≡ Some c → is_marker c ≡ true) → (c : ClaimOf)
+        → fold later_marker o cs ≡ Some c → is_marker c ≡ true
+    found [] o known c h = known c h
+    found (d ∷ cs) o known c h = found cs (later_marker o d) (choose (is_marker d) refl) c h
+      where
+        choose : (b : Bool) → is_marker d ≡ b → (c : ClaimOf) → cond b (Some d) o ≡ Some c
+            → is_marker c ≡ true
+        choose true e c q = subst (λ (k : ClaimOf). is_marker k ≡ true) (same_Some d c q) e
+        choose false e c q = known c q
+
+-- none of the seat's markers waits for a barrier after these
+none_waits_now : (by g : ℕ) (cs : List ClaimOf)
+    → list_any (is_unbarred_marker by) (map (barred_marker by g) cs) ≡ false
+none_waits_now by g [] = refl
+none_waits_now by g (c ∷ cs) =
+    ap (λ (b : Bool). b || list_any (is_unbarred_marker by) (map (barred_marker by g) cs))
+    (choose (is_unbarred_marker by c) refl) ∙ none_waits_now by g cs
+  where
+    choose : (b : Bool) → is_unbarred_marker by c ≡ b
+        → is_unbarred_marker by (cond b (record c { barrier = Some g }) c) ≡ false
+    choose true e = and_right (is_marker c && (c.by == by)) false refl
+    choose false e = e
+
+module _ (x : PathState) where
+  -- any other step leaves it
+  pub last_marker_stays : (e : Event) → (ChangesLastMarker e → ⊥)
+      → last_marker (next_of x e) ≡ last_marker x
+  last_marker_stays (Claim by from to Entry) other = fold-append later_marker None x.claims
+      (claim_of x.capacity by from.0 to.0 Entry ∷ [])
+  last_marker_stays (Claim by from to Marker) other = absurd (other tt)
+  last_marker_stays (MoveCurrent by Append group) other = absurd (other tt)
+  last_marker_stays (MoveCurrent by Write group) other = refl
+  last_marker_stays e other = refl
+
+  -- a marker that is claimed is the last one
+  pub last_marker_claimed : (by : ℕ) (from to : Key)
+      → last_marker (next_of x (Claim by from to Marker))
+      ≡ Some (claim_of x.capacity by from.0 to.0 Marker)
+  last_marker_claimed by from to = fold-append later_marker None x.claims
+      (claim_of x.capacity by from.0 to.0 Marker ∷ [])
+
+  -- its barrier is issued
+  pub last_marker_barred : (by group : ℕ) → last_marker (next_of x (MoveCurrent by Append group))
+      ≡ option_map (barred_marker by x.append.current) (last_marker x)
+  last_marker_barred by group = last_mapped (barred_marker by x.append.current)
+      (barred_is_marker by x.append.current) x.claims None
+
+  -- who changes it holds the Sync turn
+  pub changer_holds_sync : (e : Event) → IsStep x e → ChangesLastMarker e
+      → HoldsTurn (seat_of x (by_of e)) Sync
+  changer_holds_sync (Claim by from to Marker) a c = a.row.0
+  changer_holds_sync (Claim by from to Entry) a c = absurd c
+  changer_holds_sync (MoveCurrent by Append group) a c = held_holds (seat_of x by) (Opened Append)
+      (begun_is_held (seat_of x by) (Opened Append)
+      (λ q. let r : Opened Append ≡ Rest = q in cc) a.row.0)
+  changer_holds_sync (MoveCurrent by Write group) a c = absurd c
+  changer_holds_sync e a c = absurd c
+
+  -- so it is left, or its holder changes it
+  pub changes_by_holder : (e : Event) → IsStep x e → (last_marker (next_of x e) ≡ last_marker x)
+      ⊎ (ChangesLastMarker e × HoldsTurn (seat_of x (by_of e)) Sync)
+  changes_by_holder (Claim by from to Marker) a =
+      inr (tt, changer_holds_sync (Claim by from to Marker) a tt)
+  changes_by_holder (Claim by from to Entry) a =
+      inl (last_marker_stays (Claim by from to Entry) (λ b. b))
+  changes_by_holder (MoveCurrent by Append group) a =
+      inr (tt, changer_holds_sync (MoveCurrent by Append group) a tt)
+  changes_by_holder (MoveCurrent by Write group) a = inl refl
+  changes_by_holder e a = inl refl
+
+  -- none of a seat's markers waits for a barrier, where no marker is claimed and none is barred
+  none_waits_stays : (by : ℕ) (e : Event) → (ChangesLastMarker e → ⊥)
+      → list_any (is_unbarred_marker by) x.claims ≡ false
+      → list_any (is_unbarred_marker by) (next_of x e).claims ≡ false
+  none_waits_stays w (Claim by from to Entry) other h = list_any-append (is_unbarred_marker w)
+      x.claims (claim_of x.capacity by from.0 to.0 Entry ∷ [])
+      ∙ ap (λ (b : Bool). b || false) h
+  none_waits_stays w (Claim by from to Marker) other h = absurd (other tt)
+  none_waits_stays w (MoveCurrent by Append group) other h = absurd (other tt)
+  none_waits_stays w (MoveCurrent by Write group) other h = h
+  none_waits_stays w e other h = h
+
+-- a change of the turn that leaves it
+marker_same : (o : Option SyncTurn) (f : SyncTurn → SyncTurn)
+    → ((turn : SyncTurn) → (f turn).marker ≡ turn.marker)
+    → option_and_then (λ (turn : SyncTurn). turn.marker) (option_map f o)
+    ≡ option_and_then (λ (turn : SyncTurn). turn.marker) o
+marker_same None f same = refl
+marker_same (Some turn) f same = same turn
+
+-- a marker that is kept is kept under the turn
+marker_held : (o : Option SyncTurn) (kept : LastMarker)
+    → option_and_then (λ (turn : SyncTurn). turn.marker) o ≡ Some kept → IsSome o
+marker_held None kept h = absurd (none-some kept h)
+marker_held (Some turn) kept h = refl
+
+-- a change of the turn that changes it
+marker_changed : (o : Option SyncTurn) (f : SyncTurn → SyncTurn)
+    (g : Option LastMarker → Option LastMarker)
+    → ((turn : SyncTurn) → (f turn).marker ≡ g turn.marker) → (kept : LastMarker)
+    → option_and_then (λ (turn : SyncTurn). turn.marker) (option_map f o) ≡ Some kept
+    → g (option_and_then (λ (turn : SyncTurn). turn.marker) o) ≡ Some kept
+marker_changed None f g is kept h = absurd (none-some kept h)
+marker_changed (Some turn) f g is kept h = sym (is turn) ∙ h
+
+-- Steps that change what is kept.
+abbrev ChangesKept : Event → Type 0
+ChangesKept (Claim by from to Marker) = Unit {0}
+ChangesKept (MoveCurrent by Append group) = Unit {0}
+ChangesKept (TakeTurn by Sync) = Unit {0}
+ChangesKept (GiveTurn by Sync) = Unit {0}
+ChangesKept _ = ⊥
+
+looks_keep : (s : Seat) (at : Place) (found : Reading) → marker_of (looked s at found) ≡ marker_of s
+looks_keep s (Count Write group) (Operations k) = choose (is_finished k)
+  where
+    choose : (b : Bool) → marker_of (cond b (keeps Write (finished_found group) s) s) ≡ marker_of s
+    choose true = marker_same s.sync _ (λ turn. refl)
+    choose false = refl
+looks_keep s (Count Append group) (Operations k) = choose (is_finished k)
+  where
+    choose : (b : Bool) → marker_of (cond b (keeps Append (finished_found group) s) s) ≡ marker_of s
+    choose true = marker_same s.sync _ (λ turn. refl)
+    choose false = refl
+looks_keep s (Current Write) (Number n) = marker_same s.sync _ (λ turn. refl)
+looks_keep s (Current Append) (Number n) = marker_same s.sync _ (λ turn. refl)
+looks_keep s (Oldest Write) (Number n) = marker_same s.sync _ (λ turn. refl)
+looks_keep s (Oldest Append) (Number n) = marker_same s.sync _ (λ turn. refl)
+looks_keep s Log (Number n) = refl
+looks_keep s (Newest t) (Number n) = refl
+looks_keep s (Bound t m) (Limit b) = refl
+looks_keep s (TurnWord turn) (Operations k) = refl
+looks_keep s (TurnWord turn) (Number n) = refl
+looks_keep s (TurnWord turn) (Limit b) = refl
+looks_keep s (CursorWord Synced) (Number n) = marker_same s.sync _ (λ turn. refl)
+looks_keep s (CursorWord (OldestLive t)) (Number n) = refl
+looks_keep s (CursorWord Stopped) (Number n) = marker_same s.sync _ (λ turn. refl)
+looks_keep s (Count order group) (Number n) = refl
+looks_keep s (Count order group) (Limit b) = refl
+looks_keep s (Current order) (Operations k) = refl
+looks_keep s (Current order) (Limit b) = refl
+looks_keep s (Oldest order) (Operations k) = refl
+looks_keep s (Oldest order) (Limit b) = refl
+looks_keep s at found = refl
+
+-- any other step leaves what is kept
+kept_stays : (e : Event) (s : Seat) (found : Reading) (files : Bool) → (ChangesKept e → ⊥)
+    → marker_of (seat_after s e found files) ≡ marker_of s
+kept_stays (Look by at) s found files other = looks_keep s at found
+kept_stays (Register by Write group) s found files other = refl
+kept_stays (Register by Append group) s found files other = refl
+kept_stays (Close by Append group (Deposit note)) s found files other = refl
+kept_stays (Close by Append group Nothing) s found files other = refl
+kept_stays (Close by Append group (Applied places)) s found files other = refl
+kept_stays (Close by Write group carried) s found files other = refl
+kept_stays (OpenGroup by order group) s found files other = marker_same s.sync _ (λ turn. refl)
+kept_stays (MoveCurrent by Write group) s found files other = marker_same s.sync _ (λ turn. refl)
+kept_stays (MoveCurrent by Append group) s found files other = absurd (other tt)
+kept_stays (Expire by order group) s found files other = marker_same s.sync _ (λ turn. refl)
+kept_stays (Advance by Write group) s found files other = marker_same s.sync _ (λ turn. refl)
+kept_stays (Advance by Append group) s found files other = marker_same s.sync _ (λ turn. refl)
+kept_stays (Claim by from to Entry) s found files other = refl
+kept_stays (Claim by from to Marker) s found files other = absurd (other tt)
+kept_stays (TakeTurn by Sync) s found files other = absurd (other tt)
+kept_stays (TakeTurn by (Flush table)) s found files other = refl
+kept_stays (GiveTurn by Sync) s found files other = absurd (other tt)
+kept_stays (GiveTurn by (Flush table)) s found files other = refl
+kept_stays (Put by Synced value) s found files other = marker_same s.sync _ (λ turn. refl)
+kept_stays (Put by (OldestLive table) value) s found files other =
+    marker_same s.sync _ (λ turn. refl)
+kept_stays (Put by Stopped value) s found files other = marker_same s.sync _ (λ turn. refl)
+kept_stays (Raise by table m to) s (Operations k) files other = refl
+kept_stays (Raise by table m to) s (Number n) files other = refl
+kept_stays (Raise by table m to) s (Limit b) files other = refl
+kept_stays (Finalise by table m) s (Operations k) files other = refl
+kept_stays (Finalise by table m) s (Number n) files other = refl
+kept_stays (Finalise by table m) s (Limit b) files other = refl
+kept_stays (Switch by table m Open) s found files other = refl
+kept_stays (Switch by table m Mark) s found files other = refl
+
+-- What a seat keeps of the last marker is so.
+abbrev pub KeptIs : PathState → ℕ → Option LastMarker → Type 0
+KeptIs x w o = (kept : LastMarker) → o ≡ Some kept → IsLastMarker x w kept
+
+module _ (x : PathState) (O : IsOrderly x) where
+  -- a step that leaves the last marker
+  still_last : (e : Event) → (ChangesLastMarker e → ⊥) → (w : ℕ) (kept : LastMarker)
+      → IsLastMarker x w kept → IsLastMarker (next_of x e) w kept
+  still_last e other w kept K = record {
+    claim = K.claim;
+    last = last_marker_stays x e other ∙ K.last;
+    writer = K.writer;
+    start = K.start;
+    barrier = K.barrier;
+    none_waits = λ g h. none_waits_stays x w e other (K.none_waits g h);
+  }
+
+  -- what is kept, after a step that leaves both
+  quiet_kept : (e : Event) → (ChangesLastMarker e → ⊥) → (ChangesKept e → ⊥)
+      → KeptIs x (by_of e) (marker_of (seat_of x (by_of e)))
+      → KeptIs (next_of x e) (by_of e) (marker_of (own_after x e))
+  quiet_kept e other left K kept h = still_last e other (by_of e) kept (K kept
+      (sym (kept_stays e (seat_of x (by_of e)) (reading x (place_of e)) (gives_file x e) left) ∙ h))
+
+  -- The holder claims a marker.
+  claims : (by : ℕ) (from to : Key)
+      → KeptIs (next_of x (Claim by from to Marker)) by (marker_of (own_after x
+      (Claim by from to Marker)))
+  claims by from to kept h = subst (IsLastMarker (next_of x (Claim by from to Marker)) by)
+      (same_Some _ kept (marker_changed (seat_of x by).sync _ (λ _. Some new) (λ turn. refl) kept h))
+      (record {
+        claim = claim_of x.capacity by from.0 to.0 Marker;
+        last = last_marker_claimed x by from to;
+        writer = refl;
+        start = refl;
+        barrier = refl;
+        none_waits = λ g h. absurd (none-some g h);
+      })
+    where
+      new : LastMarker
+      new = record { start = from.0; barrier = None }
+
+  -- Its barrier is issued.
+  issues_barrier : (by group : ℕ) → KeptIs x by (marker_of (seat_of x by))
+      → KeptIs (next_of x (MoveCurrent by Append group)) by (marker_of (own_after x
+      (MoveCurrent by Append group)))
+  issues_barrier by group K kept h =
+      let was = mapped_some (marker_of (seat_of x by)) (marker_barrier x.append.current) kept
+      (marker_changed (seat_of x by).sync _ (option_map (marker_barrier x.append.current))
+      (λ turn. refl) kept h) in
+      subst (IsLastMarker (next_of x (MoveCurrent by Append group)) by) (sym was.2)
+      (issued was.0 (K was.0 was.1))
+    where
+      before : ℕ
+      before = x.append.current
+
+      same_barrier : (k : LastMarker) (c : ClaimOf) → is_marker c ≡ true → c.by ≡ by
+          → c.barrier ≡ k.barrier → (barred_marker by before c).barrier
+          ≡ (marker_barrier before k).barrier
+      same_barrier k c is own same = choose k.barrier refl
+        where
+          choose : (o : Option ℕ) → k.barrier ≡ o → (barred_marker by before c).barrier
+              ≡ (marker_barrier before k).barrier
+          choose None e =
+              ap (λ (b : Bool). (cond b (record c { barrier = Some before }) c).barrier)
+              (and_from (is_marker c && (c.by == by)) (is_none c.barrier)
+              (and_from (is_marker c) (c.by == by) is (eq-eqb c.by by own))
+              (ap (λ (p : Option ℕ). is_none p) (same ∙ e)))
+              ∙ sym (ap (λ (p : Option ℕ). (cond (is_some p) k (record k {
+                barrier = Some before;
+              })).barrier) e)
+          choose (Some g) e =
+              ap (λ (b : Bool). (cond b (record c { barrier = Some before }) c).barrier)
+              (and_right (is_marker c && (c.by == by)) (is_none c.barrier)
+              (ap (λ (p : Option ℕ). is_none p) (same ∙ e)))
+              ∙ (same ∙ sym (ap (λ (p : Option ℕ). (cond (is_some p) k (record k {
+                barrier = Some before;
+              })).barrier) e))
+
+      same_start : (k : LastMarker) → (marker_barrier before k).start ≡ k.start
+      same_start k = choose (is_some k.barrier)
+        where
+          choose : (b : Bool) → (cond b k (record k { barrier = Some before })).start ≡ k.start
+          choose true = refl
+          choose false = refl
+
+      issued : (k : LastMarker) → IsLastMarker x by k
+          → IsLastMarker (next_of x (MoveCurrent by Append group)) by (marker_barrier before k)
+      issued k L = record {
+        claim = barred_marker by before L.claim;
+        last = last_marker_barred x by group ∙ ap (option_map (barred_marker by before)) L.last;
+        writer = barred_writer by before L.claim ∙ L.writer;
+        start = barred_start by before L.claim ∙ L.start ∙ sym (same_start k);
+        barrier = same_barrier k L.claim (last_is_marker x.claims L.claim L.last) L.writer L.barrier;
+        none_waits = λ g _. none_waits_now by before x.claims;
+      }
+
+  own_kept : (e : Event) → IsStep x e → KeptIs x (by_of e) (marker_of (seat_of x (by_of e)))
+      → KeptIs (next_of x e) (by_of e) (marker_of (own_after x e))
+  own_kept (Claim by from to Marker) a K = claims by from to
+  own_kept (MoveCurrent by Append group) a K = issues_barrier by group K
+  own_kept (TakeTurn by Sync) a K = λ kept h. absurd (none-some kept h)
+  own_kept (GiveTurn by Sync) a K = λ kept h. absurd (none-some kept h)
+  own_kept (Claim by from to Entry) a K = quiet_kept (Claim by from to Entry) (λ b. b) (λ b. b) K
+  own_kept (MoveCurrent by Write group) a K =
+      quiet_kept (MoveCurrent by Write group) (λ b. b) (λ b. b) K
+  own_kept e a K = quiet_kept e (λ b. b) (λ b. b) K
+
+  -- Another seat keeps none while the holder changes it.
+  other_kept : (e : Event) → IsStep x e → (w : ℕ) → w ≢ by_of e
+      → KeptIs x w (marker_of (seat_of x w)) → KeptIs (next_of x e) w (marker_of (seat_of x w))
+  other_kept e a w apart K kept h = still_last e (λ c. apart (O.one_holder_a_turn.one Sync w
+      (by_of e) (marker_held (seat_of x w).sync kept h) (changer_holds_sync x e a c))) w kept
+      (K kept h)
+
+  -- Each step keeps that what holders keep of the last marker is so.
+  pub keeps_markers : ((w : ℕ) → KeptIs x w (marker_of (seat_of x w))) → (e : Event)
+      → IsStep x e → (w : ℕ) → KeptIs (next_of x e) w (marker_of (seat_of (next_of x e) w))
+  keeps_markers K e a w = each_seat x e a.seat
+      (λ v s. KeptIs (next_of x e) v (marker_of s)) (own_kept e a (K (by_of e)))
+      (λ v apart. other_kept e a v apart (K v)) w
+
+-- What is kept under a turn.
+pub kept_from : (x : PathState) (w : ℕ) (o : Option SyncTurn)
+    → ((turn : SyncTurn) → o ≡ Some turn → KeptIs x w turn.marker)
+    → KeptIs x w (option_and_then (λ (turn : SyncTurn). turn.marker) o)
+kept_from x w None known kept h = absurd (none-some kept h)
+kept_from x w (Some turn) known kept h = known turn refl kept h
