@@ -18,17 +18,18 @@ use Rattle.std.specs.List.{Contains}
 use Rattle.std.specs.declared.result.Result.{Result}
 use Rattle.clog_base.specs.declared.fault.OutOfMemory.{OutOfMemory}
 use Rattle.op_core.specs.declared.count.Tally.{Tally}
-use Rattle.op_core.specs.Tallies.{one_more, IsPassed}
+use Rattle.op_core.specs.Tallies.{running_of, one_more, IsPassed}
 use Rattle.path_core.specs.declared.event.Carried.{Carried}
 use Rattle.path_core.specs.declared.event.Carried.TheVariants.{Nothing, Deposit, Applied}
 use Rattle.path_core.specs.declared.event.Event.{Event}
+use Rattle.path_core.specs.declared.event.Event.TheVariants.{Register}
 use Rattle.path_core.specs.declared.path.StepFault.{StepFault}
 use Rattle.path_core.specs.declared.path.StepFault.TheVariants.{NotAllowed, OutOfMemory as NoMemory}
 use Rattle.path_core.specs.declared.state.PathState.{PathState}
 use Rattle.path_core.specs.declared.state.Claim.{Claim}
 use Rattle.path_core.specs.Words.{by_of}
 use Rattle.path_core.specs.Allowed.{IsThere, IsAllowed}
-use Rattle.path_core.specs.Parts.{seat_of, is_marker}
+use Rattle.path_core.specs.Parts.{tally_of, seat_of, is_marker}
 use Rattle.path_core.specs.Next.{
   next_of,
   places_from,
@@ -47,14 +48,21 @@ pub record Names (x : PathState) (e : Event) : Type 0 where
   pub seat : by_of e < length x.seats
   pub is_there : IsThere x e
 
+-- A step that may want memory. To register takes none: that fails only where the count of the group
+-- is at its type's end.
+abbrev pub MayWantMemory : PathState → Event → Type 0
+MayWantMemory x (Register by order group) =
+    running_of (tally_of x order group) ≡ 18446744073709551615
+MayWantMemory x _ = Unit {0}
+
 -- The step was made; for want of memory nothing changed.
 abbrev pub Makes : Result (Unit {0}) OutOfMemory → PathState → PathState → Event → Type 0
 Makes (Ok u) old new e = new ≡ next_of old e
-Makes (Err f) old new e = new ≡ old
+Makes (Err f) old new e = (new ≡ old) × MayWantMemory old e
 
 -- One more operation, unless the number is at its end.
 abbrev pub IsOneMore : Option Tally → Tally → Type 0
-IsOneMore None tally = Unit {0}
+IsOneMore None tally = running_of tally ≡ 18446744073709551615
 IsOneMore (Some more) tally = more ≡ one_more tally
 
 -- A seat's places joined the placed ones; for want of memory nothing changed.
@@ -98,4 +106,4 @@ Drops (Err f) old new = new ≡ old
 abbrev pub StepsTo : Result (Unit {0}) StepFault → PathState → Event → PathState → Type 0
 StepsTo (Ok u) old e new = IsAllowed old e × (new ≡ next_of old e)
 StepsTo (Err NotAllowed) old e new = (IsAllowed old e → ⊥) × (new ≡ old)
-StepsTo (Err NoMemory) old e new = IsAllowed old e × (new ≡ old)
+StepsTo (Err NoMemory) old e new = IsAllowed old e × (new ≡ old) × MayWantMemory old e

@@ -42,23 +42,31 @@ pub enum Place {
     Bound(Table, u64),
     /// 1 while a seat holds the turn, else 0.
     TurnWord(Turn),
+    /// A number that a turn's holder puts.
     CursorWord(Cursor),
 }
 
 /// What stands at a place.
 #[derive(Clone, Copy, Debug, PartialEq, Eq)]
 pub enum Reading {
+    /// The count of a group.
     Operations(Tally),
+    /// A key, a group, a memtable, or a count of faults.
     Number(u64),
+    /// The bound of a memtable.
     Limit(Bound),
 }
 
+/// What a range of the log is claimed for.
 #[derive(Clone, Copy, Debug, PartialEq, Eq)]
 pub enum ClaimKind {
+    /// An entry, by a seat in both orders.
     Entry,
+    /// A marker, by the holder of the Sync turn.
     Marker,
 }
 
+/// Which half of a switch a step makes.
 #[derive(Clone, Copy, Debug, PartialEq, Eq)]
 pub enum SwitchPart {
     /// Makes the new memtable the newest.
@@ -70,6 +78,7 @@ pub enum SwitchPart {
 /// What a seat carries to a group's close.
 #[derive(Drop)]
 pub enum Carried {
+    /// No note and no place.
     Nothing,
     /// The entry that it put into its box.
     Deposit(EntryNote),
@@ -77,75 +86,89 @@ pub enum Carried {
     Applied(Rows<(Table, u64)>),
 }
 
-/// A step of the seat `by`.
+/// A step. `by` is the seat that makes it; groups and memtables are named by their numbers.
 #[derive(Drop)]
 pub enum Event {
+    /// It reads the word at a place.
     Look {
         by: u8,
         at: Place,
     },
+    /// It enters a group of an order.
     Register {
         by: u8,
         order: Order,
         group: u64,
     },
+    /// It leaves a group of an order.
     Close {
         by: u8,
         order: Order,
         group: u64,
         carried: Carried,
     },
+    /// It makes the next group of an order.
     OpenGroup {
         by: u8,
         order: Order,
         group: u64,
     },
+    /// It makes that group the current one; what waits for a barrier gets the one before.
     MoveCurrent {
         by: u8,
         order: Order,
         group: u64,
     },
+    /// It ends registering in the group before the current one.
     Expire {
         by: u8,
         order: Order,
         group: u64,
     },
+    /// It makes the next group the oldest one that is not known to be finished.
     Advance {
         by: u8,
         order: Order,
         group: u64,
     },
+    /// It moves the log key, from the one that stands there to the one behind what it claims.
     Claim {
         by: u8,
         from: Key,
         to: Key,
         what: ClaimKind,
     },
+    /// It makes one half of the switch of a table to a new memtable.
     Switch {
         by: u8,
         table: Table,
         memtable: u64,
         part: SwitchPart,
     },
+    /// It raises the bound of a memtable to a key, where that is greater.
     Raise {
         by: u8,
         table: Table,
         memtable: u64,
         to: Key,
     },
+    /// It makes the bound of a memtable final.
     Finalise {
         by: u8,
         table: Table,
         memtable: u64,
     },
+    /// It takes a turn that nobody holds.
     TakeTurn {
         by: u8,
         turn: Turn,
     },
+    /// It gives a turn back.
     GiveTurn {
         by: u8,
         turn: Turn,
     },
+    /// It puts a number at a cursor.
     Put {
         by: u8,
         cursor: Cursor,

@@ -53,8 +53,8 @@ fn put_tally(groups: &mut OrderGroups, group: u64, tally: Tally)
     requires { group < length groups.old.tallies }
     ensures { groups.new ≡ record groups.old { tallies = set groups.old.tallies group tally } }
 {
-    let rows = &mut groups.tallies;
-    rows.items[group as usize] = tally;
+    let list = &mut groups.tallies;
+    list.items[group as usize] = tally;
 }
 
 pub(crate) fn make_look(state: &mut PathState, by: u8, at: Place)
@@ -113,12 +113,12 @@ pub(crate) fn make_open_group(
 {
     match order {
         Order::Write => {
-            let rows = &mut state.write.tallies;
-            rows.items.push(Tally::Open(0))?;
+            let list = &mut state.write.tallies;
+            list.items.push(Tally::Open(0))?;
         }
         Order::Append => {
-            let rows = &mut state.append.tallies;
-            rows.items.push(Tally::Open(0))?;
+            let list = &mut state.append.tallies;
+            list.items.push(Tally::Open(0))?;
         }
     }
     let seats = &mut state.seats;

@@ -79,8 +79,8 @@ fn bar(memtables: &mut [Memtable], group: u64)
 fn bar_table(table: &mut TableState, group: u64)
     ensures { table.new ≡ record table.old { memtables = map (barred group) table.old.memtables } }
 {
-    let rows = &mut table.memtables;
-    bar(&mut rows.items, group);
+    let list = &mut table.memtables;
+    bar(&mut list.items, group);
 }
 
 fn bar_tables(tables: &mut [TableState], seat: &[SeatTable; 16], group: u64)

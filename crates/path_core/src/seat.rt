@@ -3,10 +3,12 @@
 use crate::state::Bound;
 use op_core::Order;
 
-/// A range of the log, as keys: `start..end`.
+/// A range of the log.
 #[derive(Clone, Copy, Debug, PartialEq, Eq)]
 pub struct Range {
+    /// The key of its first byte.
     pub start: u64,
+    /// The key behind its last byte.
     pub end: u64,
 }
 
@@ -24,7 +26,9 @@ pub enum Issue {
 /// What a seat last found, or put there itself, of the groups of one order.
 #[derive(Clone, Copy, Debug, PartialEq, Eq)]
 pub struct FoundGroups {
+    /// The group in which operations registered.
     pub current: Option<u64>,
+    /// The least group that was not known to be finished.
     pub oldest: Option<u64>,
     /// A group whose count it found finished.
     pub finished: Option<u64>,
@@ -34,10 +38,15 @@ pub struct FoundGroups {
 /// found only where the seat looked at it.
 #[derive(Clone, Copy, Debug, PartialEq, Eq)]
 pub struct Found {
+    /// Of the write order.
     pub write: FoundGroups,
+    /// Of the append order.
     pub append: FoundGroups,
+    /// The key behind the last claim.
     pub log: Option<u64>,
+    /// The key up to which the log was lasting.
     pub synced: Option<u64>,
+    /// The keeper's count of faults, 0 while the log ran.
     pub stopped: Option<u64>,
 }
 
@@ -53,27 +62,35 @@ pub struct LastMarker {
 /// The Sync turn in a seat's hand. What is kept of the words was found or put while it is held.
 #[derive(Clone, Copy, Debug, PartialEq, Eq)]
 pub struct SyncTurn {
+    /// How far it has got with a barrier.
     pub issue: Issue,
     /// Whether it retired a memtable with a file.
     pub filed: bool,
     /// The last marker, where it claimed it while it holds the turn.
     pub marker: Option<LastMarker>,
+    /// What it found of the write order.
     pub write: FoundGroups,
+    /// What it found of the append order.
     pub append: FoundGroups,
+    /// The key up to which the log is lasting.
     pub synced: Option<u64>,
+    /// The keeper's count of faults, 0 while the log runs.
     pub stopped: Option<u64>,
 }
 
 /// A memtable's bound as it was last found, or put there.
 #[derive(Clone, Copy, Debug, PartialEq, Eq)]
 pub struct FoundBound {
+    /// The number of the memtable.
     pub memtable: u64,
+    /// What stood there.
     pub bound: Bound,
 }
 
 /// The memtable that the holder of a Flush turn has marked and not yet made final.
 #[derive(Clone, Copy, Debug, PartialEq, Eq)]
 pub struct Marked {
+    /// The number of the memtable.
     pub memtable: u64,
     /// The log key that it found since.
     pub key: Option<u64>,
@@ -99,9 +116,13 @@ pub enum Switching {
 /// A Flush turn in a seat's hand. What is kept of the words was found or put while it is held.
 #[derive(Clone, Copy, Debug, PartialEq, Eq)]
 pub struct FlushTurn {
+    /// How far it has got with a switch.
     pub stage: Switching,
+    /// The number of the newest memtable.
     pub newest: Option<u64>,
+    /// The number of the least memtable that is not retired.
     pub oldest_live: Option<u64>,
+    /// The bound that it last found or put.
     pub bound: Option<FoundBound>,
 }
 
@@ -114,6 +135,7 @@ pub struct SeatTable {
     pub place: Option<u64>,
     /// The bound that it last found.
     pub bound: Option<FoundBound>,
+    /// The table's Flush turn, while it holds it.
     pub flush: Option<FlushTurn>,
 }
 
@@ -126,9 +148,12 @@ pub struct Seat {
     pub append: Option<u64>,
     /// The range that it claimed for its entry.
     pub claim: Option<Range>,
-    /// The tables of its note, once it is deposited.
+    /// The tables of its note, once it is deposited: bit `t` for table `t`.
     pub note: Option<u16>,
+    /// What it does at each table, by the table's number.
     pub tables: [SeatTable; 16],
+    /// The Sync turn, while it holds it.
     pub sync: Option<SyncTurn>,
+    /// What it last found.
     pub found: Found,
 }

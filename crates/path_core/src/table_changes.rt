@@ -9,9 +9,7 @@ use crate::bound::{finalised, raised};
 use crate::event::SwitchPart;
 use crate::seat::{Marked, Switching};
 use crate::state::{Bound, Memtable, PathState, TableState};
-use crate::table_steps::{
-    bound_found, newest_found, raised_as_holder, raised_as_writer, reaches,
-};
+use crate::table_steps::{bound_found, newest_found, raised_as_holder, raised_as_writer, reaches};
 use clog_base::{Key, OutOfMemory, Table};
 
 pub(crate) const FRESH: Memtable = Memtable {
@@ -35,8 +33,8 @@ fn put_memtable(table: &mut TableState, memtable: u64, changed: Memtable)
     ensures { table.new
         ≡ record table.old { memtables = set table.old.memtables memtable changed } }
 {
-    let rows = &mut table.memtables;
-    rows.items[memtable as usize] = changed;
+    let list = &mut table.memtables;
+    list.items[memtable as usize] = changed;
 }
 
 pub(crate) fn make_open(
@@ -50,8 +48,8 @@ pub(crate) fn make_open(
 {
     let tables = &mut state.tables;
     let switched = &mut tables.items[table.0 as usize];
-    let rows = &mut switched.memtables;
-    rows.items.push(FRESH)?;
+    let list = &mut switched.memtables;
+    list.items.push(FRESH)?;
     switched.newest = memtable;
     let seats = &mut state.seats;
     let seat = &mut seats.items[by as usize];

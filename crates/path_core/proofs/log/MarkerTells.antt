@@ -75,9 +75,11 @@ module _ (x : PathState) (L : IsLawfulPath x) where
   pub wanted_by_marker : (w : ℕ) (kept : LastMarker) → marker_of (seat_of x w) ≡ Some kept
       → WantsBarrier Append x w ↔ (kept.barrier ≡ None)
   wanted_by_marker w kept h =
-      let K = marker_exact w kept h in
-      ((λ wants. unissued K wants kept.barrier refl), (λ none. any_from (is_unbarred_marker w)
-      x.claims K.claim (among w kept K) (waits K none)))
+      let K = marker_exact w kept h in (
+        (λ wants. unissued K wants kept.barrier refl),
+        (λ none. any_from (is_unbarred_marker w)
+            x.claims K.claim (among w kept K) (waits K none)),
+      )
     where
       unissued : IsLastMarker x w kept → WantsBarrier Append x w → (o : Option ℕ)
           → kept.barrier ≡ o → kept.barrier ≡ None

@@ -17,4 +17,4 @@ stays_within x e within = record {
 pub made_within : (r : Result (Unit {0}) OutOfMemory) (old new : PathState) (e : Event)
     → IsWithin old → Makes r old new e → IsWithin new
 made_within (Ok u) old new e within is = subst IsWithin (sym is) (stays_within old e within)
-made_within (Err f) old new e within is = subst IsWithin (sym is) within
+made_within (Err f) old new e within is = subst IsWithin (sym is.0) within

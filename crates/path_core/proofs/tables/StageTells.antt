@@ -242,9 +242,12 @@ module _ (x : PathState) (L : IsLawfulPath x) where
             is_there = there H.table (omega arith);
             held = held (seat_table (seat_of x w) H.table).flush H.waits;
             unbarred = any_from is_unbarred (table_of x H.table).memtables
-                (memtable_of x H.table H.memtable) (H.memtable, inside,
-                sym (get_or_default (table_of x H.table).memtables H.memtable fresh_memtable
-                (memtable_of x H.table H.memtable) inside))
+                (memtable_of x H.table H.memtable) (
+                  H.memtable,
+                  inside,
+                  sym (get_or_default (table_of x H.table).memtables H.memtable fresh_memtable
+                      (memtable_of x H.table H.memtable) inside),
+                )
                 (and_from (is_final (memtable_of x H.table H.memtable).bound)
                 (is_none (memtable_of x H.table H.memtable).barrier)
                 (final_to (memtable_of x H.table H.memtable).bound W.final)

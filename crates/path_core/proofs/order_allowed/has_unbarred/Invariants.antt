@@ -2,7 +2,7 @@ use Rattle.std.proofs.Common.{◌≡◌, ℕ, ◌<◌, ◌&&◌, false, is_some}
 use Rattle.std.specs.List.{list_any}
 use Rattle.path_core.specs.Parts.{seat_table, table_of}
 use Rattle.path_core.specs.Allowed.{is_unbarred}
-use Rattle.path_core.proofs.order_rows.has_unbarred.Given as goal
+use Rattle.path_core.proofs.order_allowed.has_unbarred.Given as goal
 
 abbrev pub invariant-loop-i : goal.invariant-loop-i
 invariant-loop-i l = (k : ℕ) → k < l.i

@@ -4,7 +4,7 @@ use Rattle.path_core.specs.declared.seat.Seat.{Seat}
 use Rattle.path_core.specs.Parts.{seat_table, table_of}
 use Rattle.path_core.specs.Allowed.{is_unbarred}
 use Rattle.path_core.proofs.steps.Asked.{both}
-use Rattle.path_core.proofs.order_rows.has_unbarred.Goals as goal
+use Rattle.path_core.proofs.order_allowed.has_unbarred.Goals as goal
 
 pub returns : goal.returns
 returns c =

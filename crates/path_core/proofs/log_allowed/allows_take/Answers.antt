@@ -1,5 +1,5 @@
 use Rattle.path_core.proofs.steps.Asked.{taken}
-use Rattle.path_core.proofs.log_rows.allows_take.Goals as goal
+use Rattle.path_core.proofs.log_allowed.allows_take.Goals as goal
 
 pub returns-then-is_idle : goal.returns-then-is_idle
 returns-then-is_idle c =

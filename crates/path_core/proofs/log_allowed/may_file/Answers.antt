@@ -1,7 +1,7 @@
 use Rattle.std.proofs.Common.{is_some, ap, sym, ◌∙◌}
 use Rattle.path_core.specs.declared.seat.Seat.{Seat}
 use Rattle.path_core.proofs.steps.Asked.{files_by}
-use Rattle.path_core.proofs.log_rows.may_file.Goals as goal
+use Rattle.path_core.proofs.log_allowed.may_file.Goals as goal
 
 pub returns-in-Final : goal.returns-in-Final
 returns-in-Final c =

@@ -44,7 +44,7 @@ ghost use Rattle.path_core.specs.Words.{IsTurn};
 use crate::event::{ClaimKind, Turn};
 use crate::file_changes::{is_empty, oldest_bound};
 use crate::keys::{is_below_after, moves_log};
-use crate::order_rows::follows;
+use crate::order_allowed::follows;
 use crate::reading::{holds, is_held};
 use crate::seat::{Issue, Seat};
 use crate::seat_asks::{is_idle, issue_of};

@@ -5,7 +5,7 @@ ghost use Rattle.path_core.specs.Parts.{table_of, memtable_of, HoldsTurn};
 ghost use Rattle.path_core.specs.Allowed.{RaisesAsWriter, RaisesAsHolder};
 
 use crate::event::Turn;
-use crate::order_rows::follows;
+use crate::order_allowed::follows;
 use crate::reading::holds;
 use crate::seat::Seat;
 use crate::seat_asks::may_raise;
