@@ -52,7 +52,9 @@ impl Model for Cleans {
     ghost use Rattle.clog_intervals.specs.Union.{AreApart};
 
     ghost view = { λ c. record {
-        intervals = c.intervals.items; room = vec_capacity c.intervals - vec_len c.intervals } };
+      intervals = c.intervals.items;
+      room = vec_capacity c.intervals - vec_len c.intervals;
+    } };
 
     ghost invariant = { λ c. AreApart c.intervals.items };
 }
