@@ -7,3 +7,4 @@ pub mod Issues
 pub mod KeepsOrders
 pub mod NobodyAbove
 pub mod GroupsMove
+pub mod KeepsSwitchHolders

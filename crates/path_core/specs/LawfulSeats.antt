@@ -58,8 +58,8 @@ pub record WordsKnown (x : PathState) (found : Found) : Type 0 where
   pub synced : (key : ℕ) → found.synced ≡ Some key → key ≤ x.synced
   pub stopped : (n : ℕ) → found.stopped ≡ Some n → 0 < n → n ≡ x.stopped
 
--- The last marker of the log is this seat's, and is what it keeps of it. Once its barrier is issued,
--- no marker of the seat waits for one.
+-- The last marker of the log is this seat's, and is what it keeps of it. Once its barrier is
+-- issued, no marker of the seat waits for one.
 pub record IsLastMarker (x : PathState) (by : ℕ) (kept : LastMarker) : Type 0 where
   pub claim : Claim
   pub last : last_marker x ≡ Some claim

@@ -180,7 +180,8 @@ is_entry_in o c = is_entry c && (ordinal_of c.start == o)
 
 -- the last marker of the log, if there is one
 abbrev pub last_marker : PathState → Option Claim
-last_marker x = fold (λ (o : Option Claim) (c : Claim). if is_marker c then Some c else o) None x.claims
+last_marker x =
+    fold (λ (o : Option Claim) (c : Claim). if is_marker c then Some c else o) None x.claims
 
 -- whether a set of tables, bit t for table t, holds a table
 abbrev pub touches : ℕ → ℕ → Bool

@@ -30,7 +30,7 @@ ghost use Rattle.path_core.specs.declared.seat.Switching.{Switching};
 ghost use Rattle.path_core.specs.declared.state.Claim.{Claim};
 ghost use Rattle.path_core.specs.declared.state.PathState.{PathState};
 ghost use Rattle.path_core.specs.declared.state.WrittenFile.{WrittenFile};
-ghost use Rattle.path_core.specs.Keys.{ordinal_of};
+ghost use Rattle.path_core.specs.Keys.{ordinal_of, behind_marker};
 ghost use Rattle.path_core.specs.Parts.{
   touches,
   is_entry,
@@ -48,7 +48,14 @@ ghost use Rattle.path_core.specs.Parts.{
 ghost use Rattle.path_core.specs.Words.{by_of};
 ghost use Rattle.path_core.specs.Whole.{IsWhole};
 ghost use Rattle.path_core.specs.History.{IsHistory};
-ghost use Rattle.path_core.specs.Allowed.{IsAllowed, IsStep, IsSettled, WantsBarrier, IsSyncPoint};
+ghost use Rattle.path_core.specs.Allowed.{
+  IsAllowed,
+  IsStep,
+  IsSettled,
+  WantsBarrier,
+  IsSyncPoint,
+  is_entry_last,
+};
 ghost use Rattle.path_core.specs.Steps.{HasPassedMarker};
 ghost use Rattle.path_core.specs.Runs.{IsOpening, Run, Past};
 ghost use Rattle.path_core.specs.Droppable.{IsDroppable};
@@ -276,9 +283,9 @@ pub fn what_seats_found_stands()
         → SeatKnows y w }
 {}
 
-/// The part of a table's holder says when the table's newest switch is through, and with it when the
-/// turn may be given back: at rest always, between the steps of a switch never, and once its barrier
-/// is issued as soon as that is passed.
+/// The part of a table's holder says when the table's newest switch is through, and with it when
+/// the turn may be given back: at rest always, between the steps of a switch never, and once its
+/// barrier is issued as soon as that is passed.
 pub fn the_stage_tells_when_a_switch_is_through()
     ensures { (x : PathState) (w t : ℕ) (stage : Switching) → IsLawfulPath x
         → stage_of (seat_of x w) t ≡ Some stage
@@ -301,8 +308,8 @@ pub fn the_stages_tell_when_a_barrier_is_wanted()
 {}
 
 /// So seats with equal parts, in whatever lawful states, get the same answers: whether a barrier of
-/// the write order is wanted, and, where the counts of that order are the same, whether a table's
-/// newest switch is through.
+/// the write order is wanted, and, where the words that are read are the same, whether a table's
+/// newest switch is through, and whether its oldest live memtable has a passed barrier.
 pub fn equal_parts_get_equal_answers()
     ensures wanted { (x y : PathState) (v w : ℕ) → IsLawfulPath x → IsLawfulPath y
         → seat_of x v ≡ seat_of y w
@@ -310,6 +317,13 @@ pub fn equal_parts_get_equal_answers()
     ensures through { (x y : PathState) (v w t : ℕ) → IsLawfulPath x → IsLawfulPath y
         → seat_of x v ≡ seat_of y w → x.write.tallies ≡ y.write.tallies
         → IsSome (seat_table (seat_of x v) t).flush → IsSettled x t ↔ IsSettled y t }
+    ensures retire { (x y : PathState) (v w t : ℕ) → IsLawfulPath x → IsLawfulPath y
+        → seat_of x v ≡ seat_of y w → x.write.tallies ≡ y.write.tallies
+        → (table_of x t).newest ≡ (table_of y t).newest
+        → (table_of x t).oldest_live ≡ (table_of y t).oldest_live
+        → IsSome (seat_table (seat_of x v) t).flush
+        → HasPassedBarrier x t (table_of x t).oldest_live
+        ↔ HasPassedBarrier y t (table_of y t).oldest_live }
 {}
 
 /// The last marker changes in two steps alone, the claim of a marker and the move of the append
@@ -333,4 +347,11 @@ pub fn a_passed_marker_may_be_synced()
     ensures { (x : PathState) (w g : ℕ) (kept : LastMarker) → IsLawfulPath x
         → marker_of (seat_of x w) ≡ Some kept → kept.barrier ≡ Some g
         → IsPassed x.append.tallies g → IsSyncPoint x kept.start }
+{}
+
+/// An entry was claimed since the last marker, as the next one wants it, exactly where the log key
+/// is above the one at which the log went on behind that marker.
+pub fn the_log_key_tells_of_entries_since_the_last_marker()
+    ensures { (x : PathState) (c : Claim) → IsLawfulPath x → last_marker x ≡ Some c
+        → IsTrue (is_entry_last x) ↔ (behind_marker x.capacity c.start < x.log) }
 {}

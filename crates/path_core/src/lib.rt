@@ -46,6 +46,7 @@ pub use law::{
     operations_run_in_the_current_group, passed_memtables_hold_their_intervals,
     passed_memtables_rest, retired_memtables_are_filed, runs_are_told_from_their_end,
     synced_is_the_start_of_a_marker, the_last_marker_tells_when_a_barrier_is_wanted,
+    the_log_key_tells_of_entries_since_the_last_marker,
     the_stage_tells_when_a_memtable_may_be_retired, the_stage_tells_when_a_switch_is_through,
     the_stages_tell_when_a_barrier_is_wanted, what_seats_found_stands,
     writes_are_placed_at_most_once,

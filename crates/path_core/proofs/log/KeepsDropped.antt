@@ -132,6 +132,13 @@ droppable_to x o t =
           (kept_in (is_of o t) x.notes a ha ia)) (kept_in (is_of o t) x.notes b hb ib)) low high;
     }
 
+-- the synced key only grows
+pub synced_grows : (x : PathState) (e : Event) → IsStep x e → x.synced ≤ (next_of x e).synced
+synced_grows x (Put by Synced value) a = let l = a.row.2 in omega arith
+synced_grows x (Put by (OldestLive table) value) a = omega arith
+synced_grows x (Put by Stopped value) a = omega arith
+synced_grows x e a = omega arith
+
 module _ (x : PathState) (sized : IsSized x) (T : ClaimsTile x) (O : IsOrderly x)
     (owned : OwnClaims x) (noted : EachClaimNoted x) (notes : NotesAreClaims x)
     (logged : LoggedAreNotes x) where
@@ -161,12 +168,6 @@ module _ (x : PathState) (sized : IsSized x) (T : ClaimsTile x) (O : IsOrderly x
   logged_stays (Put by (OldestLive table) value) p h = h
   logged_stays (Put by Stopped value) p h = h
   logged_stays e p h = h
-
-  synced_grows : (e : Event) → IsStep x e → x.synced ≤ (next_of x e).synced
-  synced_grows (Put by Synced value) a = let l = a.row.2 in omega arith
-  synced_grows (Put by (OldestLive table) value) a = omega arith
-  synced_grows (Put by Stopped value) a = omega arith
-  synced_grows e a = omega arith
 
   pub keeps_logged : (e : Event) → LoggedAreNotes (next_of x e)
   keeps_logged (Put by Synced value) p h = elim (Contains-append_cases x.logged
@@ -259,7 +260,7 @@ module _ (x : PathState) (sized : IsSized x) (T : ClaimsTile x) (O : IsOrderly x
   pub keeps_dropped : DroppedWas x → (e : Event) → IsStep x e → DroppedWas (next_of x e)
   keeps_dropped D e a = record {
     droppable = λ o h. stays_droppable e a o (was e o h);
-    below_synced = λ o h. let g = synced_grows e a in let l = below e o h in higher _ _ g l;
+    below_synced = λ o h. let g = synced_grows x e a in let l = below e o h in higher _ _ g l;
   }
     where
       higher : {o : ℕ} (synced after : ℕ) → synced ≤ after → o < ordinal_of synced

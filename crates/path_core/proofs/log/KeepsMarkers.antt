@@ -355,7 +355,8 @@ module _ (x : PathState) (O : IsOrderly x) where
       → KeptIs (next_of x (Claim by from to Marker)) by (marker_of (own_after x
       (Claim by from to Marker)))
   claims by from to kept h = subst (IsLastMarker (next_of x (Claim by from to Marker)) by)
-      (same_Some _ kept (marker_changed (seat_of x by).sync _ (λ _. Some new) (λ turn. refl) kept h))
+      (same_Some _ kept
+      (marker_changed (seat_of x by).sync _ (λ _. Some new) (λ turn. refl) kept h))
       (record {
         claim = claim_of x.capacity by from.0 to.0 Marker;
         last = last_marker_claimed x by from to;
@@ -419,7 +420,8 @@ module _ (x : PathState) (O : IsOrderly x) where
         last = last_marker_barred x by group ∙ ap (option_map (barred_marker by before)) L.last;
         writer = barred_writer by before L.claim ∙ L.writer;
         start = barred_start by before L.claim ∙ L.start ∙ sym (same_start k);
-        barrier = same_barrier k L.claim (last_is_marker x.claims L.claim L.last) L.writer L.barrier;
+        barrier = same_barrier k L.claim (last_is_marker x.claims L.claim L.last) L.writer
+            L.barrier;
         none_waits = λ g _. none_waits_now by before x.claims;
       }
 

@@ -81,7 +81,13 @@ use Rattle.path_core.specs.Parts.{
 }
 use Rattle.path_core.specs.Allowed.{IsStep}
 use Rattle.std.proofs.lemmas.Bool.{false≢true, and_parts, eqb-true, leb-true, leb-false}
-use Rattle.path_core.proofs.seats.Columns.{each_seat, own_after, at_table_same, at_table_other}
+use Rattle.path_core.proofs.seats.Columns.{
+  each_seat,
+  own_after,
+  at_table_same,
+  at_table_other,
+  seat_fits,
+}
 use Rattle.path_core.specs.Parts.{marked_in, marked_of, touches}
 use Rattle.path_core.specs.Lawful.{IsLawfulLog, IsLawfulCore}
 use Rattle.path_core.specs.LawfulPlaces.{IsAccepted, TriesAbove, TriesAre, PlacesAre}
@@ -338,9 +344,6 @@ module _ (x : PathState) (C : IsLawfulCore x) (P : PlacesAre x) where
           })
 
   -- where the acting seat's part of one table changes
-  seat_fits : (w t : ℕ) → t < length x.tables → t < length (seat_of x w).tables
-  seat_fits w t inside = let l = L.sized.seats w in let f = L.sized.limits.few_tables in omega arith
-
   at_one : (e : Event) → IsStep x e → (u t : ℕ) → u < length x.tables → (f : SeatTable
       → SeatTable)
       → claim_after (own e).claim e ≡ (own e).claim → note_after (own e).note e ≡ (own e).note
@@ -353,7 +356,7 @@ module _ (x : PathState) (C : IsLawfulCore x) (P : PlacesAre x) where
       (λ q. subst (λ k. Tries e k (own e).claim (own e).note (tried_in (seat_table (at_table u f
       (own e)) k)))
       (sym q) (subst (λ st. Tries e u (own e).claim (own e).note (tried_in st))
-      (sym (at_table_same u f (own e) (seat_fits (by_of e) u inside))) (here q)))
+      (sym (at_table_same u f (own e) (seat_fits x L.sized u (by_of e) inside))) (here q)))
       (λ q. subst (λ st. Tries e t (own e).claim (own e).note (tried_in st))
       (sym (at_table_other u t f (own e) q)) (moved e a (by_of e) t)))
 
@@ -372,7 +375,8 @@ module _ (x : PathState) (C : IsLawfulCore x) (P : PlacesAre x) where
       holds h = some_flush (seat_table (seat_of x by) table.0).flush h
         where
           some_flush : {k : Marked} (o : Option FlushTurn)
-              → option_and_then (λ (turn : FlushTurn). marked_in turn.stage) o ≡ Some k → is_some o ≡ true
+              → option_and_then (λ (turn : FlushTurn). marked_in turn.stage) o ≡ Some k
+              → is_some o ≡ true
           some_flush {k} None e = absurd (none-some k e)
           some_flush (Some turn) e = refl
 

@@ -136,11 +136,13 @@ tries_same (Switch by table memtable Open) s found files u other = at_table_keep
     (λ (st : SeatTable). reaches (Begun memtable)
     (in_flush (λ (turn : FlushTurn). record turn { newest = Some memtable }) st)) s tried_in refl
 tries_same (Switch by table memtable Mark) s found files u other = at_table_keeps table.0 u
-    (λ (st : SeatTable). reaches (MarkedStage (record { memtable = memtable; key = None; raised = false }))
+    (λ (st : SeatTable). reaches
+    (MarkedStage (record { memtable = memtable; key = None; raised = false }))
     (bound_found memtable (Raising (record { 0 = 0 })) st)) s tried_in refl
 tries_same (Raise by table memtable to) s found files u other = absurd (other tt)
 tries_same (Finalise by table memtable) s (Limit b) files u other = at_table_keeps table.0 u
-    (λ (st : SeatTable). reaches (Waiting memtable) (bound_found memtable (made_final b) st)) s tried_in refl
+    (λ (st : SeatTable). reaches (Waiting memtable) (bound_found memtable (made_final b) st)) s
+    tried_in refl
 tries_same (TakeTurn by Sync) s found files u other = refl
 tries_same (TakeTurn by (Flush table)) s found files u other = at_table_keeps table.0 u
     (λ (st : SeatTable). record st { flush = Some new_flush }) s tried_in refl

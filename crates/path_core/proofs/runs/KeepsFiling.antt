@@ -15,7 +15,12 @@ use Rattle.path_core.specs.LawfulPlaces.{PlacedOnce, RunningAreUnplaced}
 use Rattle.path_core.specs.LawfulTables.{LastFiles, FilesBegin, RetiredAreFiled}
 use Rattle.path_core.proofs.files.KeepsLast.{keeps_last, keeps_begin}
 use Rattle.path_core.proofs.files.KeepsRetired.{keeps_retired}
-use Rattle.path_core.proofs.places.KeepsOnce.{keeps_unplaced, keeps_one, placed_once, closed_is_placed}
+use Rattle.path_core.proofs.places.KeepsOnce.{
+  keeps_unplaced,
+  keeps_one,
+  placed_once,
+  closed_is_placed,
+}
 use Rattle.path_core.proofs.files.FilesTrue.{files_true}
 use Rattle.path_core.proofs.runs.KeepsPlacing.{keeps_placing, opening_placing, fresh_tables}
 

@@ -20,16 +20,17 @@ use Rattle.path_core.specs.LawfulLog.{LoggedIsSynced, SyncedIsMarker}
 use Rattle.path_core.specs.LawfulOrders.{SwitchesHeld}
 use Rattle.path_core.specs.LawfulSeats.{SeatKnows, StageIs}
 use Rattle.path_core.specs.LawfulTables.{BarriersBelow, LaterGroupsAbove}
+use Rattle.path_core.proofs.seats.Columns.{untouched_there}
 use Rattle.path_core.proofs.runs.KeepsPlacing.{
   at_first,
-  untouched_there,
   fresh_tables,
   fresh_at,
   keeps_placing,
   opening_placing,
 }
 use Rattle.path_core.proofs.tables.KeepsBarriers.{keeps_barriers}
-use Rattle.path_core.proofs.orders.GroupsMove.{groups_move, keeps_switches_held}
+use Rattle.path_core.proofs.orders.GroupsMove.{groups_move}
+use Rattle.path_core.proofs.orders.KeepsSwitchHolders.{keeps_switches_held}
 use Rattle.path_core.proofs.log.KeepsSynced.{keeps_later_groups, keeps_synced}
 use Rattle.path_core.proofs.log.KeepsMarkers.{KeptIs}
 use Rattle.path_core.proofs.log.KeepsLogged.{keeps_logged_synced}

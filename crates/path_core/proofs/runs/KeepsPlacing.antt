@@ -63,6 +63,7 @@ use Rattle.path_core.specs.Next.{next_of}
 use Rattle.path_core.specs.Runs.{opening, first_group}
 use Rattle.path_core.specs.Lawful.{IsLawfulLog, IsLawfulCore, IsLawfulPlacing}
 use Rattle.path_core.specs.LawfulPlaces.{TriesAre, PlacesAre}
+use Rattle.path_core.proofs.seats.Columns.{untouched_there, fresh_holds_none}
 use Rattle.path_core.proofs.places.KeepsPlaces.{keeps_places}
 use Rattle.path_core.specs.LawfulTables.{MemtablesAre, SwitchesAre}
 use Rattle.path_core.specs.Keys.{first_offset}
@@ -149,18 +150,6 @@ at_first n P fresh w = subst P (sym (fresh_there n w)) fresh
 at_each : (n : ℕ) (P : ℕ → Seat → Type 0) → ((w : ℕ) → P w fresh_seat) → (w : ℕ)
     → P w (seat_in (replicate n fresh_seat) w)
 at_each n P fresh w = subst (P w) (sym (fresh_there n w)) (fresh w)
-
-pub untouched_there : (t : ℕ) → seat_table fresh_seat t ≡ untouched
-untouched_there t = by 16 t
-  where
-    by : (n t : ℕ) → get_or (replicate n untouched) t untouched ≡ untouched
-    by zero t = refl
-    by (suc n) zero = refl
-    by (suc n) (suc t) = by n t
-
-fresh_holds_none : (turn : Turn) → holds_turn fresh_seat turn ≡ false
-fresh_holds_none Sync = refl
-fresh_holds_none (Flush t) = ap (λ (st : SeatTable). is_some st.flush) (untouched_there t.0)
 
 counts_at_first : (n : ℕ) (o : Order) → ((w g : ℕ) → group_in o (seat_in (replicate n fresh_seat) w)
     ≡ Some g → ⊥) → CountsOf Rest o first_group (replicate n fresh_seat)

@@ -3,6 +3,8 @@ use Rattle.std.proofs.Common.{
   ◌≡◌,
   ◌≢◌,
   ℕ,
+  zero,
+  suc,
   ◌<◌,
   ◌==◌,
   Bool,
@@ -12,10 +14,12 @@ use Rattle.std.proofs.Common.{
   List,
   length,
   get_or,
+  replicate,
   Option,
   Some,
   None,
   is_some,
+  refl,
   sym,
   ap,
   ◌∙◌,
@@ -42,6 +46,7 @@ use Rattle.path_core.specs.declared.event.Event.TheVariants.{
   TakeTurn,
   GiveTurn,
 }
+use Rattle.path_core.specs.declared.event.Turn.{Turn}
 use Rattle.path_core.specs.declared.event.Turn.TheVariants.{Sync, Flush}
 use Rattle.path_core.specs.declared.seat.Issue.{Issue}
 use Rattle.path_core.specs.declared.seat.Issue.TheVariants.{Rest, Opened, Moved}
@@ -51,10 +56,11 @@ use Rattle.path_core.specs.declared.seat.SeatTable.{SeatTable}
 use Rattle.path_core.specs.declared.seat.SyncTurn.{SyncTurn}
 use Rattle.path_core.specs.declared.state.PathState.{PathState}
 use Rattle.path_core.specs.Keys.{claim_start}
-use Rattle.path_core.specs.Parts.{fresh_seat, untouched, seat_of, seat_table}
+use Rattle.path_core.specs.Parts.{fresh_seat, untouched, seat_of, seat_table, holds_turn}
 use Rattle.path_core.specs.Words.{reading, by_of, place_of}
 use Rattle.path_core.specs.SeatAfter.{seat_after, at_table}
 use Rattle.path_core.specs.Next.{next_of, gives_file}
+use Rattle.path_core.specs.Lawful.{IsSized}
 use Rattle.path_core.proofs.lists.Replaced.{put_at}
 
 -- the acting seat's part after its step
@@ -153,3 +159,23 @@ at_table_keeps {A} t u f s read same = dite (ℕ_discrete u t)
     (λ past. ap (λ (ts : List SeatTable). read (get_or ts u untouched))
     (set_past s.tables t (f (seat_table s t)) (omega arith))))
     (λ n. ap read (at_table_other t u f s n))
+
+-- a table that there is is one of each seat's
+pub seat_fits : (x : PathState) → IsSized x → (t w : ℕ) → t < length x.tables
+    → t < length (seat_of x w).tables
+seat_fits x sized t w inside =
+    let long = sized.seats w in let few = sized.limits.few_tables in omega arith
+
+-- A fresh seat did nothing at any table, and holds no turn.
+
+pub untouched_there : (t : ℕ) → seat_table fresh_seat t ≡ untouched
+untouched_there t = by 16 t
+  where
+    by : (n t : ℕ) → get_or (replicate n untouched) t untouched ≡ untouched
+    by zero t = refl
+    by (suc n) zero = refl
+    by (suc n) (suc t) = by n t
+
+pub fresh_holds_none : (turn : Turn) → holds_turn fresh_seat turn ≡ false
+fresh_holds_none Sync = refl
+fresh_holds_none (Flush t) = ap (λ (st : SeatTable). is_some st.flush) (untouched_there t.0)

@@ -115,7 +115,13 @@ use Rattle.path_core.specs.LawfulOrders.{SwitchesHeld}
 use Rattle.path_core.specs.LawfulTables.{SwitchesAre}
 use Rattle.path_core.specs.LawfulSeats.{SeatKnows, StageIs}
 use Rattle.path_core.proofs.lists.Replaced.{put_at}
-use Rattle.path_core.proofs.seats.Columns.{each_seat, own_after, at_table_same, at_table_other}
+use Rattle.path_core.proofs.seats.Columns.{
+  each_seat,
+  own_after,
+  at_table_same,
+  at_table_other,
+  seat_fits,
+}
 use Rattle.path_core.proofs.tables.WithBarriers.{barred_at}
 use Rattle.path_core.proofs.log.KeepsMarkers.{KeptIs, keeps_markers, kept_from}
 use Rattle.path_core.proofs.tables.KeepsStages.{keeps_stages, staged_from, stage_is}
@@ -150,7 +156,7 @@ use Rattle.path_core.proofs.seats.KnownMoves.{
 module _ (x : PathState) (L : IsLawfulLog x) where
   -- A step's table is one of the seat's.
   fits : (t w : ℕ) → t < length x.tables → t < length (seat_of x w).tables
-  fits t w inside = let long = L.sized.seats w in let few = L.sized.limits.few_tables in omega arith
+  fits t w inside = seat_fits x L.sized t w inside
 
   -- what a seat knows of each table
   abbrev Knows : Seat → Type 0

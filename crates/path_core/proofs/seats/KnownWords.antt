@@ -54,6 +54,7 @@ use Rattle.path_core.specs.LawfulOrders.{IsOrderly}
 use Rattle.path_core.specs.LawfulSeats.{GroupsKnown, GroupsExact, WordsKnown}
 use Rattle.path_core.proofs.orders.HeldTurns.{begun_is_held, held_holds}
 use Rattle.path_core.proofs.orders.GroupsMove.{groups_move}
+use Rattle.path_core.proofs.log.KeepsDropped.{synced_grows}
 use Rattle.path_core.proofs.log.KeepsSynced.{grows}
 
 -- What the holder of the Sync turn found or put is exact.
@@ -157,13 +158,6 @@ module _ (x : PathState) (L : IsLawfulLog x) where
     finished = λ g h. M.finished g (K.finished g h);
   }
 
-  -- the synced key only grows
-  synced_stays : (e : Event) → IsStep x e → x.synced ≤ (next_of x e).synced
-  synced_stays (Put by Synced value) a = let l = a.row.2 in omega arith
-  synced_stays (Put by (OldestLive table) value) a = omega arith
-  synced_stays (Put by Stopped value) a = omega arith
-  synced_stays e a = omega arith
-
   -- a stopped log stays stopped, with the same number
   stopped_stays : (e : Event) → IsStep x e → 0 < x.stopped → x.stopped ≡ (next_of x e).stopped
   stopped_stays (Put by Synced value) a some = refl
@@ -178,7 +172,7 @@ module _ (x : PathState) (L : IsLawfulLog x) where
     write = groups_stay Write e a f.write K.write;
     append = groups_stay Append e a f.append K.append;
     log = λ key h. let l = K.log key h in let g = grows x L e a in omega arith;
-    synced = λ key h. let l = K.synced key h in let g = synced_stays e a in omega arith;
+    synced = λ key h. let l = K.synced key h in let g = synced_grows x e a in omega arith;
     stopped = λ n h some. let is = K.stopped n h some in is ∙ stopped_stays e a (omega arith);
   }
 

@@ -447,7 +447,8 @@ columns (Switch by table memtable Open) s found files fits =
     refl refl refl refl refl (λ t. refl)
 columns (Switch by table memtable Mark) s found files fits =
     columns_left (Switch by table memtable Mark) s _ (leaves_at_table table.0
-    (λ (st : SeatTable). reaches (MarkedStage (record { memtable = memtable; key = None; raised = false }))
+    (λ (st : SeatTable). reaches
+    (MarkedStage (record { memtable = memtable; key = None; raised = false }))
     (bound_found memtable (Raising (record { 0 = 0 })) st)) s
     (still_some _ _ ∙ still_some (seat_table s table.0).flush _))
     refl refl refl refl refl (λ t. refl)

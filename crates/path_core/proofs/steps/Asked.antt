@@ -57,6 +57,7 @@ use Rattle.path_core.specs.Parts.{
   IsIdle,
 }
 use Rattle.path_core.specs.Allowed.{RaisesAsWriter, MayFile}
+use Rattle.path_core.proofs.seats.Columns.{fresh_holds_none}
 
 -- a set of sixteen tables holds none above
 pub touched_below : (n t : ℕ) → n < 65536 → touches n t ≡ true → t < 16
@@ -112,15 +113,6 @@ pub passes_none : {A : Type 0} (p : A → Bool) (xs : List A) (d : A)
 passes_none p [] d each = refl
 passes_none p (x ∷ xs) d each =
     ap (λ b. b || list_any p xs) (each zero) ∙ passes_none p xs d (λ w. each (suc w))
-
-untouched_there : (n t : ℕ) → get_or (replicate n untouched) t untouched ≡ untouched
-untouched_there zero t = refl
-untouched_there (suc n) zero = refl
-untouched_there (suc n) (suc t) = untouched_there n t
-
-fresh_holds_none : (turn : Turn) → holds_turn fresh_seat turn ≡ false
-fresh_holds_none Sync = refl
-fresh_holds_none (Flush t) = ap (λ (s : SeatTable). is_some s.flush) (untouched_there 16 t.0)
 
 pub taken : (x : PathState) (s : Seat) (turn : Turn) (held : Bool) → IsIdle s
     → held ≡ list_any (λ (q : Seat). holds_turn q turn) x.seats

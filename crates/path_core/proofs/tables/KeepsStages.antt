@@ -113,13 +113,26 @@ use Rattle.path_core.specs.SeatAfter.{
   reaches,
   new_flush,
 }
-use Rattle.path_core.specs.Next.{next_of, gives_file, with_memtable, with_bound, barred, barred_tables}
+use Rattle.path_core.specs.Next.{
+  next_of,
+  gives_file,
+  with_memtable,
+  with_bound,
+  barred,
+  barred_tables,
+}
 use Rattle.path_core.specs.Lawful.{IsLawfulCore}
 use Rattle.path_core.specs.LawfulOrders.{SwitchesHeld}
 use Rattle.path_core.specs.LawfulTables.{MarkedIsRaising, SwitchesAre}
 use Rattle.path_core.specs.LawfulSeats.{IsBegun, IsWaiting, HasBarrier, StageIs}
 use Rattle.path_core.proofs.lists.Replaced.{put_at, default_put}
-use Rattle.path_core.proofs.seats.Columns.{own_after, each_seat, at_table_same, at_table_other}
+use Rattle.path_core.proofs.seats.Columns.{
+  own_after,
+  each_seat,
+  at_table_same,
+  at_table_other,
+  seat_fits,
+}
 use Rattle.path_core.proofs.tables.WithBarriers.{
   barred_table,
   bound_barred,
@@ -127,7 +140,7 @@ use Rattle.path_core.proofs.tables.WithBarriers.{
   memtable_barred,
 }
 use Rattle.path_core.proofs.tables.Marks.{ChangesStage, stage_at, stage_same, stages_left}
-use Rattle.path_core.proofs.orders.GroupsMove.{settled_stays}
+use Rattle.path_core.proofs.orders.KeepsSwitchHolders.{settled_stays}
 use Rattle.path_core.proofs.seats.KnownMoves.{marked_held, opened_same}
 
 -- A table whose turn the seat holds gets the barriers, and another one does not.
@@ -257,10 +270,6 @@ staged_held None stage e = absurd (none-some stage e)
 staged_held (Some turn) stage e = refl
 
 module _ (x : PathState) (C : IsLawfulCore x) where
-  fits : (t w : ℕ) → t < length x.tables → t < length (seat_of x w).tables
-  fits t w inside = let long = C.log.sized.seats w in
-      let few = C.log.sized.limits.few_tables in omega arith
-
   -- where a table stands, so does the stage of its switch
   stage_stands : (e : Event) → IsStep x e → (t : ℕ)
       → TableStands (table_of x t) (table_of (next_of x e) t) → (stage : Switching)
@@ -344,7 +353,8 @@ module _ (x : PathState) (C : IsLawfulCore x) where
       (dite (ℕ_discrete t u)
       (λ q. subst (λ k. Staged (next_of x e) k (stage_of (at_table u f (seat_of x (by_of e))) k))
       (sym q) (subst (Staged (next_of x e) u) (sym (ap stage_at
-      (at_table_same u f (seat_of x (by_of e)) (fits u (by_of e) inside)))) here))
+      (at_table_same u f (seat_of x (by_of e)) (seat_fits x C.log.sized u (by_of e) inside))))
+      here))
       (λ n. subst (Staged (next_of x e) t) (sym (ap stage_at
       (at_table_other u t f (seat_of x (by_of e)) n)))
       (λ stage h. stage_stands e a t (subst (TableStands (table_of x t)) (sym (others t n))

@@ -111,7 +111,13 @@ use Rattle.path_core.specs.LawfulOrders.{IsOrderly}
 use Rattle.path_core.specs.LawfulTables.{MemtablesAre, MarkedIsRaising, SwitchesAre}
 use Rattle.std.proofs.lemmas.Bool.{false≢true}
 use Rattle.path_core.proofs.lists.Replaced.{put_at}
-use Rattle.path_core.proofs.seats.Columns.{each_seat, own_after, at_table_same, at_table_other}
+use Rattle.path_core.proofs.seats.Columns.{
+  each_seat,
+  own_after,
+  at_table_same,
+  at_table_other,
+  seat_fits,
+}
 use Rattle.path_core.proofs.log.ClaimEnds.{ends_below}
 use Rattle.path_core.proofs.log.KeepsDropped.{log_grows}
 use Rattle.path_core.proofs.tables.WithBarriers.{barred_at}
@@ -223,7 +229,8 @@ module _ (x : PathState) (sized : IsSized x) (T : ClaimsTile x) (O : IsOrderly x
       → is_some (seat_table (seat_of x w) t).flush ≡ true
   marked_holds w t k h = by (seat_table (seat_of x w) t).flush h
     where
-      by : (o : Option FlushTurn) → option_and_then (λ (turn : FlushTurn). marked_in turn.stage) o ≡ Some k
+      by : (o : Option FlushTurn)
+          → option_and_then (λ (turn : FlushTurn). marked_in turn.stage) o ≡ Some k
           → is_some o ≡ true
       by None e = absurd (none-some k e)
       by (Some turn) e = refl
@@ -237,14 +244,11 @@ module _ (x : PathState) (sized : IsSized x) (T : ClaimsTile x) (O : IsOrderly x
       ∙ get_or-set_same x.tables t new fresh_table inside)) (here e))
       (λ n. subst P (sym (get_or-set_other x.tables t u new fresh_table n)) (other n))
 
-  seat_fits : (w t : ℕ) → t < length x.tables → t < length (seat_of x w).tables
-  seat_fits w t inside = let l = sized.seats w in let f = sized.limits.few_tables in omega arith
-
   -- what the acting seat has marked, where its part of one table changes
   own_at : (w t u : ℕ) (f : SeatTable → SeatTable) → t < length x.tables → u ≡ t
       → marked_of (at_table t f (seat_of x w)) u ≡ marked_at (f (seat_table (seat_of x w) t))
   own_at w t u f inside e = ap (marked_of (at_table t f (seat_of x w))) e
-      ∙ ap marked_at (at_table_same t f (seat_of x w) (seat_fits w t inside))
+      ∙ ap marked_at (at_table_same t f (seat_of x w) (seat_fits x sized t w inside))
 
   own_other : (w t u : ℕ) (f : SeatTable → SeatTable) → u ≢ t
       → marked_of (at_table t f (seat_of x w)) u ≡ marked_of (seat_of x w) u
@@ -290,12 +294,14 @@ module _ (x : PathState) (sized : IsSized x) (T : ClaimsTile x) (O : IsOrderly x
       (λ k h. at_table_set table.0 _ a.is_there.0 t (λ tb. MarkedIsRaising x.log tb k)
       (λ e. subst (λ j. MarkedIsRaising x.log
       (with_memtable (table_of x table.0) m marked_memtable) j)
-      (same_Some (new_mark m) k (marks_new (bound_found m (Raising (record { 0 = 0 })) (seat_table (seat_of x by) table.0))
+      (same_Some (new_mark m) k (marks_new
+      (bound_found m (Raising (record { 0 = 0 })) (seat_table (seat_of x by) table.0))
       (MarkedStage (new_mark m)) k
       (sym (own_at by table.0 t (λ (st : SeatTable). reaches (MarkedStage (new_mark m))
       (bound_found m (Raising (record { 0 = 0 })) st)) a.is_there.0 e) ∙ h)))
       (new_is_raising table.0 m a.row.1))
-      (λ n. W.marked by t k (sym (own_other by table.0 t (λ (st : SeatTable). reaches (MarkedStage (new_mark m))
+      (λ n. W.marked by t k (sym (own_other by table.0 t (λ (st : SeatTable).
+      reaches (MarkedStage (new_mark m))
       (bound_found m (Raising (record { 0 = 0 })) st)) n) ∙ h)))
       (λ w _ k h. at_table_set table.0 _ a.is_there.0 t (λ tb. MarkedIsRaising x.log tb k)
       (λ e. absurd (not_raising k (subst (λ u. MarkedIsRaising x.log (table_of x u) k) e
@@ -354,7 +360,8 @@ module _ (x : PathState) (sized : IsSized x) (T : ClaimsTile x) (O : IsOrderly x
   opens by table m a t = each_seat x (Switch by table m Open) a.seat
       (λ _ s. Marks (Switch by table m Open) t s)
       (λ k h. at_table_set table.0 _ a.is_there t (λ tb. MarkedIsRaising x.log tb k)
-      (λ e. absurd (none-some k (marks_new (in_flush (λ (turn : FlushTurn). record turn { newest = Some m })
+      (λ e. absurd (none-some k (marks_new
+      (in_flush (λ (turn : FlushTurn). record turn { newest = Some m })
       (seat_table (seat_of x by) table.0)) (Begun m) k
       (sym (own_at by table.0 t (λ (st : SeatTable). reaches (Begun m)
       (in_flush (λ (turn : FlushTurn). record turn { newest = Some m }) st)) a.is_there e) ∙ h))))
@@ -374,7 +381,8 @@ module _ (x : PathState) (sized : IsSized x) (T : ClaimsTile x) (O : IsOrderly x
   finalises by table m a t = each_seat x (Finalise by table m) a.seat
       (λ _ s. Marks (Finalise by table m) t s)
       (λ k h. at_table_set table.0 _ a.is_there.0 t (λ tb. MarkedIsRaising x.log tb k)
-      (λ e. absurd (none-some k (marks_new (bound_found m (made_final (memtable_of x table.0 m).bound)
+      (λ e. absurd (none-some k (marks_new
+      (bound_found m (made_final (memtable_of x table.0 m).bound)
       (seat_table (seat_of x by) table.0)) (Waiting m) k
       (sym (own_at by table.0 t (λ (st : SeatTable). reaches (Waiting m)
       (bound_found m (made_final (memtable_of x table.0 m).bound) st)) a.is_there.0 e) ∙ h))))

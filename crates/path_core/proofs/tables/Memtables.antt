@@ -48,7 +48,12 @@ use Rattle.path_core.specs.Next.{with_memtable, with_bound, barred}
 use Rattle.path_core.specs.History.{bound_below}
 use Rattle.path_core.specs.LawfulTables.{BoundsRise, MarkInRange, MemtablesAre}
 use Rattle.path_core.proofs.lists.Replaced.{put_at, default_put}
-use Rattle.path_core.proofs.tables.WithBarriers.{barred_table, memtable_barred, bound_barred, mark_barred}
+use Rattle.path_core.proofs.tables.WithBarriers.{
+  barred_table,
+  memtable_barred,
+  bound_barred,
+  mark_barred,
+}
 
 -- a bound is of one kind
 

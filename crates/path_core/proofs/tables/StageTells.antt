@@ -1,5 +1,5 @@
--- What the stage of a switch tells its holder: when the turn may be given back, when the oldest live
--- memtable may be retired, and when a barrier is wanted.
+-- What the stage of a switch tells its holder: when the turn may be given back, when the oldest
+-- live memtable may be retired, and when a barrier is wanted.
 use Rattle.std.proofs.Common.{
   ◌≡◌,
   ℕ,
@@ -287,4 +287,26 @@ equal_through x y v w t L M same tallies held =
     (subst (λ (s : Seat). stage_of s t ≡ Some stage.0) same stage.1) in (
       (λ h. there.1 (subst (λ ts. IsThrough ts stage.0) tallies (here.0 h))),
       (λ h. here.1 (subst (λ ts. IsThrough ts stage.0) (sym tallies) (there.0 h))),
+    )
+
+pub equal_retires : (x y : PathState) (v w t : ℕ) → IsLawfulPath x → IsLawfulPath y
+    → seat_of x v ≡ seat_of y w → x.write.tallies ≡ y.write.tallies
+    → (table_of x t).newest ≡ (table_of y t).newest
+    → (table_of x t).oldest_live ≡ (table_of y t).oldest_live
+    → IsSome (seat_table (seat_of x v) t).flush
+    → HasPassedBarrier x t (table_of x t).oldest_live
+    ↔ HasPassedBarrier y t (table_of y t).oldest_live
+equal_retires x y v w t L M same tallies newest oldest held =
+    let stage = held_stage (seat_table (seat_of x v) t).flush held in
+    let here = retires_by_stage x L v t stage.0 stage.1 in
+    let there = retires_by_stage y M w t stage.0
+    (subst (λ (s : Seat). stage_of s t ≡ Some stage.0) same stage.1) in (
+      (λ h. there.1 (let may = here.0 h in record {
+        below_newest = sym (ap suc oldest) ∙ (may.below_newest ∙ newest);
+        through = subst (λ ts. IsThrough ts stage.0) tallies may.through;
+      })),
+      (λ h. here.1 (let may = there.0 h in record {
+        below_newest = ap suc oldest ∙ (may.below_newest ∙ sym newest);
+        through = subst (λ ts. IsThrough ts stage.0) (sym tallies) may.through;
+      })),
     )

@@ -1,6 +1,10 @@
 use Rattle.std.proofs.Common.{◌≡◌, ◌<◌, ◌≤◌, length, take, sym, ap, ◌∙◌, arith}
 use Rattle.path_core.specs.Next.{barred_tables}
-use Rattle.path_core.proofs.steps.BarriersPut.{barred_tables-skip, barred_tables-set, barred_tables-take}
+use Rattle.path_core.proofs.steps.BarriersPut.{
+  barred_tables-skip,
+  barred_tables-set,
+  barred_tables-take,
+}
 use Rattle.path_core.proofs.move_changes.bar_tables.Goals as goal
 use Rattle.path_core.proofs.move_changes.bar_tables.Goals.{then-is_some, else-is_some}
 
