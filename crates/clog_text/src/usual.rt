@@ -182,7 +182,10 @@ fn updates(alloc: Global, reader: &mut Reader<'_>) -> Option<Updates>
     ensures some { IfSome result (λ xs. 1 ≤ length xs) }
     ensures few { IfSome result (λ xs. length xs ≤ 65535) }
 {
-    let mut updates = Vec::new(alloc);
+    // Most lines have one update, and a vector that grows by itself begins with room for four.
+    let Ok(mut updates) = Vec::with_capacity(alloc, 1) else {
+        return None;
+    };
     'updates: while updates.len() < 65_535 {
         match reader.next() {
             Some(Token::BeginObject) => match updates.push(update(alloc, reader)?) {

@@ -16,7 +16,7 @@ updates-preserved c =
     let taken = l.invariant.taken in
     let x = c.in_ok-update-in-Some-BeginObject.field-0 in
     let more = c.in_ok-update-in-Some-BeginObject.ensures.update in
-    let pushed = c.in-Ok.ensures.items in
+    let pushed = c.in-Ok-push.ensures.items in
     let brace : l.reader ≡ begin_object ∷ c.next.new.self =
     c.in-Some-BeginObject.ensures.value
     ∙ ap (λ t. token_of t ∷ c.next.new.self) c.in-Some-BeginObject.field-0-is in
