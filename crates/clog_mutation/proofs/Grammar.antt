@@ -22,12 +22,13 @@ use Rattle.clog_mutation.specs.Refusals.{one_byte, same_bytes, IsByte, IsShortNu
 use Rattle.clog_mutation.specs.Refusals.{HasLength, IsShort, LengthIsRefused, TextIsRefused}
 use Rattle.clog_mutation.specs.Refusals.{CountIsRefused, TableIsRefused, TagIsRefused}
 use Rattle.clog_mutation.specs.Refusals.{NameIsRefused, LiveIsRefused, IsLength, IsCount, IsTable}
-use Rattle.clog_mutation.specs.Refusals.{IsTag, ValueIsRefused, CellIsRefused, ts_bytes}
+use Rattle.clog_mutation.specs.Payload.{timestamp_bytes}
+use Rattle.clog_mutation.specs.Refusals.{IsTag, ValueIsRefused, CellIsRefused}
 use Rattle.clog_mutation.specs.Refusals.{IsTimestamp}
 use Rattle.clog_mutation.specs.Reading.{value_at, tagged_cell, cell_at, field_at, both_of}
 use Rattle.clog_mutation.specs.Reading.{number_at, first_byte, byte_at, length_at, count_at}
 use Rattle.clog_mutation.specs.Reading.{table_at, tag_at, text_at, ts_at, second, name_at, live_at}
-use Rattle.clog_mutation.proofs.Texts.{utf8_passes, utf8_from_test}
+use Rattle.clog_fields.proofs.Texts.{utf8_passes, utf8_from_test}
 use Rattle.clog_mutation.proofs.Readers.{IsBytes, IsReader, field_reader, bytes_reader}
 use Rattle.clog_mutation.proofs.Readers.{checked_reader, mapped_reader, both_reader}
 
@@ -211,11 +212,11 @@ unsigned_fits : (ts : ℤ) → IsTimestamp ts → cast_unsigned w64 ts < 2 ^ 64
 unsigned_fits (pos n) h = omega (arith, h)
 unsigned_fits (negsuc n) h = omega arith
 
-pub ts_reader : (end : ℕ) → IsReader (ts_at end) ts_bytes IsTimestamp (IsShort end 8)
+pub ts_reader : (end : ℕ) → IsReader (ts_at end) timestamp_bytes IsTimestamp (IsShort end 8)
 unfolding ts_at
 ts_reader end =
     mapped_reader (number_at w64 end) (to_be_bytes w64) (λ n. n < 2 ^ 64) (IsShort end 8)
-    (cast_signed w64) (cast_unsigned w64) ts_bytes IsTimestamp
+    (cast_signed w64) (cast_unsigned w64) timestamp_bytes IsTimestamp
     (number_reader w64 (2 ^ 64) wide64 end)
     (λ n h. ap (to_be_bytes w64) (of_z-to_z w64 n h)) (λ n h. signed_fits n h)
     (λ ts h. unsigned_fits ts h) (λ ts h. to_z-of_z w64 ts h)

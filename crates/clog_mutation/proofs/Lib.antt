@@ -1,5 +1,4 @@
 pub mod Pieces
-pub mod Texts
 pub mod Readers
 pub mod Loop
 pub mod Grammar

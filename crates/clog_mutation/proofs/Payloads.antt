@@ -18,7 +18,8 @@ use Rattle.clog_mutation.specs.declared.mutation.Mutation.{Mutation}
 use Rattle.clog_mutation.specs.Payload.{short_text, update_bytes, payload_of}
 use Rattle.clog_mutation.specs.Stored.{IsNameText, IsStoredUpdate, IsStored, IsPayload}
 use Rattle.clog_mutation.specs.Refusals.{place, Refusing, Either, IsRefusedBehind, IsShort}
-use Rattle.clog_mutation.specs.Refusals.{one_byte, ts_bytes, IsTable, IsTimestamp, IsCount}
+use Rattle.clog_mutation.specs.Payload.{timestamp_bytes}
+use Rattle.clog_mutation.specs.Refusals.{one_byte, IsTable, IsTimestamp, IsCount}
 use Rattle.clog_mutation.specs.Refusals.{TableIsRefused, NameIsRefused, CountIsRefused}
 use Rattle.clog_mutation.specs.Refusals.{CellIsRefused, UpdateIsRefused, UpdatesAreRefused}
 use Rattle.clog_mutation.specs.Refusals.{MutationIsRefused, IsTrailing, IsRefused}
@@ -34,19 +35,19 @@ abbrev Cells : Type 0
 Cells = Kind × List ℕ
 
 abbrev spell_ts : ℤ × Cells → List ℕ
-spell_ts x = ts_bytes x.0 ++ cell_bytes x.1
+spell_ts x = timestamp_bytes x.0 ++ cell_bytes x.1
 
 abbrev good_ts : ℤ × Cells → Type 0
 good_ts x = IsTimestamp x.0 × IsCell x.1
 
 abbrev refuses_ts : ℕ → Refusing
 refuses_ts end =
-    Either (IsShort end 8) (IsRefusedBehind ts_bytes IsTimestamp (λ ts. CellIsRefused end))
+    Either (IsShort end 8) (IsRefusedBehind timestamp_bytes IsTimestamp (λ ts. CellIsRefused end))
 
 from_ts : (end : ℕ)
     → IsReader (both_of (ts_at end) (λ ts. cell_at end)) spell_ts good_ts (refuses_ts end)
 from_ts end =
-    both_reader (ts_at end) ts_bytes IsTimestamp (IsShort end 8)
+    both_reader (ts_at end) timestamp_bytes IsTimestamp (IsShort end 8)
     (λ ts. cell_at end) (λ ts. cell_bytes) (λ ts. IsCell) (λ ts. CellIsRefused end) (ts_reader end)
     (λ ts h. cell_reader end)
 
@@ -97,7 +98,7 @@ regroup a b c d = simp append_assoc
 
 update_spelled : (x : Whole) → good_table x → update_bytes (update_of x) ≡ spell_table x
 update_spelled x h =
-    regroup (one_byte x.0) (short_text x.1.0) (ts_bytes x.1.1.0) (cell_bytes x.1.1.1)
+    regroup (one_byte x.0) (short_text x.1.0) (timestamp_bytes x.1.1.0) (cell_bytes x.1.1.1)
 
 update_good : (x : Whole) → good_table x → IsStoredUpdate (update_of x)
 update_good x h = record {

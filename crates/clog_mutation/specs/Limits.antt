@@ -1,23 +1,13 @@
 -- How large a mutation may be. Lengths are in bytes.
-use Rattle.std.specs.Prelude.{◌≡◌, ℕ, List, [], length, ◌≤◌, ◌<◌}
+pub use Rattle.clog_fields.specs.Limits.{IsNameLength, IsValueOf}
+use Rattle.std.specs.Prelude.{length, ◌≤◌, ◌<◌}
 use Rattle.std.specs.List.{AllByRecursion}
-use Rattle.clog_base.specs.declared.cell.Kind.{Kind}
-use Rattle.clog_base.specs.declared.cell.Kind.TheVariants.{Deletion, Live}
+use Rattle.clog_spec.specs.Sizes.{most_tables}
 use Rattle.clog_mutation.specs.declared.mutation.Update.{Update}
 use Rattle.clog_mutation.specs.declared.mutation.Mutation.{Mutation}
 
--- the length of a key or a column
-pub record IsNameLength (n : ℕ) : Type 0 where
-  pub some : 1 ≤ n
-  pub few : n ≤ 255
-
--- a deletion has no value
-abbrev pub IsValueOf : Kind → List ℕ → Type 0
-IsValueOf Deletion value = value ≡ []
-IsValueOf Live value = Unit {0}
-
 pub record UpdateIsWithinLimits (u : Update) : Type 0 where
-  pub table : u.table.0 < 16
+  pub table : u.table.0 < most_tables
   pub column : IsNameLength (length u.column)
   pub value : IsValueOf u.cell.kind u.cell.value
 

@@ -1,27 +1,17 @@
 -- What a mutation says, and the bytes of its payload. Numbers are big endian.
+pub use Rattle.clog_fields.specs.Fields.{short_text, timestamp_bytes, tagged}
 use Rattle.std.specs.Prelude.{ℕ, List, [], ◌∷◌, ◌++◌, length, map}
 use Rattle.std.specs.List.{flat_map}
-use Rattle.std.specs.Int.{w16, w32, w64, to_be_bytes, cast_unsigned}
-use Rattle.clog_base.specs.declared.cell.Kind.{Kind}
-use Rattle.clog_base.specs.declared.cell.Kind.TheVariants.{Deletion, Live}
+use Rattle.std.specs.Int.{w16, to_be_bytes}
 use Rattle.clog_base.specs.declared.cell.Cell.{Cell}
 use Rattle.clog_base.specs.declared.cell.CellKey.{CellKey}
 use Rattle.clog_mutation.specs.declared.mutation.Update.{Update}
 use Rattle.clog_mutation.specs.declared.mutation.Mutation.{Mutation}
 
--- a length in two bytes, and as many bytes
-abbrev pub short_text : List ℕ → List ℕ
-short_text text = to_be_bytes w16 (length text) ++ text
-
--- a tag, and behind a 1 the value with its length in four bytes
-abbrev pub tagged : Kind → List ℕ → List ℕ
-tagged Deletion value = 0 ∷ []
-tagged Live value = 1 ∷ (to_be_bytes w32 (length value) ++ value)
-
 abbrev pub update_bytes : Update → List ℕ
 update_bytes u =
     (u.table.0 ∷ []) ++ short_text u.column
-    ++ to_be_bytes w64 (cast_unsigned w64 u.cell.ts) ++ tagged u.cell.kind u.cell.value
+    ++ timestamp_bytes u.cell.ts ++ tagged u.cell.kind u.cell.value
 
 -- the payload of a mutation
 abbrev pub payload_of : Mutation → List ℕ

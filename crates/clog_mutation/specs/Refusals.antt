@@ -4,7 +4,7 @@ use Rattle.std.specs.Prelude.{◌≡◌, ℕ, ◌-◌, ◌<◌, ◌^◌, List, [
 use Rattle.std.specs.Prelude.{Bool, true, false, nat_lt, ◌&&◌, zero, suc}
 use Rattle.std.specs.Str.{is_utf8}
 use Rattle.std.specs.List.{flat_map, AllByRecursion}
-use Rattle.std.specs.Int.{w16, w32, w64, to_be_bytes, cast_unsigned}
+use Rattle.std.specs.Int.{w16, w32, w64, to_be_bytes}
 use Rattle.std.specs.Prelude.{ℤ, FitsSigned, Result, Ok, Err, ⊤}
 use Rattle.clog_base.specs.declared.fault.PayloadFault.{PayloadFault}
 use Rattle.clog_base.specs.declared.fault.PayloadFault.TheVariants.{Short, BadTag, Count, NotUtf8}
@@ -12,7 +12,7 @@ use Rattle.clog_base.specs.declared.fault.PayloadFault.TheVariants.{Trailing, Na
 use Rattle.clog_base.specs.declared.fault.PayloadFault.TheVariants.{OutOfMemory}
 use Rattle.clog_mutation.specs.declared.mutation.Update.{Update}
 use Rattle.clog_mutation.specs.declared.mutation.Mutation.{Mutation}
-use Rattle.clog_mutation.specs.Payload.{short_text, update_bytes, payload_of}
+use Rattle.clog_mutation.specs.Payload.{short_text, timestamp_bytes, update_bytes, payload_of}
 use Rattle.clog_mutation.specs.Stored.{IsNameText, IsStoredUpdate, IsStored, IsPayload}
 
 -- the offset of what is left of so many bytes
@@ -71,9 +71,6 @@ IsLongNumber n = n < 2 ^ 32
 
 abbrev pub HasLength : ℕ → List ℕ → Type 0
 HasLength n text = length text ≡ n
-
-abbrev pub ts_bytes : ℤ → List ℕ
-ts_bytes ts = to_be_bytes w64 (cast_unsigned w64 ts)
 
 abbrev pub is_name_length : ℕ → Bool
 is_name_length n = nat_lt 0 n && nat_lt n 256
@@ -150,7 +147,7 @@ abbrev pub UpdateIsRefused : ℕ → Refusing
 UpdateIsRefused end =
     Either (TableIsRefused end) (IsRefusedBehind one_byte IsTable (λ table.
     Either (NameIsRefused end) (IsRefusedBehind short_text IsNameText (λ column.
-    Either (IsShort end 8) (IsRefusedBehind ts_bytes IsTimestamp (λ ts. CellIsRefused end))))))
+    Either (IsShort end 8) (IsRefusedBehind timestamp_bytes IsTimestamp (λ ts. CellIsRefused end))))))
 
 -- of n updates some are well formed, and the next is refused
 pub record UpdatesAreRefused (end n : ℕ) (bytes : List ℕ) (fault : PayloadFault) : Type 0 where

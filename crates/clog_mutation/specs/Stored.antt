@@ -1,30 +1,15 @@
 -- The mutations that have a payload, and the bytes that are one.
-use Rattle.std.specs.Prelude.{◌≡◌, ℕ, List, [], length, ◌≤◌, ◌<◌, ◌^◌, IsUtf8, FitsSigned}
+pub use Rattle.clog_fields.specs.Limits.{IsNameText, IsValueText, IsStoredValue}
+use Rattle.std.specs.Prelude.{◌≡◌, ℕ, List, length, ◌≤◌, ◌<◌, FitsSigned}
 use Rattle.std.specs.Int.{w64}
 use Rattle.std.specs.List.{AllByRecursion}
-use Rattle.clog_base.specs.declared.cell.Kind.{Kind}
-use Rattle.clog_base.specs.declared.cell.Kind.TheVariants.{Deletion, Live}
+use Rattle.clog_spec.specs.Sizes.{most_tables}
 use Rattle.clog_mutation.specs.declared.mutation.Update.{Update}
 use Rattle.clog_mutation.specs.declared.mutation.Mutation.{Mutation}
-use Rattle.clog_mutation.specs.Limits.{IsNameLength}
 use Rattle.clog_mutation.specs.Payload.{payload_of}
 
--- a key or a column
-pub record IsNameText (text : List ℕ) : Type 0 where
-  pub size : IsNameLength (length text)
-  pub utf8 : IsUtf8 text
-
--- a live value, whose length fits four bytes
-pub record IsValueText (text : List ℕ) : Type 0 where
-  pub size : length text < 2 ^ 32
-  pub utf8 : IsUtf8 text
-
-abbrev pub IsStoredValue : Kind → List ℕ → Type 0
-IsStoredValue Deletion value = value ≡ []
-IsStoredValue Live value = IsValueText value
-
 pub record IsStoredUpdate (u : Update) : Type 0 where
-  pub table : u.table.0 < 16
+  pub table : u.table.0 < most_tables
   pub column : IsNameText u.column
   pub ts : FitsSigned w64 u.cell.ts
   pub value : IsStoredValue u.cell.kind u.cell.value

@@ -119,7 +119,7 @@ fn tag(end: usize, bytes: &[u8]) -> Result<(u8, &[u8]), PayloadFault>
     Ok((tag, rest))
 }
 
-#[tactic(auto, using(crate::proofs::Texts::utf8_tests), unfolding(crate::specs::Reading::text_at))]
+#[tactic(auto, using(clog_fields::proofs::Texts::utf8_tests), unfolding(crate::specs::Reading::text_at))]
 fn text(alloc: Global, end: usize, size: usize, bytes: &[u8]) -> Result<(Text, &[u8]), PayloadFault>
     ensures { Gives (λ x. (x.0, x.1.now)) result (text_at end size bytes.now) }
 {

@@ -1,61 +1,23 @@
 //! The bytes of a mutation's payload: its size, computed first, and the writing.
-ghost use Rattle.std.specs.Prelude.{◌≡◌, ◌≤◌, ◌<◌, ◌^◌, ◌+◌, ◌++◌, length, OnOk, IfOk, IsUtf8};
+ghost use Rattle.std.specs.Prelude.{◌≡◌, ◌≤◌, ◌<◌, ◌^◌, ◌+◌, ◌++◌, length, OnOk, IfOk};
 ghost use Rattle.std.specs.List.{flat_map, AllByRecursion};
 ghost use Rattle.clog_mutation.specs.Limits.{
-  IsNameLength,
-  IsValueOf,
   IsWithinLimits,
   UpdateIsWithinLimits,
 };
 ghost use Rattle.clog_mutation.specs.Stored.{
-  IsNameText,
-  IsStoredValue,
   IsStoredUpdate,
   IsStored,
   IsPayload,
 };
-ghost use Rattle.clog_mutation.specs.Payload.{short_text, tagged, update_bytes, payload_of};
+ghost use Rattle.clog_mutation.specs.Payload.{update_bytes, payload_of};
 
 use crate::mutation::{Mutation, Update};
-use clog_base::{Kind, OutOfMemory, Text};
-use std::alloc::{AllocError, Global};
+use clog_base::OutOfMemory;
+use clog_fields::{put_name, put_timestamp, put_value, value_size};
+use std::alloc::Global;
 
-#[inline]
-fn bytes_of(text: &Text) -> &[u8]
-    ensures bytes { result.now ≡ text.now }
-    ensures utf8 { IsUtf8 text.now }
-{
-    text.as_str().as_bytes()
-}
-
-#[inline]
-fn put_name(out: &mut Vec<u8>, name: &Text) -> Result<(), AllocError>
-    requires { IsNameLength (length name.now) }
-    ensures bytes { OnOk result (out.new.items ≡ out.old.items ++ short_text name.now) }
-    ensures stored { OnOk result (IsNameText name.now) }
-{
-    out.extend_from_slice(&(name.len() as u16).to_be_bytes())?;
-    out.extend_from_slice(bytes_of(name))
-}
-
-#[inline]
-fn put_value(out: &mut Vec<u8>, kind: Kind, value: &Text) -> Result<(), AllocError>
-    requires limits { IsValueOf kind value.now }
-    requires size { length (tagged kind value.now) < 2 ^ 32 }
-    ensures bytes { OnOk result (out.new.items ≡ out.old.items ++ tagged kind value.now) }
-    ensures stored { OnOk result (IsStoredValue kind value.now) }
-{
-    match kind {
-        Kind::Deletion => Ok(out.push(0)?),
-        Kind::Live => {
-            out.push(1)?;
-            out.extend_from_slice(&(value.len() as u32).to_be_bytes())?;
-            out.extend_from_slice(bytes_of(value))
-        }
-    }
-}
-
-fn put_update(out: &mut Vec<u8>, update: &Update) -> Result<(), AllocError>
+fn put_update(out: &mut Vec<u8>, update: &Update) -> Result<(), OutOfMemory>
     requires limits { UpdateIsWithinLimits update.now }
     requires size { length (update_bytes update.now) < 2 ^ 32 }
     ensures bytes { OnOk result (out.new.items ≡ out.old.items ++ update_bytes update.now) }
@@ -63,11 +25,11 @@ fn put_update(out: &mut Vec<u8>, update: &Update) -> Result<(), AllocError>
 {
     out.push(update.table.0)?;
     put_name(out, &update.column)?;
-    out.extend_from_slice(&update.cell.ts.to_be_bytes())?;
+    put_timestamp(out, update.cell.ts)?;
     put_value(out, update.cell.kind, &update.cell.value)
 }
 
-fn put_updates(out: &mut Vec<u8>, updates: &[Update]) -> Result<(), AllocError>
+fn put_updates(out: &mut Vec<u8>, updates: &[Update]) -> Result<(), OutOfMemory>
     requires limits { AllByRecursion UpdateIsWithinLimits updates.now }
     requires size { length (flat_map update_bytes updates.now) < 2 ^ 32 }
     ensures bytes { OnOk result
@@ -92,7 +54,7 @@ pub fn put_mutation(out: &mut Vec<u8>, mutation: &Mutation) -> Result<(), OutOfM
     put_name(out, &mutation.key)?;
     let updates = mutation.updates.as_slice();
     out.extend_from_slice(&(updates.len() as u16).to_be_bytes())?;
-    Ok(put_updates(out, updates)?)
+    put_updates(out, updates)
 }
 
 /// The payload of a mutation, in one piece of memory that is taken at the start.
@@ -106,17 +68,6 @@ pub fn encode(alloc: Global, mutation: &Mutation) -> Result<Vec<u8>, OutOfMemory
     let mut out = Vec::with_capacity(alloc, payload_size(mutation) as usize)?;
     put_mutation(&mut out, mutation)?;
     Ok(out)
-}
-
-#[inline]
-fn value_size(kind: Kind, value: &Text) -> u128
-    ensures exact { result ≡ length (tagged kind value.now) }
-    ensures bound { result < 2 ^ 65 }
-{
-    match kind {
-        Kind::Deletion => 1,
-        Kind::Live => 5 + value.len() as u128,
-    }
 }
 
 #[inline]

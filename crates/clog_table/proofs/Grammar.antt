@@ -79,7 +79,7 @@ use Rattle.clog_table.specs.Reading.{
   tagged_at,
   cell_at,
 }
-use Rattle.clog_table.proofs.Texts.{utf8_passes, utf8_from_test, nothing_is_text}
+use Rattle.clog_fields.proofs.Texts.{utf8_passes, utf8_from_test, nothing_is_text}
 use Rattle.clog_table.proofs.Numbers.{cons_fits}
 use Rattle.clog_table.proofs.Readers.{
   IsReader,

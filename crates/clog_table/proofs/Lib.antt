@@ -7,4 +7,4 @@ pub mod Keys
 pub mod Numbers
 pub mod Pieces
 pub mod Readers
-pub mod Texts
+mod Written

@@ -1,30 +1,21 @@
 -- The bytes of a table file of version 1. Numbers are big endian.
+pub use Rattle.clog_fields.specs.Fields.{short_text, timestamp_bytes, tagged}
 use Rattle.std.specs.Prelude.{ℕ, List, [], ◌∷◌, ◌++◌, length}
 use Rattle.std.specs.List.{flat_map}
-use Rattle.std.specs.Int.{w16, w32, w64, to_be_bytes, cast_unsigned}
+use Rattle.std.specs.Int.{w32, w64, to_be_bytes}
 use Rattle.clog_spec.specs.Crc.{crc32_of}
 use Rattle.clog_base.specs.declared.position.Position.{Position}
-use Rattle.clog_base.specs.declared.cell.Kind.{Kind}
-use Rattle.clog_base.specs.declared.cell.Kind.TheVariants.{Deletion, Live}
 use Rattle.clog_base.specs.declared.cell.Cell.{Cell}
 use Rattle.clog_base.specs.declared.cell.CellKey.{CellKey}
+use Rattle.clog_base.specs.declared.cell.Table.{Table}
 use Rattle.clog_table.specs.declared.head.Head.{Head}
 use Rattle.clog_table.specs.declared.table_file.TableFile.{TableFile}
-
--- a length in two bytes, and as many bytes
-abbrev pub short_text : List ℕ → List ℕ
-short_text text = to_be_bytes w16 (length text) ++ text
-
--- a tag, and behind a 1 the value with its length in four bytes
-abbrev pub tagged : Kind → List ℕ → List ℕ
-tagged Deletion value = 0 ∷ []
-tagged Live value = 1 ∷ (to_be_bytes w32 (length value) ++ value)
 
 -- key, column, timestamp and value; the table stands in the head
 abbrev pub cell_bytes : CellKey × Cell → List ℕ
 cell_bytes pair =
     short_text pair.0.key ++ short_text pair.0.column
-    ++ to_be_bytes w64 (cast_unsigned w64 pair.1.ts) ++ tagged pair.1.kind pair.1.value
+    ++ timestamp_bytes pair.1.ts ++ tagged pair.1.kind pair.1.value
 
 -- the cells, one behind the other
 abbrev pub cells_bytes : List (CellKey × Cell) → List ℕ
@@ -54,6 +45,15 @@ head_of file = record {
   lower = file.lower;
   upper = file.upper;
   count = length file.cells;
+}
+
+-- the file of these parts
+abbrev pub file_of : Table → Position → Position → List (CellKey × Cell) → TableFile
+file_of table lower upper cells = record {
+  table = table;
+  lower = lower;
+  upper = upper;
+  cells = cells;
 }
 
 -- the head, the cells and the check of the cells

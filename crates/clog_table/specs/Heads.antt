@@ -2,6 +2,7 @@
 use Rattle.std.specs.Prelude.{◌≡◌, ◌≢◌, ℕ, ◌<◌, ◌≤◌, ◌^◌, List, length, take, drop, slice_index}
 use Rattle.std.specs.Prelude.{Result, Ok, Err}
 use Rattle.std.specs.Int.{w32, w64, to_be_bytes, from_be_bytes}
+use Rattle.clog_spec.specs.Sizes.{most_tables}
 use Rattle.clog_base.specs.declared.position.Position.{Position}
 use Rattle.clog_base.specs.declared.cell.Table.{Table}
 use Rattle.clog_table.specs.declared.head.Head.{Head}
@@ -36,7 +37,7 @@ pub record BeginsWithHead (bytes : List ℕ) (head : Head) : Type 0 where
 -- the bytes begin with the head of a file of this table, which is below 16
 pub record HasHead (table : Table) (bytes : List ℕ) (head : Head) : Type 0 where
   pub begins : BeginsWithHead bytes head
-  pub known : head.table.0 < 16
+  pub known : head.table.0 < most_tables
   pub same_table : head.table ≡ table
   pub interval : IsUpTo head.lower head.upper
 
@@ -66,7 +67,7 @@ pub record HasOtherTable (table : Table) (bytes : List ℕ) : Type 0 where
 pub record HasOtherInterval (table : Table) (bytes : List ℕ) : Type 0 where
   pub head : Head
   pub begins : BeginsWithHead bytes head
-  pub known : head.table.0 < 16
+  pub known : head.table.0 < most_tables
   pub same_table : head.table ≡ table
   pub disordered : ¬ IsUpTo head.lower head.upper
 

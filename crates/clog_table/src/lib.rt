@@ -16,7 +16,7 @@ pub use decoding::decode;
 pub use fault::TableFault;
 pub use fault_text::FaultText;
 pub use table_file::TableFile;
-pub use writing::encode;
+pub use writing::{encode, encode_parts};
 
 #[cfg(test)]
 mod tests;

@@ -95,7 +95,7 @@ fn tag(bytes: &[u8]) -> Result<(u8, &[u8]), Malformed>
     Ok((tag, rest))
 }
 
-#[tactic(auto, using(crate::proofs::Texts::utf8_passes, crate::proofs::Texts::utf8_fails), unfolding(crate::specs::Reading::text_at))]
+#[tactic(auto, using(clog_fields::proofs::Texts::utf8_tests), unfolding(crate::specs::Reading::text_at))]
 fn text(size: usize, bytes: &[u8]) -> Result<(&str, &[u8]), Malformed>
     ensures { Gives (λ x. (x.0.now, x.1.now)) result (text_at size bytes.now) }
 {

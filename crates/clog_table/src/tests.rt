@@ -47,6 +47,14 @@ const TURNED: [u8; 58] = [
     0x00, 0x00, 0x00, 0x00, 0x05, 0x00, 0x58, 0x4f, 0x3f, 0xb8,
 ];
 
+// The interval (1000, 60) to (1000, 60), whose ends are equal.
+const EMPTY: [u8; 58] = [
+    0x00, 0x00, 0x00, 0x01, 0x00, 0x00, 0x00, 0x00, 0x00, 0x00, 0x00, 0x03, 0xe8, 0x00, 0x00, 0x00,
+    0x3c, 0x00, 0x00, 0x00, 0x00, 0x00, 0x00, 0x03, 0xe8, 0x00, 0x00, 0x00, 0x3c, 0x00, 0x00, 0x00,
+    0x01, 0xde, 0xe9, 0xb6, 0x0e, 0x00, 0x02, 0x61, 0x62, 0x00, 0x02, 0x63, 0x64, 0x00, 0x00, 0x00,
+    0x00, 0x00, 0x00, 0x00, 0x05, 0x00, 0x58, 0x4f, 0x3f, 0xb8,
+];
+
 // The first one, of table 200.
 const ABOVE: [u8; 58] = [
     0x00, 0x00, 0x00, 0x01, 0xc8, 0x00, 0x00, 0x00, 0x00, 0x00, 0x00, 0x03, 0xe8, 0x00, 0x00, 0x00,
@@ -69,6 +77,8 @@ fn what_is_decoded_is_encoded_as_it_was(rt: HostRuntime) -> Result<(), Fail> {
     let alloc = rt.alloc();
     let example = written_again(alloc, &EXAMPLE, 0)?;
     assert_eq!(rt; example.as_slice(), EXAMPLE.as_slice());
+    let empty = written_again(alloc, &EMPTY, 0)?;
+    assert_eq!(rt; empty.as_slice(), EMPTY.as_slice());
     let live = written_again(alloc, &LIVE, 0)?;
     assert_eq!(rt; live.as_slice(), LIVE.as_slice());
     let three = written_again(alloc, &THREE, 2)?;
@@ -149,6 +159,27 @@ fn damage_is_named_by_the_rules_of_the_format(rt: HostRuntime) -> Result<(), Fai
         Some(TableFault::Order(54))
     );
     assert_eq!(rt; fault_of(alloc, &TURNED, 0), Some(TableFault::Interval));
+    Ok(())
+}
+
+// Of two faults the one that comes first in the order of the rules is named.
+#[test]
+fn of_two_faults_the_first_is_named(rt: HostRuntime) -> Result<(), Fail> {
+    let alloc = rt.alloc();
+    // Another table, and a turned interval.
+    assert_eq!(rt; fault_of(alloc, &TURNED, 1), Some(TableFault::Table));
+    // Cells out of order, and a wrong check.
+    let mut disordered = DISORDERED;
+    disordered[74] ^= 1;
+    assert_eq!(rt;
+        fault_of(alloc, &disordered, 0),
+        Some(TableFault::Order(54))
+    );
+    // A wrong check, and a byte behind it.
+    let mut longer = EXAMPLE.to_vec(alloc)?;
+    longer[57] ^= 1;
+    longer.push(0)?;
+    assert_eq!(rt; fault_of(alloc, &longer, 0), Some(TableFault::CellsCheck));
     Ok(())
 }
 

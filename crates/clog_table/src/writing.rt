@@ -1,59 +1,44 @@
-//! Writing a table file.
+//! Writing a table file. What is written is the one spelling of a file that can be read back.
 ghost use Rattle.std.specs.Prelude.{◌≡◌, ◌++◌, OnOk, IfOk};
 ghost use Rattle.std.specs.List.{AllByRecursion};
+ghost use Rattle.clog_base.specs.declared.cell.Table.{Table as Table_of};
 ghost use Rattle.clog_table.specs.Limits.{
-  IsNameSize,
-  IsValueSize,
   IsSized,
   IsWithinLimits,
   IsWritable,
+  IsStoredCell,
+  IsStoredPosition,
 };
+ghost use Rattle.clog_table.specs.Heads.{IsStoredHead};
+ghost use Rattle.clog_table.specs.Refusals.{IsFileOf};
 ghost use Rattle.clog_table.specs.Format.{
-  short_text,
-  tagged,
   cell_bytes,
   cells_bytes,
   position_bytes,
   head_front,
-  table_file_bytes,
+  file_of,
 };
 
 use crate::check::put_check;
 use crate::head::Head;
 use crate::table_file::TableFile;
-use clog_base::{Cell, CellKey, Kind, OutOfMemory, Position, Table, Text};
-use std::alloc::{AllocError, Global};
+use clog_base::{Cell, CellKey, OutOfMemory, Position, Table};
+use clog_cells::CellMap;
+use clog_fields::{put_name, put_timestamp, put_value};
+use std::alloc::Global;
 use std::collections::BTreeMap;
 
-fn put_text(out: &mut Vec<u8>, text: &Text) -> Result<(), AllocError>
-    requires { IsNameSize text.now }
-    ensures { OnOk result (out.new.items ≡ out.old.items ++ short_text text.now) }
-{
-    out.extend_from_slice(&(text.len() as u16).to_be_bytes())?;
-    out.extend_from_slice(text.as_str().as_bytes())
-}
-
-fn put_value(out: &mut Vec<u8>, kind: Kind, value: &Text) -> Result<(), AllocError>
-    requires { IsValueSize kind value.now }
-    ensures { OnOk result (out.new.items ≡ out.old.items ++ tagged kind value.now) }
-{
-    match kind {
-        Kind::Deletion => Ok(out.push(0)?),
-        Kind::Live => {
-            out.push(1)?;
-            out.extend_from_slice(&(value.len() as u32).to_be_bytes())?;
-            out.extend_from_slice(value.as_str().as_bytes())
-        }
-    }
-}
-
-fn put_cell(out: &mut Vec<u8>, key: &CellKey, cell: &Cell) -> Result<(), AllocError>
+#[tactic(auto, using(clog_fields::proofs::Values::value_is_text))]
+fn put_cell(out: &mut Vec<u8>, key: &CellKey, cell: &Cell) -> Result<(), OutOfMemory>
     requires { IsSized (key.now, cell.now) }
-    ensures { OnOk result (out.new.items ≡ out.old.items ++ cell_bytes (key.now, cell.now)) }
+    ensures bytes { OnOk result (out.new.items ≡ out.old.items ++ cell_bytes (key.now, cell.now)) }
+    // It can be read back from a file of any table that it is of.
+    ensures stored { (table : Table_of) → IsWithinLimits table (key.now, cell.now)
+        → OnOk result (IsStoredCell table (key.now, cell.now)) }
 {
-    put_text(out, &key.key)?;
-    put_text(out, &key.column)?;
-    out.extend_from_slice(&cell.ts.to_be_bytes())?;
+    put_name(out, &key.key)?;
+    put_name(out, &key.column)?;
+    put_timestamp(out, cell.ts)?;
     put_value(out, cell.kind, &cell.value)
 }
 
@@ -61,9 +46,10 @@ fn put_cells(
     out: &mut Vec<u8>,
     table: Table,
     cells: &BTreeMap<CellKey, Cell>,
-) -> Result<(), AllocError>
+) -> Result<(), OutOfMemory>
     requires { AllByRecursion (IsWithinLimits table) cells.now.entries }
-    ensures { OnOk result (out.new.items ≡ out.old.items ++ cells_bytes cells.now.entries) }
+    ensures bytes { OnOk result (out.new.items ≡ out.old.items ++ cells_bytes cells.now.entries) }
+    ensures stored { OnOk result (AllByRecursion (IsStoredCell table) cells.now.entries) }
 {
     for (key, cell) in cells {
         put_cell(out, key, cell)?;
@@ -71,15 +57,17 @@ fn put_cells(
     Ok(())
 }
 
-fn put_position(out: &mut Vec<u8>, at: Position) -> Result<(), AllocError>
-    ensures { OnOk result (out.new.items ≡ out.old.items ++ position_bytes at) }
+fn put_position(out: &mut Vec<u8>, at: Position) -> Result<(), OutOfMemory>
+    ensures bytes { OnOk result (out.new.items ≡ out.old.items ++ position_bytes at) }
+    ensures stored { IsStoredPosition at }
 {
     out.extend_from_slice(&at.id.to_be_bytes())?;
-    out.extend_from_slice(&at.offset.to_be_bytes())
+    Ok(out.extend_from_slice(&at.offset.to_be_bytes())?)
 }
 
-fn put_front(out: &mut Vec<u8>, head: Head) -> Result<(), AllocError>
-    ensures { OnOk result (out.new.items ≡ out.old.items ++ head_front head) }
+fn put_front(out: &mut Vec<u8>, head: Head) -> Result<(), OutOfMemory>
+    ensures bytes { OnOk result (out.new.items ≡ out.old.items ++ head_front head) }
+    ensures stored { OnOk result (IsStoredHead head) }
 {
     out.extend_from_slice(&1u32.to_be_bytes())?;
     out.push(head.table.0)?;
@@ -89,21 +77,36 @@ fn put_front(out: &mut Vec<u8>, head: Head) -> Result<(), AllocError>
     Ok(())
 }
 
-/// The one spelling of a table file.
-pub fn encode(alloc: Global, file: &TableFile) -> Result<Vec<u8>, OutOfMemory>
-    requires { IsWritable file.now }
-    ensures { IfOk result (λ bytes. bytes.items ≡ table_file_bytes file.now) }
+/// The table file of an interval and cells that stay where they are.
+pub fn encode_parts(
+    alloc: Global,
+    table: Table,
+    lower: Position,
+    upper: Position,
+    cells: &CellMap,
+) -> Result<Vec<u8>, OutOfMemory>
+    requires { IsWritable (file_of table lower upper cells.now) }
+    ensures { IfOk result (λ bytes.
+        IsFileOf table bytes.items (file_of table lower upper cells.now)) }
 {
     let head = Head {
-        table: file.table,
-        lower: file.lower,
-        upper: file.upper,
-        count: file.cells.len() as u32,
+        table,
+        lower,
+        upper,
+        count: cells.len() as u32,
     };
     let mut out = Vec::new(alloc);
     put_front(&mut out, head)?;
     put_check(&mut out, 0)?;
-    put_cells(&mut out, file.table, file.cells.entries())?;
+    put_cells(&mut out, table, cells.entries())?;
     put_check(&mut out, 37)?;
     Ok(out)
+}
+
+/// The one spelling of a table file. It is what `decode` reads back.
+pub fn encode(alloc: Global, file: &TableFile) -> Result<Vec<u8>, OutOfMemory>
+    requires { IsWritable file.now }
+    ensures { IfOk result (λ bytes. IsFileOf file.now.table bytes.items file.now) }
+{
+    encode_parts(alloc, file.table, file.lower, file.upper, &file.cells)
 }

@@ -17,6 +17,8 @@ fails_as text h false e = refl
 pub utf8_fails : (text : List ℕ) → ¬ (IsUtf8 text) → is_utf8 text ≡ false
 utf8_fails text h = fails_as text h (is_utf8 text) refl
 
+pub ruleset utf8_tests = (utf8_passes, utf8_fails)
+
 -- no bytes are a text
 pub nothing_is_text : IsUtf8 []
 unfolding is_utf8 chars

@@ -1,0 +1,7 @@
+//! The fields that payloads and table files are made of: names and values with their lengths, tags
+//! and timestamps. How each is written, and its limits. Numbers are big endian.
+#![tactic(auto)]
+
+mod writing;
+
+pub use writing::{put_name, put_timestamp, put_value, value_size};
