@@ -66,7 +66,7 @@ use Rattle.clog_table.proofs.Keys.{Pairs}
 use Rattle.clog_cells.proofs.InOrder.{front_in_order}
 
 -- ---- one head
-head_again : (head : Head) → IsStoredHead head → head_at (head_bytes head) ≡ head
+pub head_again : (head : Head) → IsStoredHead head → head_at (head_bytes head) ≡ head
 head_again head h =
     let lower_id = from_be_bytes-to_be_bytes_8 head.lower.id h.lower.id in
     let lower_offset = from_be_bytes-to_be_bytes_4 head.lower.offset h.lower.offset in
@@ -80,7 +80,7 @@ head_again head h =
       count = count i;
     }
 
-one_head : (bytes : List ℕ) (a b : Head) → BeginsWithHead bytes a → BeginsWithHead bytes b → a ≡ b
+pub one_head : (bytes : List ℕ) (a b : Head) → BeginsWithHead bytes a → BeginsWithHead bytes b → a ≡ b
 one_head bytes a b p q =
     sym (head_again a p.stored) ∙ ap head_at (sym p.spelled ∙ q.spelled) ∙ head_again b q.stored
 
@@ -91,7 +91,7 @@ same_parts a b x y e =
     let pairs : ◌≡◌ {A = Fields × List ℕ} (a, x) (b, y) = cc in
     (ap (λ (p : Fields × List ℕ). p.0) pairs, ap (λ (p : Fields × List ℕ). p.1) pairs)
 
-one_cell : (table : Table) (a b : CellKey × Cell) (x y : List ℕ) → IsStoredCell table a
+pub one_cell : (table : Table) (a b : CellKey × Cell) (x y : List ℕ) → IsStoredCell table a
     → IsStoredCell table b → cell_bytes a ++ x ≡ cell_bytes b ++ y → (a ≡ b) × (x ≡ y)
 one_cell table a b x y p q e =
     let both : ◌≡◌ {A = Option (Fields × List ℕ)} (Some (parts a, x)) (Some (parts b, y)) =
@@ -100,13 +100,13 @@ one_cell table a b x y p q e =
     (sym (pair_of-parts table a p) ∙ ap (pair_of table) same.0 ∙ pair_of-parts table b q, same.1)
 
 -- the cells are a front and later ones, and the rest behind the front spells these
-record IsFront (table : Table) (cells front : Pairs) (tail rest : List ℕ) : Type 0 where
+pub record IsFront (table : Table) (cells front : Pairs) (tail rest : List ℕ) : Type 0 where
   pub later : Pairs
   pub joined : cells ≡ front ++ later
   pub spelled : rest ≡ cells_bytes later ++ tail
   pub stored : AllByRecursion (IsStoredCell table) later
 
-front_of : (table : Table) (cells front : Pairs) (tail rest : List ℕ)
+pub front_of : (table : Table) (cells front : Pairs) (tail rest : List ℕ)
     → AllByRecursion (IsStoredCell table) cells → AllByRecursion (IsStoredCell table) front
     → length front ≤ length cells → cells_bytes cells ++ tail ≡ cells_bytes front ++ rest
     → IsFront table cells front tail rest
@@ -221,7 +221,7 @@ module _ (table : Table) (bytes : List ℕ) (file : TableFile) (f : IsFileOf tab
   check_is_long : (rest : List ℕ) → rest ≡ check_bytes (cells_bytes file.cells) → length rest ≡ 4
   check_is_long rest e = ap (λ (l : List ℕ). length l) e
 
-  not_refused : (fault : TableFault) → Refuses table bytes fault → fault ≡ OutOfMemory
+  pub not_refused : (fault : TableFault) → Refuses table bytes fault → fault ≡ OutOfMemory
   not_refused OutOfMemory h = refl
   not_refused Short (inl h) =
       let long = head_is_long bytes (head_of file) begins in absurd (omega arith)
@@ -259,7 +259,7 @@ module _ (table : Table) (bytes : List ℕ) (file : TableFile) (f : IsFileOf tab
       let four = check_is_long h.rest (all_front h.cells h.rest h.whole).1 in
       absurd (omega (arith, h.more))
 
-  one_file : (other : TableFile) → IsFileOf table bytes other → other ≡ file
+  pub one_file : (other : TableFile) → IsFileOf table bytes other → other ≡ file
   one_file other g =
       let heads : head_of other ≡ head_of file = one_head bytes (head_of other) (head_of file)
       (begins_as table bytes other g) begins in

@@ -8,3 +8,5 @@ pub mod Numbers
 pub mod Pieces
 pub mod Readers
 mod Written
+pub mod OneFault
+pub mod Stops

@@ -44,7 +44,7 @@ take_fits (suc n) (b ∷ bs) fits (suc i) = take_fits n bs (λ j. fits (suc j)) 
 pub drop_fits : (n : ℕ) (bs : List ℕ) → IsBytes bs → IsBytes (drop n bs)
 drop_fits n bs fits i = subst (λ k. k < 256) (sym (get_or-drop n bs i 0)) (fits (n + i))
 
-four_at : (bs : List ℕ) → 4 ≤ length bs → from_be_bytes w32 bs ≡ from_be_bytes w32 (take 4 bs)
+pub four_at : (bs : List ℕ) → 4 ≤ length bs → from_be_bytes w32 bs ≡ from_be_bytes w32 (take 4 bs)
 four_at [] h = absurd (omega arith)
 four_at (a ∷ []) h = absurd (omega arith)
 four_at (a ∷ b ∷ []) h = absurd (omega arith)

@@ -131,6 +131,10 @@ Decodes table bytes (Err fault) = Refuses table bytes fault
 abbrev pub IsUnlessMemory : TableFile → Result TableFile TableFault → Type 0
 IsUnlessMemory file decoded = (decoded ≡ Ok file) ⊎ (decoded ≡ Err OutOfMemory)
 
+-- the fault, or want of memory
+abbrev pub IsFaultUnlessMemory : TableFault → Result TableFile TableFault → Type 0
+IsFaultUnlessMemory fault decoded = (decoded ≡ Err fault) ⊎ (decoded ≡ Err OutOfMemory)
+
 -- ---- of the steps of decoding
 
 -- why not all cells of a head are read

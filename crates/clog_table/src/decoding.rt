@@ -1,6 +1,6 @@
 //! Reading a table file: its head, then cell by cell, then the check. The cells read so far, in a
 //! map, are the front of the file's cells, in order; the rest of the bytes stands behind them.
-ghost use Rattle.std.specs.Prelude.{◌≡◌, ◌≤◌, ◌↔◌, ◌+◌, length, [], ◌∷◌, ◌++◌};
+ghost use Rattle.std.specs.Prelude.{◌≡◌, ◌≢◌, ◌≤◌, ◌↔◌, ◌+◌, length, [], ◌∷◌, ◌++◌};
 ghost use Rattle.std.specs.Prelude.{IsTrue, IfOk, OnOk};
 ghost use Rattle.std.specs.Ordering.{is_lt};
 ghost use Rattle.clog_cells.specs.Merge.{AreInOrder, key_cmp};
@@ -8,11 +8,15 @@ ghost use Rattle.clog_table.specs.RawFields.{fields_of, key_of, cell_of};
 ghost use Rattle.clog_table.specs.Heads.{HasHead};
 ghost use Rattle.clog_table.specs.Cells.{IsAbove};
 ghost use Rattle.clog_table.specs.declared.table_file.TableFile.{TableFile as File};
+ghost use Rattle.clog_table.specs.declared.fault.TableFault.{TableFault as Fault};
+ghost use Rattle.clog_table.specs.declared.fault.TableFault.TheVariants.{OutOfMemory as no_memory};
 ghost use Rattle.clog_table.specs.Limits.{IsWritable};
 ghost use Rattle.clog_table.specs.Refusals.{
   Decodes,
   IsFileOf,
   IsUnlessMemory,
+  IsFaultUnlessMemory,
+  Refuses,
   CellsGive,
   TakesCell,
   EndGives,
@@ -40,6 +44,9 @@ pub fn decode(alloc: Global, bytes: &[u8], table: Table) -> Result<TableFile, Ta
     ensures exact { Decodes table bytes.now result }
     // The spelling of a file decodes to that file and to no other.
     ensures again { (file : File) → IsFileOf table bytes.now file → IsUnlessMemory file result }
+    // What breaks a rule first is refused for it, unless memory runs out before.
+    ensures refuses { (fault : Fault) → Refuses table bytes.now fault → fault ≢ no_memory
+        → IsFaultUnlessMemory fault result }
     ensures writable { IfOk result IsWritable }
 {
     decoded(alloc, bytes, table)

@@ -7,6 +7,7 @@ mod decoding;
 mod fault;
 mod fault_text;
 mod head;
+mod laws;
 mod raw_cell;
 mod table_file;
 mod writing;
@@ -15,6 +16,7 @@ pub use clog_cells::{CellMap, OutOfMemory, Table};
 pub use decoding::decode;
 pub use fault::TableFault;
 pub use fault_text::FaultText;
+pub use laws::table_laws;
 pub use table_file::TableFile;
 pub use writing::{encode, encode_parts};
 
