@@ -74,7 +74,7 @@ module _ (table : Table) (bytes : List ℕ) (head : Head) (cells : Pairs) (rest 
       ap (λ (l : List ℕ). length l) front.spelled ∙ length-append (cells_bytes cells) rest in
       omega (arith, e, length-drop 37 bytes, head_is_long bytes head begins.begins)
 
-  text_is : cells_text bytes rest ≡ cells_bytes cells
+  pub text_is : cells_text bytes rest ≡ cells_bytes cells
   text_is =
       let n : length (head_bytes head ++ cells_bytes cells) ≡ place bytes rest =
       (let e : length bytes ≡ length (head_bytes head ++ cells_bytes cells) + length rest =
@@ -87,7 +87,7 @@ module _ (table : Table) (bytes : List ℕ) (head : Head) (cells : Pairs) (rest 
       = refl in b)
 
   -- why the end is refused is why the bytes are
-  end_refused : (fault : TableFault) → RefusesEnd (cells_bytes cells) rest (place bytes rest) fault
+  pub end_refused : (fault : TableFault) → RefusesEnd (cells_bytes cells) rest (place bytes rest) fault
       → Refuses table bytes fault
   end_refused Short h = inr (record { cells = cells; rest = rest; whole = whole; short = h })
   end_refused CellsCheck h =

@@ -75,7 +75,7 @@ stored_push : (table : Table) (cells : Pairs) (next : CellKey × Cell)
 stored_push table [] next h here = (here, tt)
 stored_push table (cell ∷ cells) next h here = (h.0, stored_push table cells next h.1 here)
 
-length_push : (cells : Pairs) (next : CellKey × Cell)
+pub length_push : (cells : Pairs) (next : CellKey × Cell)
     → length (cells ++ next ∷ []) ≡ length cells + 1
 length_push cells next = length-append cells (next ∷ [])
 

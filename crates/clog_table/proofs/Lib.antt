@@ -10,3 +10,4 @@ pub mod Readers
 mod Written
 pub mod OneFault
 pub mod Stops
+pub mod OneOfBoth

@@ -19,4 +19,8 @@ pub fn table_laws()
     // A table file is not refused.
     ensures never_both { (table : Table) (bytes : List ℕ) (file : TableFile) (fault : TableFault)
         → IsFileOf table bytes file → Refuses table bytes fault → fault ≡ OutOfMemory }
+    // What is no table file is refused.
+    ensures one_of_both { (table : Table) (bytes : List ℕ) → ((i : ℕ) → slice_index bytes i < 256)
+        → ((file : TableFile) × IsFileOf table bytes file)
+        ⊎ ((fault : TableFault) × (fault ≢ OutOfMemory) × Refuses table bytes fault) }
 {}

@@ -1,0 +1,295 @@
+-- Bytes that are no table file break a rule.
+use Rattle.std.proofs.Common.{
+  ◌≡◌,
+  ℕ,
+  zero,
+  suc,
+  ◌+◌,
+  ◌<◌,
+  ◌≤◌,
+  ◌⊎◌,
+  inl,
+  inr,
+  List,
+  [],
+  ◌∷◌,
+  ◌++◌,
+  length,
+  take,
+  drop,
+  Bool,
+  true,
+  false,
+  Option,
+  Some,
+  None,
+  refl,
+  sym,
+  ap,
+  subst,
+  ◌∙◌,
+  arith,
+}
+use Rattle.std.specs.Prelude.{◌≢◌}
+use Rattle.std.specs.Bool.{Decides}
+use Rattle.std.specs.Int.{w32, to_be_bytes, from_be_bytes}
+use Rattle.std.specs.declared.cmp.Ordering.{Ordering}
+use Rattle.std.specs.declared.cmp.Ordering.TheVariants.{Less, Equal, Greater}
+use Rattle.std.proofs.lemmas.Bool.Decides.{Decides-eqb, not_from_Decides}
+use Rattle.std.proofs.lemmas.Slice.Eq.{bytes_eq-Decides}
+use Rattle.std.proofs.lemmas.List.{take_all}
+use Rattle.clog_spec.specs.Crc.{IsBytes}
+use Rattle.clog_base.specs.declared.position.Position.{Position}
+use Rattle.clog_base.specs.declared.cell.Cell.{Cell}
+use Rattle.clog_base.specs.declared.cell.CellKey.{CellKey}
+use Rattle.clog_base.specs.declared.cell.Table.{Table}
+use Rattle.clog_cells.specs.Merge.{key_cmp}
+use Rattle.clog_table.specs.declared.head.Head.{Head}
+use Rattle.clog_table.specs.declared.table_file.TableFile.{TableFile}
+use Rattle.clog_table.specs.declared.fault.TableFault.{TableFault}
+use Rattle.clog_table.specs.declared.fault.TableFault.TheVariants.{
+  Short,
+  Version,
+  HeadCheck,
+  Table as OtherTable,
+  Interval,
+  Cell as NoCell,
+  Order,
+  CellsCheck,
+  Trailing,
+  OutOfMemory,
+}
+use Rattle.clog_table.specs.Format.{cell_bytes, cells_bytes, check_bytes, file_of}
+use Rattle.clog_table.specs.Limits.{IsThisTable, is_this_table, IsUpTo, is_up_to}
+use Rattle.clog_table.specs.Reading.{Fields, cell_at}
+use Rattle.clog_table.specs.RawFields.{pair_of}
+use Rattle.clog_table.specs.Heads.{HasHead, head_at, BeginsWithHead}
+use Rattle.clog_table.specs.Cells.{HasCells, BeginsWithNoCell, BeginsWithCell, IsAbove}
+use Rattle.clog_table.specs.Refusals.{place, RefusesCells, RefusesEnd, Refuses, IsFileOf}
+use Rattle.clog_table.proofs.Numbers.{four_spelled, four_below, drop_fits}
+use Rattle.clog_table.proofs.HeadParts.{begins_with, this_table, other_table}
+use Rattle.clog_table.proofs.HeadParts.{is_up_to-true, is_up_to-false}
+use Rattle.clog_table.proofs.Grammar.{parts, cell_again, cell_takes}
+use Rattle.clog_table.proofs.Keys.{Pairs, order_goes_on, last_is_above}
+use Rattle.clog_table.proofs.Front.{no_cells, one_more, length_push, refused_here}
+use Rattle.clog_table.proofs.Ending.{text_is, end_refused, is_file, refused_in_cells}
+
+-- a file, or a fault that tells of the bytes
+abbrev pub Verdict : Table → List ℕ → Type 0
+Verdict table bytes = ((file : TableFile) × IsFileOf table bytes file)
+    ⊎ ((fault : TableFault) × (fault ≢ OutOfMemory) × Refuses table bytes fault)
+
+-- ---- what is decided
+decided : {P : Type 0} (r : Bool) → Decides r P → P ⊎ (¬ P)
+decided true d = inl (d.0 refl)
+decided false d = inr (not_from_Decides false d refl)
+
+none_is_some : {A : Type 0} (x : A) → None ≡ Some x → ⊥
+none_is_some x e = cc
+
+known_cell : (at : ℕ) → NoCell at ≢ OutOfMemory
+known_cell at e = cc
+
+known_order : (at : ℕ) → Order at ≢ OutOfMemory
+known_order at e = cc
+
+below_or : (m n : ℕ) → (m < n) ⊎ (n ≤ m)
+below_or zero zero = inr (omega arith)
+below_or zero (suc n) = inl (omega arith)
+below_or (suc m) zero = inr (omega arith)
+below_or (suc m) (suc n) = elim (below_or m n) [
+  | inl h ↦ inl (omega (arith, h))
+  | inr h ↦ inr (omega (arith, h))
+]
+
+table_or : (found table : Table) (b : Bool) → b ≡ is_this_table found table
+    → IsThisTable found table ⊎ (¬ IsThisTable found table)
+table_or found table true e = inl (this_table found table e)
+table_or found table false e = inr (other_table found table e)
+
+interval_or : (a b : Position) (r : Bool) → r ≡ is_up_to a b → IsUpTo a b ⊎ (¬ IsUpTo a b)
+interval_or a b true e = inl (is_up_to-true a b e)
+interval_or a b false e = inr (is_up_to-false a b e)
+
+above_by : (row : CellKey × Cell) (rows : Pairs) (key : CellKey) (r : Ordering)
+    → key_cmp row.0 key ≡ r → IsAbove rows key ⊎ (¬ IsAbove rows key)
+    → IsAbove (row ∷ rows) key ⊎ (¬ IsAbove (row ∷ rows) key)
+above_by row rows key Less e (inl above) = inl (e, above)
+above_by row rows key Less e (inr none) = inr (λ above. none above.1)
+above_by row rows key Equal e rest =
+    inr (λ above. let clash : Equal ≡ Less = sym e ∙ above.0 in cc)
+above_by row rows key Greater e rest =
+    inr (λ above. let clash : Greater ≡ Less = sym e ∙ above.0 in cc)
+
+above_or : (rows : Pairs) (key : CellKey) → IsAbove rows key ⊎ (¬ IsAbove rows key)
+above_or [] key = inl tt
+above_or (row ∷ rows) key = above_by row rows key (key_cmp row.0 key) refl (above_or rows key)
+
+behind_fits : (xs ys : List ℕ) → IsBytes (xs ++ ys) → IsBytes ys
+behind_fits [] ys fits = fits
+behind_fits (x ∷ xs) ys fits = behind_fits xs ys (λ i. fits (suc i))
+
+-- ---- the head
+by_head : (table : Table) (bytes : List ℕ) → IsBytes bytes
+    → Verdict table bytes ⊎ ((head : Head) × HasHead table bytes head)
+by_head table bytes fits = elim (below_or (length bytes) 37) [
+  | inl short ↦ inl (inr (Short, (λ e. cc e), inl short))
+  | inr long ↦
+      let four : 4 ≤ length bytes = omega (arith, long) in
+      let spelled = four_spelled bytes four fits in
+      let head = head_at bytes in
+      elim (decided _ (Decides-eqb (from_be_bytes w32 bytes) 1)) [
+        | inr other ↦ inl (inr (
+          Version (from_be_bytes w32 bytes),
+          (λ e. cc e),
+          record {
+            long = long;
+            fits = four_below bytes fits;
+            version = spelled;
+            other = other;
+          },
+        ))
+        | inl one ↦
+            elim (decided _ (bytes_eq-Decides (take 4 (drop 33 bytes)) (check_bytes
+            (take 33 bytes)))) [
+              | inr wrong ↦ inl (inr (
+                HeadCheck,
+                (λ e. cc e),
+                record {
+                  long = long;
+                  version = spelled ∙ ap (to_be_bytes w32) one;
+                  wrong = wrong;
+                },
+              ))
+              | inl right ↦
+                  let begins : BeginsWithHead bytes head = begins_with bytes long fits one right in
+                  elim (table_or head.table table (is_this_table head.table table) refl) [
+                    | inr other ↦ inl (inr (
+                      OtherTable,
+                      (λ e. cc e),
+                      record {
+                        head = head;
+                        begins = begins;
+                        other = other;
+                      },
+                    ))
+                    | inl this ↦
+                        elim (interval_or head.lower head.upper (is_up_to head.lower head.upper)
+                        refl) [
+                          | inr turned ↦ inl (inr (
+                            Interval,
+                            (λ e. cc e),
+                            record {
+                              head = head;
+                              begins = begins;
+                              known = this.0;
+                              same_table = this.1;
+                              disordered = turned;
+                            },
+                          ))
+                          | inl up ↦ inr (
+                            head,
+                            record {
+                              begins = begins;
+                              known = this.0;
+                              same_table = this.1;
+                              interval = up;
+                            },
+                          )
+                        ]
+                  ]
+            ]
+      ]
+]
+
+-- ---- the cells
+module _ (table : Table) (bytes : List ℕ) (head : Head) (has : HasHead table bytes head) where
+  refused : (fault : TableFault) → fault ≢ OutOfMemory → RefusesCells bytes head fault
+      → Verdict table bytes
+  refused fault known h =
+      inr (fault, known, refused_in_cells table bytes head fault has.same_table h)
+
+  ended : (cells : Pairs) (rest : List ℕ) → HasCells bytes head cells rest
+      → length cells ≡ head.count → (fault : TableFault) → fault ≢ OutOfMemory
+      → RefusesEnd (cells_bytes cells) rest (place bytes rest) fault → Verdict table bytes
+  ended cells rest front all fault known h =
+      inr (fault, known, end_refused table bytes head cells rest has front all fault h)
+
+  at_end : (cells : Pairs) (rest : List ℕ) → HasCells bytes head cells rest
+      → length cells ≡ head.count → Verdict table bytes
+  at_end cells rest front all = elim (below_or (length rest) 4) [
+    | inl short ↦ ended cells rest front all Short (λ e. cc e) short
+    | inr long ↦
+        elim (decided _ (bytes_eq-Decides (take 4 rest) (check_bytes (cells_bytes cells)))) [
+          | inr wrong ↦ ended cells rest front all CellsCheck (λ e. cc e) (long, wrong)
+          | inl right ↦ elim (below_or 4 (length rest)) [
+            | inl more ↦ ended cells rest front all (Trailing (place bytes rest + 4)) (λ e. cc e)
+                (right, more, refl)
+            | inr whole ↦
+                let text = text_is table bytes head cells rest has front all in
+                inl (
+                  file_of table head.lower head.upper cells,
+                  is_file table bytes head cells rest has front all
+                      (sym (take_all 4 rest whole) ∙ right ∙ ap check_bytes (sym text)),
+                )
+          ]
+        ]
+  ]
+
+  -- the next cell, and what comes of those behind it
+  by_cell : (n : ℕ) (cells : Pairs) (rest : List ℕ) → HasCells bytes head cells rest
+      → IsBytes rest → length cells + suc n ≡ head.count
+      → ((more : Pairs) (behind : List ℕ) → HasCells bytes head more behind → IsBytes behind
+      → length more + n ≡ head.count → Verdict table bytes)
+      → (found : Option (Fields × List ℕ)) → cell_at rest ≡ found → Verdict table bytes
+  by_cell n cells rest front fits count again None e =
+      let wanted : length cells < head.count = omega (arith, count) in
+      let none : BeginsWithNoCell head.table rest = λ pair behind stored spelled.
+      none_is_some (parts pair, behind)
+      (sym e ∙ ap cell_at spelled ∙ cell_again head.table pair behind stored) in
+      refused (NoCell (place bytes rest)) (known_cell (place bytes rest))
+      (refused_here bytes head cells rest (NoCell (place bytes rest)) front wanted (refl, none))
+  by_cell n cells rest front fits count again (Some x) e =
+      let wanted : length cells < head.count = omega (arith, count) in
+      let t = cell_takes head.table rest x.1 x.0 fits e in
+      let pair = pair_of head.table x.0 in
+      let found : BeginsWithCell head.table rest pair x.1 =
+      record { stored = t.1; spelled = t.0 } in
+      elim (above_or cells pair.0) [
+        | inl above ↦
+            let ordered = order_goes_on cells pair.0 pair.1 front.ordered above in
+            again (cells ++ pair ∷ []) x.1
+            (one_more bytes head cells (cells ++ pair ∷ []) rest x.1 front wanted (record {
+              next = pair;
+              found = found;
+              joined = refl;
+              ordered = ordered;
+            }))
+            (behind_fits (cell_bytes pair) x.1 (subst IsBytes t.0 fits))
+            (omega (arith, count, length_push cells pair))
+        | inr not ↦ refused (Order (place bytes rest)) (known_order (place bytes rest))
+            (refused_here bytes head cells rest (Order (place bytes rest)) front wanted (
+              refl,
+              record {
+                next = pair;
+                behind = x.1;
+                found = found;
+                disordered = λ order. not (last_is_above cells pair.0 pair.1 order);
+              },
+            ))
+      ]
+
+  all_cells : (n : ℕ) (cells : Pairs) (rest : List ℕ) → HasCells bytes head cells rest
+      → IsBytes rest → length cells + n ≡ head.count → Verdict table bytes
+  all_cells zero cells rest front fits count = at_end cells rest front (omega (arith, count))
+  all_cells (suc n) cells rest front fits count =
+      by_cell n cells rest front fits count (all_cells n) (cell_at rest) refl
+
+pub one_of_both : (table : Table) (bytes : List ℕ) → IsBytes bytes → Verdict table bytes
+one_of_both table bytes fits = elim (by_head table bytes fits) [
+  | inl verdict ↦ verdict
+  | inr h ↦
+      let has = subst (λ (t : Table). HasHead t bytes h.0) (sym h.1.same_table) h.1 in
+      all_cells table bytes h.0 h.1 h.0.count [] (drop 37 bytes) (no_cells bytes h.0 has)
+      (drop_fits 37 bytes fits) (omega arith)
+]
