@@ -11,3 +11,4 @@ mod Written
 pub mod OneFault
 pub mod Stops
 pub mod OneOfBoth
+mod AboveLast

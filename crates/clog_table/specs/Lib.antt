@@ -6,3 +6,4 @@ pub mod Refusals
 pub mod Reading
 pub mod RawFields
 pub mod FaultTexts
+pub mod LastCell

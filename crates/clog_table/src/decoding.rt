@@ -36,7 +36,7 @@ use std::cmp::Ordering;
 use std::collections::BTreeMap;
 
 /// The length of a head.
-const HEAD: usize = 37;
+pub(crate) const HEAD: usize = 37;
 
 /// The table file whose one spelling these bytes are, or the first rule of the format that they
 /// break, in the order of the format.
@@ -158,7 +158,7 @@ fn take_cell<'a>(
 
 /// Whether the check of the cells stands behind them, and nothing else. The rest is what stands
 /// behind the cells.
-fn judge_end(bytes: &[u8], rest: &[u8]) -> Result<(), TableFault>
+pub(crate) fn judge_end(bytes: &[u8], rest: &[u8]) -> Result<(), TableFault>
     requires { 37 + length rest.now ≤ length bytes.now }
     ensures { EndGives (cells_text bytes.now rest.now) rest.now (place bytes.now rest.now) result }
 {

@@ -63,8 +63,13 @@ const ABOVE: [u8; 58] = [
     0x00, 0x00, 0x00, 0x00, 0x05, 0x00, 0x58, 0x4f, 0x3f, 0xb8,
 ];
 
+// Decoding and checking find the same fault.
 fn fault_of(alloc: Global, bytes: &[u8], table: u8) -> Option<TableFault> {
-    decode(alloc, bytes, Table(table)).err()
+    let checked = check_file(bytes, Table(table)).err();
+    match decode(alloc, bytes, Table(table)).err() {
+        fault if fault == checked => fault,
+        _ => Some(TableFault::OutOfMemory),
+    }
 }
 
 fn written_again(alloc: Global, bytes: &[u8], table: u8) -> Result<Vec<u8>, TableFault> {
