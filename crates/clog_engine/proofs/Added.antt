@@ -44,32 +44,22 @@ use Rattle.clog_engine.specs.Apply.{
   segment_of,
   Gains,
   Lands,
-  Reads,
+  ReadsToEnd,
   IsBegun,
   IsApplied,
   ApplyRefuses,
 }
-use Rattle.clog_engine.specs.Completes.{
-  report_of,
-  IsAddedAndTold,
-  AddsFile,
-  IsReported,
-  Adds,
-}
-use Rattle.clog_engine.specs.Directory.{
-  TableRead,
-  NamesId,
-  IsBase,
-  IsPlainDirectory,
-  cells_of_tables,
-}
+use Rattle.clog_engine.specs.Adds.{IsAddedAndTold, AddsFile, IsReported, Adds}
+use Rattle.clog_engine.specs.Answering.{Answers, Does, Prints, Reports}
+use Rattle.clog_engine.specs.Report.{report_of}
+use Rattle.clog_crash.specs.Folder.{TableRead, NamesId, IsBase, cells_of_tables}
+use Rattle.clog_engine.specs.Directory.{IsPlainDirectory}
 use Rattle.clog_engine.specs.Input.{entries_of}
 use Rattle.clog_engine.specs.Limits.{capacity}
 use Rattle.clog_engine.specs.Outside.{Outside, Sinks}
 use Rattle.clog_engine.specs.Report.{applied_line, IsReport}
 use Rattle.clog_engine.specs.Request.{Asks}
-use Rattle.clog_engine.specs.Restore.{IsAdded}
-use Rattle.clog_engine.specs.Run.{Answers, Does, Prints, Reports}
+use Rattle.clog_crash.specs.Restore.{IsAdded}
 use Rattle.clog_engine.proofs.Restored.{with_segment, added_none, added_some, told_rows}
 use Rattle.clog_engine.proofs.WordsAsked.{one_request}
 
@@ -158,7 +148,7 @@ no_such_refusal status refusal o same (inr is) refused =
 outcome_adds : (dump : Bool) (o : Outside) (s : Sinks) (status : Status)
     (outcome : Result (List ℕ) Status) → Does (Some (Apply dump)) o outcome
     → Prints outcome status s → IsReported status
-    → (report : List ℕ) × Reports report status s × Reads o (AddsFile dump o report)
+    → (report : List ℕ) × Reports report status s × ReadsToEnd o (AddsFile dump o report)
 outcome_adds dump o s status (ok report) done prints is =
     (report, prints, (done.0, done.1, applied_adds o dump report done.0 done.2))
 outcome_adds dump o s status (err refusal) done prints is =

@@ -30,7 +30,7 @@ use Rattle.clog_disk.specs.declared.disk.DiskFault.TheVariants.{
 }
 use Rattle.clog_engine.specs.declared.status.Status.{Status}
 use Rattle.clog_engine.specs.Input.{IsAccepted, IsGood}
-use Rattle.clog_engine.specs.Reading.{TakesFile, HasSize}
+use Rattle.clog_engine.specs.Reading.{TakesFile, HasSize, front_of}
 use Rattle.std.specs.Prelude.{◌⊎◌, IfSome}
 use Rattle.std.specs.FinMap as finmap
 use Rattle.clog_disk.specs.Files.{Files, MayAppend}
@@ -40,12 +40,11 @@ use Rattle.clog_engine.proofs.Landed.{gained}
 use Rattle.clog_engine.specs.Landing.{LandingRefused, status_of}
 use Rattle.clog_engine.specs.Outside.{Outside, IsUntouched}
 use Rattle.clog_engine.specs.Apply.{
-  front_of,
   segment_of,
   HasLanded,
   IsPartly,
   Lands,
-  Reads,
+  ReadsToEnd,
   ApplyRefuses,
 }
 
@@ -100,7 +99,7 @@ left_part NoMemory files files_now name bytes free (inr all) =
 
 -- why the segment did not land
 pub landing_refuses : (fault : Fault) (status : Status) (o : Outside) → status ≡ status_of fault
-    → Reads o IsGood → LandingRefused o.disk_faults o.disk_faults_now fault
+    → ReadsToEnd o IsGood → LandingRefused o.disk_faults o.disk_faults_now fault
     → IsPartly o (PartBy fault o.files o.files_now) → ApplyRefuses status o
 landing_refuses Failed status o is good refused part =
     subst (λ s. ApplyRefuses s o) (sym is) (good, refused, inr part)

@@ -37,7 +37,7 @@ use Rattle.clog_mutation.specs.declared.mutation.Mutation.{Mutation}
 use Rattle.clog_mutation.specs.Payload.{cells_of}
 use Rattle.clog_engine.specs.declared.standing.Standing.{Standing}
 use Rattle.clog_engine.specs.Limits.{id_limit}
-use Rattle.clog_engine.specs.Directory.{TableRead, NamesId, IsGreatest, IsBase}
+use Rattle.clog_crash.specs.Folder.{TableRead, NamesId, IsGreatest, IsBase}
 use Rattle.clog_engine.specs.Listing.{base_of}
 use Rattle.clog_engine.specs.Looking.{dumped, Stands}
 use Rattle.clog_engine.specs.Report.{IsReport}

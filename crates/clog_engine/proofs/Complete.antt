@@ -51,6 +51,7 @@ use Rattle.clog_engine.specs.declared.status.Status.TheVariants.{
 use Rattle.clog_engine.specs.declared.words.Request.{Request}
 use Rattle.clog_engine.specs.declared.words.Request.TheVariants.{Apply, Scan}
 use Rattle.clog_engine.specs.Apply.{ApplyRefuses}
+use Rattle.clog_engine.specs.Answering.{Answers, Does, Prints, Reports}
 use Rattle.clog_engine.specs.Completes.{
   Tells,
   IsPlain,
@@ -63,7 +64,6 @@ use Rattle.clog_engine.specs.Completes.{
 use Rattle.clog_engine.specs.Input.{IsGood}
 use Rattle.clog_engine.specs.Outside.{Outside, Sinks}
 use Rattle.clog_engine.specs.Request.{Asks}
-use Rattle.clog_engine.specs.Run.{Answers, Does, Prints, Reports}
 use Rattle.clog_engine.specs.Scanning.{ReadRefused, IsTooLong}
 use Rattle.clog_engine.proofs.WordsAsked.{one_request}
 use Rattle.clog_engine.proofs.GoodInput.{

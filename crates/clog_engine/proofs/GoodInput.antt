@@ -27,7 +27,7 @@ use Rattle.clog_io.specs.Bytes.{TakesAll}
 use Rattle.clog_mutation.specs.declared.mutation.Mutation.{Mutation}
 use Rattle.clog_text.specs.declared.refusal.BadLine.{BadLine as Cause}
 use Rattle.clog_text.specs.FileMutations.{Refused, file_mutations}
-use Rattle.clog_engine.specs.Apply.{Reads}
+use Rattle.clog_engine.specs.Apply.{ReadsToEnd}
 use Rattle.clog_engine.specs.Completes.{Tells}
 use Rattle.clog_engine.specs.Input.{
   HasFittingEntry,
@@ -39,7 +39,7 @@ use Rattle.clog_engine.specs.Input.{
   HasNoRoom,
   entries_of,
 }
-use Rattle.clog_engine.specs.Limits.{file_limit}
+use Rattle.clog_spec.specs.Sizes.{file_limit}
 use Rattle.clog_engine.specs.Outside.{Outside}
 
 -- the bytes that were taken are those that were told
@@ -72,7 +72,7 @@ none_is_large ms number size most all large =
     omega (arith, fits, large.over)
 
 -- what the bytes that were taken say contradicts that those that were told are good
-pub taken_good : (o : Outside) (P : List ℕ → Type 0) → Tells o.left IsGood → Reads o P
+pub taken_good : (o : Outside) (P : List ℕ → Type 0) → Tells o.left IsGood → ReadsToEnd o P
     → ((bytes : List ℕ) → IsGood bytes → P bytes → ⊥) → ⊥
 taken_good o P good reads clash =
     clash reads.0 (same_bytes o.left o.left_now reads.0 IsGood good reads.1) reads.2

@@ -33,7 +33,8 @@ use Rattle.clog_disk.specs.Images.{Within, SameImages, Tears}
 use Rattle.clog_disk.specs.declared.disk.DiskFault.{DiskFault as Fault}
 use Rattle.clog_disk.specs.declared.disk.DiskFault.TheVariants.{Failed, NoSuchFile, OutOfMemory}
 use Rattle.clog_engine.specs.Apply.{Gains}
-use Rattle.clog_engine.specs.Directory.{TableRead, IsPlainDirectory}
+use Rattle.clog_crash.specs.Folder.{TableRead}
+use Rattle.clog_engine.specs.Directory.{IsPlainDirectory}
 use Rattle.clog_engine.specs.Landing.{LandingRefused, LeftBehind}
 
 absent : {A : Type 0} (o : Option A) → (IsSome o → ⊥) → o ≡ None

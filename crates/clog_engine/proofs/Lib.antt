@@ -8,9 +8,9 @@ pub mod GoodInput
 pub mod Landed
 pub mod Listed
 pub mod Looked
-pub mod Members
 pub mod Merged
 pub mod PlainFolder
+pub mod Quiet
 pub mod Restored
 pub mod ScanReports
 pub mod SegmentFiles

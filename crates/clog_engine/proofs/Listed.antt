@@ -53,7 +53,8 @@ use Rattle.std.proofs.Math.Nat.{le-max_left, le-max_right, max-eq_left, max-eq_r
 use Rattle.clog_spec.specs.Names.{IsArchiveName, IsTableName, IsNoArchiveName, IsNoTableName}
 use Rattle.clog_base.proofs.NameLaws.{one_table, one_archive}
 use Rattle.clog_engine.specs.Limits.{sequence_limit}
-use Rattle.clog_engine.specs.Directory.{Place, place_cmp, IsNameOf, IsGreatest, IsLateTable}
+use Rattle.clog_crash.specs.Folder.{Place, place_cmp, IsNameOf, IsGreatest}
+use Rattle.clog_engine.specs.Directory.{IsLateTable}
 use Rattle.clog_engine.specs.Listing.{greater, ListsArchive, IsGreatestArchive, ArePlaces}
 
 -- ---- the greatest number

@@ -52,24 +52,26 @@ use Rattle.clog_engine.specs.declared.status.Status.TheVariants.{
   OutOfMemory,
 }
 use Rattle.clog_engine.specs.Limits.{id_limit}
-use Rattle.clog_engine.specs.Directory.{
+use Rattle.clog_crash.specs.Folder.{
   Place,
   place_cmp,
   TableRead,
   IsHeld,
-  IsSegment,
-  IsLateTable,
+  IsNameOfSegment,
   HoldsName,
   HasArchive,
   HasUpper,
   NamesId,
   IsGreatest,
   AreTables,
+  IsFirstBad,
+}
+use Rattle.clog_engine.specs.Directory.{
+  IsLateTable,
   IsReadable,
   HasFewTables,
   IsPlainDirectory,
   HasBadTable,
-  IsFirstBad,
   HasManyTables,
   HasGreatId,
 }
@@ -208,7 +210,7 @@ greatest_archive_held files names g lists top =
 pub record Seen (files : Option Files) (names : List (List ℕ)) (rows : List (Place × List ℕ))
     (archive : Option ℕ) (reads : List TableRead) : Type 0 where
   pub lists : Lists files names
-  pub no_segment : Any IsSegment names → ⊥
+  pub no_segment : Any IsNameOfSegment names → ⊥
   pub places : ArePlaces (Contains names) rows
   pub top : IsGreatestArchive names archive
   pub read : IfSome files (λ held. AreReadOf held rows reads)
@@ -216,7 +218,8 @@ pub record Seen (files : Option Files) (names : List (List ℕ)) (rows : List (P
 -- the reading was of the disk as it was
 pub seen_now : (files now : Option Files) (names : List (List ℕ)) (rows : List (Place × List ℕ))
     (archive : Option ℕ) (dump : Bool) (standing : Standing) → now ≡ files → Lists files names
-    → (Any IsSegment names → ⊥) → ArePlaces (Contains names) rows → IsGreatestArchive names archive
+    → (Any IsNameOfSegment names → ⊥) → ArePlaces (Contains names) rows
+    → IsGreatestArchive names archive
     → (read : HasRead dump now rows archive standing) → Seen files names rows archive read.reads
 seen_now files now names rows archive dump standing same lists no_segment places top read = record {
   lists = lists;
@@ -231,7 +234,7 @@ is_readable : (held : Files) (names : List (List ℕ)) (rows : List (Place × Li
     (archive : Option ℕ) (reads : List TableRead) → Seen (Some held) names rows archive reads
     → IsReadable held reads
 is_readable held names rows archive reads seen = record {
-  no_segment = λ has. seen.no_segment (held_any held names seen.lists IsSegment has);
+  no_segment = λ has. seen.no_segment (held_any held names seen.lists IsNameOfSegment has);
   tables = are_tables held rows reads (places_held held names rows seen.lists seen.places)
       seen.read;
 }
@@ -256,17 +259,17 @@ names_ids held names rows archive reads g seen is =
 -- ---- the rows
 
 first_bad : (files : Option Files) (names : List (List ℕ)) (name : List ℕ) (fault : TableFault)
-    → Lists files names → (Any IsSegment names → ⊥)
+    → Lists files names → (Any IsNameOfSegment names → ⊥)
     → IfSome files (λ held. IsFirstBad held name fault)
     → IfSome files (λ held. HasBadTable held name fault)
 first_bad None names name fault lists none bad = tt
 first_bad (Some held) names name fault lists none bad = record {
-  no_segment = λ has. none (held_any held names lists IsSegment has);
+  no_segment = λ has. none (held_any held names lists IsNameOfSegment has);
   bad = bad;
 }
 
 pub tables_refused : (files now : Option Files) (f g k : ℕ) (names : List (List ℕ))
-    (status : Status) → now ≡ files → Lists files names → (Any IsSegment names → ⊥) → f ≤ g
+    (status : Status) → now ≡ files → Lists files names → (Any IsNameOfSegment names → ⊥) → f ≤ g
     → TablesRefused now g k status → LookRefused files f k status
 tables_refused files now f g k names HasDiskFault same lists none later refused =
     omega (arith, later, refused)

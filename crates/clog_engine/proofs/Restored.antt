@@ -51,7 +51,7 @@ use Rattle.clog_base.specs.declared.cell.Cell.{Cell}
 use Rattle.clog_base.specs.declared.cell.CellKey.{CellKey}
 use Rattle.clog_base.specs.declared.cell.Table.{Table}
 use Rattle.clog_cells.specs.Merge.{IsMerge}
-use Rattle.clog_cells.proofs.Merging.{continues, none_yet, of_members, unique}
+use Rattle.clog_cells.proofs.Merging.{continues, none_yet, of_same, unique}
 use Rattle.clog_disk.specs.Files.{Files}
 use Rattle.clog_mutation.specs.declared.mutation.Mutation.{Mutation}
 use Rattle.clog_mutation.specs.Payload.{payload_of, cells_of, pair_of}
@@ -65,98 +65,48 @@ use Rattle.clog_table.specs.declared.table_file.TableFile.{TableFile}
 use Rattle.clog_engine.specs.Apply.{segment_of}
 use Rattle.clog_engine.specs.Input.{entries_of}
 use Rattle.clog_engine.specs.Limits.{capacity}
-use Rattle.clog_engine.specs.Directory.{
+use Rattle.clog_crash.specs.Folder.{
   Place,
   TableRead,
   place_of,
-  cells_in,
   cells_of_tables,
   AreTables,
   IsReadFrom,
   IsNameOf,
   IsHeld,
-  HasSegment,
+  HasSegmentFile,
   NamesId,
 }
-use Rattle.clog_engine.specs.Restore.{
+use Rattle.clog_crash.specs.Restore.{
   HoldsSegment,
   IsLogged,
   IsSkipped,
-  IsTableCell,
   IsLoggedCell,
   IsRestored,
+  Restores,
   IsGoodSegment,
   IsUndamaged,
   IsAdded,
 }
-use Rattle.clog_engine.proofs.Members.{all_have, in_map, from_map, in_flat, from_flat}
-use Rattle.clog_engine.proofs.Members.{payload_in, entry_in}
+use Rattle.clog_crash.proofs.Folders.{
+  was_no_segment,
+  restored_tables,
+  undamaged_tables,
+  one_restored,
+}
+use Rattle.clog_base.proofs.Members.{all_have, in_map, from_map, in_flat, from_flat}
+use Rattle.clog_crash.proofs.Members.{payload_in, entry_in}
+use Rattle.clog_crash.proofs.OneMore.{some_is, new_or_old, stays, is_there, bytes_of}
+use Rattle.clog_crash.proofs.TableFiles.{known_read, table_cell_in, in_table_cell}
 use Rattle.clog_cells.proofs.Made.{merge_of}
-use Rattle.clog_engine.proofs.PlainFolder.{read_of, one_table_file}
 use Rattle.clog_engine.proofs.SegmentHeld.{held, segment_is_file}
-
--- ---- one file more
-
-is_equal : (r : Ordering) → is_eq r ≡ true → r ≡ Equal
-is_equal Less e = cc
-is_equal Equal e = refl
-is_equal Greater e = cc
-
--- whether two names are one
-abbrev is_same : List ℕ → List ℕ → Bool
-is_same a b = eq_by_cmp (slice_cmp nat_cmp) a b
-
-same_name : (a b : List ℕ) → is_same a b ≡ true → a ≡ b
-same_name a b e = exact_bytes a b (is_equal (slice_cmp nat_cmp a b) e)
-
-other_name : (a b : List ℕ) → (a ≡ b → ⊥) → (test : Bool) → is_same a b ≡ test → test ≡ false
-other_name a b apart true e = absurd (apart (same_name a b e))
-other_name a b apart false e = refl
-
-some_is : {A : Type 0} (x y : A) → Some x ≡ Some y → x ≡ y
-some_is x y e = ap (λ (o : Option _). unwrap_or o x) e
-
-by_test : {A : Type 0} (test : Bool) (x y z : A) → cond test x y ≡ z
-    → ((test ≡ true) × (x ≡ z)) ⊎ (y ≡ z)
-by_test true x y z e = inl (refl, e)
-by_test false x y z e = inr e
-
--- what stands at a name is the new file, or stood there before
-new_or_old : (files : Files) (name bytes other : List ℕ) (o : Option (List ℕ))
-    → finmap.get (finmap.insert files name bytes) other ≡ o
-    → ((other ≡ name) × (Some bytes ≡ o)) ⊎ (finmap.get files other ≡ o)
-new_or_old files name bytes other o e =
-    elim (by_test (is_same other name) (Some bytes) (finmap.get files other) o
-    (sym (get-insert nat_list_cmp_total files name bytes other) ∙ e)) [
-      | inl new ↦ inl (same_name other name new.0, new.1)
-      | inr old ↦ inr old
-    ]
-
-stays : (files : Files) (name bytes other there : List ℕ) → (other ≡ name → ⊥)
-    → finmap.get files other ≡ Some there
-    → finmap.get (finmap.insert files name bytes) other ≡ Some there
-stays files name bytes other there apart e =
-    get-insert nat_list_cmp_total files name bytes other
-    ∙ ap (λ (test : Bool). cond test (Some bytes) (finmap.get files other))
-    (other_name other name apart (is_same other name) refl) ∙ e
-
-is_there : (files : Files) (name bytes : List ℕ)
-    → finmap.get (finmap.insert files name bytes) name ≡ Some bytes
-is_there files name bytes =
-    get-insert nat_list_cmp_total files name bytes name
-    ∙ ap (λ (test : Bool). cond test (Some bytes) (finmap.get files name))
-    ((eq_by_cmp_equiv nat_list_cmp_total).refl name)
-
-bytes_of : (o : Option (List ℕ)) → IsSome o → (bytes : List ℕ) × (o ≡ Some bytes)
-bytes_of None there = cc
-bytes_of (Some bytes) there = (bytes, refl)
 
 -- ---- one segment more
 
 -- A directory that has no segment, and a new one above all its ids.
 pub record IsNew (before : Files) (reads : List TableRead) (id : ℕ) (ms : List Mutation) : Type 0
   where
-    pub no_segment : ¬ HasSegment before
+    pub no_segment : ¬ HasSegmentFile before
     pub tables : AreTables before reads
     pub above : (n : ℕ) → NamesId before reads n → n < id
     pub fits : id < 2 ^ 63
@@ -171,11 +121,6 @@ logged_entries ms = entries_from 28 (map payload_of ms)
 
 is_named : (id : ℕ) → id < 2 ^ 63 → IsSegmentName (segment_name_of 6 id) 6 id
 is_named id fits = record { form = refl; version_fits = omega arith; id_fits = fits }
-
-was_no_segment : (before : Files) (name bytes : List ℕ) (version id : ℕ) → ¬ HasSegment before
-    → IsSegmentName name version id → finmap.get before name ≡ Some bytes → ⊥
-was_no_segment before name bytes version id none named there =
-    none (name, ap is_some there, (version, (id, named)))
 
 -- ---- table files
 
@@ -230,35 +175,6 @@ tables_stay before reads id ms fits tables = record {
   every = λ place name named there. tables.every place name named
       (held_before before id ms place name fits named there);
 }
-
--- a table file that is there is one of those that were read
-known_read : (files : Files) (reads : List TableRead) → AreTables files reads
-    → (read : TableRead) → IsReadFrom files read
-    → (other : TableRead) × Contains reads other × (other.file ≡ read.file)
-known_read files reads tables read r =
-    let found = read_of files reads (place_of read) r.name r.good.bytes tables r.named
-    r.good.there in (
-      found.0,
-      found.1,
-      one_table_file read.file.table r.good.bytes read.file found.0.file r.good.spelled found.3,
-    )
-
-table_cell_in : (files : Files) (reads : List TableRead) (pair : CellKey × Cell)
-    → AreTables files reads → IsTableCell files pair → Contains (cells_of_tables reads) pair
-table_cell_in files reads pair tables c =
-    let known = known_read files reads tables c.read c.there in
-    in_flat cells_in reads known.0 pair known.1
-    (subst (λ (f : TableFile). Contains f.cells pair) (sym known.2) c.listed)
-
-in_table_cell : (files : Files) (reads : List TableRead) (pair : CellKey × Cell)
-    → AreTables files reads → Contains (cells_of_tables reads) pair → IsTableCell files pair
-in_table_cell files reads pair tables h =
-    let found = from_flat cells_in reads pair h in
-    record {
-      read = found.0;
-      there = All-contains (IsReadFrom files) reads found.0 tables.each found.1;
-      listed = found.2;
-    }
 
 -- ---- the log
 
@@ -373,27 +289,6 @@ in_logged_cell before reads id ms new pair h =
 
 -- ---- what is restored
 
-nothing_logged : (before : Files) (pair : CellKey × Cell) → ¬ HasSegment before
-    → IsLoggedCell before pair → ⊥
-nothing_logged before pair none c =
-    let s = c.logged.segment in
-    was_no_segment before c.logged.name s.bytes 6 c.id none s.named s.there
-
-pub restored_tables : (before : Files) (reads : List TableRead) (rows : List (CellKey × Cell))
-    → ¬ HasSegment before → AreTables before reads → IsMerge (cells_of_tables reads) rows
-    → IsRestored before rows
-restored_tables before reads rows none tables merge = record {
-  pairs = cells_of_tables reads;
-  all = λ pair. (
-    λ h. inl (in_table_cell before reads pair tables h),
-    λ r. elim r [
-      | inl cell ↦ table_cell_in before reads pair tables cell
-      | inr cell ↦ absurd (nothing_logged before pair none cell)
-    ],
-  );
-  merge = merge;
-}
-
 restored_with : (before : Files) (reads : List TableRead) (id : ℕ) (ms : List Mutation)
     (rows : List (CellKey × Cell)) → IsNew before reads id ms
     → IsMerge (cells_of_tables reads ++ flat_map cells_of ms) rows
@@ -403,33 +298,20 @@ restored_with before reads id ms rows new merge =
     let cells = cells_of_tables reads in
     let more = flat_map cells_of ms in
     let tables = tables_stay before reads id ms new.fits new.tables in
-    record {
-      pairs = cells ++ more;
-      all = λ pair. (
-        λ h. elim (Contains-append_cases cells more pair h) [
-          | inl l ↦ inl (in_table_cell after reads pair tables l)
-          | inr l ↦ inr (in_logged_cell before reads id ms new pair l)
-        ],
-        λ r. elim r [
-          | inl cell ↦ Contains-append_left cells more pair
-              (table_cell_in after reads pair tables cell)
-          | inr cell ↦ Contains-append_right cells more pair
-              (logged_cell_in before reads id ms new pair cell)
-        ],
-      );
-      merge = merge;
-    }
+    of_same (Contains (cells ++ more)) (Restores after) rows (λ pair. (
+      λ h. elim (Contains-append_cases cells more pair h) [
+        | inl l ↦ inl (in_table_cell after reads pair tables l)
+        | inr l ↦ inr (in_logged_cell before reads id ms new pair l)
+      ],
+      λ r. elim r [
+        | inl cell ↦ Contains-append_left cells more pair
+            (table_cell_in after reads pair tables cell)
+        | inr cell ↦ Contains-append_right cells more pair
+            (logged_cell_in before reads id ms new pair cell)
+      ],
+    )) merge
 
 -- ---- nothing is damaged
-
-pub undamaged_tables : (before : Files) (reads : List TableRead) → ¬ HasSegment before
-    → AreTables before reads → IsUndamaged before
-undamaged_tables before reads none tables = record {
-  reads = reads;
-  tables = tables;
-  segments = λ name version id named there.
-      absurd (none (name, there, (version, (id, named))));
-}
 
 new_is_good : (before : Files) (reads : List TableRead) (id : ℕ) (ms : List Mutation)
     → IsNew before reads id ms
@@ -464,7 +346,7 @@ undamaged_with before reads id ms new =
 
 -- ---- all of it
 
-pub added_none : (before : Files) (reads : List TableRead) → ¬ HasSegment before
+pub added_none : (before : Files) (reads : List TableRead) → ¬ HasSegmentFile before
     → AreTables before reads → IsAdded before before []
 added_none before reads none tables =
     let rows = merge_of (cells_of_tables reads) in
@@ -494,21 +376,9 @@ added_some before reads id ms new =
       undamaged = undamaged_with before reads id ms new;
     }
 
--- files restore to one list of rows
-pub one_restored : (files : Files) (rows others : List (CellKey × Cell)) → IsRestored files rows
-    → IsRestored files others → rows ≡ others
-one_restored files rows others one other =
-    unique other.pairs rows others
-    (of_members one.pairs other.pairs rows
-    (λ pair. (
-      λ h. (other.all pair).1 ((one.all pair).0 h),
-      λ h. (one.all pair).1 ((other.all pair).0 h),
-    )) one.merge)
-    other.merge
-
 -- what the table files' cells and the mutations' merge to is what is restored now
 pub told_rows : (before after : Files) (reads : List TableRead) (ms : List Mutation)
-    (rows : List (CellKey × Cell)) → ¬ HasSegment before → AreTables before reads
+    (rows : List (CellKey × Cell)) → ¬ HasSegmentFile before → AreTables before reads
     → IsMerge (cells_of_tables reads ++ flat_map cells_of ms) rows
     → (added : IsAdded before after ms) → rows ≡ added.rows_now
 told_rows before after reads ms rows none tables merge added =

@@ -31,7 +31,8 @@ use Rattle.clog_scan.specs.Cut.{Section, entries_bytes, sections_bytes}
 use Rattle.clog_scan.specs.Laws.{IsFile}
 use Rattle.clog_scan.specs.Segment.{Entry, entries_from, IsSegment}
 use Rattle.clog_scan.proofs.Written.{written}
-use Rattle.clog_engine.specs.Apply.{front_of, segment_of}
+use Rattle.clog_engine.specs.Apply.{segment_of}
+use Rattle.clog_engine.specs.Reading.{front_of}
 use Rattle.clog_engine.specs.Input.{entry_of, entries_of}
 use Rattle.clog_engine.specs.Limits.{capacity}
 use Rattle.clog_engine.proofs.Applied.{length-front_of}
@@ -56,19 +57,31 @@ long_payloads (m ∷ ms) stored =
 abbrev section_of : List Mutation → Section
 section_of ms = record { until = 28 + length (entries_of ms); payloads = payloads_of ms }
 
+-- in two pieces
+pub segment_is : (id : ℕ) (ms : List Mutation)
+    → front_of id (28 + length (entries_of ms)) ++ entries_of ms ≡ segment_of id ms
+unfolding front_of segment_of
+segment_is id ms =
+    append_assoc (header_bytes id) (marker_bytes id 20 (28 + length (entries_of ms)))
+    (entries_of ms)
+
 pub length-segment_of : (id : ℕ) (ms : List Mutation)
     → length (segment_of id ms) ≡ 28 + length (entries_of ms)
 length-segment_of id ms =
     let end = 28 + length (entries_of ms) in
-    omega (arith, length-append (front_of id end) (entries_of ms), length-front_of id end)
+    omega (
+      arith,
+      ap length (segment_is id ms),
+      length-append (front_of id end) (entries_of ms),
+      length-front_of id end,
+    )
 
 in_sections : (id : ℕ) (ms : List Mutation)
     → segment_of id ms ≡ header_bytes id ++ sections_bytes id 20 (section_of ms ∷ [])
-unfolding front_of
+unfolding segment_of
 in_sections id ms =
     let marker = marker_bytes id 20 (28 + length (entries_of ms)) in
-    append_assoc (header_bytes id) marker (entries_of ms)
-    ∙ ap (λ l. header_bytes id ++ (marker ++ l))
+    ap (λ l. header_bytes id ++ (marker ++ l))
     (same_entries ms ∙ sym (append-nil (entries_bytes (payloads_of ms))))
 
 -- what is written fits a file

@@ -61,7 +61,7 @@ use Rattle.clog_engine.specs.declared.status.Status.TheVariants.{
   BadTable,
   OutOfMemory,
 }
-use Rattle.clog_engine.specs.Directory.{
+use Rattle.clog_crash.specs.Folder.{
   Place,
   place_cmp,
   place_of,

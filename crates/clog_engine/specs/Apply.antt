@@ -22,7 +22,7 @@ use Rattle.std.specs.declared.result.Result.TheVariants as result
 use Rattle.std.specs.List.{AllByRecursion}
 use Rattle.std.specs.FinMap as map
 use Rattle.clog_spec.specs.Names.{segment_name_of}
-use Rattle.clog_spec.specs.Segment.{header_bytes, marker_bytes}
+use Rattle.clog_spec.specs.Segment.{header_bytes, section_bytes}
 use Rattle.clog_base.specs.declared.fault.Quantity.TheVariants.{FileBytes, Lines, Ids, TableFiles}
 use Rattle.clog_io.specs.Bytes.{TakesAll}
 use Rattle.clog_io.specs.Causes.{Rose}
@@ -43,7 +43,8 @@ use Rattle.clog_engine.specs.declared.status.Status.TheVariants.{
   Limit,
   NotBuilt,
 }
-use Rattle.clog_engine.specs.Limits.{file_limit, sequence_limit, id_limit}
+use Rattle.clog_spec.specs.Sizes.{file_limit, header_size}
+use Rattle.clog_engine.specs.Limits.{sequence_limit, id_limit}
 use Rattle.clog_engine.specs.Input.{
   IsAccepted,
   HasManyLines,
@@ -53,27 +54,14 @@ use Rattle.clog_engine.specs.Input.{
   IsGood,
   entries_of,
 }
-use Rattle.clog_engine.specs.Directory.{
-  TableRead,
-  NamesId,
-  IsBase,
-  HasSegment,
-  HasBadTable,
-  HasManyTables,
-  HasGreatId,
-  IsPlainDirectory,
-  cells_of_tables,
-}
+use Rattle.clog_crash.specs.Folder.{TableRead, NamesId, IsBase, HasSegmentFile, cells_of_tables}
+use Rattle.clog_engine.specs.Directory.{HasBadTable, HasManyTables, HasGreatId, IsPlainDirectory}
 use Rattle.clog_engine.specs.Outside.{Outside, IsUntouched}
 use Rattle.clog_engine.specs.Report.{IsReport}
 
--- the front of the segment of an id: its header, and the marker of a section that ends there
-unfoldable pub front_of : ℕ → ℕ → List ℕ
-front_of id end = header_bytes id ++ marker_bytes id 20 end
-
--- the segment of an id: its front, and all entries
-abbrev pub segment_of : ℕ → List Mutation → List ℕ
-segment_of id mutations = front_of id (28 + length (entries_of mutations)) ++ entries_of mutations
+-- the segment of an id: its header, and one section with all entries
+unfoldable pub segment_of : ℕ → List Mutation → List ℕ
+segment_of id mutations = header_bytes id ++ section_bytes id header_size (entries_of mutations)
 
 -- told files gain this one
 abbrev pub Gains : Option Files → Option Files → List ℕ → List ℕ → Type 0
@@ -93,8 +81,8 @@ Lands o id [] = IsUntouched o
 Lands o id (first ∷ more) = HasLanded o id (segment_of id (first ∷ more))
 
 -- The source was read to its end, and the bytes that it gave are such.
-abbrev pub Reads : Outside → (List ℕ → Type 0) → Type 0
-Reads o P = (bytes : List ℕ) × TakesAll o.left o.left_now bytes × P bytes
+abbrev pub ReadsToEnd : Outside → (List ℕ → Type 0) → Type 0
+ReadsToEnd o P = (bytes : List ℕ) × TakesAll o.left o.left_now bytes × P bytes
 
 -- The directory is good and these are its table files; the clock told a moment, and the id is the
 -- greater of it and one more than each id of the directory.
@@ -146,28 +134,28 @@ LeavesPart o Part = IsUntouched o ⊎ IsPartly o Part
 -- Why nothing is reported, and what is left of the disk: each row with all that comes before it.
 abbrev pub ApplyRefuses : Status → Outside → Type 0
 ApplyRefuses (BadLine number cause) o =
-    Reads o (λ bytes. HasBadLine bytes number cause) × IsUntouched o
+    ReadsToEnd o (λ bytes. HasBadLine bytes number cause) × IsUntouched o
 ApplyRefuses (TooLarge number size most) o =
-    Reads o (λ bytes. HasLargeLine bytes number size most) × IsUntouched o
+    ReadsToEnd o (λ bytes. HasLargeLine bytes number size most) × IsUntouched o
 ApplyRefuses ReadFault o = Rose o.source_faults o.source_faults_now × IsUntouched o
 ApplyRefuses DiskFault o =
-    Reads o IsGood × Rose o.disk_faults o.disk_faults_now × LeavesPart o (BrokeOff o)
+    ReadsToEnd o IsGood × Rose o.disk_faults o.disk_faults_now × LeavesPart o (BrokeOff o)
 ApplyRefuses (BadTable name fault) o =
-    Reads o IsGood × IfSome o.files (λ files. HasBadTable files name fault) × IsUntouched o
+    ReadsToEnd o IsGood × IfSome o.files (λ files. HasBadTable files name fault) × IsUntouched o
 ApplyRefuses OutOfMemory o = LeavesPart o (NothingOrAll o)
 ApplyRefuses (Limit FileBytes most) o =
     (most ≡ file_limit) × IfSome o.left (λ bytes. file_limit < length bytes) × IsUntouched o
-ApplyRefuses (Limit Lines most) o = (most ≡ line_limit) × Reads o HasManyLines × IsUntouched o
+ApplyRefuses (Limit Lines most) o = (most ≡ line_limit) × ReadsToEnd o HasManyLines × IsUntouched o
 ApplyRefuses (Limit TableFiles most) o =
-    (most ≡ sequence_limit) × Reads o IsGood × IfSome o.files HasManyTables × IsUntouched o
+    (most ≡ sequence_limit) × ReadsToEnd o IsGood × IfSome o.files HasManyTables × IsUntouched o
 ApplyRefuses (Limit Ids most) o =
-    (most ≡ id_limit) × Reads o IsGood × IfSome o.files HasGreatId × IsUntouched o
-ApplyRefuses (NotBuilt Segment) o = Reads o HasNoRoom × IsUntouched o
+    (most ≡ id_limit) × ReadsToEnd o IsGood × IfSome o.files HasGreatId × IsUntouched o
+ApplyRefuses (NotBuilt Segment) o = ReadsToEnd o HasNoRoom × IsUntouched o
 ApplyRefuses (NotBuilt Directory) o =
-    Reads o IsGood × IfSome o.files HasSegment × IsUntouched o
+    ReadsToEnd o IsGood × IfSome o.files HasSegmentFile × IsUntouched o
 ApplyRefuses other o = ⊥
 
 -- a report, or why there is none
 abbrev pub Applies : Bool → Outside → Result (List ℕ) Status → Type 0
-Applies dump o (result.Ok report) = Reads o (IsApplied o dump report)
+Applies dump o (result.Ok report) = ReadsToEnd o (IsApplied o dump report)
 Applies dump o (result.Err status) = ApplyRefuses status o

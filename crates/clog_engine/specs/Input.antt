@@ -23,7 +23,8 @@ use Rattle.clog_text.specs.declared.refusal.BadLine.{BadLine}
 use Rattle.clog_text.specs.declared.refusal.BadLine.TheVariants.{OutOfMemory as no_memory}
 use Rattle.clog_text.specs.FileLines.{lines_of, line_limit}
 use Rattle.clog_text.specs.FileMutations.{file_mutations}
-use Rattle.clog_engine.specs.Limits.{file_limit, capacity, entry_limit}
+use Rattle.clog_spec.specs.Sizes.{file_limit, frame_size, front_size}
+use Rattle.clog_engine.specs.Limits.{capacity, entry_limit}
 
 -- the entry of a mutation
 unfoldable pub entry_of : Mutation → List ℕ
@@ -35,7 +36,7 @@ entries_of mutations = flat_map entry_of mutations
 
 -- the size of a mutation's entry
 abbrev pub entry_size : Mutation → ℕ
-entry_size mutation = length (payload_of mutation) + 12
+entry_size mutation = length (payload_of mutation) + frame_size
 
 abbrev pub HasFittingEntry : Mutation → Type 0
 HasFittingEntry mutation = entry_size mutation ≤ entry_limit
@@ -58,7 +59,7 @@ pub record IsSized (bytes : List ℕ) (mutations : List Mutation) : Type 0 where
 -- And all entries have room in one segment, behind its header and its marker.
 pub record IsAccepted (bytes : List ℕ) (mutations : List Mutation) : Type 0 where
   pub sized : IsSized bytes mutations
-  pub room : 28 + length (entries_of mutations) < capacity
+  pub room : front_size + length (entries_of mutations) < capacity
 
 -- The file has too many lines.
 pub record HasManyLines (bytes : List ℕ) : Type 0 where
@@ -94,7 +95,7 @@ pub record HasLargeLine (bytes : List ℕ) (number size most : ℕ) : Type 0 whe
 pub record HasNoRoom (bytes : List ℕ) : Type 0 where
   pub mutations : List Mutation
   pub sized : IsSized bytes mutations
-  pub large : capacity ≤ 28 + length (entries_of mutations)
+  pub large : capacity ≤ front_size + length (entries_of mutations)
 
 -- All is good.
 pub record IsGood (bytes : List ℕ) : Type 0 where

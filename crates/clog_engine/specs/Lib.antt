@@ -1,3 +1,5 @@
+pub mod Adds
+pub mod Answering
 pub mod Apply
 pub mod Completes
 pub mod Directory
@@ -8,10 +10,10 @@ pub mod Limits
 pub mod Listing
 pub mod Looking
 pub mod Outside
+pub mod Quiet
 pub mod Reading
 pub mod Report
 pub mod Request
-pub mod Restore
 pub mod Run
 pub mod ScanReport
 pub mod Scanning

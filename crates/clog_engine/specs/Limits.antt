@@ -1,13 +1,10 @@
 -- How much a run takes. Sizes are in bytes.
 use Rattle.std.specs.Prelude.{ℕ}
-
--- of the mutation file
-abbrev pub file_limit : ℕ
-file_limit = 67108864
+use Rattle.clog_spec.specs.Sizes.{file_limit, greatest_capacity}
 
 -- of a segment
 abbrev pub capacity : ℕ
-capacity = 33554432
+capacity = greatest_capacity
 
 -- of an entry: half a segment
 abbrev pub entry_limit : ℕ
@@ -15,7 +12,7 @@ entry_limit = 16777216
 
 -- of a segment's file that is scanned
 abbrev pub scan_limit : ℕ
-scan_limit = 67108864
+scan_limit = file_limit
 
 -- of the sequences of a table's files, at most this
 abbrev pub sequence_limit : ℕ

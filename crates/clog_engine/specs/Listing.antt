@@ -4,7 +4,7 @@ use Rattle.std.specs.List.Sorted.{IsStrictlySortedBy}
 use Rattle.std.specs.Map.{keys_of}
 use Rattle.clog_spec.specs.Names.{IsArchiveName}
 use Rattle.clog_engine.specs.Limits.{id_limit}
-use Rattle.clog_engine.specs.Directory.{Place, place_cmp, IsNameOf, IsGreatest}
+use Rattle.clog_crash.specs.Folder.{Place, place_cmp, IsNameOf, IsGreatest}
 
 -- the greater of two ids, of which the first may be none
 abbrev pub greater : Option ℕ → ℕ → Option ℕ

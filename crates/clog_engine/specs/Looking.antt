@@ -52,7 +52,7 @@ use Rattle.clog_engine.specs.declared.status.Status.TheVariants.{
 use Rattle.clog_engine.specs.declared.standing.Standing.{Standing}
 use Rattle.clog_engine.specs.Limits.{sequence_limit, id_limit}
 use Rattle.clog_engine.specs.Listing.{greater}
-use Rattle.clog_engine.specs.Directory.{
+use Rattle.clog_crash.specs.Folder.{
   Place,
   TableRead,
   place_of,
@@ -61,13 +61,10 @@ use Rattle.clog_engine.specs.Directory.{
   IsGreatest,
   IsReadFrom,
   IsGoodTable,
-  HasSegment,
-  HasBadTable,
+  HasSegmentFile,
   IsFirstBad,
-  HasManyTables,
-  HasGreatId,
-  IsPlainDirectory,
 }
+use Rattle.clog_engine.specs.Directory.{HasBadTable, HasManyTables, HasGreatId, IsPlainDirectory}
 
 -- Nothing on the disk has changed, and its count of faults has not fallen.
 pub record Keeps (files files_now : Option Files)
@@ -184,7 +181,7 @@ pub record Stands (dump : Bool) (files : Option Files) (standing : Standing) : T
 abbrev pub LookRefused : Option Files → ℕ → ℕ → Status → Type 0
 LookRefused files faults now HasDiskFault = Rose faults now
 LookRefused files faults now OutOfMemory = ⊤
-LookRefused files faults now (NotBuilt Directory) = IfSome files HasSegment
+LookRefused files faults now (NotBuilt Directory) = IfSome files HasSegmentFile
 LookRefused files faults now (BadTable name fault) =
     IfSome files (λ held. HasBadTable held name fault)
 LookRefused files faults now (Limit TableFiles most) =

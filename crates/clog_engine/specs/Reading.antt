@@ -1,5 +1,5 @@
 -- What the steps of reading answer: for private clauses.
-use Rattle.std.specs.Prelude.{◌≡◌, ℕ, ◌+◌, ◌<◌, ◌≤◌, List, length, Option, IfSome, ⊤, Result, Vec}
+use Rattle.std.specs.Prelude.{◌≡◌, ℕ, ◌+◌, ◌<◌, ◌≤◌, List, ◌++◌, length, Option, IfSome, ⊤, Result, Vec}
 use Rattle.std.specs.declared.alloc.Global.{Global}
 use Rattle.std.specs.declared.result.Result.TheVariants as result
 use Rattle.std.specs.List.{AllByRecursion}
@@ -25,7 +25,9 @@ use Rattle.clog_engine.specs.Input.{
   HasLargeMutation,
   entries_of,
 }
-use Rattle.clog_engine.specs.Limits.{file_limit, capacity}
+use Rattle.clog_spec.specs.Segment.{header_bytes, marker_bytes}
+use Rattle.clog_spec.specs.Sizes.{file_limit, front_size, header_size}
+use Rattle.clog_engine.specs.Limits.{capacity}
 
 -- ---- the bytes of the source
 
@@ -67,7 +69,8 @@ GivesMutations bytes (result.Err status) = MutationsRefused bytes status
 abbrev pub SizesRefused : List Mutation → Status → Type 0
 SizesRefused mutations (TooLarge number size most) = HasLargeMutation mutations number size most
 SizesRefused mutations (NotBuilt Segment) =
-    AllByRecursion HasFittingEntry mutations × (capacity ≤ 28 + length (entries_of mutations))
+    AllByRecursion HasFittingEntry mutations
+    × (capacity ≤ front_size + length (entries_of mutations))
 SizesRefused mutations other = ⊥
 
 -- the size of all entries, or the first that is too large
@@ -80,8 +83,14 @@ SumsSizes mutations (result.Err status) = SizesRefused mutations status
 pub record HasSize (mutations : List Mutation) (size : ℕ) : Type 0 where
   pub each : AllByRecursion HasFittingEntry mutations
   pub size_is : size ≡ length (entries_of mutations)
-  pub room : 28 + size < capacity
+  pub room : front_size + size < capacity
 
 abbrev pub GivesSize : List Mutation → Result ℕ Status → Type 0
 GivesSize mutations (result.Ok size) = HasSize mutations size
 GivesSize mutations (result.Err status) = SizesRefused mutations status
+
+-- ---- the front of a segment
+
+-- its header, and the marker of a section that ends there
+unfoldable pub front_of : ℕ → ℕ → List ℕ
+front_of id end = header_bytes id ++ marker_bytes id header_size end

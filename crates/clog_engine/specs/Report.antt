@@ -28,15 +28,19 @@ line text = text ++ 10 ∷ []
 abbrev pub applied_line : ℕ → List ℕ
 applied_line lines = line (codes "applied " ++ decimal lines)
 
--- how many lines were applied, and the cells that those of before and the mutations merge to, a
--- line each
+-- the report of mutations, with the rows where they are asked for
+abbrev pub report_of : Bool → List Mutation → List (CellKey × Cell) → List ℕ
+report_of false mutations rows = applied_line (length mutations)
+report_of true mutations rows = applied_line (length mutations) ++ flat_map row_line rows
+
+-- the report has the cells that those of before and the mutations merge to
 pub record IsDump (before : List (CellKey × Cell)) (mutations : List Mutation) (report : List ℕ)
     : Type 0 where
   pub rows : List (CellKey × Cell)
   pub merge : IsMerge (before ++ flat_map cells_of mutations) rows
-  pub text : report ≡ applied_line (length mutations) ++ flat_map row_line rows
+  pub text : report ≡ report_of true mutations rows
 
 -- The report of mutations over the cells of before, with the cells where they are asked for.
 abbrev pub IsReport : Bool → List (CellKey × Cell) → List Mutation → List ℕ → Type 0
-IsReport false before mutations report = report ≡ applied_line (length mutations)
+IsReport false before mutations report = report ≡ report_of false mutations []
 IsReport true before mutations report = IsDump before mutations report

@@ -1,46 +1,15 @@
--- What a run answers, what it leaves and what it prints.
-use Rattle.std.specs.Prelude.{◌≡◌, ◌⊎◌, ℕ, List, Option, Some, None, String, Result}
+-- All that is promised of a run.
+use Rattle.std.specs.Prelude.{List, String}
 use Rattle.std.specs.declared.alloc.Global.{Global}
-use Rattle.std.specs.declared.result.Result.TheVariants as result
 use Rattle.clog_engine.specs.declared.status.Status.{Status}
-use Rattle.clog_engine.specs.declared.status.Status.TheVariants.{Ok, Usage, WriteFault}
-use Rattle.clog_engine.specs.declared.words.Request.{Request}
-use Rattle.clog_engine.specs.declared.words.Request.TheVariants.{Apply, Scan}
-use Rattle.clog_engine.specs.Request.{Asks}
-use Rattle.clog_engine.specs.Scanning.{Scans}
-use Rattle.clog_engine.specs.Faults.{fault_line}
-use Rattle.clog_engine.specs.Outside.{Outside, IsUntouched, Sinks, Writes, Breaks}
-use Rattle.clog_engine.specs.Apply.{Applies}
+use Rattle.clog_engine.specs.Adds.{Adds}
+use Rattle.clog_engine.specs.Answering.{Answers}
+use Rattle.clog_engine.specs.Completes.{Completes}
+use Rattle.clog_engine.specs.Outside.{Outside, Sinks}
 
--- nothing was taken from the source
-pub record IsUnread (o : Outside) : Type 0 where
-  pub left : o.left_now ≡ o.left
-  pub faults : o.source_faults_now ≡ o.source_faults
-
--- What is asked for is done and reported, or is refused; no request at all is refused.
-abbrev pub Does : Option Request → Outside → Result (List ℕ) Status → Type 0
-Does None o outcome = (outcome ≡ result.Err Usage) × IsUntouched o × IsUnread o
-Does (Some (Apply dump)) o outcome = Applies dump o outcome
-Does (Some (Scan id)) o outcome =
-    Scans id o.files o.disk_faults o.disk_faults_now outcome × IsUntouched o × IsUnread o
-
--- a report goes out whole, or the sink fails
-abbrev pub Reports : List ℕ → Status → Sinks → Type 0
-Reports report Ok s = Writes s report
-Reports report WriteFault s = Breaks s report
-Reports report other s = ⊥
-
--- A refusal is the status, and its line alone goes out, or the sink fails at it.
-abbrev pub Prints : Result (List ℕ) Status → Status → Sinks → Type 0
-Prints (result.Ok report) status s = Reports report status s
-Prints (result.Err refusal) status s =
-    (status ≡ refusal) × (Writes s (fault_line refusal) ⊎ Breaks s (fault_line refusal))
-
--- What the words ask for comes to a report or a refusal, and the status and the sink tell it.
-pub record Answers (words : List (String Global)) (o : Outside) (s : Sinks) (status : Status)
+-- What it answers, that it completes, and what it adds.
+pub record Runs (words : List (String Global)) (o : Outside) (s : Sinks) (status : Status)
     : Type 0 where
-  pub request : Option Request
-  pub asked : Asks words request
-  pub outcome : Result (List ℕ) Status
-  pub done : Does request o outcome
-  pub printed : Prints outcome status s
+  pub answers : Answers words o s status
+  pub completes : Completes words o s status
+  pub adds : Adds words o s status

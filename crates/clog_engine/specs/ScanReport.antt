@@ -1,6 +1,7 @@
 -- What `scan` prints.
 use Rattle.std.specs.Prelude.{ℕ, ◌-◌, List, ◌++◌, length, codes, decimal}
 use Rattle.std.specs.List.{flat_map}
+use Rattle.clog_spec.specs.Sizes.{frame_size}
 use Rattle.clog_entry.specs.CauseText.{cause_text}
 use Rattle.clog_scan.specs.declared.answer.End.{End}
 use Rattle.clog_scan.specs.declared.answer.End.TheVariants.{Clean, Torn}
@@ -19,9 +20,9 @@ range_line start end size =
 abbrev pub entry_line : Entry → List ℕ
 entry_line e = range_line e.start e.end (length e.payload)
 
--- the same by the range alone: an entry has 12 bytes around its payload
+-- the same by the range alone
 abbrev pub found_line : Found → List ℕ
-found_line f = range_line f.start f.end (f.end - f.start - 12)
+found_line f = range_line f.start f.end (f.end - f.start - frame_size)
 
 abbrev pub end_line : End → List ℕ
 end_line (Clean at) = line (codes "end clean " ++ decimal at)

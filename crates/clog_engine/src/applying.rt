@@ -1,6 +1,7 @@
 //! The mutation file is applied: it becomes one segment and a report.
 ghost use Rattle.std.specs.Prelude.{◌≡◌};
 ghost use Rattle.clog_engine.specs.Apply.{Applies};
+ghost use Rattle.clog_engine.specs.Quiet.{TellsEach, IsRefusedBefore};
 
 use crate::input::{bytes_of, mutations_of};
 use crate::landing::{land, status_of};
@@ -13,6 +14,7 @@ use clog_base::{Bytes, OutOfMemory, segment_name};
 use clog_disk::Disk;
 use clog_io::{Clock, Source};
 use std::alloc::Global;
+use std::thread::Threads;
 
 impl From<OutOfMemory> for Status {
     ghost use Rattle.clog_engine.specs.declared.status.Status.TheVariants.{
@@ -28,14 +30,15 @@ impl From<OutOfMemory> for Status {
 
 /// Applies the source's mutations to the disk, and gives the report. All memory is taken before the
 /// disk changes.
-pub(crate) fn apply<S: Source, D: Disk, C: Clock>(
+pub(crate) fn apply<T: Threads + Sync, S: Source, D: Disk, C: Clock>(
+    rt: &T,
     alloc: Global,
     dump: bool,
     source: &mut S,
     disk: &mut D,
     clock: &C,
 ) -> Result<Bytes, Status>
-    ensures { Applies dump (record {
+    ensures applies { Applies dump (record {
       left = S.left source.old;
       left_now = S.left source.new;
       source_faults = S.faults source.old;
@@ -48,9 +51,11 @@ pub(crate) fn apply<S: Source, D: Disk, C: Clock>(
       disk_faults_now = D.faults disk.new;
       tells = C.tells clock.now;
     }) result }
+    ensures quiet { TellsEach (D.faults disk.old) (D.faults disk.new) result }
+    ensures uncalled { IsRefusedBefore result → disk.new ≡ disk.old }
 {
     let bytes = bytes_of(alloc, source)?;
-    let mutations = mutations_of(alloc, &bytes)?;
+    let mutations = mutations_of(rt, alloc, &bytes)?;
     let size = entries_size(mutations.as_slice())?;
     let standing = look(alloc, disk, dump)?;
     let id = standing.base(clock.now_ms());

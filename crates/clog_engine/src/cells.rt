@@ -52,6 +52,7 @@ fn put_mutation(alloc: Global, cells: &mut CellMap, mutation: Mutation) -> Resul
         return Ok(());
     };
     put_updates(alloc, cells, &key, updates)?;
+    // A match, since the exit speaks of what was put.
     match put_update(cells, key, last) {
         Ok(()) => Ok(()),
         Err(e) => Err(e),

@@ -1,7 +1,8 @@
 //! What the names of a directory's files say.
 ghost use Rattle.std.specs.Prelude.{◌≡◌, ◌↔◌, IsTrue, IfOk, Contains};
 ghost use Rattle.std.specs.List.{Any};
-ghost use Rattle.clog_engine.specs.Directory.{IsSegment, IsLateTable};
+ghost use Rattle.clog_crash.specs.Folder.{IsNameOfSegment};
+ghost use Rattle.clog_engine.specs.Directory.{IsLateTable};
 ghost use Rattle.clog_engine.specs.Listing.{ArePlaces, IsGreatestArchive, greater};
 
 use clog_base::{
@@ -17,7 +18,7 @@ pub(crate) const SEQUENCE_LIMIT: u64 = 4_611_686_018_427_387_904;
 pub(crate) type TableNames = BTreeMap<(Table, u64), Name>;
 
 fn is_segment(name: &Name) -> bool
-    ensures { IsTrue result ↔ IsSegment name.now }
+    ensures { IsTrue result ↔ IsNameOfSegment name.now }
 {
     parse_segment_name(name).is_some()
 }
@@ -33,7 +34,7 @@ fn is_late_table(name: &Name) -> bool
 
 /// Whether one of the names is that of a segment, of any version.
 pub(crate) fn has_segment(names: &[Name]) -> bool
-    ensures { IsTrue result ↔ Any IsSegment names.now }
+    ensures { IsTrue result ↔ Any IsNameOfSegment names.now }
 {
     names.iter().any(is_segment)
 }

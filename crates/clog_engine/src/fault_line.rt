@@ -1,26 +1,13 @@
-//! The line that tells a fault, filled into a row of fixed size: it takes no memory.
-ghost use Rattle.std.specs.Prelude.{◌≡◌, ◌≤◌, ◌+◌, ◌++◌, length, take, decimal};
+//! The line that tells a fault. It takes no memory.
+ghost use Rattle.std.specs.Prelude.{◌≡◌, ◌≤◌, ◌+◌, ◌++◌, [], length};
 ghost use Rattle.clog_text.specs.Refusals.{part_name, refusal_name, refusal_text};
 ghost use Rattle.clog_engine.specs.Faults.{fault_line, quantity_name, unbuilt_name};
 
 use crate::status::{Status, Unbuilt};
-use clog_base::{Name, Quantity, put};
+use clog_base::{Name, Quantity, TextRow};
 use clog_table::{FaultText, TableFault};
 use clog_text::{BadLine, Part};
-use itoa::Buffer;
 use std::marker::Model;
-
-// Puts a number behind what stands in a row.
-fn put_number(row: &mut [u8], at: usize, number: u64) -> usize
-    requires { at + 20 ≤ length row.old }
-    ensures end { result ≡ at + length (decimal number) }
-    ensures short { result ≤ at + 20 }
-    ensures front { take result row.new ≡ take at row.old ++ decimal number }
-{
-    let mut buffer = Buffer::new();
-    let digits = buffer.format(number).as_bytes();
-    put(row, at, digits)
-}
 
 fn quantity_name(what: Quantity) -> &'static [u8]
     ensures text { result.now ≡ quantity_name what }
@@ -59,108 +46,98 @@ fn refusal_name(cause: BadLine) -> &'static [u8]
     cause.name().as_bytes()
 }
 
-// Puts why a line is refused behind what stands in a row.
-fn put_refusal(row: &mut [u8], at: usize, cause: BadLine) -> usize
-    requires { at + 20 ≤ length row.old }
-    ensures short { result ≤ at + 20 }
-    ensures front { take result row.new ≡ take at row.old ++ refusal_text cause }
+// Puts why a line is refused.
+fn put_refusal(row: &mut TextRow, cause: BadLine)
+    requires { length row.old + 20 ≤ 192 }
+    ensures text { row.new ≡ row.old ++ refusal_text cause }
+    ensures short { length row.new ≤ length row.old + 20 }
 {
-    let at = put(row, at, refusal_name(cause));
-    match cause.part() {
-        Some(part) => {
-            let at = put(row, at, b" ");
-            put(row, at, part_name(part))
-        }
-        None => at,
+    row.put(refusal_name(cause));
+    if let Some(part) = cause.part() {
+        row.put(b" ");
+        row.put(part_name(part));
     }
 }
 
-fn put_bad_line(row: &mut [u8], number: u32, cause: BadLine) -> usize
-    requires { length row.old ≡ 192 }
-    ensures within { result ≤ 192 }
-    ensures text { take result row.new ≡ fault_line (Status.BadLine number cause) }
+fn put_bad_line(row: &mut TextRow, number: u32, cause: BadLine)
+    requires { row.old ≡ [] }
+    ensures { row.new ≡ fault_line (Status.BadLine number cause) }
 {
-    let at = put(row, 0, b"error 2: line ");
-    let at = put_number(row, at, u64::from(number));
-    let at = put(row, at, b": ");
-    let at = put_refusal(row, at, cause);
-    put(row, at, b"\n")
+    row.put(b"error 2: line ");
+    row.put_number(u64::from(number));
+    row.put(b": ");
+    put_refusal(row, cause);
+    row.put(b"\n");
 }
 
-fn put_too_large(row: &mut [u8], number: u32, size: u32, most: u32) -> usize
-    requires { length row.old ≡ 192 }
-    ensures within { result ≤ 192 }
-    ensures text { take result row.new ≡ fault_line (Status.TooLarge number size most) }
+fn put_too_large(row: &mut TextRow, number: u32, size: u32, most: u32)
+    requires { row.old ≡ [] }
+    ensures { row.new ≡ fault_line (Status.TooLarge number size most) }
 {
-    let at = put(row, 0, b"error 3: line ");
-    let at = put_number(row, at, u64::from(number));
-    let at = put(row, at, b": size ");
-    let at = put_number(row, at, u64::from(size));
-    let at = put(row, at, b" above ");
-    let at = put_number(row, at, u64::from(most));
-    put(row, at, b"\n")
+    row.put(b"error 3: line ");
+    row.put_number(u64::from(number));
+    row.put(b": size ");
+    row.put_number(u64::from(size));
+    row.put(b" above ");
+    row.put_number(u64::from(most));
+    row.put(b"\n");
 }
 
-fn put_limit(row: &mut [u8], what: Quantity, number: u64) -> usize
-    requires { length row.old ≡ 192 }
-    ensures within { result ≤ 192 }
-    ensures text { take result row.new ≡ fault_line (Status.Limit what number) }
+fn put_limit(row: &mut TextRow, what: Quantity, number: u64)
+    requires { row.old ≡ [] }
+    ensures { row.new ≡ fault_line (Status.Limit what number) }
 {
-    let at = put(row, 0, b"error 10: limit ");
-    let at = put(row, at, quantity_name(what));
-    let at = put(row, at, b" ");
-    let at = put_number(row, at, number);
-    put(row, at, b"\n")
+    row.put(b"error 10: limit ");
+    row.put(quantity_name(what));
+    row.put(b" ");
+    row.put_number(number);
+    row.put(b"\n");
 }
 
-fn put_unbuilt(row: &mut [u8], what: Unbuilt) -> usize
-    requires { length row.old ≡ 192 }
-    ensures within { result ≤ 192 }
-    ensures text { take result row.new ≡ fault_line (Status.NotBuilt what) }
+fn put_unbuilt(row: &mut TextRow, what: Unbuilt)
+    requires { row.old ≡ [] }
+    ensures { row.new ≡ fault_line (Status.NotBuilt what) }
 {
-    let at = put(row, 0, b"error 12: not built ");
-    let at = put(row, at, unbuilt_name(what));
-    put(row, at, b"\n")
+    row.put(b"error 12: not built ");
+    row.put(unbuilt_name(what));
+    row.put(b"\n");
 }
 
-fn put_bad_table(row: &mut [u8], name: &Name, fault: &TableFault) -> usize
-    requires { length row.old ≡ 192 }
-    ensures within { result ≤ 192 }
-    ensures text { take result row.new ≡ fault_line (Status.BadTable name.now fault.now) }
+fn put_bad_table(row: &mut TextRow, name: &Name, fault: &TableFault)
+    requires { row.old ≡ [] }
+    ensures { row.new ≡ fault_line (Status.BadTable name.now fault.now) }
 {
     let text = FaultText::new(fault);
-    let at = put(row, 0, b"error 8: ");
-    let at = put(row, at, name.as_bytes());
-    let at = put(row, at, b": ");
-    let at = put(row, at, text.as_bytes());
-    put(row, at, b"\n")
+    row.put(b"error 8: ");
+    row.put(name.as_bytes());
+    row.put(b": ");
+    row.put(text.as_bytes());
+    row.put(b"\n");
 }
 
-fn put_absent(row: &mut [u8], name: &Name) -> usize
-    requires { length row.old ≡ 192 }
-    ensures within { result ≤ 192 }
-    ensures text { take result row.new ≡ fault_line (Status.Absent name.now) }
+fn put_absent(row: &mut TextRow, name: &Name)
+    requires { row.old ≡ [] }
+    ensures { row.new ≡ fault_line (Status.Absent name.now) }
 {
-    let at = put(row, 0, b"error 11: no file ");
-    let at = put(row, at, name.as_bytes());
-    put(row, at, b"\n")
+    row.put(b"error 11: no file ");
+    row.put(name.as_bytes());
+    row.put(b"\n");
 }
 
-// Puts a status' line at the front, and says how long it is.
-fn put_fault(row: &mut [u8], status: &Status) -> usize
-    requires { length row.old ≡ 192 }
-    ensures within { result ≤ 192 }
-    ensures text { take result row.new ≡ fault_line status.now }
+// Puts a status' line; for `Ok` and `WriteFault` there is none.
+fn put_fault(row: &mut TextRow, status: &Status)
+    requires { row.old ≡ [] }
+    ensures { row.new ≡ fault_line status.now }
 {
     match status {
-        Status::Ok | Status::WriteFault => 0,
-        Status::Usage => put(row, 0, b"error 1: usage\n"),
+        Status::Ok | Status::WriteFault => {}
+        Status::Usage => row.put(b"error 1: usage\n"),
         Status::BadLine(number, cause) => put_bad_line(row, *number, *cause),
         Status::TooLarge(number, size, most) => put_too_large(row, *number, *size, *most),
-        Status::ReadFault => put(row, 0, b"error 4: read fault\n"),
-        Status::DiskFault => put(row, 0, b"error 6: disk fault\n"),
+        Status::ReadFault => row.put(b"error 4: read fault\n"),
+        Status::DiskFault => row.put(b"error 6: disk fault\n"),
         Status::BadTable(name, fault) => put_bad_table(row, name, fault),
-        Status::OutOfMemory => put(row, 0, b"error 9: out of memory\n"),
+        Status::OutOfMemory => row.put(b"error 9: out of memory\n"),
         Status::Limit(what, number) => put_limit(row, *what, *number),
         Status::Absent(name) => put_absent(row, name),
         Status::NotBuilt(what) => put_unbuilt(row, *what),
@@ -170,18 +147,15 @@ fn put_fault(row: &mut [u8], status: &Status) -> usize
 /// The line of a fault, with its 0A; for `Ok` and `WriteFault` there is none.
 #[derive(Drop)]
 pub struct FaultLine {
-    row: [u8; 192],
-    len: usize,
+    row: TextRow,
 }
 
 impl Model for FaultLine {
-    ghost use Rattle.std.specs.Prelude.{ℕ, List, take, ◌≤◌};
+    ghost use Rattle.std.specs.Prelude.{ℕ, List};
 
     ghost Value = { List ℕ };
 
-    ghost view = { λ l. take l.len l.row };
-
-    ghost invariant = { λ l. l.len ≤ 192 };
+    ghost view = { λ l. l.row };
 }
 
 impl FaultLine {
@@ -189,15 +163,15 @@ impl FaultLine {
     pub fn new(status: &Status) -> FaultLine
         ensures { result ≡ fault_line status.now }
     {
-        let mut row = [0u8; 192];
-        let len = put_fault(&mut row, status);
-        FaultLine { row, len }
+        let mut row = TextRow::new();
+        put_fault(&mut row, status);
+        FaultLine { row }
     }
 
     /// Its bytes.
     pub fn as_bytes(&self) -> &[u8]
         ensures { result.now ≡ self.now }
     {
-        &self.row[..self.len]
+        self.row.as_bytes()
     }
 }

@@ -6,15 +6,12 @@ ghost use Rattle.clog_mutation.specs.Limits.{IsWithinLimits};
 ghost use Rattle.clog_text.specs.FileLines.{Splits};
 
 use crate::status::Status;
-use clog_base::Quantity;
+use clog_base::{FILE_LIMIT, LINE_LIMIT, Quantity};
 use clog_io::{ReadAllFault, Source, read_all};
 use clog_mutation::Mutations;
-use clog_text::{BadLine, Lines, SplitFault, read_lines, split_file};
+use clog_text::{BadLine, Lines, SplitFault, read_lines_in_parts, split_file};
 use std::alloc::Global;
-
-const FILE_LIMIT: u64 = 67_108_864;
-
-const LINE_LIMIT: u64 = 1_000_000;
+use std::thread::Threads;
 
 /// All bytes of the source.
 pub(crate) fn bytes_of<S: Source>(alloc: Global, source: &mut S) -> Result<Vec<u8>, Status>
@@ -30,12 +27,17 @@ pub(crate) fn bytes_of<S: Source>(alloc: Global, source: &mut S) -> Result<Vec<u
 }
 
 // The mutations of a file's lines.
-fn mutations_on(alloc: Global, bytes: &[u8], lines: &Lines) -> Result<Mutations, Status>
+fn mutations_on<T: Threads + Sync>(
+    rt: &T,
+    alloc: Global,
+    bytes: &[u8],
+    lines: &Lines,
+) -> Result<Mutations, Status>
     requires { Splits bytes.now lines.now }
     ensures mutations { GivesMutations bytes.now result }
     ensures within { IfOk result (AllByRecursion IsWithinLimits) }
 {
-    match read_lines(alloc, bytes, lines) {
+    match read_lines_in_parts(rt, alloc, bytes, lines) {
         Ok(mutations) => Ok(mutations),
         Err((_, BadLine::OutOfMemory)) => Err(Status::OutOfMemory),
         Err((number, cause)) => Err(Status::BadLine(number, cause)),
@@ -43,13 +45,17 @@ fn mutations_on(alloc: Global, bytes: &[u8], lines: &Lines) -> Result<Mutations,
 }
 
 /// The mutations of a file, one for each line.
-pub(crate) fn mutations_of(alloc: Global, bytes: &[u8]) -> Result<Mutations, Status>
+pub(crate) fn mutations_of<T: Threads + Sync>(
+    rt: &T,
+    alloc: Global,
+    bytes: &[u8],
+) -> Result<Mutations, Status>
     ensures mutations { GivesMutations bytes.now result }
     ensures within { IfOk result (AllByRecursion IsWithinLimits) }
     ensures few { IfOk result (λ mutations. length mutations < 2 ^ 32) }
 {
     match split_file(alloc, bytes) {
-        Ok(lines) => mutations_on(alloc, bytes, &lines),
+        Ok(lines) => mutations_on(rt, alloc, bytes, &lines),
         Err(SplitFault::Limit) => Err(Status::Limit(Quantity::Lines, LINE_LIMIT)),
         Err(SplitFault::OutOfMemory) => Err(Status::OutOfMemory),
     }

@@ -1,6 +1,7 @@
 //! The segment comes onto the disk.
-ghost use Rattle.std.specs.Prelude.{◌≡◌, ◌≤◌};
+ghost use Rattle.std.specs.Prelude.{◌≡◌, ◌≢◌, ◌≤◌, Err};
 ghost use Rattle.clog_disk.specs.Files.{IsEnd};
+ghost use Rattle.clog_disk.specs.declared.disk.DiskFault.TheVariants.{Failed};
 ghost use Rattle.clog_engine.specs.Landing.{LandsFile, status_of};
 
 use crate::status::Status;
@@ -23,10 +24,12 @@ pub(crate) fn land<D: Disk>(disk: &mut D, name: &Name, bytes: &[u8]) -> Result<(
     ensures lands { LandsFile (D.files disk.old) (D.files disk.new) (D.leaves disk.old)
         (D.leaves disk.new) (D.faults disk.old) (D.faults disk.new) name.now bytes.now result }
     ensures later { D.faults disk.old ≤ D.faults disk.new }
+    ensures quiet { result ≢ Err Failed → D.faults disk.new ≡ D.faults disk.old }
 {
     if let Err(fault) = disk.append_at(name, 0, bytes) {
         return Err(fault);
     }
+    // A match, since each exit speaks of what `sync` answered.
     match disk.sync(name) {
         Ok(()) => Ok(()),
         Err(fault) => Err(fault),

@@ -24,7 +24,7 @@ mod tests;
 mod words;
 
 pub use fault_line::FaultLine;
-pub use laws::{folders_restore_to_one_list, segments_hold_their_mutations};
+pub use laws::segments_hold_their_mutations;
 pub use running::run;
 pub use status::{Status, Unbuilt};
 pub use words::{Request, request_of};

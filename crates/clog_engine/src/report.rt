@@ -9,7 +9,7 @@ use crate::cells::merged;
 use clog_base::{Bytes, Cell, CellKey, OutOfMemory};
 use clog_cells::CellMap;
 use clog_mutation::Mutations;
-use clog_text::put_cell_line;
+use clog_text::CellPrinter;
 use itoa::Buffer;
 use std::alloc::{AllocError, Global};
 use std::collections::BTreeMap;
@@ -32,8 +32,9 @@ fn put_rows(
 ) -> Result<(), OutOfMemory>
     ensures { OnOk result (out.new.items ≡ out.old.items ++ flat_map row_line rows.now.entries) }
 {
+    let mut printer = CellPrinter::new(alloc);
     for (key, cell) in rows {
-        put_cell_line(alloc, out, key, cell)?;
+        printer.put(out, key, cell)?;
     }
     Ok(())
 }

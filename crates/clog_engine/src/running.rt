@@ -1,6 +1,8 @@
 //! The top call.
-ghost use Rattle.clog_engine.specs.Completes.{Runs};
-ghost use Rattle.clog_engine.specs.Run.{Answers, Prints};
+ghost use Rattle.std.specs.Prelude.{◌≡◌};
+ghost use Rattle.clog_engine.specs.Answering.{Answers, DoesAsked, Prints};
+ghost use Rattle.clog_engine.specs.Run.{Runs};
+ghost use Rattle.clog_engine.specs.Quiet.{IsBeforeDisk, IsRefusedBefore, TellsEach};
 
 use crate::applying::apply;
 use crate::fault_line::FaultLine;
@@ -36,8 +38,41 @@ fn print<K: Sink>(sink: &mut K, outcome: Result<Bytes, Status>) -> Status
     }
 }
 
+// Does what the words ask for.
+fn outcome_of<T: Threads + Sync, R: Source, D: Disk, C: Clock>(
+    rt: &T,
+    alloc: Global,
+    words: &[String],
+    source: &mut R,
+    disk: &mut D,
+    clock: &C,
+) -> Result<Bytes, Status>
+    ensures done { DoesAsked words.now (record {
+      left = R.left source.old;
+      left_now = R.left source.new;
+      source_faults = R.faults source.old;
+      source_faults_now = R.faults source.new;
+      files = D.files disk.old;
+      files_now = D.files disk.new;
+      leaves = D.leaves disk.old;
+      leaves_now = D.leaves disk.new;
+      disk_faults = D.faults disk.old;
+      disk_faults_now = D.faults disk.new;
+      tells = C.tells clock.now;
+    }) result }
+    ensures quiet { TellsEach (D.faults disk.old) (D.faults disk.new) result }
+    ensures uncalled { IsRefusedBefore result → disk.new ≡ disk.old }
+{
+    match request_of(words) {
+        Some(Request::Apply(dump)) => apply(rt, alloc, dump, source, disk, clock),
+        Some(Request::Scan(id)) => scan_segment(alloc, disk, id),
+        None => Err(Status::Usage),
+    }
+}
+
 // Does what the words ask for, and prints what came of it.
-fn answer<R: Source, K: Sink, D: Disk, C: Clock>(
+fn answer<T: Threads + Sync, R: Source, K: Sink, D: Disk, C: Clock>(
+    rt: &T,
     alloc: Global,
     words: &[String],
     source: &mut R,
@@ -45,7 +80,7 @@ fn answer<R: Source, K: Sink, D: Disk, C: Clock>(
     disk: &mut D,
     clock: &C,
 ) -> Status
-    ensures { Answers words.now (record {
+    ensures answers { Answers words.now (record {
       left = R.left source.old;
       left_now = R.left source.new;
       source_faults = R.faults source.old;
@@ -63,12 +98,9 @@ fn answer<R: Source, K: Sink, D: Disk, C: Clock>(
       faults = K.faults sink.old;
       faults_now = K.faults sink.new;
     }) result }
+    ensures uncalled { IsBeforeDisk result → disk.new ≡ disk.old }
 {
-    let outcome = match request_of(words) {
-        Some(Request::Apply(dump)) => apply(alloc, dump, source, disk, clock),
-        Some(Request::Scan(id)) => scan_segment(alloc, disk, id),
-        None => Err(Status::Usage),
-    };
+    let outcome = outcome_of(rt, alloc, words, source, disk, clock);
     print(sink, outcome)
 }
 
@@ -79,16 +111,17 @@ fn answer<R: Source, K: Sink, D: Disk, C: Clock>(
 /// to what it restored to before with the mutations' cells merged in, no file of it damaged, and
 /// that the report went out whole, whose dump is what the folder restores to now; of `scan` that
 /// the report tells what the segment's file holds. Words that ask for what can be done, and no
-/// fault, end with `Ok` or for want of memory.
+/// fault, end with `Ok` or for want of memory. A fault of the disk is told: without `DiskFault` none
+/// was counted. What the words or the mutation file refuse by themselves leaves the disk uncalled.
 pub fn run<
-    T: Threads + Wait,
+    T: Threads + Wait + Sync,
     R: Source,
     K: Sink,
     D: Disk + Send + Drop,
     C: Clock + Sync,
     G: Gate + Sync,
 >(
-    _rt: &T,
+    rt: &T,
     alloc: Global,
     words: &[String],
     source: &mut R,
@@ -97,7 +130,7 @@ pub fn run<
     clock: &C,
     _gate: &G,
 ) -> (Status, D)
-    ensures { Runs words.now (record {
+    ensures runs { Runs words.now (record {
       left = R.left source.old;
       left_now = R.left source.new;
       source_faults = R.faults source.old;
@@ -115,8 +148,9 @@ pub fn run<
       faults = K.faults sink.old;
       faults_now = K.faults sink.new;
     }) result.0 }
+    ensures uncalled { IsBeforeDisk result.0 → result.1 ≡ disk }
 {
     let mut disk = disk;
-    let status = answer(alloc, words, source, sink, &mut disk, clock);
+    let status = answer(rt, alloc, words, source, sink, &mut disk, clock);
     (status, disk)
 }

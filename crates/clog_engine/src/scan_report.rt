@@ -1,6 +1,7 @@
 //! What `scan` prints of a segment.
 ghost use Rattle.std.specs.Prelude.{◌≡◌, ◌-◌, ◌++◌, decimal, OnOk, IfOk};
 ghost use Rattle.std.specs.List.{flat_map};
+ghost use Rattle.clog_spec.specs.Sizes.{frame_size};
 ghost use Rattle.clog_engine.specs.ScanReport.{
   segment_line,
   found_line,
@@ -8,7 +9,7 @@ ghost use Rattle.clog_engine.specs.ScanReport.{
   found_report,
 };
 
-use clog_base::{Bytes, OutOfMemory};
+use clog_base::{Bytes, FRAME_SIZE, OutOfMemory};
 use clog_scan::{End, Found, Scan};
 use itoa::Buffer;
 use std::alloc::{AllocError, Global};
@@ -28,11 +29,14 @@ fn put_segment(out: &mut Vec<u8>, id: u64) -> Result<(), AllocError>
     Ok(out.push(b'\n')?)
 }
 
-// The length of an entry's payload, which has 12 bytes around it.
+// The length of an entry's payload.
 fn payload_len(found: Found) -> u32
-    ensures { result ≡ found.end - found.start - 12 }
+    ensures { result ≡ found.end - found.start - frame_size }
 {
-    found.end.saturating_sub(found.start).saturating_sub(12)
+    found
+        .end
+        .saturating_sub(found.start)
+        .saturating_sub(FRAME_SIZE as u32)
 }
 
 fn put_found(out: &mut Vec<u8>, found: Found) -> Result<(), AllocError>

@@ -4,19 +4,17 @@ ghost use Rattle.std.specs.Prelude.{◌≤◌};
 ghost use Rattle.clog_spec.specs.Names.{segment_name_of};
 ghost use Rattle.clog_disk.specs.Files.{IsThere};
 ghost use Rattle.clog_disk.specs.Images.{Unchanged};
+ghost use Rattle.clog_engine.specs.Quiet.{TellsEach};
 ghost use Rattle.clog_engine.specs.Scanning.{Scans};
 ghost use Rattle.clog_engine.specs.SegmentFile.{FindsFile, GivesFile};
 
 use crate::landing::status_of;
 use crate::scan_report::scan_report;
 use crate::status::Status;
-use clog_base::{Bytes, Name, Quantity, segment_name};
+use clog_base::{Bytes, FILE_LIMIT, Name, Quantity, segment_name};
 use clog_disk::Disk;
 use clog_scan::scan;
 use std::alloc::Global;
-
-/// The most bytes that a segment's file may have.
-const SEGMENT_LIMIT: u64 = 67_108_864;
 
 // Looks whether the file is there.
 fn find_file<D: Disk>(disk: &mut D, name: &Name) -> Result<(), Status>
@@ -24,6 +22,7 @@ fn find_file<D: Disk>(disk: &mut D, name: &Name) -> Result<(), Status>
         result }
     ensures same { Unchanged (D.files disk.old) (D.files disk.new) (D.leaves disk.old)
         (D.leaves disk.new) }
+    ensures quiet { TellsEach (D.faults disk.old) (D.faults disk.new) result }
     ensures later { D.faults disk.old ≤ D.faults disk.new }
 {
     match disk.list() {
@@ -40,13 +39,14 @@ fn bytes_of_file<D: Disk>(disk: &mut D, name: &Name) -> Result<Vec<u8>, Status>
         result }
     ensures same { Unchanged (D.files disk.old) (D.files disk.new) (D.leaves disk.old)
         (D.leaves disk.new) }
+    ensures quiet { TellsEach (D.faults disk.old) (D.faults disk.new) result }
 {
     let len = match disk.len(name) {
         Ok(len) => len,
         Err(fault) => return Err(status_of(fault)),
     };
-    if len > SEGMENT_LIMIT {
-        return Err(Status::Limit(Quantity::SegmentBytes, SEGMENT_LIMIT));
+    if len > FILE_LIMIT {
+        return Err(Status::Limit(Quantity::SegmentBytes, FILE_LIMIT));
     }
     match disk.read(name, 0, len as u32) {
         Ok(bytes) => Ok(bytes),
@@ -60,9 +60,11 @@ fn segment_file<D: Disk>(disk: &mut D, id: u64) -> Result<Vec<u8>, Status>
         (segment_name_of 6 id) result }
     ensures same { Unchanged (D.files disk.old) (D.files disk.new) (D.leaves disk.old)
         (D.leaves disk.new) }
+    ensures quiet { TellsEach (D.faults disk.old) (D.faults disk.new) result }
 {
     let name = segment_name(id);
     find_file(disk, &name)?;
+    // A match, since the exit speaks of what was read.
     match bytes_of_file(disk, &name) {
         Ok(bytes) => Ok(bytes),
         Err(status) => Err(status),
@@ -74,6 +76,7 @@ pub(crate) fn scan_segment<D: Disk>(alloc: Global, disk: &mut D, id: u64) -> Res
     ensures scans { Scans id (D.files disk.old) (D.faults disk.old) (D.faults disk.new) result }
     ensures same { Unchanged (D.files disk.old) (D.files disk.new) (D.leaves disk.old)
         (D.leaves disk.new) }
+    ensures quiet { TellsEach (D.faults disk.old) (D.faults disk.new) result }
 {
     let bytes = segment_file(disk, id)?;
     let found = scan(alloc, &bytes, id)?;

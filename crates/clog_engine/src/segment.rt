@@ -3,50 +3,52 @@ ghost use Rattle.std.specs.Prelude.{◌≡◌, ◌+◌, ◌<◌, ◌++◌, lengt
 ghost use Rattle.std.specs.List.{AllByRecursion};
 ghost use Rattle.clog_mutation.specs.Limits.{IsWithinLimits};
 ghost use Rattle.clog_mutation.specs.Stored.{IsStored};
-ghost use Rattle.clog_engine.specs.Apply.{front_of, segment_of};
+ghost use Rattle.clog_engine.specs.Apply.{segment_of};
 ghost use Rattle.clog_engine.specs.Input.{HasFittingEntry, entry_of, entries_of};
-ghost use Rattle.clog_engine.specs.Reading.{HasSize};
+ghost use Rattle.clog_engine.specs.Reading.{HasSize, front_of};
 
-use clog_base::OutOfMemory;
-use clog_entry::{put_entry, write_header, write_marker};
-use clog_mutation::{Mutation, encode};
+use clog_base::{FRONT_SIZE, HEADER_SIZE, OutOfMemory};
+use clog_entry::{begin_entry, end_entry, write_header, write_marker};
+use clog_mutation::{Mutation, payload_size, put_mutation};
 use std::alloc::{AllocError, Global};
 
 // Puts the header and the marker of a segment whose one section ends there.
-#[tactic(auto, unfolding(crate::specs::Apply::front_of))]
+#[tactic(auto, unfolding(crate::specs::Reading::front_of))]
 fn put_front(out: &mut Vec<u8>, id: u64, end: u32) -> Result<(), AllocError>
     ensures { OnOk result (out.new.items ≡ out.old.items ++ front_of id end) }
 {
     out.extend_from_slice(&write_header(id))?;
-    out.extend_from_slice(&write_marker(id, 20, end))?;
+    out.extend_from_slice(&write_marker(id, HEADER_SIZE as u32, end))?;
     Ok(())
 }
 
-// Puts the entry of a mutation behind what stands there.
+// Puts the entry of a mutation behind what stands there, and its payload there at once.
 #[tactic(auto, unfolding(crate::specs::Input::entry_of))]
-fn put_entry_of(alloc: Global, out: &mut Vec<u8>, mutation: &Mutation) -> Result<(), OutOfMemory>
+fn put_entry_of(out: &mut Vec<u8>, mutation: &Mutation) -> Result<(), OutOfMemory>
     requires within { IsWithinLimits mutation.now }
     requires fitting { HasFittingEntry mutation.now }
     ensures bytes { OnOk result (out.new.items ≡ out.old.items ++ entry_of mutation.now) }
     ensures stored { OnOk result (IsStored mutation.now) }
 {
-    let payload = encode(alloc, mutation)?;
-    put_entry(out, &payload)
+    let from = out.len();
+    begin_entry(out, payload_size(mutation) as u32)?;
+    put_mutation(out, mutation)?;
+    end_entry(out, from)
 }
 
-fn put_entries(alloc: Global, out: &mut Vec<u8>, mutations: &[Mutation]) -> Result<(), OutOfMemory>
+fn put_entries(out: &mut Vec<u8>, mutations: &[Mutation]) -> Result<(), OutOfMemory>
     requires within { AllByRecursion IsWithinLimits mutations.now }
     requires fitting { AllByRecursion HasFittingEntry mutations.now }
     ensures bytes { OnOk result (out.new.items ≡ out.old.items ++ entries_of mutations.now) }
     ensures stored { OnOk result (AllByRecursion IsStored mutations.now) }
 {
     for mutation in mutations {
-        put_entry_of(alloc, out, mutation)?;
+        put_entry_of(out, mutation)?;
     }
     Ok(())
 }
 
-/// The segment of an id: its header, its marker at 20 and the entries of the mutations, which have
+/// The segment of an id: its header, its marker and the entries of the mutations, which have
 /// `size` bytes together.
 pub(crate) fn segment(
     alloc: Global,
@@ -59,9 +61,9 @@ pub(crate) fn segment(
     ensures bytes { IfOk result (λ bytes. bytes.items ≡ segment_of id mutations.now) }
     ensures stored { IfOk result (λ bytes. AllByRecursion IsStored mutations.now) }
 {
-    let end = 28 + size;
+    let end = FRONT_SIZE as u32 + size;
     let mut bytes = Vec::with_capacity(alloc, end as usize)?;
     put_front(&mut bytes, id, end)?;
-    put_entries(alloc, &mut bytes, mutations)?;
+    put_entries(&mut bytes, mutations)?;
     Ok(bytes)
 }

@@ -6,16 +6,17 @@ ghost use Rattle.clog_engine.specs.Input.{entry_size};
 ghost use Rattle.clog_engine.specs.Reading.{GivesSize, SumsSizes};
 
 use crate::status::{Status, Unbuilt};
+use clog_base::{FRAME_SIZE, FRONT_SIZE, GREATEST_CAPACITY};
 use clog_mutation::{Mutation, payload_size};
 
 /// Half a segment, in bytes: the most that an entry may have.
 const ENTRY_LIMIT: u128 = 16_777_216;
 
 /// A segment without its header and its marker, in bytes.
-const ROOM: u128 = 33_554_432 - 28;
+const ROOM: u128 = GREATEST_CAPACITY as u128 - FRONT_SIZE as u128;
 
 /// An entry has this many bytes more than its payload.
-const FRAME: u128 = 12;
+const FRAME: u128 = FRAME_SIZE as u128;
 
 // Why the mutation of this number is refused.
 fn too_large(number: u32, size: u128) -> Status

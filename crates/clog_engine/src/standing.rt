@@ -3,6 +3,7 @@ ghost use Rattle.std.specs.Prelude.{◌≡◌, ◌<◌, IfSome};
 ghost use Rattle.clog_engine.specs.Limits.{id_limit};
 ghost use Rattle.clog_engine.specs.Listing.{base_of, is_last};
 ghost use Rattle.clog_engine.specs.Looking.{Keeps, Looks};
+ghost use Rattle.clog_engine.specs.Quiet.{TellsEach};
 
 use crate::directory::{
     SEQUENCE_LIMIT, greatest_archive, has_late_table, has_segment, table_names,
@@ -51,6 +52,7 @@ pub(crate) fn look<D: Disk>(alloc: Global, disk: &mut D, dump: bool) -> Result<S
     ensures looks { Looks dump (D.files disk.old) (D.faults disk.old) (D.faults disk.new) result }
     ensures keeps { Keeps (D.files disk.old) (D.files disk.new) (D.leaves disk.old)
         (D.leaves disk.new) (D.faults disk.old) (D.faults disk.new) }
+    ensures quiet { TellsEach (D.faults disk.old) (D.faults disk.new) result }
 {
     let names = match disk.list() {
         Ok(names) => names,
@@ -61,6 +63,7 @@ pub(crate) fn look<D: Disk>(alloc: Global, disk: &mut D, dump: bool) -> Result<S
         return Err(Status::NotBuilt(Unbuilt::Directory));
     }
     let tables = table_names(alloc, names)?;
+    // A match in place of `?`, since the exit speaks of what was read.
     let standing = match read_tables(alloc, disk, tables, greatest_archive(names), dump) {
         Ok(standing) => standing,
         Err(status) => return Err(status),

@@ -1,8 +1,9 @@
 //! Table files are read from the disk, in their order.
-ghost use Rattle.std.specs.Prelude.{◌≡◌, [], ◌++◌, OnOk, IfSome};
+ghost use Rattle.std.specs.Prelude.{◌≡◌, ◌≢◌, [], ◌++◌, OnOk, IfSome, Err};
 ghost use Rattle.clog_cells.specs.Merge.{AreInOrder};
 ghost use Rattle.clog_disk.specs.Files.{IsThere};
-ghost use Rattle.clog_engine.specs.Directory.{IsHeld};
+ghost use Rattle.clog_disk.specs.declared.disk.DiskFault.TheVariants.{Failed};
+ghost use Rattle.clog_crash.specs.Folder.{IsHeld};
 ghost use Rattle.clog_engine.specs.Listing.{ArePlaces};
 ghost use Rattle.clog_engine.specs.Looking.{
   Keeps,
@@ -11,6 +12,7 @@ ghost use Rattle.clog_engine.specs.Looking.{
   Joins,
   ReadsTables,
 };
+ghost use Rattle.clog_engine.specs.Quiet.{TellsEach};
 
 use crate::directory::{TableNames, greater};
 use crate::landing::status_of;
@@ -30,11 +32,16 @@ fn read_whole<D: Disk>(alloc: Global, disk: &mut D, name: &Name) -> Result<Vec<u
         (D.faults disk.new) result }
     ensures keeps { Keeps (D.files disk.old) (D.files disk.new) (D.leaves disk.old)
         (D.leaves disk.new) (D.faults disk.old) (D.faults disk.new) }
+    ensures quiet { result ≢ Err Failed → D.faults disk.new ≡ D.faults disk.old }
 {
     let len = disk.len(name)?;
     let mut bytes = Vec::new(alloc);
     while (bytes.len() as u64) < len {
-        let piece = disk.read(name, bytes.len() as u64, PIECE)?;
+        // A match in place of `?`, since the exit speaks of what was read.
+        let piece = match disk.read(name, bytes.len() as u64, PIECE) {
+            Ok(piece) => piece,
+            Err(fault) => return Err(fault),
+        };
         // A disk that does not tell its files may have fewer bytes than it said.
         if piece.is_empty() {
             break;
@@ -56,6 +63,7 @@ fn read_table<D: Disk>(
         name.now result }
     ensures keeps { Keeps (D.files disk.old) (D.files disk.new) (D.leaves disk.old)
         (D.leaves disk.new) (D.faults disk.old) (D.faults disk.new) }
+    ensures quiet { TellsEach (D.faults disk.old) (D.faults disk.new) result }
 {
     let bytes = match read_whole(alloc, disk, name) {
         Ok(bytes) => bytes,
@@ -95,12 +103,14 @@ pub(crate) fn read_tables<D: Disk>(
         names.entries greatest result }
     ensures keeps { Keeps (D.files disk.old) (D.files disk.new) (D.leaves disk.old)
         (D.leaves disk.new) (D.faults disk.old) (D.faults disk.new) }
+    ensures quiet { TellsEach (D.faults disk.old) (D.faults disk.new) result }
 {
     let mut standing = Standing {
         cells: CellMap::new(alloc),
         greatest,
     };
     for (place, name) in names {
+        // A match in place of `?`, since the exit speaks of what was read.
         match read_table(alloc, disk, place, &name) {
             Ok(file) => join(&mut standing, file, dump)?,
             Err(status) => return Err(status),

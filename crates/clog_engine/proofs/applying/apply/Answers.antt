@@ -4,7 +4,7 @@ use Rattle.clog_disk.specs.Files.{Files, IsEnd, AppendsTo}
 use Rattle.clog_disk.specs.Images.{Lasts}
 use Rattle.clog_spec.specs.Names.{segment_name_of}
 use Rattle.clog_engine.specs.Apply.{Gains, segment_of}
-use Rattle.clog_engine.specs.Directory.{cells_of_tables}
+use Rattle.clog_crash.specs.Folder.{cells_of_tables}
 use Rattle.clog_mutation.specs.declared.mutation.Mutation.{Mutation}
 use Rattle.clog_mutation.specs.Stored.{IsStored}
 use Rattle.clog_engine.specs.Reading.{GivesMutations, HasSize}
@@ -21,8 +21,8 @@ use Rattle.clog_engine.proofs.Begun.{begun, fits_name, name_is_free, report_over
 use Rattle.clog_engine.proofs.Landed.{free_end, gained, refused_on, torn_from}
 use Rattle.clog_engine.proofs.applying.apply.Goals as goal
 
-pub returns-then-lines-eq0 : goal.returns-then-lines-eq0
-returns-then-lines-eq0 g c =
+pub returns-then-lines-eq0-clause-applies : goal.returns-then-lines-eq0-clause-applies
+returns-then-lines-eq0-clause-applies g c =
     let mutations = c.in_ok-mutations.mutations in
     let standing = c.in_ok-standing.standing in
     let s = c.in_ok-standing.ensures.looks in
@@ -68,8 +68,8 @@ land-requires g c =
     c.segment_name.result c.in_ok-standing.ensures.looks c.now_ms.ensures.bound
     c.base-id.ensures c.segment_name.ensures))
 
-pub returns-in-Ok : goal.returns-in-Ok
-returns-in-Ok g c =
+pub returns-in-Ok-clause-applies : goal.returns-in-Ok-clause-applies
+returns-in-Ok-clause-applies g c =
     let before = g.D.Disk.files c.args.disk.now in
     let after = g.D.Disk.files c.land.new.disk in
     let mutations = c.in_ok-mutations.mutations in
@@ -126,8 +126,8 @@ returns-in-Ok g c =
       },
     )
 
-pub returns : goal.returns
-returns g c =
+pub returns-clause-applies : goal.returns-clause-applies
+returns-clause-applies g c =
     let before = g.D.Disk.files c.args.disk.now in
     let after = g.D.Disk.files c.land.new.disk in
     let fault = c.in-Err.fault in

@@ -1,5 +1,5 @@
 use Rattle.std.proofs.Common.{List, ℕ, BTreeMap, ◌∷◌, [], ◌++◌, Contains, ap, take, sym, subst}
-use Rattle.clog_engine.specs.Directory.{Place}
+use Rattle.clog_crash.specs.Folder.{Place}
 use Rattle.clog_engine.specs.Listing.{ArePlaces}
 use Rattle.clog_engine.proofs.Listed.{taken, place_more, place_same}
 use Rattle.clog_engine.proofs.directory.table_names.Goals.{in-Some+in_ok-insert, in_default}

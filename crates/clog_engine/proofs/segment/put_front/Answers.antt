@@ -1,6 +1,6 @@
 use Rattle.std.proofs.Common.{List, ℕ, ◌++◌, ap, ap₂, ◌∙◌, append_assoc}
 use Rattle.clog_spec.specs.Segment.{header_bytes, marker_bytes}
-use Rattle.clog_engine.specs.Apply.{front_of}
+use Rattle.clog_engine.specs.Reading.{front_of}
 use Rattle.clog_engine.proofs.segment.put_front.Goals as goal
 
 pub returns : goal.returns

@@ -2,7 +2,7 @@ use Rattle.std.proofs.Common.{Option, refl, sym, subst, ◌∙◌}
 use Rattle.std.specs.Prelude.{IfSome}
 use Rattle.std.proofs.lemmas.Bool.{true≢false}
 use Rattle.clog_disk.specs.Files.{Files, Lists}
-use Rattle.clog_engine.specs.Directory.{IsSegment, IsHeld}
+use Rattle.clog_crash.specs.Folder.{IsNameOfSegment, IsHeld}
 use Rattle.clog_engine.specs.Listing.{ArePlaces}
 use Rattle.clog_engine.proofs.Looked.{
   told_holds,
@@ -19,7 +19,7 @@ pub returns-then-has_segment-clause-looks : goal.returns-then-has_segment-clause
 returns-then-has_segment-clause-looks g c =
     let files = g.D.Disk.files c.args.disk.now in
     let names = c.as_slice-names.result.now in
-    told_holds files names IsSegment
+    told_holds files names IsNameOfSegment
     (subst (Lists files) (sym c.as_slice-names.ensures) c.in-Ok.ensures.names)
     (c.has_segment.ensures.0 c.if-has_segment.true)
 

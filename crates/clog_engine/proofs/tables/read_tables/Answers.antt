@@ -1,5 +1,6 @@
-use Rattle.std.proofs.Common.{sym}
+use Rattle.std.proofs.Common.{refl, sym, ◌∙◌}
 use Rattle.clog_engine.proofs.Merged.{part_more}
+use Rattle.clog_engine.proofs.Quiet.{still, told_on}
 use Rattle.clog_engine.proofs.TablesRead.{
   read_none,
   read_more,
@@ -16,6 +17,7 @@ loop-place-init g c = record {
   is_finite = tt;
   keeps = keeps_none (g.D.Disk.files c.args.disk.now) (g.D.Disk.leaves c.args.disk.now)
       (g.D.Disk.faults c.args.disk.now);
+  quiet = refl;
   parts = sym c.into_iter-place-iterator.ensures.into_iter_gives.0;
   read = read_none c.args.dump (g.D.Disk.files c.args.disk.now) c.args.greatest c.new.result
       c.new.ensures;
@@ -43,6 +45,7 @@ loop-place-preserved g c =
           (g.D.Disk.leaves c.read_table.new.disk) (g.D.Disk.faults c.args.disk.now)
           (g.D.Disk.faults l.disk) (g.D.Disk.faults c.read_table.new.disk) l.invariant.keeps
           c.in-Ok.ensures.keeps;
+      quiet = c.in-Ok.ensures.quiet ∙ l.invariant.quiet;
       parts = part_more c.args.names.entries l.yielded l.place-iterator c.next.new.self
           (c.in-Some.place, c.in-Some.name) l.invariant.parts c.in-Some.ensures.steps;
       read = read_more c.args.dump files l.yielded c.args.greatest l.standing
@@ -80,3 +83,17 @@ returns-in-Err-clause-keeps g c =
     (g.D.Disk.leaves l.disk) (g.D.Disk.leaves c.read_table.new.disk)
     (g.D.Disk.faults c.args.disk.now) (g.D.Disk.faults l.disk)
     (g.D.Disk.faults c.read_table.new.disk) l.invariant.keeps c.in-Err.ensures.keeps
+
+pub returns-in_err-join-in-Ok-clause-quiet : goal.returns-in_err-join-in-Ok-clause-quiet
+returns-in_err-join-in-Ok-clause-quiet g c =
+    still c.from_residual.result (g.D.Disk.faults c.args.disk.now)
+    (g.D.Disk.faults c.read_table.new.disk)
+    (c.in-Ok.ensures.quiet ∙ c.loop-place.invariant.quiet)
+
+pub returns-in-Err-clause-quiet : goal.returns-in-Err-clause-quiet
+returns-in-Err-clause-quiet g c =
+    told_on c.in-Err.status (g.D.Disk.faults c.args.disk.now) (g.D.Disk.faults c.loop-place.disk)
+    (g.D.Disk.faults c.read_table.new.disk) c.loop-place.invariant.quiet c.in-Err.ensures.quiet
+
+pub returns-clause-quiet : goal.returns-clause-quiet
+returns-clause-quiet g c = c.loop-place.invariant.quiet

@@ -13,7 +13,7 @@ use Rattle.clog_engine.proofs.Whole.{
 }
 use Rattle.clog_engine.proofs.tables.read_whole.Goals.{
   else-loop-disk-test,
-  then-loop-disk-test+in_ok-piece+then-is_empty,
+  then-loop-disk-test+in-Ok+then-is_empty,
 }
 use Rattle.clog_engine.proofs.tables.read_whole.Goals as goal
 
@@ -23,6 +23,7 @@ loop-disk-init g c = record {
       (g.D.Disk.leaves c.args.disk.now) (g.D.Disk.leaves c.len.new.self)
       (g.D.Disk.faults c.args.disk.now) (g.D.Disk.faults c.len.new.self) c.in_ok-len.ensures.same
       c.in_ok-len.ensures.cause.later;
+  quiet = c.in_ok-len.ensures.cause.quiet (λ e. cc);
   front = subst
       (HasFront (g.D.Disk.files c.args.disk.now) c.args.name.now c.in_ok-len.len)
       (sym c.new-bytes.ensures.items)
@@ -34,7 +35,7 @@ pub loop-disk-preserved : goal.loop-disk-preserved
 loop-disk-preserved g c =
     let files = g.D.Disk.files c.args.disk.now in
     let l = c.loop-disk in
-    let piece = c.in_ok-piece.piece.items in
+    let piece = c.in-Ok.piece.items in
     let at : c.len-in-loop-disk-2.result ≡ length l.bytes.items =
     omega (arith, c.len-in-loop-disk-2.ensures, l.bytes.ok) in
     record {
@@ -44,8 +45,9 @@ loop-disk-preserved g c =
           (g.D.Disk.faults l.disk) (g.D.Disk.faults c.read.new.self) l.invariant.keeps
           (kept (g.D.Disk.files l.disk) (g.D.Disk.files c.read.new.self)
           (g.D.Disk.leaves l.disk) (g.D.Disk.leaves c.read.new.self) (g.D.Disk.faults l.disk)
-          (g.D.Disk.faults c.read.new.self) c.in_ok-piece.ensures.same
-          c.in_ok-piece.ensures.cause.later);
+          (g.D.Disk.faults c.read.new.self) c.in-Ok.ensures.same
+          c.in-Ok.ensures.cause.later);
+      quiet = c.in-Ok.ensures.cause.quiet (λ e. cc) ∙ l.invariant.quiet;
       front = subst (HasFront files c.args.name.now c.in_ok-len.len)
           (sym (c.in_ok-extend_from_slice.ensures.items
           ∙ ap (λ (p : List ℕ). l.bytes.items ++ p) c.deref.ensures.value))
@@ -53,8 +55,25 @@ loop-disk-preserved g c =
           l.invariant.front
           (read_before files (g.D.Disk.files l.disk) c.args.name.now
           c.len-in-loop-disk-2.result (length l.bytes.items) 1048576 piece
-          l.invariant.keeps.same at c.in_ok-piece.ensures.bytes));
+          l.invariant.keeps.same at c.in-Ok.ensures.bytes));
     }
+
+pub returns-in-Err-clause-quiet : goal.returns-in-Err-clause-quiet
+returns-in-Err-clause-quiet g c other =
+    c.in-Err.ensures.cause.quiet other ∙ c.loop-disk.invariant.quiet
+
+pub returns-in_err-extend_from_slice-clause-quiet :
+    goal.returns-in_err-extend_from_slice-clause-quiet
+returns-in_err-extend_from_slice-clause-quiet g c other =
+    c.in-Ok.ensures.cause.quiet (λ e. cc) ∙ c.loop-disk.invariant.quiet
+
+pub returns-clause-quiet : goal.returns-clause-quiet
+returns-clause-quiet g c other = elim c.loop-disk-test.branch [
+  | else-loop-disk-test w ↦ ap (λ d. g.D.Disk.faults d) w.disk-is ∙ c.loop-disk.invariant.quiet
+  | then-loop-disk-test+in-Ok+then-is_empty w ↦
+      ap (λ d. g.D.Disk.faults d) w.disk-is
+      ∙ w.in-Ok.ensures.cause.quiet (λ e. cc) ∙ c.loop-disk.invariant.quiet
+]
 
 pub returns-clause-whole : goal.returns-clause-whole
 returns-clause-whole g c =
@@ -64,13 +83,13 @@ returns-clause-whole g c =
       | else-loop-disk-test w ↦ whole_by_size files c.args.name.now l.bytes.items c.in_ok-len.len
           (omega (arith, w.loop-disk-test.false, c.len-in-loop-disk.ensures, l.bytes.ok))
           l.invariant.front
-      | then-loop-disk-test+in_ok-piece+then-is_empty w ↦
-          let piece = w.in_ok-piece.piece.items in
+      | then-loop-disk-test+in-Ok+then-is_empty w ↦
+          let piece = w.in-Ok.piece.items in
           let none : length piece ≡ 0 =
           omega (
             arith,
             exact_unsigned_eq _ 0 (sym w.if-is_empty.ensures),
-            w.in_ok-piece.piece.ok,
+            w.in-Ok.piece.ok,
           ) in
           let at : w.len-in-loop-disk-2.result ≡ length l.bytes.items =
           omega (arith, w.len-in-loop-disk-2.ensures, l.bytes.ok) in
@@ -78,5 +97,5 @@ returns-clause-whole g c =
           (omega arith) (nothing_left piece none) l.invariant.front
           (read_before files (g.D.Disk.files l.disk) c.args.name.now
           w.len-in-loop-disk-2.result (length l.bytes.items) 1048576 piece
-          l.invariant.keeps.same at w.in_ok-piece.ensures.bytes)
+          l.invariant.keeps.same at w.in-Ok.ensures.bytes)
     ]

@@ -1,0 +1,13 @@
+//! What the files of a folder hold and restore to, and how far they are good: definitions alone,
+//! over a folder's names and bytes, with the laws that follow from them. A crash leaves some such
+//! folder; what it restores to is what counts (Cassandra's `CommitLogReplayer` over its SSTables
+//! and segments).
+#![tactic(auto)]
+
+mod laws;
+
+pub use laws::{
+    a_segment_of_another_version_is_damage, cells_of_table_files_and_of_the_log_count,
+    each_payload_is_that_of_a_mutation, each_table_file_is_good, folders_restore_to_one_list,
+    intervals_hold_their_upper_end, only_the_last_segment_may_be_torn,
+};

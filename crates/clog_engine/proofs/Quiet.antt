@@ -1,0 +1,137 @@
+-- Faults of the disk are told, and what is refused before the listing calls no disk.
+use Rattle.std.proofs.Common.{◌≡◌, ℕ, List, Option, Result, Ok, Err, sym, subst, ◌∙◌}
+use Rattle.std.specs.Prelude.{◌≢◌}
+use Rattle.clog_base.specs.declared.fault.Quantity.TheVariants.{
+  FileBytes,
+  Lines,
+  SegmentBytes,
+  Ids,
+  TableFiles,
+}
+use Rattle.clog_disk.specs.Files.{Files}
+use Rattle.clog_disk.specs.declared.disk.DiskFault.{DiskFault as Fault}
+use Rattle.clog_disk.specs.declared.disk.DiskFault.TheVariants.{
+  Failed,
+  NoSuchFile,
+  OutOfMemory as NoMemory,
+}
+use Rattle.clog_engine.specs.declared.status.Unbuilt.TheVariants.{Segment, Directory}
+use Rattle.clog_engine.specs.declared.status.Status.{Status}
+use Rattle.clog_engine.specs.declared.status.Status.TheVariants.{
+  Ok as Good,
+  Usage,
+  BadLine,
+  TooLarge,
+  ReadFault,
+  WriteFault,
+  DiskFault,
+  BadTable,
+  OutOfMemory,
+  Limit,
+  Absent,
+  NotBuilt,
+}
+use Rattle.clog_engine.specs.Landing.{status_of}
+use Rattle.clog_engine.specs.Looking.{LookRefused}
+use Rattle.clog_engine.specs.Outside.{Sinks}
+use Rattle.clog_engine.specs.Quiet.{TellsFaults, TellsEach, IsBeforeDisk, IsRefusedBefore}
+use Rattle.clog_engine.specs.Answering.{Prints}
+use Rattle.clog_engine.specs.Scanning.{ReadRefused}
+
+-- ---- faults are told
+
+-- a call of the disk that is refused
+pub told_of : (fault : Fault) (f g : ℕ) → (fault ≢ Failed → g ≡ f)
+    → TellsFaults (status_of fault) f g
+told_of Failed f g quiet = λ other. absurd (other cc)
+told_of NoSuchFile f g quiet = λ other. absurd (other cc)
+told_of NoMemory f g quiet = λ other. quiet (λ is. cc)
+
+-- one that comes behind others that counted none
+pub told_on : (status : Status) (f g k : ℕ) → g ≡ f → TellsFaults status g k
+    → TellsFaults status f k
+told_on status f g k same told = λ other. told other ∙ same
+
+-- where none was counted, whatever the answer
+pub still : {T : Type 0} (r : Result T Status) (f g : ℕ) → g ≡ f → TellsEach f g r
+still (Ok x) f g same = same
+still (Err status) f g same = λ other. same
+
+-- what is printed tells what came of it
+pub printed_quiet : (outcome : Result (List ℕ) Status) (status : Status) (s : Sinks) (f g : ℕ)
+    → Prints outcome status s → TellsEach f g outcome → TellsFaults status f g
+printed_quiet (Ok report) status s f g printed quiet = λ other. quiet
+printed_quiet (Err refusal) status s f g printed quiet =
+    subst (λ (x : Status). TellsFaults x f g) (sym printed.0) quiet
+
+-- ---- the disk is not called
+
+reports_call : (report : List ℕ) (status : Status) (s : Sinks) → Prints (Ok report) status s
+    → IsBeforeDisk status → ⊥
+reports_call report Good s printed before = before
+reports_call report Usage s printed before = printed
+reports_call report (BadLine number cause) s printed before = printed
+reports_call report (TooLarge number size most) s printed before = printed
+reports_call report ReadFault s printed before = printed
+reports_call report WriteFault s printed before = before
+reports_call report DiskFault s printed before = printed
+reports_call report (BadTable name fault) s printed before = printed
+reports_call report OutOfMemory s printed before = printed
+reports_call report (Limit what most) s printed before = printed
+reports_call report (Absent name) s printed before = printed
+reports_call report (NotBuilt what) s printed before = printed
+
+pub printed_before : (outcome : Result (List ℕ) Status) (status : Status) (s : Sinks)
+    → Prints outcome status s → IsBeforeDisk status → IsRefusedBefore outcome
+printed_before (Ok report) status s printed before =
+    reports_call report status s printed before
+printed_before (Err refusal) status s printed before =
+    subst IsBeforeDisk printed.0 before
+
+-- a refusal of the disk is no such one
+pub of_the_disk : (fault : Fault) → IsBeforeDisk (status_of fault) → ⊥
+of_the_disk Failed before = before
+of_the_disk NoSuchFile before = before
+of_the_disk NoMemory before = before
+
+-- nor is one that comes of looking at the folder
+pub looked_at : (files : Option Files) (f g : ℕ) (status : Status) → LookRefused files f g status
+    → IsBeforeDisk status → ⊥
+looked_at files f g Good refused before = before
+looked_at files f g Usage refused before = refused
+looked_at files f g (BadLine number cause) refused before = refused
+looked_at files f g (TooLarge number size most) refused before = refused
+looked_at files f g ReadFault refused before = refused
+looked_at files f g WriteFault refused before = before
+looked_at files f g DiskFault refused before = before
+looked_at files f g (BadTable name fault) refused before = before
+looked_at files f g OutOfMemory refused before = before
+looked_at files f g (Limit FileBytes most) refused before = refused
+looked_at files f g (Limit Lines most) refused before = refused
+looked_at files f g (Limit SegmentBytes most) refused before = before
+looked_at files f g (Limit Ids most) refused before = before
+looked_at files f g (Limit TableFiles most) refused before = before
+looked_at files f g (Absent name) refused before = before
+looked_at files f g (NotBuilt Segment) refused before = refused
+looked_at files f g (NotBuilt Directory) refused before = before
+
+-- nor one that comes of reading a segment's file
+pub read_at : (files : Option Files) (f g : ℕ) (name : List ℕ) (status : Status)
+    → ReadRefused files f g name status → IsBeforeDisk status → ⊥
+read_at files f g name Good refused before = before
+read_at files f g name Usage refused before = refused
+read_at files f g name (BadLine number cause) refused before = refused
+read_at files f g name (TooLarge number size most) refused before = refused
+read_at files f g name ReadFault refused before = refused
+read_at files f g name WriteFault refused before = before
+read_at files f g name DiskFault refused before = before
+read_at files f g name (BadTable other fault) refused before = before
+read_at files f g name OutOfMemory refused before = before
+read_at files f g name (Limit FileBytes most) refused before = refused
+read_at files f g name (Limit Lines most) refused before = refused
+read_at files f g name (Limit SegmentBytes most) refused before = before
+read_at files f g name (Limit Ids most) refused before = before
+read_at files f g name (Limit TableFiles most) refused before = before
+read_at files f g name (Absent other) refused before = before
+read_at files f g name (NotBuilt Segment) refused before = refused
+read_at files f g name (NotBuilt Directory) refused before = before

@@ -1,0 +1,40 @@
+-- What a run adds to a folder, and tells of it.
+use Rattle.std.specs.Prelude.{◌≡◌, ◌⊎◌, ℕ, List, map, Bool, String, string_bytes, IfSome}
+use Rattle.std.specs.declared.alloc.Global.{Global}
+use Rattle.std.specs.declared.result.Result.TheVariants as result
+use Rattle.clog_disk.specs.Files.{Files, Told}
+use Rattle.clog_crash.specs.Restore.{IsAdded}
+use Rattle.clog_mutation.specs.declared.mutation.Mutation.{Mutation}
+use Rattle.clog_text.specs.FileMutations.{file_mutations}
+use Rattle.clog_engine.specs.declared.status.Status.{Status}
+use Rattle.clog_engine.specs.declared.status.Status.TheVariants.{Ok, WriteFault}
+use Rattle.clog_engine.specs.declared.words.Request.TheVariants.{Apply}
+use Rattle.clog_engine.specs.Answering.{Reports}
+use Rattle.clog_engine.specs.Apply.{ReadsToEnd}
+use Rattle.clog_engine.specs.Outside.{Outside, Sinks}
+use Rattle.clog_engine.specs.Report.{report_of}
+use Rattle.clog_engine.specs.Request.{Says}
+
+-- The mutations are added to what the files restored to, and the rows of the report are those that
+-- the files restore to now.
+pub record IsAddedAndTold (dump : Bool) (before after : Files) (mutations : List Mutation)
+    (report : List ℕ) : Type 0 where
+  pub added : IsAdded before after mutations
+  pub told : report ≡ report_of dump mutations added.rows_now
+
+-- The bytes say these mutations, which are added and told where the disk tells its files.
+pub record AddsFile (dump : Bool) (o : Outside) (report bytes : List ℕ) : Type 0 where
+  pub mutations : List Mutation
+  pub said : file_mutations bytes ≡ result.Ok mutations
+  pub added : IfSome o.files (λ before. Told o.files_now (λ after.
+      IsAddedAndTold dump before after mutations report))
+
+-- There is a report, and it went out whole or the sink failed at it.
+abbrev pub IsReported : Status → Type 0
+IsReported status = (status ≡ Ok) ⊎ (status ≡ WriteFault)
+
+-- `apply` that comes to a report has added what the source gave.
+abbrev pub Adds : List (String Global) → Outside → Sinks → Status → Type 0
+Adds words o s status =
+    (dump : Bool) → Says (map string_bytes words) (Apply dump) → IsReported status
+    → (report : List ℕ) × Reports report status s × ReadsToEnd o (AddsFile dump o report)
