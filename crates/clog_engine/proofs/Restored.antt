@@ -95,7 +95,7 @@ use Rattle.clog_crash.proofs.Folders.{
   one_restored,
 }
 use Rattle.clog_base.proofs.Members.{all_have, in_map, from_map, in_flat, from_flat}
-use Rattle.clog_crash.proofs.Members.{payload_in, entry_in}
+use Rattle.clog_scan.proofs.EntryMembers.{payload_in, entry_in}
 use Rattle.clog_crash.proofs.OneMore.{some_is, new_or_old, stays, is_there, bytes_of}
 use Rattle.clog_crash.proofs.TableFiles.{known_read, table_cell_in, in_table_cell}
 use Rattle.clog_cells.proofs.Made.{merge_of}
