@@ -7,3 +7,4 @@ pub mod tables
 pub mod places
 pub mod files
 pub mod runs
+pub mod frame

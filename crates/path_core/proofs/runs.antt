@@ -5,3 +5,4 @@ pub mod KeepsPlacing
 pub mod KeepsLasting
 pub mod KeepsFiling
 pub mod EveryRun
+pub mod Stepped

@@ -3,4 +3,6 @@ pub mod Asked
 pub mod BarriersPut
 pub mod Filed
 pub mod SeatPlaces
+pub mod Joining
 pub mod Limits
+pub mod Logged

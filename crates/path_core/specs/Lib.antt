@@ -15,7 +15,9 @@ pub mod LawfulTables
 pub mod LawfulPlaces
 pub mod LawfulSeats
 pub mod Lawful
+pub mod Frame
 pub mod SeatSteps
+pub mod Spans
 pub mod Steps
 pub mod Promises
 pub mod Holders

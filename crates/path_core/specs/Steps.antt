@@ -15,6 +15,7 @@ use Rattle.std.specs.Prelude.{
   None,
 }
 use Rattle.std.specs.List.{Contains}
+use Rattle.std.specs.List.Sorted.{IsNonDecreasingBy}
 use Rattle.std.specs.declared.result.Result.{Result}
 use Rattle.clog_base.specs.declared.fault.OutOfMemory.{OutOfMemory}
 use Rattle.op_core.specs.declared.count.Tally.{Tally}
@@ -23,6 +24,7 @@ use Rattle.path_core.specs.declared.event.Carried.{Carried}
 use Rattle.path_core.specs.declared.event.Carried.TheVariants.{Nothing, Deposit, Applied}
 use Rattle.path_core.specs.declared.event.Event.{Event}
 use Rattle.path_core.specs.declared.event.Event.TheVariants.{Register}
+use Rattle.path_core.specs.declared.note.EntryNote.{EntryNote}
 use Rattle.path_core.specs.declared.path.StepFault.{StepFault}
 use Rattle.path_core.specs.declared.path.StepFault.TheVariants.{NotAllowed, OutOfMemory as NoMemory}
 use Rattle.path_core.specs.declared.state.PathState.{PathState}
@@ -37,10 +39,15 @@ use Rattle.path_core.specs.Next.{
   newly_dropped,
 }
 
--- The numbers that a path keeps within the limits of its sizes.
+-- notes in the order of their starts
+abbrev pub StandInOrder : List EntryNote → Type 0
+StandInOrder notes = IsNonDecreasingBy (λ (n : EntryNote). n.start.0) notes
+
+-- What a path keeps: numbers within the limits of its sizes, and its notes in order.
 pub record IsWithin (x : PathState) : Type 0 where
   pub few_tables : length x.tables ≤ 16
   pub capacity : x.capacity ≤ 33554432
+  pub notes : StandInOrder x.notes
 
 -- What a step's seat and words are: they are there.
 pub record Names (x : PathState) (e : Event) : Type 0 where

@@ -3,106 +3,34 @@ ghost use Rattle.std.specs.Prelude.{
   ◌≡◌,
   ◌≤◌,
   ◌<◌,
-  ◌+◌,
-  ◌-◌,
   not,
   ◌&&◌,
   ◌||◌,
-  ◌==◌,
+  true,
+  false,
   length,
   set,
   None,
   IfOk,
+  MatchOption,
 };
-ghost use Rattle.std.specs.List.{list_any, list_all, range_with_len, filter};
+ghost use Rattle.std.specs.List.{list_any, list_all, range_with_len};
 ghost use Rattle.path_core.specs.declared.event.Event.{Event};
 ghost use Rattle.path_core.specs.declared.event.Turn.{Turn};
-ghost use Rattle.path_core.specs.declared.note.EntryNote.{EntryNote};
 ghost use Rattle.path_core.specs.declared.state.Claim.{Claim};
 ghost use Rattle.path_core.specs.Keys.{ordinal_of};
 ghost use Rattle.path_core.specs.Parts.{seat_of, is_entry_in};
-ghost use Rattle.path_core.specs.Droppable.{
-  is_in_file,
-  is_filed,
-  is_of,
-  is_logged,
-  are_filed,
-  is_table_filed,
-  is_droppable,
-};
+ghost use Rattle.path_core.specs.Droppable.{is_logged, is_table_filed, is_droppable};
 ghost use Rattle.path_core.specs.Next.{next_of, newly_dropped, has_filed};
 ghost use Rattle.path_core.specs.Steps.{Names, Makes, Drops};
 
 use crate::event::{ClaimKind, Turn};
 use crate::keys::ordinal;
-use crate::note::EntryNote;
 use crate::seat::Seat;
-use crate::seat_steps::touches;
-use crate::state::{Claim, PathState, WrittenFile};
+use crate::state::{Claim, PathState};
+use crate::table_files::is_table_filed;
 use clog_base::OutOfMemory;
 use std::alloc::Global;
-
-fn is_in_file(file: &WrittenFile, table: u64, key: u64) -> bool
-    ensures { result ≡ is_in_file table key file.now }
-{
-    file.table == table && file.lower < key && key <= file.upper
-}
-
-fn is_filed(files: &[WrittenFile], table: u64, key: u64) -> bool
-    ensures { result ≡ is_filed files.now table key }
-{
-    files.iter().any(|file| is_in_file(file, table, key))
-}
-
-// Whether each key from one to another lies in the table's files.
-fn are_filed(files: &[WrittenFile], table: u64, from: u64, to: u64) -> bool
-    ensures { result ≡ are_filed files.now table from to }
-{
-    if from > to {
-        return true;
-    }
-    for key in from..to {
-        if !is_filed(files, table, key) {
-            return false;
-        }
-    }
-    is_filed(files, table, to)
-}
-
-fn is_of(note: &EntryNote, segment: u64, table: u8) -> bool
-    requires { table < 16 }
-    ensures { result ≡ is_of segment table note.now }
-{
-    ordinal(note.start.0) == segment && touches(note.tables, table)
-}
-
-// Whether the keys from a position to those of the segment's entries lie in the table's files.
-fn are_filed_from(
-    notes: &[EntryNote],
-    files: &[WrittenFile],
-    segment: u64,
-    table: u8,
-    from: u64,
-) -> bool
-    requires { table < 16 }
-    ensures { result ≡ list_all (λ (b : EntryNote). not (is_of segment table b)
-        || are_filed files.now table from b.end.0) notes.now }
-{
-    notes.iter().all(|note| {
-        !is_of(note, segment, table) || are_filed(files, u64::from(table), from, note.end.0)
-    })
-}
-
-fn is_table_filed(notes: &[EntryNote], files: &[WrittenFile], segment: u64, table: u8) -> bool
-    requires { table < 16 }
-    ensures { result ≡ list_all (λ (a : EntryNote). not (is_of segment table a)
-        || list_all (λ (b : EntryNote). not (is_of segment table b)
-        || are_filed files.now table a.end.0 b.end.0) notes.now) notes.now }
-{
-    notes.iter().all(|note| {
-        !is_of(note, segment, table) || are_filed_from(notes, files, segment, table, note.end.0)
-    })
-}
 
 fn is_entry_in(claim: &Claim, segment: u64) -> bool
     ensures { result ≡ is_entry_in segment claim.now }
@@ -122,11 +50,46 @@ fn is_among(numbers: &[u64], number: u64) -> bool
     numbers.iter().any(|found| *found == number)
 }
 
+// The place of a number behind the first ones, if it is there.
+fn place_behind(numbers: &[u64], first: usize, number: u64) -> Option<usize>
+    ensures { MatchOption result (first ≡ 0 → is_logged numbers.now number ≡ false)
+        (λ place. is_logged numbers.now number ≡ true) }
+{
+    for place in first..numbers.len() {
+        if numbers[place] == number {
+            return Some(place);
+        }
+    }
+    None
+}
+
+// The place of a number, which mostly stands close behind the first ones.
+fn place_of(numbers: &[u64], first: usize, number: u64) -> Option<usize>
+    ensures { MatchOption result (is_logged numbers.now number ≡ false)
+        (λ place. is_logged numbers.now number ≡ true) }
+{
+    match place_behind(numbers, first, number) {
+        Some(place) => Some(place),
+        None => place_behind(numbers, 0, number),
+    }
+}
+
+// Whether the segment's entries are among those that are lasting. Both stand in the order of the
+// log, so each is found close behind the one before it.
 fn are_logged(claims: &[Claim], logged: &[u64], segment: u64) -> bool
     ensures { result ≡ list_all (λ (c : Claim). not (is_entry_in segment c)
         || is_logged logged.now c.end) claims.now }
 {
-    claims.iter().all(|claim| !is_entry_in(claim, segment) || is_among(logged, claim.end))
+    let mut place = 0;
+    for claim in claims {
+        if is_entry_in(claim, segment) {
+            match place_of(logged, place, claim.end) {
+                Some(found) => place = found,
+                None => return false,
+            }
+        }
+    }
+    true
 }
 
 fn are_tables_filed(state: &PathState, segment: u64) -> bool
@@ -134,10 +97,8 @@ fn are_tables_filed(state: &PathState, segment: u64) -> bool
     ensures { result
         ≡ list_all (is_table_filed state.now segment) (range_with_len 0 (length state.now.tables)) }
 {
-    let notes = state.notes.as_slice();
-    let files = state.files.as_slice();
     for table in 0..state.tables.as_slice().len() {
-        if !is_table_filed(notes, files, segment, table as u8) {
+        if !is_table_filed(state, segment, table as u8) {
             return false;
         }
     }

@@ -10,6 +10,7 @@ mod group_changes;
 mod groups_known;
 mod keys;
 mod law;
+mod lawful_path;
 mod log_allowed;
 mod log_changes;
 mod making;
@@ -25,8 +26,10 @@ mod seat_asks;
 mod seat_steps;
 mod state;
 mod step_allowed;
+mod step_law;
 mod table_allowed;
 mod table_changes;
+mod table_files;
 mod table_steps;
 #[cfg(test)]
 mod tests;
@@ -51,6 +54,7 @@ pub use law::{
     the_stages_tell_when_a_barrier_is_wanted, what_seats_found_stands,
     writes_are_placed_at_most_once,
 };
+pub use lawful_path::LawfulPath;
 pub use note::EntryNote;
 pub use op_core::{Order, Tally};
 pub use path::{Path, StepFault};
@@ -60,3 +64,4 @@ pub use seat::{
     Switching, SyncTurn,
 };
 pub use state::{Bound, Claim, Memtable, OrderGroups, PathState, Placed, TableState, WrittenFile};
+pub use step_law::{a_step_changes_its_seat_alone, a_step_changes_its_word_alone, runs_keep_sizes};

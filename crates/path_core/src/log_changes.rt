@@ -15,7 +15,7 @@ ghost use Rattle.path_core.specs.Next.{
   end_of_claim,
   with_tally,
 };
-ghost use Rattle.path_core.specs.Steps.{Names, Makes, IsNoDeposit, PutsPlaces};
+ghost use Rattle.path_core.specs.Steps.{Names, Makes, IsNoDeposit, PutsPlaces, StandInOrder};
 
 use crate::event::{Carried, ClaimKind, Cursor};
 use crate::group_changes::take_one;
@@ -90,21 +90,23 @@ fn copied(alloc: Global, note: &EntryNote) -> Result<EntryNote, OutOfMemory>
     })
 }
 
-// Where a note that starts at a key joins others: before the first that starts behind it.
+// Where a note that starts at a key joins others: before the first that starts behind it. A note
+// mostly joins close to the end, so it is looked for from there.
 fn joining_place(notes: &[EntryNote], start: u64) -> usize
+    requires { StandInOrder notes.now }
     ensures place { result ≡ position_or_len (λ (n : EntryNote). nat_lt start n.start.0) notes.now }
     ensures within { result ≤ length notes.now }
 {
-    for i in 0..notes.len() {
-        if start < notes[i].start.0 {
-            return i;
-        }
+    let mut place = notes.len();
+    while place > 0 && start < notes[place - 1].start.0 {
+        place -= 1;
     }
-    notes.len()
+    place
 }
 
 // The note joins the notes in the order of the log.
 fn join(notes: &mut Rows<EntryNote>, note: EntryNote) -> Result<(), OutOfMemory>
+    requires { StandInOrder notes.old }
     ensures ok { IfOk result (λ u. notes.new ≡ joined note notes.old) }
     ensures err { OnErr result (notes.new ≡ notes.old) }
 {

@@ -144,6 +144,11 @@ impl Path {
     }
 
     /// Makes a step, exactly where it is allowed. After a refusal nothing has changed.
+    ///
+    /// The rows are `specs/Allowed.antt`. They allow no step that would change nothing and that no
+    /// writer makes: the holder of a Flush turn raises a bound only to the last log key that it found
+    /// since the Mark, not to an earlier one, and after its own Finalise it neither raises nor
+    /// finalises that memtable again.
     pub fn step(&mut self, event: &Event) -> Result<(), StepFault>
         ensures { StepsTo result self.old event.now self.new }
     {

@@ -30,6 +30,7 @@ use Rattle.std.proofs.lemmas.List.Elements.{filter-append}
 use Rattle.std.proofs.lemmas.List.Folds.{list_all_at}
 use Rattle.std.proofs.lemmas.List.FromFn.{length-range_with_len, get_or-range_with_len}
 use Rattle.std.proofs.lemmas.List.Sums.{list_all-from_AllPass}
+use Rattle.path_core.proofs.lists.Passing.{all_to}
 
 pub range_all : (p : ℕ → Bool) (a n : ℕ) → ((k : ℕ) → a ≤ k → k < a + n → p k ≡ true)
     → list_all p (range_with_len a n) ≡ true
@@ -83,3 +84,13 @@ pub all_kept : {X : Type 0} (p q : X → Bool) (xs : List X)
     → list_all (λ x. not (q x) || p x) xs ≡ list_all p (filter q xs)
 all_kept p q [] = refl
 all_kept p q (x ∷ xs) = kept_by p q x xs (q x) (all_kept p q xs)
+
+-- each key from one to another passes a test that all of the range pass
+pub in_range : (p : ℕ → Bool) (from to key : ℕ) → list_all p (range_with_len from
+    (to + 1 - from)) ≡ true
+    → from ≤ key → key ≤ to → p key ≡ true
+in_range p from to key t low high = all_to p (range_with_len from (to + 1 - from)) key t (
+  key - from,
+  (let l = length-range_with_len from (to + 1 - from) in omega arith),
+  get_or-range_with_len from (to + 1 - from) (key - from) key (omega arith) ∙ omega arith,
+)

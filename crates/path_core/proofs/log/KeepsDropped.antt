@@ -1,32 +1,5 @@
 -- What was dropped was droppable, and stays so: each allowed step keeps it.
-use Rattle.std.proofs.Common.{
-  ◌≡◌,
-  ℕ,
-  ◌+◌,
-  ◌-◌,
-  ◌<◌,
-  ◌≤◌,
-  ◌==◌,
-  Bool,
-  true,
-  false,
-  not,
-  ◌&&◌,
-  ◌||◌,
-  cond,
-  List,
-  ◌++◌,
-  length,
-  map,
-  IsTrue,
-  refl,
-  sym,
-  ap,
-  ◌∙◌,
-  subst,
-  arith,
-  ◌⊎◌,
-}
+use Rattle.std.proofs.Common.{◌≡◌, ℕ, ◌<◌, ◌≤◌, ◌==◌, Bool, true, false, not, ◌&&◌, ◌||◌, cond, List, ◌++◌, length, map, IsTrue, refl, sym, ap, ◌∙◌, subst, arith, ◌⊎◌}
 use Rattle.std.specs.List.{Contains, list_all, filter, range_with_len}
 use Rattle.std.proofs.lemmas.List.FromFn.{length-range_with_len, get_or-range_with_len}
 use Rattle.std.proofs.lemmas.Bool.{
@@ -84,6 +57,7 @@ use Rattle.path_core.specs.LawfulLog.{LoggedAreNotes, DroppedWas}
 use Rattle.path_core.specs.Parts.{is_entry_in, touches}
 use Rattle.path_core.specs.Next.{newly_dropped, has_filed, is_between}
 use Rattle.path_core.proofs.lists.Passing.{any_from, any_to, all_to, kept_in, filter_from}
+use Rattle.path_core.proofs.lists.Ranges.{in_range}
 use Rattle.path_core.proofs.log.KeepsClaims.{marker_goes_on, behind_log}
 use Rattle.path_core.proofs.log.KeepsNotes.{own_range, not_noted}
 use Rattle.path_core.proofs.log.KeepsNotedOnce.{claims_stay, claims_were, ClaimedNow, notes_stay}
@@ -91,16 +65,6 @@ use Rattle.path_core.proofs.log.KeepsNotedOnce.{claims_stay, claims_were, Claime
 is_logged_to : (logged : List ℕ) (p : ℕ) → is_logged logged p ≡ true → Contains logged p
 is_logged_to logged p t = let r = any_to (λ (q : ℕ). q == p) logged t in
     subst (λ k. Contains logged k) (eqb-true r.0 p r.2) r.1
-
--- each key from one to another passes a test that all of the range pass
-in_range : (p : ℕ → Bool) (from to key : ℕ) → list_all p (range_with_len from
-    (to + 1 - from)) ≡ true
-    → from ≤ key → key ≤ to → p key ≡ true
-in_range p from to key t low high = all_to p (range_with_len from (to + 1 - from)) key t (
-  key - from,
-  (let l = length-range_with_len from (to + 1 - from) in omega arith),
-  get_or-range_with_len from (to + 1 - from) (key - from) key (omega arith) ∙ omega arith,
-)
 
 -- the test of a droppable segment
 droppable_to : (x : PathState) (o : ℕ) → is_droppable x o ≡ true → IsDroppable x o

@@ -2,7 +2,6 @@ use Rattle.std.proofs.Common.{◌≡◌, length, sym, ap, ◌∙◌, arith}
 use mathlib.Core.Logic.{dite}
 use native.Mathlib.Decide.{dec_lt}
 use Rattle.path_core.specs.Droppable.{is_table_filed}
-use Rattle.path_core.proofs.steps.Filed.{table_filed-is}
 use Rattle.path_core.proofs.lists.Ranges.{range_all, range_fails}
 use Rattle.path_core.proofs.drop_changes.are_tables_filed.Goals as goal
 
@@ -13,16 +12,12 @@ returns-then-not-is_table_filed c =
     let below = c.loop-table-test.true in
     sym (range_fails (is_table_filed x c.args.segment) 0 (length x.tables) c.loop-table.table
     (omega arith) (omega arith)
-    (sym (table_filed-is x c.args.segment c.loop-table.table c.as_slice-notes.result.now
-    c.as_slice-files.result.now c.is_table_filed.result c.as_slice-notes.ensures
-    c.as_slice-files.ensures c.is_table_filed.ensures) ∙ c.if-not-is_table_filed.true))
+    (sym c.is_table_filed.ensures ∙ c.if-not-is_table_filed.true))
 
 pub loop-table-preserved : goal.loop-table-preserved
 loop-table-preserved c =
     let x = c.args.state.now in
-    let here = sym (table_filed-is x c.args.segment c.loop-table.table c.as_slice-notes.result.now
-    c.as_slice-files.result.now c.is_table_filed.result c.as_slice-notes.ensures
-    c.as_slice-files.ensures c.is_table_filed.ensures) ∙ c.if-not-is_table_filed.false in
+    let here = sym c.is_table_filed.ensures ∙ c.if-not-is_table_filed.false in
     λ t l. dite (dec_lt t c.loop-table.table) (λ b. c.loop-table.invariant t b)
     (λ n. let e : t ≡ c.loop-table.table = omega arith in
     ap (is_table_filed x c.args.segment) e ∙ here)

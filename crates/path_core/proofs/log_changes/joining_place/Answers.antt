@@ -1,34 +1,17 @@
-use Rattle.std.proofs.Common.{◌≡◌, ℕ, ◌<◌, ◌≤◌, [], length, nat_lt, get_or, true, sym, arith}
-use Rattle.std.proofs.lemmas.Bool.Decides.{nat_tests}
-use Rattle.std.proofs.lemmas.List.Sums.{position_or_len_is}
+use Rattle.std.proofs.Common.{ap, arith}
 use Rattle.path_core.specs.declared.note.EntryNote.{EntryNote}
+use Rattle.path_core.proofs.steps.Joining.{joins_at, no_note}
 use Rattle.path_core.proofs.log_changes.joining_place.Goals as goal
 
-nat_lt-true : (a b : ℕ) → a < b → nat_lt a b ≡ true
-nat_lt-true a b h = grind (arith, nat_tests)
+pub returns-else-start-notes-clause-place : goal.returns-else-start-notes-clause-place
+returns-else-start-notes-clause-place c =
+    let last = ap (λ (n : EntryNote). n.start.0) c.index-notes-place.is in
+    let low = c.if-start-notes.false in
+    joins_at c.args.start c.args.notes.now c.loop-place.place c.index-notes-place.result c.requires
+    c.loop-place.invariant.inside c.loop-place.invariant.each (λ _. omega arith)
 
-no_note : EntryNote
-no_note = record {
-  start = record { 0 = 0 };
-  end = record { 0 = 0 };
-  tables = 0;
-  line = 0;
-  writer = record { 0 = 0 };
-  bytes = [];
-}
-
-pub returns-then-start-notes-clause-place : goal.returns-then-start-notes-clause-place
-returns-then-start-notes-clause-place c =
-    let d = c.index-notes-i.result in
-    let within : c.loop-i.i ≤ length c.args.notes.now = omega arith in
-    sym (position_or_len_is (λ (n : EntryNote). nat_lt c.args.start n.start.0) c.args.notes.now
-    c.loop-i.i d within (λ k l. c.loop-i.invariant k d l)
-    (λ _. nat_lt-true c.args.start (get_or c.args.notes.now c.loop-i.i d).start.0
-    c.if-start-notes.true))
-
-pub returns-clause-place : goal.returns-clause-place
-returns-clause-place c =
-    let long = length c.args.notes.now in
-    sym (position_or_len_is (λ (n : EntryNote). nat_lt c.args.start n.start.0) c.args.notes.now
-    long no_note (omega arith)
-    (λ k l. c.loop-i.invariant k no_note (omega arith)) (λ l. absurd (omega arith)))
+pub returns-after-loop-place-clause-place : goal.returns-after-loop-place-clause-place
+returns-after-loop-place-clause-place c =
+    let first = c.loop-place-test.false in
+    joins_at c.args.start c.args.notes.now c.loop-place.place no_note c.requires
+    c.loop-place.invariant.inside c.loop-place.invariant.each (λ above. absurd (omega arith))

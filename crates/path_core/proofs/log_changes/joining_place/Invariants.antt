@@ -1,7 +1,14 @@
-use Rattle.std.proofs.Common.{◌≡◌, ℕ, ◌<◌, false, get_or, nat_lt}
+use Rattle.std.proofs.Common.{ℕ, ◌<◌, ◌≤◌, List, length, get_or}
 use Rattle.path_core.specs.declared.note.EntryNote.{EntryNote}
 use Rattle.path_core.proofs.log_changes.joining_place.Given as goal
 
-abbrev pub invariant-loop-i : goal.invariant-loop-i
-invariant-loop-i l = (k : ℕ) (d : EntryNote) → k < l.i
-    → nat_lt l.start (get_or l.notes k d).start.0 ≡ false
+pub record Behind (notes : List EntryNote) (start place : ℕ) : Type 0 where
+  pub inside : place ≤ length notes
+  pub each : (k : ℕ) (d : EntryNote) → place ≤ k → k < length notes
+      → start < (get_or notes k d).start.0
+
+abbrev pub invariant-loop-place : goal.invariant-loop-place
+invariant-loop-place l = Behind l.notes l.start l.place
+
+abbrev pub decreases-loop-place : goal.decreases-loop-place
+decreases-loop-place l = l.place
