@@ -8,6 +8,7 @@ mod refusal;
 mod split;
 #[cfg(test)]
 mod tests;
+mod tokens;
 mod usual;
 
 pub use cell_text::{CellPrinter, cell_line, put_cell_line};

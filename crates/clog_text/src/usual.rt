@@ -1,15 +1,9 @@
 //! A fast reading of the usual line: its names stand in their usual order, the reader's memory is
 //! kept from line to line, and only the texts that stay are copied. What it gives is what the line
 //! says. Where it gives nothing, that says nothing of the line.
-ghost use Rattle.std.specs.Prelude.{◌≡◌, ◌<◌, ◌≤◌, ◌∷◌, List, Some, Ok, length, IfSome, IfOk};
-ghost use Rattle.std.specs.Prelude.{ℕ, Option, ◌==◌, slice_index, false, option_and_then};
+ghost use Rattle.std.specs.Prelude.{◌≡◌, ◌≤◌, ◌∷◌, ℕ, List, Option, Ok, length, IfSome, IfOk};
 ghost use Rattle.std.specs.List.{AllByRecursion};
-ghost use Rattle.json.specs.Token.{begin_object, end_object, begin_array, end_array};
-ghost use Rattle.json.specs.Token.{key as name_token, string as text_token};
-ghost use Rattle.json.specs.Token.{number as number_token};
-ghost use Rattle.serde_json.specs.Data.{unsigned as as_unsigned};
-ghost use Rattle.serde_json.specs.Read.{number_of, number_from};
-ghost use Rattle.serde_json.specs.Find.{as_i64};
+ghost use Rattle.json.specs.Token.{end_array};
 ghost use Rattle.clog_mutation.specs.Limits.{IsValueOf, UpdateIsWithinLimits, IsWithinLimits};
 ghost use Rattle.clog_text.specs.LineMutation.{cell_of, line_mutation};
 ghost use Rattle.clog_text.specs.Refusals.{Gives};
@@ -18,115 +12,11 @@ ghost use Rattle.clog_text.specs.UsualLines.{update_tokens, updates_tokens, line
 
 use crate::read::{read_line, text_of};
 use crate::refusal::BadLine;
-use clog_base::{Cell, Kind, Table, Text};
+use crate::tokens::{begin_array, begin_object, end_object, name, short_text, table, timestamp};
+use clog_base::{Cell, Kind, Text};
 use clog_mutation::{Mutation, Update, Updates};
-use fast_float::Numeral;
 use json::{Reader, Scratch, Token};
 use std::alloc::Global;
-
-// ---- single tokens
-
-fn begin_object(reader: &mut Reader<'_>) -> Option<()>
-    ensures { IfSome result (λ _. reader.old ≡ begin_object ∷ reader.new) }
-{
-    match reader.next() {
-        Some(Token::BeginObject) => Some(()),
-        _ => None,
-    }
-}
-
-fn end_object(reader: &mut Reader<'_>) -> Option<()>
-    ensures { IfSome result (λ _. reader.old ≡ end_object ∷ reader.new) }
-{
-    match reader.next() {
-        Some(Token::EndObject) => Some(()),
-        _ => None,
-    }
-}
-
-fn begin_array(reader: &mut Reader<'_>) -> Option<()>
-    ensures { IfSome result (λ _. reader.old ≡ begin_array ∷ reader.new) }
-{
-    match reader.next() {
-        Some(Token::BeginArray) => Some(()),
-        _ => None,
-    }
-}
-
-// That name.
-fn name(reader: &mut Reader<'_>, wanted: &str) -> Option<()>
-    ensures { IfSome result (λ _. reader.old ≡ name_token wanted.now ∷ reader.new) }
-{
-    match reader.next() {
-        Some(Token::Key(found)) if found == wanted => Some(()),
-        _ => None,
-    }
-}
-
-// A string of 1 to 255 bytes.
-fn short_text(alloc: Global, reader: &mut Reader<'_>) -> Option<Text>
-    ensures text { IfSome result (λ t. reader.old ≡ text_token t ∷ reader.new) }
-    ensures some { IfSome result (λ t. 1 ≤ length t) }
-    ensures short { IfSome result (λ t. length t ≤ 255) }
-{
-    match reader.next() {
-        Some(Token::String(text)) if 1 <= text.len() && text.len() <= 255 => {
-            Text::copy_of(alloc, text).ok()
-        }
-        _ => None,
-    }
-}
-
-fn unsigned(numeral: &Numeral<'_>) -> Option<u64>
-    ensures { IfSome result (λ n. number_from false numeral.now ≡ Some (as_unsigned n)) }
-{
-    numeral.to_u64()
-}
-
-fn has_minus(bytes: &[u8]) -> bool
-    ensures { result ≡ (slice_index bytes.now 0 == 45) }
-{
-    !bytes.is_empty() && bytes[0] == b'-'
-}
-
-// A number with no sign, no point and no exponent.
-fn plain_number(text: &str) -> Option<u64>
-    ensures { IfSome result (λ n. number_of text.now ≡ Some (as_unsigned n)) }
-{
-    let bytes = text.as_bytes();
-    if has_minus(bytes) {
-        return None;
-    }
-    unsigned(&Numeral::scan(bytes))
-}
-
-fn table(reader: &mut Reader<'_>) -> Option<Table>
-    ensures table { IfSome result (λ t. (s : List ℕ) × (reader.old ≡ number_token s ∷ reader.new)
-        × (number_of s ≡ Some (as_unsigned t.0))) }
-    ensures known { IfSome result (λ t. t.0 < 16) }
-{
-    let Some(Token::Number(text)) = reader.next() else {
-        return None;
-    };
-    match plain_number(text) {
-        Some(number) if number < 16 => Some(Table(number as u8)),
-        _ => None,
-    }
-}
-
-// A timestamp that is not negative.
-fn timestamp(reader: &mut Reader<'_>) -> Option<i64>
-    ensures { IfSome result (λ ts. (s : List ℕ) × (reader.old ≡ number_token s ∷ reader.new)
-        × (option_and_then as_i64 (number_of s) ≡ Some ts)) }
-{
-    let Some(Token::Number(text)) = reader.next() else {
-        return None;
-    };
-    match plain_number(text) {
-        Some(number) if number <= i64::MAX as u64 => Some(number as i64),
-        _ => None,
-    }
-}
 
 // The cell of a value: null is a deletion.
 fn cell(alloc: Global, reader: &mut Reader<'_>, ts: i64) -> Option<Cell>
@@ -149,8 +39,6 @@ fn cell(alloc: Global, reader: &mut Reader<'_>, ts: i64) -> Option<Cell>
         _ => None,
     }
 }
-
-// ---- objects
 
 // An update's object, behind its brace.
 fn update(alloc: Global, reader: &mut Reader<'_>) -> Option<Update>

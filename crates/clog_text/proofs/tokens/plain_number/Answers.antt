@@ -3,7 +3,7 @@ use Rattle.std.proofs.Common.{◌∙◌}
 use Rattle.fast_float.specs.Text.{scan}
 use Rattle.serde_json.specs.Data.{Num, unsigned as as_unsigned}
 use Rattle.serde_json.specs.Read.{number_of, number_from}
-use Rattle.clog_text.proofs.usual.plain_number.Goals as goal
+use Rattle.clog_text.proofs.tokens.plain_number.Goals as goal
 
 pub returns : goal.returns
 unfolding number_of
