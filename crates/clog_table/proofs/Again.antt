@@ -80,7 +80,8 @@ head_again head h =
       count = count i;
     }
 
-pub one_head : (bytes : List ℕ) (a b : Head) → BeginsWithHead bytes a → BeginsWithHead bytes b → a ≡ b
+pub one_head : (bytes : List ℕ) (a b : Head) → BeginsWithHead bytes a → BeginsWithHead bytes b
+    → a ≡ b
 one_head bytes a b p q =
     sym (head_again a p.stored) ∙ ap head_at (sym p.spelled ∙ q.spelled) ∙ head_again b q.stored
 

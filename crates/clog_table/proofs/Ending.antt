@@ -87,7 +87,8 @@ module _ (table : Table) (bytes : List ℕ) (head : Head) (cells : Pairs) (rest 
       = refl in b)
 
   -- why the end is refused is why the bytes are
-  pub end_refused : (fault : TableFault) → RefusesEnd (cells_bytes cells) rest (place bytes rest) fault
+  pub end_refused : (fault : TableFault)
+      → RefusesEnd (cells_bytes cells) rest (place bytes rest) fault
       → Refuses table bytes fault
   end_refused Short h = inr (record { cells = cells; rest = rest; whole = whole; short = h })
   end_refused CellsCheck h =
