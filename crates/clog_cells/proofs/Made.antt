@@ -25,7 +25,8 @@ use Rattle.std.specs.declared.cmp.Ordering.{Ordering}
 use Rattle.std.specs.declared.cmp.Ordering.TheVariants.{Less, Equal, Greater}
 use Rattle.std.specs.Map.{keys_of}
 use Rattle.std.specs.BTreeMap.{is_at}
-use Rattle.std.specs.FinMap.{FinMap, entries, from_sorted, insert, get, get-insert, get-entries, get-from_sorted, entries_sorted, is_sorted}
+use Rattle.std.specs.FinMap.{FinMap, entries, from_sorted, insert, get, get-insert}
+use Rattle.std.specs.FinMap.{get-entries, get-from_sorted, entries_sorted, is_sorted}
 use Rattle.std.specs.FinMap.Entries.{below_all}
 use Rattle.std.specs.List.{AllByRecursion}
 use Rattle.std.specs.List.Sorted.{IsStrictlySortedBy}

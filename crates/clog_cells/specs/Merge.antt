@@ -60,8 +60,8 @@ found_at rows key = lookup (is_at (key_cmp key)) rows
 abbrev pub AreInOrder : List (CellKey × Cell) → Type 0
 AreInOrder rows = IsStrictlySortedBy key_cmp (keys_of rows)
 
--- The merge of all cells that have P under their keys: the rows stand in strictly ascending order of
--- their keys, and have at each key the newest of the key's cells that have P, and nothing else.
+-- The merge of all cells that have P under their keys: the rows stand in strictly ascending order
+-- of their keys, and have at each key the newest of the key's cells that have P, and nothing else.
 pub record IsMergeOf (P : CellKey × Cell → Type 0) (rows : List (CellKey × Cell)) : Type 0 where
   pub ordered : AreInOrder rows
   pub newest : (key : CellKey) → IsNewestAmong P key (found_at rows key)

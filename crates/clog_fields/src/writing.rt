@@ -35,8 +35,8 @@ pub fn put_timestamp(out: &mut Vec<u8>, ts: i64) -> Result<(), OutOfMemory>
     Ok(out.extend_from_slice(&ts.to_be_bytes())?)
 }
 
-/// Appends a value behind its tag: 0 is a deletion, and behind 1 stand the length of a live value in
-/// four bytes and its bytes.
+/// Appends a value behind its tag: 0 is a deletion, and behind 1 stand the length of a live value
+/// in four bytes and its bytes.
 #[inline]
 pub fn put_value(out: &mut Vec<u8>, kind: Kind, value: &Text) -> Result<(), OutOfMemory>
     requires { IsValueSize kind value.now }

@@ -147,7 +147,8 @@ abbrev pub UpdateIsRefused : ℕ → Refusing
 UpdateIsRefused end =
     Either (TableIsRefused end) (IsRefusedBehind one_byte IsTable (λ table.
     Either (NameIsRefused end) (IsRefusedBehind short_text IsNameText (λ column.
-    Either (IsShort end 8) (IsRefusedBehind timestamp_bytes IsTimestamp (λ ts. CellIsRefused end))))))
+    Either (IsShort end 8)
+    (IsRefusedBehind timestamp_bytes IsTimestamp (λ ts. CellIsRefused end))))))
 
 -- of n updates some are well formed, and the next is refused
 pub record UpdatesAreRefused (end n : ℕ) (bytes : List ℕ) (fault : PayloadFault) : Type 0 where
