@@ -13,7 +13,8 @@ use Rattle.clog_crash.specs.Restore.{IsLoggedCell, IsRestored, IsUndamaged, Rest
 use Rattle.clog_crash.proofs.TableFiles.{table_cell_in, in_table_cell}
 
 pub was_no_segment : (before : Files) (name bytes : List ℕ) (version id : ℕ)
-    → ¬ HasSegmentFile before → IsSegmentName name version id → finmap.get before name ≡ Some bytes → ⊥
+    → ¬ HasSegmentFile before → IsSegmentName name version id
+    → finmap.get before name ≡ Some bytes → ⊥
 was_no_segment before name bytes version id none named there =
     none (name, ap is_some there, (version, (id, named)))
 

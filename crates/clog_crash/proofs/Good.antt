@@ -1,7 +1,6 @@
 -- What is so in a folder that is not damaged, and at the ends of an interval.
 use Rattle.std.proofs.Common.{
   ◌≡◌,
-  ◌⊎◌,
   ℕ,
   List,
   Option,
@@ -23,27 +22,22 @@ use Rattle.clog_base.specs.declared.cell.Cell.{Cell}
 use Rattle.clog_base.specs.declared.cell.CellKey.{CellKey}
 use Rattle.clog_base.specs.declared.position.Position.{Position}
 use Rattle.clog_base.specs.Positions.{IsBelow}
-use Rattle.clog_cells.specs.Merge.{found_at, is_newer, IsNewestAmong}
+use Rattle.clog_cells.specs.Merge.{found_at, IsNewestAmong}
 use Rattle.clog_disk.specs.Files.{Files}
-use Rattle.clog_entry.specs.declared.cause.Cause.{Cause}
 use Rattle.clog_mutation.specs.declared.mutation.Mutation.{Mutation}
 use Rattle.clog_mutation.specs.Stored.{IsPayload}
 use Rattle.clog_scan.specs.declared.answer.End.{End}
-use Rattle.clog_scan.specs.declared.answer.End.TheVariants.{Torn}
 use Rattle.clog_scan.specs.Laws.{IsFile, AreOne}
 use Rattle.clog_scan.specs.Segment.{Entry, IsSegment}
 use Rattle.clog_scan.proofs.Theorems.{one_segment}
 use Rattle.clog_table.specs.declared.table_file.TableFile.{TableFile}
 use Rattle.clog_table.specs.Refusals.{IsFileOf}
-use Rattle.clog_crash.specs.Folder.{IsHeld, IsNameOf, Place}
+use Rattle.clog_crash.specs.Folder.{IsNameOf, Place}
 use Rattle.clog_crash.specs.Laws.{HasNewest}
 use Rattle.clog_crash.specs.Restore.{
   IsGoodSegment,
   IsInInterval,
-  IsLastId,
-  IsLoggedCell,
   IsRestored,
-  IsTableCell,
   IsUndamaged,
   MayEnd,
   Restores,

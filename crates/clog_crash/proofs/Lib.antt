@@ -3,3 +3,4 @@ pub mod Good
 pub mod OneMore
 pub mod Payloads
 pub mod TableFiles
+pub mod WorkedRow

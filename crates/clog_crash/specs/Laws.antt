@@ -1,5 +1,5 @@
 -- What the laws of a folder say of its rows.
-use Rattle.std.specs.Prelude.{◌≡◌, List, Some, Bool, false}
+use Rattle.std.specs.Prelude.{◌≡◌, List, Some, false}
 use Rattle.clog_base.specs.declared.cell.Cell.{Cell}
 use Rattle.clog_base.specs.declared.cell.CellKey.{CellKey}
 use Rattle.clog_cells.specs.Merge.{found_at, is_newer}

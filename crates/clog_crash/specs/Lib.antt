@@ -1,3 +1,4 @@
 pub mod Folder
 pub mod Laws
 pub mod Restore
+pub mod Worked

@@ -1,18 +1,6 @@
 -- What the files of a folder restore to: the cells of its table files, and the updates of its
 -- log that no table file stands for.
-use Rattle.std.specs.Prelude.{
-  ◌≡◌,
-  ◌↔◌,
-  ◌⊎◌,
-  ℕ,
-  ◌<◌,
-  ◌≤◌,
-  List,
-  ◌++◌,
-  Contains,
-  Some,
-  ⊤,
-}
+use Rattle.std.specs.Prelude.{◌≡◌, ◌⊎◌, ℕ, ◌≤◌, List, ◌++◌, Contains, Some, ⊤}
 use Rattle.std.specs.List.{flat_map}
 use Rattle.std.specs.FinMap as finmap
 use Rattle.clog_spec.specs.Names.{IsSegmentName}

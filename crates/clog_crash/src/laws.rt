@@ -1,5 +1,5 @@
 //! What follows from the definitions alone of what a folder restores to, and of damage.
-ghost use Rattle.std.specs.Prelude.{◌≡◌, ◌⊎◌, ℕ, List, Some, Contains};
+ghost use Rattle.std.specs.Prelude.{◌≡◌, ◌⊎◌, ℕ, List, [], ◌∷◌, Some, Contains};
 ghost use Rattle.std.specs.FinMap as finmap;
 ghost use Rattle.clog_spec.specs.Names.{IsSegmentName};
 ghost use Rattle.clog_base.specs.declared.cell.Cell.{Cell};
@@ -28,6 +28,7 @@ ghost use Rattle.clog_crash.specs.Restore.{
   IsTableCell,
   IsUndamaged,
 };
+ghost use Rattle.clog_crash.specs.Worked.{the_folder, filed, logged};
 
 /// A folder restores to one list of cells. Which files hold them, and how often, does not matter.
 pub fn folders_restore_to_one_list()
@@ -87,4 +88,12 @@ pub fn each_table_file_is_good()
     ensures { (files : Files) (place : Place) (name bytes : List ℕ) → IsUndamaged files
         → IsNameOf place name → finmap.get files name ≡ Some bytes
         → (file : TableFile) × IsFileOf place.0 bytes file }
+{}
+
+/// A worked row: segment 1000 has one entry, which ends at 60, and a table file of the entry's
+/// table has a cell of its own. Where the file's interval ends at 60 the entry is skipped, and the folder
+/// restores to the file's cell alone; where it ends at 59, to both cells.
+pub fn an_interval_skips_the_entry_that_ends_in_it()
+    ensures skipped { IsRestored (the_folder 60) (filed ∷ []) }
+    ensures kept { IsRestored (the_folder 59) (filed ∷ logged ∷ []) }
 {}

@@ -1,0 +1,8 @@
+use Rattle.clog_crash.proofs.WorkedRow.{skipped, kept}
+use Rattle.clog_crash.proofs.laws.an_interval_skips_the_entry_that_ends_in_it.Goals as goal
+
+pub returns-clause-skipped : goal.returns-clause-skipped
+returns-clause-skipped c = skipped
+
+pub returns-clause-kept : goal.returns-clause-kept
+returns-clause-kept c = kept
