@@ -101,25 +101,12 @@ impl CellPrinter {
     }
 }
 
-/// Puts one cell's line at the end of `out`, as a new printer does.
-pub fn put_cell_line(
-    alloc: Global,
-    out: &mut Vec<u8>,
-    key: &CellKey,
-    cell: &Cell,
-) -> Result<(), OutOfMemory>
-    ensures ok { OnOk result (out.new.items ≡ out.old.items ++ cell_line key.now cell.now) }
-    ensures err { OnErr result (out.new.items ≡ out.old.items) }
-{
-    let mut printer = CellPrinter::new(alloc);
-    printer.put(out, key, cell)
-}
-
 /// A cell's line alone.
 pub fn cell_line(alloc: Global, key: &CellKey, cell: &Cell) -> Result<Vec<u8>, OutOfMemory>
     ensures { IfOk result (λ line. line.items ≡ cell_line key.now cell.now) }
 {
     let mut line = Vec::new(alloc);
-    put_cell_line(alloc, &mut line, key, cell)?;
+    let mut printer = CellPrinter::new(alloc);
+    printer.put(&mut line, key, cell)?;
     Ok(line)
 }

@@ -11,7 +11,7 @@ mod tests;
 mod tokens;
 mod usual;
 
-pub use cell_text::{CellPrinter, cell_line, put_cell_line};
+pub use cell_text::{CellPrinter, cell_line};
 pub use file::{read_lines, read_lines_in_parts, reading_laws};
 pub use read::read_line;
 pub use refusal::{BadLine, Part};

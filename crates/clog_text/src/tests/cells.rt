@@ -1,5 +1,5 @@
 //! Printed texts.
-use crate::{BadLine, Part, cell_line, put_cell_line};
+use crate::{BadLine, CellPrinter, Part, cell_line};
 use clog_base::{Cell, CellKey, Kind, Table, Text};
 use std::test::Fail;
 
@@ -28,6 +28,7 @@ fn refusals_print_their_part_in_lower_case(rt: HostRuntime) -> Result<(), Fail> 
 fn a_cell_is_one_compact_line(rt: HostRuntime) {
     let alloc = rt.alloc();
     let mut all = Vec::new(alloc);
+    let mut printer = CellPrinter::new(alloc);
     for (key, ts, kind, value, want) in [
         (
             "k",
@@ -71,7 +72,7 @@ fn a_cell_is_one_compact_line(rt: HostRuntime) {
         let line = cell_line(alloc, &key, &cell).expect(&rt, "room");
         assert_eq!(rt; line.as_slice(), want.as_bytes());
         let front = all.len();
-        assert!(rt; put_cell_line(alloc, &mut all, &key, &cell).is_ok());
+        assert!(rt; printer.put(&mut all, &key, &cell).is_ok());
         assert_eq!(rt; &all[front..], want.as_bytes());
     }
 }
