@@ -2,7 +2,6 @@
 use Rattle.std.proofs.Common.{◌≡◌, ℕ, List, ◌++◌, ap, ◌∙◌}
 use Rattle.clog_spec.specs.Crc.{IsBytes, crc32_of, crc32_after}
 use Rattle.clog_spec.proofs.Divide.{crc32_of-continues}
-
 pub use Rattle.clog_spec.proofs.Bytes.{number-IsBytes, append-IsBytes}
 
 -- a check goes on by one piece
