@@ -1,8 +1,9 @@
-//! What is done to the files of the folder `commitlog` below the current folder. Each function here
-//! hands the system's refusals on; who counts them is `FolderDisk`.
+//! What is done to the files of the folder `commitlog` below the current folder: only regular files
+//! of it, through no link. Each function here hands the system's refusals on; who counts them is
+//! `FolderDisk`.
 use clog_base::Name;
 use std::alloc::Global;
-use std::fs::{File, FileType, OpenFile, OpenOptions};
+use std::fs::{File, FileType, Metadata, OpenOptions};
 use std::io::{ErrorKind, Read, Seek, SeekFrom, Write};
 use std::rt::Files;
 use std::{fs, io, str};
@@ -29,10 +30,9 @@ pub(crate) fn make_folder<R: Files>(rt: &R) -> io::Result<()> {
     fs::create_dir(rt, FOLDER)
 }
 
-/// Makes the names in the current folder last.
-pub(crate) fn sync_current_folder<R: Files>(rt: &R) -> io::Result<()> {
-    let folder = OpenOptions::new().read(true).open(rt, CURRENT_FOLDER)?;
-    folder.sync_all()
+/// The folder above opened as a file, by which the folder's own name is synced.
+pub(crate) fn open_above<R: Files<File = File>>(rt: &R) -> io::Result<File> {
+    OpenOptions::new().read(true).open(rt, CURRENT_FOLDER)
 }
 
 // What a name in the folder stands for, and nothing where it was removed since it was listed.
@@ -50,7 +50,12 @@ pub(crate) fn names_in_folder<R: Files + AllocGlobal + Clone + Drop>(
 ) -> io::Result<Vec<Name>> {
     let mut names = Vec::new(rt.alloc());
     for entry in fs::read_dir(rt, FOLDER)? {
-        let entry = entry?;
+        let entry = match entry {
+            Ok(entry) => entry,
+            // A name that is no text is no `Name`.
+            Err(e) if e.kind() == ErrorKind::InvalidFilename => continue,
+            Err(e) => return Err(e),
+        };
         let Some(name) = Name::make(entry.file_name().as_bytes()) else {
             continue;
         };
@@ -64,52 +69,84 @@ pub(crate) fn names_in_folder<R: Files + AllocGlobal + Clone + Drop>(
     Ok(names)
 }
 
+// What is known of a regular file. Links are not followed.
+fn look_at<R: Files>(rt: &R, path: &str) -> io::Result<Metadata> {
+    let found = fs::symlink_metadata(rt, path)?;
+    if !found.is_file() {
+        return Err(io::Error::new(ErrorKind::InvalidInput, "not a regular file"));
+    }
+    Ok(found)
+}
+
+// A regular file, opened. What it is comes before: a pipe would wait.
+fn open_regular<R: Files<File = File>>(rt: &R, how: &OpenOptions, path: &str) -> io::Result<File> {
+    look_at(rt, path)?;
+    how.open(rt, path)
+}
+
 /// The length of a regular file, in bytes.
 pub(crate) fn length_of<R: Files + AllocGlobal>(rt: &R, name: &Name) -> io::Result<u64> {
     let path = path_of(rt.alloc(), name)?;
-    let found = fs::symlink_metadata(rt, path.as_str())?;
-    if !found.is_file() {
-        return Err(io::Error::from(ErrorKind::InvalidInput));
-    }
-    Ok(found.len())
+    Ok(look_at(rt, path.as_str())?.len())
+}
+
+/// A file opened to be read.
+pub(crate) fn open_to_read<R: Files<File = File> + AllocGlobal>(
+    rt: &R,
+    name: &Name,
+) -> io::Result<File> {
+    let path = path_of(rt.alloc(), name)?;
+    open_regular(rt, OpenOptions::new().read(true), path.as_str())
 }
 
 /// The bytes of a file from `at` on, `count` of them, or fewer at its end.
-pub(crate) fn read_part<R: Files + AllocGlobal>(
-    rt: &R,
-    name: &Name,
+pub(crate) fn read_part(
+    alloc: Global,
+    file: &mut File,
     at: u64,
     count: u32,
 ) -> io::Result<Vec<u8>> {
-    let path = path_of(rt.alloc(), name)?;
-    let mut file = OpenOptions::new().read(true).open(rt, path.as_str())?;
     file.seek(SeekFrom::Start(at))?;
-    let mut bytes = Vec::new(rt.alloc());
-    file.take(u64::from(count)).read_to_end(&mut bytes)?;
+    let mut bytes = Vec::new(alloc);
+    Read::by_ref(file)
+        .take(u64::from(count))
+        .read_to_end(&mut bytes)?;
     Ok(bytes)
 }
 
-/// Puts bytes at the end of a file, which must be at `at`. At 0 an absent file is made.
-pub(crate) fn append<R: Files + AllocGlobal>(
+/// A file opened for bytes at its end. At 0 an absent file is made, where no link of its name is.
+pub(crate) fn open_end<R: Files<File = File> + AllocGlobal>(
     rt: &R,
     name: &Name,
     at: u64,
-    bytes: &[u8],
-) -> io::Result<()> {
+) -> io::Result<File> {
     let path = path_of(rt.alloc(), name)?;
-    let mut file = OpenOptions::new()
-        .append(true)
-        .create(at == 0)
-        .open(rt, path.as_str())?;
+    if at == 0 {
+        let made = OpenOptions::new()
+            .append(true)
+            .create_new(true)
+            .open(rt, path.as_str());
+        match made {
+            Err(e) if e.kind() == ErrorKind::AlreadyExists => {}
+            made => return made,
+        }
+    }
+    open_regular(rt, OpenOptions::new().append(true), path.as_str())
+}
+
+/// Puts bytes at the end of a file, which must be at `at`.
+pub(crate) fn append(file: &mut File, at: u64, bytes: &[u8]) -> io::Result<()> {
     if file.metadata()?.len() != at {
-        return Err(io::Error::from(ErrorKind::InvalidInput));
+        return Err(io::Error::new(ErrorKind::InvalidInput, "the file has another length"));
     }
     file.write_all(bytes)
 }
 
-/// Makes a file's bytes last.
-pub(crate) fn sync_file<R: Files + AllocGlobal>(rt: &R, name: &Name) -> io::Result<()> {
+/// A file opened to be synced, where this program has not appended to it.
+pub(crate) fn open_to_sync<R: Files<File = File> + AllocGlobal>(
+    rt: &R,
+    name: &Name,
+) -> io::Result<File> {
     let path = path_of(rt.alloc(), name)?;
-    let file = OpenOptions::new().write(true).open(rt, path.as_str())?;
-    file.sync_all()
+    open_regular(rt, OpenOptions::new().write(true), path.as_str())
 }

@@ -1,12 +1,14 @@
 //! The program: applies a mutation file from standard input to the folder `commitlog` below the
 //! current folder, or scans a segment there, and tells on standard output what came of it. It makes
-//! the real objects and calls `run`, which is all that it does.
+//! the real objects and calls `run`. What the system said where it refused a call goes to standard
+//! error.
 #![tactic(auto)]
 
 use anyhow::Result;
 use clog_disk::FolderDisk;
 use clog_engine::{FaultLine, Request, Status, request_of, run};
 use clog_io::{OpenGate, Sink, StdSink, StdSource, SystemClock};
+use std::fmt::Display;
 use std::process::ExitCode;
 use std::{env, io};
 
@@ -40,6 +42,19 @@ fn disk_for(rt: HostRuntime, words: &[String]) -> FolderDisk<HostRuntime> {
     }
 }
 
+// Tells people what the system has refused, if it has: one line, without the error's number.
+fn tell<T: Display + Drop>(rt: &HostRuntime, call: &str, refusal: Option<T>) -> Result<()> {
+    let Some(refusal) = refusal else {
+        return Ok(());
+    };
+    let text = format!(in rt.alloc(); "pinsilver: {call}{refusal}")?;
+    match text.as_str().rsplit_once(" (os error ") {
+        Some((words, _number)) => eprintln!(rt; "{words}")?,
+        None => eprintln!(rt; "{text}")?,
+    }
+    Ok(())
+}
+
 fn main(rt: HostRuntime) -> Result<ExitCode> {
     let Ok(words) = words_of(&rt) else {
         return Ok(out_of_memory(&rt));
@@ -52,7 +67,7 @@ fn main(rt: HostRuntime) -> Result<ExitCode> {
     };
     let mut source = StdSource::new(rt.reader());
     let mut sink = StdSink::new(io::writer(&rt));
-    let (status, _disk) = run(
+    let (status, disk) = run(
         &rt,
         rt.alloc(),
         &words,
@@ -62,5 +77,9 @@ fn main(rt: HostRuntime) -> Result<ExitCode> {
         &SystemClock::new(for_clock),
         &OpenGate::new(),
     );
+    // Where this fails too there is nobody to tell.
+    let _ = tell(&rt, "read standard input: ", source.last_refusal());
+    let _ = tell(&rt, "", disk.last_refusal());
+    let _ = tell(&rt, "write standard output: ", sink.last_refusal());
     Ok(ExitCode::from(status.number()))
 }

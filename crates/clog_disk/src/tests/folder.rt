@@ -1,6 +1,7 @@
 //! The disk over a real folder. Each test is a process, and has a current folder of its own.
 use crate::{Disk, DiskFault, FolderDisk};
 use clog_base::{Name, segment_name};
+use std::os::unix::fs::symlink;
 use std::test::Fail;
 use std::{env, fs, io};
 
@@ -26,12 +27,35 @@ fn write_hello(rt: &HostRuntime, name: &Name) -> Result<FolderDisk<HostRuntime>,
     Ok(disk)
 }
 
-// Whether a disk's calls all fail, and write nothing.
+// Whether a disk's calls all fail, and count it.
 fn is_refused(disk: &mut FolderDisk<HostRuntime>, name: &Name) -> bool {
+    let before = disk.fault_count();
     disk.list().is_err()
+        && disk.len(name) == Err(DiskFault::Failed)
+        && disk.read(name, 0, 1).is_err()
         && disk.append_at(name, 6, b"?") == Err(DiskFault::Failed)
         && disk.sync(name) == Err(DiskFault::Failed)
-        && disk.fault_count() == 3
+        && disk.fault_count() == before.saturating_add(5)
+}
+
+// Whether two files can be written in turn and synced.
+fn writes_in_turn(disk: &mut FolderDisk<HostRuntime>, one: &Name, other: &Name) -> bool {
+    disk.append_at(other, 0, b"a") == Ok(())
+        && disk.append_at(one, 6, b"b") == Ok(())
+        && disk.sync(other) == Ok(())
+        && disk.append_at(other, 1, b"c") == Ok(())
+        && disk.sync(one) == Ok(())
+        && disk.sync(other) == Ok(())
+        && disk.list().is_ok()
+}
+
+// Whether the system's last refusal reads so.
+fn said(rt: &HostRuntime, disk: &FolderDisk<HostRuntime>, want: &str) -> Result<bool, Fail> {
+    let Some(refusal) = disk.last_refusal() else {
+        return Ok(false);
+    };
+    let text = format!(in rt.alloc(); "{refusal}")?;
+    Ok(text.as_str() == want)
 }
 
 #[test]
@@ -55,6 +79,8 @@ fn an_append_goes_to_the_end_or_fails(rt: HostRuntime) -> Result<(), Fail> {
     let name = segment_name(1000);
     let mut disk = write_hello(&rt, &name)?;
     assert_eq!(rt; disk.append_at(&name, 5, b"?"), Err(DiskFault::Failed));
+    let words = "append commitlog/CommitLog-6-1000.log: the file has another length";
+    assert!(rt; said(&rt, &disk, words)?);
     assert_eq!(rt;
         disk.append_at(&segment_name(7), 5, b"?"),
         Err(DiskFault::Failed)
@@ -63,6 +89,8 @@ fn an_append_goes_to_the_end_or_fails(rt: HostRuntime) -> Result<(), Fail> {
     assert_eq!(rt; disk.fault_count(), 3);
     assert_eq!(rt; disk.list()?.into_vec().len(), 1);
     assert_eq!(rt; disk.len(&name)?, 6);
+    assert!(rt; writes_in_turn(&mut disk, &name, &segment_name(7)));
+    assert_eq!(rt; disk.len(&name)?, 7);
     leave(&rt, "append_goes_to_the_end")?;
     Ok(())
 }
@@ -74,10 +102,11 @@ fn one_program_writes_at_a_time(rt: HostRuntime) -> Result<(), Fail> {
     let mut late = FolderDisk::for_writing(rt.clone()?);
     assert_eq!(rt; late.list()?.into_vec().len(), 0);
     let first = write_hello(&rt, &name)?;
-    assert_eq!(rt; late.append_at(&name, 6, b"?"), Err(DiskFault::Failed));
-    assert!(rt; late.list().is_err());
     assert!(rt; is_refused(&mut FolderDisk::for_writing(rt.clone()?), &name));
     drop(first);
+    // The folder is free, but what the late disk saw of it is no longer so.
+    assert_eq!(rt; late.append_at(&name, 6, b"?"), Err(DiskFault::Failed));
+    assert!(rt; is_refused(&mut late, &name));
     let mut next = FolderDisk::for_writing(rt.clone()?);
     next.append_at(&name, 6, b"!")?;
     assert_eq!(rt; next.len(&name)?, 7);
@@ -95,6 +124,62 @@ fn what_is_no_file_or_no_name_is_not_listed(rt: HostRuntime) -> Result<(), Fail>
     assert_eq!(rt; names.len(), 1);
     assert_eq!(rt; names[0].as_bytes(), b"CommitLog-6-1000.log".as_slice());
     leave(&rt, "no_file_or_no_name")?;
+    Ok(())
+}
+
+#[test]
+fn links_are_not_followed(rt: HostRuntime) -> Result<(), Fail> {
+    enter(&rt, "links_are_not_followed")?;
+    let name = segment_name(1000);
+    let linked = segment_name(1001);
+    let mut disk = write_hello(&rt, &name)?;
+    for target in ["elsewhere", "CommitLog-6-1000.log"] {
+        symlink(&rt, target, "commitlog/CommitLog-6-1001.log")?;
+        assert_eq!(rt; disk.append_at(&linked, 0, b"?"), Err(DiskFault::Failed));
+        assert_eq!(rt; disk.len(&linked), Err(DiskFault::Failed));
+        assert!(rt; disk.read(&linked, 0, 1).is_err());
+        assert_eq!(rt; disk.sync(&linked), Err(DiskFault::Failed));
+        fs::remove_file(&rt, "commitlog/CommitLog-6-1001.log")?;
+    }
+    assert_eq!(rt; disk.list()?.into_vec().len(), 1);
+    assert_eq!(rt; disk.len(&name)?, 6);
+    leave(&rt, "links_are_not_followed")?;
+    Ok(())
+}
+
+#[test]
+fn after_a_refused_sync_each_call_fails(rt: HostRuntime) -> Result<(), Fail> {
+    enter(&rt, "after_a_refused_sync")?;
+    // A regular file of no length that can be written and not be synced.
+    symlink(&rt, "/proc/self", "commitlog")?;
+    let name = Name::make(b"comm").ok_or(DiskFault::Failed)?;
+    let mut disk = FolderDisk::for_writing(rt.clone()?);
+    disk.append_at(&name, 0, b"renamed")?;
+    assert_eq!(rt; disk.len(&name)?, 0);
+    assert_eq!(rt; disk.sync(&name), Err(DiskFault::Failed));
+    assert!(rt;
+        said(
+            &rt,
+            &disk,
+            "sync commitlog/comm: Invalid argument (os error 22)"
+        )?
+    );
+    assert!(rt; is_refused(&mut disk, &name));
+    leave(&rt, "after_a_refused_sync")?;
+    Ok(())
+}
+
+#[test]
+fn a_long_read_is_whole_and_goes_on_where_it_was(rt: HostRuntime) -> Result<(), Fail> {
+    enter(&rt, "long_read")?;
+    let name = segment_name(1000);
+    let mut disk = write_hello(&rt, &name)?;
+    let more = vec![in rt.alloc(); 7u8; 150_000]?;
+    disk.append_at(&name, 6, more.as_slice())?;
+    assert_eq!(rt; disk.read(&name, 0, 100_000)?.len(), 100_000);
+    assert_eq!(rt; disk.read(&name, 100_000, 100_000)?.len(), 50_006);
+    assert_eq!(rt; disk.read(&name, 150_005, 4)?.as_slice(), [7].as_slice());
+    leave(&rt, "long_read")?;
     Ok(())
 }
 

@@ -1,0 +1,49 @@
+# Every exit status that one run by itself can have, with its line.
+. "$top/checks/lib"
+
+fresh
+apply_line expect 'apply' 0 'applied 1' '' "$pinsilver" apply
+that 'its segment has 60 bytes' test "$(segment_size)" -eq 60
+apply_line expect 'a second apply' 12 'error 12: not built directory' '' "$pinsilver" apply
+that 'it leaves the segment' test "$(segment_size)" -eq 60
+
+fresh
+expect 'an empty file' 0 'applied 0' '' "$pinsilver" apply --dump </dev/null
+that 'it makes no folder' test ! -e commitlog
+(apply_line cat; echo x) | expect 'a bad line' 2 'error 2: line 2: NotJson' '' "$pinsilver" apply
+{ printf '{"key":"k","updates":[{"table":0,"column":"c","ts":1,"value":"'
+    head -c 16777216 /dev/zero | tr '\0' x
+    echo '"}]}'; } >large
+expect 'a line too large' 3 'error 3: line 1: size 16777250 above 16777216' '' "$pinsilver" apply <large
+head -c 67108865 /dev/zero |
+    expect 'a file too large' 10 'error 10: limit file-bytes 67108864' '' "$pinsilver" apply
+expect 'a scan of no file' 11 'error 11: no file CommitLog-6-5.log' '' "$pinsilver" scan CommitLog-6-5.log
+that 'none of them makes a folder' test ! -e commitlog
+
+fresh
+for key in a b c; do
+    printf '{"key":"%s","updates":[{"table":0,"column":"c","ts":1,"value":"' $key
+    head -c 12000000 /dev/zero | tr '\0' x
+    echo '"}]}'
+done | expect 'more than one segment' 12 'error 12: not built segment' '' "$pinsilver" apply
+
+fresh
+mkdir commitlog
+head -c 37 /dev/zero >commitlog/Table-0-1.tbl
+apply_line expect 'a damaged table file' 8 'error 8: Table-0-1.tbl: Version 0' '' "$pinsilver" apply
+that 'it is left alone' test "$(ls commitlog)" = Table-0-1.tbl
+
+fresh
+: >commitlog
+apply_line expect 'commitlog is no folder' 6 'error 6: disk fault' \
+    'pinsilver: list commitlog: Not a directory' "$pinsilver" apply
+
+# Too little memory for the file's bytes.
+fresh
+head -c 60000000 /dev/zero >zeros
+if sh -c 'ulimit -v 60000' 2>/dev/null; then
+    expect 'too little memory' 9 'error 9: out of memory' '' \
+        sh -c 'ulimit -v 60000 && exec "$0" apply' "$program" <zeros
+else
+    skipped 'no limit on memory'
+fi

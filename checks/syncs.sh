@@ -1,0 +1,34 @@
+# What is synced, by the system's calls: a commit is one write and one sync, through one opening.
+. "$top/checks/lib"
+traced() { strace -f -o "$box/trace" -e trace="$1" "$program" apply; }
+
+fresh
+if ! has strace || ! strace -o /dev/null true 2>/dev/null; then
+    skipped 'no strace'
+    exit 0
+fi
+
+calls() { grep -c "$1" "$box/trace"; }
+descriptor() { sed -n "s/.*$1.*= \([0-9]*\)\$/\1/p" "$box/trace" | tail -n 1; }
+
+apply_line expect 'apply, traced' 0 'applied 1' '' \
+    strace -o "$box/trace" -y -e trace=open,openat,write,fsync "$program" apply
+that 'the segment is opened once' test "$(calls 'open.*"commitlog/CommitLog-6-')" -eq 1
+that 'it is written once' test "$(calls 'write(.*CommitLog-6-.*= 60$')" -eq 1
+that 'it is synced once' test "$(calls 'fsync(.*CommitLog-6-.*= 0$')" -eq 1
+that 'the folder and the one above are synced' test "$(calls 'fsync(.*= 0$')" -eq 3
+that 'all after the write' sh -c \
+    'sed -n "/write(.*CommitLog/,\$p" "$0" | grep -c "fsync(" | grep -qx 3' "$box/trace"
+that 'and before the report' sh -c \
+    'sed "/applied/q" "$0" | grep -c "fsync(" | grep -qx 3' "$box/trace"
+
+fresh
+apply_line expect 'a sync is refused' 6 'error 6: disk fault' \
+    'pinsilver: sync commitlog/CommitLog-6-*.log: Input/output error' \
+    strace -o "$box/trace" -e trace=fsync -e inject=fsync:error=EIO:when=1 "$program" apply
+that 'nothing is synced after it' test "$(calls 'fsync(')" -eq 1
+
+fresh
+apply_line expect 'the sync of the folder above is refused' 6 'error 6: disk fault' \
+    'pinsilver: sync commitlog/CommitLog-6-*.log: Input/output error' \
+    strace -o "$box/trace" -e trace=fsync -e inject=fsync:error=EIO:when=3 "$program" apply
