@@ -8,5 +8,7 @@ pub mod KeepsDropped
 pub mod KeepsSynced
 pub mod Between
 pub mod KeepsLogged
+pub mod MarkerSteps
 pub mod KeepsMarkers
 pub mod MarkerTells
+pub mod EntrySinceMarker

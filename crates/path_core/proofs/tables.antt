@@ -5,5 +5,7 @@ pub mod Marks
 pub mod Marked
 pub mod KeepsSwitches
 pub mod KeepsBarriers
+pub mod StageStands
+pub mod StageSteps
 pub mod KeepsStages
 pub mod StageTells

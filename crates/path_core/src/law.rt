@@ -1,21 +1,6 @@
 //! What the path keeps, whatever the order of its steps: over each list of allowed steps from an
 //! opening. Nothing here runs; each function's contract is a promise of the path.
-ghost use Rattle.std.specs.Prelude.{
-  ◌≡◌,
-  ℕ,
-  suc,
-  ◌<◌,
-  ◌≤◌,
-  ◌⊎◌,
-  ◌↔◌,
-  List,
-  reverse,
-  length,
-  Some,
-  None,
-  IsSome,
-  IsTrue,
-};
+ghost use Rattle.std.specs.Prelude.{◌≡◌, ℕ, suc, ◌<◌, ◌≤◌, List, reverse, length, Some, IsTrue};
 ghost use Rattle.std.specs.List.{Contains};
 ghost use Rattle.clog_base.specs.declared.cell.Table.{Table};
 ghost use Rattle.op_core.specs.declared.count.Order.{Order};
@@ -23,39 +8,23 @@ ghost use Rattle.op_core.specs.Tallies.{IsPassed};
 ghost use Rattle.path_core.specs.declared.event.Event.{Event};
 ghost use Rattle.path_core.specs.declared.event.Event.TheVariants.{OpenGroup, Switch};
 ghost use Rattle.path_core.specs.declared.event.SwitchPart.TheVariants.{Open};
-ghost use Rattle.path_core.specs.declared.event.Turn.{Turn};
 ghost use Rattle.path_core.specs.declared.note.EntryNote.{EntryNote};
-ghost use Rattle.path_core.specs.declared.seat.LastMarker.{LastMarker};
-ghost use Rattle.path_core.specs.declared.seat.Switching.{Switching};
 ghost use Rattle.path_core.specs.declared.state.Claim.{Claim};
 ghost use Rattle.path_core.specs.declared.state.PathState.{PathState};
 ghost use Rattle.path_core.specs.declared.state.WrittenFile.{WrittenFile};
-ghost use Rattle.path_core.specs.Keys.{ordinal_of, behind_marker};
+ghost use Rattle.path_core.specs.Keys.{ordinal_of};
 ghost use Rattle.path_core.specs.Parts.{
   touches,
   is_entry,
   groups_of,
   seat_of,
-  seat_table,
   table_of,
   group_in,
-  stage_of,
-  marker_of,
-  last_marker,
-  HoldsTurn,
   HasPassedBarrier,
 };
-ghost use Rattle.path_core.specs.Words.{by_of};
 ghost use Rattle.path_core.specs.Whole.{IsWhole};
 ghost use Rattle.path_core.specs.History.{IsHistory};
-ghost use Rattle.path_core.specs.Allowed.{
-  IsAllowed,
-  IsStep,
-  IsSettled,
-  WantsBarrier,
-  IsSyncPoint,
-  is_entry_last,
-};
+ghost use Rattle.path_core.specs.Allowed.{IsAllowed};
 ghost use Rattle.path_core.specs.Steps.{HasPassedMarker};
 ghost use Rattle.path_core.specs.Runs.{IsOpening, Run, Past};
 ghost use Rattle.path_core.specs.Droppable.{IsDroppable};
@@ -70,13 +39,6 @@ ghost use Rattle.path_core.specs.LawfulTables.{
   RetiredIsFiled,
   FileHoldsItsInterval,
 };
-ghost use Rattle.path_core.specs.Holders.{
-  IsThrough,
-  MayRetire,
-  HasWaiting,
-  ChangesLastMarker,
-};
-ghost use Rattle.path_core.specs.Next.{next_of};
 ghost use Rattle.path_core.specs.Promises.{
   AreApart,
   IsDeposited,
@@ -281,77 +243,4 @@ pub fn a_switch_has_a_holder()
 pub fn what_seats_found_stands()
     ensures { (x y : PathState) (events : List Event) (w : ℕ) → IsOpening x → Run x events y
         → SeatKnows y w }
-{}
-
-/// The part of a table's holder says when the table's newest switch is through, and with it when
-/// the turn may be given back: at rest always, between the steps of a switch never, and once its
-/// barrier is issued as soon as that is passed.
-pub fn the_stage_tells_when_a_switch_is_through()
-    ensures { (x : PathState) (w t : ℕ) (stage : Switching) → IsLawfulPath x
-        → stage_of (seat_of x w) t ≡ Some stage
-        → IsSettled x t ↔ IsThrough x.write.tallies stage }
-{}
-
-/// It says when the table's oldest live memtable has a passed barrier, which retiring it wants.
-pub fn the_stage_tells_when_a_memtable_may_be_retired()
-    ensures { (x : PathState) (w t : ℕ) (stage : Switching) → IsLawfulPath x
-        → stage_of (seat_of x w) t ≡ Some stage
-        → HasPassedBarrier x t (table_of x t).oldest_live
-        ↔ MayRetire x.write.tallies (table_of x t) stage }
-{}
-
-/// It says when something waits for a barrier of the write order: a memtable that the seat has made
-/// final, and that has none.
-pub fn the_stages_tell_when_a_barrier_is_wanted()
-    ensures { (x : PathState) (w : ℕ) → IsLawfulPath x
-        → WantsBarrier Order.Write x w ↔ HasWaiting (seat_of x w) }
-{}
-
-/// So seats with equal parts, in whatever lawful states, get the same answers: whether a barrier of
-/// the write order is wanted, and, where the words that are read are the same, whether a table's
-/// newest switch is through, and whether its oldest live memtable has a passed barrier.
-pub fn equal_parts_get_equal_answers()
-    ensures wanted { (x y : PathState) (v w : ℕ) → IsLawfulPath x → IsLawfulPath y
-        → seat_of x v ≡ seat_of y w
-        → WantsBarrier Order.Write x v ↔ WantsBarrier Order.Write y w }
-    ensures through { (x y : PathState) (v w t : ℕ) → IsLawfulPath x → IsLawfulPath y
-        → seat_of x v ≡ seat_of y w → x.write.tallies ≡ y.write.tallies
-        → IsSome (seat_table (seat_of x v) t).flush → IsSettled x t ↔ IsSettled y t }
-    ensures retire { (x y : PathState) (v w t : ℕ) → IsLawfulPath x → IsLawfulPath y
-        → seat_of x v ≡ seat_of y w → x.write.tallies ≡ y.write.tallies
-        → (table_of x t).newest ≡ (table_of y t).newest
-        → (table_of x t).oldest_live ≡ (table_of y t).oldest_live
-        → IsSome (seat_table (seat_of x v) t).flush
-        → HasPassedBarrier x t (table_of x t).oldest_live
-        ↔ HasPassedBarrier y t (table_of y t).oldest_live }
-{}
-
-/// The last marker changes in two steps alone, the claim of a marker and the move of the append
-/// order's current group, and only the holder of the Sync turn makes them.
-pub fn only_the_holder_changes_the_last_marker()
-    ensures { (x : PathState) (e : Event) → IsStep x e
-        → (last_marker (next_of x e) ≡ last_marker x)
-        ⊎ (ChangesLastMarker e × HoldsTurn (seat_of x (by_of e)) Turn.Sync) }
-{}
-
-/// What the holder of the Sync turn keeps of the marker that it claimed says when something waits
-/// for a barrier of the append order: that marker, while it has none.
-pub fn the_last_marker_tells_when_a_barrier_is_wanted()
-    ensures { (x : PathState) (w : ℕ) (kept : LastMarker) → IsLawfulPath x
-        → marker_of (seat_of x w) ≡ Some kept
-        → WantsBarrier Order.Append x w ↔ (kept.barrier ≡ None) }
-{}
-
-/// Once the barrier of that marker is passed, the log may be synced up to it.
-pub fn a_passed_marker_may_be_synced()
-    ensures { (x : PathState) (w g : ℕ) (kept : LastMarker) → IsLawfulPath x
-        → marker_of (seat_of x w) ≡ Some kept → kept.barrier ≡ Some g
-        → IsPassed x.append.tallies g → IsSyncPoint x kept.start }
-{}
-
-/// An entry was claimed since the last marker, as the next one wants it, exactly where the log key
-/// is above the one at which the log went on behind that marker.
-pub fn the_log_key_tells_of_entries_since_the_last_marker()
-    ensures { (x : PathState) (c : Claim) → IsLawfulPath x → last_marker x ≡ Some c
-        → IsTrue (is_entry_last x) ↔ (behind_marker x.capacity c.start < x.log) }
 {}

@@ -8,6 +8,7 @@ mod event;
 mod file_changes;
 mod group_changes;
 mod groups_known;
+mod holder_law;
 mod keys;
 mod law;
 mod lawful_path;
@@ -37,22 +38,23 @@ mod turn_changes;
 
 pub use bound::accepts;
 pub use event::{Carried, ClaimKind, Cursor, Event, Place, Reading, SwitchPart, Turn};
+pub use holder_law::{
+    a_passed_marker_may_be_synced, equal_parts_get_equal_answers,
+    only_the_holder_changes_the_last_marker, the_last_marker_tells_when_a_barrier_is_wanted,
+    the_log_key_tells_of_entries_since_a_marker,
+    the_stage_tells_when_a_memtable_may_be_retired, the_stage_tells_when_a_switch_is_through,
+    the_stages_tell_when_a_barrier_is_wanted,
+};
 pub use law::{
-    a_passed_marker_may_be_synced, a_switch_has_a_holder, claims_never_overlap,
-    closed_writes_are_placed_in_one_memtable, closed_writes_are_placed_once,
-    dropped_entries_are_in_files, dropped_was_droppable,
-    entries_up_to_a_passed_marker_are_deposited, equal_parts_get_equal_answers,
-    every_past_is_lawful, every_run_is_lawful, files_are_of_retired_memtables,
-    files_follow_one_another, files_hold_their_intervals, logged_is_the_synced_part,
-    no_write_runs_in_a_passed_memtable, notes_are_a_history, notes_are_whole,
-    only_the_holder_changes_the_last_marker, opened_groups_are_new, opened_memtables_are_new,
+    a_switch_has_a_holder, claims_never_overlap, closed_writes_are_placed_in_one_memtable,
+    closed_writes_are_placed_once, dropped_entries_are_in_files, dropped_was_droppable,
+    entries_up_to_a_passed_marker_are_deposited, every_past_is_lawful, every_run_is_lawful,
+    files_are_of_retired_memtables, files_follow_one_another, files_hold_their_intervals,
+    logged_is_the_synced_part, no_write_runs_in_a_passed_memtable, notes_are_a_history,
+    notes_are_whole, opened_groups_are_new, opened_memtables_are_new,
     operations_run_in_the_current_group, passed_memtables_hold_their_intervals,
     passed_memtables_rest, retired_memtables_are_filed, runs_are_told_from_their_end,
-    synced_is_the_start_of_a_marker, the_last_marker_tells_when_a_barrier_is_wanted,
-    the_log_key_tells_of_entries_since_the_last_marker,
-    the_stage_tells_when_a_memtable_may_be_retired, the_stage_tells_when_a_switch_is_through,
-    the_stages_tell_when_a_barrier_is_wanted, what_seats_found_stands,
-    writes_are_placed_at_most_once,
+    synced_is_the_start_of_a_marker, what_seats_found_stands, writes_are_placed_at_most_once,
 };
 pub use lawful_path::LawfulPath;
 pub use note::EntryNote;

@@ -49,7 +49,8 @@ const FRESH_SEAT: Seat = Seat {
 pub enum StepFault {
     /// No row of the path allows it.
     NotAllowed,
-    /// It is allowed, and there was no memory for it.
+    /// It is allowed, and there was no memory for it. To register takes none: that is answered so
+    /// only where the count of the group is at its type's end.
     OutOfMemory,
 }
 

@@ -3,7 +3,7 @@ use Rattle.path_core.proofs.tables.StageTells.{
   equal_through,
   equal_retires,
 }
-use Rattle.path_core.proofs.law.equal_parts_get_equal_answers.Goals as goal
+use Rattle.path_core.proofs.holder_law.equal_parts_get_equal_answers.Goals as goal
 
 pub returns-clause-wanted : goal.returns-clause-wanted
 returns-clause-wanted c = λ x y v w law other same. equal_wanted x y v w law other same
