@@ -41,9 +41,8 @@ pub use event::{Carried, ClaimKind, Cursor, Event, Place, Reading, SwitchPart, T
 pub use holder_law::{
     a_passed_marker_may_be_synced, equal_parts_get_equal_answers,
     only_the_holder_changes_the_last_marker, the_last_marker_tells_when_a_barrier_is_wanted,
-    the_log_key_tells_of_entries_since_a_marker,
-    the_stage_tells_when_a_memtable_may_be_retired, the_stage_tells_when_a_switch_is_through,
-    the_stages_tell_when_a_barrier_is_wanted,
+    the_log_key_tells_of_entries_since_a_marker, the_stage_tells_when_a_memtable_may_be_retired,
+    the_stage_tells_when_a_switch_is_through, the_stages_tell_when_a_barrier_is_wanted,
 };
 pub use law::{
     a_switch_has_a_holder, claims_never_overlap, closed_writes_are_placed_in_one_memtable,

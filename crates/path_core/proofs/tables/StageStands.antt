@@ -206,7 +206,7 @@ staged_mapped x t (Some turn) f g is known stage e =
 pub staged_held : (o : Option FlushTurn) (stage : Switching)
     → option_map (λ (turn : FlushTurn). turn.stage) o ≡ Some stage → IsSome o
 staged_held None stage e = absurd (none-some stage e)
-pub staged_held (Some turn) stage e = refl
+staged_held (Some turn) stage e = refl
 
 module _ (x : PathState) (C : IsLawfulCore x) where
   -- where a table stands, so does the stage of its switch
@@ -234,7 +234,7 @@ module _ (x : PathState) (C : IsLawfulCore x) where
   -- a step of no switch leaves each table
   pub quiet_stands : (e : Event) → IsStep x e → (ChangesStage e → ⊥) → (t : ℕ)
       → TableStands (table_of x t) (table_of (next_of x e) t)
-  pub quiet_stands (Put by (OldestLive table) value) a other t =
+  quiet_stands (Put by (OldestLive table) value) a other t =
       put_at x.tables table.0 _ fresh_table a.is_there (λ u tb. TableStands (table_of x u) tb)
       (record {
         newest = refl;
@@ -242,35 +242,35 @@ module _ (x : PathState) (C : IsLawfulCore x) where
         final = λ m h. h;
         barrier = λ m. refl;
       }) (λ u _. stands_itself (table_of x u)) t
-  pub quiet_stands (Put by Synced value) a other t = stands_itself (table_of x t)
-  pub quiet_stands (Put by Stopped value) a other t = stands_itself (table_of x t)
-  pub quiet_stands (MoveCurrent by Write group) a other t = absurd (other tt)
-  pub quiet_stands (MoveCurrent by Append group) a other t = stands_itself (table_of x t)
-  pub quiet_stands (Switch by table m part) a other t = absurd (other tt)
-  pub quiet_stands (Raise by table m to) a other t = absurd (other tt)
-  pub quiet_stands (Finalise by table m) a other t = absurd (other tt)
+  quiet_stands (Put by Synced value) a other t = stands_itself (table_of x t)
+  quiet_stands (Put by Stopped value) a other t = stands_itself (table_of x t)
+  quiet_stands (MoveCurrent by Write group) a other t = absurd (other tt)
+  quiet_stands (MoveCurrent by Append group) a other t = stands_itself (table_of x t)
+  quiet_stands (Switch by table m part) a other t = absurd (other tt)
+  quiet_stands (Raise by table m to) a other t = absurd (other tt)
+  quiet_stands (Finalise by table m) a other t = absurd (other tt)
   quiet_stands e a other t = stands_itself (table_of x t)
 
   -- each table stands, or the holder of its turn acts
   pub table_stands : (e : Event) → IsStep x e → (t : ℕ)
       → TableStands (table_of x t) (table_of (next_of x e) t)
       ⊎ IsSome (seat_table (seat_of x (by_of e)) t).flush
-  pub table_stands (MoveCurrent by Write group) a t = barred_unless_held x.write.current
+  table_stands (MoveCurrent by Write group) a t = barred_unless_held x.write.current
       (seat_of x by).tables x.tables (TableStands (table_of x t)) t (stands_itself (table_of x t))
-  pub table_stands (Switch by table m Open) a t = put_at x.tables table.0 _ fresh_table a.is_there
+  table_stands (Switch by table m Open) a t = put_at x.tables table.0 _ fresh_table a.is_there
       (λ u tb. TableStands (table_of x u) tb ⊎ IsSome (seat_table (seat_of x by) u).flush)
       (inr a.row.0) (λ u _. inl (stands_itself (table_of x u))) t
-  pub table_stands (Switch by table m Mark) a t = put_at x.tables table.0 _ fresh_table a.is_there.0
+  table_stands (Switch by table m Mark) a t = put_at x.tables table.0 _ fresh_table a.is_there.0
       (λ u tb. TableStands (table_of x u) tb ⊎ IsSome (seat_table (seat_of x by) u).flush)
       (inr a.row.0) (λ u _. inl (stands_itself (table_of x u))) t
-  pub table_stands (Raise by table m to) a t = inl
+  table_stands (Raise by table m to) a t = inl
       (put_at x.tables table.0 _ fresh_table a.is_there.0 (λ u tb. TableStands (table_of x u) tb)
       (raised_stands (table_of x table.0) m to.0 a.is_there.1)
       (λ u _. stands_itself (table_of x u)) t)
-  pub table_stands (Finalise by table m) a t = put_at x.tables table.0 _ fresh_table a.is_there.0
+  table_stands (Finalise by table m) a t = put_at x.tables table.0 _ fresh_table a.is_there.0
       (λ u tb. TableStands (table_of x u) tb ⊎ IsSome (seat_table (seat_of x by) u).flush)
       (inr (marked_held (seat_table (seat_of x by) table.0).flush _ a.row.marked))
       (λ u _. inl (stands_itself (table_of x u))) t
-  pub table_stands (Put by cursor value) a t = inl (quiet_stands (Put by cursor value) a (λ b. b) t)
-  pub table_stands (MoveCurrent by Append group) a t = inl (stands_itself (table_of x t))
+  table_stands (Put by cursor value) a t = inl (quiet_stands (Put by cursor value) a (λ b. b) t)
+  table_stands (MoveCurrent by Append group) a t = inl (stands_itself (table_of x t))
   table_stands e a t = inl (stands_itself (table_of x t))
