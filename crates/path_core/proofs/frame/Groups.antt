@@ -1,5 +1,21 @@
 -- A step changes one word of an order's groups: the one at its place.
-use Rattle.std.proofs.Common.{◌≡◌, ◌≢◌, ℕ, ◌≤◌, List, [], ◌∷◌, ◌++◌, length, set, refl, ◌∙◌, get_or-set_same, get_or-set_other, ◌<◌}
+use Rattle.std.proofs.Common.{
+  ◌≡◌,
+  ◌≢◌,
+  ℕ,
+  ◌≤◌,
+  List,
+  [],
+  ◌∷◌,
+  ◌++◌,
+  length,
+  set,
+  refl,
+  ◌∙◌,
+  get_or-set_same,
+  get_or-set_other,
+  ◌<◌,
+}
 use Rattle.std.specs.Prelude.{if◌then◌else◌}
 use Rattle.std.proofs.lemmas.List.{get_or_past}
 use Rattle.op_core.specs.declared.count.Order.{Order}

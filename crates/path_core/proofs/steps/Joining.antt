@@ -1,5 +1,21 @@
 -- A note joins others that stand in order, and they still do.
-use Rattle.std.proofs.Common.{◌≡◌, ℕ, ◌<◌, ◌≤◌, ◌-◌, nat_lt, not, true, false, List, [], length, get_or, sym, arith}
+use Rattle.std.proofs.Common.{
+  ◌≡◌,
+  ℕ,
+  ◌<◌,
+  ◌≤◌,
+  ◌-◌,
+  nat_lt,
+  not,
+  true,
+  false,
+  List,
+  [],
+  length,
+  get_or,
+  sym,
+  arith,
+}
 use Rattle.std.specs.List.{position_or_len}
 use Rattle.std.proofs.lemmas.Bool.Decides.{nat_tests}
 use Rattle.std.proofs.lemmas.List.Sorted.{IsNonDecreasingBy-insert}
