@@ -70,10 +70,11 @@ fn put_pieces(out: &mut Vec<u8>, payload: &[u8]) -> Result<(), AllocError>
 }
 
 /// Begins the entry of a payload of `size` bytes, which the caller puts behind it, and then calls
-/// `end_entry`. Takes no memory where there is room for 8 bytes.
+/// `end_entry`. Is not refused where there is room for 8 bytes.
 pub fn begin_entry(out: &mut Vec<u8>, size: u32) -> Result<(), OutOfMemory>
     ensures ok { OnOk result (out.new.items ≡ out.old.items ++ entry_front size) }
     ensures err { OnErr result (out.new.items ≡ out.old.items) }
+    ensures room { vec_len out.old + 8 ≤ vec_capacity out.old → IsOk result }
 {
     let mut row = [0; 8];
     let at = put(&mut row, 0, &size.to_be_bytes());
@@ -82,7 +83,7 @@ pub fn begin_entry(out: &mut Vec<u8>, size: u32) -> Result<(), OutOfMemory>
 }
 
 /// Ends the entry that begins at `from`, with the check of its payload, which is all that stands
-/// behind its front. Takes no memory where there is room for 4 bytes.
+/// behind its front. Is not refused where there is room for 4 bytes.
 pub fn end_entry(out: &mut Vec<u8>, from: usize) -> Result<(), OutOfMemory>
     requires begun { from + 8 ≤ length out.old.items }
     requires most { length out.old.items ≤ from + 8 + 2 ^ 30 }
@@ -90,6 +91,7 @@ pub fn end_entry(out: &mut Vec<u8>, from: usize) -> Result<(), OutOfMemory>
         → out.old.items ≡ front ++ entry_front (length payload) ++ payload
         → OnOk result (out.new.items ≡ front ++ entry_bytes payload) }
     ensures err { OnErr result (out.new.items ≡ out.old.items) }
+    ensures room { vec_len out.old + 4 ≤ vec_capacity out.old → IsOk result }
 {
     let check = check_behind(out.as_slice(), from + 8);
     Ok(out.extend_from_slice(&check.to_be_bytes())?)

@@ -42,8 +42,8 @@ fn put_updates(out: &mut Vec<u8>, updates: &[Update]) -> Result<(), OutOfMemory>
     Ok(())
 }
 
-/// Appends the payload of a mutation, `payload_size` bytes. It takes no memory where that much room
-/// is left. For want of memory a first part of the payload may stand behind what was there.
+/// Appends the payload of a mutation, `payload_size` bytes. For want of memory a first part of the
+/// payload may stand behind what was there.
 pub fn put_mutation(out: &mut Vec<u8>, mutation: &Mutation) -> Result<(), OutOfMemory>
     requires limits { IsWithinLimits mutation.now }
     requires size { length (payload_of mutation.now) ≤ 2 ^ 30 }

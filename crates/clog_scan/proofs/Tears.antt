@@ -15,6 +15,7 @@ use Rattle.std.proofs.Common.{
   length,
 }
 use Rattle.clog_entry.specs.declared.cause.Cause.{Cause}
+use Rattle.clog_entry.specs.declared.cause.Cause.TheVariants.{Version, Parameters, HeaderId}
 use Rattle.clog_entry.specs.Soft.{IsSoft, IsOfHeader}
 use Rattle.clog_entry.specs.Spelled.{IsHeaderAt}
 use Rattle.clog_entry.proofs.Causes.{header_refused, marker_soft, entry_soft}
@@ -68,3 +69,10 @@ pub soft_behind_header : (bytes : List ℕ) (id : ℕ) (entries : List Entry) (p
     → IsSegment bytes id entries (Torn place cause) → IsSoft cause
 soft_behind_header bytes id entries place cause fits header is =
     behind_header bytes id place cause is.front fits header is.ends
+
+-- no cause is both
+pub soft_is_not_of_header : (cause : Cause) → IsSoft cause → IsOfHeader cause → ⊥
+soft_is_not_of_header (Version version) soft header = soft
+soft_is_not_of_header Parameters soft header = soft
+soft_is_not_of_header (HeaderId id) soft header = soft
+soft_is_not_of_header other soft header = header

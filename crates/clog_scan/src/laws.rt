@@ -2,8 +2,10 @@
 ghost use Rattle.std.specs.Prelude.{◌≡◌, ◌<◌, ◌≤◌, ◌^◌, ◌+◌, ◌++◌, ◌⊎◌, ℕ, List, length, take};
 ghost use Rattle.clog_spec.specs.Segment.{header_bytes, section_bytes};
 ghost use Rattle.clog_spec.specs.Sizes.{header_size, marker_size};
+ghost use Rattle.clog_base.specs.declared.fault.PayloadFault.{PayloadFault};
 ghost use Rattle.clog_entry.specs.declared.cause.Cause.{Cause as tear_cause};
-ghost use Rattle.clog_entry.specs.Soft.{IsSoft};
+ghost use Rattle.clog_entry.specs.declared.cause.Cause.TheVariants.{Payload};
+ghost use Rattle.clog_entry.specs.Soft.{IsSoft, IsOfHeader};
 ghost use Rattle.clog_entry.specs.Spelled.{IsHeaderAt};
 ghost use Rattle.clog_scan.specs.declared.answer.End.{End as segment_end};
 ghost use Rattle.clog_scan.specs.declared.answer.End.TheVariants.{Clean, Torn};
@@ -73,7 +75,8 @@ pub fn bytes_behind_the_end()
 
 /// A segment is torn for a soft cause, one that a crash may leave, or at its start, where its
 /// header has a right check and another version, id or parameters. Behind its own header it is torn
-/// for a soft cause alone. So a scan never tells that a payload is bad.
+/// for a soft cause alone. No cause that a header with a right check is refused for is soft, and
+/// none that a payload is refused for, so a scan never tells that a payload is bad.
 pub fn tears_are_soft_behind_the_header()
     ensures tear { (bytes : List ℕ) (id : ℕ) (entries : List Entry) (place : ℕ)
         (cause : tear_cause) → IsSegment bytes id entries (Torn place cause)
@@ -81,4 +84,6 @@ pub fn tears_are_soft_behind_the_header()
     ensures soft { (bytes : List ℕ) (id : ℕ) (entries : List Entry) (place : ℕ)
         (cause : tear_cause) → id < 2 ^ 64 → IsHeaderAt bytes id
         → IsSegment bytes id entries (Torn place cause) → IsSoft cause }
+    ensures header { (cause : tear_cause) → IsSoft cause → IsOfHeader cause → ⊥ }
+    ensures payload { (fault : PayloadFault) → IsSoft (Payload fault) → ⊥ }
 {}
