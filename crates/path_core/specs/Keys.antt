@@ -18,25 +18,10 @@ use Rattle.std.specs.Prelude.{
   nat_lt,
   if◌then◌else◌,
 }
+pub use Rattle.clog_base.specs.Positions.{ordinal_of, offset_of, key_of}
+pub use Rattle.clog_spec.specs.Sizes.{front_size as first_offset, marker_size}
 use Rattle.path_core.specs.declared.event.ClaimKind.{ClaimKind}
 use Rattle.path_core.specs.declared.event.ClaimKind.TheVariants.{Entry, Marker}
-
-abbrev pub ordinal_of : ℕ → ℕ
-ordinal_of key = key / 2 ^ 31
-
-abbrev pub offset_of : ℕ → ℕ
-offset_of key = key % 2 ^ 31
-
-abbrev pub key_of : ℕ → ℕ → ℕ
-key_of ordinal offset = ordinal * 2 ^ 31 + offset
-
--- the bytes of a header and of the first marker
-abbrev pub first_offset : ℕ
-first_offset = 28
-
--- the bytes of a marker
-abbrev pub marker_size : ℕ
-marker_size = 8
 
 -- the least entry: a payload of 18 bytes and 12 around it
 abbrev pub least_entry : ℕ
