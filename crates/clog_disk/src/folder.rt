@@ -12,9 +12,9 @@ ghost use Rattle.clog_disk.specs.Causes.{HasDiskCause};
 use crate::disk::{Disk, DiskFault};
 use crate::hold::Hold;
 use crate::names::Names;
-use crate::real_files::{length_of, names_in_folder, open_to_read, read_part};
-use crate::refusal::{Call, Refusal};
+use crate::real_files::{FOLDER, length_of, names_in_folder, open_to_read, path_of, read_part};
 use clog_base::Name;
+use std::alloc::Global;
 use std::fs::File;
 use std::io;
 use std::io::ErrorKind;
@@ -36,10 +36,19 @@ pub struct FolderDisk<R: Files<File = File> + AllocGlobal + Clone + Drop> {
     /// The file that was read last.
     opened: Option<Opened>,
     faults: u64,
-    /// The last call that failed, the file that it was of, and what the system said.
-    failed_call: Call,
-    failed_name: Option<Name>,
-    refusal: Option<io::Error>,
+    /// The last call that failed and what the system said, if there was memory for the text.
+    refusal: Option<String>,
+}
+
+// Which call the system has refused, and what it said.
+fn refusal(alloc: Global, call: &str, name: Option<&Name>, error: io::Error) -> io::Result<String> {
+    match name {
+        Some(name) => {
+            let path = path_of(alloc, name)?;
+            Ok(format!(in alloc; "{call} {path}: {error}")?)
+        }
+        None => Ok(format!(in alloc; "{call} {FOLDER}: {error}")?),
+    }
 }
 
 // The names, none where the folder is absent and no lock keeps it there.
@@ -66,8 +75,6 @@ impl<R: Files<File = File> + AllocGlobal + Clone + Drop> FolderDisk<R> {
             hold,
             opened: None,
             faults: 0,
-            failed_call: Call::List,
-            failed_name: None,
             refusal: None,
         }
     }
@@ -87,10 +94,11 @@ impl<R: Files<File = File> + AllocGlobal + Clone + Drop> FolderDisk<R> {
         FolderDisk::new(rt, Hold::Reads)
     }
 
-    /// The last call that the system has refused, for people to read.
-    pub fn last_refusal(&self) -> Option<Refusal> {
-        match self.refusal {
-            Some(error) => Some(Refusal::new(self.failed_call, self.failed_name, error)),
+    /// The last call that the system has refused, for people to read: `append commitlog/NAME: ` and
+    /// the system's words. It may be absent after `Failed` where there was no memory for it.
+    pub fn last_refusal(&self) -> Option<&str> {
+        match &self.refusal {
+            Some(text) => Some(text.as_str()),
             None => None,
         }
     }
@@ -98,8 +106,8 @@ impl<R: Files<File = File> + AllocGlobal + Clone + Drop> FolderDisk<R> {
     // What a refusal of the system is to the caller: it is counted, and kept for people.
     fn counted<T>(
         &mut self,
-        call: Call,
-        name: Option<Name>,
+        call: &str,
+        name: Option<&Name>,
         outcome: io::Result<T>,
     ) -> Result<T, DiskFault>
         ensures cause { HasDiskCause self.old.faults self.new.faults result }
@@ -110,9 +118,7 @@ impl<R: Files<File = File> + AllocGlobal + Clone + Drop> FolderDisk<R> {
             Ok(value) => Ok(value),
             Err(error) => {
                 self.faults = self.faults.saturating_add(1);
-                self.failed_call = call;
-                self.failed_name = name;
-                self.refusal = Some(error);
+                self.refusal = refusal(self.rt.alloc(), call, name, error).ok();
                 Err(DiskFault::Failed)
             }
         }
@@ -180,17 +186,17 @@ impl<R: Files<File = File> + AllocGlobal + Clone + Drop> Disk for FolderDisk<R> 
 
     fn list(&mut self) -> Result<Names, DiskFault> {
         let names = self.try_list();
-        Ok(Names::new(self.counted(Call::List, None, names)?))
+        Ok(Names::new(self.counted("list", None, names)?))
     }
 
     fn len(&mut self, name: &Name) -> Result<u64, DiskFault> {
         let size = self.try_len(name);
-        self.counted(Call::Measure, Some(*name), size)
+        self.counted("measure", Some(name), size)
     }
 
     fn read(&mut self, name: &Name, at: u64, count: u32) -> Result<Vec<u8>, DiskFault> {
         let bytes = self.try_read(name, at, count);
-        let mut bytes = self.counted(Call::Read, Some(*name), bytes)?;
+        let mut bytes = self.counted("read", Some(name), bytes)?;
         // No clause of the system's reader says that it stops there.
         bytes.truncate(count as usize);
         Ok(bytes)
@@ -198,12 +204,12 @@ impl<R: Files<File = File> + AllocGlobal + Clone + Drop> Disk for FolderDisk<R> 
 
     fn append_at(&mut self, name: &Name, at: u64, bytes: &[u8]) -> Result<(), DiskFault> {
         let done = self.try_append(name, at, bytes);
-        self.counted(Call::Append, Some(*name), done)
+        self.counted("append", Some(name), done)
     }
 
     fn sync(&mut self, name: &Name) -> Result<(), DiskFault> {
         let done = self.try_sync(name);
-        self.counted(Call::Sync, Some(*name), done)
+        self.counted("sync", Some(name), done)
     }
 
     fn fault_count(&self) -> u64 {

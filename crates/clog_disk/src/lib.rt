@@ -8,14 +8,12 @@ mod hold;
 mod memory;
 mod names;
 mod real_files;
-mod refusal;
 mod stored;
 
 pub use disk::{Disk, DiskFault};
 pub use folder::FolderDisk;
 pub use memory::MemDisk;
 pub use names::Names;
-pub use refusal::Refusal;
 
 #[cfg(test)]
 mod tests;

@@ -8,14 +8,14 @@ use std::io::{ErrorKind, Read, Seek, SeekFrom, Write};
 use std::rt::Files;
 use std::{fs, io, str};
 
-const FOLDER: &str = "commitlog";
+pub(crate) const FOLDER: &str = "commitlog";
 
 // The slash at its end refuses what is no folder.
 const FOLDER_ITSELF: &str = "commitlog/";
 
 const CURRENT_FOLDER: &str = ".";
 
-fn path_of(alloc: Global, name: &Name) -> io::Result<String> {
+pub(crate) fn path_of(alloc: Global, name: &Name) -> io::Result<String> {
     let text = str::from_utf8(name.as_bytes()).or(Err(io::Error::from(ErrorKind::InvalidData)))?;
     Ok(format!(in alloc; "{FOLDER}/{text}")?)
 }

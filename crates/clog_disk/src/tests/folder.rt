@@ -50,12 +50,8 @@ fn writes_in_turn(disk: &mut FolderDisk<HostRuntime>, one: &Name, other: &Name) 
 }
 
 // Whether the system's last refusal reads so.
-fn said(rt: &HostRuntime, disk: &FolderDisk<HostRuntime>, want: &str) -> Result<bool, Fail> {
-    let Some(refusal) = disk.last_refusal() else {
-        return Ok(false);
-    };
-    let text = format!(in rt.alloc(); "{refusal}")?;
-    Ok(text.as_str() == want)
+fn said(disk: &FolderDisk<HostRuntime>, want: &str) -> bool {
+    matches!(disk.last_refusal(), Some(text) if text == want)
 }
 
 #[test]
@@ -80,7 +76,7 @@ fn an_append_goes_to_the_end_or_fails(rt: HostRuntime) -> Result<(), Fail> {
     let mut disk = write_hello(&rt, &name)?;
     assert_eq!(rt; disk.append_at(&name, 5, b"?"), Err(DiskFault::Failed));
     let words = "append commitlog/CommitLog-6-1000.log: the file has another length";
-    assert!(rt; said(&rt, &disk, words)?);
+    assert!(rt; said(&disk, words));
     assert_eq!(rt;
         disk.append_at(&segment_name(7), 5, b"?"),
         Err(DiskFault::Failed)
@@ -157,13 +153,8 @@ fn after_a_refused_sync_each_call_fails(rt: HostRuntime) -> Result<(), Fail> {
     disk.append_at(&name, 0, b"renamed")?;
     assert_eq!(rt; disk.len(&name)?, 0);
     assert_eq!(rt; disk.sync(&name), Err(DiskFault::Failed));
-    assert!(rt;
-        said(
-            &rt,
-            &disk,
-            "sync commitlog/comm: Invalid argument (os error 22)"
-        )?
-    );
+    let words = "sync commitlog/comm: Invalid argument (os error 22)";
+    assert!(rt; said(&disk, words));
     assert!(rt; is_refused(&mut disk, &name));
     leave(&rt, "after_a_refused_sync")?;
     Ok(())
