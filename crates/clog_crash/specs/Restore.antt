@@ -75,7 +75,9 @@ pub record IsLoggedCell (files : Files) (pair : CellKey × Cell) : Type 0 where
   pub kept : ¬ IsSkipped files update.table (record { id = id; offset = entry.end })
   pub is : pair ≡ pair_of mutation.key update
 
--- In a folder that is not damaged each payload that is logged is a mutation's.
+-- Where no file is damaged this is the restoring up to damage: each payload that is logged is a
+-- mutation's. Where one is damaged it is the reading past damage: a payload that is no mutation's
+-- adds nothing, and the entries behind it count.
 abbrev pub Restores : Files → CellKey × Cell → Type 0
 Restores files pair = IsTableCell files pair ⊎ IsLoggedCell files pair
 

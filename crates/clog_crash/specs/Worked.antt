@@ -1,5 +1,5 @@
 -- A worked row: a folder with a segment that has one entry, and a table file whose interval ends
--- where the entry does, or one byte before.
+-- where the entry does, or one byte before. The file is of the entry's table, or of another.
 use Rattle.std.specs.Prelude.{ℕ, pos, List, [], ◌∷◌, ◌++◌, codes}
 use Rattle.std.specs.FinMap as finmap
 use Rattle.clog_spec.specs.Names.{segment_name_of, table_name_of}
@@ -17,6 +17,9 @@ use Rattle.clog_table.specs.Format.{table_file_bytes}
 abbrev pub first_table : Table
 first_table = record { 0 = 0 }
 
+abbrev pub second_table : Table
+second_table = record { 0 = 1 }
+
 abbrev pub a_deletion : Cell
 a_deletion = record { ts = pos 5; kind = Deletion; value = [] }
 
@@ -31,24 +34,25 @@ the_mutation = record {
 abbrev pub the_segment : List ℕ
 the_segment = header_bytes 1000 ++ marker_bytes 1000 20 60 ++ entry_bytes (payload_of the_mutation)
 
--- a file of table 0 with a cell of key `aa`, and all of the log up to this offset of segment 1000
-abbrev pub the_file : ℕ → TableFile
-the_file upper = record {
-  table = first_table;
-  lower = record { id = 1000; offset = 0 };
-  upper = record { id = 1000; offset = upper };
-  cells = (record { table = first_table; key = codes "aa"; column = codes "cd" }, a_deletion) ∷ [];
-}
-
-abbrev pub the_folder : ℕ → Files
-the_folder upper =
-    finmap.insert
-    (finmap.insert no_files (segment_name_of 6 1000) the_segment)
-    (table_name_of 0 1) (table_file_bytes (the_file upper))
-
--- the cell of the file, and that of the log
-abbrev pub filed : CellKey × Cell
-filed = (record { table = first_table; key = codes "aa"; column = codes "cd" }, a_deletion)
+-- the cell that a file of this table has, and that of the log
+abbrev pub filed : Table → CellKey × Cell
+filed table = (record { table = table; key = codes "aa"; column = codes "cd" }, a_deletion)
 
 abbrev pub logged : CellKey × Cell
 logged = (record { table = first_table; key = codes "ab"; column = codes "cd" }, a_deletion)
+
+-- a file of this table with a cell of key `aa`; it stands for all of the table's log up to this
+-- offset of segment 1000
+abbrev pub the_file : Table → ℕ → TableFile
+the_file table upper = record {
+  table = table;
+  lower = record { id = 1000; offset = 0 };
+  upper = record { id = 1000; offset = upper };
+  cells = filed table ∷ [];
+}
+
+abbrev pub the_folder : Table → ℕ → Files
+the_folder table upper =
+    finmap.insert
+    (finmap.insert no_files (segment_name_of 6 1000) the_segment)
+    (table_name_of table.0 1) (table_file_bytes (the_file table upper))

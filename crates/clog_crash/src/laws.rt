@@ -28,7 +28,7 @@ ghost use Rattle.clog_crash.specs.Restore.{
   IsTableCell,
   IsUndamaged,
 };
-ghost use Rattle.clog_crash.specs.Worked.{the_folder, filed, logged};
+ghost use Rattle.clog_crash.specs.Worked.{the_folder, first_table, second_table, filed, logged};
 
 /// A folder restores to one list of cells. Which files hold them, and how often, does not matter.
 pub fn folders_restore_to_one_list()
@@ -90,10 +90,12 @@ pub fn each_table_file_is_good()
         → (file : TableFile) × IsFileOf place.0 bytes file }
 {}
 
-/// A worked row: segment 1000 has one entry, which ends at 60, and a table file of the entry's
-/// table has a cell of its own. Where the file's interval ends at 60 the entry is skipped, and the folder
-/// restores to the file's cell alone; where it ends at 59, to both cells.
+/// A worked row: segment 1000 has one entry, of the first table, which ends at 60; and a table file
+/// has a cell of its own. Where the file is of the first table and its interval ends at 60, the
+/// entry is skipped, and the folder restores to the file's cell alone; where the interval ends at
+/// 59, to both cells. A file of another table skips nothing of the first: both cells count.
 pub fn an_interval_skips_the_entry_that_ends_in_it()
-    ensures skipped { IsRestored (the_folder 60) (filed ∷ []) }
-    ensures kept { IsRestored (the_folder 59) (filed ∷ logged ∷ []) }
+    ensures skipped { IsRestored (the_folder first_table 60) (filed first_table ∷ []) }
+    ensures kept { IsRestored (the_folder first_table 59) (filed first_table ∷ logged ∷ []) }
+    ensures other { IsRestored (the_folder second_table 60) (logged ∷ filed second_table ∷ []) }
 {}
