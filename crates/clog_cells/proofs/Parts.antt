@@ -1,6 +1,6 @@
 -- The part of a merge on a table is the merge of the part.
 use Rattle.std.proofs.Common.{◌≡◌, List, [], ◌∷◌, Bool, true, false, cond, Option, Some, None}
-use Rattle.std.proofs.Common.{refl, sym, ap, subst, ◌∙◌, inl, inr, arith}
+use Rattle.std.proofs.Common.{refl, sym, ap, subst, ◌∙◌, inl, inr, arith, ◌↔◌, eq-eqb, eqb-true}
 use Rattle.std.specs.Prelude.{Contains}
 use Rattle.std.specs.List.{filter}
 use Rattle.std.specs.List.Sorted.{IsStrictlySortedBy}
@@ -114,3 +114,15 @@ part_of table pairs rows merge =
       (λ h. listed_where (λ p. is_of_table table p.0) pairs pair h),
     ))
     (part_of_all (Contains pairs) table rows merge)
+
+-- the members of a part are those of its table
+pub members_of_part : (table : Table) (pairs : Pairs) (pair : CellKey × Cell)
+    → Contains (part_on table pairs) pair ↔ (Contains pairs pair × (pair.0.table ≡ table))
+members_of_part table pairs pair = (
+  (λ h.
+      let there = listed_where (λ p. is_of_table table p.0) pairs pair h in
+      (there.0, ap (λ n. record { 0 = n }) (eqb-true pair.0.table.0 table.0 there.1))),
+  (λ h.
+      kept_where (λ p. is_of_table table p.0) pairs pair h.0
+      (eq-eqb pair.0.table.0 table.0 (ap (λ (t : Table). t.0) h.1))),
+)

@@ -1,5 +1,5 @@
 //! Laws of the order of cells and of merging. Each is the contract of a function that does nothing.
-ghost use Rattle.std.specs.Prelude.{◌≡◌, ◌<◌, ◌<ℤ◌, ◌++◌, List, true};
+ghost use Rattle.std.specs.Prelude.{◌≡◌, ◌<◌, ◌<ℤ◌, ◌++◌, ◌↔◌, List, Contains, true};
 ghost use Rattle.std.specs.declared.cmp.Ordering.TheVariants.{Less, Equal, Greater};
 ghost use Rattle.std.specs.Ordering.{nat_cmp};
 ghost use Rattle.std.specs.Cmp.{IsTotalOrder};
@@ -64,4 +64,7 @@ pub fn merge_laws()
     // The part of a merge on a table is the merge of the part.
     ensures part { (table : Table) (pairs rows : List (CellKey × Cell))
         → IsMerge pairs rows → IsMerge (part_on table pairs) (part_on table rows) }
+    // What that part holds is what stands at the table's own keys.
+    ensures on_table { (table : Table) (rows : List (CellKey × Cell)) (pair : CellKey × Cell)
+        → Contains (part_on table rows) pair ↔ (Contains rows pair × (pair.0.table ≡ table)) }
 {}
