@@ -52,11 +52,19 @@ use Rattle.clog_table.specs.declared.fault.TableFault.TheVariants.{
   Trailing,
   OutOfMemory,
 }
-use Rattle.clog_table.specs.Format.{cell_bytes, cells_bytes, check_bytes, head_bytes, head_of}
+use Rattle.clog_table.specs.Format.{
+  cell_bytes,
+  cells_bytes,
+  check_bytes,
+  head_bytes,
+  head_size,
+  behind_head,
+  head_of,
+}
 use Rattle.clog_table.specs.Limits.{IsUpTo, IsThisTable, IsStoredCell, IsWithinLimits, IsWritable}
 use Rattle.clog_table.specs.Reading.{Fields, cell_at}
 use Rattle.clog_table.specs.RawFields.{pair_of}
-use Rattle.clog_table.specs.Heads.{BeginsWithHead, IsStoredHead, head_at}
+use Rattle.clog_table.specs.Heads.{BeginsWithHead, HasHead, IsStoredHead, head_at}
 use Rattle.clog_table.specs.Cells.{HasCells, BeginsWithNoCell, BeginsWithCell}
 use Rattle.clog_table.specs.Refusals.{IsFileOf, HasAllCells, Refuses, Decodes, IsUnlessMemory}
 use Rattle.clog_table.proofs.Numbers.{four_once}
@@ -147,12 +155,12 @@ begins_as table bytes file f = record {
     upper = f.is_file.upper;
     count = f.is_file.map.few;
   };
-  spelled = ap (take 37) f.spelled;
+  spelled = ap (take head_size) f.spelled;
 }
 
 module _ (table : Table) (bytes : List ℕ) (file : TableFile) (f : IsFileOf table bytes file) where
-  behind_head : drop 37 bytes ≡ cells_bytes file.cells ++ check_bytes (cells_bytes file.cells)
-  behind_head = ap (drop 37) f.spelled
+  cells_behind : behind_head bytes ≡ cells_bytes file.cells ++ check_bytes (cells_bytes file.cells)
+  cells_behind = ap behind_head f.spelled
 
   begins : BeginsWithHead bytes (head_of file)
   begins = begins_as table bytes file f
@@ -161,25 +169,26 @@ module _ (table : Table) (bytes : List ℕ) (file : TableFile) (f : IsFileOf tab
   stored = subst (λ (t : Table). AllByRecursion (IsStoredCell t) file.cells) f.same_table
       f.is_file.stored
 
-  front : (head : Head) (cells : Pairs) (rest : List ℕ) → head.table ≡ table
-      → HasCells bytes head cells rest
+  front : (head : Head) (cells : Pairs) (rest : List ℕ) → HasHead table bytes head
+      → HasCells table head.count (behind_head bytes) cells rest
       → (length file.cells ≡ head.count) × IsFront table file.cells cells
       (check_bytes (cells_bytes file.cells)) rest
-  front head cells rest same h =
-      let heads : head_of file ≡ head = one_head bytes (head_of file) head begins h.begins.begins in
+  front head cells rest has h =
+      let heads : head_of file ≡ head = one_head bytes (head_of file) head begins has.begins in
       let count : length file.cells ≡ head.count = ap (λ (x : Head). x.count) heads in
       let few : length cells ≤ length file.cells = omega (arith, h.few) in (
         count,
         front_of table file.cells cells (check_bytes (cells_bytes file.cells)) rest stored
-            (subst (λ (t : Table). AllByRecursion (IsStoredCell t) cells) same h.stored) few
-            (sym behind_head ∙ h.spelled),
+            h.stored few
+            (sym cells_behind ∙ h.spelled),
       )
 
   -- all cells of a reading are the file's, and the rest is their check
-  all_front : (cells : Pairs) (rest : List ℕ) → HasAllCells table bytes cells rest
+  all_front : (head : Head) (cells : Pairs) (rest : List ℕ) → HasHead table bytes head
+      → HasAllCells table head.count (behind_head bytes) cells rest
       → (file.cells ≡ cells) × (rest ≡ check_bytes (cells_bytes file.cells))
-  all_front cells rest h =
-      let x = front h.head cells rest h.same_table h.front in
+  all_front head cells rest has h =
+      let x = front head cells rest has h.front in
       let none = nothing_later table file.cells cells (check_bytes (cells_bytes file.cells)) rest
       x.1
       (h.all ∙ sym x.0) in (
@@ -227,8 +236,10 @@ module _ (table : Table) (bytes : List ℕ) (file : TableFile) (f : IsFileOf tab
   not_refused Short (inl h) =
       let long = head_is_long bytes (head_of file) begins in absurd (omega arith)
   not_refused Short (inr h) =
-      let four = check_is_long h.rest (all_front h.cells h.rest h.whole).1 in
-      absurd (omega (arith, h.short))
+      let said = h.says in
+      let four = check_is_long said.rest
+      (all_front h.head said.cells said.rest h.begins said.whole).1 in
+      absurd (omega (arith, said.short))
   not_refused (Version n) h =
       let one : take 4 bytes ≡ to_be_bytes w32 1 = ap (take 4) f.spelled in
       absurd (h.other (four_once n 1 h.fits (omega arith) (sym h.version ∙ one)))
@@ -243,22 +254,27 @@ module _ (table : Table) (bytes : List ℕ) (file : TableFile) (f : IsFileOf tab
       let heads = one_head bytes (head_of file) h.head begins h.begins in
       absurd (h.disordered (subst (λ (x : Head). IsUpTo x.lower x.upper) heads f.is_file.interval))
   not_refused (NoCell at) h =
-      let x = front h.head h.cells h.rest h.same_table h.front in
-      let wanted : length h.cells < length file.cells = omega (arith, h.wanted, x.0) in
-      absurd (no_cell_later h.cells x.1.later h.rest x.1.joined x.1.spelled x.1.stored wanted
-      h.none)
+      let said = h.says.1 in
+      let x = front h.head said.cells h.says.0 h.begins said.front in
+      let wanted : length said.cells < length file.cells = omega (arith, said.wanted, x.0) in
+      absurd (no_cell_later said.cells x.1.later h.says.0 x.1.joined x.1.spelled x.1.stored wanted
+      said.none)
   not_refused (Order at) h =
-      let x = front h.head h.cells h.rest h.same_table h.front in
-      let wanted : length h.cells < length file.cells = omega (arith, h.wanted, x.0) in
-      absurd (disorder_later h.cells x.1.later h.rest h.behind h.next x.1.joined x.1.spelled
-      x.1.stored wanted h.found h.disordered)
+      let said = h.says.1 in
+      let x = front h.head said.cells h.says.0 h.begins said.front in
+      let wanted : length said.cells < length file.cells = omega (arith, said.wanted, x.0) in
+      absurd (disorder_later said.cells x.1.later h.says.0 said.behind said.next x.1.joined
+      x.1.spelled x.1.stored wanted said.found said.disordered)
   not_refused CellsCheck h =
-      let x = all_front h.cells h.rest h.whole in
-      absurd (h.wrong (ap (take 4) x.1
+      let said = h.says in
+      let x = all_front h.head said.cells said.rest h.begins said.whole in
+      absurd (said.wrong (ap (take 4) x.1
       ∙ ap (λ (l : Pairs). check_bytes (cells_bytes l)) x.0))
   not_refused (Trailing at) h =
-      let four = check_is_long h.rest (all_front h.cells h.rest h.whole).1 in
-      absurd (omega (arith, h.more))
+      let said = h.says.1 in
+      let four = check_is_long h.says.0
+      (all_front h.head said.cells h.says.0 h.begins said.whole).1 in
+      absurd (omega (arith, said.more))
 
   pub one_file : (other : TableFile) → IsFileOf table bytes other → other ≡ file
   one_file other g =
@@ -270,7 +286,7 @@ module _ (table : Table) (bytes : List ℕ) (file : TableFile) (f : IsFileOf tab
       (check_bytes (cells_bytes other.cells)) stored
       (subst (λ (t : Table). AllByRecursion (IsStoredCell t) other.cells) g.same_table
       g.is_file.stored)
-      few (sym behind_head ∙ ap (drop 37) g.spelled) in
+      few (sym cells_behind ∙ ap behind_head g.spelled) in
       let none = nothing_later table file.cells other.cells (check_bytes (cells_bytes file.cells))
       (check_bytes (cells_bytes other.cells)) x count in
       let cells : other.cells ≡ file.cells =

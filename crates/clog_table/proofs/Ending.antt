@@ -10,7 +10,6 @@ use Rattle.std.proofs.Common.{
   ◌++◌,
   length,
   take,
-  drop,
   refl,
   sym,
   ap,
@@ -39,10 +38,17 @@ use Rattle.clog_table.specs.declared.fault.TableFault.TheVariants.{
   Trailing,
   OutOfMemory,
 }
-use Rattle.clog_table.specs.Format.{cells_bytes, check_bytes, head_bytes, head_of}
+use Rattle.clog_table.specs.Format.{
+  cells_bytes,
+  check_bytes,
+  head_bytes,
+  head_size,
+  behind_head,
+  head_of,
+}
 use Rattle.clog_table.specs.Limits.{IsStoredCell}
 use Rattle.clog_table.specs.Heads.{HasHead}
-use Rattle.clog_table.specs.Cells.{HasCells, BeginsWithNoCell, BeginsWithCell}
+use Rattle.clog_table.specs.Cells.{HasCells}
 use Rattle.clog_table.specs.Refusals.{
   place,
   cells_text,
@@ -56,23 +62,28 @@ use Rattle.clog_table.proofs.Keys.{Pairs}
 use Rattle.clog_table.proofs.HeadParts.{head_is_long}
 
 module _ (table : Table) (bytes : List ℕ) (head : Head) (cells : Pairs) (rest : List ℕ)
-    (begins : HasHead table bytes head) (front : HasCells bytes head cells rest)
+    (begins : HasHead table bytes head)
+    (front : HasCells head.table head.count (behind_head bytes) cells rest)
     (all : length cells ≡ head.count) where
-  whole : HasAllCells table bytes cells rest
-  whole = record { head = head; same_table = begins.same_table; front = front; all = all }
+  whole : HasAllCells table head.count (behind_head bytes) cells rest
+  whole = record {
+    front = subst (λ (t : Table). HasCells t head.count (behind_head bytes) cells rest)
+        begins.same_table front;
+    all = all;
+  }
 
   spelled : bytes ≡ (head_bytes head ++ cells_bytes cells) ++ rest
   spelled =
-      sym (take-append-drop 37 bytes)
-      ∙ ap (λ (l : List ℕ). l ++ drop 37 bytes) begins.begins.spelled
+      sym (take-append-drop head_size bytes)
+      ∙ ap (λ (l : List ℕ). l ++ behind_head bytes) begins.begins.spelled
       ∙ ap (λ (l : List ℕ). head_bytes head ++ l) front.spelled
       ∙ sym (append_assoc (head_bytes head) (cells_bytes cells) rest)
 
-  pub rest_behind : 37 + length rest ≤ length bytes
+  pub rest_behind : head_size + length rest ≤ length bytes
   rest_behind =
-      let e : length (drop 37 bytes) ≡ length (cells_bytes cells) + length rest =
+      let e : length (behind_head bytes) ≡ length (cells_bytes cells) + length rest =
       ap (λ (l : List ℕ). length l) front.spelled ∙ length-append (cells_bytes cells) rest in
-      omega (arith, e, length-drop 37 bytes, head_is_long bytes head begins.begins)
+      omega (arith, e, length-drop head_size bytes, head_is_long bytes head begins.begins)
 
   pub text_is : cells_text bytes rest ≡ cells_bytes cells
   text_is =
@@ -83,18 +94,28 @@ module _ (table : Table) (bytes : List ℕ) (head : Head) (cells : Pairs) (rest 
       let t : take (place bytes rest) bytes ≡ head_bytes head ++ cells_bytes cells =
       ap (take (place bytes rest)) spelled
       ∙ take_at (head_bytes head ++ cells_bytes cells) rest (place bytes rest) n in
-      ap (drop 37) t ∙ (let b : drop 37 (head_bytes head ++ cells_bytes cells) ≡ cells_bytes cells
-      = refl in b)
+      ap behind_head t ∙ (let b : behind_head (head_bytes head ++ cells_bytes cells)
+      ≡ cells_bytes cells = refl in b)
 
   -- why the end is refused is why the bytes are
   pub end_refused : (fault : TableFault)
       → RefusesEnd (cells_bytes cells) rest (place bytes rest) fault
       → Refuses table bytes fault
-  end_refused Short h = inr (record { cells = cells; rest = rest; whole = whole; short = h })
-  end_refused CellsCheck h =
-      record { cells = cells; rest = rest; whole = whole; long = h.0; wrong = h.1 }
-  end_refused (Trailing at) h =
-      record { cells = cells; rest = rest; whole = whole; right = h.0; more = h.1; place_is = h.2 }
+  end_refused Short h = inr (record {
+    head = head;
+    begins = begins;
+    says = record { cells = cells; rest = rest; whole = whole; short = h };
+  })
+  end_refused CellsCheck h = record {
+    head = head;
+    begins = begins;
+    says = record { cells = cells; rest = rest; whole = whole; long = h.0; wrong = h.1 };
+  }
+  end_refused (Trailing at) h = record {
+    head = head;
+    begins = begins;
+    says = (rest, record { cells = cells; whole = whole; right = h.0; more = h.1 }, h.2);
+  }
   end_refused (NoCell at) h = absurd h
   end_refused (Order at) h = absurd h
   end_refused OutOfMemory h = absurd h
@@ -153,35 +174,26 @@ module _ (table : Table) (bytes : List ℕ) (head : Head) (cells : Pairs) (rest 
 
 -- why the cells are refused is why the bytes are
 pub refused_in_cells : (table : Table) (bytes : List ℕ) (head : Head) (fault : TableFault)
-    → head.table ≡ table → RefusesCells bytes head fault → Refuses table bytes fault
-refused_in_cells table bytes head (NoCell at) same h = record {
-  head = h.head;
-  cells = h.cells;
-  rest = h.rest;
-  same_table = h.same_table ∙ same;
-  front = h.front;
-  wanted = h.wanted;
-  none = subst (λ (t : Table). BeginsWithNoCell t h.rest) same h.none;
-  place_is = h.place_is;
+    → HasHead table bytes head
+    → RefusesCells bytes head.table head.count (behind_head bytes) fault
+    → Refuses table bytes fault
+refused_in_cells table bytes head (NoCell at) begins h = record {
+  head = head;
+  begins = begins;
+  says = subst (λ (t : Table). RefusesCells bytes t head.count (behind_head bytes) (NoCell at))
+      begins.same_table h;
 }
-refused_in_cells table bytes head (Order at) same h = record {
-  head = h.head;
-  cells = h.cells;
-  rest = h.rest;
-  next = h.next;
-  behind = h.behind;
-  same_table = h.same_table ∙ same;
-  front = h.front;
-  wanted = h.wanted;
-  found = subst (λ (t : Table). BeginsWithCell t h.rest h.next h.behind) same h.found;
-  disordered = h.disordered;
-  place_is = h.place_is;
+refused_in_cells table bytes head (Order at) begins h = record {
+  head = head;
+  begins = begins;
+  says = subst (λ (t : Table). RefusesCells bytes t head.count (behind_head bytes) (Order at))
+      begins.same_table h;
 }
-refused_in_cells table bytes head OutOfMemory same h = tt
-refused_in_cells table bytes head Short same h = absurd h
-refused_in_cells table bytes head (Version n) same h = absurd h
-refused_in_cells table bytes head HeadCheck same h = absurd h
-refused_in_cells table bytes head OtherTable same h = absurd h
-refused_in_cells table bytes head Interval same h = absurd h
-refused_in_cells table bytes head CellsCheck same h = absurd h
-refused_in_cells table bytes head (Trailing at) same h = absurd h
+refused_in_cells table bytes head OutOfMemory begins h = tt
+refused_in_cells table bytes head Short begins h = absurd h
+refused_in_cells table bytes head (Version n) begins h = absurd h
+refused_in_cells table bytes head HeadCheck begins h = absurd h
+refused_in_cells table bytes head OtherTable begins h = absurd h
+refused_in_cells table bytes head Interval begins h = absurd h
+refused_in_cells table bytes head CellsCheck begins h = absurd h
+refused_in_cells table bytes head (Trailing at) begins h = absurd h

@@ -1,4 +1,4 @@
--- The first 37 bytes are the head that its numbers make up, where its version and check are right.
+-- Bytes begin with the head that its numbers make up, where its version and check are right.
 use Rattle.std.proofs.Common.{
   ◌≡◌,
   ℕ,
@@ -33,7 +33,13 @@ use Rattle.clog_base.specs.declared.cell.Table.{Table}
 use Rattle.clog_spec.specs.Crc.{IsBytes}
 use Rattle.clog_base.specs.declared.position.Position.{Position}
 use Rattle.clog_table.specs.declared.head.Head.{Head}
-use Rattle.clog_table.specs.Format.{position_bytes, head_front, head_bytes, check_bytes}
+use Rattle.clog_table.specs.Format.{
+  position_bytes,
+  head_front,
+  head_bytes,
+  head_size,
+  check_bytes,
+}
 use Rattle.clog_table.specs.Limits.{
   IsStoredPosition,
   IsUpTo,
@@ -106,7 +112,7 @@ front_parts bs =
     (take_parts 17 12 bs ∙ ap (λ (l : List ℕ). l ++ take 12 (drop 17 bs))
     (take_parts 5 12 bs ∙ ap (λ (l : List ℕ). l ++ take 12 (drop 5 bs)) (take_parts 4 1 bs)))
 
-front_spelled : (bs : List ℕ) → 37 ≤ length bs → IsBytes bs → from_be_bytes w32 bs ≡ 1
+front_spelled : (bs : List ℕ) → head_size ≤ length bs → IsBytes bs → from_be_bytes w32 bs ≡ 1
     → take 33 bs ≡ head_front (head_at bs)
 front_spelled bs long fits version =
     let four : 4 ≤ length bs = omega arith in
@@ -126,8 +132,8 @@ front_spelled bs long fits version =
     four_spelled (drop 29 bs) at29 (drop_fits 29 bs fits) in
     front_parts bs ∙ five_same v t l u n
 
--- the first 37 bytes are a head
-pub begins_with : (bs : List ℕ) → 37 ≤ length bs → IsBytes bs → from_be_bytes w32 bs ≡ 1
+-- the bytes begin with a head
+pub begins_with : (bs : List ℕ) → head_size ≤ length bs → IsBytes bs → from_be_bytes w32 bs ≡ 1
     → take 4 (drop 33 bs) ≡ check_bytes (take 33 bs) → BeginsWithHead bs (head_at bs)
 begins_with bs long fits version check =
     let front = front_spelled bs long fits version in
@@ -143,11 +149,12 @@ begins_with bs long fits version check =
     }
 
 -- bytes that begin with a head are as long as it
-pub head_is_long : (bs : List ℕ) (head : Head) → BeginsWithHead bs head → 37 ≤ length bs
+pub head_is_long : (bs : List ℕ) (head : Head) → BeginsWithHead bs head → head_size ≤ length bs
 head_is_long bs head h =
-    let whole : length (head_bytes head) ≡ 37 = refl in
-    let e : length (take 37 bs) ≡ 37 = ap (λ (l : List ℕ). length l) h.spelled ∙ whole in
-    omega (arith, e, length-take 37 bs)
+    let whole : length (head_bytes head) ≡ head_size = refl in
+    let e : length (take head_size bs) ≡ head_size =
+    ap (λ (l : List ℕ). length l) h.spelled ∙ whole in
+    omega (arith, e, length-take head_size bs)
 
 both_of : (a b : Bool) → true ≡ (a && b) → (a ≡ true) × (b ≡ true)
 both_of true true e = (refl, refl)

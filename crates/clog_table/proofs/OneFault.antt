@@ -51,7 +51,7 @@ use Rattle.clog_table.specs.declared.fault.TableFault.TheVariants.{
   Trailing,
   OutOfMemory,
 }
-use Rattle.clog_table.specs.Format.{cells_bytes, check_bytes, head_bytes}
+use Rattle.clog_table.specs.Format.{cells_bytes, check_bytes, head_bytes, head_size, behind_head}
 use Rattle.clog_table.specs.Limits.{IsThisTable, IsUpTo}
 use Rattle.clog_table.specs.Heads.{BeginsWithHead, HasHead, HasVersion, RefusesHead, head_at}
 use Rattle.clog_table.specs.Cells.{BeginsWithNoCell}
@@ -60,7 +60,7 @@ use Rattle.clog_table.specs.Refusals.{IsFaultUnlessMemory}
 use Rattle.clog_table.proofs.Numbers.{four_at, four_once}
 use Rattle.clog_table.proofs.HeadParts.{head_is_long}
 use Rattle.clog_table.proofs.Keys.{Pairs}
-use Rattle.clog_table.proofs.Again.{head_again, one_cell, not_refused}
+use Rattle.clog_table.proofs.Again.{head_again, one_head, one_cell, not_refused}
 use Rattle.clog_table.proofs.Stops.{IsStop, Stop, one_stop}
 
 -- ---- the first of some rules that holds
@@ -79,14 +79,15 @@ one_first (P ∷ Ps) (suc m) (suc n) p q = ap suc (one_first Ps m n p.1 q.1)
 
 -- ---- the head
 abbrev is_short : List ℕ → Type 0
-is_short bytes = length bytes < 37
+is_short bytes = length bytes < head_size
 
 abbrev head_rules : Table → List ℕ → List (Type 0)
 head_rules table bytes =
     is_short bytes ∷ (¬ HasVersion 1 bytes)
     ∷ (take 4 (drop 33 bytes) ≢ check_bytes (take 33 bytes))
-    ∷ (¬ IsThisTable (head_at (take 37 bytes)).table table)
-    ∷ (¬ IsUpTo (head_at (take 37 bytes)).lower (head_at (take 37 bytes)).upper) ∷ ⊤ ∷ []
+    ∷ (¬ IsThisTable (head_at (take head_size bytes)).table table)
+    ∷ (¬ IsUpTo (head_at (take head_size bytes)).lower
+    (head_at (take head_size bytes)).upper) ∷ ⊤ ∷ []
 
 abbrev head_fault : List ℕ → ℕ → TableFault
 head_fault bytes zero = Short
@@ -106,9 +107,9 @@ module _ (table : Table) (bytes : List ℕ) (head : Head) (begins : BeginsWithHe
   long : is_short bytes → ⊥
   long short = let h = head_is_long bytes head begins in absurd (omega (arith, h, short))
 
-  whole : bytes ≡ head_bytes head ++ drop 37 bytes
-  whole = sym (take-append-drop 37 bytes)
-      ∙ ap (λ (l : List ℕ). l ++ drop 37 bytes) begins.spelled
+  whole : bytes ≡ head_bytes head ++ behind_head bytes
+  whole = sym (take-append-drop head_size bytes)
+      ∙ ap (λ (l : List ℕ). l ++ behind_head bytes) begins.spelled
 
   version : HasVersion 1 bytes
   version = ap (take 4) whole
@@ -116,10 +117,10 @@ module _ (table : Table) (bytes : List ℕ) (head : Head) (begins : BeginsWithHe
   right : take 4 (drop 33 bytes) ≡ check_bytes (take 33 bytes)
   right = subst (λ (l : List ℕ). take 4 (drop 33 l) ≡ check_bytes (take 33 l)) (sym whole) refl
 
-  read_so : head_at (take 37 bytes) ≡ head
+  read_so : head_at (take head_size bytes) ≡ head
   read_so = ap head_at begins.spelled ∙ head_again head begins.stored
 
-version_is : (n : ℕ) (bytes : List ℕ) → 37 ≤ length bytes → n < 2 ^ 32 → HasVersion n bytes
+version_is : (n : ℕ) (bytes : List ℕ) → head_size ≤ length bytes → n < 2 ^ 32 → HasVersion n bytes
     → n ≡ from_be_bytes w32 bytes
 version_is n bytes long fits version =
     sym (from_be_bytes-to_be_bytes_4 n fits) ∙ ap (from_be_bytes w32) (sym version)
@@ -217,7 +218,7 @@ head_passes table bytes head h =
 -- ---- behind the head
 abbrev stop_rules : Table → Stop → List (Type 0)
 stop_rules table s =
-    ((length s.1.0 < s.0.count) × BeginsWithNoCell table s.1.1) ∷ (length s.1.0 < s.0.count)
+    ((length s.1.0 < s.0) × BeginsWithNoCell table s.1.1) ∷ (length s.1.0 < s.0)
     ∷ (length s.1.1 < 4) ∷ (take 4 s.1.1 ≢ check_bytes (cells_bytes s.1.0)) ∷ ⊤ ∷ []
 
 abbrev stop_fault : ℕ → ℕ → TableFault
@@ -234,15 +235,15 @@ record Names (table : Table) (bytes : List ℕ) (fault : TableFault) (s : Stop) 
 
 record StopSays (table : Table) (bytes : List ℕ) (fault : TableFault) : Type 0 where
   pub head : Head
+  pub begins : HasHead table bytes head
   pub cells : Pairs
   pub rest : List ℕ
-  pub stop : IsStop table bytes head cells rest
-  pub names : Names table bytes fault (head, (cells, rest))
+  pub stop : IsStop table head.count (behind_head bytes) cells rest
+  pub names : Names table bytes fault (head.count, (cells, rest))
 
-all_read : (table : Table) (bytes : List ℕ) (cells : Pairs) (rest : List ℕ)
-    (h : HasAllCells table bytes cells rest) → IsStop table bytes h.head cells rest
-all_read table bytes cells rest h = record {
-  begins = subst (λ (t : Table). HasHead t bytes h.head) h.same_table h.front.begins;
+all_read : (table : Table) (count : ℕ) (bytes : List ℕ) (cells : Pairs) (rest : List ℕ)
+    → HasAllCells table count bytes cells rest → IsStop table count bytes cells rest
+all_read table count bytes cells rest h = record {
   front = h.front;
   stuck = λ wanted. absurd (omega (arith, h.all, wanted));
 }
@@ -253,15 +254,16 @@ sort_out : (table : Table) (bytes : List ℕ) (fault : TableFault) → Refuses t
 unfolding IsFirst
 sort_out table bytes Short (inl h) known = inl (head_says table bytes Short h)
 sort_out table bytes Short (inr h) known = inr (record {
-  head = h.whole.head;
-  cells = h.cells;
-  rest = h.rest;
-  stop = all_read table bytes h.cells h.rest h.whole;
+  head = h.head;
+  begins = h.begins;
+  cells = h.says.cells;
+  rest = h.says.rest;
+  stop = all_read table h.head.count (behind_head bytes) h.says.cells h.says.rest h.says.whole;
   names = record {
     rule = 2;
     first = (
-      (λ none. absurd (omega (arith, h.whole.all, none.0))),
-      ((λ wanted. absurd (omega (arith, h.whole.all, wanted))), h.short),
+      (λ none. absurd (omega (arith, h.says.whole.all, none.0))),
+      ((λ wanted. absurd (omega (arith, h.says.whole.all, wanted))), h.says.short),
     );
     named = refl;
   };
@@ -272,72 +274,76 @@ sort_out table bytes OtherTable h known = inl (head_says table bytes OtherTable 
 sort_out table bytes Interval h known = inl (head_says table bytes Interval h)
 sort_out table bytes (NoCell at) h known = inr (record {
   head = h.head;
-  cells = h.cells;
-  rest = h.rest;
+  begins = h.begins;
+  cells = h.says.1.cells;
+  rest = h.says.0;
   stop = record {
-    begins = subst (λ (t : Table). HasHead t bytes h.head) h.same_table h.front.begins;
-    front = h.front;
-    stuck = λ wanted next behind found ordered. h.none next behind found.stored found.spelled;
+    front = h.says.1.front;
+    stuck = λ wanted next behind found ordered.
+        h.says.1.none next behind found.stored found.spelled;
   };
-  names = record { rule = 0; first = (h.wanted, h.none); named = ap NoCell h.place_is };
+  names = record { rule = 0; first = (h.says.1.wanted, h.says.1.none); named = ap NoCell h.says.2 };
 })
 sort_out table bytes (Order at) h known = inr (record {
   head = h.head;
-  cells = h.cells;
-  rest = h.rest;
+  begins = h.begins;
+  cells = h.says.1.cells;
+  rest = h.says.0;
   stop = record {
-    begins = subst (λ (t : Table). HasHead t bytes h.head) h.same_table h.front.begins;
-    front = h.front;
+    front = h.says.1.front;
     stuck = λ wanted next behind found ordered.
-        let same = one_cell table next h.next behind h.behind found.stored h.found.stored
-        (sym found.spelled ∙ h.found.spelled) in
-        h.disordered (subst (λ (c : CellKey × Cell). AreInOrder (h.cells ++ c ∷ [])) same.0
+        let said = h.says.1 in
+        let same = one_cell table next said.next behind said.behind found.stored said.found.stored
+        (sym found.spelled ∙ said.found.spelled) in
+        said.disordered (subst (λ (c : CellKey × Cell). AreInOrder (said.cells ++ c ∷ [])) same.0
         ordered);
   };
   names = record {
     rule = 1;
     first = (
-      (λ none. none.1 h.next h.behind h.found.stored h.found.spelled),
-      h.wanted,
+      (λ none. none.1 h.says.1.next h.says.1.behind h.says.1.found.stored h.says.1.found.spelled),
+      h.says.1.wanted,
     );
-    named = ap Order h.place_is;
+    named = ap Order h.says.2;
   };
 })
 sort_out table bytes CellsCheck h known = inr (record {
-  head = h.whole.head;
-  cells = h.cells;
-  rest = h.rest;
-  stop = all_read table bytes h.cells h.rest h.whole;
+  head = h.head;
+  begins = h.begins;
+  cells = h.says.cells;
+  rest = h.says.rest;
+  stop = all_read table h.head.count (behind_head bytes) h.says.cells h.says.rest h.says.whole;
   names = record {
     rule = 3;
     first = (
-      (λ none. absurd (omega (arith, h.whole.all, none.0))),
+      (λ none. absurd (omega (arith, h.says.whole.all, none.0))),
       (
-        (λ wanted. absurd (omega (arith, h.whole.all, wanted))),
-        ((λ short. absurd (omega (arith, h.long, short))), h.wrong),
+        (λ wanted. absurd (omega (arith, h.says.whole.all, wanted))),
+        ((λ short. absurd (omega (arith, h.says.long, short))), h.says.wrong),
       ),
     );
     named = refl;
   };
 })
 sort_out table bytes (Trailing at) h known = inr (record {
-  head = h.whole.head;
-  cells = h.cells;
-  rest = h.rest;
-  stop = all_read table bytes h.cells h.rest h.whole;
+  head = h.head;
+  begins = h.begins;
+  cells = h.says.1.cells;
+  rest = h.says.0;
+  stop = all_read table h.head.count (behind_head bytes) h.says.1.cells h.says.0 h.says.1.whole;
   names = record {
     rule = 4;
     first = (
-      (λ none. absurd (omega (arith, h.whole.all, none.0))),
+      (λ none. absurd (omega (arith, h.says.1.whole.all, none.0))),
       (
-        (λ wanted. absurd (omega (arith, h.whole.all, wanted))),
+        (λ wanted. absurd (omega (arith, h.says.1.whole.all, wanted))),
         (
-          (λ short. absurd (omega (arith, h.more, short))),
-          ((λ wrong. wrong h.right), tt),
+          (λ short. absurd (omega (arith, h.says.1.more, short))),
+          ((λ wrong. wrong h.says.1.right), tt),
         ),
       ),
     );
-    named = ap Trailing h.place_is;
+    named = ap Trailing h.says.2;
   };
 })
 sort_out table bytes OutOfMemory h known = absurd (known refl)
@@ -347,7 +353,7 @@ no_head : (table : Table) (bytes : List ℕ) (fault other : TableFault)
     → HeadSays table bytes fault → StopSays table bytes other → ⊥
 no_head table bytes fault other p q =
     let same = one_first (head_rules table bytes) p.rule 5 p.first
-    (head_passes table bytes q.head q.stop.begins) in
+    (head_passes table bytes q.head q.begins) in
     absurd (omega (arith, p.early, same))
 
 same_name : (table : Table) (bytes : List ℕ) (fault other : TableFault) (s : Stop)
@@ -368,9 +374,14 @@ by_sort table bytes fault other (inl p) (inl q) =
 by_sort table bytes fault other (inl p) (inr q) = absurd (no_head table bytes fault other p q)
 by_sort table bytes fault other (inr p) (inl q) = absurd (no_head table bytes other fault q p)
 by_sort table bytes fault other (inr p) (inr q) =
-    same_name table bytes fault other (p.head, (p.cells, p.rest)) p.names
+    let heads : q.head ≡ p.head =
+    one_head bytes q.head p.head q.begins.begins p.begins.begins in
+    let counts : q.head.count ≡ p.head.count = ap (λ (h : Head). h.count) heads in
+    same_name table bytes fault other (p.head.count, (p.cells, p.rest)) p.names
     (subst (Names table bytes other)
-    (one_stop table bytes p.head q.head p.cells q.cells p.rest q.rest p.stop q.stop) q.names)
+    (one_stop table p.head.count q.head.count (behind_head bytes) p.cells q.cells p.rest q.rest
+    counts p.stop q.stop)
+    q.names)
 
 pub one_refusal : (table : Table) (bytes : List ℕ) (fault other : TableFault)
     → Refuses table bytes fault → Refuses table bytes other → fault ≢ OutOfMemory

@@ -59,7 +59,14 @@ use Rattle.clog_table.specs.declared.fault.TableFault.TheVariants.{
   Trailing,
   OutOfMemory,
 }
-use Rattle.clog_table.specs.Format.{cell_bytes, cells_bytes, check_bytes, file_of}
+use Rattle.clog_table.specs.Format.{
+  cell_bytes,
+  cells_bytes,
+  check_bytes,
+  head_size,
+  behind_head,
+  file_of,
+}
 use Rattle.clog_table.specs.Limits.{IsThisTable, is_this_table, IsUpTo, is_up_to}
 use Rattle.clog_table.specs.Reading.{Fields, cell_at}
 use Rattle.clog_table.specs.RawFields.{pair_of}
@@ -132,7 +139,7 @@ behind_fits (x ∷ xs) ys fits = behind_fits xs ys (λ i. fits (suc i))
 -- ---- the head
 by_head : (table : Table) (bytes : List ℕ) → IsBytes bytes
     → Verdict table bytes ⊎ ((head : Head) × HasHead table bytes head)
-by_head table bytes fits = elim (below_or (length bytes) 37) [
+by_head table bytes fits = elim (below_or (length bytes) head_size) [
   | inl short ↦ inl (inr (Short, (λ e. cc e), inl short))
   | inr long ↦
       let four : 4 ≤ length bytes = omega (arith, long) in
@@ -204,18 +211,20 @@ by_head table bytes fits = elim (below_or (length bytes) 37) [
 
 -- ---- the cells
 module _ (table : Table) (bytes : List ℕ) (head : Head) (has : HasHead table bytes head) where
-  refused : (fault : TableFault) → fault ≢ OutOfMemory → RefusesCells bytes head fault
-      → Verdict table bytes
+  refused : (fault : TableFault) → fault ≢ OutOfMemory
+      → RefusesCells bytes head.table head.count (behind_head bytes) fault → Verdict table bytes
   refused fault known h =
-      inr (fault, known, refused_in_cells table bytes head fault has.same_table h)
+      inr (fault, known, refused_in_cells table bytes head fault has h)
 
-  ended : (cells : Pairs) (rest : List ℕ) → HasCells bytes head cells rest
+  ended : (cells : Pairs) (rest : List ℕ)
+      → HasCells head.table head.count (behind_head bytes) cells rest
       → length cells ≡ head.count → (fault : TableFault) → fault ≢ OutOfMemory
       → RefusesEnd (cells_bytes cells) rest (place bytes rest) fault → Verdict table bytes
   ended cells rest front all fault known h =
       inr (fault, known, end_refused table bytes head cells rest has front all fault h)
 
-  at_end : (cells : Pairs) (rest : List ℕ) → HasCells bytes head cells rest
+  at_end : (cells : Pairs) (rest : List ℕ)
+      → HasCells head.table head.count (behind_head bytes) cells rest
       → length cells ≡ head.count → Verdict table bytes
   at_end cells rest front all = elim (below_or (length rest) 4) [
     | inl short ↦ ended cells rest front all Short (λ e. cc e) short
@@ -237,9 +246,12 @@ module _ (table : Table) (bytes : List ℕ) (head : Head) (has : HasHead table b
   ]
 
   -- the next cell, and what comes of those behind it
-  by_cell : (n : ℕ) (cells : Pairs) (rest : List ℕ) → HasCells bytes head cells rest
+  by_cell : (n : ℕ) (cells : Pairs) (rest : List ℕ)
+      → HasCells head.table head.count (behind_head bytes) cells rest
       → IsBytes rest → length cells + suc n ≡ head.count
-      → ((more : Pairs) (behind : List ℕ) → HasCells bytes head more behind → IsBytes behind
+      → ((more : Pairs) (behind : List ℕ)
+      → HasCells head.table head.count (behind_head bytes) more behind
+      → IsBytes behind
       → length more + n ≡ head.count → Verdict table bytes)
       → (found : Option (Fields × List ℕ)) → cell_at rest ≡ found → Verdict table bytes
   by_cell n cells rest front fits count again None e =
@@ -248,7 +260,8 @@ module _ (table : Table) (bytes : List ℕ) (head : Head) (has : HasHead table b
       none_is_some (parts pair, behind)
       (sym e ∙ ap cell_at spelled ∙ cell_again head.table pair behind stored) in
       refused (NoCell (place bytes rest)) (known_cell (place bytes rest))
-      (refused_here bytes head cells rest (NoCell (place bytes rest)) front wanted (refl, none))
+      (refused_here bytes head.table head.count (behind_head bytes) cells rest
+      (NoCell (place bytes rest)) front wanted (refl, none))
   by_cell n cells rest front fits count again (Some x) e =
       let wanted : length cells < head.count = omega (arith, count) in
       let t = cell_takes head.table rest x.1 x.0 fits e in
@@ -259,7 +272,8 @@ module _ (table : Table) (bytes : List ℕ) (head : Head) (has : HasHead table b
         | inl above ↦
             let ordered = order_goes_on cells pair.0 pair.1 front.ordered above in
             again (cells ++ pair ∷ []) x.1
-            (one_more bytes head cells (cells ++ pair ∷ []) rest x.1 front wanted (record {
+            (one_more head.table head.count (behind_head bytes) cells (cells ++ pair ∷ []) rest
+            x.1 front wanted (record {
               next = pair;
               found = found;
               joined = refl;
@@ -268,7 +282,8 @@ module _ (table : Table) (bytes : List ℕ) (head : Head) (has : HasHead table b
             (behind_fits (cell_bytes pair) x.1 (subst IsBytes t.0 fits))
             (omega (arith, count, length_push cells pair))
         | inr not ↦ refused (Order (place bytes rest)) (known_order (place bytes rest))
-            (refused_here bytes head cells rest (Order (place bytes rest)) front wanted (
+            (refused_here bytes head.table head.count (behind_head bytes) cells rest
+            (Order (place bytes rest)) front wanted (
               refl,
               record {
                 next = pair;
@@ -279,7 +294,8 @@ module _ (table : Table) (bytes : List ℕ) (head : Head) (has : HasHead table b
             ))
       ]
 
-  all_cells : (n : ℕ) (cells : Pairs) (rest : List ℕ) → HasCells bytes head cells rest
+  all_cells : (n : ℕ) (cells : Pairs) (rest : List ℕ)
+      → HasCells head.table head.count (behind_head bytes) cells rest
       → IsBytes rest → length cells + n ≡ head.count → Verdict table bytes
   all_cells zero cells rest front fits count = at_end cells rest front (omega (arith, count))
   all_cells (suc n) cells rest front fits count =
@@ -289,7 +305,7 @@ pub one_of_both : (table : Table) (bytes : List ℕ) → IsBytes bytes → Verdi
 one_of_both table bytes fits = elim (by_head table bytes fits) [
   | inl verdict ↦ verdict
   | inr h ↦
-      let has = subst (λ (t : Table). HasHead t bytes h.0) (sym h.1.same_table) h.1 in
-      all_cells table bytes h.0 h.1 h.0.count [] (drop 37 bytes) (no_cells bytes h.0 has)
-      (drop_fits 37 bytes fits) (omega arith)
+      all_cells table bytes h.0 h.1 h.0.count [] (behind_head bytes)
+      (no_cells h.0.table h.0.count (behind_head bytes))
+      (drop_fits head_size bytes fits) (omega arith)
 ]

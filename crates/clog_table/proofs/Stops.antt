@@ -30,43 +30,34 @@ use Rattle.clog_base.specs.declared.cell.CellKey.{CellKey}
 use Rattle.clog_base.specs.declared.cell.Table.{Table}
 use Rattle.clog_cells.specs.Merge.{AreInOrder}
 use Rattle.clog_cells.proofs.InOrder.{front_in_order}
-use Rattle.clog_table.specs.declared.head.Head.{Head}
 use Rattle.clog_table.specs.Format.{cell_bytes, cells_bytes}
 use Rattle.clog_table.specs.Limits.{IsStoredCell}
-use Rattle.clog_table.specs.Heads.{HasHead}
 use Rattle.clog_table.specs.Cells.{HasCells, BeginsWithCell}
 use Rattle.clog_table.proofs.Keys.{Pairs}
-use Rattle.clog_table.proofs.Again.{one_head, front_of}
+use Rattle.clog_table.proofs.Again.{front_of}
 
--- all that the head counts is read, or no cell goes on
-pub record IsStop (table : Table) (bytes : List ℕ) (head : Head) (cells : Pairs) (rest : List ℕ)
+-- all that is counted is read, or no cell goes on
+pub record IsStop (table : Table) (count : ℕ) (bytes : List ℕ) (cells : Pairs) (rest : List ℕ)
     : Type 0 where
-  pub begins : HasHead table bytes head
-  pub front : HasCells bytes head cells rest
-  pub stuck : length cells < head.count → (next : CellKey × Cell) (behind : List ℕ)
+  pub front : HasCells table count bytes cells rest
+  pub stuck : length cells < count → (next : CellKey × Cell) (behind : List ℕ)
       → BeginsWithCell table rest next behind → AreInOrder (cells ++ next ∷ []) → ⊥
 
--- what is read to, as one value
+-- what is read to, as one value: the count, the cells and the rest
 abbrev pub Stop : Type 0
-Stop = Head × (Pairs × List ℕ)
-
-stored_in : (table : Table) (bytes : List ℕ) (head : Head) (cells : Pairs) (rest : List ℕ)
-    → IsStop table bytes head cells rest → AllByRecursion (IsStoredCell table) cells
-stored_in table bytes head cells rest stop =
-    subst (λ (t : Table). AllByRecursion (IsStoredCell t) cells) stop.begins.same_table
-    stop.front.stored
+Stop = ℕ × (Pairs × List ℕ)
 
 -- of two readings the longer one has nothing more
-module _ (table : Table) (bytes : List ℕ) (head : Head) (cells others : Pairs)
-    (rest behind : List ℕ) (stop : IsStop table bytes head cells rest)
-    (other : IsStop table bytes head others behind) where
+module _ (table : Table) (count : ℕ) (bytes : List ℕ) (cells others : Pairs)
+    (rest behind : List ℕ) (stop : IsStop table count bytes cells rest)
+    (other : IsStop table count bytes others behind) where
   nothing_more : (later : Pairs) → others ≡ cells ++ later → rest ≡ cells_bytes later ++ behind
       → AllByRecursion (IsStoredCell table) later → (others ≡ cells) × (behind ≡ rest)
   nothing_more [] joined spelled stored = (joined ∙ append-nil cells, sym spelled)
   nothing_more (c ∷ cs) joined spelled stored =
       let longer : length others ≡ length cells + suc (length cs) =
       ap (λ (l : Pairs). length l) joined ∙ length-append cells (c ∷ cs) in
-      let wanted : length cells < head.count = omega (arith, other.front.few) in
+      let wanted : length cells < count = omega (arith, other.front.few) in
       let here : BeginsWithCell table rest c (cells_bytes cs ++ behind) = record {
         stored = stored.0;
         spelled = spelled ∙ append_assoc (cell_bytes c) (cells_bytes cs) behind;
@@ -79,8 +70,7 @@ module _ (table : Table) (bytes : List ℕ) (head : Head) (cells others : Pairs)
   longer_is_same : length cells ≤ length others → (others ≡ cells) × (behind ≡ rest)
   longer_is_same few =
       let f = front_of table others cells behind rest
-      (stored_in table bytes head others behind other)
-      (stored_in table bytes head cells rest stop) few
+      other.front.stored stop.front.stored few
       (sym other.front.spelled ∙ stop.front.spelled) in
       nothing_more f.later f.joined f.spelled f.stored
 
@@ -92,23 +82,22 @@ either_less (suc m) (suc n) = elim (either_less m n) [
   | inr h ↦ inr (omega (arith, h))
 ]
 
-same_cells : (table : Table) (bytes : List ℕ) (head : Head) (cells others : Pairs)
-    (rest behind : List ℕ) → IsStop table bytes head cells rest
-    → IsStop table bytes head others behind → (others ≡ cells) × (behind ≡ rest)
-same_cells table bytes head cells others rest behind p q =
+same_cells : (table : Table) (count : ℕ) (bytes : List ℕ) (cells others : Pairs)
+    (rest behind : List ℕ) → IsStop table count bytes cells rest
+    → IsStop table count bytes others behind → (others ≡ cells) × (behind ≡ rest)
+same_cells table count bytes cells others rest behind p q =
     elim (either_less (length cells) (length others)) [
-      | inl few ↦ longer_is_same table bytes head cells others rest behind p q few
+      | inl few ↦ longer_is_same table count bytes cells others rest behind p q few
       | inr few ↦
-          let same = longer_is_same table bytes head others cells behind rest q p few in
+          let same = longer_is_same table count bytes others cells behind rest q p few in
           (sym same.0, sym same.1)
     ]
 
-pub one_stop : (table : Table) (bytes : List ℕ) (head head' : Head) (cells others : Pairs)
-    (rest behind : List ℕ) → IsStop table bytes head cells rest
-    → IsStop table bytes head' others behind
-    → ◌≡◌ {A = Stop} (head', (others, behind)) (head, (cells, rest))
-one_stop table bytes head head' cells others rest behind p q =
-    let heads : head' ≡ head = one_head bytes head' head q.begins.begins p.begins.begins in
-    let same = same_cells table bytes head cells others rest behind p
-    (subst (λ (h : Head). IsStop table bytes h others behind) heads q) in
-    λ i. (heads i, (same.0 i, same.1 i))
+pub one_stop : (table : Table) (count count' : ℕ) (bytes : List ℕ) (cells others : Pairs)
+    (rest behind : List ℕ) → count' ≡ count → IsStop table count bytes cells rest
+    → IsStop table count' bytes others behind
+    → ◌≡◌ {A = Stop} (count', (others, behind)) (count, (cells, rest))
+one_stop table count count' bytes cells others rest behind counts p q =
+    let same = same_cells table count bytes cells others rest behind p
+    (subst (λ n. IsStop table n bytes others behind) counts q) in
+    λ i. (counts i, (same.0 i, same.1 i))

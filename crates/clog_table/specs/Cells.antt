@@ -1,5 +1,6 @@
--- The cells of a table file as far as they are well formed, and what stands behind them.
-use Rattle.std.specs.Prelude.{◌≡◌, ℕ, ◌≤◌, List, ◌++◌, length, drop}
+-- The cells of a table as far as they are well formed, and what stands behind them. The bytes are
+-- those behind the head of a file: nothing here depends on what the head looks like.
+use Rattle.std.specs.Prelude.{◌≡◌, ℕ, ◌≤◌, List, ◌++◌, length}
 use Rattle.std.specs.List.{AllByRecursion}
 use Rattle.std.specs.Map.{keys_of}
 use Rattle.std.specs.declared.cmp.Ordering.TheVariants.{Less}
@@ -7,19 +8,16 @@ use Rattle.clog_base.specs.declared.cell.Cell.{Cell}
 use Rattle.clog_base.specs.declared.cell.CellKey.{CellKey}
 use Rattle.clog_base.specs.declared.cell.Table.{Table}
 use Rattle.clog_cells.specs.Merge.{key_cmp, AreInOrder}
-use Rattle.clog_table.specs.declared.head.Head.{Head}
 use Rattle.clog_table.specs.Format.{cell_bytes, cells_bytes}
 use Rattle.clog_table.specs.Limits.{IsStoredCell}
-use Rattle.clog_table.specs.Heads.{HasHead}
 
--- Behind a head stand these cells, in order and no more than it counts, and then the rest.
-pub record HasCells (bytes : List ℕ) (head : Head) (cells : List (CellKey × Cell))
+-- The bytes are these cells of the table, in order and no more than are counted, and then the rest.
+pub record HasCells (table : Table) (count : ℕ) (bytes : List ℕ) (cells : List (CellKey × Cell))
     (rest : List ℕ) : Type 0 where
-  pub begins : HasHead head.table bytes head
-  pub spelled : drop 37 bytes ≡ cells_bytes cells ++ rest
-  pub stored : AllByRecursion (IsStoredCell head.table) cells
+  pub spelled : bytes ≡ cells_bytes cells ++ rest
+  pub stored : AllByRecursion (IsStoredCell table) cells
   pub ordered : AreInOrder cells
-  pub few : length cells ≤ head.count
+  pub few : length cells ≤ count
 
 -- no cell of the table stands at the front
 abbrev pub BeginsWithNoCell : Table → List ℕ → Type 0

@@ -1,6 +1,6 @@
 -- The bytes of a table file of version 1. Numbers are big endian.
 pub use Rattle.clog_fields.specs.Fields.{short_text, timestamp_bytes, tagged}
-use Rattle.std.specs.Prelude.{ℕ, List, [], ◌∷◌, ◌++◌, length}
+use Rattle.std.specs.Prelude.{ℕ, List, [], ◌∷◌, ◌++◌, length, drop}
 use Rattle.std.specs.List.{flat_map}
 use Rattle.std.specs.Int.{w32, w64, to_be_bytes}
 use Rattle.clog_spec.specs.Crc.{crc32_of}
@@ -35,9 +35,17 @@ head_front head =
     to_be_bytes w32 1 ++ (head.table.0 ∷ []) ++ position_bytes head.lower
     ++ position_bytes head.upper ++ to_be_bytes w32 head.count
 
--- the head with its check: 37 bytes
+-- the head with its check
 abbrev pub head_bytes : Head → List ℕ
 head_bytes head = head_front head ++ check_bytes (head_front head)
+
+-- so many bytes
+abbrev pub head_size : ℕ
+head_size = 37
+
+-- what stands behind the head
+abbrev pub behind_head : List ℕ → List ℕ
+behind_head bytes = drop head_size bytes
 
 abbrev pub head_of : TableFile → Head
 head_of file = record {

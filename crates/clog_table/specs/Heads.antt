@@ -19,7 +19,7 @@ use Rattle.clog_table.specs.declared.fault.TableFault.TheVariants.{
   Trailing,
   OutOfMemory,
 }
-use Rattle.clog_table.specs.Format.{head_bytes, check_bytes}
+use Rattle.clog_table.specs.Format.{head_bytes, check_bytes, head_size, behind_head}
 use Rattle.clog_table.specs.Limits.{IsUpTo, IsThisTable, IsStoredPosition}
 
 -- the numbers of a head fit their bytes
@@ -29,10 +29,10 @@ pub record IsStoredHead (head : Head) : Type 0 where
   pub upper : IsStoredPosition head.upper
   pub count : head.count < 2 ^ 32
 
--- the first 37 bytes are this head
+-- the bytes begin with this head
 pub record BeginsWithHead (bytes : List ℕ) (head : Head) : Type 0 where
   pub stored : IsStoredHead head
-  pub spelled : take 37 bytes ≡ head_bytes head
+  pub spelled : take head_size bytes ≡ head_bytes head
 
 -- the bytes begin with the head of a file of this table, which is below 16
 pub record HasHead (table : Table) (bytes : List ℕ) (head : Head) : Type 0 where
@@ -41,19 +41,26 @@ pub record HasHead (table : Table) (bytes : List ℕ) (head : Head) : Type 0 whe
   pub same_table : head.table ≡ table
   pub interval : IsUpTo head.lower head.upper
 
+-- The bytes begin with the head of a file of this table, and this is so of the number of cells that
+-- it counts and the bytes behind it. (All that is said of cells is said of these two.)
+pub record BehindHead (table : Table) (bytes : List ℕ) (Says : ℕ → List ℕ → Type 0) : Type 0 where
+  pub head : Head
+  pub begins : HasHead table bytes head
+  pub says : Says head.count (behind_head bytes)
+
 -- the version, four bytes, is n
 abbrev pub HasVersion : ℕ → List ℕ → Type 0
 HasVersion n bytes = take 4 bytes ≡ to_be_bytes w32 n
 
 pub record HasOtherVersion (n : ℕ) (bytes : List ℕ) : Type 0 where
-  pub long : 37 ≤ length bytes
+  pub long : head_size ≤ length bytes
   pub fits : n < 2 ^ 32
   pub version : HasVersion n bytes
   pub other : n ≢ 1
 
 -- of version 1, but the check of the 33 bytes before it is wrong
 pub record HasWrongHeadCheck (bytes : List ℕ) : Type 0 where
-  pub long : 37 ≤ length bytes
+  pub long : head_size ≤ length bytes
   pub version : HasVersion 1 bytes
   pub wrong : take 4 (drop 33 bytes) ≢ check_bytes (take 33 bytes)
 
@@ -71,9 +78,9 @@ pub record HasOtherInterval (table : Table) (bytes : List ℕ) : Type 0 where
   pub same_table : head.table ≡ table
   pub disordered : ¬ IsUpTo head.lower head.upper
 
--- the rule that the first 37 bytes break
+-- the rule that the bytes of the head break
 abbrev pub RefusesHead : Table → List ℕ → TableFault → Type 0
-RefusesHead table bytes Short = length bytes < 37
+RefusesHead table bytes Short = length bytes < head_size
 RefusesHead table bytes (Version n) = HasOtherVersion n bytes
 RefusesHead table bytes HeadCheck = HasWrongHeadCheck bytes
 RefusesHead table bytes OtherTable = HasOtherTable table bytes

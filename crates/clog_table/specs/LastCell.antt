@@ -47,18 +47,18 @@ NextCell last at bytes (Err fault) = (table : Table) (cells : List (CellKey × C
     → AreInOrder cells → EndsWith table cells last → RefusesCell table at cells bytes fault
 
 -- so many cells are read, and end so
-pub record Reads (bytes : List ℕ) (head : Head) (count : ℕ) (last : Option Fields)
+pub record Reads (table : Table) (count : ℕ) (bytes : List ℕ) (number : ℕ) (last : Option Fields)
     (rest : List ℕ) : Type 0 where
   pub cells : List (CellKey × Cell)
-  pub front : HasCells bytes head cells rest
-  pub ends : EndsWith head.table cells last
-  pub count_is : length cells ≡ count
+  pub front : HasCells table count bytes cells rest
+  pub ends : EndsWith table cells last
+  pub count_is : length cells ≡ number
 
-abbrev pub ReadsAll : List ℕ → Head → Result (Bor (List ℕ)) TableFault → Type 0
-ReadsAll bytes head (Ok rest) =
-    (cells : List (CellKey × Cell)) × HasCells bytes head cells rest.now
-    × (length cells ≡ head.count)
-ReadsAll bytes head (Err fault) = RefusesCells bytes head fault
+abbrev pub ReadsAll : List ℕ → Table → ℕ → List ℕ → Result (Bor (List ℕ)) TableFault → Type 0
+ReadsAll file table count bytes (Ok rest) =
+    (cells : List (CellKey × Cell)) × HasCells table count bytes cells rest.now
+    × (length cells ≡ count)
+ReadsAll file table count bytes (Err fault) = RefusesCells file table count bytes fault
 
 -- the head of the file that the bytes spell, or why they spell none
 abbrev pub Checks : Table → List ℕ → Result Head TableFault → Type 0

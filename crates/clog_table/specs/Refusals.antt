@@ -15,7 +15,6 @@ use Rattle.std.specs.Prelude.{
   ◌++◌,
   length,
   take,
-  drop,
 }
 use Rattle.std.specs.Prelude.{Result, Ok, Err, ⊤}
 use Rattle.std.specs.Borrow.{Bor}
@@ -23,7 +22,6 @@ use Rattle.clog_base.specs.declared.cell.Cell.{Cell}
 use Rattle.clog_base.specs.declared.cell.CellKey.{CellKey}
 use Rattle.clog_base.specs.declared.cell.Table.{Table}
 use Rattle.clog_cells.specs.Merge.{AreInOrder}
-use Rattle.clog_table.specs.declared.head.Head.{Head}
 use Rattle.clog_table.specs.declared.table_file.TableFile.{TableFile}
 use Rattle.clog_table.specs.declared.fault.TableFault.{TableFault}
 use Rattle.clog_table.specs.declared.fault.TableFault.TheVariants.{
@@ -38,71 +36,78 @@ use Rattle.clog_table.specs.declared.fault.TableFault.TheVariants.{
   Trailing,
   OutOfMemory,
 }
-use Rattle.clog_table.specs.Format.{cells_bytes, check_bytes, table_file_bytes}
+use Rattle.clog_table.specs.Format.{cells_bytes, check_bytes, behind_head, table_file_bytes}
 use Rattle.clog_table.specs.Limits.{IsTableFile}
-use Rattle.clog_table.specs.Heads.{RefusesHead}
+use Rattle.clog_table.specs.Heads.{RefusesHead, BehindHead}
 use Rattle.clog_table.specs.Cells.{HasCells, BeginsWithNoCell, BeginsWithCell}
 
 -- where the rest of bytes begins
 abbrev pub place : List ℕ → List ℕ → ℕ
 place bytes rest = length bytes - length rest
 
+-- ---- of the cells: the bytes are those behind the head
+
 -- Behind the longest front of well-formed cells one more is wanted, and none stands there.
-pub record HasNoCell (table : Table) (bytes : List ℕ) (at : ℕ) : Type 0 where
-  pub head : Head
+pub record HasNoCell (table : Table) (count : ℕ) (bytes rest : List ℕ) : Type 0 where
   pub cells : List (CellKey × Cell)
-  pub rest : List ℕ
-  pub same_table : head.table ≡ table
-  pub front : HasCells bytes head cells rest
-  pub wanted : length cells < head.count
+  pub front : HasCells table count bytes cells rest
+  pub wanted : length cells < count
   pub none : BeginsWithNoCell table rest
-  pub place_is : at ≡ place bytes rest
 
 -- Behind well-formed cells one more is wanted and stands there, but not above the one before it.
-pub record HasDisorder (table : Table) (bytes : List ℕ) (at : ℕ) : Type 0 where
-  pub head : Head
+pub record HasDisorder (table : Table) (count : ℕ) (bytes rest : List ℕ) : Type 0 where
   pub cells : List (CellKey × Cell)
-  pub rest : List ℕ
   pub next : CellKey × Cell
   pub behind : List ℕ
-  pub same_table : head.table ≡ table
-  pub front : HasCells bytes head cells rest
-  pub wanted : length cells < head.count
+  pub front : HasCells table count bytes cells rest
+  pub wanted : length cells < count
   pub found : BeginsWithCell table rest next behind
   pub disordered : ¬ AreInOrder (cells ++ next ∷ [])
-  pub place_is : at ≡ place bytes rest
 
 -- all cells are well formed, and behind them stands this rest
-pub record HasAllCells (table : Table) (bytes : List ℕ) (cells : List (CellKey × Cell))
-    (rest : List ℕ) : Type 0 where
-  pub head : Head
-  pub same_table : head.table ≡ table
-  pub front : HasCells bytes head cells rest
-  pub all : length cells ≡ head.count
+pub record HasAllCells (table : Table) (count : ℕ) (bytes : List ℕ)
+    (cells : List (CellKey × Cell)) (rest : List ℕ) : Type 0 where
+  pub front : HasCells table count bytes cells rest
+  pub all : length cells ≡ count
 
 -- the check of the cells does not fit behind them
-pub record IsCutInCheck (table : Table) (bytes : List ℕ) : Type 0 where
+pub record IsCutInCheck (table : Table) (count : ℕ) (bytes : List ℕ) : Type 0 where
   pub cells : List (CellKey × Cell)
   pub rest : List ℕ
-  pub whole : HasAllCells table bytes cells rest
+  pub whole : HasAllCells table count bytes cells rest
   pub short : length rest < 4
 
 -- the four bytes behind the cells are not their check
-pub record HasWrongCellsCheck (table : Table) (bytes : List ℕ) : Type 0 where
+pub record HasWrongCellsCheck (table : Table) (count : ℕ) (bytes : List ℕ) : Type 0 where
   pub cells : List (CellKey × Cell)
   pub rest : List ℕ
-  pub whole : HasAllCells table bytes cells rest
+  pub whole : HasAllCells table count bytes cells rest
   pub long : 4 ≤ length rest
   pub wrong : take 4 rest ≢ check_bytes (cells_bytes cells)
 
--- bytes stand behind the check of the cells
-pub record HasTrailing (table : Table) (bytes : List ℕ) (at : ℕ) : Type 0 where
+-- behind the cells stands their check, and more
+pub record HasTrailing (table : Table) (count : ℕ) (bytes rest : List ℕ) : Type 0 where
   pub cells : List (CellKey × Cell)
-  pub rest : List ℕ
-  pub whole : HasAllCells table bytes cells rest
+  pub whole : HasAllCells table count bytes cells rest
   pub right : take 4 rest ≡ check_bytes (cells_bytes cells)
   pub more : 4 < length rest
-  pub place_is : at ≡ place bytes rest + 4
+
+-- Why not all cells are read. Offsets are those of the whole file.
+abbrev pub RefusesCells : List ℕ → Table → ℕ → List ℕ → TableFault → Type 0
+RefusesCells file table count bytes (NoCell at) =
+    (rest : List ℕ) × HasNoCell table count bytes rest × (at ≡ place file rest)
+RefusesCells file table count bytes (Order at) =
+    (rest : List ℕ) × HasDisorder table count bytes rest × (at ≡ place file rest)
+RefusesCells file table count bytes OutOfMemory = ⊤
+RefusesCells file table count bytes Short = ⊥
+RefusesCells file table count bytes (Version n) = ⊥
+RefusesCells file table count bytes HeadCheck = ⊥
+RefusesCells file table count bytes OtherTable = ⊥
+RefusesCells file table count bytes Interval = ⊥
+RefusesCells file table count bytes CellsCheck = ⊥
+RefusesCells file table count bytes (Trailing at) = ⊥
+
+-- ---- of the file
 
 -- the bytes are the spelling of this table's file
 pub record IsFileOf (table : Table) (bytes : List ℕ) (file : TableFile) : Type 0 where
@@ -112,15 +117,19 @@ pub record IsFileOf (table : Table) (bytes : List ℕ) (file : TableFile) : Type
 
 -- the first rule that bytes break
 abbrev pub Refuses : Table → List ℕ → TableFault → Type 0
-Refuses table bytes Short = RefusesHead table bytes Short ⊎ IsCutInCheck table bytes
+Refuses table bytes Short =
+    RefusesHead table bytes Short ⊎ BehindHead table bytes (IsCutInCheck table)
 Refuses table bytes (Version n) = RefusesHead table bytes (Version n)
 Refuses table bytes HeadCheck = RefusesHead table bytes HeadCheck
 Refuses table bytes OtherTable = RefusesHead table bytes OtherTable
 Refuses table bytes Interval = RefusesHead table bytes Interval
-Refuses table bytes (NoCell at) = HasNoCell table bytes at
-Refuses table bytes (Order at) = HasDisorder table bytes at
-Refuses table bytes CellsCheck = HasWrongCellsCheck table bytes
-Refuses table bytes (Trailing at) = HasTrailing table bytes at
+Refuses table bytes (NoCell at) =
+    BehindHead table bytes (λ count behind. RefusesCells bytes table count behind (NoCell at))
+Refuses table bytes (Order at) =
+    BehindHead table bytes (λ count behind. RefusesCells bytes table count behind (Order at))
+Refuses table bytes CellsCheck = BehindHead table bytes (HasWrongCellsCheck table)
+Refuses table bytes (Trailing at) = BehindHead table bytes (λ count behind. (rest : List ℕ)
+    × HasTrailing table count behind rest × (at ≡ place bytes rest + 4))
 Refuses table bytes OutOfMemory = ⊤
 
 abbrev pub Decodes : Table → List ℕ → Result TableFile TableFault → Type 0
@@ -137,23 +146,11 @@ IsFaultUnlessMemory fault decoded = (decoded ≡ Err fault) ⊎ (decoded ≡ Err
 
 -- ---- of the steps of decoding
 
--- why not all cells of a head are read
-abbrev pub RefusesCells : List ℕ → Head → TableFault → Type 0
-RefusesCells bytes head (NoCell at) = HasNoCell head.table bytes at
-RefusesCells bytes head (Order at) = HasDisorder head.table bytes at
-RefusesCells bytes head OutOfMemory = ⊤
-RefusesCells bytes head Short = ⊥
-RefusesCells bytes head (Version n) = ⊥
-RefusesCells bytes head HeadCheck = ⊥
-RefusesCells bytes head OtherTable = ⊥
-RefusesCells bytes head Interval = ⊥
-RefusesCells bytes head CellsCheck = ⊥
-RefusesCells bytes head (Trailing at) = ⊥
-
-abbrev pub CellsGive : List ℕ → Head → Result (List (CellKey × Cell) × Bor (List ℕ)) TableFault
-    → Type 0
-CellsGive bytes head (Ok x) = HasCells bytes head x.0 x.1.now × (length x.0 ≡ head.count)
-CellsGive bytes head (Err fault) = RefusesCells bytes head fault
+abbrev pub CellsGive : List ℕ → Table → ℕ → List ℕ
+    → Result (List (CellKey × Cell) × Bor (List ℕ)) TableFault → Type 0
+CellsGive file table count bytes (Ok x) =
+    HasCells table count bytes x.0 x.1.now × (length x.0 ≡ count)
+CellsGive file table count bytes (Err fault) = RefusesCells file table count bytes fault
 
 -- a cell at the front joins those before it
 pub record IsTaken (table : Table) (old new : List (CellKey × Cell)) (bytes rest : List ℕ) : Type
@@ -191,7 +188,7 @@ TakesCell table place old new bytes (Err fault) = RefusesCell table place old by
 
 -- the bytes between the head and a rest
 abbrev pub cells_text : List ℕ → List ℕ → List ℕ
-cells_text bytes rest = drop 37 (take (place bytes rest) bytes)
+cells_text bytes rest = behind_head (take (place bytes rest) bytes)
 
 -- why what stands behind the cells is not their check alone
 abbrev pub RefusesEnd : List ℕ → List ℕ → ℕ → TableFault → Type 0

@@ -4,7 +4,7 @@ ghost use Rattle.std.specs.Prelude.{◌≡◌, ◌≢◌, ◌≤◌, ◌↔◌, 
 ghost use Rattle.std.specs.Ordering.{is_lt};
 ghost use Rattle.clog_table.specs.declared.fault.TableFault.TheVariants.{OutOfMemory as no_memory};
 ghost use Rattle.clog_table.specs.RawFields.{fields_of};
-ghost use Rattle.clog_table.specs.Heads.{HasHead};
+ghost use Rattle.clog_table.specs.Format.{head_size, behind_head};
 ghost use Rattle.clog_table.specs.LastCell.{
   last_of,
   fields_cmp,
@@ -14,9 +14,9 @@ ghost use Rattle.clog_table.specs.LastCell.{
   Checks,
 };
 
-use crate::decoding::{HEAD, judge_end};
+use crate::decoding::judge_end;
 use crate::fault::TableFault;
-use crate::head::{Head, head_of};
+use crate::head::{HEAD_SIZE, Head, head_of};
 use crate::raw_cell::{self, RawCell};
 use clog_base::Table;
 use std::cmp::Ordering;
@@ -56,13 +56,12 @@ fn next_cell<'a>(
 
 /// What stands behind all cells of a head.
 fn rest_of(bytes: &[u8], head: Head) -> Result<&[u8], TableFault>
-    requires head { HasHead head.table bytes.now head }
-    requires long { 37 ≤ length bytes.now }
-    ensures exact { ReadsAll bytes.now head result }
+    requires { head_size ≤ length bytes.now }
+    ensures exact { ReadsAll bytes.now head.table head.count (behind_head bytes.now) result }
     ensures known { IfErr result (λ fault. fault ≢ no_memory) }
 {
     let mut last = None;
-    let mut rest = bytes.split_at(HEAD).1;
+    let mut rest = bytes.split_at(HEAD_SIZE).1;
     for _ in 0..head.count {
         let at = (bytes.len() - rest.len()) as u64;
         match next_cell(last, rest, at) {

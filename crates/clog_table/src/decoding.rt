@@ -5,7 +5,7 @@ ghost use Rattle.std.specs.Prelude.{IsTrue, IfOk, OnOk};
 ghost use Rattle.std.specs.Ordering.{is_lt};
 ghost use Rattle.clog_cells.specs.Merge.{AreInOrder, key_cmp};
 ghost use Rattle.clog_table.specs.RawFields.{fields_of, key_of, cell_of};
-ghost use Rattle.clog_table.specs.Heads.{HasHead};
+ghost use Rattle.clog_table.specs.Format.{head_size, behind_head};
 ghost use Rattle.clog_table.specs.Cells.{IsAbove};
 ghost use Rattle.clog_table.specs.declared.table_file.TableFile.{TableFile as File};
 ghost use Rattle.clog_table.specs.declared.fault.TableFault.{TableFault as Fault};
@@ -26,7 +26,7 @@ ghost use Rattle.clog_table.specs.Refusals.{
 
 use crate::check::is_check_of;
 use crate::fault::TableFault;
-use crate::head::{Head, head_of};
+use crate::head::{HEAD_SIZE, Head, head_of};
 use crate::raw_cell::{self, RawCell};
 use crate::table_file::TableFile;
 use clog_base::{Cell, CellKey, OutOfMemory, Table, Text};
@@ -34,9 +34,6 @@ use clog_cells::CellMap;
 use std::alloc::Global;
 use std::cmp::Ordering;
 use std::collections::BTreeMap;
-
-/// The length of a head.
-pub(crate) const HEAD: usize = 37;
 
 /// The table file whose one spelling these bytes are, or the first rule of the format that they
 /// break, in the order of the format.
@@ -71,12 +68,11 @@ fn decoded(alloc: Global, bytes: &[u8], table: Table) -> Result<TableFile, Table
 }
 
 fn cells_of(alloc: Global, bytes: &[u8], head: Head) -> Result<(CellMap, &[u8]), TableFault>
-    requires head { HasHead head.table bytes.now head }
-    requires long { 37 ≤ length bytes.now }
-    ensures { CellsGive bytes.now head result }
+    requires { head_size ≤ length bytes.now }
+    ensures { CellsGive bytes.now head.table head.count (behind_head bytes.now) result }
 {
     let mut cells = CellMap::new(alloc);
-    let mut rest = bytes.split_at(HEAD).1;
+    let mut rest = bytes.split_at(HEAD_SIZE).1;
     for _ in 0..head.count {
         let at = (bytes.len() - rest.len()) as u64;
         match take_cell(alloc, &mut cells, head.table, rest, at) {
@@ -159,14 +155,14 @@ fn take_cell<'a>(
 /// Whether the check of the cells stands behind them, and nothing else. The rest is what stands
 /// behind the cells.
 pub(crate) fn judge_end(bytes: &[u8], rest: &[u8]) -> Result<(), TableFault>
-    requires { 37 + length rest.now ≤ length bytes.now }
+    requires { head_size + length rest.now ≤ length bytes.now }
     ensures { EndGives (cells_text bytes.now rest.now) rest.now (place bytes.now rest.now) result }
 {
     if rest.len() < 4 {
         return Err(TableFault::Short);
     }
     let (front, _) = bytes.split_at(bytes.len() - rest.len());
-    if !is_check_of(rest, front.split_at(HEAD).1) {
+    if !is_check_of(rest, front.split_at(HEAD_SIZE).1) {
         return Err(TableFault::CellsCheck);
     }
     if rest.len() > 4 {

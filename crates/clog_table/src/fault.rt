@@ -5,7 +5,7 @@ use clog_base::OutOfMemory;
 /// refused, or the version that was found.
 #[derive(Clone, Copy, Debug, PartialEq, Eq)]
 pub enum TableFault {
-    /// Fewer than 37 bytes for the head, or fewer than 4 behind the cells.
+    /// Fewer bytes than a head has (37), or fewer than 4 behind the cells.
     Short,
     /// The version is another than 1.
     Version(u32),

@@ -1,6 +1,6 @@
-//! The head of a table file, 37 bytes.
+//! The head of a table file.
 ghost use Rattle.std.specs.Prelude.{◌≡◌, ◌≤◌, ◌↔◌, length, take, drop, IsTrue};
-ghost use Rattle.clog_table.specs.Format.{check_bytes};
+ghost use Rattle.clog_table.specs.Format.{check_bytes, head_size};
 ghost use Rattle.clog_table.specs.Heads.{position_at, head_at, HeadGives};
 ghost use Rattle.clog_table.specs.Limits.{is_up_to, is_this_table};
 
@@ -8,6 +8,9 @@ use crate::check::is_check_of;
 use crate::fault::TableFault;
 use byteorder::{BigEndian, ByteOrder};
 use clog_base::{Position, Table};
+
+/// The length of a head.
+pub(crate) const HEAD_SIZE: usize = 37;
 
 /// What the head says behind the version; the interval holds the places above `lower` and at or
 /// below `upper`.
@@ -30,7 +33,7 @@ fn position_at(bytes: &[u8]) -> Position
 }
 
 fn head_at(bytes: &[u8]) -> Head
-    requires { 37 ≤ length bytes.now }
+    requires { head_size ≤ length bytes.now }
     ensures { result ≡ head_at bytes.now }
 {
     Head {
@@ -43,7 +46,7 @@ fn head_at(bytes: &[u8]) -> Head
 
 // Whether the check of the head is right.
 fn is_checked(bytes: &[u8]) -> bool
-    requires { 37 ≤ length bytes.now }
+    requires { head_size ≤ length bytes.now }
     ensures { IsTrue result ↔ (take 4 (drop 33 bytes.now) ≡ check_bytes (take 33 bytes.now)) }
 {
     let (front, check) = bytes.split_at(33);
@@ -67,7 +70,7 @@ fn is_this_table(found: Table, table: Table) -> bool
 pub(crate) fn head_of(bytes: &[u8], table: Table) -> Result<Head, TableFault>
     ensures { HeadGives table bytes.now result }
 {
-    if bytes.len() < 37 {
+    if bytes.len() < HEAD_SIZE {
         return Err(TableFault::Short);
     }
     let version = BigEndian::read_u32(bytes);

@@ -20,7 +20,7 @@ ghost use Rattle.clog_table.specs.Format.{
 };
 
 use crate::check::put_check;
-use crate::head::Head;
+use crate::head::{HEAD_SIZE, Head};
 use crate::table_file::TableFile;
 use clog_base::{Cell, CellKey, OutOfMemory, Position, Table};
 use clog_cells::CellMap;
@@ -99,7 +99,7 @@ pub fn encode_parts(
     put_front(&mut out, head)?;
     put_check(&mut out, 0)?;
     put_cells(&mut out, table, cells.entries())?;
-    put_check(&mut out, 37)?;
+    put_check(&mut out, HEAD_SIZE)?;
     Ok(out)
 }
 

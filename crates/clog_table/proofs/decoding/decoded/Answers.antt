@@ -1,5 +1,5 @@
 use Rattle.clog_table.proofs.HeadParts.{head_is_long}
-use Rattle.clog_table.proofs.Ending.{rest_behind, refused_at_end, is_file}
+use Rattle.clog_table.proofs.Ending.{rest_behind, refused_at_end, refused_in_cells, is_file}
 use Rattle.clog_table.proofs.decoding.decoded.Goals as goal
 
 pub judge_end-requires : goal.judge_end-requires
@@ -18,6 +18,11 @@ returns-in-Err-judge_end c =
     c.in_ok-head.ensures c.in-Ok.ensures.0 c.in-Ok.ensures.1 c.in-Err-judge_end.fault
     c.in-Err-judge_end.ensures
 
-pub cells_of-requires-clause-long : goal.cells_of-requires-clause-long
-cells_of-requires-clause-long c =
+pub cells_of-requires : goal.cells_of-requires
+cells_of-requires c =
     head_is_long c.args.bytes.now c.in_ok-head.head c.in_ok-head.ensures.begins
+
+pub returns-in-Err : goal.returns-in-Err
+returns-in-Err c =
+    refused_in_cells c.args.table c.args.bytes.now c.in_ok-head.head c.in-Err.fault
+    c.in_ok-head.ensures c.in-Err.ensures

@@ -1,5 +1,6 @@
 use Rattle.std.proofs.Common.{◌≡◌, ◌≤◌, length, refl, sym, subst, ◌∙◌, arith}
 use Rattle.std.specs.Int.{w32, from_be_bytes}
+use Rattle.clog_table.specs.Format.{head_size}
 use Rattle.clog_table.specs.Heads.{BeginsWithHead}
 use Rattle.clog_table.proofs.Numbers.{big_is}
 use Rattle.clog_table.proofs.HeadParts.{
@@ -16,7 +17,7 @@ returns-then-not-is_this_table c =
     let bytes = c.args.bytes.now in
     let version : from_be_bytes w32 bytes ≡ 1 =
     sym (big_is bytes) ∙ sym c.read_u32-version.ensures ∙ c.if-version-ne1.false in
-    let long : 37 ≤ length bytes = omega arith in
+    let long : head_size ≤ length bytes = omega arith in
     record {
       head = c.head_at-head.result;
       begins = subst (BeginsWithHead bytes) (sym c.head_at-head.ensures)
@@ -30,7 +31,7 @@ returns-then-not-is_up_to c =
     let bytes = c.args.bytes.now in
     let version : from_be_bytes w32 bytes ≡ 1 =
     sym (big_is bytes) ∙ sym c.read_u32-version.ensures ∙ c.if-version-ne1.false in
-    let long : 37 ≤ length bytes = omega arith in
+    let long : head_size ≤ length bytes = omega arith in
     let this =
     this_table c.head_at-head.result.table c.args.table c.if-not-is_this_table.ensures in
     record {
@@ -49,7 +50,7 @@ returns c =
     let bytes = c.args.bytes.now in
     let version : from_be_bytes w32 bytes ≡ 1 =
     sym (big_is bytes) ∙ sym c.read_u32-version.ensures ∙ c.if-version-ne1.false in
-    let long : 37 ≤ length bytes = omega arith in
+    let long : head_size ≤ length bytes = omega arith in
     let this =
     this_table c.head_at-head.result.table c.args.table c.if-not-is_this_table.ensures in
     record {
