@@ -189,3 +189,39 @@ header_refused bytes id cause refused =
         )
       ]
     ]
+
+passed_so : (few short a b c d : Bool) (version id : ℕ) (cause : Cause)
+    → few ≡ false → short ≡ false → a ≡ false
+    → cond few (Err Short) (cond short (Err Short) (cond a (Err HeaderCheck)
+    (cond b (Err (Version version)) (cond c (Err (HeaderId id))
+    (cond d (Err Parameters) no_fault))))) ≡ Err cause
+    → IsOfHeader cause
+passed_so true short a b c d version id cause few long right refused = absurd cc
+passed_so false true a b c d version id cause few long right refused = absurd cc
+passed_so false false true b c d version id cause few long right refused = absurd cc
+passed_so false false false true c d version id cause few long right refused =
+    let same : Version version ≡ cause = cc in subst IsOfHeader same tt
+passed_so false false false false true d version id cause few long right refused =
+    let same : HeaderId id ≡ cause = cc in subst IsOfHeader same tt
+passed_so false false false false false true version id cause few long right refused =
+    let same : Parameters ≡ cause = cc in subst IsOfHeader same tt
+passed_so false false false false false false version id cause few long right refused = absurd cc
+
+-- a header whose check is right is refused for a cause of the header alone
+pub header_passed : (bytes : List ℕ) (id : ℕ) (cause : Cause) → PassesAsHeader bytes
+    → header_read bytes id ≡ Err cause → IsOfHeader cause
+unfolding header_read header_judged
+header_passed bytes id cause passes refused =
+    let version = number_at bytes 0 in
+    let found = big_number 8 (drop 4 bytes) in
+    let size = big_number 2 (drop 12 bytes) in
+    let parameters = take size (drop 14 bytes) in
+    let check = number_at bytes (14 + size) in
+    let wrong = not (check == crc32_of (header_fields version found parameters)) in
+    let fits = passes.fits in
+    let right = passes.check in
+    passed_so (nat_lt (length bytes) 14) (nat_lt (length bytes) (18 + size)) wrong
+    (not (version == 6)) (not (found == id)) (not (bytes_eq parameters (codes "{}")))
+    version found cause
+    (grind (arith, nat_tests)) (grind (arith, nat_tests)) (grind (arith, nat_tests))
+    refused

@@ -17,6 +17,8 @@ pub fn read_header(bytes: &[u8], id: u64) -> Result<(), Cause>
     ensures rule { result ≡ header_read bytes.now id }
     ensures written { result ≡ Ok tt → IsHeaderAt bytes.now id }
     ensures again { IsHeaderAt bytes.now id → result ≡ Ok tt }
+    ensures passed { (cause : Cause) → PassesAsHeader bytes.now → result ≡ Err cause
+        → IsOfHeader cause }
     ensures refused { (cause : Cause) → result ≡ Err cause
         → IsSoft cause ⊎ (IsOfHeader cause × PassesAsHeader bytes.now) }
 {

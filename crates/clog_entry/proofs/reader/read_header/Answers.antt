@@ -1,6 +1,6 @@
 use Rattle.std.proofs.Common.{◌∙◌, sym, arith}
 use Rattle.clog_entry.proofs.HeaderLaws.{header_found, header_again}
-use Rattle.clog_entry.proofs.Causes.{header_refused}
+use Rattle.clog_entry.proofs.Causes.{header_refused, header_passed}
 use Rattle.clog_entry.proofs.reader.read_header.Goals as goal
 
 pub returns-clause-written : goal.returns-clause-written
@@ -15,3 +15,7 @@ returns-clause-again c is =
 pub returns-clause-refused : goal.returns-clause-refused
 returns-clause-refused c cause refused =
     header_refused c.args.bytes.now c.args.id cause (sym c.header_of.ensures ∙ refused)
+
+pub returns-clause-passed : goal.returns-clause-passed
+returns-clause-passed c cause passes refused =
+    header_passed c.args.bytes.now c.args.id cause passes (sym c.header_of.ensures ∙ refused)
