@@ -1,6 +1,7 @@
 pub mod Appended
 pub mod Behind
 pub mod EntryMembers
+pub mod NotBehind
 pub mod Order
 pub mod Reached
 pub mod Sections

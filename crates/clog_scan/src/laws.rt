@@ -18,6 +18,7 @@ ghost use Rattle.clog_scan.specs.Laws.{
   AreLaidOut,
   AreWhole,
   HoldsThem,
+  Reaches,
   place_of,
 };
 ghost use Rattle.clog_scan.specs.Segment.{Entry, entries_from, entries_of, IsSegment};
@@ -36,6 +37,12 @@ pub fn one_answer_for_any_bytes()
 pub fn entries_in_order()
     ensures { (bytes : List ℕ) (id : ℕ) (entries : List Entry) (end : segment_end)
         → IsSegment bytes id entries end → AreLaidOut bytes id 0 entries (place_of end) }
+{}
+
+/// Reading comes to no place behind the end.
+pub fn reading_stops_at_the_end()
+    ensures { (bytes : List ℕ) (id at until : ℕ) (entries : List Entry) (end : segment_end)
+        → Reaches bytes id at until → IsSegment bytes id entries end → at ≤ place_of end }
 {}
 
 /// A header and sections that are filled by their entries hold exactly these entries, and end clean

@@ -13,7 +13,7 @@ mod tests;
 pub use answer::{End, Found, Founds, Scan};
 pub use clog_entry::Cause;
 pub use laws::{
-    bytes_behind_the_end, entries_in_order, one_answer_for_any_bytes, sections_are_appended,
-    tears_are_soft_behind_the_header, what_was_written_is_held,
+    bytes_behind_the_end, entries_in_order, one_answer_for_any_bytes, reading_stops_at_the_end,
+    sections_are_appended, tears_are_soft_behind_the_header, what_was_written_is_held,
 };
 pub use reading::scan;
