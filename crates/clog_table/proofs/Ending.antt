@@ -24,7 +24,6 @@ use Rattle.std.specs.List.{AllByRecursion}
 use Rattle.std.proofs.lemmas.List.{take-append-drop, take_at}
 use Rattle.clog_base.specs.declared.cell.Table.{Table}
 use Rattle.clog_table.specs.declared.head.Head.{Head}
-use Rattle.clog_table.specs.declared.table_file.TableFile.{TableFile}
 use Rattle.clog_table.specs.declared.fault.TableFault.{TableFault}
 use Rattle.clog_table.specs.declared.fault.TableFault.TheVariants.{
   Short,
@@ -45,6 +44,7 @@ use Rattle.clog_table.specs.Format.{
   head_size,
   behind_head,
   head_of,
+  file_of,
 }
 use Rattle.clog_table.specs.Limits.{IsStoredCell}
 use Rattle.clog_table.specs.Heads.{HasHead}
@@ -130,11 +130,8 @@ module _ (table : Table) (bytes : List ℕ) (head : Head) (cells : Pairs) (rest 
       end_refused fault (subst (λ (l : List ℕ). RefusesEnd l rest (place bytes rest) fault)
       text_is h)
 
-  file : TableFile
-  file = record { table = table; lower = head.lower; upper = head.upper; cells = cells }
-
-  same_head : head ≡ head_of file
-  unfolding file
+  -- the head is that of the file
+  pub same_head : head ≡ head_of (file_of table head.lower head.upper cells)
   same_head = λ i. record {
     table = begins.same_table i;
     lower = head.lower;
@@ -144,13 +141,7 @@ module _ (table : Table) (bytes : List ℕ) (head : Head) (cells : Pairs) (rest 
 
   -- the bytes are the file's spelling
   pub is_file : rest ≡ check_bytes (cells_text bytes rest)
-      → IsFileOf table bytes (record {
-        table = table;
-        lower = head.lower;
-        upper = head.upper;
-        cells = cells;
-      })
-  unfolding file
+      → IsFileOf table bytes (file_of table head.lower head.upper cells)
   is_file right = record {
     is_file = record {
       table = subst (λ (t : Table). t.0 < 16) begins.same_table begins.known;

@@ -12,8 +12,9 @@ use Rattle.clog_base.specs.declared.cell.Table.{Table}
 use Rattle.clog_cells.specs.Merge.{AreInOrder}
 use Rattle.clog_table.specs.declared.head.Head.{Head}
 use Rattle.clog_table.specs.declared.raw_cell.RawCell.{RawCell}
+use Rattle.clog_table.specs.declared.table_file.TableFile.{TableFile}
 use Rattle.clog_table.specs.declared.fault.TableFault.{TableFault}
-use Rattle.clog_table.specs.Format.{file_of}
+use Rattle.clog_table.specs.Format.{head_of}
 use Rattle.clog_table.specs.Reading.{Fields}
 use Rattle.clog_table.specs.RawFields.{fields_of, pair_of}
 use Rattle.clog_table.specs.Cells.{HasCells}
@@ -62,6 +63,6 @@ ReadsAll file table count bytes (Err fault) = RefusesCells file table count byte
 
 -- the head of the file that the bytes spell, or why they spell none
 abbrev pub Checks : Table → List ℕ → Result Head TableFault → Type 0
-Checks table bytes (Ok head) = (cells : List (CellKey × Cell))
-    × IsFileOf table bytes (file_of table head.lower head.upper cells)
+Checks table bytes (Ok head) =
+    (file : TableFile) × IsFileOf table bytes file × (head ≡ head_of file)
 Checks table bytes (Err fault) = Refuses table bytes fault

@@ -1,5 +1,6 @@
 //! Laws of the format. Each is the contract of a function that does nothing.
-ghost use Rattle.std.specs.Prelude.{◌≡◌, ◌≢◌, ◌<◌, ◌⊎◌, ℕ, List, slice_index};
+ghost use Rattle.std.specs.Prelude.{◌≡◌, ◌≢◌, ◌⊎◌, ℕ, List};
+ghost use Rattle.clog_spec.specs.Crc.{IsBytes};
 ghost use Rattle.clog_base.specs.declared.cell.Table.{Table};
 ghost use Rattle.clog_table.specs.declared.table_file.TableFile.{TableFile};
 ghost use Rattle.clog_table.specs.declared.fault.TableFault.{TableFault};
@@ -20,7 +21,7 @@ pub fn table_laws()
     ensures never_both { (table : Table) (bytes : List ℕ) (file : TableFile) (fault : TableFault)
         → IsFileOf table bytes file → Refuses table bytes fault → fault ≡ OutOfMemory }
     // What is no table file is refused.
-    ensures one_of_both { (table : Table) (bytes : List ℕ) → ((i : ℕ) → slice_index bytes i < 256)
+    ensures one_of_both { (table : Table) (bytes : List ℕ) → IsBytes bytes
         → ((file : TableFile) × IsFileOf table bytes file)
         ⊎ ((fault : TableFault) × (fault ≢ OutOfMemory) × Refuses table bytes fault) }
 {}
