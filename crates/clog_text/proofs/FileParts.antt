@@ -3,7 +3,8 @@ use Rattle.std.proofs.Common.{◌≡◌, ℕ, suc, ◌+◌, ◌*◌, ◌<◌, �
 use Rattle.std.proofs.Common.{map, take, drop, get_or, Result, Ok, Err, refl, sym, ap, subst, ◌∙◌}
 use Rattle.std.proofs.Common.{append_assoc, arith}
 use Rattle.std.specs.List.{AllByRecursion}
-use Rattle.std.proofs.lemmas.List.{append-nil, take-append-drop, map-append, length-map, length-take}
+use Rattle.std.proofs.lemmas.List.{append-nil, take-append-drop, map-append, length-map}
+use Rattle.std.proofs.lemmas.List.{length-take}
 use Rattle.std.proofs.lemmas.List.{length-drop, length-append, drop-drop, drop_all}
 use Rattle.std.proofs.Math.Seq.{get_or-append_seam}
 use Rattle.std.proofs.Math.Nat.{suc-mul}
@@ -48,7 +49,8 @@ in_two_parts n (line ∷ xs) ys =
 
 -- no line has no number
 numbered : (bytes : List ℕ) (a b : ℕ) (ranges : List (ℕ × ℕ)) → (0 < length ranges → a ≡ b)
-    → mutations_from a (map (piece_of bytes) ranges) ≡ mutations_from b (map (piece_of bytes) ranges)
+    → mutations_from a (map (piece_of bytes) ranges)
+    ≡ mutations_from b (map (piece_of bytes) ranges)
 unfolding mutations_from
 numbered bytes a b [] same = refl
 numbered bytes a b (range ∷ ranges) same =

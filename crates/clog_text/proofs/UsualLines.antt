@@ -1,6 +1,6 @@
 -- What tokens in the usual order say.
-use Rattle.std.proofs.Common.{◌≡◌, ℕ, zero, suc, ◌+◌, ◌<◌, ◌≤◌, ℤ, List, [], ◌∷◌, ◌++◌, length, codes}
-use Rattle.std.proofs.Common.{true, Option, Some, None, Ok, option_and_then}
+use Rattle.std.proofs.Common.{◌≡◌, ℕ, zero, suc, ◌+◌, ◌<◌, ◌≤◌, ℤ, List, [], ◌∷◌, ◌++◌, length}
+use Rattle.std.proofs.Common.{codes, true, Option, Some, None, Ok, option_and_then}
 use Rattle.std.proofs.Common.{refl, ap, ◌∙◌, arith}
 use Rattle.std.proofs.lemmas.Bool.Decides.{nat_tests}
 use Rattle.json.specs.Token.{Token, begin_object, end_object, end_array}
@@ -11,6 +11,7 @@ use Rattle.serde_json.specs.Data as datum
 use Rattle.serde_json.specs.Data.{Data, Num, unsigned}
 use Rattle.serde_json.specs.Find.{as_i64}
 use Rattle.serde_json.specs.Read.{number_of, of_json, of_items, read}
+use Rattle.clog_spec.specs.Sizes.{longest_name, most_tables}
 use Rattle.clog_base.specs.declared.cell.Table.{Table}
 use Rattle.clog_mutation.specs.declared.mutation.Update.{Update}
 use Rattle.clog_text.specs.declared.refusal.Part.{Part}
@@ -99,11 +100,11 @@ of_update u table ts is_table is_ts = rw (is_table, is_ts, of_value u.value) ref
 
 -- ---- from data to a mutation
 
-name_said : (part : Part) (text : List ℕ) → 1 ≤ length text → length text ≤ 255
+name_said : (part : Part) (text : List ℕ) → 1 ≤ length text → length text ≤ longest_name
     → name_of part (datum.string text) ≡ Ok text
 name_said part text some short = grind (arith, nat_tests)
 
-table_said : (t : Table) → t.0 < 16 → table_of (datum.number (unsigned t.0)) ≡ Ok t
+table_said : (t : Table) → t.0 < most_tables → table_of (datum.number (unsigned t.0)) ≡ Ok t
 table_said t known = grind (arith, nat_tests)
 
 ts_said : (n : Num) (ts : ℤ) → as_i64 n ≡ Some ts → ts_of (datum.number n) ≡ Ok ts
@@ -161,7 +162,7 @@ line_data key ds =
 
 pub line_said : (bytes key : List ℕ) (us : List Spelled) (xs : List Update)
     → is_text bytes ≡ true → tokens bytes ≡ line_tokens key us → AllSay us xs
-    → 1 ≤ length key → length key ≤ 255 → 1 ≤ length xs → length xs ≤ 65535
+    → 1 ≤ length key → length key ≤ longest_name → 1 ≤ length xs → length xs ≤ 65535
     → line_mutation bytes ≡ Ok (record { key = key; updates = xs })
 unfolding line_mutation value_of mutation_of list_of
 line_said bytes key us xs text is all some short filled few =

@@ -1,6 +1,7 @@
 -- The lines of a file, as pieces of its bytes.
-use Rattle.std.specs.Prelude.{◌≡◌, ◌≢◌, ℕ, ◌+◌, ◌-◌, ◌≤◌, ◌==◌, List, [], ◌∷◌, ◌++◌, length, map, take}
-use Rattle.std.specs.Prelude.{drop, if◌then◌else◌}
+pub use Rattle.clog_spec.specs.Sizes.{line_limit}
+use Rattle.std.specs.Prelude.{◌≡◌, ◌≢◌, ℕ, ◌+◌, ◌-◌, ◌≤◌, ◌==◌, List, [], ◌∷◌, ◌++◌, length, map}
+use Rattle.std.specs.Prelude.{take, drop, if◌then◌else◌}
 use Rattle.std.specs.List.{flat_map, AllByRecursion}
 
 -- the first line begins with the byte
@@ -31,10 +32,6 @@ closed (b ∷ c ∷ bytes) = b ∷ closed (c ∷ bytes)
 pub record AreLines (file : List ℕ) (lines : List (List ℕ)) : Type 0 where
   pub unbroken : AllByRecursion HasNoNewline lines
   pub whole : flat_map ended lines ≡ closed file
-
--- the greatest number of lines that a file may have
-abbrev pub line_limit : ℕ
-line_limit = 1000000
 
 -- the bytes from the first number up to the second
 abbrev pub piece_of : List ℕ → ℕ × ℕ → List ℕ

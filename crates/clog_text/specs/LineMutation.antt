@@ -8,6 +8,7 @@ use Rattle.serde_json.specs.Data.{Data, null, boolean, number, string, array, ob
 use Rattle.serde_json.specs.Data.{no_items, item, Members, no_members, member}
 use Rattle.serde_json.specs.Read.{read}
 use Rattle.serde_json.specs.Find.{get, as_number, as_str, as_u64, as_i64, as_array}
+use Rattle.clog_spec.specs.Sizes.{longest_name, most_tables}
 use Rattle.clog_base.specs.declared.cell.Table.{Table}
 use Rattle.clog_base.specs.declared.cell.Kind.TheVariants.{Deletion, Live}
 use Rattle.clog_base.specs.declared.cell.Cell.{Cell}
@@ -38,13 +39,13 @@ or_refuse cause (Some x) = Ok x
 abbrev pub name_of : Part → Data → Result (List ℕ) BadLine
 name_of part d = do
   text ← or_refuse (Field part) (as_str d)
-  if (length text == 0) || nat_lt 255 (length text) then Err (Range part) else Ok text
+  if (length text == 0) || nat_lt longest_name (length text) then Err (Range part) else Ok text
 
 -- a whole number of `u64`, and at most 15
 abbrev pub table_of : Data → Result Table BadLine
 table_of d = do
   n ← or_refuse (Field InTable) (option_and_then as_u64 (as_number d))
-  if nat_lt 15 n then Err UnknownTable else Ok (record { 0 = n })
+  if nat_lt n most_tables then Ok (record { 0 = n }) else Err UnknownTable
 
 -- a whole number of `i64`; another one of `u64` is out of range
 abbrev pub ts_of : Data → Result ℤ BadLine

@@ -1,11 +1,12 @@
 -- For private clauses: lines whose names stand in their usual order, as their tokens.
-use Rattle.std.specs.Prelude.{◌≡◌, ℕ, ◌<◌, ◌≤◌, List, [], ◌∷◌, length, codes, Option, Some, None, Ok}
-use Rattle.std.specs.Prelude.{option_and_then, ⊤}
-use Rattle.json.specs.Token.{Token, begin_object, end_object, begin_array, end_array, string, number}
-use Rattle.json.specs.Token.{key as name_token, null}
+use Rattle.std.specs.Prelude.{◌≡◌, ℕ, ◌<◌, ◌≤◌, List, [], ◌∷◌, length, codes, Option, Some, None}
+use Rattle.std.specs.Prelude.{Ok, option_and_then, ⊤}
+use Rattle.json.specs.Token.{Token, begin_object, end_object, begin_array, end_array, string}
+use Rattle.json.specs.Token.{number, key as name_token, null}
 use Rattle.serde_json.specs.Data as datum
 use Rattle.serde_json.specs.Read.{number_of}
 use Rattle.serde_json.specs.Find.{as_i64}
+use Rattle.clog_spec.specs.Sizes.{longest_name, most_tables}
 use Rattle.clog_mutation.specs.declared.mutation.Update.{Update}
 use Rattle.clog_text.specs.LineMutation.{cell_of}
 
@@ -44,10 +45,10 @@ value_data (Some text) = datum.string text
 -- the spelled update says this one
 pub record Says (u : Spelled) (x : Update) : Type 0 where
   pub table : number_of u.table ≡ Some (datum.unsigned x.table.0)
-  pub known : x.table.0 < 16
+  pub known : x.table.0 < most_tables
   pub column : u.column ≡ x.column
   pub some : 1 ≤ length x.column
-  pub short : length x.column ≤ 255
+  pub short : length x.column ≤ longest_name
   pub ts : option_and_then as_i64 (number_of u.ts) ≡ Some x.cell.ts
   pub cell : cell_of x.cell.ts (value_data u.value) ≡ Ok x.cell
 

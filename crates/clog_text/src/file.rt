@@ -58,10 +58,13 @@ pub fn read_lines_in_parts<R: Threads + Sync>(
     read_by_size(rt, alloc, bytes, lines, size)
 }
 
-// How many lines a part has: all of them in a small file.
+// How many lines a part has: all of them in a small file, and else so many that there are at most 8
+// parts.
 fn part_size<R: Threads>(rt: &R, bytes: usize, lines: usize) -> usize
     requires { lines ≤ line_limit }
-    ensures { 0 < result }
+    ensures some { 0 < result }
+    ensures few { lines < MOST_PARTS * result }
+    ensures whole { bytes < LEAST_IN_PARTS → lines < result }
 {
     if bytes < LEAST_IN_PARTS {
         return lines + 1;

@@ -2,6 +2,7 @@
 ghost use Rattle.std.specs.Prelude.{◌≡◌, ◌<◌, ◌≤◌, false, true, length, IfOk, MatchOption};
 ghost use Rattle.std.specs.List.{AllByRecursion};
 ghost use Rattle.serde_json.specs.View.{view, items_view};
+ghost use Rattle.clog_spec.specs.Sizes.{longest_name, most_tables};
 ghost use Rattle.clog_mutation.specs.Limits.{IsValueOf, UpdateIsWithinLimits, IsWithinLimits};
 ghost use Rattle.clog_text.specs.Refusals.{Gives, GivesAs};
 ghost use Rattle.clog_text.specs.LineMutation.{name_of, table_of, ts_of, cell_of, has_members};
@@ -9,7 +10,7 @@ ghost use Rattle.clog_text.specs.LineMutation.{field, update_of, updates_of, cou
 ghost use Rattle.clog_text.specs.LineMutation.{mutation_of, is_text, value_of, line_mutation};
 
 use crate::refusal::{BadLine, Part};
-use clog_base::{Cell, Kind, Table, Text};
+use clog_base::{Cell, Kind, LONGEST_NAME, MOST_TABLES, Table, Text};
 use clog_mutation::{Mutation, Update, Updates};
 use serde_json::Value;
 use std::alloc::Global;
@@ -18,13 +19,13 @@ use std::str;
 // A name of 1 to 255 bytes.
 fn name_of(alloc: Global, value: &Value, part: Part) -> Result<Text, BadLine>
     ensures name { Gives result (name_of part (view value.now)) }
-    ensures short { IfOk result (λ name. length name ≤ 255) }
+    ensures short { IfOk result (λ name. length name ≤ longest_name) }
     ensures named { IfOk result (λ name. 1 ≤ length name) }
 {
     let Some(text) = value.as_str() else {
         return Err(BadLine::Field(part));
     };
-    if text.is_empty() || text.len() > 255 {
+    if text.is_empty() || text.len() > LONGEST_NAME {
         return Err(BadLine::Range(part));
     }
     Ok(Text::copy_of(alloc, text)?)
@@ -32,11 +33,11 @@ fn name_of(alloc: Global, value: &Value, part: Part) -> Result<Text, BadLine>
 
 fn table_of(value: &Value) -> Result<Table, BadLine>
     ensures table { Gives result (table_of (view value.now)) }
-    ensures known { IfOk result (λ table. table.0 < 16) }
+    ensures known { IfOk result (λ table. table.0 < most_tables) }
 {
     match value.as_u64() {
         None => Err(BadLine::Field(Part::Table)),
-        Some(number) if number > 15 => Err(BadLine::UnknownTable),
+        Some(number) if number >= MOST_TABLES as u64 => Err(BadLine::UnknownTable),
         Some(number) => Ok(Table(number as u8)),
     }
 }

@@ -9,8 +9,8 @@ use std::alloc::{AllocFailed, Global};
 use std::marker::Model;
 use thiserror::Error;
 
-// The greatest number of lines.
-const LINE_LIMIT: usize = 1_000_000;
+// The greatest number of lines, as a length.
+const LINE_LIMIT: usize = clog_base::LINE_LIMIT as usize;
 
 /// The ranges of a file's lines in its bytes, half open, without the newline.
 #[derive(Drop)]

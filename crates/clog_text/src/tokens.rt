@@ -1,5 +1,5 @@
-//! The single tokens of a usual line: a brace, a name, a short text, a number. Each reader gives what
-//! it took from the tokens to come, and nothing where another token stands there.
+//! The single tokens of a usual line: a brace, a name, a text, a number. Each reader gives what it
+//! took from the tokens to come, and nothing where another token stands there.
 ghost use Rattle.std.specs.Prelude.{◌≡◌, ◌<◌, ◌≤◌, ◌∷◌, ◌==◌, ℕ, List, Some, length, IfSome};
 ghost use Rattle.std.specs.Prelude.{slice_index, false, option_and_then};
 ghost use Rattle.json.specs.Token.{begin_object, end_object, begin_array, key as name_token};
@@ -7,8 +7,9 @@ ghost use Rattle.json.specs.Token.{string as text_token, number as number_token}
 ghost use Rattle.serde_json.specs.Data.{unsigned as as_unsigned};
 ghost use Rattle.serde_json.specs.Read.{number_of, number_from};
 ghost use Rattle.serde_json.specs.Find.{as_i64};
+ghost use Rattle.clog_spec.specs.Sizes.{longest_name, most_tables};
 
-use clog_base::{Table, Text};
+use clog_base::{LONGEST_NAME, MOST_TABLES, Table, Text};
 use fast_float::Numeral;
 use json::{Reader, Token};
 use std::alloc::Global;
@@ -53,14 +54,14 @@ pub(crate) fn name(reader: &mut Reader<'_>, wanted: &str) -> Option<()>
     }
 }
 
-/// A string of 1 to 255 bytes.
-pub(crate) fn short_text(alloc: Global, reader: &mut Reader<'_>) -> Option<Text>
+/// A key or a column: a string of 1 to 255 bytes.
+pub(crate) fn name_text(alloc: Global, reader: &mut Reader<'_>) -> Option<Text>
     ensures text { IfSome result (λ t. reader.old ≡ text_token t ∷ reader.new) }
     ensures some { IfSome result (λ t. 1 ≤ length t) }
-    ensures short { IfSome result (λ t. length t ≤ 255) }
+    ensures short { IfSome result (λ t. length t ≤ longest_name) }
 {
     match reader.next() {
-        Some(Token::String(text)) if 1 <= text.len() && text.len() <= 255 => {
+        Some(Token::String(text)) if 1 <= text.len() && text.len() <= LONGEST_NAME => {
             Text::copy_of(alloc, text).ok()
         }
         _ => None,
@@ -91,16 +92,16 @@ fn plain_number(text: &str) -> Option<u64>
 }
 
 /// A table's number, 0 to 15.
-pub(crate) fn table(reader: &mut Reader<'_>) -> Option<Table>
+pub(crate) fn read_table(reader: &mut Reader<'_>) -> Option<Table>
     ensures table { IfSome result (λ t. (s : List ℕ) × (reader.old ≡ number_token s ∷ reader.new)
         × (number_of s ≡ Some (as_unsigned t.0))) }
-    ensures known { IfSome result (λ t. t.0 < 16) }
+    ensures known { IfSome result (λ t. t.0 < most_tables) }
 {
     let Some(Token::Number(text)) = reader.next() else {
         return None;
     };
     match plain_number(text) {
-        Some(number) if number < 16 => Some(Table(number as u8)),
+        Some(number) if number < MOST_TABLES as u64 => Some(Table(number as u8)),
         _ => None,
     }
 }

@@ -12,14 +12,16 @@ ghost use Rattle.clog_text.specs.UsualLines.{update_tokens, updates_tokens, line
 
 use crate::read::{read_line, text_of};
 use crate::refusal::BadLine;
-use crate::tokens::{begin_array, begin_object, end_object, name, short_text, table, timestamp};
+use crate::tokens::{
+    begin_array, begin_object, end_object, name, name_text, read_table, timestamp,
+};
 use clog_base::{Cell, Kind, Text};
 use clog_mutation::{Mutation, Update, Updates};
 use json::{Reader, Scratch, Token};
 use std::alloc::Global;
 
 // The cell of a value: null is a deletion.
-fn cell(alloc: Global, reader: &mut Reader<'_>, ts: i64) -> Option<Cell>
+fn read_cell(alloc: Global, reader: &mut Reader<'_>, ts: i64) -> Option<Cell>
     ensures cell { IfSome result (λ cell. (v : Option (List ℕ))
         × (reader.old ≡ spelled_value v ∷ reader.new) × (cell_of ts (value_data v) ≡ Ok cell)) }
     ensures value { IfSome result (λ cell. IsValueOf cell.kind cell.value) }
@@ -47,13 +49,13 @@ fn update(alloc: Global, reader: &mut Reader<'_>) -> Option<Update>
     ensures within { IfSome result UpdateIsWithinLimits }
 {
     name(reader, "table")?;
-    let table = table(reader)?;
+    let table = read_table(reader)?;
     name(reader, "column")?;
-    let column = short_text(alloc, reader)?;
+    let column = name_text(alloc, reader)?;
     name(reader, "ts")?;
     let ts = timestamp(reader)?;
     name(reader, "value")?;
-    let cell = cell(alloc, reader, ts)?;
+    let cell = read_cell(alloc, reader, ts)?;
     end_object(reader)?;
     Some(Update {
         table,
@@ -88,14 +90,14 @@ fn updates(alloc: Global, reader: &mut Reader<'_>) -> Option<Updates>
 }
 
 // The whole line, to its last token.
-fn mutation(alloc: Global, reader: &mut Reader<'_>) -> Option<Mutation>
+fn read_mutation(alloc: Global, reader: &mut Reader<'_>) -> Option<Mutation>
     ensures mutation { IfSome result (λ m. (us : List Spelled)
         × (reader.old ≡ line_tokens m.key us) × AllSay us m.updates) }
     ensures within { IfSome result IsWithinLimits }
 {
     begin_object(reader)?;
     name(reader, "key")?;
-    let key = short_text(alloc, reader)?;
+    let key = name_text(alloc, reader)?;
     name(reader, "updates")?;
     begin_array(reader)?;
     let updates = updates(alloc, reader)?;
@@ -115,7 +117,7 @@ fn usual_line(alloc: Global, scratch: &mut Scratch, line: &[u8]) -> Option<Mutat
     let Ok(mut reader) = Reader::new(text, scratch) else {
         return None;
     };
-    let mutation = mutation(alloc, &mut reader)?;
+    let mutation = read_mutation(alloc, &mut reader)?;
     Some(mutation)
 }
 

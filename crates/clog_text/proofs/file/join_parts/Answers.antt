@@ -34,7 +34,8 @@ loop-part-preserved c =
     (l.invariant.parts ∙ ap (λ (r : List (Result (List Mutation) Refused)). l.yielded ++ r) steps.0)
     in
     let read : IsPartRead bytes ranges size (length l.yielded) (Ok c.in-Ok.read) =
-    subst (λ (r : Result (List Mutation) Refused). IsPartRead bytes ranges size (length l.yielded) r)
+    subst (λ (r : Result (List Mutation) Refused).
+    IsPartRead bytes ranges size (length l.yielded) r)
     c.in-Ok.is next in
     let appended : c.append.new.self.items ≡ front ++ c.in-Ok.read =
     c.in-Ok-append.ensures.items ∙ ap (λ (ms : List Mutation). front ++ ms) c.into_vec.ensures in

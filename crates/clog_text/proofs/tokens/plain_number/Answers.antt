@@ -12,5 +12,6 @@ returns c =
     let no_sign : (get_or s 0 0 == 45) ≡ false = sym c.if-has_minus.ensures in
     let read : number_from false (scan s) ≡ number_of s = rw no_sign in
     subst (λ (r : Option Num). IfSome c.unsigned.result (λ n. r ≡ Some (as_unsigned n)))
-    (ap (number_from false) c.scan.ensures.parts ∙ read ∙ ap number_of c.as_bytes-bytes.ensures.value)
+    (ap (number_from false) c.scan.ensures.parts ∙ read
+    ∙ ap number_of c.as_bytes-bytes.ensures.value)
     c.unsigned.ensures
