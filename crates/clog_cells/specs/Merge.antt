@@ -1,4 +1,5 @@
 -- Which of two cells counts, and what a list of cells comes to.
+pub use Rattle.clog_base.specs.CellKeys.{key_cmp}
 use Rattle.std.specs.Prelude.{◌≡◌, ◌↔◌, ◌<◌, ◌^◌, ℕ, List, ◌++◌, Bool, false, length}
 use Rattle.std.specs.Prelude.{Option, Some, None, Contains, ◌==◌}
 use Rattle.std.specs.List.{filter}
@@ -28,12 +29,6 @@ cell_cmp a b =
 
 abbrev pub is_newer : Cell → Cell → Bool
 is_newer a b = is_gt (cell_cmp a b)
-
--- by table, then by the key's bytes, then by the column's
-abbrev pub key_cmp : CellKey → CellKey → Ordering
-key_cmp a b =
-    ordering_then (nat_cmp a.table.0 b.table.0)
-    (ordering_then (slice_cmp nat_cmp a.key b.key) (slice_cmp nat_cmp a.column b.column))
 
 -- one of the key's cells among those that have P, and none of them is newer
 pub record IsNewestIn (P : CellKey × Cell → Type 0) (key : CellKey) (cell : Cell) : Type 0 where
