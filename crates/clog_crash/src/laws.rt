@@ -1,5 +1,5 @@
 //! What follows from the definitions alone of what a folder restores to, and of damage.
-ghost use Rattle.std.specs.Prelude.{◌≡◌, ◌⊎◌, ℕ, List, [], ◌∷◌, Some, Contains};
+ghost use Rattle.std.specs.Prelude.{◌≡◌, ◌⊎◌, ◌≤◌, ℕ, List, [], ◌∷◌, Some, Contains};
 ghost use Rattle.std.specs.FinMap as finmap;
 ghost use Rattle.clog_spec.specs.Names.{IsSegmentName};
 ghost use Rattle.clog_base.specs.declared.cell.Cell.{Cell};
@@ -22,7 +22,6 @@ ghost use Rattle.clog_crash.specs.Folder.{IsHeld, IsNameOf, Place};
 ghost use Rattle.clog_crash.specs.Laws.{HasNewest};
 ghost use Rattle.clog_crash.specs.Restore.{
   IsInInterval,
-  IsLastId,
   IsLoggedCell,
   IsRestored,
   IsTableCell,
@@ -66,7 +65,9 @@ pub fn only_the_last_segment_may_be_torn()
     ensures { (files : Files) (name bytes : List ℕ) (id : ℕ) (entries : List Entry) (at : ℕ)
         (cause : Cause) → IsUndamaged files → IsSegmentName name 6 id
         → finmap.get files name ≡ Some bytes → IsFile bytes
-        → IsSegment bytes id entries (Torn at cause) → IsSoft cause × IsLastId files id }
+        → IsSegment bytes id entries (Torn at cause)
+        → IsSoft cause × ((other : List ℕ) (version later : ℕ)
+        → IsSegmentName other version later → IsHeld files other → later ≤ id) }
 {}
 
 /// In a folder that is not damaged each payload that a segment holds is that of a mutation.
