@@ -45,12 +45,14 @@ function flush() {
     print "finalise 0 0 " memtable
     issue("write")
     sync()
-    print "put 0 oldest-live 0 " ++memtable
+    memtable++
+    print "put 0 oldest-live 0 " memtable
     print "give-turn 0 flush 0"
 }
 BEGIN {
     print "path tables 1 writers 1 capacity " capacity " ordinals 20 base 1000"
     log_key = 28
+    memtable = 0
     for (i = 1; i <= entries; i++) {
         commit()
         if (i % 1000 == 0) {
