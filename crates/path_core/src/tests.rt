@@ -1,17 +1,6 @@
-//! What no clause says: each call on worked cases.
+//! A bound on worked cases. Runs of steps are played by `path_play`.
 use crate::{Bound, accepts};
 use clog_base::Key;
-
-mod barrier_runs;
-mod drop_runs;
-mod events;
-mod flush_runs;
-mod left;
-mod log_runs;
-mod play;
-mod rows;
-mod stop_runs;
-mod turn_runs;
 
 #[test]
 fn a_final_bound_takes_what_is_at_or_below_it(rt: HostRuntime) {
