@@ -23,12 +23,30 @@ use Rattle.op_core.specs.Tallies.{running_of, one_more, IsPassed}
 use Rattle.path_core.specs.declared.event.Carried.{Carried}
 use Rattle.path_core.specs.declared.event.Carried.TheVariants.{Nothing, Deposit, Applied}
 use Rattle.path_core.specs.declared.event.Event.{Event}
-use Rattle.path_core.specs.declared.event.Event.TheVariants.{Register}
+use Rattle.path_core.specs.declared.event.Cursor.TheVariants.{Synced, OldestLive, Stopped}
+use Rattle.path_core.specs.declared.event.Event.TheVariants.{
+  Look,
+  Register,
+  Close,
+  OpenGroup,
+  MoveCurrent,
+  Expire,
+  Advance,
+  Claim,
+  Switch,
+  Raise,
+  Finalise,
+  TakeTurn,
+  GiveTurn,
+  Put,
+}
+use Rattle.path_core.specs.declared.event.SwitchPart.TheVariants.{Open, Mark}
+use Rattle.path_core.specs.declared.event.Turn.TheVariants.{Sync, Flush}
 use Rattle.path_core.specs.declared.note.EntryNote.{EntryNote}
 use Rattle.path_core.specs.declared.path.StepFault.{StepFault}
 use Rattle.path_core.specs.declared.path.StepFault.TheVariants.{NotAllowed, OutOfMemory as NoMemory}
 use Rattle.path_core.specs.declared.state.PathState.{PathState}
-use Rattle.path_core.specs.declared.state.Claim.{Claim}
+use Rattle.path_core.specs.declared.state.Claim.{Claim as ClaimOf}
 use Rattle.path_core.specs.Words.{by_of}
 use Rattle.path_core.specs.Allowed.{IsThere, IsAllowed}
 use Rattle.path_core.specs.Parts.{tally_of, seat_of, is_marker}
@@ -55,12 +73,29 @@ pub record Names (x : PathState) (e : Event) : Type 0 where
   pub seat : by_of e < length x.seats
   pub is_there : IsThere x e
 
--- A step that may want memory. To register takes none: that fails only where the count of the group
--- is at its type's end.
+-- A step that may want memory: one that makes a list of the state longer. To register takes none:
+-- that fails only where the count of the group is at its type's end. No other step takes any, so
+-- none of them ever fails for want of it.
 abbrev pub MayWantMemory : PathState → Event → Type 0
+MayWantMemory x (Look by at) = ⊥
 MayWantMemory x (Register by order group) =
     running_of (tally_of x order group) ≡ 18446744073709551615
-MayWantMemory x _ = Unit {0}
+MayWantMemory x (Close by order group carried) = Unit {0}
+MayWantMemory x (OpenGroup by order group) = Unit {0}
+MayWantMemory x (MoveCurrent by order group) = ⊥
+MayWantMemory x (Expire by order group) = ⊥
+MayWantMemory x (Advance by order group) = ⊥
+MayWantMemory x (Claim by from to what) = Unit {0}
+MayWantMemory x (Switch by table memtable Open) = Unit {0}
+MayWantMemory x (Switch by table memtable Mark) = ⊥
+MayWantMemory x (Raise by table memtable to) = ⊥
+MayWantMemory x (Finalise by table memtable) = ⊥
+MayWantMemory x (TakeTurn by turn) = ⊥
+MayWantMemory x (GiveTurn by Sync) = Unit {0}
+MayWantMemory x (GiveTurn by (Flush table)) = ⊥
+MayWantMemory x (Put by Synced value) = Unit {0}
+MayWantMemory x (Put by (OldestLive table) value) = Unit {0}
+MayWantMemory x (Put by Stopped value) = ⊥
 
 -- The step was made; for want of memory nothing changed.
 abbrev pub Makes : Result (Unit {0}) OutOfMemory → PathState → PathState → Event → Type 0
@@ -85,22 +120,22 @@ IsNoDeposit (Deposit note) = ⊥
 IsNoDeposit (Applied places) = Unit {0}
 
 -- A marker starts at the key.
-pub record HasMarkerAt (claims : List Claim) (key : ℕ) : Type 0 where
-  pub marker : Claim
+pub record HasMarkerAt (claims : List ClaimOf) (key : ℕ) : Type 0 where
+  pub marker : ClaimOf
   pub among : Contains claims marker
   pub is : IsTrue (is_marker marker)
   pub start : marker.start ≡ key
 
 -- The claim is a marker at or above the key whose barrier is passed.
-pub record IsPassedMarker (c : Claim) (tallies : List Tally) (key : ℕ) : Type 0 where
+pub record IsPassedMarker (c : ClaimOf) (tallies : List Tally) (key : ℕ) : Type 0 where
   pub is : IsTrue (is_marker c)
   pub start : key ≤ c.start
   pub group : ℕ
   pub issued : c.barrier ≡ Some group
   pub passed : IsPassed tallies group
 
-pub record HasPassedMarker (claims : List Claim) (tallies : List Tally) (key : ℕ) : Type 0 where
-  pub marker : Claim
+pub record HasPassedMarker (claims : List ClaimOf) (tallies : List Tally) (key : ℕ) : Type 0 where
+  pub marker : ClaimOf
   pub among : Contains claims marker
   pub passed : IsPassedMarker marker tallies key
 

@@ -9,7 +9,7 @@ ghost use Rattle.path_core.specs.declared.seat.LastMarker.{LastMarker};
 ghost use Rattle.path_core.specs.declared.seat.Switching.{Switching};
 ghost use Rattle.path_core.specs.declared.state.Claim.{Claim};
 ghost use Rattle.path_core.specs.declared.state.PathState.{PathState};
-ghost use Rattle.path_core.specs.Keys.{behind_marker};
+ghost use Rattle.path_core.specs.Keys.{first_offset, behind_marker};
 ghost use Rattle.path_core.specs.Parts.{
   seat_of,
   seat_table,
@@ -98,9 +98,22 @@ pub fn a_passed_marker_may_be_synced()
         → IsPassed x.append.tallies g → IsSyncPoint x kept.start }
 {}
 
+/// The last marker of the state, whoever claimed it, tells the same of itself to each holder that
+/// comes later: while it has no barrier, its writer wants one; once its barrier is passed, the log
+/// may be synced up to it.
+pub fn the_last_marker_tells_later_holders()
+    ensures wanted { (x : PathState) (c : Claim) → last_marker x ≡ Some c → c.barrier ≡ None
+        → WantsBarrier Order.Append x c.by }
+    ensures synced { (x : PathState) (c : Claim) (g : ℕ) → last_marker x ≡ Some c
+        → c.barrier ≡ Some g → IsPassed x.append.tallies g → IsSyncPoint x c.start }
+{}
+
 /// An entry was claimed since the last marker, as the next one wants it, exactly where the log key
-/// is above the one at which the log went on behind that marker.
+/// is above the one at which the log went on behind that marker; before the first marker, above the
+/// front of the first segment, where the log begins.
 pub fn the_log_key_tells_of_entries_since_a_marker()
-    ensures { (x : PathState) (c : Claim) → IsLawfulPath x → last_marker x ≡ Some c
+    ensures behind { (x : PathState) (c : Claim) → IsLawfulPath x → last_marker x ≡ Some c
         → IsTrue (is_entry_last x) ↔ (behind_marker x.capacity c.start < x.log) }
+    ensures first { (x : PathState) → IsLawfulPath x → last_marker x ≡ None
+        → IsTrue (is_entry_last x) ↔ (first_offset < x.log) }
 {}

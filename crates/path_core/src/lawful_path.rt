@@ -14,8 +14,8 @@ use clog_base::{OutOfMemory, Sizes};
 use std::alloc::Global;
 use std::marker::Model;
 
-/// A write path whose state is lawful. Contracts see its state. `Path` makes the same steps and asks
-/// for no whole notes; here whoever steps has the law at hand.
+/// A write path whose state is lawful. Contracts see its state. `Path` makes the same steps and
+/// asks for no whole notes; here whoever steps knows that the state is lawful.
 #[derive(Drop)]
 pub struct LawfulPath {
     path: Path,

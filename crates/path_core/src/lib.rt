@@ -26,6 +26,7 @@ mod seat;
 mod seat_asks;
 mod seat_steps;
 mod state;
+mod state_law;
 mod step_allowed;
 mod step_law;
 mod table_allowed;
@@ -40,9 +41,10 @@ pub use bound::accepts;
 pub use event::{Carried, ClaimKind, Cursor, Event, Place, Reading, SwitchPart, Turn};
 pub use holder_law::{
     a_passed_marker_may_be_synced, equal_parts_get_equal_answers,
-    only_the_holder_changes_the_last_marker, the_last_marker_tells_when_a_barrier_is_wanted,
-    the_log_key_tells_of_entries_since_a_marker, the_stage_tells_when_a_memtable_may_be_retired,
-    the_stage_tells_when_a_switch_is_through, the_stages_tell_when_a_barrier_is_wanted,
+    only_the_holder_changes_the_last_marker, the_last_marker_tells_later_holders,
+    the_last_marker_tells_when_a_barrier_is_wanted, the_log_key_tells_of_entries_since_a_marker,
+    the_stage_tells_when_a_memtable_may_be_retired, the_stage_tells_when_a_switch_is_through,
+    the_stages_tell_when_a_barrier_is_wanted,
 };
 pub use law::{
     a_switch_has_a_holder, claims_never_overlap, closed_writes_are_placed_in_one_memtable,
@@ -65,4 +67,9 @@ pub use seat::{
     Switching, SyncTurn,
 };
 pub use state::{Bound, Claim, Memtable, OrderGroups, PathState, Placed, TableState, WrittenFile};
+pub use state_law::{
+    a_passed_memtable_holds_its_interval, a_step_opens_a_new_group, a_step_opens_a_new_memtable,
+    all_run_in_the_group_behind_a_barrier, up_to_a_passed_marker_all_is_deposited,
+    where_a_seats_group_stands,
+};
 pub use step_law::{a_step_changes_its_seat_alone, a_step_changes_its_word_alone, runs_keep_sizes};

@@ -188,18 +188,25 @@ fn is_sync_point(state: &PathState, key: u64) -> bool
     has_marker_at(claims, key) && has_passed_marker(claims, state.append.tallies.as_slice(), key)
 }
 
+// Whether the log runs: no fault has stopped it.
+fn runs(state: &PathState) -> bool
+    ensures { IsTrue result ↔ (state.now.stopped ≡ 0) }
+{
+    state.stopped == 0
+}
+
 pub(crate) fn allows_synced(state: &PathState, seat: &Seat, key: u64) -> bool
     ensures { IsTrue result ↔ (HoldsTurn seat.now Turn.Sync × (state.now.stopped ≡ 0)
         × (state.now.synced < key) × IsSyncPoint state.now key) }
 {
-    seat.sync.is_some() && state.stopped == 0 && state.synced < key && is_sync_point(state, key)
+    seat.sync.is_some() && runs(state) && state.synced < key && is_sync_point(state, key)
 }
 
 pub(crate) fn allows_stopped(state: &PathState, seat: &Seat, faults: u64) -> bool
     ensures { IsTrue result
         ↔ (HoldsTurn seat.now Turn.Sync × (0 < faults) × (state.now.stopped ≡ 0)) }
 {
-    seat.sync.is_some() && faults > 0 && state.stopped == 0
+    seat.sync.is_some() && faults > 0 && runs(state)
 }
 
 // Whether the log lasts up to a memtable's bound, and runs.
@@ -208,7 +215,7 @@ fn may_file(state: &PathState, by: u8, seat: &Seat, table: Table, memtable: u64)
     requires seat { seat.now ≡ seat_of state.now by }
     ensures { IsTrue result ↔ MayFile state.now by table.0 memtable }
 {
-    if seat.sync.is_none() || state.stopped != 0 {
+    if seat.sync.is_none() || !runs(state) {
         return false;
     }
     match oldest_bound(state, table, memtable) {

@@ -49,8 +49,10 @@ const FRESH_SEAT: Seat = Seat {
 pub enum StepFault {
     /// No row of the path allows it.
     NotAllowed,
-    /// It is allowed, and there was no memory for it. To register takes none: that is answered so
-    /// only where the count of the group is at its type's end.
+    /// It is allowed, and there was no memory for it. Only a step that makes a list of the state
+    /// longer is answered so: the close of an operation, a new group, a claim, a new memtable, the
+    /// Sync turn given back, the synced key, and a memtable retired. To register takes none: that
+    /// is answered so only where the count of the group is at its type's end.
     OutOfMemory,
 }
 
@@ -146,10 +148,9 @@ impl Path {
 
     /// Makes a step, exactly where it is allowed. After a refusal nothing has changed.
     ///
-    /// The rows are `specs/Allowed.antt`. They allow no step that would change nothing and that no
-    /// writer makes: the holder of a Flush turn raises a bound only to the last log key that it found
-    /// since the Mark, not to an earlier one, and after its own Finalise it neither raises nor
-    /// finalises that memtable again.
+    /// The rows are `specs/Allowed.antt`. They are narrower in two places: the holder of a Flush
+    /// turn raises a bound only to the last log key that it found since the Mark, not to an earlier
+    /// one; and after its own Finalise it neither raises nor finalises that memtable again.
     pub fn step(&mut self, event: &Event) -> Result<(), StepFault>
         ensures { StepsTo result self.old event.now self.new }
     {

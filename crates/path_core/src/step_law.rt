@@ -1,5 +1,5 @@
-//! What single steps leave as it is. Nothing here runs; each function's contract is a promise of the
-//! path.
+//! What single steps leave as it is. Nothing here runs; each function's contract is a promise of
+//! the path.
 ghost use Rattle.std.specs.Prelude.{◌≡◌, ◌≢◌, ℕ, List};
 ghost use Rattle.path_core.specs.declared.event.Event.{Event};
 ghost use Rattle.path_core.specs.declared.event.Place.{Place};

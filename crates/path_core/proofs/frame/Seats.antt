@@ -25,12 +25,20 @@ use Rattle.op_core.specs.declared.count.Order.{Order}
 use Rattle.op_core.specs.declared.count.Order.TheVariants.{Write, Append}
 use Rattle.op_core.specs.declared.count.Tally.TheVariants.{Open}
 use Rattle.op_core.specs.Tallies.{IsOpen, running_of}
+use Rattle.path_core.specs.declared.event.Turn.TheVariants.{Sync}
 use Rattle.path_core.specs.declared.seat.Issue.{Issue}
 use Rattle.path_core.specs.declared.seat.Issue.TheVariants.{Rest, Opened, Moved}
 use Rattle.path_core.specs.declared.seat.Seat.{Seat}
 use Rattle.path_core.specs.declared.seat.SyncTurn.{SyncTurn}
 use Rattle.path_core.specs.declared.state.PathState.{PathState}
-use Rattle.path_core.specs.Parts.{groups_of, tally_of, seat_of, group_in, issue_of}
+use Rattle.path_core.specs.Parts.{
+  groups_of,
+  tally_of,
+  seat_of,
+  group_in,
+  issue_of,
+  HoldsTurn,
+}
 use Rattle.path_core.specs.Lawful.{IsLawfulPath}
 use Rattle.path_core.specs.LawfulOrders.{made_at}
 use Rattle.path_core.proofs.orders.NobodyAbove.{in_group}
@@ -74,6 +82,13 @@ at_rest s = by s.sync
         → (turn : SyncTurn) × (o ≡ Some turn) × (turn.issue ≡ Rest)
     by None h e = absurd (false≢true h)
     by (Some turn) h e = (turn, refl, e)
+
+-- While the holder of the Sync turn is at no issue, no barrier is under way.
+pub rests : (x : PathState) (L : IsLawfulPath x) (w : ℕ) → HoldsTurn (seat_of x w) Sync
+    → issue_of (seat_of x w) ≡ Rest → L.orders.issue ≡ Rest
+rests x L w held rest =
+    let R = at_rest (seat_of x w) held rest in
+    sym (L.orders.one_holder_a_turn.issue_is w R.0 R.1) ∙ R.2
 
 -- While no barrier is under way, an open group is the current one.
 pub open_is_current : (x : PathState) (L : IsLawfulPath x) → L.orders.issue ≡ Rest → (o : Order)

@@ -1,4 +1,5 @@
--- Whether an entry was claimed since the last marker is told by the log key.
+-- Whether an entry was claimed since the last marker, or before the first one, is told by the log
+-- key.
 use Rattle.std.proofs.Common.{
   ◌≡◌,
   ℕ,
@@ -31,14 +32,21 @@ use Rattle.std.specs.Prelude.{◌↔◌, IsTrue}
 use Rattle.std.specs.List.{fold}
 use Rattle.std.proofs.lemmas.Bool.{false≢true}
 use Rattle.std.proofs.lemmas.Option.{none-some, same_Some}
+use Rattle.std.proofs.lemmas.List.{get_or_past}
 use mathlib.Core.Logic.{dite, inl, inr}
 use native.Mathlib.Decide.{dec_lt}
 use Rattle.path_core.specs.declared.event.ClaimKind.{ClaimKind}
 use Rattle.path_core.specs.declared.event.ClaimKind.TheVariants.{Entry, Marker}
 use Rattle.path_core.specs.declared.state.Claim.{Claim as ClaimOf}
 use Rattle.path_core.specs.declared.state.PathState.{PathState}
-use Rattle.path_core.specs.Parts.{is_marker_kind, is_marker, last_marker}
-use Rattle.path_core.specs.Keys.{next_segment, fits, entry_start, behind_marker}
+use Rattle.path_core.specs.Parts.{no_claim, is_marker_kind, is_marker, last_marker}
+use Rattle.path_core.specs.Keys.{
+  first_offset,
+  next_segment,
+  fits,
+  entry_start,
+  behind_marker,
+}
 use Rattle.path_core.specs.Allowed.{is_entry_last}
 use Rattle.path_core.specs.Lawful.{IsLawfulPath}
 use Rattle.path_core.specs.LawfulLog.{ClaimsTile, StandsAt, claim_in, key_behind, key_before}
@@ -92,6 +100,31 @@ last_at (d ∷ cs) o c h = elim (last_at cs (later_marker o d) c h) [
         all : (k : ℕ) → k < length (d ∷ cs) → is_marker (claim_in (d ∷ cs) k) ≡ false
         all zero inside = e
         all (suc k) inside = none k (omega arith)
+
+-- A list that has a marker has a last one.
+last_stays : (cs : List ClaimOf) (d : ClaimOf) → fold later_marker (Some d) cs ≡ None → ⊥
+last_stays [] d h = none-some d (sym h)
+last_stays (e ∷ cs) d h = choose (is_marker e) (λ q. last_stays cs e q) (λ q. last_stays cs d q) h
+  where
+    choose : (b : Bool) → (fold later_marker (Some e) cs ≡ None → ⊥)
+        → (fold later_marker (Some d) cs ≡ None → ⊥)
+        → fold later_marker (cond b (Some e) (Some d)) cs ≡ None → ⊥
+    choose true newer older q = newer q
+    choose false newer older q = older q
+
+-- So where there is no last one, there is none.
+none_is_marker : (cs : List ClaimOf) → fold later_marker None cs ≡ None → (k : ℕ)
+    → k < length cs → is_marker (claim_in cs k) ≡ false
+none_is_marker [] h = λ k inside. absurd (omega arith)
+none_is_marker (d ∷ cs) h = choose (is_marker d) refl h (λ q. none_is_marker cs q)
+  where
+    choose : (b : Bool) → is_marker d ≡ b → fold later_marker (cond b (Some d) None) cs ≡ None
+        → (fold later_marker None cs ≡ None → (k : ℕ) → k < length cs
+        → is_marker (claim_in cs k) ≡ false) → (k : ℕ) → k < length (d ∷ cs)
+        → is_marker (claim_in (d ∷ cs) k) ≡ false
+    choose true e q behind k inside = absurd (last_stays cs d q)
+    choose false e q behind zero inside = e
+    choose false e q behind (suc k) inside = behind q k (omega arith)
 
 -- a claim that passes the test is a marker
 marker_kind : (k : ClaimKind) → is_marker_kind k ≡ true → k ≡ Marker
@@ -158,4 +191,27 @@ module _ (x : PathState) (L : IsLawfulPath x) where
           (λ past. absurd (let l = r.inside in
           let long : length x.claims ≡ suc r.number = omega arith in
           let log = T.log_is_behind ∙ ap (key_before x.capacity x.claims) long ∙ behind r in
+          omega arith))
+
+  -- Before the first marker the log key tells of entries since the log began.
+  pub entry_before_markers : last_marker x ≡ None
+      → IsTrue (is_entry_last x) ↔ (first_offset < x.log)
+  entry_before_markers h = (to, from)
+    where
+      entries : (k : ℕ) → k < length x.claims → is_marker (claim_in x.claims k) ≡ false
+      entries = none_is_marker x.claims h
+
+      to : IsTrue (is_entry_last x) → first_offset < x.log
+      to entry = dite (dec_lt 0 (length x.claims))
+          (λ some. ends_above 0 some (entries 0 some))
+          (λ none. absurd (let past = get_or_past x.claims (length x.claims - 1) no_claim
+          (omega arith) in
+          false≢true (sym (ap (λ (d : ClaimOf). not (is_marker d)) past) ∙ entry)))
+
+      from : first_offset < x.log → IsTrue (is_entry_last x)
+      from above = dite (dec_lt 0 (length x.claims))
+          (λ some. ap not (entries (length x.claims - 1) (omega arith)))
+          (λ none. absurd (
+          let empty : length x.claims ≡ 0 = omega arith in
+          let log = T.log_is_behind ∙ ap (key_before x.capacity x.claims) empty in
           omega arith))

@@ -1,5 +1,5 @@
--- What the last marker tells the holder of the Sync turn: when a barrier is wanted, and that a
--- marker with a passed barrier may be synced.
+-- What the last marker tells: when a barrier is wanted, and that a marker with a passed barrier may
+-- be synced. First that of the state, then the one that the holder of the Sync turn keeps.
 use Rattle.std.proofs.Common.{
   ◌≡◌,
   ℕ,
@@ -24,6 +24,7 @@ use Rattle.std.proofs.Common.{
   sym,
   ap,
   ◌∙◌,
+  subst,
   arith,
 }
 use Rattle.std.specs.Prelude.{◌↔◌}
@@ -36,7 +37,7 @@ use Rattle.op_core.specs.Tallies.{IsPassed}
 use Rattle.path_core.specs.declared.seat.LastMarker.{LastMarker}
 use Rattle.path_core.specs.declared.state.Claim.{Claim as ClaimOf}
 use Rattle.path_core.specs.declared.state.PathState.{PathState}
-use Rattle.path_core.specs.Parts.{seat_of, is_marker, marker_of}
+use Rattle.path_core.specs.Parts.{seat_of, is_marker, marker_of, last_marker}
 use Rattle.path_core.specs.Allowed.{WantsBarrier, IsSyncPoint, is_unbarred_marker}
 use Rattle.path_core.specs.Lawful.{IsLawfulPath}
 use Rattle.path_core.specs.LawfulSeats.{IsLastMarker}
@@ -57,17 +58,42 @@ last_among (d ∷ cs) o c h = elim (last_among cs (later_marker o d) c h) [
     choose true q = inr (zero, omega arith, same_Some d c q)
     choose false q = inl q
 
+module _ (x : PathState) (c : ClaimOf) (last : last_marker x ≡ Some c) where
+  among : Contains x.claims c
+  among = elim (last_among x.claims None c last) [
+    | inl q ↦ absurd (none-some c q)
+    | inr r ↦ r
+  ]
+
+  -- While the last marker has no barrier, its writer wants one.
+  pub last_wants : c.barrier ≡ None → WantsBarrier Append x c.by
+  last_wants none = any_from (is_unbarred_marker c.by) x.claims c among
+      (and_from (is_marker c && (c.by == c.by)) (is_none c.barrier)
+      (and_from (is_marker c) (c.by == c.by) (last_is_marker x.claims c last)
+      (eq-eqb c.by c.by refl)) (ap (λ (o : Option ℕ). is_none o) none))
+
+  -- Once its barrier is passed, the log may be synced up to it.
+  pub last_synced : (g : ℕ) → c.barrier ≡ Some g → IsPassed x.append.tallies g
+      → IsSyncPoint x c.start
+  last_synced g issued passed = record {
+    marker = c;
+    claimed = among;
+    is = last_is_marker x.claims c last;
+    start = refl;
+    above = c;
+    above_claimed = among;
+    above_is = last_is_marker x.claims c last;
+    above_start = omega arith;
+    group = g;
+    issued = issued;
+    passed = passed;
+  }
+
 module _ (x : PathState) (L : IsLawfulPath x) where
   pub marker_exact : (w : ℕ) (kept : LastMarker) → marker_of (seat_of x w) ≡ Some kept
       → IsLastMarker x w kept
   marker_exact w kept h = kept_from x w (seat_of x w).sync
       (λ turn q. ((L.seats_know w).sync turn q).marker) kept h
-
-  among : (w : ℕ) (kept : LastMarker) (K : IsLastMarker x w kept) → Contains x.claims K.claim
-  among w kept K = elim (last_among x.claims None K.claim K.last) [
-    | inl q ↦ absurd (none-some K.claim q)
-    | inr r ↦ r
-  ]
 
   -- A barrier of the append order is wanted exactly where it has none.
   pub wanted_by_marker : (w : ℕ) (kept : LastMarker) → marker_of (seat_of x w) ≡ Some kept
@@ -75,8 +101,8 @@ module _ (x : PathState) (L : IsLawfulPath x) where
   wanted_by_marker w kept h =
       let K = marker_exact w kept h in (
         (λ wants. unissued K wants kept.barrier refl),
-        (λ none. any_from (is_unbarred_marker w)
-            x.claims K.claim (among w kept K) (waits K none)),
+        (λ none. subst (λ v. WantsBarrier Append x v) K.writer
+            (last_wants x K.claim K.last (K.barrier ∙ none))),
       )
     where
       unissued : IsLastMarker x w kept → WantsBarrier Append x w → (o : Option ℕ)
@@ -84,28 +110,10 @@ module _ (x : PathState) (L : IsLawfulPath x) where
       unissued K wants None e = e
       unissued K wants (Some g) e = absurd (false≢true (sym (K.none_waits g e) ∙ wants))
 
-      waits : (K : IsLastMarker x w kept) → kept.barrier ≡ None
-          → is_unbarred_marker w K.claim ≡ true
-      waits K none = and_from (is_marker K.claim && (K.claim.by == w)) (is_none K.claim.barrier)
-          (and_from (is_marker K.claim) (K.claim.by == w)
-          (last_is_marker x.claims K.claim K.last) (eq-eqb K.claim.by w K.writer))
-          (ap (λ (o : Option ℕ). is_none o) (K.barrier ∙ none))
-
   -- Once its barrier is passed, it may be synced.
   pub synced_by_marker : (w : ℕ) (kept : LastMarker) (g : ℕ) → marker_of (seat_of x w) ≡ Some kept
       → kept.barrier ≡ Some g → IsPassed x.append.tallies g → IsSyncPoint x kept.start
   synced_by_marker w kept g h issued passed =
       let K = marker_exact w kept h in
-      let start = K.start in record {
-        marker = K.claim;
-        claimed = among w kept K;
-        is = last_is_marker x.claims K.claim K.last;
-        start = start;
-        above = K.claim;
-        above_claimed = among w kept K;
-        above_is = last_is_marker x.claims K.claim K.last;
-        above_start = omega arith;
-        group = g;
-        issued = K.barrier ∙ issued;
-        passed = passed;
-      }
+      subst (λ key. IsSyncPoint x key) K.start
+      (last_synced x K.claim K.last g (K.barrier ∙ issued) passed)
