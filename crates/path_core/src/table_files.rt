@@ -1,6 +1,6 @@
 //! Whether a table's files hold all that a segment holds of it: each key from the least to the
-//! greatest position of the segment's entries that touch the table. The files are walked from one to
-//! the one behind it, and no key twice.
+//! greatest position of the segment's entries that touch the table. The files are walked from one
+//! to the one behind it, and no key twice.
 ghost use Rattle.std.specs.Prelude.{◌≡◌, ◌<◌, false, MatchOption};
 ghost use Rattle.path_core.specs.Droppable.{
   is_in_file,

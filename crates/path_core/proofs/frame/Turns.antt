@@ -144,7 +144,8 @@ look_leaves_turn x by at C inside turn =
     (any_set (λ (s : Seat). holds_turn s turn) x.seats by (own_after x (Look by at)) fresh_seat
     (same turn) inside)
   where
-    same : (turn : Turn) → holds_turn (own_after x (Look by at)) turn ≡ holds_turn (seat_of x by) turn
+    same : (turn : Turn)
+        → holds_turn (own_after x (Look by at)) turn ≡ holds_turn (seat_of x by) turn
     same Sync = sym (is_some_held (own_after x (Look by at)))
         ∙ (ap (λ (o : Option Issue). is_some o) C.issue ∙ is_some_held (seat_of x by))
     same (Flush t) = C.flush t.0

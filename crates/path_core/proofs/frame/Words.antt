@@ -165,11 +165,13 @@ pub left_here : (x : PathState) → IsLawfulPath x → (e : Event) → IsStep x 
 left_here x L (Register by Write g) a =
     ap Operations (count_here x.write.tallies g (one_more (tally_at x.write.tallies g)) a.is_there)
 left_here x L (Register by Append g) a =
-    ap Operations (count_here x.append.tallies g (one_more (tally_at x.append.tallies g)) a.is_there)
+    ap Operations
+    (count_here x.append.tallies g (one_more (tally_at x.append.tallies g)) a.is_there)
 left_here x L (Close by Write g c) a =
     ap Operations (count_here x.write.tallies g (one_less (tally_at x.write.tallies g)) a.is_there)
 left_here x L (Close by Append g c) a =
-    ap Operations (count_here x.append.tallies g (one_less (tally_at x.append.tallies g)) a.is_there)
+    ap Operations
+    (count_here x.append.tallies g (one_less (tally_at x.append.tallies g)) a.is_there)
 left_here x L (Expire by Write g) a =
     ap Operations (count_here x.write.tallies g (expired (tally_at x.write.tallies g)) a.is_there)
 left_here x L (Expire by Append g) a =

@@ -219,7 +219,8 @@ pub span_same : (o t : ℕ) (notes : List EntryNote) (i : ℕ) (d : EntryNote) (
     → IsSpan o t (take (i + 1) notes) span
 span_same o t notes i d span inside spans is =
     subst (λ l. IsSpan o t l span)
-    (sym (take_more notes i d inside)) (left_out o t (take i notes) (get_or notes i d) span spans is)
+    (sym (take_more notes i d inside))
+    (left_out o t (take i notes) (get_or notes i d) span spans is)
 
 -- A file that holds a key holds all from it to the file's end.
 
