@@ -5,6 +5,7 @@ use Rattle.op_core.specs.declared.count.Tally.TheVariants.{Open as OpenTally}
 use Rattle.op_core.specs.Tallies.{one_more, one_less, expired}
 use Rattle.path_core.specs.declared.event.Event.{Event}
 use Rattle.path_core.specs.declared.event.Event.TheVariants.{
+  Look,
   Register,
   Close,
   OpenGroup,
@@ -26,23 +27,29 @@ use Rattle.path_core.specs.declared.state.Bound.TheVariants.{Raising}
 use Rattle.path_core.specs.declared.state.PathState.{PathState}
 use Rattle.path_core.specs.SeatAfter.{raised_to, made_final}
 
--- what stands at the place of the step after it, where this stood
+-- What stands at the place of the step after it, where this stood. A reading of another sort than
+-- its place has stands as it is.
 abbrev pub left_by : Event → Reading → Reading
+left_by (Look by at) found = found
 left_by (Register by order group) (Operations k) = Operations (one_more k)
+left_by (Register by order group) found = found
 left_by (Close by order group carried) (Operations k) = Operations (one_less k)
+left_by (Close by order group carried) found = found
 left_by (OpenGroup by order group) found = Operations (OpenTally 0)
 left_by (MoveCurrent by order group) found = Number group
 left_by (Expire by order group) (Operations k) = Operations (expired k)
+left_by (Expire by order group) found = found
 left_by (Advance by order group) found = Number group
 left_by (Claim by from to what) found = Number to.0
 left_by (Switch by table memtable Open) found = Number memtable
 left_by (Switch by table memtable Mark) found = Limit (Raising (record { 0 = 0 }))
 left_by (Raise by table memtable to) (Limit b) = Limit (raised_to to.0 b)
+left_by (Raise by table memtable to) found = found
 left_by (Finalise by table memtable) (Limit b) = Limit (made_final b)
+left_by (Finalise by table memtable) found = found
 left_by (TakeTurn by turn) found = Number 1
 left_by (GiveTurn by turn) found = Number 0
 left_by (Put by cursor value) found = Number value
-left_by _ found = found
 
 -- Two states are of the same sizes.
 pub record SameSizes (x y : PathState) : Type 0 where
