@@ -5,17 +5,17 @@ use thiserror::Error;
 
 #[derive(Clone, Copy, Debug, Error)]
 pub(crate) enum Fault {
-    #[error("a word is missing")]
+    #[error("the line ends too early")]
     MissingWord,
-    #[error("a word that does not belong here")]
+    #[error("a word that is not known at its place")]
     UnknownWord,
-    #[error("a number is wanted, of at most the greatest that its place takes")]
+    #[error("a word that is no number, or a number that is too large for its place")]
     NoNumber,
     #[error("a table is a number below 16")]
     NoTable,
     #[error("sizes outside their limits")]
     Sizes,
-    #[error("a step before a line that begins with `path`")]
+    #[error("no path: a line that begins with `path` is to come first in each run")]
     NoPath,
     #[error("out of memory")]
     OutOfMemory,

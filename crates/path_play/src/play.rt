@@ -34,7 +34,7 @@ impl Player {
     pub fn play(&mut self, text: &str) -> Result<Outcome, Fault> {
         match line_of(self.alloc, text)? {
             Line::Nothing => Ok(Outcome::Silent),
-            Line::Run => Ok(Outcome::Begun),
+            Line::Run => Ok(self.begin_run()),
             Line::Path(sizes, base) => self.begin(sizes, base),
             Line::Step(event) => self.step(&event),
             Line::State => Ok(Outcome::Shown),
@@ -47,6 +47,12 @@ impl Player {
             Some(path) => Ok(path.state()),
             None => Err(Fault::NoPath),
         }
+    }
+
+    // A run has a path of its own, never that of the run before it.
+    fn begin_run(&mut self) -> Outcome {
+        self.path = None;
+        Outcome::Begun
     }
 
     fn begin(&mut self, sizes: Sizes, base: u64) -> Result<Outcome, Fault> {

@@ -1,0 +1,29 @@
+# Runs of the path's steps as text: a faulty line ends them with its number, and a run has a path of
+# its own.
+. "$top/checks/lib"
+play=$top/crates/path_play/out/path_play
+
+# faulty WHAT TEXT OUT ERR: the text ends with this fault.
+faulty() {
+    printf "$2" >run
+    expect "$1" 1 "$3" "Error: $4" sh -c '"$0" <run' "$play"
+}
+
+if [ -x "$play" ]; then
+    fresh
+    begun='path tables 1 writers 1 capacity 4096 ordinals 1 base 1\n'
+    faulty 'a step before the path' 'run a\nlook 0 log\n' 'run a' 'line 2: no path: *'
+    faulty 'the path of another run' "run a\n${begun}run b\nlook 0 log\n" 'run a
+run b' 'line 4: no path: *'
+    faulty 'an unknown step' "${begun}\n# no step\nlok 0 log\n" '' 'line 4: a word that is not known *'
+    faulty 'a line that ends too early' "${begun}look 0\n" '' 'line 2: the line ends too early'
+    faulty 'a word too many' "${begun}look 0 log 1\n" '' 'line 2: a word that is not known *'
+    faulty 'a seat that is no number' "${begun}look x log\n" '' 'line 2: a word that is no number*'
+    faulty 'sizes outside their limits' 'path tables 0 writers 1 capacity 4096 ordinals 1 base 1\n' '' \
+        'line 1: sizes outside their limits'
+    printf "${begun}look 0 log\nput 0 synced 60\n" >run
+    expect 'steps that are made and refused' 0 'made look 0 log
+refused put 0 synced 60' '' sh -c '"$0" <run' "$play"
+else
+    skipped 'path_play is not built'
+fi
