@@ -36,4 +36,5 @@ apply_line expect 'commitlog may not be written' 6 'error 6: disk fault' \
 chmod 333 commitlog
 apply_line expect 'commitlog may not be read' 6 'error 6: disk fault' \
     'pinsilver: list commitlog: Permission denied' as_user "$program" apply
+chmod 755 commitlog
 that 'nothing is left there' test -z "$(ls commitlog)"
