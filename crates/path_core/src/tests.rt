@@ -1,6 +1,7 @@
-//! A bound on worked cases. Runs of steps are played by `path_play`.
-use crate::{Bound, accepts};
-use clog_base::Key;
+//! A bound on worked cases, and a path that keeps the law. Runs of steps are played by `path_play`.
+use crate::{Bound, Event, LawfulPath, Place, StepFault, Turn, accepts};
+use clog_base::{Key, OutOfMemory, Sizes};
+use std::test::Fail;
 
 #[test]
 fn a_final_bound_takes_what_is_at_or_below_it(rt: HostRuntime) {
@@ -20,4 +21,22 @@ fn a_raising_bound_rises_to_what_it_takes(rt: HostRuntime) {
         accepts(Bound::Raising(Key(92)), Key(60)),
         (true, Bound::Raising(Key(92)))
     );
+}
+
+#[test]
+fn a_lawful_path_makes_what_is_allowed_alone(rt: HostRuntime) -> Result<(), Fail> {
+    let sizes = Sizes::make(1, 1, 4096, 1).ok_or(OutOfMemory)?;
+    let mut path = LawfulPath::new(rt.alloc(), sizes, 1000)?;
+    let look = Event::Look {
+        by: 0,
+        at: Place::Log,
+    };
+    assert!(rt; path.step(&look).is_ok());
+    assert_eq!(rt; path.state().log, 28);
+    let give = Event::GiveTurn {
+        by: 0,
+        turn: Turn::Sync,
+    };
+    assert!(rt; path.step(&give) == Err(StepFault::NotAllowed));
+    Ok(())
 }
