@@ -25,6 +25,7 @@ give . commitlog
 chmod 111 .
 apply_line expect 'it may not be read, and commitlog is there' 0 'applied 1' '' \
     as_user "$program" apply
+chmod 755 .
 that 'the segment is whole' test "$(segment_size)" -eq 60
 
 fresh

@@ -1,6 +1,5 @@
 # What is synced, by the system's calls: a commit is one write and one sync, through one opening.
 . "$top/checks/lib"
-traced() { strace -f -o "$box/trace" -e trace="$1" "$program" apply; }
 
 fresh
 if ! has strace || ! strace -o /dev/null true 2>/dev/null; then
@@ -9,7 +8,6 @@ if ! has strace || ! strace -o /dev/null true 2>/dev/null; then
 fi
 
 calls() { grep -c "$1" "$box/trace"; }
-descriptor() { sed -n "s/.*$1.*= \([0-9]*\)\$/\1/p" "$box/trace" | tail -n 1; }
 
 apply_line expect 'apply, traced' 0 'applied 1' '' \
     strace -o "$box/trace" -y -e trace=open,openat,write,fsync "$program" apply
