@@ -48,13 +48,15 @@ use Rattle.std.proofs.lemmas.Bool.{true≢false}
 use Rattle.std.proofs.lemmas.Grind.{flat_map-append}
 use Rattle.clog_base.specs.declared.cell.Cell.{Cell}
 use Rattle.clog_base.specs.declared.cell.CellKey.{CellKey}
-use Rattle.clog_cells.specs.Merge.{AreInOrder, IsMerge}
-use Rattle.clog_cells.proofs.Merging.{none_yet, of_itself, continues}
+use Rattle.clog_base.specs.declared.position.Position.{Position}
+use Rattle.clog_cells.specs.Merge.{IsMerge}
+use Rattle.clog_cells.proofs.Merging.{of_itself, continues}
 use Rattle.clog_disk.specs.Files.{Files, IsThere}
 use Rattle.clog_table.specs.declared.fault.TableFault.{TableFault}
 use Rattle.clog_table.specs.declared.fault.TableFault.TheVariants.{OutOfMemory as no_memory}
 use Rattle.clog_table.specs.declared.table_file.TableFile.{TableFile}
 use Rattle.clog_engine.specs.declared.standing.Standing.{Standing}
+use Rattle.clog_engine.specs.declared.tables.Addition.{Addition}
 use Rattle.clog_engine.specs.declared.status.Status.{Status}
 use Rattle.clog_engine.specs.declared.status.Status.TheVariants.{
   DiskFault as HasDiskFault,
@@ -79,6 +81,7 @@ use Rattle.clog_engine.proofs.Listed.{place_total, place_equiv, name_of_place}
 use Rattle.clog_engine.specs.Looking.{
   dumped,
   greatest_with,
+  IsAdditionOf,
   IsBadFile,
   Joins,
   AreReadOf,
@@ -92,13 +95,6 @@ Pairs = List (CellKey × Cell)
 
 abbrev Rows : Type 0
 Rows = List (Place × List ℕ)
-
--- ---- one file joins
-
-pub not_dumped : (dump : Bool) (cells others : Pairs) → dump ≡ false → AreInOrder cells
-    → IsMerge (cells ++ dumped dump others) cells
-not_dumped true cells others e sorted = cc
-not_dumped false cells others e sorted = none_yet cells sorted
 
 -- ---- one file after another
 
@@ -173,21 +169,24 @@ told_push (Some held) rows reads place name file so_far good =
 
 -- one file more
 pub read_more : (dump : Bool) (files : Option Files) (rows : Rows) (before : Option ℕ)
-    (old new : Standing) (place : Place) (name : List ℕ) (file : TableFile)
+    (old new : Standing) (place : Place) (name : List ℕ) (file : TableFile) (addition : Addition)
     → HasRead dump files rows before old
     → IfSome files (λ held. IsNameOf place name × IsGoodTable held place name file)
-    → Joins dump old file new → HasRead dump files (rows ++ (place, name) ∷ []) before new
-read_more dump files rows before old new place name file so_far good joins =
+    → IsAdditionOf dump file addition → Joins old addition new
+    → HasRead dump files (rows ++ (place, name) ∷ []) before new
+read_more dump files rows before old new place name file addition so_far good adds joins =
     let read : TableRead = record { sequence = place.1; file = file } in
     record {
       reads = so_far.reads ++ read ∷ [];
       read = told_push files rows so_far.reads place name file so_far.read good;
       merged = subst (λ (l : Pairs). IsMerge l new.cells)
-          (both_dumped dump (cells_of_tables so_far.reads) file.cells
+          (ap (λ (l : Pairs). dumped dump (cells_of_tables so_far.reads) ++ l) adds.cells
+          ∙ both_dumped dump (cells_of_tables so_far.reads) file.cells
           ∙ ap (dumped dump) (cells_push so_far.reads read))
           (continues (dumped dump (cells_of_tables so_far.reads)) old.cells
-          (dumped dump file.cells) new.cells so_far.merged joins.merged);
+          addition.cells new.cells so_far.merged joins.merged);
       greatest = joins.greatest
+          ∙ ap (λ (p : Position). greater old.greatest p.id) adds.upper
           ∙ ap (λ (g : Option ℕ). greater g file.upper.id) so_far.greatest
           ∙ sym (greatest_push before so_far.reads read);
     }

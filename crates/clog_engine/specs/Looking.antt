@@ -39,7 +39,7 @@ use Rattle.clog_disk.specs.declared.disk.DiskFault.TheVariants as fault
 use Rattle.clog_table.specs.declared.fault.TableFault.{TableFault}
 use Rattle.clog_table.specs.declared.fault.TableFault.TheVariants.{OutOfMemory as no_memory}
 use Rattle.clog_table.specs.declared.table_file.TableFile.{TableFile}
-use Rattle.clog_table.specs.Refusals.{Refuses}
+use Rattle.clog_table.specs.Refusals.{IsFileOf, Refuses}
 use Rattle.clog_engine.specs.declared.status.Unbuilt.TheVariants.{Directory}
 use Rattle.clog_engine.specs.declared.status.Status.{Status}
 use Rattle.clog_engine.specs.declared.status.Status.TheVariants.{
@@ -50,6 +50,7 @@ use Rattle.clog_engine.specs.declared.status.Status.TheVariants.{
   NotBuilt,
 }
 use Rattle.clog_engine.specs.declared.standing.Standing.{Standing}
+use Rattle.clog_engine.specs.declared.tables.Addition.{Addition}
 use Rattle.clog_engine.specs.Limits.{sequence_limit, id_limit}
 use Rattle.clog_engine.specs.Listing.{greater}
 use Rattle.clog_crash.specs.Folder.{
@@ -101,6 +102,22 @@ abbrev pub HasFront : Option Files → List ℕ → ℕ → List ℕ → Type 0
 HasFront files name size bytes =
     IfSome files (λ held. IsFront held name size bytes)
 
+-- the cells, where they are asked for
+abbrev pub dumped : Bool → List (CellKey × Cell) → List (CellKey × Cell)
+dumped false cells = []
+dumped true cells = cells
+
+-- What a table file adds: its upper end, and its cells where they are asked for.
+pub record IsAdditionOf (dump : Bool) (file : TableFile) (addition : Addition) : Type 0 where
+  pub upper : addition.upper ≡ file.upper
+  pub cells : addition.cells ≡ dumped dump file.cells
+
+-- what the file that the bytes spell adds, or why they spell none
+abbrev pub GivesAddition : Bool → Table → List ℕ → Result Addition TableFault → Type 0
+GivesAddition dump table bytes (result.Ok addition) =
+    (file : TableFile) × IsFileOf table bytes file × IsAdditionOf dump file addition
+GivesAddition dump table bytes (result.Err fault) = Refuses table bytes fault
+
 -- the file is there, and its bytes are none of the table, for this cause
 pub record IsBadFile (files : Files) (table : Table) (name : List ℕ) (fault : TableFault) : Type 0
   where
@@ -116,29 +133,32 @@ TableRefused files faults now place name (BadTable other fault) =
     × IfSome files (λ held. IsBadFile held place.0 name fault)
 TableRefused files faults now place name other = ⊥
 
--- the file of a place says this, or why it is not read
-abbrev pub ReadsTable : Option Files → ℕ → ℕ → Place → List ℕ → Result TableFile Status → Type 0
-ReadsTable files faults now place name (result.Ok file) =
-    IfSome files (λ held. IsGoodTable held place name file)
-ReadsTable files faults now place name (result.Err status) =
+-- The file of the place, where the files are told, adds this.
+pub record AddsTable (dump : Bool) (files : Option Files) (place : Place) (name : List ℕ)
+    (addition : Addition) : Type 0 where
+  pub file : TableFile
+  pub good : IfSome files (λ held. IsGoodTable held place name file)
+  pub adds : IsAdditionOf dump file addition
+
+-- what the file of a place adds, or why it is not read
+abbrev pub ReadsTable : Bool → Option Files → ℕ → ℕ → Place → List ℕ → Result Addition Status
+    → Type 0
+ReadsTable dump files faults now place name (result.Ok addition) =
+    AddsTable dump files place name addition
+ReadsTable dump files faults now place name (result.Err status) =
     TableRefused files faults now place name status
 
 -- ---- all table files
-
--- the cells, where they are asked for
-abbrev pub dumped : Bool → List (CellKey × Cell) → List (CellKey × Cell)
-dumped false cells = []
-dumped true cells = cells
 
 -- the greatest of an id, which may be none, and of all upper ends
 abbrev pub greatest_with : Option ℕ → List TableRead → Option ℕ
 greatest_with greatest [] = greatest
 greatest_with greatest (read ∷ reads) = greatest_with (greater greatest read.file.upper.id) reads
 
--- One table file joins what stands: its upper end, and its cells where they are asked for.
-pub record Joins (dump : Bool) (old : Standing) (file : TableFile) (new : Standing) : Type 0 where
-  pub merged : IsMerge (old.cells ++ dumped dump file.cells) new.cells
-  pub greatest : new.greatest ≡ greater old.greatest file.upper.id
+-- What a table file adds joins what stands.
+pub record Joins (old : Standing) (addition : Addition) (new : Standing) : Type 0 where
+  pub merged : IsMerge (old.cells ++ addition.cells) new.cells
+  pub greatest : new.greatest ≡ greater old.greatest addition.upper.id
 
 -- the files of these places, in their order, say this
 pub record AreReadOf (files : Files) (rows : List (Place × List ℕ)) (reads : List TableRead) : Type

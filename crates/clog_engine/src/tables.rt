@@ -8,6 +8,7 @@ ghost use Rattle.clog_engine.specs.Listing.{ArePlaces};
 ghost use Rattle.clog_engine.specs.Looking.{
   Keeps,
   GivesWhole,
+  GivesAddition,
   ReadsTable,
   Joins,
   ReadsTables,
@@ -18,9 +19,9 @@ use crate::directory::{TableNames, greater};
 use crate::landing::status_of;
 use crate::standing::Standing;
 use crate::status::Status;
-use clog_base::{Name, OutOfMemory, Table};
+use clog_base::{Name, OutOfMemory, Position, Table};
 use clog_disk::{Disk, DiskFault};
-use clog_table::{CellMap, TableFault, TableFile, decode};
+use clog_table::{CellMap, TableFault, TableFile, check_file, decode};
 use std::alloc::Global;
 
 /// How many bytes are asked for at once.
@@ -51,16 +52,45 @@ fn read_whole<D: Disk>(alloc: Global, disk: &mut D, name: &Name) -> Result<Vec<u
     Ok(bytes)
 }
 
-/// The table file of a place, which is there under its name.
+/// What a table file adds: its upper end, and its cells where a dump asks for them.
+#[derive(Drop)]
+struct Addition {
+    upper: Position,
+    cells: CellMap,
+}
+
+/// What the table file that these bytes spell adds. Without a dump the bytes are checked and no
+/// cell is kept.
+fn addition_of(
+    alloc: Global,
+    bytes: &[u8],
+    table: Table,
+    dump: bool,
+) -> Result<Addition, TableFault>
+    ensures { GivesAddition dump table bytes.now result }
+{
+    if dump {
+        let TableFile { upper, cells, .. } = decode(alloc, bytes, table)?;
+        return Ok(Addition { upper, cells });
+    }
+    let head = check_file(bytes, table)?;
+    Ok(Addition {
+        upper: head.upper,
+        cells: CellMap::new(alloc),
+    })
+}
+
+/// What the table file of a place adds, which is there under its name.
 fn read_table<D: Disk>(
     alloc: Global,
     disk: &mut D,
     place: (Table, u64),
     name: &Name,
-) -> Result<TableFile, Status>
+    dump: bool,
+) -> Result<Addition, Status>
     requires { IsThere (D.files disk.old) name.now }
-    ensures reads { ReadsTable (D.files disk.old) (D.faults disk.old) (D.faults disk.new) place
-        name.now result }
+    ensures reads { ReadsTable dump (D.files disk.old) (D.faults disk.old) (D.faults disk.new)
+        place name.now result }
     ensures keeps { Keeps (D.files disk.old) (D.files disk.new) (D.leaves disk.old)
         (D.leaves disk.new) (D.faults disk.old) (D.faults disk.new) }
     ensures quiet { TellsEach (D.faults disk.old) (D.faults disk.new) result }
@@ -69,24 +99,20 @@ fn read_table<D: Disk>(
         Ok(bytes) => bytes,
         Err(fault) => return Err(status_of(fault)),
     };
-    match decode(alloc, &bytes, place.0) {
-        Ok(file) => Ok(file),
+    match addition_of(alloc, &bytes, place.0, dump) {
+        Ok(addition) => Ok(addition),
         Err(TableFault::OutOfMemory) => Err(Status::OutOfMemory),
         Err(fault) => Err(Status::BadTable(*name, fault)),
     }
 }
 
-/// Adds what a table file says.
-fn join(standing: &mut Standing, file: TableFile, dump: bool) -> Result<(), OutOfMemory>
+/// Takes in what a table file adds.
+fn join(standing: &mut Standing, addition: Addition) -> Result<(), OutOfMemory>
     requires { AreInOrder standing.old.cells }
-    ensures { OnOk result (Joins dump standing.old file standing.new) }
+    ensures { OnOk result (Joins standing.old addition standing.new) }
 {
-    let TableFile { upper, cells, .. } = file;
-    standing.greatest = greater(standing.greatest, upper.id);
-    if dump {
-        return standing.cells.merge(cells);
-    }
-    Ok(())
+    standing.greatest = greater(standing.greatest, addition.upper.id);
+    standing.cells.merge(addition.cells)
 }
 
 /// Reads the table files of these names, of which each is there. The greatest id is that of before
@@ -111,8 +137,8 @@ pub(crate) fn read_tables<D: Disk>(
     };
     for (place, name) in names {
         // A match in place of `?`, since the exit speaks of what was read.
-        match read_table(alloc, disk, place, &name) {
-            Ok(file) => join(&mut standing, file, dump)?,
+        match read_table(alloc, disk, place, &name, dump) {
+            Ok(addition) => join(&mut standing, addition)?,
             Err(status) => return Err(status),
         }
     }

@@ -3,25 +3,23 @@ ghost use Rattle.std.specs.Prelude.{◌≡◌, ◌≤◌, ◌++◌, length, deci
 ghost use Rattle.clog_table.specs.FaultTexts.{fault_text};
 
 use crate::fault::TableFault;
-use clog_base::put;
-use itoa::Buffer;
+use clog_base::TextRow;
 use std::marker::Model;
 
 /// A text of at most 40 bytes, which contracts see as its bytes.
 #[derive(Drop)]
 pub struct FaultText {
-    row: [u8; 40],
-    len: usize,
+    text: TextRow,
 }
 
 impl Model for FaultText {
-    ghost use Rattle.std.specs.Prelude.{List, ℕ, ◌≤◌, take, length};
+    ghost use Rattle.std.specs.Prelude.{List, ℕ, ◌≤◌, length};
 
     ghost Value = { List ℕ };
 
-    ghost view = { λ t. take t.len t.row };
+    ghost view = { λ t. t.text };
 
-    ghost invariant = { λ t. t.len ≤ 40 };
+    ghost invariant = { λ t. length t.text ≤ 40 };
 }
 
 impl FaultText {
@@ -48,7 +46,7 @@ impl FaultText {
         ensures same { result.now ≡ self.now }
         ensures short { length self.now ≤ 40 }
     {
-        &self.row[..self.len]
+        self.text.as_bytes()
     }
 }
 
@@ -56,18 +54,17 @@ fn named(name: &[u8]) -> FaultText
     requires { length name.now ≤ 20 }
     ensures { result ≡ name.now }
 {
-    let mut row = [0u8; 40];
-    let len = put(&mut row, 0, name);
-    FaultText { row, len }
+    let mut text = TextRow::new();
+    text.put(name);
+    FaultText { text }
 }
 
 fn numbered(name: &[u8], number: u64) -> FaultText
     requires { length name.now ≤ 20 }
     ensures { result ≡ name.now ++ decimal number }
 {
-    let mut row = [0u8; 40];
-    let at = put(&mut row, 0, name);
-    let mut buffer = Buffer::new();
-    let len = put(&mut row, at, buffer.format(number).as_bytes());
-    FaultText { row, len }
+    let mut text = TextRow::new();
+    text.put(name);
+    text.put_number(number);
+    FaultText { text }
 }

@@ -37,6 +37,7 @@ pub loop-place-preserved : goal.loop-place-preserved
 loop-place-preserved g c =
     let l = c.loop-place in
     let files = g.D.Disk.files c.args.disk.now in
+    let adds = c.in-Ok.ensures.reads in
     record {
       can_next = tt;
       is_finite = tt;
@@ -49,11 +50,12 @@ loop-place-preserved g c =
       parts = part_more c.args.names.entries l.yielded l.place-iterator c.next.new.self
           (c.in-Some.place, c.in-Some.name) l.invariant.parts c.in-Some.ensures.steps;
       read = read_more c.args.dump files l.yielded c.args.greatest l.standing
-          c.join.new.standing c.in-Some.place c.in-Some.name c.in-Ok.file l.invariant.read
+          c.join.new.standing c.in-Some.place c.in-Some.name adds.file c.in-Ok.addition
+          l.invariant.read
           (read_named files (g.D.Disk.files l.disk) c.args.names.entries l.yielded
-          l.place-iterator c.next.new.self c.in-Some.place c.in-Some.name c.in-Ok.file c.requires
-          l.invariant.keeps.same l.invariant.parts c.in-Some.ensures.steps c.in-Ok.ensures.reads)
-          c.in_ok-join-in-Ok.ensures;
+          l.place-iterator c.next.new.self c.in-Some.place c.in-Some.name adds.file c.requires
+          l.invariant.keeps.same l.invariant.parts c.in-Some.ensures.steps adds.good)
+          adds.adds c.in_ok-join-in-Ok.ensures;
     }
 
 pub returns-in_err-join-in-Ok-clause-keeps : goal.returns-in_err-join-in-Ok-clause-keeps
