@@ -1,5 +1,5 @@
-//! The numbers of the format and its limits, which no other file writes in digits. Lengths are in
-//! bytes. Each is the number of the same name in the definitions of the format.
+//! The numbers of the format and its limits, by name. Lengths are in bytes. Each is the number of
+//! the same name in the definitions of the format.
 ghost use Rattle.std.specs.Prelude.{◌≡◌};
 ghost use Rattle.clog_spec.specs.Sizes.{
   header_size,
@@ -12,6 +12,7 @@ ghost use Rattle.clog_spec.specs.Sizes.{
   most_segments,
   longest_file_name,
   longest_name,
+  most_updates,
   most_tables,
   most_writers,
   file_limit,
@@ -41,6 +42,8 @@ pub const MOST_SEGMENTS: u32 = 2_147_483_647;
 pub const LONGEST_FILE_NAME: usize = 64;
 /// The longest key or column.
 pub const LONGEST_NAME: usize = 255;
+/// How many updates a mutation has at most.
+pub const MOST_UPDATES: usize = 65_535;
 /// Tables are numbered below it.
 pub const MOST_TABLES: u8 = 16;
 /// Writers are numbered below it.
@@ -58,9 +61,11 @@ pub fn format_laws()
     ensures front { FRONT_SIZE ≡ front_size }
     ensures frame { FRAME_SIZE ≡ frame_size }
     ensures payload { LEAST_PAYLOAD ≡ least_payload }
-    ensures capacities { (LEAST_CAPACITY ≡ least_capacity) × (GREATEST_CAPACITY ≡ greatest_capacity) }
+    ensures capacities { (LEAST_CAPACITY ≡ least_capacity)
+        × (GREATEST_CAPACITY ≡ greatest_capacity) }
     ensures segments { MOST_SEGMENTS ≡ most_segments }
     ensures names { (LONGEST_FILE_NAME ≡ longest_file_name) × (LONGEST_NAME ≡ longest_name) }
+    ensures updates { MOST_UPDATES ≡ most_updates }
     ensures numbers { (MOST_TABLES ≡ most_tables) × (MOST_WRITERS ≡ most_writers) }
     ensures limits { (FILE_LIMIT ≡ file_limit) × (LINE_LIMIT ≡ line_limit) }
 {}

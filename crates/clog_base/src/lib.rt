@@ -1,4 +1,5 @@
-//! Positions, keys, sizes, names of files, cells, checks and the faults that several layers hand on.
+//! Positions, keys, sizes, names of files, cells and checks, and the faults that several layers
+//! hand on.
 #![tactic(auto)]
 
 mod cell;
@@ -29,7 +30,7 @@ pub use file_name::{archive_name, segment_name, table_name};
 pub use format::{
     FILE_LIMIT, FRAME_SIZE, FRONT_SIZE, GREATEST_CAPACITY, HEADER_SIZE, LEAST_CAPACITY,
     LEAST_PAYLOAD, LINE_LIMIT, LONGEST_FILE_NAME, LONGEST_NAME, MARKER_SIZE, MOST_SEGMENTS,
-    MOST_TABLES, MOST_WRITERS, format_laws,
+    MOST_TABLES, MOST_UPDATES, MOST_WRITERS, format_laws,
 };
 pub use name::Name;
 pub use parsed_name::{

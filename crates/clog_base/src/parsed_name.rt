@@ -18,7 +18,9 @@ use crate::name_reading::{between, number_of, two_numbers_of};
 /// The version and the id in a segment's name.
 #[derive(Clone, Copy, Debug, PartialEq, Eq)]
 pub struct SegmentName {
+    /// The version of the segment's format.
     pub version: u32,
+    /// The segment's id, below 2^63.
     pub id: u64,
 }
 

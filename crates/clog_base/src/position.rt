@@ -15,12 +15,14 @@ ghost use Rattle.clog_base.specs.Positions.{
 /// A place in a segment: the segment's id, and an offset in bytes. Ordered by id, then by offset.
 #[derive(Clone, Copy, Debug, PartialEq, Eq, PartialOrd, Ord)]
 pub struct Position {
+    /// The segment's id.
     pub id: u64,
+    /// Where it is in the segment, in bytes from its beginning.
     pub offset: u32,
 }
 
-/// A place in the log as one word: `ordinal * 2^31 + offset`, where the segment of an ordinal has the
-/// id `base + ordinal`.
+/// A place in the log as one word: `ordinal * 2^31 + offset`, where the segment of an ordinal has
+/// the id `base + ordinal`.
 #[derive(Clone, Copy, Debug, PartialEq, Eq, PartialOrd, Ord)]
 pub struct Key(pub u64);
 
@@ -65,7 +67,8 @@ impl Key {
 /// one key is below another exactly where its position stands before the other's.
 pub fn position_laws()
     ensures of_key { (base ordinal offset : ℕ) → offset < 2 ^ 31
-        → position_of base (key_of ordinal offset) ≡ record { id = base + ordinal; offset = offset } }
+        → position_of base (key_of ordinal offset)
+        ≡ record { id = base + ordinal; offset = offset } }
     ensures key_again { (base key : ℕ) → key_at base (position_of base key) ≡ key }
     ensures position_again { (base : ℕ) (at : Position) → HasKey base at
         → position_of base (key_at base at) ≡ at }

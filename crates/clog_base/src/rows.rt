@@ -6,6 +6,7 @@ use std::marker::Model;
 /// A list in memory.
 #[derive(Drop)]
 pub struct Rows<T> {
+    /// Its elements, in their order.
     pub items: Vec<T>,
 }
 

@@ -4,13 +4,16 @@ ghost use Rattle.clog_base.specs.Sizes.{IsWithinLimits};
 
 use crate::format::{GREATEST_CAPACITY, LEAST_CAPACITY, MOST_SEGMENTS, MOST_TABLES, MOST_WRITERS};
 
-/// The number of tables (1 to 16) and writers (1 to 64), the capacity of a segment in bytes (4096 to
-/// 33554432), and the number of segments that a path may use (1 to 2147483647).
+/// How many tables and writers a path has, how large its segments are, and how many it may use.
 #[derive(Clone, Copy, Debug, PartialEq, Eq)]
 pub struct Sizes {
+    /// How many tables: 1 to 16.
     pub tables: u8,
+    /// How many writers: 1 to 64.
     pub writers: u8,
+    /// The capacity of a segment in bytes: 4096 to 33554432.
     pub capacity: u32,
+    /// How many segments the path may use: 1 to 2147483647.
     pub ordinals: u32,
     ghost within: { IsWithinLimits tables writers capacity ordinals },
 }

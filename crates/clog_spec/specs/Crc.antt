@@ -2,8 +2,8 @@
 --
 -- A polynomial over the field of two elements is written as a number, the coefficient of its
 -- highest power in the lowest bit. So a string of bytes, the lowest bit of each byte first, is the
--- number whose digits in base 256 are the bytes, the first byte the lowest; adding is `bit_xor`; and
--- multiplying by the polynomial's next lower power is doubling.
+-- number whose digits in base 256 are the bytes, the first byte the lowest; adding is `bit_xor`;
+-- and multiplying by the polynomial's next lower power is doubling.
 use Rattle.std.specs.Prelude.{
   ◌≡◌,
   ℕ,

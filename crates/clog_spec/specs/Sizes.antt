@@ -45,6 +45,10 @@ longest_file_name = 64
 abbrev pub longest_name : ℕ
 longest_name = 255
 
+-- a mutation's updates
+abbrev pub most_updates : ℕ
+most_updates = 65535
+
 -- tables are numbered below it
 abbrev pub most_tables : ℕ
 most_tables = 16

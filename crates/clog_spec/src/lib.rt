@@ -8,8 +8,8 @@ ghost use Rattle.clog_spec.specs.Crc.{IsBytes, IsRemainder, crc32_after, crc32_o
 ghost use Rattle.clog_spec.specs.Segment.{header_bytes, marker_bytes, entry_bytes};
 ghost use Rattle.clog_spec.specs.Sizes.{header_size, marker_size, front_size, frame_size};
 
-/// The check of a string is the complement of a polynomial's remainder, below 2^32, and goes on from
-/// the check of a front. The values are those of `java.util.zip.CRC32`.
+/// The check of a string is the complement of a polynomial's remainder, below 2^32, and goes on
+/// from the check of a front. The values are those of `java.util.zip.CRC32`.
 pub fn crc_laws()
     ensures remainder { (bytes : List ℕ) → IsBytes bytes → IsRemainder bytes (crc32_of bytes) }
     ensures continues { (front bytes : List ℕ) → IsBytes front
@@ -39,5 +39,6 @@ pub fn segment_sizes()
     ensures header { (id : ℕ) → length (header_bytes id) ≡ header_size }
     ensures marker { (id at end : ℕ) → length (marker_bytes id at end) ≡ marker_size }
     ensures front { front_size ≡ header_size + marker_size }
-    ensures entry { (payload : List ℕ) → length (entry_bytes payload) ≡ frame_size + length payload }
+    ensures entry { (payload : List ℕ)
+        → length (entry_bytes payload) ≡ frame_size + length payload }
 {}
