@@ -10,7 +10,7 @@ use Rattle.clog_cells.proofs.Merging.{of_same, unique_of}
 use Rattle.clog_disk.specs.Files.{Files}
 use Rattle.clog_crash.specs.Folder.{TableRead, AreTables, HasSegmentFile, cells_of_tables}
 use Rattle.clog_crash.specs.Restore.{IsLoggedCell, IsRestored, IsUndamaged, Restores}
-use Rattle.clog_crash.proofs.TableFiles.{table_cell_in, in_table_cell}
+use Rattle.clog_crash.proofs.TableFiles.{table_cell_in, in_table_cell, tables_are_good}
 
 pub was_no_segment : (before : Files) (name bytes : List ℕ) (version id : ℕ)
     → ¬ HasSegmentFile before → IsSegmentName name version id
@@ -44,8 +44,7 @@ one_restored files rows others one other = unique_of (Restores files) rows other
 pub undamaged_tables : (before : Files) (reads : List TableRead) → ¬ HasSegmentFile before
     → AreTables before reads → IsUndamaged before
 undamaged_tables before reads none tables = record {
-  reads = reads;
-  tables = tables;
+  tables = tables_are_good before reads tables;
   segments = λ name version id named there.
       absurd (none (name, there, (version, (id, named))));
 }

@@ -43,7 +43,6 @@ use Rattle.clog_crash.specs.Restore.{
   Restores,
 }
 use Rattle.clog_crash.proofs.OneMore.{some_is}
-use Rattle.clog_crash.proofs.TableFiles.{read_of}
 
 -- ---- the ends of an interval
 
@@ -136,5 +135,6 @@ pub table_is_good : (files : Files) (place : Place) (name bytes : List ℕ) → 
     → IsNameOf place name → finmap.get files name ≡ Some bytes
     → (file : TableFile) × IsFileOf place.0 bytes file
 table_is_good files place name bytes undamaged named there =
-    let read = read_of files undamaged.reads place name bytes undamaged.tables named there in
-    (read.0.file, read.3)
+    let good = undamaged.tables place name named (ap is_some there) in
+    let same : good.1.bytes ≡ bytes = some_is good.1.bytes bytes (sym good.1.there ∙ there) in
+    (good.0, subst (λ (b : List ℕ). IsFileOf place.0 b good.0) same good.1.spelled)

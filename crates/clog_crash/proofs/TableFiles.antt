@@ -19,10 +19,12 @@ use Rattle.clog_crash.specs.Folder.{
   IsNameOf,
   IsHeld,
   AreTables,
+  AreGoodTables,
   IsReadFrom,
 }
 use Rattle.clog_crash.specs.Restore.{IsTableCell}
 use Rattle.clog_base.proofs.Members.{from_map, in_flat, from_flat}
+use Rattle.clog_crash.proofs.OneMore.{bytes_of}
 
 -- a good table file is read as one thing
 pub one_table_file : (table : Table) (bytes : List ℕ) (file file' : TableFile)
@@ -60,6 +62,14 @@ read_of files reads place name bytes tables named there =
       read.2,
       subst (λ (b : List ℕ). IsFileOf place.0 b read.0.file) bytes_same spelled,
     )
+
+-- where all table files are told, each is good
+pub tables_are_good : (files : Files) (reads : List TableRead) → AreTables files reads
+    → AreGoodTables files
+tables_are_good files reads tables place name named held =
+    let there = bytes_of (finmap.get files name) held in
+    let read = read_of files reads place name there.0 tables named there.1 in
+    (read.0.file, record { bytes = there.0; there = there.1; spelled = read.3 })
 
 -- what is read from the folder is one of them
 pub known_read : (files : Files) (reads : List TableRead) → AreTables files reads

@@ -97,6 +97,11 @@ pub record AreTables (files : Files) (reads : List TableRead) : Type 0 where
   pub every : (place : Place) (name : List ℕ) → IsNameOf place name → IsHeld files name
       → Contains (map place_of reads) place
 
+-- each file with a table file's name is one of its table
+abbrev pub AreGoodTables : Files → Type 0
+AreGoodTables files = (place : Place) (name : List ℕ) → IsNameOf place name → IsHeld files name
+    → (file : TableFile) × IsGoodTable files place name file
+
 -- the cells of table files, file by file
 abbrev pub cells_in : TableRead → List (CellKey × Cell)
 cells_in read = read.file.cells

@@ -20,7 +20,7 @@ use Rattle.clog_scan.specs.declared.answer.End.{End}
 use Rattle.clog_scan.specs.declared.answer.End.TheVariants.{Clean, Torn}
 use Rattle.clog_scan.specs.Segment.{Entry, IsSegment}
 use Rattle.clog_table.specs.declared.table_file.TableFile.{TableFile}
-use Rattle.clog_crash.specs.Folder.{TableRead, IsReadFrom, AreTables, IsHeld}
+use Rattle.clog_crash.specs.Folder.{TableRead, IsReadFrom, AreGoodTables, IsHeld}
 
 -- ---- the log
 
@@ -31,6 +31,10 @@ pub record HoldsSegment (files : Files) (name : List ℕ) (id : ℕ) (entries : 
   pub bytes : List ℕ
   pub there : finmap.get files name ≡ Some bytes
   pub holds : IsSegment bytes id entries end
+
+-- the position of an entry of the segment of this id: where it ends
+abbrev pub end_position : ℕ → Entry → Position
+end_position id entry = record { id = id; offset = entry.end }
 
 -- the entry is one of the segment of this id
 pub record IsLogged (files : Files) (id : ℕ) (entry : Entry) : Type 0 where
@@ -72,7 +76,7 @@ pub record IsLoggedCell (files : Files) (pair : CellKey × Cell) : Type 0 where
   pub said : IsPayload entry.payload mutation
   pub update : Update
   pub listed : Contains mutation.updates update
-  pub kept : ¬ IsSkipped files update.table (record { id = id; offset = entry.end })
+  pub kept : ¬ IsSkipped files update.table (end_position id entry)
   pub is : pair ≡ pair_of mutation.key update
 
 -- Where no file is damaged this is the restoring up to damage: each payload that is logged is a
@@ -98,19 +102,22 @@ abbrev pub MayEnd : Files → ℕ → End → Type 0
 MayEnd files id (Clean at) = ⊤
 MayEnd files id (Torn at cause) = IsSoft cause × IsLastId files id
 
+-- the payload of each entry is a mutation's
+abbrev pub AreMutations : List Entry → Type 0
+AreMutations entries = (entry : Entry) → Contains entries entry
+    → (mutation : Mutation) × IsPayload entry.payload mutation
+
 -- the segment is there and ends as it may, and each of its payloads is a mutation's
 pub record IsGoodSegment (files : Files) (name : List ℕ) (id : ℕ) : Type 0 where
   pub entries : List Entry
   pub end : End
   pub holds : HoldsSegment files name id entries end
   pub may_end : MayEnd files id end
-  pub payloads : (entry : Entry) → Contains entries entry
-      → (mutation : Mutation) × IsPayload entry.payload mutation
+  pub payloads : AreMutations entries
 
 -- All table files are good, and all segments are of version 6 and good.
 pub record IsUndamaged (files : Files) : Type 0 where
-  pub reads : List TableRead
-  pub tables : AreTables files reads
+  pub tables : AreGoodTables files
   pub segments : (name : List ℕ) (version id : ℕ) → IsSegmentName name version id
       → IsHeld files name → (version ≡ 6) × IsGoodSegment files name id
 

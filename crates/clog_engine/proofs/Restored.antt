@@ -97,7 +97,12 @@ use Rattle.clog_crash.proofs.Folders.{
 use Rattle.clog_base.proofs.Members.{all_have, in_map, from_map, in_flat, from_flat}
 use Rattle.clog_scan.proofs.EntryMembers.{payload_in, entry_in}
 use Rattle.clog_crash.proofs.OneMore.{some_is, new_or_old, stays, is_there, bytes_of}
-use Rattle.clog_crash.proofs.TableFiles.{known_read, table_cell_in, in_table_cell}
+use Rattle.clog_crash.proofs.TableFiles.{
+  known_read,
+  table_cell_in,
+  in_table_cell,
+  tables_are_good,
+}
 use Rattle.clog_cells.proofs.Made.{merge_of}
 use Rattle.clog_engine.proofs.SegmentHeld.{held, segment_is_file}
 
@@ -332,8 +337,7 @@ undamaged_with : (before : Files) (reads : List TableRead) (id : ℕ) (ms : List
 undamaged_with before reads id ms new =
     let after = with_segment before id ms in
     record {
-      reads = reads;
-      tables = tables_stay before reads id ms new.fits new.tables;
+      tables = tables_are_good after reads (tables_stay before reads id ms new.fits new.tables);
       segments = λ name version other named there.
           let bytes = bytes_of (finmap.get after name) there in
           let is = is_new_one before reads id ms new name version other bytes.0 named bytes.1 in (
