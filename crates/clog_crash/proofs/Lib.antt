@@ -4,3 +4,6 @@ pub mod OneMore
 pub mod Payloads
 pub mod TableFiles
 pub mod WorkedRow
+pub mod changes
+pub mod rest
+pub mod torn

@@ -1,4 +1,14 @@
+pub mod Chance
+pub mod Changes
+pub mod Covering
+pub mod Flush
 pub mod Folder
 pub mod Laws
+pub mod Log
+pub mod Readings
+pub mod Rest
 pub mod Restore
+pub mod Sections
+pub mod Showing
+pub mod Tail
 pub mod Worked

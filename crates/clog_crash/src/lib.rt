@@ -4,11 +4,21 @@
 //! and segments).
 #![tactic(auto)]
 
+mod changing;
 mod laws;
+mod tears;
 
+pub use changing::{
+    covered_segments_may_go, entries_add_their_cells, files_restore_what_they_read,
+    merges_by_covering, merges_make_true_files, true_files_may_come,
+};
 pub use laws::{
     a_segment_of_another_version_is_damage, an_interval_skips_the_entry_that_ends_in_it,
     cells_of_table_files_and_of_the_log_count, each_payload_is_that_of_a_mutation,
     each_table_file_is_good, folders_restore_to_one_list, intervals_hold_their_upper_end,
     only_the_last_segment_may_be_torn,
+};
+pub use tears::{
+    cut_segments_have_nothing_by_chance, torn_sections_read_as_a_first_part,
+    untorn_segments_have_nothing_by_chance,
 };
