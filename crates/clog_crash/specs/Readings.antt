@@ -1,5 +1,5 @@
--- What a folder restores to, told by how each name reads: an absent name reads as no bytes. A change
--- of a folder is then a change at one name of its reading.
+-- What a folder restores to, told by how each name reads: an absent name reads as no bytes. A
+-- change of a folder is then a change at one name of its reading.
 use Rattle.std.specs.Prelude.{◌≡◌, ◌⊎◌, ℕ, ◌<◌, ◌^◌, List, Contains}
 use Rattle.clog_spec.specs.Names.{segment_name_of, table_name_of, IsTableName}
 use Rattle.clog_base.specs.declared.cell.Cell.{Cell}

@@ -45,8 +45,9 @@ IsBeyond id old at =
     ((at.id ≡ id) × (last_until header_size old + marker_size < at.offset))
     ⊎ ((id < at.id) × (front_size < at.offset))
 
--- What the files are: the segment of the id holds the old sections and those that are kept. No table
--- file stands for what comes behind the old ones. All else is good, and each other segment is older.
+-- What the files are: the segment of the id holds the old sections and those that are kept. No
+-- table file stands for what comes behind the old ones. All else is good, and each other segment is
+-- older.
 pub record IsInFiles (files : Files) (id : ℕ) (old kept : List Section) : Type 0 where
   pub reads : bytes_at files (segment_name_of 6 id) ≡ segment_bytes id (old ++ kept)
   pub live : (table : Table) (at : Position) → IsBeyond id old at
@@ -70,8 +71,8 @@ abbrev pub Tail : ℕ → List ℕ → Option (List ℕ) → Type 0
 Tail k written None = k ≡ 0
 Tail k written (Some bytes) = Kept k written bytes
 
--- What a crash leaves: the segment's old sections and perhaps torn bytes behind them, and each other
--- name as it is.
+-- What a crash leaves: the segment's old sections and perhaps torn bytes behind them, and each
+-- other name as it is.
 pub record Lasting (files : Files) (leaves : List ℕ → Option (List ℕ) → Type 0) (id : ℕ)
     (old all : List Section) : Type 0 where
   pub others : (name : List ℕ) → (name ≡ segment_name_of 6 id → ⊥) → (left : Option (List ℕ))

@@ -5,6 +5,7 @@
 #![tactic(auto)]
 
 mod changing;
+mod crashes;
 mod laws;
 mod tears;
 
@@ -12,6 +13,7 @@ pub use changing::{
     covered_segments_may_go, entries_add_their_cells, files_restore_what_they_read,
     merges_by_covering, merges_make_true_files, true_files_may_come,
 };
+pub use crashes::{images_show_a_first_part, recovering_keeps_a_folder, shown_stays_shown};
 pub use laws::{
     a_segment_of_another_version_is_damage, an_interval_skips_the_entry_that_ends_in_it,
     cells_of_table_files_and_of_the_log_count, each_payload_is_that_of_a_mutation,

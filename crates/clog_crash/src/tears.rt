@@ -15,8 +15,8 @@ pub fn torn_sections_read_as_a_first_part()
         → ReadsFirst id old new image }
 {}
 
-/// A segment that is not torn has nothing by chance, whatever its payloads hold: the premise asks no
-/// more than it says.
+/// A segment that is not torn has nothing by chance, whatever its payloads hold: the premise asks
+/// no more than it says.
 pub fn untorn_segments_have_nothing_by_chance()
     ensures { (id : ℕ) (sections : List Section) → IsStored id sections
         → NoChance id sections (segment_bytes id sections) }

@@ -15,8 +15,22 @@ use Rattle.clog_scan.specs.Segment.{Entry, IsSegment}
 use Rattle.clog_table.specs.declared.table_file.TableFile.{TableFile}
 use Rattle.clog_table.specs.Refusals.{IsFileOf}
 use Rattle.clog_crash.specs.Folder.{TableRead, IsReadFrom}
-use Rattle.clog_crash.specs.Readings.{IsLoggedIn, IsTableIn, IsSkippedIn, IsLoggedCellIn, RestoresIn}
-use Rattle.clog_crash.specs.Restore.{IsLogged, IsInInterval, IsSkipped, IsLoggedCell, IsRestored, Restores, end_position}
+use Rattle.clog_crash.specs.Readings.{
+  IsLoggedIn,
+  IsTableIn,
+  IsSkippedIn,
+  IsLoggedCellIn,
+  RestoresIn,
+}
+use Rattle.clog_crash.specs.Restore.{
+  IsLogged,
+  IsInInterval,
+  IsSkipped,
+  IsLoggedCell,
+  IsRestored,
+  Restores,
+  end_position,
+}
 use Rattle.clog_crash.proofs.changes.Names.{is_named}
 use Rattle.clog_crash.proofs.changes.Nothing.{
   reads_as,

@@ -1,6 +1,6 @@
 -- Where a segment alone has changed, table files and the other segments are as before.
 use Rattle.std.proofs.Common.{◌≡◌, ℕ, ◌<◌, ◌^◌, List, sym, subst}
-use Rattle.clog_spec.specs.Names.{segment_name_of, table_name_of}
+use Rattle.clog_spec.specs.Names.{segment_name_of, table_name_of, IsTableName}
 use Rattle.clog_base.specs.declared.cell.Cell.{Cell}
 use Rattle.clog_base.specs.declared.cell.CellKey.{CellKey}
 use Rattle.clog_base.specs.declared.cell.Table.{Table}
@@ -22,13 +22,19 @@ use Rattle.clog_crash.proofs.changes.Names.{not_segment, one_id}
 
 module _ (r q : Reading) (id : ℕ) (fits : id < 2 ^ 63)
     (others : DiffersAt (segment_name_of 6 id) r q) where
+  table_reads : (file : TableFile) (sequence : ℕ)
+      → IsTableName (table_name_of file.table.0 sequence) file.table.0 sequence
+      → q (table_name_of file.table.0 sequence) ≡ r (table_name_of file.table.0 sequence)
+  table_reads file sequence named =
+      let name = table_name_of file.table.0 sequence in
+      others name (not_segment id name file.table.0 sequence fits named)
+
   pub table_now : (file : TableFile) → IsTableIn r file → IsTableIn q file
   table_now file t = record {
     sequence = t.sequence;
     named = t.named;
     spelled = subst (λ (b : List ℕ). IsFileOf file.table b file)
-        (sym (others (table_name_of file.table.0 t.sequence)
-        (not_segment id (table_name_of file.table.0 t.sequence) file.table.0 t.sequence fits t.named))) t.spelled;
+        (sym (table_reads file t.sequence t.named)) t.spelled;
   }
 
   pub skipped_now : (table : Table) (at : Position) → IsSkippedIn r table at

@@ -184,5 +184,6 @@ cut_off id (s ∷ ss) xs rest stored is =
           (marker_longer xs rest id at until marked);
       entry = λ at until payload room reached held.
           whole.entry at until payload room (reaches_longer xs rest id at until reached)
-          (entry_longer xs rest id at until payload (until_within xs rest id at until reached) held);
+          (entry_longer xs rest id at until payload (until_within xs rest id at until reached)
+          held);
     }

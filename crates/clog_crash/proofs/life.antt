@@ -1,0 +1,3 @@
+-- A folder over the whole life of what writes to it.
+pub mod Resting
+pub mod Shown

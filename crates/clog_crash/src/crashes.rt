@@ -1,0 +1,56 @@
+//! What a crash leaves of a folder to which a segment is written, and of one that is recovered.
+ghost use Rattle.std.specs.Prelude.{◌≡◌, ◌++◌, ◌∷◌, [], ℕ, List, length};
+ghost use Rattle.std.specs.FinMap as finmap;
+ghost use Rattle.clog_spec.specs.Names.{segment_name_of, table_name_of};
+ghost use Rattle.clog_disk.specs.Files.{Files, bytes_at};
+ghost use Rattle.clog_scan.specs.Cut.{Section};
+ghost use Rattle.clog_table.specs.declared.table_file.TableFile.{TableFile};
+ghost use Rattle.clog_crash.specs.Covering.{Either, SameMerge};
+ghost use Rattle.clog_crash.specs.Flush.{IsCoveredHere, IsNewFile, IsSameFolder};
+ghost use Rattle.clog_crash.specs.Log.{HasShown, Write, logged_in};
+ghost use Rattle.clog_crash.specs.Readings.{IsCellAmong, Reading, RestoresIn};
+ghost use Rattle.clog_crash.specs.Rest.{IsInFiles, Lasting, settled};
+ghost use Rattle.clog_crash.specs.Restore.{IsUndamaged};
+ghost use Rattle.clog_crash.specs.Sections.{IsStored};
+ghost use Rattle.clog_crash.specs.Showing.{Shows};
+
+/// While sections are written behind those that last, each image shows what lasts and the first of
+/// their entries, in the order of the log; and so it does since an opening, with all entries that
+/// have lasted since then.
+pub fn images_show_a_first_part()
+    ensures now { (files image : Files) (id : ℕ) (old kept more : List Section)
+        → IsInFiles files id old kept
+        → Lasting files (λ name left. left ≡ finmap.get image name) id old (old ++ more)
+        → Shows files id old more image }
+    ensures since { (files image : Files) (r : Reading) (past : List Write) (id : ℕ)
+        (old kept more : List Section) → IsInFiles files id old kept
+        → Lasting files (λ name left. left ≡ finmap.get image name) id old (old ++ more)
+        → SameMerge (RestoresIn (settled files id old))
+        (Either (RestoresIn r) (IsCellAmong (logged_in past old)))
+        → HasShown r (length (logged_in past old)) past id (old ++ more) image }
+{}
+
+/// What an image once showed it shows too once more is written: behind in the segment, or in the
+/// next one.
+pub fn shown_stays_shown()
+    ensures behind { (r : Reading) (least : ℕ) (past : List Write) (id : ℕ)
+        (sections more : List Section) (image : Files) → HasShown r least past id sections image
+        → HasShown r least past id (sections ++ more) image }
+    ensures rolled { (r : Reading) (least : ℕ) (past : List Write) (id next : ℕ)
+        (sections : List Section) (image : Files) → IsStored id sections
+        → HasShown r least past id sections image
+        → HasShown r least (past ++ record { id = id; sections = sections } ∷ []) next [] image }
+{}
+
+/// A folder that is not damaged stays so, and restores the same, when a true table file comes; and
+/// when a segment goes for all of whose cells table files stand. The others then stay covered.
+pub fn recovering_keeps_a_folder()
+    ensures comes { (files : Files) (file : TableFile) (sequence : ℕ) (bytes : List ℕ)
+        → IsUndamaged files → IsNewFile files (bytes_at files) file sequence bytes
+        → IsSameFolder files (finmap.insert files (table_name_of file.table.0 sequence) bytes) }
+    ensures goes { (files : Files) (id : ℕ) → IsUndamaged files → IsCoveredHere files id
+        → IsSameFolder files (finmap.remove files (segment_name_of 6 id)) }
+    ensures others { (files : Files) (id other : ℕ) → IsUndamaged files → IsCoveredHere files id
+        → IsCoveredHere files other
+        → IsCoveredHere (finmap.remove files (segment_name_of 6 id)) other }
+{}
