@@ -1,2 +1,5 @@
 pub mod Texts
 pub mod Values
+pub mod Readers
+pub mod Grammar
+pub mod Columns

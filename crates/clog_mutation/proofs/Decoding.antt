@@ -3,6 +3,7 @@ use Rattle.std.proofs.Common.{◌≡◌, ℕ, List, [], ◌∷◌, Result, Ok, E
 use Rattle.std.proofs.Common.{inr}
 use Rattle.std.specs.Prelude.{IfOk, ◌⊎◌}
 use Rattle.std.specs.List.{AllByRecursion}
+use Rattle.clog_spec.specs.Crc.{IsBytes}
 use Rattle.clog_base.specs.declared.cell.Kind.{Kind}
 use Rattle.clog_base.specs.declared.cell.Kind.TheVariants.{Deletion, Live}
 use Rattle.clog_base.specs.declared.fault.PayloadFault.{PayloadFault}
@@ -16,7 +17,6 @@ use Rattle.clog_mutation.specs.Payload.{payload_of}
 use Rattle.clog_mutation.specs.Stored.{IsStoredValue, IsStoredUpdate, IsStored, IsPayload}
 use Rattle.clog_mutation.specs.Refusals.{IsRefused, Decodes}
 use Rattle.clog_mutation.specs.Reading.{Gives, all_of}
-use Rattle.clog_mutation.proofs.Readers.{IsBytes}
 use Rattle.clog_mutation.proofs.Payloads.{all_takes, all_again, all_fails, all_refused}
 
 pub decodes : (bytes : List ℕ) (r : Result Mutation PayloadFault) → IsBytes bytes

@@ -1,5 +1,4 @@
 pub mod Pieces
-pub mod Readers
 pub mod Loop
 pub mod Grammar
 pub mod Payloads

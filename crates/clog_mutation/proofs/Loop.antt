@@ -6,8 +6,9 @@ use Rattle.clog_base.specs.declared.fault.PayloadFault.{PayloadFault}
 use Rattle.clog_base.specs.declared.fault.PayloadFault.TheVariants.{Short, BadTag, Count, NotUtf8}
 use Rattle.clog_base.specs.declared.fault.PayloadFault.TheVariants.{Trailing, NameLength, BadTable}
 use Rattle.clog_base.specs.declared.fault.PayloadFault.TheVariants.{OutOfMemory}
+use Rattle.clog_fields.specs.Reading.{seen, paired}
 use Rattle.clog_mutation.specs.declared.mutation.Update.{Update}
-use Rattle.clog_mutation.specs.Reading.{Fails, seen, paired, in_front, update_at, updates_at}
+use Rattle.clog_mutation.specs.Reading.{Fails, in_front, update_at, updates_at}
 
 abbrev Read : Type 0
 Read = Result (List Update × List ℕ) PayloadFault

@@ -3,76 +3,37 @@
 use Rattle.std.proofs.Common.{◌≡◌, ℕ, zero, suc, ◌<◌, Bool, true, false, cond, eqb, List, [], ◌∷◌}
 use Rattle.std.proofs.Common.{◌++◌, length, Result, Ok, Err, refl, sym, ap, subst, ◌∙◌}
 use Rattle.std.proofs.Common.{append_assoc, arith, inl, inr}
-use Rattle.std.specs.Prelude.{ℤ, pos}
+use Rattle.std.specs.Prelude.{pos}
 use Rattle.std.specs.List.{flat_map, AllByRecursion}
 use Rattle.std.specs.Int.{w16, to_be_bytes}
 use Rattle.std.proofs.lemmas.Bool.{ltb-true, lt-ltb, eqb-true, eqb-false}
 use Rattle.std.proofs.lemmas.List.{append-nil, nil_from_length}
 use Rattle.std.proofs.lemmas.List.Concat.{flat_map-cons}
-use Rattle.clog_base.specs.declared.cell.Kind.{Kind}
+use Rattle.clog_spec.specs.Crc.{IsBytes}
 use Rattle.clog_base.specs.declared.cell.Kind.TheVariants.{Deletion}
 use Rattle.clog_base.specs.declared.fault.PayloadFault.{PayloadFault}
 use Rattle.clog_base.specs.declared.fault.PayloadFault.TheVariants.{Trailing}
+use Rattle.clog_fields.specs.Refusals.{place, Refusing, Either, IsRefusedBehind}
+use Rattle.clog_fields.specs.Refusals.{one_byte, NameIsRefused}
+use Rattle.clog_fields.specs.Reading.{◌>>=◌, mapped, both_of, name_at, ts_at, tagged_at}
+use Rattle.clog_fields.proofs.Readers.{IsReader, refusing, mapped_reader, both_reader}
+use Rattle.clog_fields.proofs.Grammar.{name_reader, tagged_bytes}
+use Rattle.clog_fields.proofs.Columns.{Column, spell_column, good_column, refuses_column}
+use Rattle.clog_fields.proofs.Columns.{column_reader}
 use Rattle.clog_mutation.specs.declared.mutation.Update.{Update}
 use Rattle.clog_mutation.specs.declared.mutation.Mutation.{Mutation}
-use Rattle.clog_mutation.specs.Payload.{short_text, update_bytes, payload_of}
+use Rattle.clog_mutation.specs.Payload.{short_text, timestamp_bytes, update_bytes, payload_of}
 use Rattle.clog_mutation.specs.Stored.{IsNameText, IsStoredUpdate, IsStored, IsPayload}
-use Rattle.clog_mutation.specs.Refusals.{place, Refusing, Either, IsRefusedBehind, IsShort}
-use Rattle.clog_mutation.specs.Payload.{timestamp_bytes}
-use Rattle.clog_mutation.specs.Refusals.{one_byte, IsTable, IsTimestamp, IsCount}
-use Rattle.clog_mutation.specs.Refusals.{TableIsRefused, NameIsRefused, CountIsRefused}
-use Rattle.clog_mutation.specs.Refusals.{CellIsRefused, UpdateIsRefused, UpdatesAreRefused}
-use Rattle.clog_mutation.specs.Refusals.{MutationIsRefused, IsTrailing, IsRefused}
-use Rattle.clog_mutation.specs.Reading.{◌>>=◌, mapped, in_front, both_of, table_at, name_at, ts_at}
-use Rattle.clog_mutation.specs.Reading.{cell_at, count_at, update_of, update_at, updates_at}
-use Rattle.clog_mutation.specs.Reading.{mutation_of, mutation_at, ended, all_of}
-use Rattle.clog_mutation.proofs.Readers.{IsBytes, IsReader, refusing, mapped_reader, both_reader}
-use Rattle.clog_mutation.proofs.Grammar.{table_reader, name_reader, ts_reader, count_reader}
-use Rattle.clog_mutation.proofs.Grammar.{cell_reader, cell_bytes, IsCell}
+use Rattle.clog_mutation.specs.Refusals.{IsTable, IsCount, TableIsRefused, CountIsRefused}
+use Rattle.clog_mutation.specs.Refusals.{UpdateIsRefused, UpdatesAreRefused, MutationIsRefused}
+use Rattle.clog_mutation.specs.Refusals.{IsTrailing, IsRefused}
+use Rattle.clog_mutation.specs.Reading.{in_front, table_at, count_at, update_of, update_at}
+use Rattle.clog_mutation.specs.Reading.{updates_at, mutation_of, mutation_at, ended, all_of}
+use Rattle.clog_mutation.proofs.Grammar.{table_reader, count_reader}
 
 -- ---- an update
-abbrev Cells : Type 0
-Cells = Kind × List ℕ
-
-abbrev spell_ts : ℤ × Cells → List ℕ
-spell_ts x = timestamp_bytes x.0 ++ cell_bytes x.1
-
-abbrev good_ts : ℤ × Cells → Type 0
-good_ts x = IsTimestamp x.0 × IsCell x.1
-
-abbrev refuses_ts : ℕ → Refusing
-refuses_ts end =
-    Either (IsShort end 8) (IsRefusedBehind timestamp_bytes IsTimestamp (λ ts. CellIsRefused end))
-
-from_ts : (end : ℕ)
-    → IsReader (both_of (ts_at end) (λ ts. cell_at end)) spell_ts good_ts (refuses_ts end)
-from_ts end =
-    both_reader (ts_at end) timestamp_bytes IsTimestamp (IsShort end 8)
-    (λ ts. cell_at end) (λ ts. cell_bytes) (λ ts. IsCell) (λ ts. CellIsRefused end) (ts_reader end)
-    (λ ts h. cell_reader end)
-
-abbrev spell_column : List ℕ × (ℤ × Cells) → List ℕ
-spell_column x = short_text x.0 ++ spell_ts x.1
-
-abbrev good_column : List ℕ × (ℤ × Cells) → Type 0
-good_column x = IsNameText x.0 × good_ts x.1
-
-abbrev refuses_column : ℕ → Refusing
-refuses_column end =
-    Either (NameIsRefused end) (IsRefusedBehind short_text IsNameText (λ column. refuses_ts end))
-
-from_column : (end : ℕ)
-    → IsReader (both_of (name_at end)
-    (λ column. both_of (ts_at end) (λ ts. cell_at end))) spell_column good_column
-    (refuses_column end)
-from_column end =
-    both_reader (name_at end) short_text IsNameText (NameIsRefused end)
-    (λ column. both_of (ts_at end) (λ ts. cell_at end)) (λ column. spell_ts) (λ column. good_ts)
-    (λ column. refuses_ts end)
-    (name_reader end) (λ column h. from_ts end)
-
 abbrev Whole : Type 0
-Whole = ℕ × (List ℕ × (ℤ × Cells))
+Whole = ℕ × Column
 
 abbrev spell_table : Whole → List ℕ
 spell_table x = one_byte x.0 ++ spell_column x.1
@@ -82,13 +43,13 @@ good_table x = IsTable x.0 × good_column x.1
 
 from_table : (end : ℕ)
     → IsReader (both_of (table_at end)
-    (λ table. both_of (name_at end) (λ column. both_of (ts_at end) (λ ts. cell_at end))))
+    (λ table. both_of (name_at end) (λ column. both_of (ts_at end) (λ ts. tagged_at end))))
     spell_table good_table (UpdateIsRefused end)
 from_table end =
     both_reader (table_at end) one_byte IsTable (TableIsRefused end)
-    (λ table. both_of (name_at end) (λ column. both_of (ts_at end) (λ ts. cell_at end)))
+    (λ table. both_of (name_at end) (λ column. both_of (ts_at end) (λ ts. tagged_at end)))
     (λ table. spell_column) (λ table. good_column) (λ table. refuses_column end)
-    (table_reader end) (λ table h. from_column end)
+    (table_reader end) (λ table h. column_reader end)
 
 fields_of : Update → Whole
 fields_of u = (u.table.0, (u.column, (u.cell.ts, (u.cell.kind, u.cell.value))))
@@ -98,7 +59,7 @@ regroup a b c d = simp append_assoc
 
 update_spelled : (x : Whole) → good_table x → update_bytes (update_of x) ≡ spell_table x
 update_spelled x h =
-    regroup (one_byte x.0) (short_text x.1.0) (timestamp_bytes x.1.1.0) (cell_bytes x.1.1.1)
+    regroup (one_byte x.0) (short_text x.1.0) (timestamp_bytes x.1.1.0) (tagged_bytes x.1.1.1)
 
 update_good : (x : Whole) → good_table x → IsStoredUpdate (update_of x)
 update_good x h = record {
@@ -118,7 +79,7 @@ unfolding update_at fields_of
 update_reader end =
     mapped_reader
     (both_of (table_at end)
-    (λ table. both_of (name_at end) (λ column. both_of (ts_at end) (λ ts. cell_at end))))
+    (λ table. both_of (name_at end) (λ column. both_of (ts_at end) (λ ts. tagged_at end))))
     spell_table good_table (UpdateIsRefused end) update_of fields_of update_bytes IsStoredUpdate
     (from_table end) update_spelled update_good good_update (λ u h. refl)
 

@@ -1,29 +1,19 @@
 -- Reading a payload from left to right: a reader gives a value and the rest, or the first refusal.
 -- The bytes end `end` bytes, so that offsets are known.
-use Rattle.std.specs.Prelude.{◌≡◌, ℕ, zero, suc, List, [], ◌∷◌, length, take, drop, Bool, nat_lt}
-use Rattle.std.specs.Prelude.{if◌then◌else◌}
-use Rattle.std.specs.Prelude.{Result, Ok, Err, ◌==◌, ℤ, slice_index}
-use Rattle.std.specs.Str.{is_utf8}
-use Rattle.std.specs.Int.{Width, w16, w32, w64, byte_len, from_be_bytes, cast_signed}
+use Rattle.std.specs.Prelude.{◌≡◌, ℕ, ℤ, zero, suc, List, [], ◌∷◌, length, if◌then◌else◌}
+use Rattle.std.specs.Prelude.{Result, Ok, Err, ◌==◌}
+use Rattle.std.specs.Int.{w16}
 use Rattle.clog_base.specs.declared.fault.PayloadFault.{PayloadFault}
 use Rattle.clog_base.specs.declared.fault.PayloadFault.TheVariants.{Short, BadTag, Count, NotUtf8}
 use Rattle.clog_base.specs.declared.fault.PayloadFault.TheVariants.{Trailing, NameLength, BadTable}
 use Rattle.clog_base.specs.declared.fault.PayloadFault.TheVariants.{OutOfMemory}
 use Rattle.clog_base.specs.declared.cell.Kind.{Kind}
-use Rattle.clog_base.specs.declared.cell.Kind.TheVariants.{Deletion, Live}
+use Rattle.clog_fields.specs.Refusals.{place}
+use Rattle.clog_fields.specs.Reading.{◌>>=◌, Reader, mapped, checked, both_of, number_at, byte_at}
+use Rattle.clog_fields.specs.Reading.{name_at, ts_at, tagged_at}
 use Rattle.clog_mutation.specs.declared.mutation.Update.{Update}
 use Rattle.clog_mutation.specs.declared.mutation.Mutation.{Mutation}
-use Rattle.clog_mutation.specs.Refusals.{place, is_name_length, is_count, is_table, is_tag}
-use Rattle.clog_mutation.specs.Refusals.{count_fault}
-
-infixl 10 ◌>>=◌
-abbrev pub ◌>>=◌ : {A B : Type 0} → Result A PayloadFault → (A → Result B PayloadFault)
-    → Result B PayloadFault
-(Ok x) >>= f = f x
-(Err e) >>= f = Err e
-
-abbrev pub Reader : Type 0 → Type 0
-Reader X = List ℕ → Result (X × List ℕ) PayloadFault
+use Rattle.clog_mutation.specs.Refusals.{is_count, is_table, count_fault}
 
 -- what a function returned, seen by view, is what reading gives, unless memory ran out
 abbrev pub Fails : {Y : Type 0} → PayloadFault → Result Y PayloadFault → Type 0
@@ -40,49 +30,7 @@ abbrev pub Gives : {X Y : Type 0} → (X → Y) → Result X PayloadFault → Re
 Gives view (Ok x) read = read ≡ Ok (view x)
 Gives view (Err e) read = Fails e read
 
--- ---- what readers are made of
-
--- n bytes
-abbrev pub field_at : ℕ → ℕ → Reader (List ℕ)
-field_at end n bytes =
-    if nat_lt (length bytes) n then Err (Short (place end bytes))
-    else Ok (take n bytes, drop n bytes)
-
-abbrev pub seen : {X Y : Type 0} → (X → Y) → Result (X × List ℕ) PayloadFault
-    → Result (Y × List ℕ) PayloadFault
-seen f read = read >>= λ x. Ok (f x.0, x.1)
-
-abbrev pub mapped : {X Y : Type 0} → (X → Y) → Reader X → Reader Y
-mapped f read bytes = seen f (read bytes)
-
-abbrev pub checked : {X : Type 0} → ℕ → (X → Bool) → (ℕ → PayloadFault) → Reader X → Reader X
-checked end test fault_at read bytes =
-    read bytes >>= λ x. if test x.0 then Ok x else Err (fault_at (place end bytes))
-
-abbrev pub paired : {X Y : Type 0} → X → Result (Y × List ℕ) PayloadFault
-    → Result ((X × Y) × List ℕ) PayloadFault
-paired x read = read >>= λ y. Ok ((x, y.0), y.1)
-
-abbrev pub then_read : {X Y : Type 0} → (X → Reader Y) → Result (X × List ℕ) PayloadFault
-    → Result ((X × Y) × List ℕ) PayloadFault
-then_read next read = read >>= λ x. paired x.0 (next x.0 x.1)
-
-abbrev pub both_of : {X Y : Type 0} → Reader X → (X → Reader Y) → Reader (X × Y)
-both_of first next bytes = then_read next (first bytes)
-
--- ---- the fields
-
-abbrev pub number_at : Width → ℕ → Reader ℕ
-number_at w end = mapped (from_be_bytes w) (field_at end (byte_len w))
-
-abbrev pub first_byte : List ℕ → ℕ
-first_byte bytes = slice_index bytes 0
-
-abbrev pub byte_at : ℕ → Reader ℕ
-byte_at end = mapped first_byte (field_at end 1)
-
-unfoldable pub length_at : ℕ → Reader ℕ
-length_at end = checked end is_name_length NameLength (number_at w16 end)
+-- ---- the fields of a payload alone
 
 unfoldable pub count_at : ℕ → Reader ℕ
 count_at end = checked end is_count count_fault (number_at w16 end)
@@ -90,39 +38,7 @@ count_at end = checked end is_count count_fault (number_at w16 end)
 unfoldable pub table_at : ℕ → Reader ℕ
 table_at end = checked end is_table BadTable (byte_at end)
 
-unfoldable pub tag_at : ℕ → Reader ℕ
-tag_at end = checked end is_tag BadTag (byte_at end)
-
-unfoldable pub text_at : ℕ → ℕ → Reader (List ℕ)
-text_at end n = checked end is_utf8 NotUtf8 (field_at end n)
-
-unfoldable pub ts_at : ℕ → Reader ℤ
-ts_at end = mapped (cast_signed w64) (number_at w64 end)
-
 -- ---- what they make up
-
-abbrev pub second : {X Y : Type 0} → X × Y → Y
-second x = x.1
-
-unfoldable pub name_at : ℕ → Reader (List ℕ)
-name_at end = mapped second (both_of (length_at end) (text_at end))
-
-unfoldable pub live_at : ℕ → Reader (List ℕ)
-live_at end = mapped second (both_of (number_at w32 end) (text_at end))
-
-abbrev pub value_at : ℕ → ℕ → Reader (List ℕ)
-value_at end zero bytes = Ok ([], bytes)
-value_at end (suc tag) bytes = live_at end bytes
-
-abbrev pub kind_of : ℕ → Kind
-kind_of zero = Deletion
-kind_of (suc tag) = Live
-
-abbrev pub tagged_cell : ℕ × List ℕ → Kind × List ℕ
-tagged_cell x = (kind_of x.0, x.1)
-
-unfoldable pub cell_at : ℕ → Reader (Kind × List ℕ)
-cell_at end = mapped tagged_cell (both_of (tag_at end) (value_at end))
 
 abbrev pub update_of : ℕ × (List ℕ × (ℤ × (Kind × List ℕ))) → Update
 update_of x = record {
@@ -133,7 +49,7 @@ update_of x = record {
 
 unfoldable pub update_at : ℕ → Reader Update
 update_at end = mapped update_of (both_of (table_at end) (λ table.
-    both_of (name_at end) (λ column. both_of (ts_at end) (λ ts. cell_at end))))
+    both_of (name_at end) (λ column. both_of (ts_at end) (λ ts. tagged_at end))))
 
 abbrev pub in_front : Update × List Update → List Update
 in_front x = x.0 ∷ x.1

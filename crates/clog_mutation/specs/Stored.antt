@@ -3,7 +3,7 @@ pub use Rattle.clog_fields.specs.Limits.{IsNameText, IsValueText, IsStoredValue}
 use Rattle.std.specs.Prelude.{◌≡◌, ℕ, List, length, ◌≤◌, ◌<◌, FitsSigned}
 use Rattle.std.specs.Int.{w64}
 use Rattle.std.specs.List.{AllByRecursion}
-use Rattle.clog_spec.specs.Sizes.{most_tables}
+use Rattle.clog_spec.specs.Sizes.{most_tables, most_updates}
 use Rattle.clog_mutation.specs.declared.mutation.Update.{Update}
 use Rattle.clog_mutation.specs.declared.mutation.Mutation.{Mutation}
 use Rattle.clog_mutation.specs.Payload.{payload_of}
@@ -18,7 +18,7 @@ pub record IsStoredUpdate (u : Update) : Type 0 where
 pub record IsStored (m : Mutation) : Type 0 where
   pub key : IsNameText m.key
   pub some : 1 ≤ length m.updates
-  pub few : length m.updates ≤ 65535
+  pub few : length m.updates ≤ most_updates
   pub updates : AllByRecursion IsStoredUpdate m.updates
 
 -- the bytes are the payload of the mutation

@@ -1,5 +1,6 @@
 //! Laws of the payload's grammar. Each is the contract of a function that does nothing.
-ghost use Rattle.std.specs.Prelude.{◌≡◌, ◌<◌, ◌⊎◌, ℕ, List, slice_index};
+ghost use Rattle.std.specs.Prelude.{◌≡◌, ◌⊎◌, ℕ, List};
+ghost use Rattle.clog_spec.specs.Crc.{IsBytes};
 ghost use Rattle.clog_base.specs.declared.fault.PayloadFault.{PayloadFault};
 ghost use Rattle.clog_mutation.specs.declared.mutation.Mutation.{Mutation};
 ghost use Rattle.clog_mutation.specs.Payload.{payload_of};
@@ -18,6 +19,6 @@ pub fn payload_laws()
     ensures never_both { (bytes : List ℕ) (m : Mutation) (fault : PayloadFault)
         → IsPayload bytes m → IsRefused bytes fault → ⊥ }
     // What is no payload is refused.
-    ensures one_of_both { (bytes : List ℕ) → ((i : ℕ) → slice_index bytes i < 256)
+    ensures one_of_both { (bytes : List ℕ) → IsBytes bytes
         → ((m : Mutation) × IsPayload bytes m) ⊎ ((fault : PayloadFault) × IsRefused bytes fault) }
 {}

@@ -1,94 +1,28 @@
 //! Mutations: the cells that one write puts under one key.
-ghost use Rattle.std.specs.Prelude.{◌≡◌};
+use clog_base::{Cell, Rows, Table, Text};
 
-use clog_base::{Cell, Table, Text};
-use std::marker::Model;
-
-/// One cell that a mutation writes.
+/// One cell that a mutation writes (Cassandra's column of a `PartitionUpdate`).
 #[derive(Drop)]
 pub struct Update {
+    /// The table.
     pub table: Table,
+    /// The column's name: 1 to 255 bytes.
     pub column: Text,
+    /// What is written there.
     pub cell: Cell,
 }
 
-/// Updates that contracts see as their list.
-#[derive(Drop)]
-pub struct Updates {
-    items: Vec<Update>,
-}
+/// Updates, in their order.
+pub type Updates = Rows<Update>;
 
-impl Model for Updates {
-    ghost use Rattle.std.specs.Prelude.{List};
-    ghost use Rattle.clog_mutation.specs.declared.mutation.Update.{Update};
-
-    ghost Value = { List Update };
-
-    ghost view = { λ u. u.items.items };
-}
-
-impl Updates {
-    /// These updates, in their order.
-    pub fn new(items: Vec<Update>) -> Updates
-        ensures { result ≡ items.items }
-    {
-        Updates { items }
-    }
-
-    pub fn as_slice(&self) -> &[Update]
-        ensures { result.now ≡ self.now }
-    {
-        self.items.as_slice()
-    }
-
-    /// The vector that they were made from; takes no memory.
-    pub fn into_vec(self) -> Vec<Update>
-        ensures { result.items ≡ self }
-    {
-        self.items
-    }
-}
-
-/// The updates of one key.
+/// The updates of one key (Cassandra's `Mutation`).
 #[derive(Drop)]
 pub struct Mutation {
+    /// The partition's key: 1 to 255 bytes.
     pub key: Text,
+    /// What is written under it, in order: 1 to 65535 updates.
     pub updates: Updates,
 }
 
-/// Mutations that contracts see as their list.
-#[derive(Drop)]
-pub struct Mutations {
-    items: Vec<Mutation>,
-}
-
-impl Model for Mutations {
-    ghost use Rattle.std.specs.Prelude.{List};
-    ghost use Rattle.clog_mutation.specs.declared.mutation.Mutation.{Mutation};
-
-    ghost Value = { List Mutation };
-
-    ghost view = { λ m. m.items.items };
-}
-
-impl Mutations {
-    /// These mutations, in their order.
-    pub fn new(items: Vec<Mutation>) -> Mutations
-        ensures { result ≡ items.items }
-    {
-        Mutations { items }
-    }
-
-    pub fn as_slice(&self) -> &[Mutation]
-        ensures { result.now ≡ self.now }
-    {
-        self.items.as_slice()
-    }
-
-    /// The vector that they were made from; takes no memory.
-    pub fn into_vec(self) -> Vec<Mutation>
-        ensures { result.items ≡ self }
-    {
-        self.items
-    }
-}
+/// Mutations, in their order.
+pub type Mutations = Rows<Mutation>;

@@ -14,8 +14,6 @@ use Rattle.std.proofs.Common.{
   length,
   take,
   drop,
-  Option,
-  Some,
   Result,
   Ok,
   Err,
@@ -36,6 +34,7 @@ use Rattle.std.proofs.lemmas.List.{append-nil}
 use Rattle.clog_base.specs.declared.cell.Cell.{Cell}
 use Rattle.clog_base.specs.declared.cell.CellKey.{CellKey}
 use Rattle.clog_base.specs.declared.cell.Table.{Table}
+use Rattle.clog_base.specs.declared.fault.PayloadFault.{PayloadFault}
 use Rattle.clog_cells.specs.Merge.{AreInOrder}
 use Rattle.clog_table.specs.declared.head.Head.{Head}
 use Rattle.clog_table.specs.declared.table_file.TableFile.{TableFile}
@@ -95,7 +94,7 @@ one_head bytes a b p q =
 
 -- ---- one list of cells
 same_parts : (a b : Fields) (x y : List ℕ)
-    → ◌≡◌ {A = Option (Fields × List ℕ)} (Some (a, x)) (Some (b, y)) → (a ≡ b) × (x ≡ y)
+    → ◌≡◌ {A = Result (Fields × List ℕ) PayloadFault} (Ok (a, x)) (Ok (b, y)) → (a ≡ b) × (x ≡ y)
 same_parts a b x y e =
     let pairs : ◌≡◌ {A = Fields × List ℕ} (a, x) (b, y) = cc in
     (ap (λ (p : Fields × List ℕ). p.0) pairs, ap (λ (p : Fields × List ℕ). p.1) pairs)
@@ -103,8 +102,8 @@ same_parts a b x y e =
 pub one_cell : (table : Table) (a b : CellKey × Cell) (x y : List ℕ) → IsStoredCell table a
     → IsStoredCell table b → cell_bytes a ++ x ≡ cell_bytes b ++ y → (a ≡ b) × (x ≡ y)
 one_cell table a b x y p q e =
-    let both : ◌≡◌ {A = Option (Fields × List ℕ)} (Some (parts a, x)) (Some (parts b, y)) =
-    sym (cell_again table a x p) ∙ ap cell_at e ∙ cell_again table b y q in
+    let both : ◌≡◌ {A = Result (Fields × List ℕ) PayloadFault} (Ok (parts a, x)) (Ok (parts b, y)) =
+    sym (cell_again 0 table a x p) ∙ ap (cell_at 0) e ∙ cell_again 0 table b y q in
     let same = same_parts (parts a) (parts b) x y both in
     (sym (pair_of-parts table a p) ∙ ap (pair_of table) same.0 ∙ pair_of-parts table b q, same.1)
 

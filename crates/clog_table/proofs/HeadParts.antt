@@ -31,6 +31,7 @@ use Rattle.std.proofs.lemmas.Bool.Decides.{nat_tests}
 use Rattle.std.proofs.lemmas.Bool.{eqb-true, ltb-true}
 use Rattle.clog_base.specs.declared.cell.Table.{Table}
 use Rattle.clog_spec.specs.Crc.{IsBytes}
+use Rattle.clog_spec.proofs.Bytes.{drop-IsBytes}
 use Rattle.clog_base.specs.declared.position.Position.{Position}
 use Rattle.clog_table.specs.declared.head.Head.{Head}
 use Rattle.clog_table.specs.Format.{
@@ -49,7 +50,6 @@ use Rattle.clog_table.specs.Limits.{
 }
 use Rattle.clog_table.specs.Heads.{BeginsWithHead, position_at, head_at}
 use Rattle.clog_table.proofs.Numbers.{
-  drop_fits,
   four_spelled,
   eight_spelled,
   four_below,
@@ -86,12 +86,12 @@ position_spelled bs long fits =
     take_parts 8 4 bs
     ∙ ap (λ (l : List ℕ). l ++ take 4 (drop 8 bs)) (eight_spelled bs before fits)
     ∙ ap (λ (l : List ℕ). to_be_bytes w64 (from_be_bytes w64 bs) ++ l)
-    (four_spelled (drop 8 bs) behind (drop_fits 8 bs fits))
+    (four_spelled (drop 8 bs) behind (drop-IsBytes 8 bs fits))
 
 position_stored : (bs : List ℕ) → IsBytes bs → IsStoredPosition (position_at bs)
 position_stored bs fits = record {
   id = eight_below bs fits;
-  offset = four_below (drop 8 bs) (drop_fits 8 bs fits);
+  offset = four_below (drop 8 bs) (drop-IsBytes 8 bs fits);
 }
 
 one_spelled : (bs : List ℕ) → 1 ≤ length bs → take 1 bs ≡ get_or bs 0 0 ∷ []
@@ -125,11 +125,11 @@ front_spelled bs long fits version =
     let t : take 1 (drop 4 bs) ≡ get_or bs 4 0 ∷ [] =
     one_spelled (drop 4 bs) at4 ∙ ap (λ n. n ∷ []) (get_or-drop 4 bs 0 0) in
     let l : take 12 (drop 5 bs) ≡ position_bytes (position_at (drop 5 bs)) =
-    position_spelled (drop 5 bs) at5 (drop_fits 5 bs fits) in
+    position_spelled (drop 5 bs) at5 (drop-IsBytes 5 bs fits) in
     let u : take 12 (drop 17 bs) ≡ position_bytes (position_at (drop 17 bs)) =
-    position_spelled (drop 17 bs) at17 (drop_fits 17 bs fits) in
+    position_spelled (drop 17 bs) at17 (drop-IsBytes 17 bs fits) in
     let n : take 4 (drop 29 bs) ≡ to_be_bytes w32 (from_be_bytes w32 (drop 29 bs)) =
-    four_spelled (drop 29 bs) at29 (drop_fits 29 bs fits) in
+    four_spelled (drop 29 bs) at29 (drop-IsBytes 29 bs fits) in
     front_parts bs ∙ five_same v t l u n
 
 -- the bytes begin with a head
@@ -140,9 +140,9 @@ begins_with bs long fits version check =
     record {
       stored = record {
         table = fits 4;
-        lower = position_stored (drop 5 bs) (drop_fits 5 bs fits);
-        upper = position_stored (drop 17 bs) (drop_fits 17 bs fits);
-        count = four_below (drop 29 bs) (drop_fits 29 bs fits);
+        lower = position_stored (drop 5 bs) (drop-IsBytes 5 bs fits);
+        upper = position_stored (drop 17 bs) (drop-IsBytes 17 bs fits);
+        count = four_below (drop 29 bs) (drop-IsBytes 29 bs fits);
       };
       spelled = take_parts 33 4 bs ∙ ap (λ (l : List ℕ). take 33 bs ++ l) check
           ∙ ap (λ (l : List ℕ). l ++ check_bytes l) front;

@@ -6,7 +6,6 @@ pub mod HeadParts
 pub mod Keys
 pub mod Numbers
 pub mod Pieces
-pub mod Readers
 mod Written
 pub mod OneFault
 pub mod Stops

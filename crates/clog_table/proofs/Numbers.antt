@@ -2,9 +2,6 @@
 use Rattle.std.proofs.Common.{
   ◌≡◌,
   ℕ,
-  zero,
-  suc,
-  ◌+◌,
   ◌<◌,
   ◌≤◌,
   ◌^◌,
@@ -27,22 +24,14 @@ use Rattle.std.proofs.lemmas.Nat.{
   be_bytes_8,
   from_be_bytes-to_be_bytes_4,
 }
-use Rattle.std.proofs.lemmas.List.{get_or-drop, length-take-le}
+use Rattle.std.proofs.lemmas.List.{take-append-drop, length-take-le}
 use Rattle.byteorder.specs.Endian.{big_number}
 use Rattle.clog_spec.specs.Crc.{IsBytes}
+use Rattle.clog_spec.proofs.Bytes.{front-IsBytes}
 
-pub cons_fits : (b : ℕ) (bs : List ℕ) → b < 256 → IsBytes bs → IsBytes (b ∷ bs)
-cons_fits b bs h fits zero = h
-cons_fits b bs h fits (suc i) = fits i
-
-pub take_fits : (n : ℕ) (bs : List ℕ) → IsBytes bs → IsBytes (take n bs)
-take_fits zero bs fits i = omega arith
-take_fits (suc n) [] fits i = omega arith
-take_fits (suc n) (b ∷ bs) fits zero = fits zero
-take_fits (suc n) (b ∷ bs) fits (suc i) = take_fits n bs (λ j. fits (suc j)) i
-
-pub drop_fits : (n : ℕ) (bs : List ℕ) → IsBytes bs → IsBytes (drop n bs)
-drop_fits n bs fits i = subst (λ k. k < 256) (sym (get_or-drop n bs i 0)) (fits (n + i))
+take_fits : (n : ℕ) (bs : List ℕ) → IsBytes bs → IsBytes (take n bs)
+take_fits n bs fits =
+    front-IsBytes (take n bs) (drop n bs) (subst IsBytes (sym (take-append-drop n bs)) fits)
 
 pub four_at : (bs : List ℕ) → 4 ≤ length bs → from_be_bytes w32 bs ≡ from_be_bytes w32 (take 4 bs)
 four_at [] h = absurd (omega arith)

@@ -20,9 +20,9 @@ use Rattle.std.proofs.Common.{
   Bool,
   true,
   false,
-  Option,
-  Some,
-  None,
+  Result,
+  Ok,
+  Err,
   refl,
   sym,
   ap,
@@ -39,10 +39,12 @@ use Rattle.std.proofs.lemmas.Bool.Decides.{Decides-eqb, not_from_Decides}
 use Rattle.std.proofs.lemmas.Slice.Eq.{bytes_eq-Decides}
 use Rattle.std.proofs.lemmas.List.{take_all}
 use Rattle.clog_spec.specs.Crc.{IsBytes}
+use Rattle.clog_spec.proofs.Bytes.{drop-IsBytes}
 use Rattle.clog_base.specs.declared.position.Position.{Position}
 use Rattle.clog_base.specs.declared.cell.Cell.{Cell}
 use Rattle.clog_base.specs.declared.cell.CellKey.{CellKey}
 use Rattle.clog_base.specs.declared.cell.Table.{Table}
+use Rattle.clog_base.specs.declared.fault.PayloadFault.{PayloadFault}
 use Rattle.clog_cells.specs.Merge.{key_cmp}
 use Rattle.clog_table.specs.declared.head.Head.{Head}
 use Rattle.clog_table.specs.declared.table_file.TableFile.{TableFile}
@@ -71,12 +73,12 @@ use Rattle.clog_table.specs.Limits.{IsThisTable, is_this_table, IsUpTo, is_up_to
 use Rattle.clog_table.specs.Reading.{Fields, cell_at}
 use Rattle.clog_table.specs.RawFields.{pair_of}
 use Rattle.clog_table.specs.Heads.{HasHead, head_at, BeginsWithHead}
-use Rattle.clog_table.specs.Cells.{HasCells, BeginsWithNoCell, BeginsWithCell, IsAbove}
+use Rattle.clog_table.specs.Cells.{HasCells, BeginsWithCell, IsAbove}
 use Rattle.clog_table.specs.Refusals.{place, RefusesCells, RefusesEnd, Refuses, IsFileOf}
-use Rattle.clog_table.proofs.Numbers.{four_spelled, four_below, drop_fits}
+use Rattle.clog_table.proofs.Numbers.{four_spelled, four_below}
 use Rattle.clog_table.proofs.HeadParts.{begins_with, this_table, other_table}
 use Rattle.clog_table.proofs.HeadParts.{is_up_to-true, is_up_to-false}
-use Rattle.clog_table.proofs.Grammar.{parts, cell_again, cell_takes}
+use Rattle.clog_table.proofs.Grammar.{no_cell, cell_takes}
 use Rattle.clog_table.proofs.Keys.{Pairs, order_goes_on, last_is_above}
 use Rattle.clog_table.proofs.Front.{no_cells, one_more, length_push, refused_here}
 use Rattle.clog_table.proofs.Ending.{text_is, end_refused, is_file, refused_in_cells}
@@ -90,9 +92,6 @@ Verdict table bytes = ((file : TableFile) × IsFileOf table bytes file)
 decided : {P : Type 0} (r : Bool) → Decides r P → P ⊎ (¬ P)
 decided true d = inl (d.0 refl)
 decided false d = inr (not_from_Decides false d refl)
-
-none_is_some : {A : Type 0} (x : A) → None ≡ Some x → ⊥
-none_is_some x e = cc
 
 known_cell : (at : ℕ) → NoCell at ≢ OutOfMemory
 known_cell at e = cc
@@ -253,18 +252,17 @@ module _ (table : Table) (bytes : List ℕ) (head : Head) (has : HasHead table b
       → HasCells head.table head.count (behind_head bytes) more behind
       → IsBytes behind
       → length more + n ≡ head.count → Verdict table bytes)
-      → (found : Option (Fields × List ℕ)) → cell_at rest ≡ found → Verdict table bytes
-  by_cell n cells rest front fits count again None e =
+      → (found : Result (Fields × List ℕ) PayloadFault) → cell_at (length rest) rest ≡ found
+      → Verdict table bytes
+  by_cell n cells rest front fits count again (Err fault) e =
       let wanted : length cells < head.count = omega (arith, count) in
-      let none : BeginsWithNoCell head.table rest = λ pair behind stored spelled.
-      none_is_some (parts pair, behind)
-      (sym e ∙ ap cell_at spelled ∙ cell_again head.table pair behind stored) in
+      let none = no_cell (length rest) head.table rest fault e in
       refused (NoCell (place bytes rest)) (known_cell (place bytes rest))
       (refused_here bytes head.table head.count (behind_head bytes) cells rest
       (NoCell (place bytes rest)) front wanted (refl, none))
-  by_cell n cells rest front fits count again (Some x) e =
+  by_cell n cells rest front fits count again (Ok x) e =
       let wanted : length cells < head.count = omega (arith, count) in
-      let t = cell_takes head.table rest x.1 x.0 fits e in
+      let t = cell_takes (length rest) head.table rest x.1 x.0 fits e in
       let pair = pair_of head.table x.0 in
       let found : BeginsWithCell head.table rest pair x.1 =
       record { stored = t.1; spelled = t.0 } in
@@ -299,7 +297,8 @@ module _ (table : Table) (bytes : List ℕ) (head : Head) (has : HasHead table b
       → IsBytes rest → length cells + n ≡ head.count → Verdict table bytes
   all_cells zero cells rest front fits count = at_end cells rest front (omega (arith, count))
   all_cells (suc n) cells rest front fits count =
-      by_cell n cells rest front fits count (all_cells n) (cell_at rest) refl
+      by_cell n cells rest front fits count (all_cells n)
+      (cell_at (length rest) rest) refl
 
 pub one_of_both : (table : Table) (bytes : List ℕ) → IsBytes bytes → Verdict table bytes
 one_of_both table bytes fits = elim (by_head table bytes fits) [
@@ -307,5 +306,5 @@ one_of_both table bytes fits = elim (by_head table bytes fits) [
   | inr h ↦
       all_cells table bytes h.0 h.1 h.0.count [] (behind_head bytes)
       (no_cells h.0.table h.0.count (behind_head bytes))
-      (drop_fits head_size bytes fits) (omega arith)
+      (drop-IsBytes head_size bytes fits) (omega arith)
 ]

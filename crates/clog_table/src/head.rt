@@ -7,7 +7,7 @@ ghost use Rattle.clog_table.specs.Limits.{is_up_to, is_this_table};
 use crate::check::is_check_of;
 use crate::fault::TableFault;
 use byteorder::{BigEndian, ByteOrder};
-use clog_base::{Position, Table};
+use clog_base::{MOST_TABLES, Position, Table};
 
 /// The length of a head.
 pub(crate) const HEAD_SIZE: usize = 37;
@@ -16,9 +16,13 @@ pub(crate) const HEAD_SIZE: usize = 37;
 /// below `upper`.
 #[derive(Clone, Copy)]
 pub struct Head {
+    /// The table that all cells of the file are of.
     pub table: Table,
+    /// The end of the interval that is not in it.
     pub lower: Position,
+    /// The end of the interval that is in it.
     pub upper: Position,
+    /// How many cells stand behind the head.
     pub count: u32,
 }
 
@@ -44,7 +48,7 @@ fn head_at(bytes: &[u8]) -> Head
     }
 }
 
-// Whether the check of the head is right.
+/// Whether the check of the head is right.
 fn is_checked(bytes: &[u8]) -> bool
     requires { head_size ≤ length bytes.now }
     ensures { IsTrue result ↔ (take 4 (drop 33 bytes.now) ≡ check_bytes (take 33 bytes.now)) }
@@ -63,7 +67,7 @@ fn is_up_to(lower: Position, upper: Position) -> bool
 fn is_this_table(found: Table, table: Table) -> bool
     ensures { result ≡ is_this_table found table }
 {
-    found.0 < 16 && found == table
+    found.0 < MOST_TABLES && found == table
 }
 
 /// The head of a file of this table.

@@ -7,6 +7,7 @@ use Rattle.serde_json.specs.Data.{Data, null, boolean, number, string, array, ob
 use Rattle.serde_json.specs.Find.{as_object}
 use Rattle.serde_json.specs.View.{members_view, items_view}
 use Rattle.serde_json.specs.declared.value.Value.{Value}
+use Rattle.clog_spec.specs.Sizes.{most_updates}
 use Rattle.clog_text.specs.declared.refusal.Part.TheVariants.{Updates}
 use Rattle.clog_text.specs.declared.refusal.BadLine.TheVariants.{Range}
 use Rattle.std.proofs.lemmas.Bool.Decides.{nat_tests}
@@ -31,10 +32,10 @@ pub items_len-items_view : (vs : List Value) → items_len (items_view vs) ≡ l
 items_len-items_view [] = refl
 items_len-items_view (v ∷ vs) = omega (arith, items_len-items_view vs)
 
-pub counted_some : (vs : List Value) → 1 ≤ length vs → length vs ≤ 65535
+pub counted_some : (vs : List Value) → 1 ≤ length vs → length vs ≤ most_updates
     → counted (items_view vs) ≡ updates_of (items_view vs)
 counted_some vs l h = let e = items_len-items_view vs in grind (arith, nat_tests)
 
-pub counted_many : (vs : List Value) → 65535 < length vs
+pub counted_many : (vs : List Value) → most_updates < length vs
     → counted (items_view vs) ≡ Err (Range Updates)
 counted_many vs h = let e = items_len-items_view vs in grind (arith, nat_tests)

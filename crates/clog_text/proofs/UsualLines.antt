@@ -11,7 +11,7 @@ use Rattle.serde_json.specs.Data as datum
 use Rattle.serde_json.specs.Data.{Data, Num, unsigned}
 use Rattle.serde_json.specs.Find.{as_i64}
 use Rattle.serde_json.specs.Read.{number_of, of_json, of_items, read}
-use Rattle.clog_spec.specs.Sizes.{longest_name, most_tables}
+use Rattle.clog_spec.specs.Sizes.{longest_name, most_tables, most_updates}
 use Rattle.clog_base.specs.declared.cell.Table.{Table}
 use Rattle.clog_mutation.specs.declared.mutation.Update.{Update}
 use Rattle.clog_text.specs.declared.refusal.Part.{Part}
@@ -152,7 +152,7 @@ all_said (u ∷ us) (x ∷ xs) all =
     )
 
 counted_said : (ds : datum.Items) (xs : List Update) → updates_of ds ≡ Ok xs
-    → items_len ds ≡ length xs → 1 ≤ length xs → length xs ≤ 65535 → counted ds ≡ Ok xs
+    → items_len ds ≡ length xs → 1 ≤ length xs → length xs ≤ most_updates → counted ds ≡ Ok xs
 counted_said ds xs is count some few = grind (arith, nat_tests)
 
 abbrev line_data : List ℕ → datum.Items → Data
@@ -162,7 +162,7 @@ line_data key ds =
 
 pub line_said : (bytes key : List ℕ) (us : List Spelled) (xs : List Update)
     → is_text bytes ≡ true → tokens bytes ≡ line_tokens key us → AllSay us xs
-    → 1 ≤ length key → length key ≤ longest_name → 1 ≤ length xs → length xs ≤ 65535
+    → 1 ≤ length key → length key ≤ longest_name → 1 ≤ length xs → length xs ≤ most_updates
     → line_mutation bytes ≡ Ok (record { key = key; updates = xs })
 unfolding line_mutation value_of mutation_of list_of
 line_said bytes key us xs text is all some short filled few =

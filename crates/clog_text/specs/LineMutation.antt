@@ -8,7 +8,7 @@ use Rattle.serde_json.specs.Data.{Data, null, boolean, number, string, array, ob
 use Rattle.serde_json.specs.Data.{no_items, item, Members, no_members, member}
 use Rattle.serde_json.specs.Read.{read}
 use Rattle.serde_json.specs.Find.{get, as_number, as_str, as_u64, as_i64, as_array}
-use Rattle.clog_spec.specs.Sizes.{longest_name, most_tables}
+use Rattle.clog_spec.specs.Sizes.{longest_name, most_tables, most_updates}
 use Rattle.clog_base.specs.declared.cell.Table.{Table}
 use Rattle.clog_base.specs.declared.cell.Kind.TheVariants.{Deletion, Live}
 use Rattle.clog_base.specs.declared.cell.Cell.{Cell}
@@ -111,7 +111,7 @@ items_len (item d ds) = items_len ds + 1
 abbrev pub counted : Items → Result (List Update) BadLine
 counted items =
     if items_len items == 0 then Err NoUpdates
-    else (if nat_lt 65535 (items_len items) then Err (Range Updates) else updates_of items)
+    else (if nat_lt most_updates (items_len items) then Err (Range Updates) else updates_of items)
 
 unfoldable pub list_of : Data → Result (List Update) BadLine
 list_of d = or_refuse (Field Updates) (as_array d) >>= counted

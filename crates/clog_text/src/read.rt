@@ -2,7 +2,7 @@
 ghost use Rattle.std.specs.Prelude.{◌≡◌, ◌<◌, ◌≤◌, false, true, length, IfOk, MatchOption};
 ghost use Rattle.std.specs.List.{AllByRecursion};
 ghost use Rattle.serde_json.specs.View.{view, items_view};
-ghost use Rattle.clog_spec.specs.Sizes.{longest_name, most_tables};
+ghost use Rattle.clog_spec.specs.Sizes.{longest_name, most_tables, most_updates};
 ghost use Rattle.clog_mutation.specs.Limits.{IsValueOf, UpdateIsWithinLimits, IsWithinLimits};
 ghost use Rattle.clog_text.specs.Refusals.{Gives, GivesAs};
 ghost use Rattle.clog_text.specs.LineMutation.{name_of, table_of, ts_of, cell_of, has_members};
@@ -10,7 +10,7 @@ ghost use Rattle.clog_text.specs.LineMutation.{field, update_of, updates_of, cou
 ghost use Rattle.clog_text.specs.LineMutation.{mutation_of, is_text, value_of, line_mutation};
 
 use crate::refusal::{BadLine, Part};
-use clog_base::{Cell, Kind, LONGEST_NAME, MOST_TABLES, Table, Text};
+use clog_base::{Cell, Kind, LONGEST_NAME, MOST_TABLES, MOST_UPDATES, Table, Text};
 use clog_mutation::{Mutation, Update, Updates};
 use serde_json::Value;
 use std::alloc::Global;
@@ -133,11 +133,11 @@ fn counted(alloc: Global, items: &[Value]) -> Result<Updates, BadLine>
     ensures within { IfOk result (AllByRecursion UpdateIsWithinLimits) }
     ensures count { IfOk result (λ us. length us ≡ length items.now) }
     ensures some { IfOk result (λ us. 1 ≤ length us) }
-    ensures few { IfOk result (λ us. length us ≤ 65535) }
+    ensures few { IfOk result (λ us. length us ≤ most_updates) }
 {
     match items.len() {
         0 => Err(BadLine::NoUpdates),
-        1..=65535 => match updates_of(alloc, items) {
+        1..=MOST_UPDATES => match updates_of(alloc, items) {
             Ok(updates) => Ok(Updates::new(updates)),
             Err(e) => Err(e),
         },
@@ -150,7 +150,7 @@ fn list_of(alloc: Global, value: &Value) -> Result<Updates, BadLine>
     ensures updates { Gives result (list_of (view value.now)) }
     ensures within { IfOk result (AllByRecursion UpdateIsWithinLimits) }
     ensures some { IfOk result (λ us. 1 ≤ length us) }
-    ensures few { IfOk result (λ us. length us ≤ 65535) }
+    ensures few { IfOk result (λ us. length us ≤ most_updates) }
 {
     let Some(items) = value.as_array() else {
         return Err(BadLine::Field(Part::Updates));

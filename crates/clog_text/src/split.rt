@@ -4,57 +4,17 @@ ghost use Rattle.std.specs.Prelude.{◌≡◌, ◌+◌, ◌<◌, ℕ, List, ◌�
 ghost use Rattle.clog_text.specs.FileLines.{lines_of, line_limit, piece_of, AreLines};
 ghost use Rattle.clog_text.specs.FileLines.{IsRangeWithin, Splits};
 
+use clog_base::Rows;
 use memchr::memchr;
-use std::alloc::{AllocFailed, Global};
-use std::marker::Model;
+use std::alloc::Global;
 use thiserror::Error;
 
 // The greatest number of lines, as a length.
 const LINE_LIMIT: usize = clog_base::LINE_LIMIT as usize;
 
-/// The ranges of a file's lines in its bytes, half open, without the newline.
-#[derive(Drop)]
-pub struct Lines {
-    ranges: Vec<(usize, usize)>,
-}
-
-impl Model for Lines {
-    ghost use Rattle.std.specs.Prelude.{List, ℕ};
-
-    ghost Value = { List (ℕ × ℕ) };
-
-    ghost view = { λ lines. lines.ranges.items };
-}
-
-impl Lines {
-    /// These ranges, in their order.
-    pub fn new(ranges: Vec<(usize, usize)>) -> Lines
-        ensures { result ≡ ranges.items }
-    {
-        Lines { ranges }
-    }
-
-    /// The vector that they were made from; takes no memory.
-    pub fn into_vec(self) -> Vec<(usize, usize)>
-        ensures { result.items ≡ self }
-    {
-        self.ranges
-    }
-
-    /// The start and the end of each line, in the order of the file.
-    pub fn as_slice(&self) -> &[(usize, usize)]
-        ensures { result.now ≡ self.now }
-    {
-        self.ranges.as_slice()
-    }
-
-    /// How many lines there are.
-    pub fn len(&self) -> usize
-        ensures { result ≡ length self.now }
-    {
-        self.ranges.len()
-    }
-}
+/// The ranges of a file's lines in its bytes, in the order of the file: the start and the end of
+/// each, half open, without the newline.
+pub type Lines = Rows<(usize, usize)>;
 
 /// Why a file was not split.
 #[derive(Debug, Drop, Error)]
@@ -94,7 +54,7 @@ pub fn split_file(alloc: Global, bytes: &[u8]) -> Result<Lines, SplitFault>
         }
         start = end + 1;
     }
-    Ok(Lines { ranges })
+    Ok(Lines::new(ranges))
 }
 
 // Where the line that starts there ends.

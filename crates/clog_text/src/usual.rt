@@ -4,6 +4,7 @@
 ghost use Rattle.std.specs.Prelude.{◌≡◌, ◌≤◌, ◌∷◌, ℕ, List, Option, Ok, length, IfSome, IfOk};
 ghost use Rattle.std.specs.List.{AllByRecursion};
 ghost use Rattle.json.specs.Token.{end_array};
+ghost use Rattle.clog_spec.specs.Sizes.{most_updates};
 ghost use Rattle.clog_mutation.specs.Limits.{IsValueOf, UpdateIsWithinLimits, IsWithinLimits};
 ghost use Rattle.clog_text.specs.LineMutation.{cell_of, line_mutation};
 ghost use Rattle.clog_text.specs.Refusals.{Gives};
@@ -15,7 +16,7 @@ use crate::refusal::BadLine;
 use crate::tokens::{
     begin_array, begin_object, end_object, name, name_text, read_table, timestamp,
 };
-use clog_base::{Cell, Kind, Text};
+use clog_base::{Cell, Kind, MOST_UPDATES, Text};
 use clog_mutation::{Mutation, Update, Updates};
 use json::{Reader, Scratch, Token};
 use std::alloc::Global;
@@ -70,13 +71,13 @@ fn updates(alloc: Global, reader: &mut Reader<'_>) -> Option<Updates>
         × (reader.old ≡ updates_tokens us (end_array ∷ reader.new)) × AllSay us xs) }
     ensures within { IfSome result (AllByRecursion UpdateIsWithinLimits) }
     ensures some { IfSome result (λ xs. 1 ≤ length xs) }
-    ensures few { IfSome result (λ xs. length xs ≤ 65535) }
+    ensures few { IfSome result (λ xs. length xs ≤ most_updates) }
 {
     // Most lines have one update, and a vector that grows by itself begins with room for four.
     let Ok(mut updates) = Vec::with_capacity(alloc, 1) else {
         return None;
     };
-    'updates: while updates.len() < 65_535 {
+    'updates: while updates.len() < MOST_UPDATES {
         match reader.next() {
             Some(Token::BeginObject) => match updates.push(update(alloc, reader)?) {
                 Ok(()) => {}

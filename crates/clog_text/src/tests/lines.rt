@@ -149,8 +149,11 @@ fn each_refusal_of_a_field_comes_by_its_row(rt: HostRuntime) -> Result<(), Fail>
 #[test]
 fn a_line_in_any_spelling_is_its_mutation(rt: HostRuntime) {
     for line in [
-        "{\"key\":\"k\",\"updates\":[{\"table\":15,\"column\":\"é\",\"ts\":-5,\"value\":\"v\\n\"}]}",
-        " {\"updates\":0,\"updates\":[{\"value\":\"v\\u000a\",\"ts\":0.5,\"column\":\"\\u00e9\",\r\"ts\":-5,\"table\":15 }],\"key\":\"\\u006b\"}\t",
+        "{\"key\":\"k\",\"updates\":[\
+{\"table\":15,\"column\":\"é\",\"ts\":-5,\"value\":\"v\\n\"}]}",
+        " {\"updates\":0,\"updates\":[\
+{\"value\":\"v\\u000a\",\"ts\":0.5,\"column\":\"\\u00e9\",\
+\r\"ts\":-5,\"table\":15 }],\"key\":\"\\u006b\"}\t",
     ] {
         match read_line(rt.alloc(), line.as_bytes()) {
             Ok(mutation) => {

@@ -1,24 +1,20 @@
-use Rattle.std.proofs.Common.{◌≡◌, refl, sym, ap, ◌∙◌, Some, None, arith}
-use Rattle.clog_table.specs.Reading.{cell_at}
+use Rattle.std.proofs.Common.{length, refl, arith}
 use Rattle.clog_table.specs.RawFields.{fields_of, pair_of}
 use Rattle.clog_table.specs.LastCell.{last_of}
 use Rattle.clog_table.proofs.AboveLast.{goes_on, stops}
-use Rattle.clog_table.proofs.Grammar.{parts, cell_again, cell_takes}
+use Rattle.clog_table.proofs.Grammar.{no_cell, cell_takes}
 use Rattle.clog_table.proofs.checking.next_cell.Goals as goal
 
 pub returns-in_default-clause-exact : goal.returns-in_default-clause-exact
 returns-in_default-clause-exact c = λ table cells ordered ends. (
   refl,
-  λ pair behind h e.
-      let clash : None ≡ Some (parts pair, behind) =
-      sym c.in_default.ensures ∙ ap cell_at e ∙ cell_again table pair behind h in
-      cc,
+  no_cell (length c.args.bytes.now) table c.args.bytes.now _ c.in_default.ensures,
 )
 
 pub returns-then-not-stands_above-clause-exact : goal.returns-then-not-stands_above-clause-exact
 returns-then-not-stands_above-clause-exact c = λ table cells ordered ends.
     let fields = fields_of c.in-Ok.cell in
-    let t = cell_takes table c.args.bytes.now c.in-Ok.rest.now fields
+    let t = cell_takes (length c.args.bytes.now) table c.args.bytes.now c.in-Ok.rest.now fields
     (λ i. omega (arith, c.type_inv.bytes i)) c.in-Ok.ensures in (
       refl,
       record {
@@ -35,7 +31,7 @@ returns-then-not-stands_above-clause-exact c = λ table cells ordered ends.
 pub returns-clause-exact : goal.returns-clause-exact
 returns-clause-exact c = λ table cells ordered ends.
     let fields = fields_of c.in-Ok.cell in
-    let t = cell_takes table c.args.bytes.now c.in-Ok.rest.now fields
+    let t = cell_takes (length c.args.bytes.now) table c.args.bytes.now c.in-Ok.rest.now fields
     (λ i. omega (arith, c.type_inv.bytes i)) c.in-Ok.ensures in
     record {
       next = pair_of table fields;

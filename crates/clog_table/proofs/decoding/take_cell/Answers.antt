@@ -1,29 +1,25 @@
-use Rattle.std.proofs.Common.{◌≡◌, refl, sym, ap, subst, ◌∙◌, Some, None, arith}
+use Rattle.std.proofs.Common.{◌≡◌, length, refl, sym, subst, arith}
 use Rattle.clog_base.specs.declared.cell.Cell.{Cell}
 use Rattle.clog_base.specs.declared.cell.CellKey.{CellKey}
 use Rattle.clog_cells.specs.Merge.{AreInOrder}
-use Rattle.clog_table.specs.Reading.{cell_at}
 use Rattle.clog_table.specs.RawFields.{fields_of, key_of, cell_of, pair_of}
 use Rattle.clog_table.specs.Cells.{IsAbove, BeginsWithCell}
-use Rattle.clog_table.proofs.Grammar.{parts, cell_again, cell_takes}
+use Rattle.clog_table.proofs.Grammar.{no_cell, cell_takes}
 use Rattle.clog_table.proofs.Keys.{Pairs, order_goes_on, last_is_above}
 use Rattle.clog_table.proofs.decoding.take_cell.Goals as goal
 
 pub returns-in_default : goal.returns-in_default
 returns-in_default c = (
   refl,
-  λ pair behind h e.
-      let clash : None ≡ Some (parts pair, behind) =
-      sym c.in_default.ensures ∙ ap cell_at e ∙ cell_again c.args.table pair behind h in
-      cc,
+  no_cell (length c.args.bytes.now) c.args.table c.args.bytes.now _ c.in_default.ensures,
 )
 
 pub returns-then-not-is_above : goal.returns-then-not-is_above
 returns-then-not-is_above c =
     let old = c.args.cells.now in
     let fields = fields_of c.in-Ok.raw in
-    let t = cell_takes c.args.table c.args.bytes.now c.in-Ok.rest.now fields
-    (λ i. omega (arith, c.type_inv.bytes i)) c.in-Ok.ensures in (
+    let t = cell_takes (length c.args.bytes.now) c.args.table c.args.bytes.now
+    c.in-Ok.rest.now fields (λ i. omega (arith, c.type_inv.bytes i)) c.in-Ok.ensures in (
       refl,
       record {
         next = pair_of c.args.table fields;
@@ -48,8 +44,8 @@ push-requires c =
 pub returns : goal.returns
 returns c =
     let fields = fields_of c.in-Ok.raw in
-    let t = cell_takes c.args.table c.args.bytes.now c.in-Ok.rest.now fields
-    (λ i. omega (arith, c.type_inv.bytes i)) c.in-Ok.ensures in
+    let t = cell_takes (length c.args.bytes.now) c.args.table c.args.bytes.now
+    c.in-Ok.rest.now fields (λ i. omega (arith, c.type_inv.bytes i)) c.in-Ok.ensures in
     let pair : CellKey × Cell = (c.in_ok-key.key, c.in_ok-cell.cell) in
     let same : ◌≡◌ {A = CellKey × Cell} (pair_of c.args.table fields) pair =
     λ i. (sym c.in_ok-key.ensures i, sym c.in_ok-cell.ensures i) in

@@ -1,46 +1,25 @@
 -- Readers and their grammars: what is read is spelled so, what is spelled so is read, and the same
 -- of refusals.
-use Rattle.std.proofs.Common.{◌≡◌, ℕ, ◌+◌, ◌<◌, ◌≤◌, Bool, true, false, cond, List, ◌++◌, length}
-use Rattle.std.proofs.Common.{get_or, take, drop, Result, Ok, Err, refl, sym, ap, subst, ◌∙◌}
+use Rattle.std.proofs.Common.{◌≡◌, ℕ, ◌≤◌, Bool, true, false, cond, List, ◌++◌, length}
+use Rattle.std.proofs.Common.{take, drop, Result, Ok, Err, refl, sym, ap, subst, ◌∙◌}
 use Rattle.std.proofs.Common.{append_assoc, arith, inl, inr}
 use Rattle.std.specs.Prelude.{nat_lt}
-use Rattle.std.proofs.lemmas.Bool.{cases_lt, ltb-false, ltb-true, le-ltb, lt-ltb}
+use Rattle.std.proofs.lemmas.Bool.{ltb-false, ltb-true, le-ltb, lt-ltb}
 use Rattle.std.proofs.lemmas.List.{take_at, drop_at, take-append-drop, length-append, length-take}
-use Rattle.std.proofs.lemmas.List.{get_or-drop, get_or-take, get_or_past}
+use Rattle.clog_spec.specs.Crc.{IsBytes}
+use Rattle.clog_spec.proofs.Bytes.{front-IsBytes, back-IsBytes}
 use Rattle.clog_base.specs.declared.fault.PayloadFault.{PayloadFault}
 use Rattle.clog_base.specs.declared.fault.PayloadFault.TheVariants.{Short}
-use Rattle.clog_mutation.specs.Refusals.{place, Refusing, Either, IsRefusedBehind, IsShort, IsBad}
-use Rattle.clog_mutation.specs.Refusals.{HasLength, same_bytes}
-use Rattle.clog_mutation.specs.Reading.{◌>>=◌, Reader, field_at, seen, mapped, checked, paired}
-use Rattle.clog_mutation.specs.Reading.{then_read, both_of}
+use Rattle.clog_fields.specs.Refusals.{place, Refusing, Either, IsRefusedBehind, IsShort, IsBad}
+use Rattle.clog_fields.specs.Refusals.{HasLength, same_bytes}
+use Rattle.clog_fields.specs.Reading.{◌>>=◌, Reader, field_at, seen, mapped, checked, paired}
+use Rattle.clog_fields.specs.Reading.{then_read, both_of}
 
-abbrev pub IsBytes : List ℕ → Type 0
-IsBytes bytes = (i : ℕ) → get_or bytes i 0 < 256
+rest_fits : (bytes text rest : List ℕ) → IsBytes bytes → bytes ≡ text ++ rest → IsBytes rest
+rest_fits bytes text rest fits e = back-IsBytes text rest (subst IsBytes e fits)
 
-get_or-behind : (text rest : List ℕ) (i : ℕ)
-    → get_or (text ++ rest) (length text + i) 0 ≡ get_or rest i 0
-get_or-behind text rest i = sym (get_or-drop (length text) (text ++ rest) i 0)
-    ∙ ap (λ (l : List ℕ). get_or l i 0) (drop_at text rest (length text) refl)
-
-pub rest_fits : (bytes text rest : List ℕ) → IsBytes bytes → bytes ≡ text ++ rest → IsBytes rest
-rest_fits bytes text rest h e i =
-    let here : get_or bytes (length text + i) 0 ≡ get_or rest i 0 =
-    ap (λ (l : List ℕ). get_or l (length text + i) 0) e ∙ get_or-behind text rest i in
-    subst (λ n. n < 256) here (h (length text + i))
-
-IsBytes-take : (n : ℕ) (bytes : List ℕ) → IsBytes bytes → IsBytes (take n bytes)
-IsBytes-take n bytes h i =
-    elim (cases_lt i n) [
-      | inl lt ↦ rw (get_or-take n bytes i 0 lt) (h i)
-      | inr le ↦ rw (get_or_past (take n bytes) i 0 (omega (arith, length-take n bytes)))
-          (omega arith)
-    ]
-
-pub front_fits : (bytes text rest : List ℕ) → IsBytes bytes → bytes ≡ text ++ rest → IsBytes text
-front_fits bytes text rest h e =
-    let front : take (length text) bytes ≡ text = ap (take (length text)) e
-    ∙ take_at text rest (length text) refl in
-    subst IsBytes front (IsBytes-take (length text) bytes h)
+front_fits : (bytes text rest : List ℕ) → IsBytes bytes → bytes ≡ text ++ rest → IsBytes text
+front_fits bytes text rest fits e = front-IsBytes text rest (subst IsBytes e fits)
 
 -- a reader, what its values are spelled like, which values are good, and what it refuses
 pub record IsReader {X : Type 0} (read : Reader X) (spell : X → List ℕ) (good : X
