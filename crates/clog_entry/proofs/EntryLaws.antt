@@ -37,6 +37,7 @@ use Rattle.std.proofs.lemmas.Bool.Decides.{nat_tests}
 use Rattle.std.proofs.Math.Seq.{take-append_seam}
 use Rattle.std.specs.Int.{w32, to_be_bytes}
 use Rattle.byteorder.specs.Endian.{big_number}
+use Rattle.clog_entry.specs.Fields.{entry_front_size}
 use Rattle.clog_spec.specs.Crc.{IsBytes, crc32_of}
 use Rattle.clog_spec.specs.Segment.{entry_bytes}
 use Rattle.clog_entry.specs.declared.cause.Cause.{Cause}
@@ -64,15 +65,16 @@ use Rattle.clog_entry.proofs.Pieces.{
   number_back,
   number_here,
 }
+use Rattle.clog_spec.specs.Sizes.{frame_size, least_payload}
 
 -- the rules on what was found: the size, the first check, the payload and the second check
 judged : ℕ → ℕ → ℕ → ℕ → List ℕ → ℕ → Result ℕ Cause
 judged at end size first payload second =
     first_of (
-    (nat_lt (end - at) 8, Err Short)
-    ∷ (nat_lt size 10, Err SizeUnder10)
+    (nat_lt (end - at) entry_front_size, Err Short)
+    ∷ (nat_lt size least_payload, Err SizeUnder10)
     ∷ (not (first == crc32_of (to_be_bytes w32 size)), Err SizeCheck)
-    ∷ (nat_lt (end - at) (12 + size), Err PastSection)
+    ∷ (nat_lt (end - at) (frame_size + size), Err PastSection)
     ∷ (not (second == crc32_of (to_be_bytes w32 size ++ payload)), Err BodyCheck)
     ∷ [])
     (Ok size)
@@ -91,16 +93,18 @@ through false false false false size = refl
 
 entry_read_is : (bytes : List ℕ) (at end : ℕ) → entry_read bytes at end
     ≡ judged at end (number_at bytes at) (number_at bytes (at + 4))
-    (payload_at bytes at (number_at bytes at)) (number_at bytes (at + 8 + number_at bytes at))
+    (payload_at bytes at (number_at bytes at)) (number_at bytes
+    (at + entry_front_size + number_at bytes at))
 unfolding entry_read size_judged body_judged judged
 entry_read_is bytes at end =
     let size = number_at bytes at in
     let first = number_at bytes (at + 4) in
-    let second = number_at bytes (at + 8 + size) in
+    let second = number_at bytes (at + entry_front_size + size) in
     let payload = payload_at bytes at size in
-    ap (λ later. cond (nat_lt (end - at) 8) (Err Short) later)
-    (through (nat_lt size 10) (not (first == crc32_of (to_be_bytes w32 size)))
-    (nat_lt (end - at) (12 + size)) (not (second == crc32_of (to_be_bytes w32 size ++ payload)))
+    ap (λ later. cond (nat_lt (end - at) entry_front_size) (Err Short) later)
+    (through (nat_lt size least_payload) (not (first == crc32_of (to_be_bytes w32 size)))
+    (nat_lt (end - at) (frame_size + size)) (not (second == crc32_of (to_be_bytes w32 size
+    ++ payload)))
     size)
 
 -- no rule applied
@@ -116,10 +120,10 @@ none_applied false false false false true size n h = absurd cc
 none_applied false false false false false size n h = (refl, refl, refl, refl, refl, cc)
 
 record Passed (at end size first : ℕ) (payload : List ℕ) (second n : ℕ) : Type 0 where
-  room : 8 ≤ end - at
-  least : 10 ≤ size
+  room : entry_front_size ≤ end - at
+  least : least_payload ≤ size
   first_is : first ≡ crc32_of (to_be_bytes w32 size)
-  fits : at + 12 + size ≤ end
+  fits : at + frame_size + size ≤ end
   second_is : second ≡ crc32_of (to_be_bytes w32 size ++ payload)
   size_is : size ≡ n
 
@@ -127,8 +131,8 @@ passed : (at end size first : ℕ) (payload : List ℕ) (second n : ℕ)
     → judged at end size first payload second ≡ Ok n → Passed at end size first payload second n
 unfolding judged
 passed at end size first payload second n h =
-    let tests = none_applied (nat_lt (end - at) 8) (nat_lt size 10)
-    (not (first == crc32_of (to_be_bytes w32 size))) (nat_lt (end - at) (12 + size))
+    let tests = none_applied (nat_lt (end - at) entry_front_size) (nat_lt size least_payload)
+    (not (first == crc32_of (to_be_bytes w32 size))) (nat_lt (end - at) (frame_size + size))
     (not (second == crc32_of (to_be_bytes w32 size ++ payload))) size n h in
     record {
       room = let t = tests.0 in grind (arith, nat_tests);
@@ -139,16 +143,16 @@ passed at end size first payload second n h =
       size_is = tests.5;
     }
 
-passes : (at end size : ℕ) (payload : List ℕ) → 10 ≤ size → at + 12 + size ≤ end
+passes : (at end size : ℕ) (payload : List ℕ) → least_payload ≤ size → at + frame_size + size ≤ end
     → judged at end size (crc32_of (to_be_bytes w32 size)) payload
     (crc32_of (to_be_bytes w32 size ++ payload)) ≡ Ok size
 unfolding judged
 passes at end size payload least fits =
-    let room : nat_lt (end - at) 8 ≡ false = grind (arith, nat_tests) in
-    let enough : nat_lt size 10 ≡ false = grind (arith, nat_tests) in
+    let room : nat_lt (end - at) entry_front_size ≡ false = grind (arith, nat_tests) in
+    let enough : nat_lt size least_payload ≡ false = grind (arith, nat_tests) in
     let first : not (crc32_of (to_be_bytes w32 size) == crc32_of (to_be_bytes w32 size))
     ≡ false = grind (arith, nat_tests) in
-    let within : nat_lt (end - at) (12 + size) ≡ false = grind (arith, nat_tests) in
+    let within : nat_lt (end - at) (frame_size + size) ≡ false = grind (arith, nat_tests) in
     let second : not (crc32_of (to_be_bytes w32 size ++ payload)
     == crc32_of (to_be_bytes w32 size ++ payload)) ≡ false = grind (arith, nat_tests) in
     rw (room, enough, first, within, second) refl
@@ -164,30 +168,40 @@ pub entry_found : (bytes : List ℕ) (at end size : ℕ) → IsBytes bytes → e
 entry_found bytes at end size are_bytes within h =
     let n = number_at bytes at in
     let p = payload_at bytes at n in
-    let ok = passed at end n (number_at bytes (at + 4)) p (number_at bytes (at + 8 + n)) size
+    let ok = passed at end n (number_at bytes (at + 4)) p (number_at bytes
+    (at + entry_front_size + n)) size
     (sym (entry_read_is bytes at end) ∙ h) in
     let size_is : n ≡ size = ok.size_is in
-    let long : at + 12 + n ≤ length bytes = omega (arith, ok.fits, within) in
+    let long : at + frame_size + n ≤ length bytes = omega (arith, ok.fits, within) in
     let whole : length p ≡ n =
-    omega (arith, long, length-take n (drop (at + 8) bytes), length-drop (at + 8) bytes) in
+    omega (
+      arith,
+      long,
+      length-take n (drop (at + entry_front_size) bytes),
+      length-drop
+          (at + entry_front_size) bytes,
+    ) in
     let first = number_here bytes at (at + 4) are_bytes (omega (arith, long)) refl in
-    let second = number_here bytes (at + 4) (at + 8) are_bytes (omega (arith, long))
+    let second = number_here bytes (at + 4) (at + entry_front_size) are_bytes (omega (arith, long))
     (omega arith) in
-    let third : drop (at + 8) bytes ≡ p ++ drop (at + 8 + n) bytes =
-    sym (take-append-drop n (drop (at + 8) bytes))
-    ∙ ap (λ rest. p ++ rest) (sym (drop_more (at + 8) n bytes)) in
-    let fourth = number_here bytes (at + 8 + n) (at + 12 + n) are_bytes (omega (arith, long))
+    let third : drop (at + entry_front_size) bytes ≡ p ++ drop (at + entry_front_size + n) bytes =
+    sym (take-append-drop n (drop (at + entry_front_size) bytes))
+    ∙ ap (λ rest. p ++ rest) (sym (drop_more (at + entry_front_size) n bytes)) in
+    let fourth = number_here bytes (at + entry_front_size + n) (at + frame_size + n) are_bytes
+    (omega (arith, long))
     (omega arith) in
     let a = to_be_bytes w32 n in
-    let rest = drop (at + 12 + n) bytes in
-    let spelled : drop at bytes ≡ entry_bytes p ++ drop (at + 12 + length p) bytes =
+    let rest = drop (at + frame_size + n) bytes in
+    let spelled : drop at bytes ≡ entry_bytes p ++ drop (at + frame_size + length p) bytes =
     first
-    ∙ ap (λ l. a ++ l) (second ∙ ap (λ k. to_be_bytes w32 k ++ drop (at + 8) bytes) ok.first_is
+    ∙ ap (λ l. a ++ l) (second ∙ ap (λ k. to_be_bytes w32 k
+    ++ drop (at + entry_front_size) bytes) ok.first_is
     ∙ ap (λ l. to_be_bytes w32 (crc32_of a) ++ l) (third
     ∙ ap (λ l. p ++ l) (fourth ∙ ap (λ k. to_be_bytes w32 k ++ rest) ok.second_is)))
     ∙ joined a (to_be_bytes w32 (crc32_of a)) p (to_be_bytes w32 (crc32_of (a ++ p))) rest
     ∙ ap (λ k. to_be_bytes w32 k ++ to_be_bytes w32 (crc32_of (to_be_bytes w32 k)) ++ p
-    ++ to_be_bytes w32 (crc32_of (to_be_bytes w32 k ++ p)) ++ drop (at + 12 + k) bytes) (sym whole)
+    ++ to_be_bytes w32 (crc32_of (to_be_bytes w32 k ++ p))
+    ++ drop (at + frame_size + k) bytes) (sym whole)
     in
     let IsHere : ℕ → Type 0 = λ k. IsEntryAt bytes at end (payload_at bytes at k) in
     subst IsHere size_is (record {
@@ -207,7 +221,7 @@ entry_again bytes at end payload are_bytes short is =
     let second = crc32_of (a ++ payload) in
     let b = to_be_bytes w32 first in
     let c = to_be_bytes w32 second in
-    let rest = drop (at + 12 + n) bytes in
+    let rest = drop (at + frame_size + n) bytes in
     let here : drop at bytes ≡ a ++ (b ++ (payload ++ (c ++ rest))) =
     is.spelled ∙ sym (joined a b payload c rest) in
     let size_is : number_at bytes at ≡ n =
@@ -217,22 +231,24 @@ entry_again bytes at end payload are_bytes short is =
     let first_is : number_at bytes (at + 4) ≡ first =
     ap (big_number 4) here1
     ∙ number_back first (payload ++ (c ++ rest)) (check_fits a (number-IsBytes n)) in
-    let here2 : drop (at + 8) bytes ≡ payload ++ (c ++ rest) =
-    behind bytes b (payload ++ (c ++ rest)) (at + 4) (at + 8) here1 (omega arith) in
+    let here2 : drop (at + entry_front_size) bytes ≡ payload ++ (c ++ rest) =
+    behind bytes b (payload ++ (c ++ rest)) (at + 4) (at + entry_front_size) here1 (omega arith) in
     let payload_is : payload_at bytes at n ≡ payload =
     ap (take n) here2 ∙ take-append_seam payload (c ++ rest) in
     let fits : IsBytes payload = front-IsBytes payload (c ++ rest)
-    (subst IsBytes here2 (drop-IsBytes (at + 8) bytes are_bytes)) in
-    let here3 : drop (at + 8 + n) bytes ≡ c ++ rest =
-    behind bytes payload (c ++ rest) (at + 8) (at + 8 + n) here2 refl in
-    let second_is : number_at bytes (at + 8 + n) ≡ second =
+    (subst IsBytes here2 (drop-IsBytes (at + entry_front_size) bytes are_bytes)) in
+    let here3 : drop (at + entry_front_size + n) bytes ≡ c ++ rest =
+    behind bytes payload (c ++ rest) (at + entry_front_size)
+    (at + entry_front_size + n) here2 refl in
+    let second_is : number_at bytes (at + entry_front_size + n) ≡ second =
     ap (big_number 4) here3 ∙ number_back second rest
     (check_fits (a ++ payload) (append-IsBytes a payload (number-IsBytes n) fits)) in
     entry_read_is bytes at end
     ∙ ap (λ k. judged at end k (number_at bytes (at + 4)) (payload_at bytes at k)
-    (number_at bytes (at + 8 + k))) size_is
-    ∙ ap (λ k. judged at end n k (payload_at bytes at n) (number_at bytes (at + 8 + n))) first_is
-    ∙ ap (λ l. judged at end n first l (number_at bytes (at + 8 + n))) payload_is
+    (number_at bytes (at + entry_front_size + k))) size_is
+    ∙ ap (λ k. judged at end n k (payload_at bytes at n) (number_at bytes
+    (at + entry_front_size + n))) first_is
+    ∙ ap (λ l. judged at end n first l (number_at bytes (at + entry_front_size + n))) payload_is
     ∙ ap (judged at end n first payload) second_is
     ∙ passes at end n payload is.least is.fits
 
@@ -244,9 +260,10 @@ entry_payload bytes at end payload is =
     let a = to_be_bytes w32 n in
     let b = to_be_bytes w32 (crc32_of a) in
     let c = to_be_bytes w32 (crc32_of (a ++ payload)) in
-    let rest = drop (at + 12 + n) bytes in
+    let rest = drop (at + frame_size + n) bytes in
     let here : drop at bytes ≡ (a ++ b) ++ (payload ++ (c ++ rest)) =
     is.spelled ∙ sym (joined a b payload c rest) ∙ sym (append_assoc a b (payload ++ (c ++ rest)))
     in
-    ap (take n) (behind bytes (a ++ b) (payload ++ (c ++ rest)) at (at + 8) here refl)
+    ap (take n) (behind bytes (a ++ b) (payload ++ (c ++ rest)) at
+    (at + entry_front_size) here refl)
     ∙ take-append_seam payload (c ++ rest)

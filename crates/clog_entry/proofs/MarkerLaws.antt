@@ -45,15 +45,16 @@ use Rattle.clog_entry.specs.Reading.{first_of, number_at, marker_judged, marker_
 use Rattle.clog_entry.specs.Spelled.{IsMarkerAt}
 use Rattle.clog_spec.proofs.Bytes.{number-IsBytes, append-IsBytes}
 use Rattle.clog_entry.proofs.Pieces.{behind, check_fits, number_back, number_here}
+use Rattle.clog_spec.specs.Sizes.{marker_size}
 
 -- the rules on what was found: the length of the file, the target and the check
 judged : ℕ → ℕ → ℕ → ℕ → ℕ → Result Marker Cause
 judged id at len target check =
     first_of (
-    (nat_lt len (at + 8), Ok End)
+    (nat_lt len (at + marker_size), Ok End)
     ∷ ((target == 0) && (check == 0), Ok End)
     ∷ (not (check == crc32_of (marker_checked id at)), Err MarkerCheck)
-    ∷ (nat_lt target (at + 8) || nat_lt len target, Err (MarkerTarget target))
+    ∷ (nat_lt target (at + marker_size) || nat_lt len target, Err (MarkerTarget target))
     ∷ [])
     (Ok (Section target))
 
@@ -74,9 +75,9 @@ none_applied false false false true target end h = absurd cc
 none_applied false false false false target end h = (refl, refl, refl, cc)
 
 record Passed (id at len target check end : ℕ) : Type 0 where
-  room : at + 8 ≤ len
+  room : at + marker_size ≤ len
   check_is : check ≡ crc32_of (marker_checked id at)
-  behind_it : at + 8 ≤ target
+  behind_it : at + marker_size ≤ target
   within : target ≤ len
   target_is : target ≡ end
 
@@ -84,9 +85,9 @@ passed : (id at len target check end : ℕ) → judged id at len target check �
     → Passed id at len target check end
 unfolding judged
 passed id at len target check end h =
-    let tests = none_applied (nat_lt len (at + 8)) ((target == 0) && (check == 0))
+    let tests = none_applied (nat_lt len (at + marker_size)) ((target == 0) && (check == 0))
     (not (check == crc32_of (marker_checked id at)))
-    (nat_lt target (at + 8) || nat_lt len target) target end h in
+    (nat_lt target (at + marker_size) || nat_lt len target) target end h in
     record {
       room = let t = tests.0 in grind (arith, nat_tests);
       check_is = let t = tests.1 in grind (arith, nat_tests);
@@ -95,15 +96,16 @@ passed id at len target check end h =
       target_is = tests.3;
     }
 
-passes : (id at len target : ℕ) → at + 8 ≤ target → target ≤ len
+passes : (id at len target : ℕ) → at + marker_size ≤ target → target ≤ len
     → judged id at len target (crc32_of (marker_checked id at)) ≡ Ok (Section target)
 unfolding judged
 passes id at len target behind_it within =
     let check = crc32_of (marker_checked id at) in
-    let room : nat_lt len (at + 8) ≡ false = grind (arith, nat_tests) in
+    let room : nat_lt len (at + marker_size) ≡ false = grind (arith, nat_tests) in
     let more : (target == 0) && (check == 0) ≡ false = grind (arith, nat_tests) in
     let same : not (check == check) ≡ false = grind (arith, nat_tests) in
-    let fits : nat_lt target (at + 8) || nat_lt len target ≡ false = grind (arith, nat_tests) in
+    let fits : nat_lt target (at + marker_size) || nat_lt len target
+    ≡ false = grind (arith, nat_tests) in
     rw (room, more, same, fits) refl
 
 -- what is read as a marker is one
@@ -116,14 +118,15 @@ marker_found bytes id at end are_bytes h =
     (sym (marker_read_is bytes id at) ∙ h) in
     let target_is : target ≡ end = ok.target_is in
     let first = number_here bytes at (at + 4) are_bytes (omega (arith, ok.room)) refl in
-    let second = number_here bytes (at + 4) (at + 8) are_bytes (omega (arith, ok.room))
+    let second = number_here bytes (at + 4) (at + marker_size) are_bytes (omega (arith, ok.room))
     (omega arith) in
     record {
       spelled = first
           ∙ ap (λ l. to_be_bytes w32 target ++ l) second
           ∙ sym (append_assoc (to_be_bytes w32 target) (to_be_bytes w32 check)
-          (drop (at + 8) bytes))
-          ∙ ap₂ (λ (t c : ℕ). to_be_bytes w32 t ++ to_be_bytes w32 c ++ drop (at + 8) bytes)
+          (drop (at + marker_size) bytes))
+          ∙ ap₂ (λ (t c : ℕ). to_be_bytes w32 t ++ to_be_bytes w32 c
+          ++ drop (at + marker_size) bytes)
           target_is ok.check_is;
       behind = omega (arith, target_is, ok.behind_it);
       within = omega (arith, target_is, ok.within);
@@ -144,7 +147,7 @@ marker_again bytes id at end short is =
     let check = crc32_of (marker_checked id at) in
     let a = to_be_bytes w32 end in
     let b = to_be_bytes w32 check in
-    let rest = drop (at + 8) bytes in
+    let rest = drop (at + marker_size) bytes in
     let here : drop at bytes ≡ a ++ (b ++ rest) = is.spelled ∙ append_assoc a b rest in
     let target_is : number_at bytes at ≡ end =
     ap (big_number 4) here ∙ number_back end (b ++ rest) short in

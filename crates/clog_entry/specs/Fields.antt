@@ -3,6 +3,10 @@ use Rattle.std.specs.Prelude.{ℕ, List, ◌++◌, length}
 use Rattle.std.specs.Int.{w32, to_be_bytes}
 use Rattle.clog_spec.specs.Segment.{low_half, high_half}
 
+-- what stands before the payload in an entry: its size, and the size's check
+abbrev pub entry_front_size : ℕ
+entry_front_size = 8
+
 -- what a header's check is of: version, halves of the id, length of the parameters, parameters
 abbrev pub header_fields : ℕ → ℕ → List ℕ → List ℕ
 header_fields version id parameters =

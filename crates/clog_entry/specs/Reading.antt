@@ -28,7 +28,7 @@ use Rattle.byteorder.specs.Endian.{big_number}
 use Rattle.clog_spec.specs.Crc.{crc32_of}
 use Rattle.clog_spec.specs.Segment.{marker_checked}
 use Rattle.clog_spec.specs.Sizes.{marker_size, frame_size, least_payload}
-use Rattle.clog_entry.specs.Fields.{header_fields}
+use Rattle.clog_entry.specs.Fields.{header_fields, entry_front_size}
 use Rattle.clog_entry.specs.declared.cause.Cause.{Cause}
 use Rattle.clog_entry.specs.declared.cause.Cause.TheVariants.{
   Short,
@@ -122,7 +122,8 @@ then_ok (Ok done) (Ok done') answer = Ok answer
 unfoldable pub entry_read : List ℕ → ℕ → ℕ → Result ℕ Cause
 entry_read bytes at end =
     let size = number_at bytes at in
-    first_of ((nat_lt (end - at) 8, Err Short) ∷ [])
+    first_of ((nat_lt (end - at) entry_front_size, Err Short) ∷ [])
     (then_ok (size_judged (end - at) size (number_at bytes (at + 4)))
-    (body_judged size (number_at bytes (at + 8 + size)) (take size (drop (at + 8) bytes)))
+    (body_judged size (number_at bytes (at + entry_front_size + size))
+    (take size (drop (at + entry_front_size) bytes)))
     size)

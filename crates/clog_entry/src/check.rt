@@ -8,6 +8,9 @@ ghost use Rattle.clog_entry.specs.Fields.{header_fields};
 
 use clog_base::{crc32_int, crc32_more};
 
+/// What stands before the payload in an entry: its size, and the size's check.
+pub const ENTRY_FRONT_SIZE: usize = 8;
+
 fn halves(id: u64) -> (u32, u32)
     ensures low { result.0 ≡ low_half id }
     ensures high { result.1 ≡ high_half id }

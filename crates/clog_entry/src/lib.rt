@@ -14,6 +14,7 @@ mod tests;
 mod writer;
 
 pub use cause::Cause;
+pub use check::ENTRY_FRONT_SIZE;
 pub use judging::{judge_body, judge_header, judge_marker, judge_size};
 pub use marker::Marker;
 pub use reader::{read_entry, read_header, read_marker};

@@ -6,6 +6,7 @@ ghost use Rattle.clog_entry.specs.Soft.{IsSoft, IsOfHeader, PassesAsHeader};
 ghost use Rattle.clog_entry.specs.Spelled.{IsHeaderAt, IsMarkerAt, IsEntryAt, payload_at};
 
 use crate::cause::Cause;
+use crate::check::ENTRY_FRONT_SIZE;
 use crate::judging::{judge_body, judge_header, judge_marker, judge_size};
 use crate::marker::Marker;
 use byteorder::{BigEndian, ByteOrder};
@@ -39,7 +40,7 @@ pub fn read_marker(bytes: &[u8], id: u64, at: u32) -> Result<Marker, Cause>
 }
 
 /// Reads the entry at an offset in a section that ends at `end`, exclusive: the size of its payload
-/// in bytes. The payload lies 8 bytes behind the offset, and 4 bytes stand behind it.
+/// in bytes. The payload lies `ENTRY_FRONT_SIZE` behind the offset, and 4 bytes stand behind it.
 pub fn read_entry(bytes: &[u8], at: u32, end: u32) -> Result<u32, Cause>
     requires inside { at < end }
     requires within { end ≤ length bytes.now }
@@ -89,14 +90,15 @@ fn entry_of(bytes: &[u8], at: u32, end: u32) -> Result<u32, Cause>
     requires within { end ≤ length bytes.now }
     ensures { result ≡ entry_read bytes.now at end }
 {
-    if end - at < 8 {
+    if ((end - at) as usize) < ENTRY_FRONT_SIZE {
         return Err(Cause::Short);
     }
     let start = at as usize;
     let size = BigEndian::read_u32(&bytes[start..]);
     judge_size(end - at, size, BigEndian::read_u32(&bytes[start + 4..]))?;
-    let behind = start + 8 + size as usize;
-    let payload = &bytes[start + 8..behind];
+    let from = start + ENTRY_FRONT_SIZE;
+    let behind = from + size as usize;
+    let payload = &bytes[from..behind];
     judge_body(size, BigEndian::read_u32(&bytes[behind..]), payload)?;
     Ok(size)
 }

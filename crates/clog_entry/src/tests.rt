@@ -1,7 +1,7 @@
 //! A segment of 60 bytes whose checks were worked out elsewhere, and bytes that are none.
 use crate::{
-    Cause, Marker, put_entry, read_entry, read_header, read_marker, write_entry, write_header,
-    write_marker,
+    Cause, Marker, begin_entry, end_entry, put_entry, read_entry, read_header, read_marker,
+    write_entry, write_header, write_marker,
 };
 use clog_base::PayloadFault;
 use std::test::*;
@@ -23,6 +23,17 @@ fn writers_give_the_bytes_of_the_format(rt: HostRuntime) -> Result<(), Fail> {
     assert_eq!(rt; entries.as_slice(), ENTRY.as_slice());
     put_entry(&mut entries, &PAYLOAD)?;
     assert_eq!(rt; entries.len(), 64);
+    Ok(())
+}
+
+#[test]
+fn an_entry_made_in_parts_has_the_same_bytes(rt: HostRuntime) -> Result<(), Fail> {
+    let mut entry = Vec::new(rt.alloc());
+    begin_entry(&mut entry, 20)?;
+    entry.extend_from_slice(&PAYLOAD)?;
+    assert_eq!(rt; entry.len(), 28);
+    end_entry(&mut entry, 0)?;
+    assert_eq!(rt; entry.as_slice(), ENTRY.as_slice());
     Ok(())
 }
 

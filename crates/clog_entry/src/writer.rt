@@ -5,8 +5,9 @@ ghost use Rattle.clog_spec.specs.Crc.{crc32_of};
 ghost use Rattle.clog_spec.specs.Segment.{header_bytes, marker_bytes, entry_bytes};
 ghost use Rattle.clog_spec.specs.Segment.{entry_front, size_bytes};
 ghost use Rattle.clog_spec.specs.Sizes.{frame_size, least_payload};
+ghost use Rattle.clog_entry.specs.Fields.{entry_front_size};
 
-use crate::check::{body_check, header_check, marker_check, number_check};
+use crate::check::{ENTRY_FRONT_SIZE, body_check, header_check, marker_check, number_check};
 use clog_base::{FRAME_SIZE, HEADER_SIZE, MARKER_SIZE, OutOfMemory, put};
 use std::alloc::{AllocError, Global};
 
@@ -33,7 +34,7 @@ pub fn write_marker(id: u64, at: u32, end: u32) -> [u8; MARKER_SIZE]
     row
 }
 
-/// The entry of a payload, 12 bytes longer than it.
+/// The entry of a payload, `FRAME_SIZE` longer than it.
 pub fn write_entry(alloc: Global, payload: &[u8]) -> Result<Vec<u8>, OutOfMemory>
     requires least { least_payload ≤ length payload.now }
     requires most { length payload.now ≤ 2 ^ 30 }
@@ -70,13 +71,13 @@ fn put_pieces(out: &mut Vec<u8>, payload: &[u8]) -> Result<(), AllocError>
 }
 
 /// Begins the entry of a payload of `size` bytes, which the caller puts behind it, and then calls
-/// `end_entry`. Is not refused where there is room for 8 bytes.
+/// `end_entry`. Is not refused where there is room for `ENTRY_FRONT_SIZE`.
 pub fn begin_entry(out: &mut Vec<u8>, size: u32) -> Result<(), OutOfMemory>
     ensures ok { OnOk result (out.new.items ≡ out.old.items ++ entry_front size) }
     ensures err { OnErr result (out.new.items ≡ out.old.items) }
-    ensures room { vec_len out.old + 8 ≤ vec_capacity out.old → IsOk result }
+    ensures room { vec_len out.old + entry_front_size ≤ vec_capacity out.old → IsOk result }
 {
-    let mut row = [0; 8];
+    let mut row = [0; ENTRY_FRONT_SIZE];
     let at = put(&mut row, 0, &size.to_be_bytes());
     put(&mut row, at, &number_check(size).to_be_bytes());
     Ok(out.extend_from_slice(&row)?)
@@ -85,15 +86,15 @@ pub fn begin_entry(out: &mut Vec<u8>, size: u32) -> Result<(), OutOfMemory>
 /// Ends the entry that begins at `from`, with the check of its payload, which is all that stands
 /// behind its front. Is not refused where there is room for 4 bytes.
 pub fn end_entry(out: &mut Vec<u8>, from: usize) -> Result<(), OutOfMemory>
-    requires begun { from + 8 ≤ length out.old.items }
-    requires most { length out.old.items ≤ from + 8 + 2 ^ 30 }
+    requires begun { from + entry_front_size ≤ length out.old.items }
+    requires most { length out.old.items ≤ from + entry_front_size + 2 ^ 30 }
     ensures ok { (front payload : List ℕ) → length front ≡ from
         → out.old.items ≡ front ++ entry_front (length payload) ++ payload
         → OnOk result (out.new.items ≡ front ++ entry_bytes payload) }
     ensures err { OnErr result (out.new.items ≡ out.old.items) }
     ensures room { vec_len out.old + 4 ≤ vec_capacity out.old → IsOk result }
 {
-    let check = check_behind(out.as_slice(), from + 8);
+    let check = check_behind(out.as_slice(), from + ENTRY_FRONT_SIZE);
     Ok(out.extend_from_slice(&check.to_be_bytes())?)
 }
 

@@ -47,6 +47,7 @@ use Rattle.clog_scan.specs.Segment.{
 }
 use Rattle.clog_scan.proofs.Sections.{regroup}
 use Rattle.clog_scan.proofs.Written.{written}
+use Rattle.clog_spec.specs.Sizes.{header_size, marker_size}
 
 -- ---- lists of sections joined
 
@@ -65,7 +66,7 @@ pub entries_of-append : (at : ℕ) (ss more : List Section)
     → entries_of at (ss ++ more) ≡ entries_of at ss ++ entries_of (last_until at ss) more
 entries_of-append at [] more = refl
 entries_of-append at (s ∷ ss) more =
-    let first = entries_from (at + 8) s.payloads in
+    let first = entries_from (at + marker_size) s.payloads in
     ap (λ l. first ++ l) (entries_of-append s.until ss more)
     ∙ sym (append_assoc first (entries_of s.until ss) (entries_of (last_until s.until ss) more))
 
@@ -103,7 +104,7 @@ whole_by_size id len at (s ∷ []) lawful full =
 whole_by_size id len at (s ∷ t ∷ ss) lawful full =
     let e = entries_bytes s.payloads in
     let more = sections_bytes id s.until (t ∷ ss) in
-    let here : at + 8 + length e ≡ s.until = lawful.1 in
+    let here : at + marker_size + length e ≡ s.until = lawful.1 in
     let rest : s.until + length more ≡ last_until s.until (t ∷ ss) =
     omega (arith, full, here, length-append e more) in
     (lawful.0, here, whole_by_size id len s.until (t ∷ ss) lawful.2 rest)
@@ -123,25 +124,27 @@ behind_front bytes new id entries more (Some ss) file is whole is_front are ends
     let front = front_bytes id (Some ss) in
     let at = length front in
     let reached : len ≡ at = ends.0 in
-    let full : at ≡ last_until 20 ss = ends.1 in
-    let last : len ≡ last_until 20 ss = reached ∙ full in
+    let full : at ≡ last_until header_size ss = ends.1 in
+    let last : len ≡ last_until header_size ss = reached ∙ full in
     let nothing : drop at bytes ≡ [] = drop_all at bytes (omega (arith, reached)) in
     let all : bytes ≡ front = is_front.cut ∙ ap (λ l. front ++ l) nothing ∙ append-nil front in
-    let s = sections_bytes id 20 ss in
+    let s = sections_bytes id header_size ss in
     let header = header_bytes id in
-    let sized : 20 + length s ≡ at = omega arith in
+    let sized : header_size + length s ≡ at = omega arith in
     let longer : len ≤ length new =
     omega (arith, ap length is, length-append bytes (sections_bytes id len more)) in
-    let old : AreWhole (length new) 20 ss = whole_longer len (length new) 20 ss longer
-    (whole_by_size id len 20 ss is_front.sections (sized ∙ full)) in
-    let both : AreWhole (length new) 20 (ss ++ more) = whole-append (length new) 20 ss more old
+    let old : AreWhole (length new) header_size ss = whole_longer len
+    (length new) header_size ss longer
+    (whole_by_size id len header_size ss is_front.sections (sized ∙ full)) in
+    let both : AreWhole (length new) header_size (ss ++ more) = whole-append
+    (length new) header_size ss more old
     (subst (λ k. AreWhole (length new) k more) last whole) in
-    let spelled : new ≡ header ++ sections_bytes id 20 (ss ++ more) =
+    let spelled : new ≡ header ++ sections_bytes id header_size (ss ++ more) =
     is ∙ ap₂ (λ (l : List ℕ) (k : ℕ). l ++ sections_bytes id k more) all last
-    ∙ append_assoc header s (sections_bytes id (last_until 20 ss) more)
-    ∙ ap (λ l. header ++ l) (sym (sections_bytes-append id 20 ss more)) in
-    let held : entries_of 20 (ss ++ more) ≡ entries ++ entries_of len more =
-    entries_of-append 20 ss more
+    ∙ append_assoc header s (sections_bytes id (last_until header_size ss) more)
+    ∙ ap (λ l. header ++ l) (sym (sections_bytes-append id header_size ss more)) in
+    let held : entries_of header_size (ss ++ more) ≡ entries ++ entries_of len more =
+    entries_of-append header_size ss more
     ∙ ap₂ (λ (l : List Entry) (k : ℕ). l ++ entries_of k more) (sym are) (sym last) in
     subst (λ es. IsSegment new id es (Clean (length new))) held
     (written new id (ss ++ more) file spelled both)
@@ -157,7 +160,7 @@ sections_behind bytes new id entries more file is whole held =
 -- a section that its entries fill
 abbrev filled : ℕ → List (List ℕ) → Section
 filled at payloads = record {
-  until = at + 8 + length (entries_bytes payloads);
+  until = at + marker_size + length (entries_bytes payloads);
   payloads = payloads;
 }
 
@@ -165,7 +168,8 @@ pub section_behind : (bytes new : List ℕ) (id : ℕ) (entries : List Entry)
     (payloads : List (List ℕ)) → IsFile new
     → new ≡ bytes ++ section_bytes id (length bytes) (entries_bytes payloads) → AreLong payloads
     → IsSegment bytes id entries (Clean (length bytes))
-    → IsSegment new id (entries ++ entries_from (length bytes + 8) payloads) (Clean (length new))
+    → IsSegment new id (entries ++ entries_from (length bytes + marker_size) payloads) (Clean
+    (length new))
 section_behind bytes new id entries payloads file is long held =
     let len = length bytes in
     let e = entries_bytes payloads in
@@ -173,7 +177,7 @@ section_behind bytes new id entries payloads file is long held =
     let marker = marker_bytes id len s.until in
     let spelled : new ≡ bytes ++ sections_bytes id len (s ∷ []) =
     is ∙ ap (λ l. bytes ++ (marker ++ l)) (sym (append-nil e)) in
-    let sized : length new ≡ len + (8 + length e) =
+    let sized : length new ≡ len + (marker_size + length e) =
     omega (arith, ap length is, length-append bytes (marker ++ e)) in
     let whole : AreWhole (length new) len (s ∷ []) = (
       record {
@@ -185,6 +189,6 @@ section_behind bytes new id entries payloads file is long held =
       refl,
       tt,
     ) in
-    let own = entries_from (len + 8) payloads in
+    let own = entries_from (len + marker_size) payloads in
     subst (λ es. IsSegment new id (entries ++ es) (Clean (length new))) (append-nil own)
     (sections_behind bytes new id entries (s ∷ []) file spelled whole held)

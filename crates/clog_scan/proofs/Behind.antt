@@ -45,6 +45,7 @@ use Rattle.clog_scan.proofs.Theorems.{
   header_long,
 }
 use Rattle.clog_scan.proofs.Order.{stop_place}
+use Rattle.clog_spec.specs.Sizes.{header_size, marker_size, frame_size}
 
 take_less : (n k : ℕ) (l : List ℕ) → n ≤ k → take n (take k l) ≡ take n l
 take_less zero k l less = refl
@@ -72,20 +73,21 @@ text_kept bytes other text at next place same is_next less spelled =
     (sym (drop_more at m other) ∙ ap (λ k. drop k other) (sym is_next))
 
 marker_kept : (bytes other : List ℕ) (id at until place : ℕ) → take place other ≡ take place bytes
-    → length bytes ≤ length other → at + 8 ≤ place → IsMarkerAt bytes id at until
+    → length bytes ≤ length other → at + marker_size ≤ place → IsMarkerAt bytes id at until
     → IsMarkerAt other id at until
 marker_kept bytes other id at until place same size less is = record {
-  spelled = text_kept bytes other (marker_bytes id at until) at (at + 8) place same refl less
+  spelled = text_kept bytes other (marker_bytes id at until) at
+      (at + marker_size) place same refl less
       is.spelled;
   behind = is.behind;
   within = omega (arith, size, is.within);
 }
 
 entry_kept : (bytes other : List ℕ) (at until place : ℕ) (p : List ℕ)
-    → take place other ≡ take place bytes → at + 12 + length p ≤ place
+    → take place other ≡ take place bytes → at + frame_size + length p ≤ place
     → IsEntryAt bytes at until p → IsEntryAt other at until p
 entry_kept bytes other at until place p same less is = record {
-  spelled = text_kept bytes other (entry_bytes p) at (at + 12 + length p) place same
+  spelled = text_kept bytes other (entry_bytes p) at (at + frame_size + length p) place same
       (omega (arith, length-entry_bytes p)) less is.spelled;
   least = is.least;
   fits = is.fits;
@@ -98,14 +100,14 @@ way_kept bytes other id at until [] place end same size way = way
 way_kept bytes other id at until (Marked next ∷ items) place end same size way = (
   way.0,
   marker_kept bytes other id at next place same size
-      (goes_forward bytes id (at + 8) next items place end way.2) way.1,
-  way_kept bytes other id (at + 8) next items place end same size way.2,
+      (goes_forward bytes id (at + marker_size) next items place end way.2) way.1,
+  way_kept bytes other id (at + marker_size) next items place end same size way.2,
 )
 way_kept bytes other id at until (Held p ∷ items) place end same size way = (
   way.0,
   entry_kept bytes other at until place p same
-      (goes_forward bytes id (at + 12 + length p) until items place end way.2) way.1,
-  way_kept bytes other id (at + 12 + length p) until items place end same size way.2,
+      (goes_forward bytes id (at + frame_size + length p) until items place end way.2) way.1,
+  way_kept bytes other id (at + frame_size + length p) until items place end same size way.2,
 )
 
 pub held_from-append : (bytes : List ℕ) (id at until : ℕ) (items more : List Item) (place end : ℕ)
@@ -113,33 +115,34 @@ pub held_from-append : (bytes : List ℕ) (id at until : ℕ) (items more : List
     → held_from at (items ++ more) ≡ held_from at items ++ held_from place more
 held_from-append bytes id at until [] more place end way = ap (λ k. held_from k more) way.0
 held_from-append bytes id at until (Marked next ∷ items) more place end way =
-    held_from-append bytes id (at + 8) next items more place end way.2
+    held_from-append bytes id (at + marker_size) next items more place end way.2
 held_from-append bytes id at until (Held p ∷ items) more place end way =
     ap (λ es. entry_from at p ∷ es)
-    (held_from-append bytes id (at + 12 + length p) until items more place end way.2)
+    (held_from-append bytes id (at + frame_size + length p) until items more place end way.2)
 
 -- a way over these bytes is the front of the way that stops
 whole_of : (other : List ℕ) (id : ℕ) (entries' : List Entry) (end' : End)
     (front' : Option (List Section)) → IsFile other → id < 2 ^ 64 → IsHeaderAt other id
     → IsFront other id front' → entries' ≡ front_entries front' → EndsBy other id front' end'
-    → (items : List Item) (at until : ℕ) → Trace other id 20 20 items at until
-    → HoldsThem (held_from 20 items) at entries' (place_of end')
+    → (items : List Item) (at until : ℕ) → Trace other id header_size header_size items at until
+    → HoldsThem (held_from header_size items) at entries' (place_of end')
 whole_of other id entries' end' None file fits header is' are' ends' items at until way =
     let there = header_again other id fits header in
     let torn = ends'.1 in
     absurd cc
 whole_of other id entries' end' (Some ss) file fits header is' are' ends' items at until way =
     let at' = length (front_bytes id (Some ss)) in
-    let until' = last_until 20 ss in
-    let on = one_way other id 20 20 (items_of ss) at' until' end' items at until file
+    let until' = last_until header_size ss in
+    let on = one_way other id header_size header_size
+    (items_of ss) at' until' end' items at until file
     (header_long other id header) (front_way other id ss is') ends' way in
     let up = goes_forward other id at until on.more at' until' on.way in
     let place_is = stop_place other id at' until' end' ends' in
     record {
       more = held_from at on.more;
-      are = are' ∙ sym (held_from-items_of (length other) 20 ss is'.sections)
-          ∙ ap (held_from 20) on.whole
-          ∙ held_from-append other id 20 20 items on.more at until way;
+      are = are' ∙ sym (held_from-items_of (length other) header_size ss is'.sections)
+          ∙ ap (held_from header_size) on.whole
+          ∙ held_from-append other id header_size header_size items on.more at until way;
       behind = omega (arith, up, place_is);
     }
 
@@ -160,18 +163,19 @@ holds bytes other id entries entries' end end' None front' file fits size same i
 holds bytes other id entries entries' end end' (Some ss) front' file fits size same is is' are are'
     ends ends' =
     let at = length (front_bytes id (Some ss)) in
-    let place_is = stop_place bytes id at (last_until 20 ss) end ends in
+    let place_is = stop_place bytes id at (last_until header_size ss) end ends in
     let same_at : take at other ≡ take at bytes =
     subst (λ k. take k other ≡ take k bytes) place_is same in
-    let way = way_kept bytes other id 20 20 (items_of ss) at (last_until 20 ss) same_at size
+    let way = way_kept bytes other id header_size header_size (items_of ss) at
+    (last_until header_size ss) same_at size
     (front_way bytes id ss is) in
     let header : IsHeaderAt other id =
-    text_kept bytes other (header_bytes id) 0 20 at same_at refl (omega arith)
+    text_kept bytes other (header_bytes id) 0 header_size at same_at refl (omega arith)
     (front_header bytes id ss is) in
-    let here : front_entries (Some ss) ≡ held_from 20 (items_of ss) =
-    sym (held_from-items_of (length bytes) 20 ss is.sections) in
+    let here : front_entries (Some ss) ≡ held_from header_size (items_of ss) =
+    sym (held_from-items_of (length bytes) header_size ss is.sections) in
     let all = whole_of other id entries' end' front' file fits header is' are' ends'
-    (items_of ss) at (last_until 20 ss) way in
+    (items_of ss) at (last_until header_size ss) way in
     record {
       more = all.more;
       are = all.are ∙ ap (λ es. es ++ all.more) (sym (are ∙ here));

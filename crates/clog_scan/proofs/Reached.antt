@@ -21,6 +21,7 @@ use Rattle.std.proofs.Common.{
   arith,
 }
 use Rattle.std.proofs.lemmas.List.{length-take, length-drop}
+use Rattle.clog_entry.specs.Fields.{entry_front_size}
 use Rattle.clog_entry.specs.Spelled.{IsMarkerAt, IsEntryAt, payload_at}
 use Rattle.clog_scan.specs.declared.answer.Found.{Found}
 use Rattle.clog_scan.specs.Segment.{Entry, entry_from, found_of}
@@ -35,15 +36,17 @@ use Rattle.clog_scan.proofs.Trace.{
   held_from-marked,
   held_from-held,
 }
+use Rattle.clog_spec.specs.Sizes.{header_size, marker_size, frame_size}
 
 pub record Reached (bytes : List ℕ) (id at until : ℕ) (found : List Found) : Type 0 where
   pub items : List Item
-  pub way : Trace bytes id 20 20 items at until
-  pub found_are : found ≡ map found_of (held_from 20 items)
+  pub way : Trace bytes id header_size header_size items at until
+  pub found_are : found ≡ map found_of (held_from header_size items)
   pub order : at ≤ until
   pub within : until ≤ length bytes
 
-pub starts : (bytes : List ℕ) (id : ℕ) → 20 ≤ length bytes → Reached bytes id 20 20 []
+pub starts : (bytes : List ℕ) (id : ℕ) → header_size ≤ length bytes
+    → Reached bytes id header_size header_size []
 starts bytes id enough = record {
   items = [];
   way = (refl, refl);
@@ -54,13 +57,15 @@ starts bytes id enough = record {
 
 pub reaches_section : (bytes : List ℕ) (id at until next : ℕ) (found : List Found)
     → Reached bytes id at until found → at ≡ until → IsMarkerAt bytes id at next
-    → Reached bytes id (at + 8) next found
+    → Reached bytes id (at + marker_size) next found
 reaches_section bytes id at until next found so_far full marked = record {
   items = so_far.items ++ Marked next ∷ [];
-  way = marked_last bytes id 20 20 so_far.items at until next so_far.way full marked;
+  way = marked_last bytes id header_size header_size so_far.items at until next so_far.way full
+      marked;
   found_are = so_far.found_are
       ∙ ap (map found_of)
-      (sym (held_from-marked bytes id 20 20 so_far.items at until next so_far.way));
+      (sym (held_from-marked bytes id header_size header_size so_far.items at until next
+      so_far.way));
   order = marked.behind;
   within = marked.within;
 }
@@ -72,19 +77,22 @@ map-last (x ∷ es) e = ap (λ fs. found_of x ∷ fs) (map-last es e)
 
 pub reaches_entry : (bytes : List ℕ) (id at until : ℕ) (payload : List ℕ) (found now : List Found)
     (end : ℕ) → Reached bytes id at until found → at < until → IsEntryAt bytes at until payload
-    → end ≡ at + 12 + length payload
+    → end ≡ at + frame_size + length payload
     → now ≡ found ++ record { start = at; end = end } ∷ []
     → Reached bytes id end until now
 reaches_entry bytes id at until payload found now end so_far room held end_is now_is = record {
   items = so_far.items ++ Held payload ∷ [];
-  way = subst (λ k. Trace bytes id 20 20 (so_far.items ++ Held payload ∷ []) k until) (sym end_is)
-      (held_last bytes id 20 20 so_far.items at until payload so_far.way room held);
+  way = subst (λ k. Trace bytes id header_size header_size (so_far.items
+      ++ Held payload ∷ []) k until) (sym end_is)
+      (held_last bytes id header_size header_size so_far.items at until payload so_far.way
+      room held);
   found_are = now_is
       ∙ ap₂ (λ (fs : List Found) (k : ℕ). fs ++ record { start = at; end = k } ∷ [])
       so_far.found_are end_is
-      ∙ sym (map-last (held_from 20 so_far.items) (entry_from at payload))
+      ∙ sym (map-last (held_from header_size so_far.items) (entry_from at payload))
       ∙ ap (map found_of)
-      (sym (held_from-held bytes id 20 20 so_far.items at until payload so_far.way));
+      (sym (held_from-held bytes id header_size header_size so_far.items at until payload
+      so_far.way));
   order = omega (arith, end_is, held.fits);
   within = so_far.within;
 }
@@ -97,6 +105,6 @@ payload_size bytes at until size held within = omega (
   arith,
   held.fits,
   within,
-  length-take size (drop (at + 8) bytes),
-  length-drop (at + 8) bytes,
+  length-take size (drop (at + entry_front_size) bytes),
+  length-drop (at + entry_front_size) bytes,
 )

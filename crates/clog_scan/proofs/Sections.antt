@@ -37,6 +37,7 @@ use Rattle.clog_scan.specs.Cut.{
 }
 use Rattle.clog_scan.specs.Segment.{entry_from, entries_from, entries_of}
 use Rattle.clog_scan.proofs.Trace.{Item, Marked, Held, Trace, held_from}
+use Rattle.clog_spec.specs.Sizes.{marker_size, frame_size}
 
 -- the payloads before the first marker
 pub payloads_of : List Item → List (List ℕ)
@@ -98,7 +99,7 @@ splits bytes id at until [] place end order way = record {
   entries = refl;
 }
 splits bytes id at until (Marked next ∷ items) place end order way =
-    let rest = splits bytes id (at + 8) next items place end way.1.behind way.2 in
+    let rest = splits bytes id (at + marker_size) next items place end way.1.behind way.2 in
     let e = entries_bytes (payloads_of items) in
     let s = sections_bytes id next (sections_of items) in
     let here : at ≡ until = way.0 in
@@ -118,19 +119,20 @@ splits bytes id at until (Marked next ∷ items) place end order way =
       long = tt;
       lawful = more_sections (length bytes) until
           (record { until = next; payloads = payloads_of items }) (sections_of items) section
-          (subst (λ k. IsFull (sections_of items) (k + 8 + length e) next) here rest.full)
+          (subst (λ k. IsFull (sections_of items) (k + marker_size + length e) next) here rest.full)
           rest.lawful;
       place_is = omega (arith, rest.place_is, length-append e s);
       end_is = rest.end_is;
       entries = rest.entries
-          ∙ ap (λ k. entries_from (k + 8) (payloads_of items)
+          ∙ ap (λ k. entries_from (k + marker_size) (payloads_of items)
           ++ entries_of next (sections_of items)) here;
     }
 splits bytes id at until (Held p ∷ items) place end order way =
-    let rest = splits bytes id (at + 12 + length p) until items place end way.1.fits way.2 in
+    let rest = splits bytes id
+    (at + frame_size + length p) until items place end way.1.fits way.2 in
     let e = entries_bytes (payloads_of items) in
     let s = sections_bytes id until (sections_of items) in
-    let size : at + 12 + length p + length e ≡ at + length (entry_bytes p ++ e) =
+    let size : at + frame_size + length p + length e ≡ at + length (entry_bytes p ++ e) =
     omega (arith, length-append (entry_bytes p) e, length-entry_bytes p) in
     record {
       spelled = way.1.spelled ∙ ap (λ l. entry_bytes p ++ l) rest.spelled
@@ -174,7 +176,7 @@ helds_way bytes id at until [] tail place end rest spelled fits long way =
     subst (λ k. Trace bytes id k until tail place end) same way
 helds_way bytes id at until (p ∷ ps) tail place end rest spelled fits long way =
     let e = entries_bytes ps in
-    let next = at + 12 + length p in
+    let next = at + frame_size + length p in
     let size = length-append (entry_bytes p) e in
     let one = length-entry_bytes p in
     let here : drop at bytes ≡ entry_bytes p ++ (e ++ rest) =
@@ -198,7 +200,7 @@ unfolding helds
 held_from-helds at [] tail =
     let same : at ≡ at + 0 = omega arith in ap (λ k. held_from k tail) same
 held_from-helds at (p ∷ ps) tail =
-    let next = at + 12 + length p in
+    let next = at + frame_size + length p in
     let all : next + length (entries_bytes ps) ≡ at + length (entry_bytes p ++ entries_bytes ps) =
     omega (arith, length-append (entry_bytes p) (entries_bytes ps), length-entry_bytes p) in
     ap (λ es. entry_from at p ∷ es) (held_from-helds next ps tail
@@ -207,12 +209,12 @@ held_from-helds at (p ∷ ps) tail =
 -- what stands behind the marker of the first section
 first_spelled : (bytes : List ℕ) (id at : ℕ) (s : Section) (ss : List Section) (rest : List ℕ)
     → drop at bytes ≡ sections_bytes id at (s ∷ ss) ++ rest
-    → drop (at + 8) bytes
+    → drop (at + marker_size) bytes
     ≡ entries_bytes s.payloads ++ (sections_bytes id s.until ss ++ rest)
 first_spelled bytes id at s ss rest spelled =
     let e = entries_bytes s.payloads in
     let more = sections_bytes id s.until ss in
-    behind bytes (marker_bytes id at s.until) (e ++ (more ++ rest)) at (at + 8)
+    behind bytes (marker_bytes id at s.until) (e ++ (more ++ rest)) at (at + marker_size)
     (spelled ∙ sym (regroup (marker_bytes id at s.until) e more rest)) refl
 
 first_marker : (bytes : List ℕ) (id at : ℕ) (s : Section) (ss : List Section) (rest : List ℕ)
@@ -237,10 +239,10 @@ sections_way bytes id at [] rest spelled lawful =
 sections_way bytes id at (s ∷ []) rest spelled lawful =
     let e = entries_bytes s.payloads in
     let place = at + length (sections_bytes id at (s ∷ [])) in
-    let ends : at + 8 + length e ≡ place = omega (arith, length-append e []) in (
+    let ends : at + marker_size + length e ≡ place = omega (arith, length-append e []) in (
       refl,
       first_marker bytes id at s [] rest spelled lawful,
-      helds_way bytes id (at + 8) s.until s.payloads [] place s.until rest
+      helds_way bytes id (at + marker_size) s.until s.payloads [] place s.until rest
           (first_spelled bytes id at s [] rest spelled) lawful.fits lawful.least (ends, refl),
     )
 sections_way bytes id at (s ∷ t ∷ ss) rest spelled lawful =
@@ -249,16 +251,17 @@ sections_way bytes id at (s ∷ t ∷ ss) rest spelled lawful =
     let place = at + length (sections_bytes id at (s ∷ t ∷ ss)) in
     let end = last_until s.until (t ∷ ss) in
     let there = first_spelled bytes id at s (t ∷ ss) rest spelled in
-    let full : at + 8 + length e ≡ s.until = lawful.1 in
+    let full : at + marker_size + length e ≡ s.until = lawful.1 in
     let after : drop s.until bytes ≡ more ++ rest =
-    behind bytes e (more ++ rest) (at + 8) s.until there (sym full) in
+    behind bytes e (more ++ rest) (at + marker_size) s.until there (sym full) in
     let way = sections_way bytes id s.until (t ∷ ss) rest after lawful.2 in
     let ends : s.until + length more ≡ place = omega (arith, full, length-append e more) in
     let Goes : ℕ → ℕ → Type 0 =
     λ a p. Trace bytes id a s.until (items_of (t ∷ ss)) p end in (
       refl,
       first_marker bytes id at s (t ∷ ss) rest spelled lawful.0,
-      helds_way bytes id (at + 8) s.until s.payloads (items_of (t ∷ ss)) place end (more ++ rest)
+      helds_way bytes id (at + marker_size) s.until s.payloads (items_of (t ∷ ss)) place end
+          (more ++ rest)
           there lawful.0.fits lawful.0.least
           (subst (λ a. Goes a place) (sym full) (subst (Goes s.until) ends way)),
     )
@@ -267,9 +270,10 @@ pub held_from-items_of : (len at : ℕ) (ss : List Section) → AreSections len 
     → held_from at (items_of ss) ≡ entries_of at ss
 unfolding items_of
 held_from-items_of len at [] lawful = refl
-held_from-items_of len at (s ∷ []) lawful = held_from-helds (at + 8) s.payloads []
+held_from-items_of len at (s ∷ []) lawful = held_from-helds (at + marker_size) s.payloads []
 held_from-items_of len at (s ∷ t ∷ ss) lawful =
-    held_from-helds (at + 8) s.payloads (items_of (t ∷ ss))
-    ∙ ap (λ k. entries_from (at + 8) s.payloads ++ held_from k (items_of (t ∷ ss))) lawful.1
-    ∙ ap (λ es. entries_from (at + 8) s.payloads ++ es)
+    held_from-helds (at + marker_size) s.payloads (items_of (t ∷ ss))
+    ∙ ap (λ k. entries_from (at + marker_size) s.payloads
+    ++ held_from k (items_of (t ∷ ss))) lawful.1
+    ∙ ap (λ es. entries_from (at + marker_size) s.payloads ++ es)
     (held_from-items_of len s.until (t ∷ ss) lawful.2)

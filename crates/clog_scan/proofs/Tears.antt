@@ -24,6 +24,7 @@ use Rattle.clog_scan.specs.declared.answer.End.TheVariants.{Torn}
 use Rattle.clog_scan.specs.Cut.{Section, front_bytes, last_until}
 use Rattle.clog_scan.specs.Laws.{IsForeign}
 use Rattle.clog_scan.specs.Segment.{Entry, StopsAt, EndsBy, IsSegment}
+use Rattle.clog_spec.specs.Sizes.{header_size}
 
 stop_soft : (bytes : List ℕ) (id at until place : ℕ) (cause : Cause)
     → StopsAt bytes id at until (Torn place cause) → IsSoft cause
@@ -47,7 +48,8 @@ by_front bytes id place cause None ends =
       })
     ]
 by_front bytes id place cause (Some ss) ends =
-    inl (stop_soft bytes id (length (front_bytes id (Some ss))) (last_until 20 ss) place cause ends)
+    inl (stop_soft bytes id (length (front_bytes id (Some ss)))
+    (last_until header_size ss) place cause ends)
 
 -- a tear is soft, or the header is another's
 pub tear : (bytes : List ℕ) (id : ℕ) (entries : List Entry) (place : ℕ) (cause : Cause)
@@ -61,7 +63,8 @@ behind_header bytes id place cause None fits header ends =
     let torn = ends.1 in
     absurd cc
 behind_header bytes id place cause (Some ss) fits header ends =
-    stop_soft bytes id (length (front_bytes id (Some ss))) (last_until 20 ss) place cause ends
+    stop_soft bytes id (length (front_bytes id (Some ss)))
+    (last_until header_size ss) place cause ends
 
 -- behind a header each tear is soft
 pub soft_behind_header : (bytes : List ℕ) (id : ℕ) (entries : List Entry) (place : ℕ)

@@ -63,58 +63,67 @@ use Rattle.clog_scan.proofs.Sections.{
   sections_way,
   held_from-items_of,
 }
+use Rattle.clog_spec.specs.Sizes.{header_size}
 
 -- behind the header of a front stand its sections
 behind_header : (bytes : List ℕ) (id : ℕ) (ss : List Section) → IsFront bytes id (Some ss)
-    → drop 20 bytes
-    ≡ sections_bytes id 20 ss ++ drop (length (front_bytes id (Some ss))) bytes
-behind_header bytes id ss front = ap (drop 20) front.cut
+    → drop header_size bytes
+    ≡ sections_bytes id header_size ss ++ drop (length (front_bytes id (Some ss))) bytes
+behind_header bytes id ss front = ap (drop header_size) front.cut
 
 pub front_header : (bytes : List ℕ) (id : ℕ) (ss : List Section) → IsFront bytes id (Some ss)
     → IsHeaderAt bytes id
 front_header bytes id ss front =
     front.cut
-    ∙ append_assoc (header_bytes id) (sections_bytes id 20 ss)
+    ∙ append_assoc (header_bytes id) (sections_bytes id header_size ss)
     (drop (length (front_bytes id (Some ss))) bytes)
     ∙ ap (λ l. header_bytes id ++ l) (sym (behind_header bytes id ss front))
 
 -- a front is a way over its items
 pub front_way : (bytes : List ℕ) (id : ℕ) (ss : List Section) → IsFront bytes id (Some ss)
-    → Trace bytes id 20 20 (items_of ss) (length (front_bytes id (Some ss))) (last_until 20 ss)
+    → Trace bytes id header_size header_size (items_of ss) (length (front_bytes id (Some ss)))
+    (last_until header_size ss)
 front_way bytes id ss front =
-    let same : 20 + length (sections_bytes id 20 ss) ≡ length (front_bytes id (Some ss)) =
+    let same : header_size + length (sections_bytes id header_size ss)
+    ≡ length (front_bytes id (Some ss)) =
     omega arith in
-    subst (λ k. Trace bytes id 20 20 (items_of ss) k (last_until 20 ss)) same
-    (sections_way bytes id 20 ss (drop (length (front_bytes id (Some ss))) bytes)
+    subst (λ k. Trace bytes id header_size header_size (items_of ss) k
+    (last_until header_size ss)) same
+    (sections_way bytes id header_size ss (drop (length (front_bytes id (Some ss))) bytes)
     (behind_header bytes id ss front) front.sections)
 
-pub header_long : (bytes : List ℕ) (id : ℕ) → IsHeaderAt bytes id → 20 ≤ length bytes
+pub header_long : (bytes : List ℕ) (id : ℕ) → IsHeaderAt bytes id → header_size ≤ length bytes
 header_long bytes id is = omega (arith, ap length is)
 
 no_longer : (bytes : List ℕ) (id : ℕ) (items : List Item) (at until : ℕ) (end : End) → IsFile bytes
-    → IsHeaderAt bytes id → Trace bytes id 20 20 items at until → StopsAt bytes id at until end
+    → IsHeaderAt bytes id → Trace bytes id header_size header_size items at until
+    → StopsAt bytes id at until end
     → (other : Option (List Section)) → IsFront bytes id other
     → length (front_bytes id other) ≤ at
 no_longer bytes id items at until end file header way stops None front = omega arith
 no_longer bytes id items at until end file header way stops (Some ss) front =
-    let on = one_way bytes id 20 20 items at until end (items_of ss)
-    (length (front_bytes id (Some ss))) (last_until 20 ss) file (header_long bytes id header) way
+    let on = one_way bytes id header_size header_size items at until end (items_of ss)
+    (length (front_bytes id (Some ss))) (last_until header_size ss) file
+    (header_long bytes id header) way
     stops (front_way bytes id ss front) in
-    goes_forward bytes id (length (front_bytes id (Some ss))) (last_until 20 ss) on.more at until
+    goes_forward bytes id (length (front_bytes id (Some ss)))
+    (last_until header_size ss) on.more at until
     on.way
 
 -- a way behind the header is a front
 pub front_by_way : (bytes : List ℕ) (id : ℕ) (items : List Item) (at until : ℕ)
-    → IsHeaderAt bytes id → Trace bytes id 20 20 items at until → Reaches bytes id at until
+    → IsHeaderAt bytes id → Trace bytes id header_size header_size items at until
+    → Reaches bytes id at until
 front_by_way bytes id items at until header way =
     let ss = sections_of items in
-    let s = sections_bytes id 20 ss in
-    let parts = splits bytes id 20 20 items at until (omega arith) way in
-    let none : payloads_of items ≡ [] = none_before bytes id 20 20 items at until way refl in
+    let s = sections_bytes id header_size ss in
+    let parts = splits bytes id header_size header_size items at until (omega arith) way in
+    let none : payloads_of items ≡ [] =
+    none_before bytes id header_size header_size items at until way refl in
     let ends : at ≡ length (header_bytes id ++ s) =
     parts.place_is
-    ∙ ap (λ ps. 20 + length (entries_bytes ps) + length s) none ∙ omega arith in
-    let behind : drop 20 bytes ≡ s ++ drop at bytes =
+    ∙ ap (λ ps. header_size + length (entries_bytes ps) + length s) none ∙ omega arith in
+    let behind : drop header_size bytes ≡ s ++ drop at bytes =
     parts.spelled ∙ ap (λ ps. entries_bytes ps ++ (s ++ drop at bytes)) none in
     record {
       sections = ss;
@@ -130,14 +139,15 @@ front_by_way bytes id items at until header way =
 
 -- a way that stops tells what the bytes hold
 pub segment_by_way : (bytes : List ℕ) (id : ℕ) (items : List Item) (at until : ℕ) (end : End)
-    → IsFile bytes → IsHeaderAt bytes id → Trace bytes id 20 20 items at until
-    → StopsAt bytes id at until end → IsSegment bytes id (held_from 20 items) end
+    → IsFile bytes → IsHeaderAt bytes id → Trace bytes id header_size header_size items at until
+    → StopsAt bytes id at until end → IsSegment bytes id (held_from header_size items) end
 unfolding front_by_way
 segment_by_way bytes id items at until end file header way stops =
     let reached = front_by_way bytes id items at until header way in
     let ss = sections_of items in
-    let parts = splits bytes id 20 20 items at until (omega arith) way in
-    let none : payloads_of items ≡ [] = none_before bytes id 20 20 items at until way refl in
+    let parts = splits bytes id header_size header_size items at until (omega arith) way in
+    let none : payloads_of items ≡ [] =
+    none_before bytes id header_size header_size items at until way refl in
     let Stops : ℕ → ℕ → Type 0 = λ a u. StopsAt bytes id a u end in
     record {
       front = Some ss;
@@ -146,8 +156,8 @@ segment_by_way bytes id items at until end file header way stops =
           let most = no_longer bytes id items at until end file header way stops other front in
           omega (arith, most, reached.place);
       entries_are = parts.entries
-          ∙ ap (λ ps. entries_from 20 ps ++ entries_of 20 ss) none;
-      ends = subst (λ a. Stops a (last_until 20 ss)) reached.place
+          ∙ ap (λ ps. entries_from header_size ps ++ entries_of header_size ss) none;
+      ends = subst (λ a. Stops a (last_until header_size ss)) reached.place
           (subst (Stops at) reached.end stops);
     }
 
@@ -219,14 +229,16 @@ one_answer bytes id entries end entries' end' (Some ss) (Some ss') file fits fro
     ends ends' =
     let at = length (front_bytes id (Some ss)) in
     let at' = length (front_bytes id (Some ss')) in
-    let until = last_until 20 ss in
-    let until' = last_until 20 ss' in
+    let until = last_until header_size ss in
+    let until' = last_until header_size ss' in
     let long = header_long bytes id (front_header bytes id ss front) in
     let way = front_way bytes id ss front in
     let way' = front_way bytes id ss' front' in
-    let on = one_way bytes id 20 20 (items_of ss) at until end (items_of ss') at' until' file long
+    let on = one_way bytes id header_size header_size (items_of ss) at until end
+    (items_of ss') at' until' file long
     way ends way' in
-    let on' = one_way bytes id 20 20 (items_of ss') at' until' end' (items_of ss) at until file long
+    let on' = one_way bytes id header_size header_size (items_of ss') at' until' end'
+    (items_of ss) at until file long
     way' ends' way in
     let up = goes_forward bytes id at' until' on.more at until on.way in
     let down = goes_forward bytes id at until on'.more at' until' on'.way in
@@ -238,8 +250,9 @@ one_answer bytes id entries end entries' end' (Some ss) (Some ss') file fits fro
     subst (λ l. Trace bytes id at' until' l at until) none on.way in
     let Stops : ℕ → ℕ → Type 0 = λ a u. StopsAt bytes id a u end' in
     record {
-      entries_are = are ∙ sym (held_from-items_of (length bytes) 20 ss front.sections)
-          ∙ ap (held_from 20) items ∙ held_from-items_of (length bytes) 20 ss' front'.sections
+      entries_are = are ∙ sym (held_from-items_of (length bytes) header_size ss front.sections)
+          ∙ ap (held_from header_size) items ∙ held_from-items_of
+          (length bytes) header_size ss' front'.sections
           ∙ sym are';
       ends_are = one_stop bytes id at until end end' ends
           (subst (λ a. Stops a until) still.0 (subst (Stops at') still.1 ends'));

@@ -35,6 +35,7 @@ use Rattle.clog_scan.specs.Laws.{IsFile, HasSegment}
 use Rattle.clog_scan.specs.Segment.{StopsAt}
 use Rattle.clog_scan.proofs.Trace.{Item, Marked, Held, Trace, held_from}
 use Rattle.clog_scan.proofs.Theorems.{header_long, segment_by_way, segment_without_header}
+use Rattle.clog_spec.specs.Sizes.{header_size, marker_size, frame_size}
 
 -- a way that stops
 record Stopping (bytes : List ℕ) (id at until : ℕ) : Type 0 where
@@ -46,7 +47,7 @@ record Stopping (bytes : List ℕ) (id at until : ℕ) : Type 0 where
   stops : StopsAt bytes id place end stop
 
 by_marker : (bytes : List ℕ) (id at until : ℕ) → IsFile bytes → at ≡ until
-    → ((next : ℕ) → IsMarkerAt bytes id at next → Stopping bytes id (at + 8) next)
+    → ((next : ℕ) → IsMarkerAt bytes id at next → Stopping bytes id (at + marker_size) next)
     → (read : Result Marker Cause) → marker_read bytes id at ≡ read → Stopping bytes id at until
 by_marker bytes id at until file full more (Ok (markers.Section next)) is =
     let marked = marker_found bytes id at next file.are_bytes is in
@@ -78,7 +79,7 @@ by_marker bytes id at until file full more (Err cause) is = record {
 
 by_entry : (bytes : List ℕ) (id at until : ℕ) → IsFile bytes → at < until → until ≤ length bytes
     → ((payload : List ℕ) → IsEntryAt bytes at until payload
-    → Stopping bytes id (at + 12 + length payload) until)
+    → Stopping bytes id (at + frame_size + length payload) until)
     → (read : Result ℕ Cause) → entry_read bytes at until ≡ read → Stopping bytes id at until
 by_entry bytes id at until file room within more (Ok size) is =
     let payload = payload_at bytes at size in
@@ -106,10 +107,12 @@ stopping : (fuel : ℕ) (bytes : List ℕ) (id at until : ℕ) → IsFile bytes 
 stopping zero bytes id at until file order within enough = absurd (omega arith)
 stopping (suc fuel) bytes id at until file order within enough = elim (cases_lt at until) [
   | inl room ↦ by_entry bytes id at until file room within
-      (λ payload held. stopping fuel bytes id (at + 12 + length payload) until file held.fits
+      (λ payload held. stopping fuel bytes id
+      (at + frame_size + length payload) until file held.fits
       within (omega (arith, enough))) (entry_read bytes at until) refl
   | inr rest ↦ by_marker bytes id at until file (omega (arith, order, rest))
-      (λ next marked. stopping fuel bytes id (at + 8) next file marked.behind marked.within
+      (λ next marked. stopping fuel bytes id
+      (at + marker_size) next file marked.behind marked.within
       (omega (arith, enough))) (marker_read bytes id at) refl
 ]
 
@@ -117,9 +120,9 @@ by_header : (bytes : List ℕ) (id : ℕ) → IsFile bytes → id < 2 ^ 64
     → (read : Result Unit Cause) → header_read bytes id ≡ read → HasSegment bytes id
 by_header bytes id file fits (Ok there) is =
     let header = header_found bytes id file.are_bytes is in
-    let rest = stopping (length bytes + 1) bytes id 20 20 file (omega arith)
+    let rest = stopping (length bytes + 1) bytes id header_size header_size file (omega arith)
     (header_long bytes id header) (omega arith) in (
-      held_from 20 rest.items,
+      held_from header_size rest.items,
       rest.stop,
       segment_by_way bytes id rest.items rest.place rest.end rest.stop file header rest.way
           rest.stops,

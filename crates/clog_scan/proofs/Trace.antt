@@ -29,6 +29,7 @@ use Rattle.clog_scan.specs.declared.answer.End.{End}
 use Rattle.clog_scan.specs.declared.answer.End.TheVariants.{Clean, Torn}
 use Rattle.clog_scan.specs.Laws.{IsFile}
 use Rattle.clog_scan.specs.Segment.{Entry, entry_from, StopsAt}
+use Rattle.clog_spec.specs.Sizes.{marker_size, frame_size}
 
 pub data Item : Type 0 where
   Marked : (until : ℕ) → Item
@@ -38,49 +39,50 @@ pub data Item : Type 0 where
 abbrev pub Trace : List ℕ → ℕ → ℕ → ℕ → List Item → ℕ → ℕ → Type 0
 Trace bytes id at until [] place end = (at ≡ place) × (until ≡ end)
 Trace bytes id at until (Marked next ∷ items) place end =
-    (at ≡ until) × IsMarkerAt bytes id at next × Trace bytes id (at + 8) next items place end
+    (at ≡ until) × IsMarkerAt bytes id at next × Trace bytes id
+    (at + marker_size) next items place end
 Trace bytes id at until (Held p ∷ items) place end =
     (at < until) × IsEntryAt bytes at until p
-    × Trace bytes id (at + 12 + length p) until items place end
+    × Trace bytes id (at + frame_size + length p) until items place end
 
 -- the entries among these items
 abbrev pub held_from : ℕ → List Item → List Entry
 held_from at [] = []
-held_from at (Marked next ∷ items) = held_from (at + 8) items
-held_from at (Held p ∷ items) = entry_from at p ∷ held_from (at + 12 + length p) items
+held_from at (Marked next ∷ items) = held_from (at + marker_size) items
+held_from at (Held p ∷ items) = entry_from at p ∷ held_from (at + frame_size + length p) items
 
 pub marked_last : (bytes : List ℕ) (id at until : ℕ) (items : List Item) (place end next : ℕ)
     → Trace bytes id at until items place end → place ≡ end → IsMarkerAt bytes id place next
-    → Trace bytes id at until (items ++ Marked next ∷ []) (place + 8) next
+    → Trace bytes id at until (items ++ Marked next ∷ []) (place + marker_size) next
 marked_last bytes id at until [] place end next way full marked = (
   omega (arith, way.0, way.1, full),
   subst (λ k. IsMarkerAt bytes id k next) (sym way.0) marked,
-  (ap (λ k. k + 8) way.0, refl),
+  (ap (λ k. k + marker_size) way.0, refl),
 )
 marked_last bytes id at until (Marked n ∷ items) place end next way full marked =
-    (way.0, way.1, marked_last bytes id (at + 8) n items place end next way.2 full marked)
+    (way.0, way.1, marked_last bytes id (at + marker_size) n items place end next way.2 full marked)
 marked_last bytes id at until (Held p ∷ items) place end next way full marked = (
   way.0,
   way.1,
-  marked_last bytes id (at + 12 + length p) until items place end next way.2 full marked,
+  marked_last bytes id (at + frame_size + length p) until items place end next way.2 full marked,
 )
 
 pub held_last : (bytes : List ℕ) (id at until : ℕ) (items : List Item) (place end : ℕ)
     (payload : List ℕ) → Trace bytes id at until items place end → place < end
     → IsEntryAt bytes place end payload
-    → Trace bytes id at until (items ++ Held payload ∷ []) (place + 12 + length payload) end
+    → Trace bytes id at until (items ++ Held payload ∷ []) (place + frame_size + length payload) end
 held_last bytes id at until [] place end payload way room held =
     let IsHere : ℕ → ℕ → Type 0 = λ k u. IsEntryAt bytes k u payload in (
       omega (arith, way.0, way.1, room),
       subst (λ k. IsHere k until) (sym way.0) (subst (IsHere place) (sym way.1) held),
-      (ap (λ k. k + 12 + length payload) way.0, way.1),
+      (ap (λ k. k + frame_size + length payload) way.0, way.1),
     )
 held_last bytes id at until (Marked n ∷ items) place end payload way room held =
-    (way.0, way.1, held_last bytes id (at + 8) n items place end payload way.2 room held)
+    (way.0, way.1, held_last bytes id (at + marker_size) n items place end payload way.2 room held)
 held_last bytes id at until (Held p ∷ items) place end payload way room held = (
   way.0,
   way.1,
-  held_last bytes id (at + 12 + length p) until items place end payload way.2 room held,
+  held_last bytes id (at + frame_size + length p) until items place end payload way.2 room held,
 )
 
 pub held_from-marked : (bytes : List ℕ) (id at until : ℕ) (items : List Item) (place end next : ℕ)
@@ -88,10 +90,10 @@ pub held_from-marked : (bytes : List ℕ) (id at until : ℕ) (items : List Item
     → held_from at (items ++ Marked next ∷ []) ≡ held_from at items
 held_from-marked bytes id at until [] place end next way = refl
 held_from-marked bytes id at until (Marked n ∷ items) place end next way =
-    held_from-marked bytes id (at + 8) n items place end next way.2
+    held_from-marked bytes id (at + marker_size) n items place end next way.2
 held_from-marked bytes id at until (Held p ∷ items) place end next way =
     ap (λ es. entry_from at p ∷ es)
-    (held_from-marked bytes id (at + 12 + length p) until items place end next way.2)
+    (held_from-marked bytes id (at + frame_size + length p) until items place end next way.2)
 
 pub held_from-held : (bytes : List ℕ) (id at until : ℕ) (items : List Item) (place end : ℕ)
     (payload : List ℕ) → Trace bytes id at until items place end
@@ -100,30 +102,30 @@ pub held_from-held : (bytes : List ℕ) (id at until : ℕ) (items : List Item) 
 held_from-held bytes id at until [] place end payload way =
     ap (λ k. entry_from k payload ∷ []) way.0
 held_from-held bytes id at until (Marked n ∷ items) place end payload way =
-    held_from-held bytes id (at + 8) n items place end payload way.2
+    held_from-held bytes id (at + marker_size) n items place end payload way.2
 held_from-held bytes id at until (Held p ∷ items) place end payload way =
     ap (λ es. entry_from at p ∷ es)
-    (held_from-held bytes id (at + 12 + length p) until items place end payload way.2)
+    (held_from-held bytes id (at + frame_size + length p) until items place end payload way.2)
 
 -- the way goes forward
 pub goes_forward : (bytes : List ℕ) (id at until : ℕ) (items : List Item) (place end : ℕ)
     → Trace bytes id at until items place end → at ≤ place
 goes_forward bytes id at until [] place end way = omega (arith, way.0)
 goes_forward bytes id at until (Marked n ∷ items) place end way =
-    omega (arith, goes_forward bytes id (at + 8) n items place end way.2)
+    omega (arith, goes_forward bytes id (at + marker_size) n items place end way.2)
 goes_forward bytes id at until (Held p ∷ items) place end way =
-    omega (arith, goes_forward bytes id (at + 12 + length p) until items place end way.2)
+    omega (arith, goes_forward bytes id (at + frame_size + length p) until items place end way.2)
 
 -- a way that comes back has gone nowhere
 pub goes_nowhere : (bytes : List ℕ) (id at until : ℕ) (items : List Item) (place end : ℕ)
     → Trace bytes id at until items place end → place ≤ at → items ≡ []
 goes_nowhere bytes id at until [] place end way back = refl
 goes_nowhere bytes id at until (Marked n ∷ items) place end way back =
-    absurd (omega (arith, back, goes_forward bytes id (at + 8) n items place end way.2))
+    absurd (omega (arith, back, goes_forward bytes id (at + marker_size) n items place end way.2))
 goes_nowhere bytes id at until (Held p ∷ items) place end way back = absurd (omega (
   arith,
   back,
-  goes_forward bytes id (at + 12 + length p) until items place end way.2,
+  goes_forward bytes id (at + frame_size + length p) until items place end way.2,
 ))
 
 pub stays_within : (bytes : List ℕ) (id at until : ℕ) (items : List Item) (place end : ℕ)
@@ -132,9 +134,9 @@ pub stays_within : (bytes : List ℕ) (id at until : ℕ) (items : List Item) (p
 stays_within bytes id at until [] place end way order within =
     (omega (arith, way.0, way.1, order), omega (arith, way.1, within))
 stays_within bytes id at until (Marked n ∷ items) place end way order within =
-    stays_within bytes id (at + 8) n items place end way.2 way.1.behind way.1.within
+    stays_within bytes id (at + marker_size) n items place end way.2 way.1.behind way.1.within
 stays_within bytes id at until (Held p ∷ items) place end way order within =
-    stays_within bytes id (at + 12 + length p) until items place end way.2 way.1.fits within
+    stays_within bytes id (at + frame_size + length p) until items place end way.2 way.1.fits within
 
 no_marker_where_it_stops : (bytes : List ℕ) (id at until next : ℕ) (end : End)
     → StopsAt bytes id at until end → at ≡ until
@@ -202,8 +204,9 @@ one_way bytes id at until [] place end stop (Marked n ∷ some) at' until' file 
 one_way bytes id at until (Marked m ∷ all) place end stop (Marked n ∷ some) at' until' file within
     way stops part =
     let same : m ≡ n = same_marker bytes id at m n file way.1 part.1 in
-    let rest = one_way bytes id (at + 8) n all place end stop some at' until' file part.1.within
-    (subst (λ k. Trace bytes id (at + 8) k all place end) same way.2) stops part.2 in
+    let rest = one_way bytes id
+    (at + marker_size) n all place end stop some at' until' file part.1.within
+    (subst (λ k. Trace bytes id (at + marker_size) k all place end) same way.2) stops part.2 in
     record {
       more = rest.more;
       whole = ap (λ k. Marked k ∷ all) same ∙ ap (λ l. Marked n ∷ l) rest.whole;
@@ -223,8 +226,10 @@ one_way bytes id at until (Marked m ∷ all) place end stop (Held q ∷ some) at
 one_way bytes id at until (Held p ∷ all) place end stop (Held q ∷ some) at' until' file within
     way stops part =
     let same : p ≡ q = same_entry bytes at until p q file within way.1 part.1 in
-    let rest = one_way bytes id (at + 12 + length q) until all place end stop some at' until' file
-    within (subst (λ l. Trace bytes id (at + 12 + length l) until all place end) same way.2) stops
+    let rest = one_way bytes id
+    (at + frame_size + length q) until all place end stop some at' until' file
+    within (subst (λ l. Trace bytes id
+    (at + frame_size + length l) until all place end) same way.2) stops
     part.2 in
     record {
       more = rest.more;

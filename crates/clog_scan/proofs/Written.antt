@@ -40,6 +40,7 @@ use Rattle.clog_scan.specs.Laws.{IsFile, AreWhole}
 use Rattle.clog_scan.specs.Segment.{Entry, entries_of, IsSegment}
 use Rattle.clog_scan.proofs.Sections.{items_of, held_from-items_of}
 use Rattle.clog_scan.proofs.Theorems.{front_header, front_way, segment_by_way}
+use Rattle.clog_spec.specs.Sizes.{header_size, marker_size}
 
 pub whole_sections : (len at : ℕ) (ss : List Section) → AreWhole len at ss → AreSections len at ss
 whole_sections len at [] whole = tt
@@ -58,19 +59,20 @@ whole_until id len at (s ∷ ss) whole =
     size ∙ whole_until id len s.until ss whole.2
 
 -- the file's end is no marker
-pub ends_there : (bytes : List ℕ) (id at : ℕ) → length bytes < at + 8
+pub ends_there : (bytes : List ℕ) (id at : ℕ) → length bytes < at + marker_size
     → marker_read bytes id at ≡ Ok no_marker
 unfolding marker_read
 ends_there bytes id at short =
-    let test : nat_lt (length bytes) (at + 8) ≡ true = grind (arith, nat_tests) in
+    let test : nat_lt (length bytes) (at + marker_size) ≡ true = grind (arith, nat_tests) in
     rw test refl
 
 pub written : (bytes : List ℕ) (id : ℕ) (ss : List Section) → IsFile bytes
-    → bytes ≡ header_bytes id ++ sections_bytes id 20 ss → AreWhole (length bytes) 20 ss
-    → IsSegment bytes id (entries_of 20 ss) (Clean (length bytes))
+    → bytes ≡ header_bytes id ++ sections_bytes id header_size ss
+    → AreWhole (length bytes) header_size ss
+    → IsSegment bytes id (entries_of header_size ss) (Clean (length bytes))
 written bytes id ss file is whole =
-    let lawful = whole_sections (length bytes) 20 ss whole in
-    let text = header_bytes id ++ sections_bytes id 20 ss in
+    let lawful = whole_sections (length bytes) header_size ss whole in
+    let text = header_bytes id ++ sections_bytes id header_size ss in
     let same : length bytes ≡ length text = ap length is in
     let none : drop (length text) bytes ≡ [] =
     drop_all (length text) bytes (omega (arith, same)) in
@@ -79,13 +81,13 @@ written bytes id ss file is whole =
       sections = lawful;
     } in
     let at = length (front_bytes id (Some ss)) in
-    let until = last_until 20 ss in
+    let until = last_until header_size ss in
     let full : at ≡ until =
-    let e : at ≡ 20 + length (sections_bytes id 20 ss) = omega arith in
-    e ∙ whole_until id (length bytes) 20 ss whole in
+    let e : at ≡ header_size + length (sections_bytes id header_size ss) = omega arith in
+    e ∙ whole_until id (length bytes) header_size ss whole in
     let segment = segment_by_way bytes id (items_of ss) at until (Clean at) file
     (front_header bytes id ss front) (front_way bytes id ss front)
     (refl, full, ends_there bytes id at (omega (arith, same))) in
     let IsSo : List Entry → ℕ → Type 0 = λ es k. IsSegment bytes id es (Clean k) in
-    subst (IsSo (entries_of 20 ss)) (sym same)
-    (subst (λ es. IsSo es at) (held_from-items_of (length bytes) 20 ss lawful) segment)
+    subst (IsSo (entries_of header_size ss)) (sym same)
+    (subst (λ es. IsSo es at) (held_from-items_of (length bytes) header_size ss lawful) segment)

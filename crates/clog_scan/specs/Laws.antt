@@ -27,6 +27,7 @@ use Rattle.clog_spec.specs.Sizes.{
   least_payload,
 }
 use Rattle.clog_entry.specs.declared.cause.Cause.{Cause}
+use Rattle.clog_entry.specs.Fields.{entry_front_size}
 use Rattle.clog_entry.specs.Soft.{IsOfHeader, PassesAsHeader}
 use Rattle.clog_entry.specs.Spelled.{IsMarkerAt}
 use Rattle.clog_scan.specs.declared.answer.End.{End}
@@ -71,8 +72,8 @@ pub record Reaches (bytes : List ℕ) (id at until : ℕ) : Type 0 where
   pub place : at ≡ length (front_bytes id (Some sections))
   pub end : until ≡ last_until header_size sections
 
--- An entry lies behind a marker that reading comes to, so at 28 or later, and ends at or below the
--- end of the marker's section.
+-- An entry lies behind a marker that reading comes to, so at `front_size` or later, and ends at or
+-- below the end of the marker's section.
 pub record IsInSection (bytes : List ℕ) (id : ℕ) (e : Entry) : Type 0 where
   pub marker : ℕ
   pub until : ℕ
@@ -87,12 +88,12 @@ pub record IsHeld (bytes : List ℕ) (id : ℕ) (e : Entry) : Type 0 where
   pub spelled : drop e.start bytes ≡ entry_bytes e.payload ++ drop e.end bytes
   pub range : e.end ≡ e.start + frame_size + length e.payload
   pub least : least_payload ≤ length e.payload
-  pub payload_is : slice_range bytes (e.start + 8) (e.end - 4) ≡ e.payload
+  pub payload_is : slice_range bytes (e.start + entry_front_size) (e.end - 4) ≡ e.payload
   pub section : IsInSection bytes id e
 
 -- the range of an entry in a file of this length
 pub record IsRange (len : ℕ) (f : Found) : Type 0 where
-  pub room : f.start + 22 ≤ f.end
+  pub room : f.start + frame_size + least_payload ≤ f.end
   pub within : f.end ≤ len
 
 -- the ranges that a scan of a file of this length tells

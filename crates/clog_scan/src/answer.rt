@@ -3,10 +3,13 @@ use clog_base::Rows;
 use clog_entry::Cause;
 
 /// Where an entry lies: offsets in the segment's file, in bytes. `end` is exclusive, and is the
-/// offset of the entry's position. The payload is the bytes `start + 8` to `end - 4`.
+/// offset of the entry's position. The payload begins `ENTRY_FRONT_SIZE` behind `start`, and ends 4
+/// bytes before `end`.
 #[derive(Clone, Copy, Debug, PartialEq, Eq)]
 pub struct Found {
+    /// Where the entry begins.
     pub start: u32,
+    /// Where it ends, exclusive.
     pub end: u32,
 }
 
@@ -25,6 +28,8 @@ pub enum End {
 /// The entries of a segment in front of its end, and the end.
 #[derive(Drop)]
 pub struct Scan {
+    /// The entries, in the order of the file.
     pub entries: Founds,
+    /// How the segment ends, behind them.
     pub end: End,
 }

@@ -33,7 +33,7 @@ pub fn one_answer_for_any_bytes()
 {}
 
 /// Entries lie in order in front of the end, none over another. Each is the entry of its payload,
-/// at offset 28 or later, and lies within a section whose marker reading comes to.
+/// at `FRONT_SIZE` or later, and lies within a section whose marker reading comes to.
 pub fn entries_in_order()
     ensures { (bytes : List ℕ) (id : ℕ) (entries : List Entry) (end : segment_end)
         → IsSegment bytes id entries end → AreLaidOut bytes id 0 entries (place_of end) }
