@@ -8,7 +8,9 @@ use clog_base::Position;
 /// The positions above `lower` and at or below `upper`.
 #[derive(Clone, Copy, Debug, PartialEq, Eq)]
 pub struct Interval {
+    /// The end that is not in it.
     pub lower: Position,
+    /// The end that is in it.
     pub upper: Position,
 }
 

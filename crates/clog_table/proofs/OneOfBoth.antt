@@ -39,7 +39,7 @@ use Rattle.std.proofs.lemmas.Bool.Decides.{Decides-eqb, not_from_Decides}
 use Rattle.std.proofs.lemmas.Slice.Eq.{bytes_eq-Decides}
 use Rattle.std.proofs.lemmas.List.{take_all}
 use Rattle.clog_spec.specs.Crc.{IsBytes}
-use Rattle.clog_spec.proofs.Bytes.{drop-IsBytes}
+use Rattle.clog_spec.proofs.Bytes.{drop-IsBytes, back-IsBytes}
 use Rattle.clog_base.specs.declared.position.Position.{Position}
 use Rattle.clog_base.specs.declared.cell.Cell.{Cell}
 use Rattle.clog_base.specs.declared.cell.CellKey.{CellKey}
@@ -130,10 +130,6 @@ above_by row rows key Greater e rest =
 above_or : (rows : Pairs) (key : CellKey) → IsAbove rows key ⊎ (¬ IsAbove rows key)
 above_or [] key = inl tt
 above_or (row ∷ rows) key = above_by row rows key (key_cmp row.0 key) refl (above_or rows key)
-
-behind_fits : (xs ys : List ℕ) → IsBytes (xs ++ ys) → IsBytes ys
-behind_fits [] ys fits = fits
-behind_fits (x ∷ xs) ys fits = behind_fits xs ys (λ i. fits (suc i))
 
 -- ---- the head
 by_head : (table : Table) (bytes : List ℕ) → IsBytes bytes
@@ -277,7 +273,7 @@ module _ (table : Table) (bytes : List ℕ) (head : Head) (has : HasHead table b
               joined = refl;
               ordered = ordered;
             }))
-            (behind_fits (cell_bytes pair) x.1 (subst IsBytes t.0 fits))
+            (back-IsBytes (cell_bytes pair) x.1 (subst IsBytes t.0 fits))
             (omega (arith, count, length_push cells pair))
         | inr not ↦ refused (Order (place bytes rest)) (known_order (place bytes rest))
             (refused_here bytes head.table head.count (behind_head bytes) cells rest
