@@ -91,7 +91,7 @@ table_name table = table_name_of table.0 1
 
 -- ---- the two files
 
-ab : IsUtf8 (codes "ab")
+pub ab : IsUtf8 (codes "ab")
 unfolding encode
 ab = (97 ∷ 98 ∷ [], (refl, refl))
 
@@ -99,11 +99,11 @@ aa : IsUtf8 (codes "aa")
 unfolding encode
 aa = (97 ∷ 97 ∷ [], (refl, refl))
 
-cd : IsUtf8 (codes "cd")
+pub cd : IsUtf8 (codes "cd")
 unfolding encode
 cd = (99 ∷ 100 ∷ [], (refl, refl))
 
-stored : IsStored the_mutation
+pub stored : IsStored the_mutation
 stored = record {
   key = record { size = record { some = omega arith; few = omega arith }; utf8 = ab };
   some = omega arith;
@@ -146,7 +146,7 @@ held =
       tt,
     )
 
-one_in_order : (pair : CellKey × Cell) → AreInOrder (pair ∷ [])
+pub one_in_order : (pair : CellKey × Cell) → AreInOrder (pair ∷ [])
 unfolding IsStrictlySortedBy
 one_in_order pair = (tt, tt)
 
@@ -269,7 +269,7 @@ is_read table upper few fits = record {
 
 -- ---- its cells
 
-only : {A : Type 0} (x y : A) → Contains (x ∷ []) y → x ≡ y
+pub only : {A : Type 0} (x y : A) → Contains (x ∷ []) y → x ≡ y
 only x y h = elim (first_or_further x [] y h) [
   | inl same ↦ same
   | inr none ↦ absurd (nothing_there y none)
@@ -313,7 +313,7 @@ logged_is table upper id entry few l =
           )
     ]
 
-abbrev the_update : Update
+abbrev pub the_update : Update
 the_update = record { table = first_table; column = codes "cd"; cell = a_deletion }
 
 update_is : (table : Table) (upper : ℕ) (pair : CellKey × Cell) → table.0 < most_tables

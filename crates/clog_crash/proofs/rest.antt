@@ -4,6 +4,7 @@ pub mod Firsts
 pub mod Keeping
 pub mod Left
 pub mod Nexts
+pub mod Opening
 pub mod Rolling
 pub mod Sectioned
 pub mod Settled

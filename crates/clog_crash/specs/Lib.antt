@@ -1,8 +1,12 @@
 pub mod Chance
 pub mod Changes
+pub mod Counts
 pub mod Covering
+pub mod Damage
+pub mod Droppable
 pub mod Flush
 pub mod Folder
+pub mod Grown
 pub mod Laws
 pub mod Log
 pub mod Readings
@@ -12,3 +16,5 @@ pub mod Sections
 pub mod Showing
 pub mod Tail
 pub mod Worked
+pub mod WorkedDrop
+pub mod WorkedTorn

@@ -6,6 +6,8 @@
 
 mod changing;
 mod crashes;
+mod dropping;
+mod first_damage;
 mod laws;
 mod tears;
 
@@ -14,6 +16,11 @@ pub use changing::{
     merges_by_covering, merges_make_true_files, true_files_may_come,
 };
 pub use crashes::{images_show_a_first_part, recovering_keeps_a_folder, shown_stays_shown};
+pub use dropping::{a_segment_goes_once_each_table_is_filed, droppable_segments_are_covered};
+pub use first_damage::{
+    a_bad_payload_is_damage, a_folder_has_one_first_bad_table, a_folder_has_one_first_damage,
+    a_torn_segment_is_a_tail_or_damage,
+};
 pub use laws::{
     a_segment_of_another_version_is_damage, an_interval_skips_the_entry_that_ends_in_it,
     cells_of_table_files_and_of_the_log_count, each_payload_is_that_of_a_mutation,
