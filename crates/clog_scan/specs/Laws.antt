@@ -84,7 +84,7 @@ pub record IsInSection (bytes : List ℕ) (id : ℕ) (e : Entry) : Type 0 where
   pub within : e.end ≤ until
 
 -- the bytes in an entry's range are the entry of its payload
-pub record IsHeld (bytes : List ℕ) (id : ℕ) (e : Entry) : Type 0 where
+pub record IsLaid (bytes : List ℕ) (id : ℕ) (e : Entry) : Type 0 where
   pub spelled : drop e.start bytes ≡ entry_bytes e.payload ++ drop e.end bytes
   pub range : e.end ≡ e.start + frame_size + length e.payload
   pub least : least_payload ≤ length e.payload
@@ -104,7 +104,7 @@ HasRanges len scan = All (IsRange len) scan.entries
 abbrev pub AreLaidOut : List ℕ → ℕ → ℕ → List Entry → ℕ → Type 0
 AreLaidOut bytes id from [] place = from ≤ place
 AreLaidOut bytes id from (e ∷ es) place =
-    (from ≤ e.start) × IsHeld bytes id e × AreLaidOut bytes id e.end es place
+    (from ≤ e.start) × IsLaid bytes id e × AreLaidOut bytes id e.end es place
 
 -- sections from an offset on whose entries fill them, in a file of this length
 abbrev pub AreWhole : ℕ → ℕ → List Section → Type 0

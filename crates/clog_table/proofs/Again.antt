@@ -59,6 +59,7 @@ use Rattle.clog_table.specs.Format.{
   head_size,
   behind_head,
   head_of,
+  head_front_size,
 }
 use Rattle.clog_table.specs.Limits.{IsUpTo, IsThisTable, IsStoredCell, IsWithinLimits, IsWritable}
 use Rattle.clog_table.specs.Reading.{Fields, cell_at}
@@ -243,7 +244,8 @@ module _ (table : Table) (bytes : List ℕ) (file : TableFile) (f : IsFileOf tab
       let one : take 4 bytes ≡ to_be_bytes w32 1 = ap (take 4) f.spelled in
       absurd (h.other (four_once n 1 h.fits (omega arith) (sym h.version ∙ one)))
   not_refused HeadCheck h =
-      absurd (h.wrong (subst (λ (l : List ℕ). take 4 (drop 33 l) ≡ check_bytes (take 33 l))
+      absurd (h.wrong (subst (λ (l : List ℕ). take 4 (drop head_front_size l)
+      ≡ check_bytes (take head_front_size l))
       (sym f.spelled) refl))
   not_refused OtherTable h =
       let heads = one_head bytes (head_of file) h.head begins h.begins in

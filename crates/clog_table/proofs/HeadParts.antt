@@ -40,6 +40,7 @@ use Rattle.clog_table.specs.Format.{
   head_bytes,
   head_size,
   check_bytes,
+  head_front_size,
 }
 use Rattle.clog_table.specs.Limits.{
   IsStoredPosition,
@@ -102,9 +103,10 @@ five_same : {a a' b b' c c' d d' e e' : List ℕ} → a ≡ a' → b ≡ b' → 
     → (((a ++ b) ++ c) ++ d) ++ e ≡ (((a' ++ b') ++ c') ++ d') ++ e'
 five_same p q r s t i = (((p i ++ q i) ++ r i) ++ s i) ++ t i
 
--- five pieces of the first 33 bytes
+-- five pieces of a head without its check
 front_parts : (bs : List ℕ)
-    → take 33 bs ≡ (((take 4 bs ++ take 1 (drop 4 bs)) ++ take 12 (drop 5 bs)) ++ take 12
+    → take head_front_size bs
+    ≡ (((take 4 bs ++ take 1 (drop 4 bs)) ++ take 12 (drop 5 bs)) ++ take 12
     (drop 17 bs))
     ++ take 4 (drop 29 bs)
 front_parts bs =
@@ -113,7 +115,7 @@ front_parts bs =
     (take_parts 5 12 bs ∙ ap (λ (l : List ℕ). l ++ take 12 (drop 5 bs)) (take_parts 4 1 bs)))
 
 front_spelled : (bs : List ℕ) → head_size ≤ length bs → IsBytes bs → from_be_bytes w32 bs ≡ 1
-    → take 33 bs ≡ head_front (head_at bs)
+    → take head_front_size bs ≡ head_front (head_at bs)
 front_spelled bs long fits version =
     let four : 4 ≤ length bs = omega arith in
     let at4 : 1 ≤ length (drop 4 bs) = omega (arith, length-drop 4 bs) in
@@ -134,7 +136,8 @@ front_spelled bs long fits version =
 
 -- the bytes begin with a head
 pub begins_with : (bs : List ℕ) → head_size ≤ length bs → IsBytes bs → from_be_bytes w32 bs ≡ 1
-    → take 4 (drop 33 bs) ≡ check_bytes (take 33 bs) → BeginsWithHead bs (head_at bs)
+    → take 4 (drop head_front_size bs) ≡ check_bytes (take head_front_size bs)
+    → BeginsWithHead bs (head_at bs)
 begins_with bs long fits version check =
     let front = front_spelled bs long fits version in
     record {
@@ -144,7 +147,8 @@ begins_with bs long fits version check =
         upper = position_stored (drop 17 bs) (drop-IsBytes 17 bs fits);
         count = four_below (drop 29 bs) (drop-IsBytes 29 bs fits);
       };
-      spelled = take_parts 33 4 bs ∙ ap (λ (l : List ℕ). take 33 bs ++ l) check
+      spelled = take_parts head_front_size 4 bs
+          ∙ ap (λ (l : List ℕ). take head_front_size bs ++ l) check
           ∙ ap (λ (l : List ℕ). l ++ check_bytes l) front;
     }
 

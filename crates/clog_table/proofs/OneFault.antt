@@ -51,7 +51,14 @@ use Rattle.clog_table.specs.declared.fault.TableFault.TheVariants.{
   Trailing,
   OutOfMemory,
 }
-use Rattle.clog_table.specs.Format.{cells_bytes, check_bytes, head_bytes, head_size, behind_head}
+use Rattle.clog_table.specs.Format.{
+  cells_bytes,
+  check_bytes,
+  head_bytes,
+  head_size,
+  head_front_size,
+  behind_head,
+}
 use Rattle.clog_table.specs.Limits.{IsThisTable, IsUpTo}
 use Rattle.clog_table.specs.Heads.{BeginsWithHead, HasHead, HasVersion, RefusesHead, head_at}
 use Rattle.clog_table.specs.Cells.{BeginsWithNoCell}
@@ -84,7 +91,7 @@ is_short bytes = length bytes < head_size
 abbrev head_rules : Table → List ℕ → List (Type 0)
 head_rules table bytes =
     is_short bytes ∷ (¬ HasVersion 1 bytes)
-    ∷ (take 4 (drop 33 bytes) ≢ check_bytes (take 33 bytes))
+    ∷ (take 4 (drop head_front_size bytes) ≢ check_bytes (take head_front_size bytes))
     ∷ (¬ IsThisTable (head_at (take head_size bytes)).table table)
     ∷ (¬ IsUpTo (head_at (take head_size bytes)).lower
     (head_at (take head_size bytes)).upper) ∷ ⊤ ∷ []
@@ -114,8 +121,9 @@ module _ (table : Table) (bytes : List ℕ) (head : Head) (begins : BeginsWithHe
   version : HasVersion 1 bytes
   version = ap (take 4) whole
 
-  right : take 4 (drop 33 bytes) ≡ check_bytes (take 33 bytes)
-  right = subst (λ (l : List ℕ). take 4 (drop 33 l) ≡ check_bytes (take 33 l)) (sym whole) refl
+  right : take 4 (drop head_front_size bytes) ≡ check_bytes (take head_front_size bytes)
+  right = subst (λ (l : List ℕ). take 4 (drop head_front_size l)
+      ≡ check_bytes (take head_front_size l)) (sym whole) refl
 
   read_so : head_at (take head_size bytes) ≡ head
   read_so = ap head_at begins.spelled ∙ head_again head begins.stored

@@ -68,6 +68,7 @@ use Rattle.clog_table.specs.Format.{
   head_size,
   behind_head,
   file_of,
+  head_front_size,
 }
 use Rattle.clog_table.specs.Limits.{IsThisTable, is_this_table, IsUpTo, is_up_to}
 use Rattle.clog_table.specs.Reading.{Fields, cell_at}
@@ -152,8 +153,8 @@ by_head table bytes fits = elim (below_or (length bytes) head_size) [
           },
         ))
         | inl one ↦
-            elim (decided _ (bytes_eq-Decides (take 4 (drop 33 bytes)) (check_bytes
-            (take 33 bytes)))) [
+            elim (decided _ (bytes_eq-Decides (take 4 (drop head_front_size bytes)) (check_bytes
+            (take head_front_size bytes)))) [
               | inr wrong ↦ inl (inr (
                 HeadCheck,
                 (λ e. cc e),

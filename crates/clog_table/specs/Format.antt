@@ -29,7 +29,7 @@ check_bytes bytes = to_be_bytes w32 (crc32_of bytes)
 abbrev pub position_bytes : Position → List ℕ
 position_bytes at = to_be_bytes w64 at.id ++ to_be_bytes w32 at.offset
 
--- version, table, interval, number of cells: 33 bytes
+-- version, table, interval, number of cells
 abbrev pub head_front : Head → List ℕ
 head_front head =
     to_be_bytes w32 1 ++ (head.table.0 ∷ []) ++ position_bytes head.lower
@@ -39,9 +39,12 @@ head_front head =
 abbrev pub head_bytes : Head → List ℕ
 head_bytes head = head_front head ++ check_bytes (head_front head)
 
--- so many bytes
+-- so many bytes, and so many without the check
 abbrev pub head_size : ℕ
 head_size = 37
+
+abbrev pub head_front_size : ℕ
+head_front_size = 33
 
 -- what stands behind the head
 abbrev pub behind_head : List ℕ → List ℕ

@@ -19,7 +19,13 @@ use Rattle.clog_table.specs.declared.fault.TableFault.TheVariants.{
   Trailing,
   OutOfMemory,
 }
-use Rattle.clog_table.specs.Format.{head_bytes, check_bytes, head_size, behind_head}
+use Rattle.clog_table.specs.Format.{
+  head_bytes,
+  check_bytes,
+  head_size,
+  head_front_size,
+  behind_head,
+}
 use Rattle.clog_table.specs.Limits.{IsUpTo, IsThisTable, IsStoredPosition}
 
 -- the numbers of a head fit their bytes
@@ -58,11 +64,11 @@ pub record HasOtherVersion (n : ℕ) (bytes : List ℕ) : Type 0 where
   pub version : HasVersion n bytes
   pub other : n ≢ 1
 
--- of version 1, but the check of the 33 bytes before it is wrong
+-- of version 1, but the check of what stands before it is wrong
 pub record HasWrongHeadCheck (bytes : List ℕ) : Type 0 where
   pub long : head_size ≤ length bytes
   pub version : HasVersion 1 bytes
-  pub wrong : take 4 (drop 33 bytes) ≢ check_bytes (take 33 bytes)
+  pub wrong : take 4 (drop head_front_size bytes) ≢ check_bytes (take head_front_size bytes)
 
 -- a head, but of a table above 15, or of another one
 pub record HasOtherTable (table : Table) (bytes : List ℕ) : Type 0 where

@@ -48,8 +48,8 @@ NextCell last at bytes (Err fault) = (table : Table) (cells : List (CellKey × C
     → AreInOrder cells → EndsWith table cells last → RefusesCell table at cells bytes fault
 
 -- so many cells are read, and end so
-pub record Reads (table : Table) (count : ℕ) (bytes : List ℕ) (number : ℕ) (last : Option Fields)
-    (rest : List ℕ) : Type 0 where
+pub record HasRead (table : Table) (count : ℕ) (bytes : List ℕ) (number : ℕ)
+    (last : Option Fields) (rest : List ℕ) : Type 0 where
   pub cells : List (CellKey × Cell)
   pub front : HasCells table count bytes cells rest
   pub ends : EndsWith table cells last

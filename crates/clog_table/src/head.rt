@@ -1,6 +1,6 @@
 //! The head of a table file.
 ghost use Rattle.std.specs.Prelude.{◌≡◌, ◌≤◌, ◌↔◌, length, take, drop, IsTrue};
-ghost use Rattle.clog_table.specs.Format.{check_bytes, head_size};
+ghost use Rattle.clog_table.specs.Format.{check_bytes, head_size, head_front_size};
 ghost use Rattle.clog_table.specs.Heads.{position_at, head_at, HeadGives};
 ghost use Rattle.clog_table.specs.Limits.{is_up_to, is_this_table};
 
@@ -11,6 +11,9 @@ use clog_base::{MOST_TABLES, Position, Table};
 
 /// The length of a head.
 pub(crate) const HEAD_SIZE: usize = 37;
+
+/// The length of a head without its check, which is of so many bytes.
+const HEAD_FRONT_SIZE: usize = 33;
 
 /// What the head says behind the version; the interval holds the places above `lower` and at or
 /// below `upper`.
@@ -51,9 +54,10 @@ fn head_at(bytes: &[u8]) -> Head
 /// Whether the check of the head is right.
 fn is_checked(bytes: &[u8]) -> bool
     requires { head_size ≤ length bytes.now }
-    ensures { IsTrue result ↔ (take 4 (drop 33 bytes.now) ≡ check_bytes (take 33 bytes.now)) }
+    ensures { IsTrue result ↔ (take 4 (drop head_front_size bytes.now)
+        ≡ check_bytes (take head_front_size bytes.now)) }
 {
-    let (front, check) = bytes.split_at(33);
+    let (front, check) = bytes.split_at(HEAD_FRONT_SIZE);
     is_check_of(check, front)
 }
 
