@@ -25,7 +25,8 @@ use Rattle.op_core.specs.declared.count.Tally.{Tally}
 use Rattle.op_core.specs.declared.count.Tally.TheVariants.{Open, Expired}
 use Rattle.op_core.specs.Tallies.{is_finished, tally_at, IsPassed}
 
-is_finished-true : (k : Tally) → is_finished k ≡ true → k ≡ Expired 0
+-- a count that passes the test is finished
+pub is_finished-true : (k : Tally) → is_finished k ≡ true → k ≡ Expired 0
 is_finished-true (Open r) e = absurd (let q : false ≡ true = e in cc)
 is_finished-true (Expired r) e = ap Expired (eqb-true r 0 e)
 

@@ -1,6 +1,8 @@
--- Lists: what an element, a test or a range of them tells.
+-- Lists and options: what an element, a test or a range of them tells.
 pub mod Replaced
 pub mod Inserted
 pub mod Passing
 pub mod Ranges
 pub mod Mapped
+pub mod Options
+pub mod Counted

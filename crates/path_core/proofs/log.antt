@@ -1,14 +1,23 @@
 -- The log: claims, notes, and what a sync made lasting.
+pub mod ClaimPlaces
+pub mod NextClaim
 pub mod KeepsClaims
 pub mod ClaimEnds
+pub mod KeepsOwned
+pub mod OwnNotes
 pub mod KeepsNotedOnce
 pub mod KeepsNotes
 pub mod History
+pub mod LogGrows
+pub mod LoggedStay
+pub mod StaysDroppable
 pub mod KeepsDropped
 pub mod KeepsSynced
 pub mod Between
+pub mod Deposited
 pub mod KeepsLogged
 pub mod MarkerSteps
+pub mod KeptMarker
 pub mod KeepsMarkers
 pub mod MarkerTells
 pub mod EntrySinceMarker

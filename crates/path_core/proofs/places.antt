@@ -2,10 +2,14 @@
 pub mod TableMoves
 pub mod Tries
 pub mod KeepsLater
+pub mod TriesStay
+pub mod LooksTry
+pub mod RaisesTry
 pub mod KeepsTries
 pub mod KeepsPlaced
 pub mod Closing
 pub mod KeepsPlaces
+pub mod SeatPlaced
 pub mod KeepsOnce
 pub mod HoldsInterval
 pub mod AtRest

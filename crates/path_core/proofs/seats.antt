@@ -1,9 +1,19 @@
 -- Seats: what a step leaves of each field, and that what a seat found or put still stands.
 pub mod Columns
+pub mod SeatLeft
+pub mod TriesApart
+pub mod LooksLeave
 pub mod StepColumns
+pub mod WordsStay
 pub mod KnownWords
 pub mod KnownLooks
+pub mod KnownChanges
+pub mod KnownIssues
 pub mod KnownSteps
+pub mod KnownBounds
+pub mod TableParts
 pub mod KnownTables
 pub mod KnownMoves
+pub mod LooksAtTables
+pub mod OwnTables
 pub mod KeepsSeatsKnow

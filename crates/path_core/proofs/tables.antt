@@ -1,11 +1,23 @@
 -- The memtables of tables: bounds, barriers and marks.
 pub mod WithBarriers
+pub mod TableBounds
+pub mod MemtablesMove
+pub mod OneMemtable
 pub mod Memtables
+pub mod StageLeft
 pub mod Marks
 pub mod Marked
+pub mod KeepsMemtables
+pub mod MarkStays
+pub mod MarkSteps
 pub mod KeepsSwitches
 pub mod KeepsBarriers
+pub mod SwitchLeft
 pub mod StageStands
+pub mod StageOwn
+pub mod StageTurns
 pub mod StageSteps
 pub mod KeepsStages
+pub mod BarrierTells
+pub mod EqualParts
 pub mod StageTells

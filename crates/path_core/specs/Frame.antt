@@ -25,7 +25,7 @@ use Rattle.path_core.specs.declared.event.Reading.TheVariants.{Operations, Numbe
 use Rattle.path_core.specs.declared.event.SwitchPart.TheVariants.{Open, Mark}
 use Rattle.path_core.specs.declared.state.Bound.TheVariants.{Raising}
 use Rattle.path_core.specs.declared.state.PathState.{PathState}
-use Rattle.path_core.specs.SeatAfter.{raised_to, made_final}
+use Rattle.path_core.specs.SeatParts.{raised_to, made_final}
 
 -- What stands at the place of the step after it, where this stood. A reading of another sort than
 -- its place has stands as it is.

@@ -2,22 +2,7 @@
 --
 -- A key is one number for an ordinal, which counts segments, and an offset in bytes. A claim that
 -- does not fit a segment moves the log to the next one, behind the header and the first marker.
-use Rattle.std.specs.Prelude.{
-  ◌≡◌,
-  ℕ,
-  ◌+◌,
-  ◌-◌,
-  ◌*◌,
-  ◌/◌,
-  ◌%◌,
-  ◌^◌,
-  ◌<◌,
-  ◌≤◌,
-  Bool,
-  ◌==◌,
-  nat_lt,
-  if◌then◌else◌,
-}
+use Rattle.std.specs.Prelude.{◌≡◌, ℕ, ◌+◌, ◌-◌, ◌/◌, ◌<◌, ◌≤◌, Bool, ◌==◌, nat_lt, if◌then◌else◌}
 pub use Rattle.clog_base.specs.Positions.{ordinal_of, offset_of, key_of}
 pub use Rattle.clog_spec.specs.Sizes.{front_size as first_offset, marker_size}
 use Rattle.path_core.specs.declared.event.ClaimKind.{ClaimKind}

@@ -5,6 +5,7 @@ pub mod Words
 pub mod Whole
 pub mod Droppable
 pub mod Allowed
+pub mod SeatParts
 pub mod SeatAfter
 pub mod Next
 pub mod Runs

@@ -75,7 +75,8 @@ use Rattle.path_core.specs.Parts.{
 use Rattle.path_core.specs.Words.{reading, by_of, place_of}
 use Rattle.path_core.specs.Droppable.{is_logged, is_droppable}
 use Rattle.path_core.specs.Allowed.{is_unbarred, is_unbarred_marker}
-use Rattle.path_core.specs.SeatAfter.{raised_to, made_final, seat_after}
+use Rattle.path_core.specs.SeatParts.{raised_to, made_final}
+use Rattle.path_core.specs.SeatAfter.{seat_after}
 
 -- The log key and the claims.
 

@@ -1,7 +1,7 @@
 //! Up to where a memtable takes writes, and what a write finds there.
 ghost use Rattle.std.specs.Prelude.{◌≡◌};
 ghost use Rattle.path_core.specs.Accepts.{accepted};
-ghost use Rattle.path_core.specs.SeatAfter.{
+ghost use Rattle.path_core.specs.SeatParts.{
   raised_to,
   made_final,
   is_raising,

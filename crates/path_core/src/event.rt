@@ -1,8 +1,7 @@
 //! The single steps of the write path: one step acts on one word.
 use crate::note::EntryNote;
-use crate::rows::Rows;
 use crate::state::Bound;
-use clog_base::{Key, Table};
+use clog_base::{Key, Rows, Table};
 use op_core::{Order, Tally};
 
 /// What one holder at a time may do.

@@ -3,7 +3,7 @@ ghost use Rattle.std.specs.Prelude.{◌≡◌, ◌<◌, ◌++◌, ◌∷◌, [],
 ghost use Rattle.op_core.specs.Tallies.{tally_at, one_less, expired};
 ghost use Rattle.path_core.specs.declared.event.Event.{Event};
 ghost use Rattle.path_core.specs.Parts.{groups_of};
-ghost use Rattle.path_core.specs.SeatAfter.{in_sync, with_issue};
+ghost use Rattle.path_core.specs.SeatParts.{in_sync, with_issue};
 ghost use Rattle.path_core.specs.Next.{next_of, with_tally};
 ghost use Rattle.path_core.specs.Steps.{Names, Makes, IsOneMore};
 

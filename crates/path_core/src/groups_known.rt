@@ -1,6 +1,6 @@
 //! What a seat keeps of an order's groups.
 ghost use Rattle.std.specs.Prelude.{◌≡◌};
-ghost use Rattle.path_core.specs.SeatAfter.{in_turn_groups, keeps};
+ghost use Rattle.path_core.specs.SeatParts.{in_turn_groups, keeps};
 ghost use Rattle.path_core.specs.SeatSteps.{word_found};
 
 use crate::seat::{FoundGroups, Seat, SyncTurn};

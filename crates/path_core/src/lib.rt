@@ -3,6 +3,9 @@
 #![tactic(auto)]
 
 mod bound;
+mod claim_allowed;
+mod close_changes;
+mod cursor_allowed;
 mod drop_changes;
 mod event;
 mod file_changes;
@@ -12,7 +15,6 @@ mod holder_law;
 mod keys;
 mod law;
 mod lawful_path;
-mod log_allowed;
 mod log_changes;
 mod making;
 mod move_changes;
@@ -21,7 +23,6 @@ mod note;
 mod order_allowed;
 mod path;
 mod reading;
-mod rows;
 mod seat;
 mod seat_asks;
 mod seat_steps;
@@ -35,6 +36,7 @@ mod table_files;
 mod table_steps;
 #[cfg(test)]
 mod tests;
+mod turn_allowed;
 mod turn_changes;
 
 pub use bound::accepts;
@@ -61,7 +63,6 @@ pub use lawful_path::LawfulPath;
 pub use note::EntryNote;
 pub use op_core::{Order, Tally};
 pub use path::{Path, StepFault};
-pub use rows::Rows;
 pub use seat::{
     FlushTurn, Found, FoundBound, FoundGroups, Issue, LastMarker, Marked, Range, Seat, SeatTable,
     Switching, SyncTurn,

@@ -5,11 +5,12 @@ ghost use Rattle.path_core.specs.Allowed.{IsAllowed};
 ghost use Rattle.path_core.specs.Next.{next_of};
 ghost use Rattle.path_core.specs.Steps.{IsWithin, Names, Makes, IsNoDeposit};
 
+use crate::close_changes::{make_close_append, make_close_write};
 use crate::drop_changes::make_give_sync;
 use crate::event::{Carried, Cursor, Event, SwitchPart, Turn};
 use crate::file_changes::make_retire;
 use crate::group_changes::{make_advance, make_expire, make_look, make_open_group, make_register};
-use crate::log_changes::{make_claim, make_close_append, make_close_write, make_synced};
+use crate::log_changes::{make_claim, make_synced};
 use crate::move_changes::{make_move_append, make_move_write};
 use crate::state::PathState;
 use crate::table_changes::{make_final, make_mark, make_open, make_raise};

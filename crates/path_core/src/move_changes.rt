@@ -1,13 +1,8 @@
 //! The step that makes a new group current: what waits for a barrier gets the group before.
 ghost use Rattle.std.specs.Prelude.{◌≡◌, ◌≤◌, map, length};
 ghost use Rattle.path_core.specs.declared.event.Event.{Event};
-ghost use Rattle.path_core.specs.SeatAfter.{
-  marker_barrier,
-  marker_after,
-  barrier_issued,
-  moved_turn,
-  moved,
-};
+ghost use Rattle.path_core.specs.SeatAfter.{marker_barrier, marker_after, moved_turn, moved};
+ghost use Rattle.path_core.specs.SeatParts.{barrier_issued};
 ghost use Rattle.std.specs.Option.{option_map};
 ghost use Rattle.path_core.specs.Allowed.{is_unbarred, is_unbarred_marker};
 ghost use Rattle.path_core.specs.Next.{next_of, barred, barred_marker, barred_tables};

@@ -7,12 +7,11 @@ ghost use Rattle.path_core.specs.Steps.{IsWithin, StepsTo};
 
 use crate::event::Event;
 use crate::making::make;
-use crate::rows::Rows;
 use crate::seat::{Found, FoundGroups, Seat, SeatTable};
 use crate::state::{OrderGroups, PathState, TableState};
 use crate::step_allowed::allows;
 use crate::table_changes::FRESH;
-use clog_base::{OutOfMemory, Sizes};
+use clog_base::{OutOfMemory, Rows, Sizes};
 use op_core::Tally;
 use std::alloc::Global;
 use std::marker::Model;

@@ -3,18 +3,15 @@ ghost use Rattle.std.specs.Prelude.{◌≡◌, ◌<◌, ◌||◌, map, Some, Non
 ghost use Rattle.path_core.specs.declared.seat.SyncTurn.{SyncTurn};
 ghost use Rattle.path_core.specs.declared.seat.SeatTable.{SeatTable};
 ghost use Rattle.path_core.specs.Parts.{touches};
-ghost use Rattle.path_core.specs.SeatAfter.{
+ghost use Rattle.path_core.specs.SeatParts.{
   in_sync,
   at_table,
   in_flush,
   log_found,
-  left_table,
   deposited_end,
   has_note_of,
-  looked,
-  registered,
-  is_finished,
 };
+ghost use Rattle.path_core.specs.SeatAfter.{left_table, looked, registered};
 ghost use Rattle.path_core.specs.SeatSteps.{NamesTable};
 
 use crate::event::{Cursor, Place, Reading};

@@ -7,9 +7,8 @@
 
 use crate::event::ClaimKind;
 use crate::note::EntryNote;
-use crate::rows::Rows;
 use crate::seat::Seat;
-use clog_base::Key;
+use clog_base::{Key, Rows};
 use op_core::Tally;
 
 /// Up to where a memtable takes writes.

@@ -5,11 +5,9 @@ ghost use Rattle.path_core.specs.Words.{by_of};
 ghost use Rattle.path_core.specs.Allowed.{IsThere, Row, IsAllowed};
 ghost use Rattle.path_core.specs.Steps.{IsWithin};
 
+use crate::claim_allowed::{allows_entry, allows_marker};
+use crate::cursor_allowed::{allows_retire, allows_stopped, allows_synced};
 use crate::event::{ClaimKind, Cursor, Event, SwitchPart};
-use crate::log_allowed::{
-    allows_entry, allows_give, allows_marker, allows_retire, allows_stopped, allows_synced,
-    allows_take,
-};
 use crate::names::{by_of, is_there};
 use crate::order_allowed::{
     allows_advance, allows_close, allows_expire, allows_move, allows_open_group, allows_register,
@@ -18,6 +16,7 @@ use crate::seat::Seat;
 use crate::seat_asks::has_raised;
 use crate::state::PathState;
 use crate::table_allowed::{allows_mark, allows_open, allows_raise};
+use crate::turn_allowed::{allows_give, allows_take};
 
 // Whether the row of the step's kind holds.
 fn row(state: &PathState, by: u8, seat: &Seat, event: &Event) -> bool

@@ -1,20 +1,22 @@
 //! How a seat's part at one table changes with what it finds and does there.
 ghost use Rattle.std.specs.Prelude.{◌≡◌, ◌+◌, ◌<◌, ◌^◌, Some};
 ghost use Rattle.path_core.specs.declared.seat.FlushTurn.{FlushTurn};
-ghost use Rattle.path_core.specs.SeatAfter.{
+ghost use Rattle.path_core.specs.SeatParts.{
   in_flush,
   bound_found,
   log_found,
   tries_bound,
   begins_at,
-  left_table,
-  raised_as_writer,
-  raised_stage,
-  raised_as_holder,
   key_found,
   reaches,
   with_barrier,
   barrier_issued,
+};
+ghost use Rattle.path_core.specs.SeatAfter.{
+  left_table,
+  raised_as_writer,
+  raised_stage,
+  raised_as_holder,
 };
 
 use crate::bound::{ends_below, rises, takes};

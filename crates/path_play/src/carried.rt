@@ -1,8 +1,8 @@
 //! What a seat carries to a close: nothing, the note of its entry, or the places that it took.
 use crate::fault::Fault;
 use crate::words::{Words, table_of};
-use clog_base::{Bytes, Table, Writer};
-use path_core::{Carried, EntryNote, Rows};
+use clog_base::{Bytes, Rows, Table, Writer};
+use path_core::{Carried, EntryNote};
 use std::alloc::Global;
 
 /// What the words behind a close say of it.

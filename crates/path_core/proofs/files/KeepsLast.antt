@@ -1,139 +1,44 @@
 -- Each file ends at the bound of a retired memtable, and begins at or below its interval: each
 -- allowed step keeps it.
-use Rattle.std.proofs.Common.{
-  ◌≡◌,
-  ◌≢◌,
-  ℕ,
-  zero,
-  suc,
-  ◌<◌,
-  ◌≤◌,
-  ◌==◌,
-  List,
-  ◌++◌,
-  [],
-  ◌∷◌,
-  length,
-  refl,
-  sym,
-  ap,
-  ◌∙◌,
-  subst,
-  arith,
-}
+use Rattle.std.proofs.Common.{◌≡◌, ◌≢◌, ℕ, ◌<◌, ◌≤◌, length, refl, sym, ap, ◌∙◌, subst, arith}
 use Rattle.std.specs.List.{Contains}
-use Rattle.std.proofs.lemmas.Bool.{ne_eqb, eq-eqb, cond-true, cond-false}
 use Rattle.std.proofs.lemmas.List.Elements.{Contains-push_cases}
-use Rattle.std.proofs.lemmas.List.Sums.{fold_push}
 use mathlib.Core.Logic.{inl, inr}
 use Rattle.clog_base.specs.declared.cell.Table.{Table}
 use Rattle.clog_base.specs.declared.position.Key.{Key}
-use Rattle.op_core.specs.declared.count.Order.TheVariants.{Write, Append}
 use Rattle.path_core.specs.declared.event.Cursor.TheVariants.{Synced, OldestLive, Stopped}
 use Rattle.path_core.specs.declared.event.Event.{Event}
-use Rattle.path_core.specs.declared.event.Event.TheVariants.{
-  MoveCurrent,
-  Switch,
-  Raise,
-  Finalise,
-  Put,
-}
-use Rattle.path_core.specs.declared.event.SwitchPart.TheVariants.{Open, Mark}
+use Rattle.path_core.specs.declared.event.Event.TheVariants.{Put}
 use Rattle.path_core.specs.declared.state.Bound.TheVariants.{Final}
 use Rattle.path_core.specs.declared.state.PathState.{PathState}
 use Rattle.path_core.specs.declared.state.WrittenFile.{WrittenFile}
-use Rattle.path_core.specs.Parts.{
-  fresh_table,
-  seat_of,
-  table_of,
-  memtable_of,
-  key_of_bound,
-  last_upper,
-}
+use Rattle.path_core.specs.Parts.{fresh_table, table_of, memtable_of, key_of_bound, last_upper}
 use Rattle.path_core.specs.Allowed.{IsStep}
 use Rattle.path_core.specs.Next.{next_of}
 use Rattle.path_core.specs.History.{bound_below, bound_before}
-use Rattle.path_core.specs.Lawful.{IsLawfulPlacing}
+use Rattle.path_core.specs.Lawful.{IsLawfulPlacing, IsLawfulLog}
 use Rattle.path_core.specs.LawfulTables.{MemtablesAre, FileIsOfRetired, LastFiles, FilesBegin}
 use Rattle.path_core.proofs.lists.Replaced.{put_at}
 use Rattle.path_core.proofs.files.Retires.{Retires, files_same, next_file, files_retired}
-use Rattle.path_core.proofs.tables.Memtables.{final_at}
-use Rattle.path_core.proofs.places.KeepsLater.{moves_of}
+use Rattle.path_core.proofs.tables.TableBounds.{final_at}
 use Rattle.path_core.proofs.runs.Sizes.{as_many_tables}
-use Rattle.path_core.proofs.tables.WithBarriers.{barred_at}
-
--- a step that retires no memtable leaves each table's oldest live one
-pub oldest_same : (x : PathState) (e : Event) → IsStep x e → (Retires e → ⊥) → (t : ℕ)
-    → (table_of (next_of x e) t).oldest_live ≡ (table_of x t).oldest_live
-oldest_same x (MoveCurrent by Write group) a other t =
-    barred_at x.write.current (seat_of x by).tables x.tables
-    (λ tb. tb.oldest_live ≡ (table_of x t).oldest_live) t refl refl
-oldest_same x (MoveCurrent by Append group) a other t = refl
-oldest_same x (Switch by table m Open) a other t =
-    put_at x.tables table.0 _ fresh_table a.is_there
-    (λ u tb. tb.oldest_live ≡ (table_of x u).oldest_live) refl (λ _ _. refl) t
-oldest_same x (Switch by table m Mark) a other t =
-    put_at x.tables table.0 _ fresh_table a.is_there.0
-    (λ u tb. tb.oldest_live ≡ (table_of x u).oldest_live) refl (λ _ _. refl) t
-oldest_same x (Raise by table m to) a other t =
-    put_at x.tables table.0 _ fresh_table a.is_there.0
-    (λ u tb. tb.oldest_live ≡ (table_of x u).oldest_live) refl (λ _ _. refl) t
-oldest_same x (Finalise by table m) a other t =
-    put_at x.tables table.0 _ fresh_table a.is_there.0
-    (λ u tb. tb.oldest_live ≡ (table_of x u).oldest_live) refl (λ _ _. refl) t
-oldest_same x (Put by (OldestLive table) value) a other t = absurd (other tt)
-oldest_same x (Put by Synced value) a other t = refl
-oldest_same x (Put by Stopped value) a other t = refl
-oldest_same x e a other t = refl
-
--- a new file is its table's last one
-pub last_is_new : (files : List WrittenFile) (f : WrittenFile)
-    → last_upper (files ++ f ∷ []) f.table ≡ f.upper
-last_is_new files f = fold_push _ 0 files f ∙ cond-true (f.table == f.table) _ _
-    (eq-eqb f.table f.table refl)
-
--- it leaves the last ones of the other tables
-pub last_is_old : (files : List WrittenFile) (f : WrittenFile) (t : ℕ) → f.table ≢ t
-    → last_upper (files ++ f ∷ []) t ≡ last_upper files t
-last_is_old files f t other = fold_push _ 0 files f ∙ cond-false (f.table == t) _ _
-    (ne_eqb f.table t other)
+use Rattle.path_core.proofs.files.LastFile.{
+  oldest_same,
+  last_is_new,
+  last_is_old,
+  final_stays,
+  oldest_grows,
+  before_stays,
+  before_below,
+}
 
 module _ (x : PathState) (Z : IsLawfulPlacing x) where
+  abbrev L : IsLawfulLog x
+  L = Z.core.log
+
   -- what is known of a table's memtables
   abbrev memtables : (t : ℕ) → MemtablesAre x.log (table_of x t)
   memtables t = Z.core.switches.tables t
-
-  -- a final bound stays
-  pub final_stays : (e : Event) → IsStep x e → (t m : ℕ) (u : Key)
-      → (memtable_of x t m).bound ≡ Final u → (memtable_of (next_of x e) t m).bound ≡ Final u
-  final_stays e a t m u is = (moves_of x Z.core Z.places e a t).finals m u is
-
-  -- the oldest live memtable of a table never falls
-  pub oldest_grows : (e : Event) → IsStep x e → (t : ℕ)
-      → (table_of x t).oldest_live ≤ (table_of (next_of x e) t).oldest_live
-  oldest_grows (Put by (OldestLive table) value) a t = put_at x.tables table.0 _ fresh_table
-      a.is_there (λ u tb. (table_of x u).oldest_live ≤ tb.oldest_live)
-      (let v = a.row.1 in omega arith) (λ _ _. omega arith) t
-  oldest_grows (Put by Synced value) a t = omega arith
-  oldest_grows (Put by Stopped value) a t = omega arith
-  oldest_grows e a t = let s = oldest_same x e a (λ b. b) t in omega arith
-
-  -- the interval of a retired memtable, and of the next one, begins where it did
-  pub before_stays : (e : Event) → IsStep x e → (t m : ℕ) → m ≤ (table_of x t).oldest_live
-      → bound_before (next_of x e) t m ≡ bound_before x t m
-  before_stays e a t zero low = refl
-  before_stays e a t (suc k) low =
-      let f = final_at _ ((memtables t).retired_is_final k (omega arith)) in
-      ap key_of_bound (final_stays e a t k f.0 f.1) ∙ sym (ap key_of_bound f.1)
-
-  -- the interval of a final memtable begins at or below its bound
-  pub before_below : (t m : ℕ) (u : Key) → m ≤ (table_of x t).oldest_live
-      → (memtable_of x t m).bound ≡ Final u → bound_before x t m ≤ u.0
-  before_below t zero u low is = omega arith
-  before_below t (suc k) u low is =
-      let f = final_at _ ((memtables t).retired_is_final k (omega arith)) in
-      subst (λ b. key_of_bound b ≤ u.0) (sym f.1)
-      ((memtables t).bounds_rise.rise k (suc k) f.0 u (omega arith) f.1 is)
 
   module _ (F : LastFiles x) where
     -- the memtable of a file stays retired
@@ -141,8 +46,8 @@ module _ (x : PathState) (Z : IsLawfulPlacing x) where
         → FileIsOfRetired (next_of x e) f
     still_retired e a f I = record {
       table = subst (λ k. f.table < k) (sym (as_many_tables x e)) I.table;
-      retired = let g = oldest_grows e a f.table in let l = I.retired in omega arith;
-      upper = final_stays e a f.table f.memtable _ I.upper;
+      retired = let g = oldest_grows x Z e a f.table in let l = I.retired in omega arith;
+      upper = final_stays x Z e a f.table f.memtable _ I.upper;
     }
 
     -- a step that retires no memtable leaves where files end
@@ -154,7 +59,7 @@ module _ (x : PathState) (Z : IsLawfulPlacing x) where
           (subst (λ k. last_upper x.files t ≤ bound_before (next_of x e) t k)
           (sym (oldest_same x e a other t))
           (subst (λ k. last_upper x.files t ≤ k)
-          (sym (before_stays e a t (table_of x t).oldest_live (omega arith)))
+          (sym (before_stays x Z e a t (table_of x t).oldest_live (omega arith)))
           (F.below t (subst (λ k. t < k) (as_many_tables x e) inside))));
       each = λ f h. still_retired e a f
           (F.each f (subst (λ fs. Contains fs f) (files_same x e other) h));
@@ -179,14 +84,14 @@ module _ (x : PathState) (Z : IsLawfulPlacing x) where
         retired = put_at x.tables table.0 (record (table_of x table.0) { oldest_live = value })
             fresh_table a.is_there (λ u tb. u ≡ table.0 → m < tb.oldest_live)
             (λ _. let v = a.row.1 in omega arith) (λ u n is. absurd (n is)) table.0 refl;
-        upper = final_stays e a table.0 m _
+        upper = final_stays x Z e a table.0 m _
             (final.1 ∙ ap (λ (k : ℕ). Final (record { 0 = k })) (sym (ap key_of_bound final.1)));
       }
 
       -- the file begins at or below its end
       pub next_rises : (next_file x table.0).lower ≤ (next_file x table.0).upper
       next_rises = let l = F.below table.0 a.is_there in
-          let b = before_below table.0 m final.0 (omega arith) final.1 in
+          let b = before_below x Z table.0 m final.0 (omega arith) final.1 in
           subst (λ b. last_upper x.files table.0 ≤ key_of_bound b) (sym final.1) (omega arith)
 
       -- the last file ends at or below its bound, be it the new one or the one before
@@ -241,7 +146,7 @@ module _ (x : PathState) (Z : IsLawfulPlacing x) where
         old : (e : Event) → IsStep x e → Contains x.files f
             → f.lower ≤ bound_before (next_of x e) f.table f.memtable
         old e a h = subst (λ k. f.lower ≤ k)
-            (sym (before_stays e a f.table f.memtable
+            (sym (before_stays x Z e a f.table f.memtable
             (let l = (F.each f h).retired in omega arith)))
             (B f h)
 
@@ -256,7 +161,7 @@ module _ (x : PathState) (Z : IsLawfulPlacing x) where
               | inr new ↦ subst (λ (g : WrittenFile). g.lower ≤ bound_before (next_of x
                   (Put by (OldestLive table) value)) g.table g.memtable) new
                   (subst (λ k. last_upper x.files table.0 ≤ k)
-                  (sym (before_stays (Put by (OldestLive table) value) a table.0
+                  (sym (before_stays x Z (Put by (OldestLive table) value) a table.0
                   (table_of x table.0).oldest_live (omega arith)))
                   (F.below table.0 a.is_there))
             ]) h

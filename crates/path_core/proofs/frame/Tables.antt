@@ -55,7 +55,7 @@ use Rattle.path_core.specs.Parts.{
   memtable_of,
 }
 use Rattle.path_core.specs.Words.{place_of}
-use Rattle.path_core.specs.SeatAfter.{raised_to, made_final}
+use Rattle.path_core.specs.SeatParts.{raised_to, made_final}
 use Rattle.path_core.specs.Allowed.{IsStep, is_unbarred}
 use Rattle.path_core.specs.Next.{
   next_of,

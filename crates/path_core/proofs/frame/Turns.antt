@@ -18,10 +18,7 @@ use Rattle.std.proofs.Common.{
   get_or,
   set,
   Option,
-  Some,
-  None,
   is_some,
-  replicate,
   refl,
   sym,
   ap,
@@ -30,7 +27,6 @@ use Rattle.std.proofs.Common.{
 }
 use Rattle.std.specs.Prelude.{if◌then◌else◌}
 use Rattle.std.specs.List.{list_any}
-use Rattle.std.specs.Option.{option_map}
 use Rattle.std.proofs.lemmas.Bool.{false≢true, ne_eqb, eq-eqb}
 use Rattle.std.proofs.lemmas.List.Folds.{list_any_at}
 use Rattle.clog_base.specs.declared.cell.Table.{Table}
@@ -49,15 +45,20 @@ use Rattle.path_core.specs.declared.event.Reading.TheVariants.{Number}
 use Rattle.path_core.specs.declared.event.Turn.{Turn}
 use Rattle.path_core.specs.declared.event.Turn.TheVariants.{Sync, Flush}
 use Rattle.path_core.specs.declared.seat.Issue.{Issue}
-use Rattle.path_core.specs.declared.seat.Issue.TheVariants.{Rest, Opened, Moved}
 use Rattle.path_core.specs.declared.seat.Seat.{Seat}
-use Rattle.path_core.specs.declared.seat.SeatTable.{SeatTable}
-use Rattle.path_core.specs.declared.seat.SyncTurn.{SyncTurn}
 use Rattle.path_core.specs.declared.state.PathState.{PathState}
-use Rattle.path_core.specs.Parts.{fresh_seat, untouched, seat_of, seat_table, holds_turn}
+use Rattle.path_core.specs.Parts.{fresh_seat, seat_of, seat_table, holds_turn}
 use Rattle.path_core.specs.Words.{reading, by_of, place_of}
 use Rattle.path_core.specs.Next.{next_of}
-use Rattle.path_core.proofs.seats.Columns.{own_after, Columns, issue_held, issue_after, flush_after}
+use Rattle.path_core.proofs.lists.Options.{still_some}
+use Rattle.path_core.proofs.seats.Columns.{
+  own_after,
+  Columns,
+  issue_held,
+  issue_after,
+  flush_after,
+  fresh_holds_none,
+}
 
 or_parts : (a b : Bool) → (a || b) ≡ false → (a ≡ false) × (b ≡ false)
 or_parts false b e = (refl, e)
@@ -84,16 +85,7 @@ any_none p (x ∷ xs) d h =
     ap (λ (b : Bool). b || list_any p xs) (h zero) ∙ any_none p xs d (λ i. h (suc i))
 
 is_some_held : (s : Seat) → is_some (issue_held s) ≡ is_some s.sync
-is_some_held s = by s.sync
-  where
-    by : (o : Option SyncTurn) → is_some (option_map (λ (t : SyncTurn). t.issue) o) ≡ is_some o
-    by None = refl
-    by (Some t) = refl
-
-still_some : (o : Option Issue) (i : Issue)
-    → is_some (option_map (λ (j : Issue). i) o) ≡ is_some o
-still_some None i = refl
-still_some (Some j) i = refl
+is_some_held s = still_some s.sync _
 
 sync_stays : (e : Event) (held : Option Issue) → TurnWord Sync ≢ place_of e
     → is_some (issue_after held e) ≡ is_some held
@@ -101,9 +93,9 @@ sync_stays (TakeTurn by Sync) held n = absurd (n refl)
 sync_stays (GiveTurn by Sync) held n = absurd (n refl)
 sync_stays (TakeTurn by (Flush t)) held n = refl
 sync_stays (GiveTurn by (Flush t)) held n = refl
-sync_stays (OpenGroup by o g) held n = still_some held (Opened o)
-sync_stays (MoveCurrent by o g) held n = still_some held (Moved o)
-sync_stays (Expire by o g) held n = still_some held Rest
+sync_stays (OpenGroup by o g) held n = still_some held _
+sync_stays (MoveCurrent by o g) held n = still_some held _
+sync_stays (Expire by o g) held n = still_some held _
 sync_stays e held n = refl
 
 flush_stays : (e : Event) (t : Table) (held : Bool) → TurnWord (Flush t) ≢ place_of e
@@ -152,20 +144,11 @@ look_leaves_turn x by at C inside turn =
 
 -- Who holds a turn.
 
-fresh_holds : (turn : Turn) → holds_turn fresh_seat turn ≡ false
-fresh_holds Sync = refl
-fresh_holds (Flush t) = ap (λ (st : SeatTable). is_some st.flush) (same_all 16 t.0)
-  where
-    same_all : (n i : ℕ) → get_or (replicate n untouched) i untouched ≡ untouched
-    same_all zero i = refl
-    same_all (suc n) zero = refl
-    same_all (suc n) (suc i) = same_all n i
-
 -- The word of a turn is 0 where nobody holds it, and 1 where a seat does.
 pub unheld : (x : PathState) (turn : Turn) → reading x (TurnWord turn) ≡ Number 0
     → (w : ℕ) → holds_turn (seat_of x w) turn ≡ false
 unheld x turn e =
-    none_any (λ (s : Seat). holds_turn s turn) x.seats fresh_seat (fresh_holds turn)
+    none_any (λ (s : Seat). holds_turn s turn) x.seats fresh_seat (fresh_holds_none turn)
     (by (list_any (λ (s : Seat). holds_turn s turn) x.seats) e)
   where
     by : (b : Bool) → Number (cond {A = ℕ} b 1 0) ≡ Number 0 → b ≡ false

@@ -58,7 +58,7 @@ use Rattle.path_core.specs.declared.state.PathState.{PathState}
 use Rattle.path_core.specs.declared.state.TableState.{TableState}
 use Rattle.path_core.specs.Parts.{fresh_seat, fresh_table, seat_of, holds_turn}
 use Rattle.path_core.specs.Words.{reading, by_of, place_of}
-use Rattle.path_core.specs.SeatAfter.{raised_to, made_final}
+use Rattle.path_core.specs.SeatParts.{raised_to, made_final}
 use Rattle.path_core.specs.Allowed.{IsStep}
 use Rattle.path_core.specs.Next.{next_of, with_bound, log_after, synced_after, stopped_after}
 use Rattle.path_core.specs.Frame.{left_by}

@@ -18,6 +18,7 @@ use Rattle.std.proofs.Common.{
   ap,
   ◌∙◌,
   subst,
+  replicate,
   Bool,
   true,
   false,
@@ -119,3 +120,9 @@ counted_from {A} p (x ∷ xs) some = choose (p x) refl (λ l. counted_from p xs 
         let c : cond {A = ℕ} (p x) 1 0 ≡ 0 = ap (λ (b : Bool). cond {A = ℕ} b 1 0) e in
         let r = rest (omega arith) in
         (r.0, (suc r.1.0, (let l = r.1.1 in omega arith), r.1.2), r.2)
+
+-- each read of a list of one element is that element, past its end too
+pub replicated : {A : Type 0} (n i : ℕ) (a : A) → get_or (replicate n a) i a ≡ a
+replicated zero i a = refl
+replicated (suc n) zero a = refl
+replicated (suc n) (suc i) a = replicated n i a

@@ -14,7 +14,6 @@ use Rattle.std.proofs.Common.{
   None,
   is_some,
   is_none,
-  IsSome,
   refl,
   sym,
   ap,
@@ -28,55 +27,16 @@ use Rattle.clog_base.specs.declared.position.Key.{Key}
 use Rattle.op_core.specs.declared.count.Order.TheVariants.{Write, Append}
 use Rattle.path_core.specs.declared.event.ClaimKind.TheVariants.{Entry, Marker}
 use Rattle.path_core.specs.declared.event.Event.{Event}
-use Rattle.path_core.specs.declared.event.Event.TheVariants.{
-  Look,
-  Register,
-  Close,
-  OpenGroup,
-  MoveCurrent,
-  Expire,
-  Advance,
-  Claim,
-  Switch,
-  Raise,
-  Finalise,
-  TakeTurn,
-  GiveTurn,
-  Put,
-}
-use Rattle.path_core.specs.declared.event.Carried.TheVariants.{Nothing, Deposit, Applied}
-use Rattle.path_core.specs.declared.event.Cursor.TheVariants.{Synced, OldestLive, Stopped}
-use Rattle.path_core.specs.declared.event.Place.{Place}
-use Rattle.path_core.specs.declared.event.Place.TheVariants.{
-  Count,
-  Current,
-  Oldest,
-  Log,
-  Newest,
-  Bound,
-  TurnWord,
-  CursorWord,
-}
-use Rattle.path_core.specs.declared.event.Reading.{Reading}
-use Rattle.path_core.specs.declared.event.Reading.TheVariants.{Operations, Number, Limit}
-use Rattle.path_core.specs.declared.event.SwitchPart.TheVariants.{Open, Mark}
-use Rattle.path_core.specs.declared.event.Turn.TheVariants.{Sync, Flush}
+use Rattle.path_core.specs.declared.event.Event.TheVariants.{MoveCurrent, Claim, TakeTurn, GiveTurn}
+use Rattle.path_core.specs.declared.event.Turn.TheVariants.{Sync}
 use Rattle.path_core.specs.declared.seat.LastMarker.{LastMarker}
-use Rattle.path_core.specs.declared.seat.Seat.{Seat}
 use Rattle.path_core.specs.declared.seat.SyncTurn.{SyncTurn}
 use Rattle.path_core.specs.declared.state.Claim.{Claim as ClaimOf}
 use Rattle.path_core.specs.declared.state.PathState.{PathState}
 use Rattle.path_core.specs.Parts.{seat_of, marker_of, is_marker}
 use Rattle.path_core.specs.Words.{by_of, reading, place_of}
 use Rattle.path_core.specs.Allowed.{IsStep}
-use Rattle.path_core.specs.SeatAfter.{
-  seat_after,
-  looked,
-  is_finished,
-  keeps,
-  finished_found,
-  marker_barrier,
-}
+use Rattle.path_core.specs.SeatAfter.{marker_barrier}
 use Rattle.path_core.specs.Next.{next_of, gives_file, claim_of, barred_marker}
 use Rattle.path_core.specs.Holders.{ChangesLastMarker}
 use Rattle.path_core.specs.LawfulOrders.{IsOrderly}
@@ -94,104 +54,7 @@ use Rattle.path_core.proofs.log.MarkerSteps.{
   changer_holds_sync,
   none_waits_stays,
 }
-
--- a change of the turn that leaves it
-marker_same : (o : Option SyncTurn) (f : SyncTurn → SyncTurn)
-    → ((turn : SyncTurn) → (f turn).marker ≡ turn.marker)
-    → option_and_then (λ (turn : SyncTurn). turn.marker) (option_map f o)
-    ≡ option_and_then (λ (turn : SyncTurn). turn.marker) o
-marker_same None f same = refl
-marker_same (Some turn) f same = same turn
-
--- a marker that is kept is kept under the turn
-marker_held : (o : Option SyncTurn) (kept : LastMarker)
-    → option_and_then (λ (turn : SyncTurn). turn.marker) o ≡ Some kept → IsSome o
-marker_held None kept h = absurd (none-some kept h)
-marker_held (Some turn) kept h = refl
-
--- a change of the turn that changes it
-marker_changed : (o : Option SyncTurn) (f : SyncTurn → SyncTurn)
-    (g : Option LastMarker → Option LastMarker)
-    → ((turn : SyncTurn) → (f turn).marker ≡ g turn.marker) → (kept : LastMarker)
-    → option_and_then (λ (turn : SyncTurn). turn.marker) (option_map f o) ≡ Some kept
-    → g (option_and_then (λ (turn : SyncTurn). turn.marker) o) ≡ Some kept
-marker_changed None f g is kept h = absurd (none-some kept h)
-marker_changed (Some turn) f g is kept h = sym (is turn) ∙ h
-
--- Steps that change what is kept.
-abbrev ChangesKept : Event → Type 0
-ChangesKept (Claim by from to Marker) = Unit {0}
-ChangesKept (MoveCurrent by Append group) = Unit {0}
-ChangesKept (TakeTurn by Sync) = Unit {0}
-ChangesKept (GiveTurn by Sync) = Unit {0}
-ChangesKept _ = ⊥
-
-looks_keep : (s : Seat) (at : Place) (found : Reading) → marker_of (looked s at found) ≡ marker_of s
-looks_keep s (Count Write group) (Operations k) = choose (is_finished k)
-  where
-    choose : (b : Bool) → marker_of (cond b (keeps Write (finished_found group) s) s) ≡ marker_of s
-    choose true = marker_same s.sync _ (λ turn. refl)
-    choose false = refl
-looks_keep s (Count Append group) (Operations k) = choose (is_finished k)
-  where
-    choose : (b : Bool) → marker_of (cond b (keeps Append (finished_found group) s) s) ≡ marker_of s
-    choose true = marker_same s.sync _ (λ turn. refl)
-    choose false = refl
-looks_keep s (Current Write) (Number n) = marker_same s.sync _ (λ turn. refl)
-looks_keep s (Current Append) (Number n) = marker_same s.sync _ (λ turn. refl)
-looks_keep s (Oldest Write) (Number n) = marker_same s.sync _ (λ turn. refl)
-looks_keep s (Oldest Append) (Number n) = marker_same s.sync _ (λ turn. refl)
-looks_keep s Log (Number n) = refl
-looks_keep s (Newest t) (Number n) = refl
-looks_keep s (Bound t m) (Limit b) = refl
-looks_keep s (TurnWord turn) (Operations k) = refl
-looks_keep s (TurnWord turn) (Number n) = refl
-looks_keep s (TurnWord turn) (Limit b) = refl
-looks_keep s (CursorWord Synced) (Number n) = marker_same s.sync _ (λ turn. refl)
-looks_keep s (CursorWord (OldestLive t)) (Number n) = refl
-looks_keep s (CursorWord Stopped) (Number n) = marker_same s.sync _ (λ turn. refl)
-looks_keep s (Count order group) (Number n) = refl
-looks_keep s (Count order group) (Limit b) = refl
-looks_keep s (Current order) (Operations k) = refl
-looks_keep s (Current order) (Limit b) = refl
-looks_keep s (Oldest order) (Operations k) = refl
-looks_keep s (Oldest order) (Limit b) = refl
-looks_keep s at found = refl
-
--- any other step leaves what is kept
-kept_stays : (e : Event) (s : Seat) (found : Reading) (files : Bool) → (ChangesKept e → ⊥)
-    → marker_of (seat_after s e found files) ≡ marker_of s
-kept_stays (Look by at) s found files other = looks_keep s at found
-kept_stays (Register by Write group) s found files other = refl
-kept_stays (Register by Append group) s found files other = refl
-kept_stays (Close by Append group (Deposit note)) s found files other = refl
-kept_stays (Close by Append group Nothing) s found files other = refl
-kept_stays (Close by Append group (Applied places)) s found files other = refl
-kept_stays (Close by Write group carried) s found files other = refl
-kept_stays (OpenGroup by order group) s found files other = marker_same s.sync _ (λ turn. refl)
-kept_stays (MoveCurrent by Write group) s found files other = marker_same s.sync _ (λ turn. refl)
-kept_stays (MoveCurrent by Append group) s found files other = absurd (other tt)
-kept_stays (Expire by order group) s found files other = marker_same s.sync _ (λ turn. refl)
-kept_stays (Advance by Write group) s found files other = marker_same s.sync _ (λ turn. refl)
-kept_stays (Advance by Append group) s found files other = marker_same s.sync _ (λ turn. refl)
-kept_stays (Claim by from to Entry) s found files other = refl
-kept_stays (Claim by from to Marker) s found files other = absurd (other tt)
-kept_stays (TakeTurn by Sync) s found files other = absurd (other tt)
-kept_stays (TakeTurn by (Flush table)) s found files other = refl
-kept_stays (GiveTurn by Sync) s found files other = absurd (other tt)
-kept_stays (GiveTurn by (Flush table)) s found files other = refl
-kept_stays (Put by Synced value) s found files other = marker_same s.sync _ (λ turn. refl)
-kept_stays (Put by (OldestLive table) value) s found files other =
-    marker_same s.sync _ (λ turn. refl)
-kept_stays (Put by Stopped value) s found files other = marker_same s.sync _ (λ turn. refl)
-kept_stays (Raise by table m to) s (Operations k) files other = refl
-kept_stays (Raise by table m to) s (Number n) files other = refl
-kept_stays (Raise by table m to) s (Limit b) files other = refl
-kept_stays (Finalise by table m) s (Operations k) files other = refl
-kept_stays (Finalise by table m) s (Number n) files other = refl
-kept_stays (Finalise by table m) s (Limit b) files other = refl
-kept_stays (Switch by table m Open) s found files other = refl
-kept_stays (Switch by table m Mark) s found files other = refl
+use Rattle.path_core.proofs.log.KeptMarker.{marker_held, marker_changed, ChangesKept, kept_stays}
 
 -- What a seat keeps of the last marker is so.
 abbrev pub KeptIs : PathState → ℕ → Option LastMarker → Type 0

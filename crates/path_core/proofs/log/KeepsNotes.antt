@@ -57,13 +57,15 @@ use Rattle.path_core.proofs.lists.Replaced.{counted_some, counted_in}
 use Rattle.path_core.proofs.lists.Inserted.{order_insert, insert_cases}
 use Rattle.path_core.proofs.runs.Sizes.{as_many_tables}
 use Rattle.path_core.proofs.log.ClaimEnds.{entry_is_long, one_or_apart}
-use Rattle.path_core.proofs.log.KeepsNotedOnce.{claims_stay, undeposited_by, not_yet}
+use Rattle.path_core.proofs.log.KeepsOwned.{claims_stay}
+use Rattle.path_core.proofs.log.KeepsNotedOnce.{undeposited_by}
+use Rattle.path_core.proofs.log.OwnNotes.{not_yet}
 
 module _ (x : PathState) (sized : IsSized x) (T : ClaimsTile x) (O : IsOrderly x)
     (owned : OwnClaims x) (noted : EachClaimNoted x) (notes : NotesAreClaims x) where
   is_claimed_still : (e : Event) (n : EntryNote) → IsClaimed x n → IsClaimed (next_of x e) n
   is_claimed_still e n I = record {
-    claim = claims_stay x sized T O owned noted notes e
+    claim = claims_stay x e
         (entry_claim n.writer.0 n.start.0 n.end.0) refl I.claim;
     tables_are_there = subst (λ (k : ℕ). n.tables < 2 ^ k) (sym (as_many_tables x e))
         I.tables_are_there;
@@ -85,7 +87,7 @@ module _ (x : PathState) (sized : IsSized x) (T : ClaimsTile x) (O : IsOrderly x
       let u = counted_some (is_undeposited note.end.0) x.seats fresh_seat refl by
       (ap (λ c. undeposited_by note.end.0 c (seat_of x by).note) a.row.1.range
       ∙ ap (λ (k : Option ℕ). (note.end.0 == note.end.0) && is_none k)
-      (not_yet x sized T O owned noted notes by g a.row.0)
+      (not_yet x O by g a.row.0)
       ∙ ap (λ (b : Bool). b && true) (eq-eqb note.end.0 note.end.0 refl)) in
       let c = counted_in (is_note_at note.end.0) x.notes n h (eq-eqb n.end.0 note.end.0 is) in
       omega arith

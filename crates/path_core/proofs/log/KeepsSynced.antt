@@ -25,7 +25,6 @@ use Rattle.std.proofs.lemmas.Option.{none-some, same_Some}
 use Rattle.std.proofs.lemmas.List.{get_or_default}
 use Rattle.std.proofs.lemmas.List.Elements.{Contains-append_left}
 use mathlib.Core.Logic.{inl, inr}
-use Rattle.clog_base.specs.declared.position.Key.{Key}
 use Rattle.op_core.specs.declared.count.Order.TheVariants.{Write, Append}
 use Rattle.path_core.specs.declared.event.ClaimKind.TheVariants.{Entry, Marker}
 use Rattle.path_core.specs.declared.event.Cursor.TheVariants.{Synced, OldestLive, Stopped}
@@ -49,11 +48,10 @@ use Rattle.path_core.specs.LawfulLog.{ClaimsTile, SyncedIsMarker}
 use Rattle.path_core.specs.LawfulOrders.{IsOrderly}
 use Rattle.path_core.specs.LawfulTables.{LaterGroupsAbove}
 use Rattle.path_core.proofs.lists.Inserted.{map_old}
-use Rattle.path_core.proofs.seats.Columns.{Columns, each_seat, own_after, append_after, claim_after}
+use Rattle.path_core.proofs.seats.Columns.{each_seat, append_after, claim_after}
 use Rattle.path_core.proofs.orders.OtherSteps.{columns_of}
 use Rattle.path_core.proofs.orders.NobodyAbove.{nobody_above_now}
-use Rattle.path_core.proofs.log.KeepsNotedOnce.{claimed_above}
-use Rattle.path_core.proofs.log.KeepsDropped.{log_grows}
+use Rattle.path_core.proofs.log.LogGrows.{log_grows, claimed_above}
 use Rattle.path_core.proofs.tables.KeepsBarriers.{marker_barrier}
 
 module _ (x : PathState) (L : IsLawfulLog x) where
@@ -62,20 +60,6 @@ module _ (x : PathState) (L : IsLawfulLog x) where
 
   abbrev T : ClaimsTile x
   T = L.claims_tile_the_log
-
-  -- what the step leaves of the fields of the acting seat
-  column : (e : Event) → IsStep x e → Columns e (seat_of x (by_of e)) (own_after x e)
-  column e a = columns_of x L.sized O e a.is_there
-
-  -- the log key only grows
-  pub grows : (e : Event) → IsStep x e → x.log ≤ (next_of x e).log
-  grows e a = log_grows x L.sized T O L.own_claim L.each_claim_noted_once L.notes_are_claims
-      L.logged_are_notes e a
-
-  -- an entry that is claimed ends above the log key
-  claims_high : (by : ℕ) (from to : Key) → IsStep x (Claim by from to Entry) → x.log < to.0
-  claims_high by from to a = claimed_above x L.sized T O L.own_claim L.each_claim_noted_once
-      L.notes_are_claims by from to a
 
   -- Each allowed step keeps that later groups log above a marker.
   pub keeps_later_groups : LaterGroupsAbove x → (e : Event) → IsStep x e
@@ -101,7 +85,7 @@ module _ (x : PathState) (L : IsLawfulLog x) where
       own (Close by Append k carried) a key g low before h r app less cl = absurd (none-some h app)
       own (Close by Write k carried) a key g low before h r app less cl = absurd (none-some r cl)
       own (Claim by from to Entry) a key g low before h r app less cl =
-          let high = claims_high by from to a in
+          let high = claimed_above x L.sized T by from to a in
           let end = ap (λ (q : Range). q.end) (same_Some _ r cl) in omega arith
       own (Claim by from to Marker) a key g low before h r app less cl = before h r app less cl
       own e a key g low before h r app less cl = before h r app less cl
@@ -113,11 +97,12 @@ module _ (x : PathState) (L : IsLawfulLog x) where
           let key = (claim_at x i).start in
           let low : key ≤ x.log = let f = T.forward i inside in let b = T.below_log i inside in
           omega arith in
+          let C = columns_of x L.sized O e a.is_there in
           each_seat x e a.seat
           (λ _ s. (h : ℕ) (r : Range) → s.append ≡ Some h → g < h → s.claim ≡ Some r → key < r.end)
           (λ h r app less cl. own e a key g low
           (λ h r p q c. A.markers i g h (by_of e) r inside marker barrier p q c) h r
-          (sym (column e a).append ∙ app) less (sym (column e a).claim ∙ cl))
+          (sym C.append ∙ app) less (sym C.claim ∙ cl))
           (λ v _ h r p q c. A.markers i g h v r inside marker barrier p q c)
           w h r append less claim
 
@@ -169,7 +154,7 @@ module _ (x : PathState) (L : IsLawfulLog x) where
           subst (λ k. k ≤ x.log) P.start (starts_below P.marker P.claimed)
       low (Put by (OldestLive table) value) a = S.below_log
       low (Put by Stopped value) a = S.below_log
-      low e a = let g = grows e a in let l = S.below_log in omega arith
+      low e a = let g = log_grows x L.sized T e a in let l = S.below_log in omega arith
 
       at : (e : Event) → IsStep x e → 0 < (next_of x e).synced
           → MarkerAt (next_of x e) (next_of x e).synced

@@ -41,7 +41,9 @@ use Rattle.path_core.specs.declared.seat.Seat.{Seat}
 use Rattle.path_core.specs.declared.state.PathState.{PathState}
 use Rattle.path_core.specs.Parts.{groups_of, found_of}
 use Rattle.path_core.specs.Words.{reading}
-use Rattle.path_core.specs.SeatAfter.{seat_after, looked, is_finished, keeps, finished_found}
+use Rattle.path_core.specs.SeatAfter.{seat_after, looked}
+use Rattle.path_core.specs.SeatParts.{keeps, finished_found}
+use Rattle.op_core.specs.Tallies.{is_finished}
 
 -- A Look at an order's current group is the one step that changes what a seat found as current.
 pub record FindsSame (s after : Seat) : Type 0 where

@@ -4,43 +4,31 @@ use Rattle.std.proofs.Common.{
   ◌≡◌,
   ℕ,
   suc,
-  ◌-◌,
-  ◌<◌,
   ◌≤◌,
-  ◌==◌,
-  Bool,
   true,
-  false,
-  cond,
   ◌++◌,
   [],
   ◌∷◌,
   length,
   Some,
-  is_some,
-  IsSome,
-  IsTrue,
   refl,
   sym,
   ap,
   ◌∙◌,
   subst,
   arith,
-  ◌⊎◌,
   length-set,
   length-append,
-  get_or-set_same,
   get_or-set_other,
 }
-use Rattle.std.proofs.lemmas.Bool.{cond_both, false≢true, eqb-true}
-use mathlib.Core.Logic.{dite, inl, inr}
+use Rattle.std.proofs.lemmas.Bool.{cond_both, false≢true}
+use mathlib.Core.Logic.{dite}
 use native.Mathlib.Decide.{ℕ_discrete}
 use Rattle.op_core.specs.declared.count.Order.{Order}
 use Rattle.op_core.specs.declared.count.Order.TheVariants.{Write, Append}
 use Rattle.op_core.specs.declared.count.Tally.{Tally}
 use Rattle.op_core.specs.declared.count.Tally.TheVariants.{Open as OpenTally, Expired}
 use Rattle.op_core.specs.Tallies.{is_same_order, IsOpen, tally_at, one_more, one_less, expired}
-use Rattle.path_core.specs.declared.event.Cursor.TheVariants.{Synced, OldestLive, Stopped}
 use Rattle.path_core.specs.declared.event.Event.{Event}
 use Rattle.path_core.specs.declared.event.Event.TheVariants.{
   Register,
@@ -49,39 +37,15 @@ use Rattle.path_core.specs.declared.event.Event.TheVariants.{
   MoveCurrent,
   Expire,
   Advance,
-  Switch,
-  Raise,
-  Finalise,
-  TakeTurn,
-  GiveTurn,
-  Put,
 }
-use Rattle.path_core.specs.declared.event.SwitchPart.TheVariants.{Open, Mark}
-use Rattle.path_core.specs.declared.event.Turn.TheVariants.{Sync, Flush}
 use Rattle.path_core.specs.declared.state.OrderGroups.{OrderGroups}
 use Rattle.path_core.specs.declared.state.PathState.{PathState}
-use Rattle.path_core.specs.Parts.{
-  fresh_seat,
-  fresh_table,
-  groups_of,
-  tally_of,
-  seat_of,
-  seat_table,
-  table_of,
-  group_in,
-  HasPassedBarrier,
-}
-use Rattle.path_core.specs.Words.{by_of}
-use Rattle.path_core.specs.Allowed.{IsStep, IsSettled}
+use Rattle.path_core.specs.Parts.{groups_of, tally_of, seat_of, group_in, HasPassedBarrier}
+use Rattle.path_core.specs.Allowed.{IsStep}
 use Rattle.path_core.specs.Next.{next_of, groups_after, with_tally}
-use Rattle.path_core.specs.Lawful.{IsSized}
-use Rattle.path_core.specs.LawfulOrders.{IsOrderly, SwitchesHeld}
-use Rattle.path_core.proofs.lists.Replaced.{put_at, default_put}
-use Rattle.path_core.proofs.seats.Columns.{each_seat, own_after, flush_after}
-use Rattle.path_core.proofs.orders.OtherSteps.{columns_of}
+use Rattle.path_core.specs.LawfulOrders.{IsOrderly}
+use Rattle.path_core.proofs.lists.Replaced.{default_put}
 use Rattle.path_core.proofs.orders.NobodyAbove.{inhabited}
-use Rattle.path_core.proofs.tables.WithBarriers.{barred_at}
-use Rattle.path_core.proofs.runs.Sizes.{as_many_tables}
 use Rattle.path_core.proofs.tables.KeepsBarriers.{barrier_stays}
 
 -- How the groups of an order may move.

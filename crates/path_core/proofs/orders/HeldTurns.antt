@@ -20,14 +20,11 @@ use Rattle.std.proofs.Common.{
   sym,
   ap,
   ◌∙◌,
-  subst,
-  ◌⊎◌,
   get_or-set_same,
 }
 use Rattle.std.specs.Option.{option_map, option_map_or}
-use Rattle.std.proofs.lemmas.Bool.{false≢true, cases_eq, cond-false, ne_eqb}
+use Rattle.std.proofs.lemmas.Bool.{false≢true}
 use Rattle.std.proofs.lemmas.Option.{none-some, same_Some}
-use mathlib.Core.Logic.{inl, inr}
 use Rattle.path_core.specs.declared.event.Event.{Event}
 use Rattle.path_core.specs.declared.event.Event.TheVariants.{
   OpenGroup,
@@ -43,15 +40,7 @@ use Rattle.path_core.specs.declared.seat.Issue.TheVariants.{Rest}
 use Rattle.path_core.specs.declared.seat.Seat.{Seat}
 use Rattle.path_core.specs.declared.seat.SyncTurn.{SyncTurn}
 use Rattle.path_core.specs.declared.state.PathState.{PathState}
-use Rattle.path_core.specs.Parts.{
-  fresh_seat,
-  seat_of,
-  seat_table,
-  holds_turn,
-  HoldsTurn,
-  IsIdle,
-  issue_of,
-}
+use Rattle.path_core.specs.Parts.{fresh_seat, seat_of, seat_table, holds_turn, HoldsTurn, issue_of}
 use Rattle.path_core.specs.Words.{by_of}
 use Rattle.path_core.specs.Next.{next_of}
 use Rattle.path_core.specs.LawfulOrders.{TurnsHeld, seat_in}
@@ -65,19 +54,16 @@ use Rattle.path_core.proofs.seats.Columns.{
   write_after,
   append_after,
 }
+use Rattle.path_core.proofs.lists.Options.{still_some}
 
 -- whether a turn is held, told by the columns
-abbrev holds_by : Turn → Option Issue → (ℕ → Bool) → Bool
+abbrev pub holds_by : Turn → Option Issue → (ℕ → Bool) → Bool
 holds_by Sync held flush = is_some held
 holds_by (Flush t) held flush = flush t.0
 
-some_mapped : {A B : Type 0} (o : Option A) (f : A → B) → is_some o ≡ is_some (option_map f o)
-some_mapped None f = refl
-some_mapped (Some a) f = refl
-
-holds_is : (turn : Turn) (s : Seat)
+pub holds_is : (turn : Turn) (s : Seat)
     → holds_turn s turn ≡ holds_by turn (issue_held s) (λ t. is_some (seat_table s t).flush)
-holds_is Sync s = some_mapped s.sync _
+holds_is Sync s = sym (still_some s.sync _)
 holds_is (Flush t) s = refl
 
 -- the issue of a seat that is at one is held
@@ -119,9 +105,9 @@ holds_back (GiveTurn by Sync) (Flush t) held flush other h = h
 holds_back (GiveTurn by (Flush table)) Sync held flush other h = h
 holds_back (GiveTurn by (Flush table)) (Flush t) held flush other h =
     cond_back (table.0 == t.0) (flush t.0) h
-holds_back (OpenGroup by order group) Sync held flush other h = some_mapped held _ ∙ h
-holds_back (MoveCurrent by order group) Sync held flush other h = some_mapped held _ ∙ h
-holds_back (Expire by order group) Sync held flush other h = some_mapped held _ ∙ h
+holds_back (OpenGroup by order group) Sync held flush other h = sym (still_some held _) ∙ h
+holds_back (MoveCurrent by order group) Sync held flush other h = sym (still_some held _) ∙ h
+holds_back (Expire by order group) Sync held flush other h = sym (still_some held _) ∙ h
 holds_back (OpenGroup by order group) (Flush t) held flush other h = h
 holds_back (MoveCurrent by order group) (Flush t) held flush other h = h
 holds_back (Expire by order group) (Flush t) held flush other h = h
@@ -133,7 +119,7 @@ module _ (x : PathState) (e : Event) (inside : by_of e < length x.seats)
   abbrev own : Seat
   own = seat_of x (by_of e)
 
-  own_holds : (turn : Turn) → holds_turn (own_after x e) turn
+  pub own_holds : (turn : Turn) → holds_turn (own_after x e) turn
       ≡ holds_by turn (issue_after (issue_held own) e)
       (λ t. flush_after t (is_some (seat_table own t).flush) e)
   own_holds Sync = holds_is Sync (own_after x e) ∙ ap (λ o. is_some o) C.issue
@@ -178,7 +164,7 @@ module _ (x : PathState) (e : Event) (inside : by_of e < length x.seats)
             (λ t. is_some (seat_table own t).flush) other (sym (own_holds turn) ∙ h)
 
 -- what is held of an issue, and what is not
-held_none : (s : Seat) → issue_held s ≡ None → s.sync ≡ None
+pub held_none : (s : Seat) → issue_held s ≡ None → s.sync ≡ None
 held_none s none = by s.sync none
   where
     by : (o : Option SyncTurn) → option_map (λ (turn : SyncTurn). turn.issue) o ≡ None → o ≡ None
@@ -239,94 +225,3 @@ turns_go_on x e inside C i j T other held goes idle = turns_stay x e inside C i 
 
     here : issue_held (seat_of (next_of x e) (by_of e)) ≡ issue_held (own_after x e)
     here = ap issue_held (get_or-set_same x.seats (by_of e) (own_after x e) fresh_seat inside)
-
--- a turn is taken that nobody holds
-module _ (x : PathState) (by : ℕ) (turn : Turn) (inside : by < length x.seats)
-    (C : Columns (TakeTurn by turn) (seat_of x by) (own_after x (TakeTurn by turn)))
-    (i : Issue) (T : TurnsHeld i x.seats)
-    (idle : IsIdle (seat_of x by))
-    (free : (w : ℕ) → holds_turn (seat_of x w) turn ≡ false) where
-  abbrev taken : PathState
-  taken = next_of x (TakeTurn by turn)
-
-  own_takes : (t : Turn) → HoldsTurn (own_after x (TakeTurn by turn)) t
-      → HoldsTurn (seat_of x by) t ⊎ ((w : ℕ) → holds_turn (seat_of x w) t ≡ false)
-  own_takes t h = by_turn turn t (sym (own_holds x (TakeTurn by turn) inside C t) ∙ h) free
-    where
-      by_turn : (u t : Turn)
-          → IsTrue (holds_by t (issue_after (issue_held (seat_of x by)) (TakeTurn by u))
-          (λ v. flush_after v (is_some (seat_table (seat_of x by) v).flush) (TakeTurn by u)))
-          → ((w : ℕ) → holds_turn (seat_of x w) u ≡ false)
-          → HoldsTurn (seat_of x by) t ⊎ ((w : ℕ) → holds_turn (seat_of x w) t ≡ false)
-      by_turn Sync Sync h free = inr free
-      by_turn Sync (Flush t) h free = inl h
-      by_turn (Flush u) Sync h free = inl (holds_is Sync (seat_of x by) ∙ h)
-      by_turn (Flush u) (Flush t) h free = elim (cases_eq u.0 t.0) [
-        | inl e ↦ inr (λ w. subst (λ k. is_some (seat_table (seat_of x w) k).flush ≡ false) e
-            (free w))
-        | inr n ↦ inl (sym (cond-false (u.0 == t.0) true _ (ne_eqb u.0 t.0 n)) ∙ h)
-      ]
-
-  takes : (t : Turn) (w : ℕ) → HoldsTurn (seat_of taken w) t → HoldsTurn (seat_of x w) t
-      ⊎ ((w ≡ by) × ((v : ℕ) → holds_turn (seat_of x v) t ≡ false))
-  takes t = each_seat x (TakeTurn by turn) inside
-      (λ w s. HoldsTurn s t → HoldsTurn (seat_of x w) t
-      ⊎ ((w ≡ by) × ((v : ℕ) → holds_turn (seat_of x v) t ≡ false)))
-      (λ h. elim (own_takes t h) [ inl a ↦ inl a | inr f ↦ inr (refl, f) ])
-      (λ w _ h. inl h)
-
-  one : (t : Turn) (v w : ℕ) → HoldsTurn (seat_of taken v) t → HoldsTurn (seat_of taken w) t → v ≡ w
-  one t v w a b = elim (takes t v a) [
-    | inl p ↦ elim (takes t w b) [
-      | inl q ↦ T.one t v w p q
-      | inr q ↦ absurd (false≢true (sym (q.1 v) ∙ p))
-    ]
-    | inr p ↦ elim (takes t w b) [
-      | inl q ↦ absurd (false≢true (sym (p.1 w) ∙ q))
-      | inr q ↦ p.0 ∙ sym q.0
-    ]
-  ]
-
-  own_issue : (u : Turn) → ((w : ℕ) → holds_turn (seat_of x w) u ≡ false) → (k : Issue)
-      → issue_after (issue_held (seat_of x by)) (TakeTurn by u) ≡ Some k → k ≡ i
-  own_issue Sync free k h = sym (same_Some Rest k h)
-      ∙ sym (T.no_issue (λ w. held_none (seat_of x w) (unheld w)))
-    where
-      nothing : (o : Option Issue) → is_some o ≡ false → o ≡ None
-      nothing None e = refl
-      nothing (Some k) e = absurd (false≢true (sym e))
-
-      unheld : (w : ℕ) → issue_held (seat_of x w) ≡ None
-      unheld w = nothing (issue_held (seat_of x w))
-          (sym (holds_is Sync (seat_of x w)) ∙ free w)
-  own_issue (Flush t) free k h = issue_known i x.seats T by k h
-
-  held_issue_taken : (w : ℕ) (k : Issue) → issue_held (seat_of taken w) ≡ Some k → k ≡ i
-  held_issue_taken = each_seat x (TakeTurn by turn) inside
-      (λ w s. (k : Issue) → issue_held s ≡ Some k → k ≡ i)
-      (λ k h. own_issue turn free k (sym C.issue ∙ h))
-      (λ w _ k h. issue_known i x.seats T w k h)
-
-  were_unheld : ((w : ℕ) → issue_held (seat_of taken w) ≡ None) → (w : ℕ)
-      → issue_held (seat_of x w) ≡ None
-  were_unheld none w = each_seat x (TakeTurn by turn) inside
-      (λ w s. issue_held s ≡ None → issue_held (seat_of x w) ≡ None)
-      (λ h. by_turn turn (sym C.issue ∙ h)) (λ _ _ h. h) w (none w)
-    where
-      by_turn : (u : Turn) → issue_after (issue_held (seat_of x by)) (TakeTurn by u) ≡ None
-          → issue_held (seat_of x by) ≡ None
-      by_turn Sync h = absurd (none-some Rest (sym h))
-      by_turn (Flush t) h = h
-
-  pub turns_taken : TurnsHeld i taken.seats
-  turns_taken = record {
-    one = one;
-    issue_is = λ w turn is. held_issue_taken w turn.issue
-        (ap (λ o. option_map (λ (t : SyncTurn). t.issue) o) is);
-    no_issue = λ none. T.no_issue (λ w. held_none (seat_of x w) (were_unheld
-        (λ v. ap (λ o. option_map (λ (t : SyncTurn). t.issue) o) (none v)) w));
-    holder_is_idle = λ t. each_seat x (TakeTurn by turn) inside
-        (λ w s. HoldsTurn s t → (s.write ≡ None) × (s.append ≡ None))
-        (λ _. (C.write ∙ idle.write, C.append ∙ idle.append))
-        (λ w _ h. T.holder_is_idle t w h);
-  }

@@ -22,7 +22,7 @@ use Rattle.path_core.specs.Lawful.{IsSized}
 use Rattle.path_core.specs.LawfulOrders.{IsOrderly, is_in, made_at}
 use Rattle.path_core.proofs.lists.Replaced.{counted_some}
 use Rattle.path_core.proofs.seats.Columns.{each_seat, own_after, write_after, append_after}
-use Rattle.path_core.proofs.orders.Groups.{fresh_out, in_it}
+use Rattle.path_core.proofs.orders.OneGroup.{fresh_out, in_it}
 use Rattle.path_core.proofs.orders.OtherSteps.{columns_of}
 
 -- the group of an order that a seat is in after its step

@@ -55,7 +55,8 @@ use Rattle.path_core.proofs.seats.Columns.{
   note_after,
 }
 use Rattle.path_core.proofs.seats.StepColumns.{FitsSeat, columns}
-use Rattle.path_core.proofs.orders.Groups.{IsOther, counts_stay}
+use Rattle.path_core.proofs.orders.OneGroup.{IsOther}
+use Rattle.path_core.proofs.orders.Groups.{counts_stay}
 use Rattle.path_core.proofs.orders.HeldTurns.{TakesTurn, turns_left}
 use Rattle.path_core.proofs.orders.FoundCurrent.{FindsSame, looks_find, finds_same, current_read}
 

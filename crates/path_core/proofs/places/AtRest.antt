@@ -18,7 +18,7 @@ use Rattle.path_core.specs.LawfulOrders.{IsOrderly}
 use Rattle.path_core.specs.LawfulTables.{SwitchesAre}
 use Rattle.path_core.specs.Promises.{NoneRuns, LeavesPlaced}
 use Rattle.path_core.proofs.orders.NobodyAbove.{inhabited, nobody_above}
-use Rattle.path_core.proofs.tables.Memtables.{final_at}
+use Rattle.path_core.proofs.tables.TableBounds.{final_at}
 use Rattle.path_core.proofs.orders.HeldTurns.{issue_is_held, issue_known}
 use Rattle.path_core.proofs.orders.OtherSteps.{made_at_rest}
 use Rattle.path_core.proofs.places.KeepsLater.{passed_above}

@@ -32,7 +32,7 @@ use Rattle.path_core.specs.Next.{next_of, places_from, end_of_claim}
 use Rattle.path_core.specs.LawfulLog.{entry_claim}
 use Rattle.path_core.specs.LawfulTables.{may_touch}
 use Rattle.path_core.specs.Lawful.{IsLawfulLog, IsLawfulPlacing}
-use Rattle.path_core.proofs.tables.Memtables.{final_at}
+use Rattle.path_core.proofs.tables.TableBounds.{final_at}
 use Rattle.path_core.proofs.log.ClaimEnds.{same_end}
 use Rattle.path_core.proofs.places.KeepsPlaced.{places_are}
 

@@ -21,23 +21,26 @@ use Rattle.std.proofs.Common.{
 use Rattle.std.specs.Option.{option_map_or}
 use Rattle.std.proofs.lemmas.Option.{same_Some}
 use mathlib.Core.Logic.{dite}
-use native.Mathlib.Decide.{ℕ_discrete}
+use native.Mathlib.Decide.{ℕ_discrete, dec_lt}
 use Rattle.path_core.specs.declared.seat.Range.{Range}
 use Rattle.path_core.specs.declared.state.PathState.{PathState}
-use Rattle.path_core.specs.Parts.{seat_of}
+use Rattle.path_core.specs.Parts.{
+  seat_of,
+  table_of,
+  memtable_of,
+  key_of_bound,
+  HasPassedBarrier,
+  touches,
+}
 use Rattle.clog_base.specs.declared.position.Key.{Key}
 use Rattle.path_core.specs.declared.state.Bound.TheVariants.{Final}
-use Rattle.path_core.specs.Parts.{table_of, memtable_of, key_of_bound}
-use Rattle.std.proofs.lemmas.Bool.{and_parts, leb-true}
-use Rattle.path_core.specs.Parts.{HasPassedBarrier, touches}
+use Rattle.std.proofs.lemmas.Bool.{and_parts, leb-true, and_from, lt-ltb, le-leb, ltb-true}
 use Rattle.std.specs.List.{Contains}
 use Rattle.path_core.specs.declared.note.EntryNote.{EntryNote}
 use Rattle.path_core.specs.Lawful.{IsLawfulLog, IsLawfulCore}
 use Rattle.path_core.specs.LawfulPlaces.{IsAccepted, IsClosed, PlacesAre}
-use Rattle.path_core.proofs.tables.Memtables.{final_at, final_is_below}
-use native.Mathlib.Decide.{dec_lt}
+use Rattle.path_core.proofs.tables.TableBounds.{final_at, final_is_below}
 use Rattle.path_core.proofs.log.KeepsNotes.{note_long}
-use Rattle.std.proofs.lemmas.Bool.{and_from, lt-ltb, le-leb, ltb-true}
 use Rattle.path_core.specs.History.{bound_before, bound_below, final_bound, is_touching}
 use Rattle.path_core.specs.LawfulTables.{IsTouched}
 use Rattle.path_core.specs.Promises.{IsPlacedRight, HoldsItsInterval}

@@ -40,32 +40,36 @@ use Rattle.path_core.specs.declared.event.Event.TheVariants.{
 use Rattle.path_core.specs.declared.event.SwitchPart.TheVariants.{Open, Mark}
 use Rattle.path_core.specs.declared.seat.Range.{Range}
 use Rattle.path_core.specs.declared.state.PathState.{PathState}
-use Rattle.path_core.specs.Parts.{seat_of}
+use Rattle.path_core.specs.Parts.{
+  seat_of,
+  fresh_table,
+  table_of,
+  memtable_of,
+  key_of_bound,
+  HasPassedBarrier,
+  touches,
+}
 use Rattle.path_core.specs.Words.{by_of}
 use Rattle.path_core.specs.Next.{next_of}
 use Rattle.clog_base.specs.declared.position.Key.{Key}
 use Rattle.path_core.specs.declared.state.Bound.TheVariants.{Final}
-use Rattle.path_core.specs.Parts.{fresh_table, table_of, memtable_of, key_of_bound}
 use Rattle.path_core.specs.Allowed.{IsStep}
 use Rattle.path_core.specs.LawfulOrders.{IsOrderly}
-use Rattle.path_core.specs.LawfulTables.{SwitchesAre}
+use Rattle.path_core.specs.LawfulTables.{SwitchesAre, may_touch}
 use Rattle.std.proofs.lemmas.Bool.{false≢true}
 use Rattle.path_core.proofs.lists.Replaced.{put_at}
-use Rattle.path_core.proofs.seats.Columns.{each_seat, own_after}
-use Rattle.path_core.proofs.log.ClaimEnds.{ends_below}
-use Rattle.path_core.specs.Parts.{HasPassedBarrier, touches}
+use Rattle.path_core.proofs.seats.Columns.{each_seat, write_after, claim_after, note_after}
 use Rattle.op_core.specs.Tallies.{running_of}
 use Rattle.path_core.specs.Lawful.{IsLawfulLog, IsLawfulCore}
-use Rattle.path_core.specs.LawfulTables.{may_touch}
 use Rattle.path_core.specs.LawfulPlaces.{NoneBelow, PlacesAre}
-use Rattle.path_core.proofs.seats.Columns.{Columns, write_after, claim_after, note_after}
 use Rattle.path_core.proofs.orders.OtherSteps.{columns_of}
-use Rattle.path_core.proofs.log.KeepsNotedOnce.{claimed_above, not_yet}
+use Rattle.path_core.proofs.log.OwnNotes.{not_yet}
 use Rattle.path_core.proofs.orders.NobodyAbove.{in_group, nobody_above_now}
-use Rattle.path_core.proofs.places.TableMoves.{TableMoves, table_moves}
+use Rattle.path_core.proofs.places.TableMoves.{table_moves}
 use Rattle.path_core.proofs.tables.WithBarriers.{barred_at}
-use Rattle.path_core.proofs.tables.Memtables.{final_at}
+use Rattle.path_core.proofs.tables.TableBounds.{final_at}
 use native.Mathlib.Decide.{dec_lt}
+use Rattle.path_core.proofs.log.LogGrows.{claimed_above}
 
 module _ (x : PathState) (C : IsLawfulCore x) (P : PlacesAre x) where
   abbrev L : IsLawfulLog x
@@ -77,21 +81,6 @@ module _ (x : PathState) (C : IsLawfulCore x) (P : PlacesAre x) where
   abbrev W : SwitchesAre x
   W = C.switches
 
-  pub column : (e : Event) → IsStep x e → Columns e (seat_of x (by_of e)) (own_after x e)
-  column e a = columns_of x L.sized O e a.is_there
-
-  pub moves_of : (e : Event) → IsStep x e → (t : ℕ)
-      → TableMoves x.log x.write.current (table_of x t) (table_of (next_of x e) t)
-  moves_of e a t = table_moves x L.sized L.claims_tile_the_log O W e a t
-
-  pub claim_low : (w : ℕ) (r : Range) → (seat_of x w).claim ≡ Some r → r.end ≤ x.log
-  claim_low w r h = ends_below x.capacity x.ordinals x.log x.claims L.claims_tile_the_log _
-      (L.own_claim w r h)
-
-  claims_high : (by : ℕ) (from to : Key) → IsStep x (Claim by from to Entry) → x.log < to.0
-  claims_high by from to a = claimed_above x L.sized L.claims_tile_the_log O L.own_claim
-      L.each_claim_noted_once L.notes_are_claims by from to a
-
   -- Later groups log above.
 
   pub keeps_later : (e : Event) → IsStep x e → (t m g h w : ℕ) (u : Key) (r : Range)
@@ -100,7 +89,7 @@ module _ (x : PathState) (C : IsLawfulCore x) (P : PlacesAre x) where
       → (seat_of (next_of x e) w).write ≡ Some h → g < h
       → (seat_of (next_of x e) w).claim ≡ Some r → u.0 < r.end
   keeps_later e a t m g h w u r barrier bound write less claim =
-      elim ((moves_of e a t).barriers m g barrier) [
+      elim ((table_moves x L.sized L.claims_tile_the_log O W e a t).barriers m g barrier) [
         | inl old ↦ later old
         | inr now ↦ absurd (let n = nobody_above_now x O L.sized Write e a w h write in omega arith)
       ]
@@ -116,7 +105,7 @@ module _ (x : PathState) (C : IsLawfulCore x) (P : PlacesAre x) where
       own (Close by Write k carried) a v low before h r wr less cl = absurd (none-some h wr)
       own (Close by Append k carried) a v low before h r wr less cl = before h r wr less cl
       own (Claim by from to Entry) a v low before h r wr less cl =
-          let high = claims_high by from to a in
+          let high = claimed_above x L.sized L.claims_tile_the_log by from to a in
           let end = ap (λ (q : Range). q.end) (same_Some _ r cl) in omega arith
       own (Claim by from to Marker) a v low before h r wr less cl = before h r wr less cl
       own e a v low before h r wr less cl = before h r wr less cl
@@ -124,15 +113,18 @@ module _ (x : PathState) (C : IsLawfulCore x) (P : PlacesAre x) where
       later : (memtable_of x t m).barrier ≡ Some g → u.0 < r.end
       later old =
           let f = final_at _ ((W.tables t).barrier_means_final m g old) in
-          let same : Final f.0 ≡ Final u = sym ((moves_of e a t).finals m f.0 f.1) ∙ bound in
+          let same : Final f.0 ≡ Final u
+          = sym ((table_moves x L.sized L.claims_tile_the_log O
+          W e a t).finals m f.0 f.1) ∙ bound in
           let key : f.0.0 ≡ u.0 = ap key_of_bound same in
           let low : f.0.0 ≤ x.log = subst (λ b. key_of_bound b ≤ x.log) f.1
           ((W.tables t).bounds_rise.below_log m) in
+          let N = columns_of x L.sized O e a.is_there in
           let goal : f.0.0 < r.end = each_seat x e a.seat
           (λ _ s. (h : ℕ) (r : Range) → s.write ≡ Some h → g < h → s.claim ≡ Some r → f.0.0 < r.end)
           (λ h r wr less cl. own e a f.0 low
           (λ h r p q c. P.later_above t m g h (by_of e) f.0 r old f.1 p q c) h r
-          (sym (column e a).write ∙ wr) less (sym (column e a).claim ∙ cl))
+          (sym N.write ∙ wr) less (sym N.claim ∙ cl))
           (λ v _ h r p q c. P.later_above t m g h v f.0 r old f.1 p q c) w h r write less claim in
           omega arith
 
@@ -203,12 +195,11 @@ module _ (x : PathState) (C : IsLawfulCore x) (P : PlacesAre x) where
       own (Close by Write k carried) a u low N r cl touched = absurd (none-some r cl)
       own (Close by Append k (Deposit note)) a u low N r cl touched = N by r cl
           (ap (λ (n : Option ℕ). option_map_or (λ (tables : ℕ). touches tables t) n true)
-          (not_yet x L.sized L.claims_tile_the_log O L.own_claim L.each_claim_noted_once
-          L.notes_are_claims by k a.row.0))
+          (not_yet x O by k a.row.0))
       own (Close by Append k Nothing) a u low N r cl touched = N by r cl touched
       own (Close by Append k (Applied places)) a u low N r cl touched = absurd a.row.1
       own (Claim by from to Entry) a u low N r cl touched =
-          let high = claims_high by from to a in
+          let high = claimed_above x L.sized L.claims_tile_the_log by from to a in
           let end = ap (λ (q : Range). q.end) (same_Some _ r cl) in omega arith
       own (Claim by from to Marker) a u low N r cl touched = N by r cl touched
       own e a u low N r cl touched = N (by_of e) r cl touched
@@ -218,10 +209,11 @@ module _ (x : PathState) (C : IsLawfulCore x) (P : PlacesAre x) where
       after u bound N w r claim touched =
           let low : u.0 ≤ x.log = subst (λ b. key_of_bound b ≤ x.log) bound
           ((W.tables t).bounds_rise.below_log m) in
-          subst (λ b. key_of_bound b < r.end) (sym ((moves_of e a t).finals m u bound))
+          subst (λ b. key_of_bound b < r.end)
+          (sym ((table_moves x L.sized L.claims_tile_the_log O W e a t).finals m u bound))
           (each_seat x e a.seat (λ _ s. (r : Range) → s.claim ≡ Some r → IsTrue (may_touch s t)
           → u.0 < r.end)
-          (λ r cl touched. own e a u low N r (sym (column e a).claim ∙ cl)
+          (λ r cl touched. own e a u low N r (sym (columns_of x L.sized O e a.is_there).claim ∙ cl)
           (sym (ap (λ n. option_map_or (λ (tables : ℕ). touches tables t) n true)
-          (column e a).note) ∙ touched))
+          (columns_of x L.sized O e a.is_there).note) ∙ touched))
           (λ v _ r cl touched. N v r cl touched) w r claim touched)

@@ -3,22 +3,12 @@
 use Rattle.std.proofs.Common.{
   ◌≡◌,
   ℕ,
-  zero,
-  suc,
-  ◌+◌,
-  ◌<◌,
   ◌≤◌,
   ◌==◌,
-  Bool,
   ◌&&◌,
   true,
   false,
   cond,
-  List,
-  [],
-  ◌∷◌,
-  length,
-  get_or,
   Option,
   Some,
   None,
@@ -27,21 +17,12 @@ use Rattle.std.proofs.Common.{
   sym,
   ap,
   ◌∙◌,
-  subst,
   arith,
 }
 use Rattle.std.specs.Option.{option_map_or}
 use Rattle.std.specs.List.{Contains, count_by}
-use Rattle.std.proofs.lemmas.Bool.{
-  false≢true,
-  false_from_ne_true,
-  and_parts,
-  eq-eqb,
-  eqb-true,
-  ne_eqb,
-}
-use Rattle.std.proofs.lemmas.List.{get_or_default}
-use Rattle.std.proofs.lemmas.List.Sums.{sum_by-append, sum_by-cons}
+use Rattle.std.proofs.lemmas.Bool.{false≢true, false_from_ne_true, and_parts, eq-eqb, eqb-true}
+use Rattle.std.proofs.lemmas.List.Sums.{sum_by-append}
 use Rattle.std.proofs.lemmas.Option.{none-some, same_Some}
 use mathlib.Core.Logic.{dite, inl, inr}
 use native.Mathlib.Decide.{ℕ_discrete, dec_lt}
@@ -51,7 +32,6 @@ use Rattle.path_core.specs.declared.event.ClaimKind.TheVariants.{Entry, Marker}
 use Rattle.path_core.specs.declared.event.Event.{Event}
 use Rattle.path_core.specs.declared.event.Event.TheVariants.{Close, Claim}
 use Rattle.path_core.specs.declared.seat.Range.{Range}
-use Rattle.path_core.specs.declared.seat.SeatTable.{SeatTable}
 use Rattle.path_core.specs.declared.state.PathState.{PathState}
 use Rattle.path_core.specs.declared.state.Placed.{Placed}
 use Rattle.path_core.specs.Parts.{fresh_seat, seat_of, seat_table}
@@ -68,97 +48,14 @@ use Rattle.path_core.specs.LawfulPlaces.{
   ClosedIsPlaced,
   RunningAreUnplaced,
 }
-use Rattle.path_core.proofs.lists.Replaced.{counted_some, counted_in, counted_from, none_counted_in}
+use Rattle.path_core.proofs.lists.Replaced.{counted_some, counted_in, none_counted_in}
 use Rattle.path_core.proofs.log.ClaimEnds.{ends_below}
-use Rattle.path_core.proofs.log.KeepsNotedOnce.{claimed_above}
-use Rattle.path_core.proofs.places.KeepsLater.{column}
+use Rattle.path_core.proofs.orders.OtherSteps.{columns_of}
 use Rattle.path_core.proofs.seats.Columns.{each_seat, claim_after}
 use Rattle.path_core.proofs.places.Closing.{placed_was, own_place, one_claimant}
-
--- where two that count are one, at most one is counted
-one_counted : {A : Type 0} (p : A → Bool) (l : List A) (d : A)
-    → ((i j : ℕ) → i < length l → j < length l → p (get_or l i d) ≡ true
-    → p (get_or l j d) ≡ true → i ≡ j)
-    → count_by p l ≤ 1
-one_counted p [] d one = omega arith
-one_counted {A} p (x ∷ xs) d one = choose (p x) refl
-    (one_counted p xs d (λ i j l m g h. let e = one (suc i) (suc j) (omega arith) (omega arith) g h
-    in omega arith))
-  where
-    choose : (b : Bool) → p x ≡ b → count_by p xs ≤ 1 → count_by p (x ∷ xs) ≤ 1
-    choose false e rest =
-        let s = sum_by-cons (λ a. cond (p a) 1 0) x xs in
-        let c : cond {A = ℕ} (p x) 1 0 ≡ 0 = ap (λ (b : Bool). cond {A = ℕ} b 1 0) e in
-        omega arith
-    choose true e rest =
-        let s = sum_by-cons (λ a. cond (p a) 1 0) x xs in
-        let c : cond {A = ℕ} (p x) 1 0 ≡ 1 = ap (λ (b : Bool). cond {A = ℕ} b 1 0) e in
-        let n : count_by p xs ≡ 0 = none_counted_in p xs (λ a h. later a h (p a) refl) in
-        omega arith
-      where
-        later : (a : A) → Contains xs a → (b : Bool) → p a ≡ b → p a ≡ false
-        later a h false q = q
-        later a h true q = absurd (let z = one zero (suc h.0) (omega arith)
-            (let l = h.1 in omega arith) e
-            (subst (λ k. p k ≡ true) (sym (get_or_default xs h.0 d a h.1 ∙ h.2)) q) in omega arith)
-
--- one that is counted is there
-counted_there : {A : Type 0} (p : A → Bool) (l : List A) (d : A) → 0 < count_by p l
-    → (i : ℕ) × (i < length l) × (p (get_or l i d) ≡ true)
-counted_there p l d some = let r = counted_from p l some in
-    (r.1.0, r.1.1, subst (λ a. p a ≡ true) (sym (get_or_default l r.1.0 d r.0 r.1.1 ∙ r.1.2)) r.2)
-
--- A seat has one place at each table.
-
--- the places from a table on are none of an earlier table
-none_before : (t entry first end : ℕ) (ss : List SeatTable) → t < first
-    → count_by (is_placing t entry) (places_from first end ss) ≡ 0
-none_before t entry first end [] low = refl
-none_before t entry first end (s ∷ ss) low =
-    by s.place (none_before t entry (first + 1) end ss (omega arith))
-  where
-    by : (o : Option ℕ) → count_by (is_placing t entry) (places_from (first + 1) end ss) ≡ 0
-        → count_by (is_placing t entry) (option_map_or
-        (λ (m : ℕ). record { table = first; entry = end; memtable = m }
-        ∷ places_from (first + 1) end ss) o (places_from (first + 1) end ss)) ≡ 0
-    by None rest = rest
-    by (Some m) rest =
-        let s = sum_by-cons (λ p. cond (is_placing t entry p) 1 0)
-        (record { table = first; entry = end; memtable = m }) (places_from (first + 1) end ss) in
-        let c : cond {A = ℕ} ((first == t) && (end == entry)) 1 0 ≡ 0
-        = ap (λ (b : Bool). cond {A = ℕ} (b && (end == entry)) 1 0)
-        (ne_eqb first t (λ e. omega arith)) in
-        omega arith
-
--- there is at most one of each table
-one_each : (t entry first end : ℕ) (ss : List SeatTable)
-    → count_by (is_placing t entry) (places_from first end ss) ≤ 1
-one_each t entry first end [] = omega arith
-one_each t entry first end (s ∷ ss) = by s.place (one_each t entry (first + 1) end ss)
-  where
-    by : (o : Option ℕ) → count_by (is_placing t entry) (places_from (first + 1) end ss) ≤ 1
-        → count_by (is_placing t entry) (option_map_or
-        (λ (m : ℕ). record { table = first; entry = end; memtable = m }
-        ∷ places_from (first + 1) end ss) o (places_from (first + 1) end ss)) ≤ 1
-    by None rest = rest
-    by (Some m) rest =
-        let s = sum_by-cons (λ p. cond (is_placing t entry p) 1 0)
-        (record { table = first; entry = end; memtable = m }) (places_from (first + 1) end ss) in
-        dite (ℕ_discrete first t)
-        (λ is. let n = none_before t entry (first + 1) end ss (omega arith) in
-        let c = at_most ((first == t) && (end == entry)) in omega arith)
-        (λ n. let c : cond {A = ℕ} ((first == t) && (end == entry)) 1 0 ≡ 0
-        = ap (λ (b : Bool). cond {A = ℕ} (b && (end == entry)) 1 0) (ne_eqb first t n) in
-        omega arith)
-      where
-        at_most : (b : Bool) → cond {A = ℕ} b 1 0 ≤ 1
-        at_most true = omega arith
-        at_most false = omega arith
-
--- a placing is of its entry
-placing_entry : (t entry : ℕ) (p : Placed) → is_placing t entry p ≡ true → p.entry ≡ entry
-placing_entry t entry p h =
-    eqb-true p.entry entry (and_parts (p.table == t) (p.entry == entry) h).1
+use Rattle.path_core.proofs.log.LogGrows.{claimed_above}
+use Rattle.path_core.proofs.lists.Counted.{one_counted, counted_there}
+use Rattle.path_core.proofs.places.SeatPlaced.{one_each, placing_entry}
 
 module _ (x : PathState) (Z : IsLawfulPlacing x) where
   abbrev L : IsLawfulLog x
@@ -175,7 +72,7 @@ module _ (x : PathState) (Z : IsLawfulPlacing x) where
       → RunningAreUnplaced (next_of x e)
   keeps_unplaced U e a w r p claim h is = each_seat x e a.seat
       (λ _ s. (r : Range) → s.claim ≡ Some r → p.entry ≡ r.end → ⊥)
-      (λ r c is. own e a r h (sym (column x Z.core Z.places e a).claim ∙ c) is)
+      (λ r c is. own e a r h (sym (columns_of x L.sized L.orders e a.is_there).claim ∙ c) is)
       (λ v other r c is. elim (placed_was x e p h) [
         | inl old ↦ U v r p c old is
         | inr now ↦ let I = own_place x Z (by_of e) p now in
@@ -187,8 +84,7 @@ module _ (x : PathState) (Z : IsLawfulPlacing x) where
       own (Close by Write g carried) a r h c is = none-some r c
       own (Close by Append g carried) a r h c is = U by r p c h is
       own (Claim by from to Entry) a r h c is =
-          let high = claimed_above x L.sized L.claims_tile_the_log L.orders L.own_claim
-          L.each_claim_noted_once L.notes_are_claims by from to a in
+          let high = claimed_above x L.sized L.claims_tile_the_log by from to a in
           let end = ap (λ (q : Range). q.end) (same_Some _ r c) in
           let low = placed_low p h in
           absurd (omega arith)

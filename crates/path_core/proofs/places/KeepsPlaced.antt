@@ -32,13 +32,10 @@ use Rattle.path_core.specs.declared.event.Event.TheVariants.{Close}
 use Rattle.path_core.specs.declared.seat.Range.{Range}
 use Rattle.path_core.specs.declared.seat.SeatTable.{SeatTable}
 use Rattle.path_core.specs.declared.state.PathState.{PathState}
-use Rattle.path_core.specs.Parts.{untouched, seat_of}
-use Rattle.path_core.specs.Next.{next_of}
-use Rattle.path_core.specs.Parts.{table_of}
+use Rattle.path_core.specs.Parts.{untouched, seat_of, table_of, touches}
+use Rattle.path_core.specs.Next.{next_of, places_from, end_of_claim}
 use Rattle.path_core.specs.Allowed.{IsStep}
-use Rattle.path_core.specs.Next.{places_from, end_of_claim}
 use Rattle.path_core.proofs.log.ClaimEnds.{ends_below}
-use Rattle.path_core.specs.Parts.{touches}
 use Rattle.std.specs.List.{Contains}
 use Rattle.std.proofs.lemmas.List.Elements.{Contains-append_cases}
 use Rattle.path_core.specs.declared.note.EntryNote.{EntryNote}
@@ -46,9 +43,8 @@ use Rattle.path_core.specs.declared.state.Placed.{Placed}
 use Rattle.path_core.specs.Lawful.{IsLawfulLog, IsLawfulCore}
 use Rattle.path_core.specs.LawfulPlaces.{IsAccepted, PlacedIs, PlacesAre}
 use Rattle.path_core.proofs.runs.Sizes.{as_many_tables}
-use Rattle.path_core.proofs.log.KeepsNotedOnce.{notes_stay}
-use Rattle.path_core.proofs.places.TableMoves.{accepted_stays}
-use Rattle.path_core.proofs.places.KeepsLater.{moves_of}
+use Rattle.path_core.proofs.log.OwnNotes.{notes_stay}
+use Rattle.path_core.proofs.places.TableMoves.{accepted_stays, table_moves}
 
 module _ (x : PathState) (C : IsLawfulCore x) (P : PlacesAre x) where
   abbrev L : IsLawfulLog x
@@ -64,14 +60,14 @@ module _ (x : PathState) (C : IsLawfulCore x) (P : PlacesAre x) where
     table = subst (λ k. p.table < k) (sym (as_many_tables x e)) I.table;
     noted = record {
       note = I.noted.note;
-      among = notes_stay x L.sized L.claims_tile_the_log L.orders L.own_claim
-          L.each_claim_noted_once L.notes_are_claims e I.noted.note I.noted.among;
+      among = notes_stay x e I.noted.note I.noted.among;
       position = I.noted.position;
       touched = I.noted.touched;
     };
     accepted = accepted_stays x.log x.write.current (table_of x p.table) (table_of
         (next_of x e) p.table)
-        (moves_of x C P e a p.table) p.memtable p.entry
+        (table_moves x L.sized L.claims_tile_the_log L.orders C.switches e a p.table)
+        p.memtable p.entry
         (let l = note_low I.noted.note I.noted.among in let q = I.noted.position in omega arith)
         I.accepted;
   }

@@ -22,7 +22,7 @@ use Rattle.std.proofs.Common.{
 use Rattle.std.specs.Option.{option_map_or}
 use Rattle.std.proofs.lemmas.Option.{none-some, same_Some}
 use mathlib.Core.Logic.{dite, inl, inr}
-use native.Mathlib.Decide.{ℕ_discrete}
+use native.Mathlib.Decide.{ℕ_discrete, dec_lt}
 use Rattle.clog_base.specs.declared.cell.Table.{Table}
 use Rattle.op_core.specs.declared.count.Order.TheVariants.{Write, Append}
 use Rattle.path_core.specs.declared.event.Carried.{Carried}
@@ -33,28 +33,24 @@ use Rattle.path_core.specs.declared.event.Event.TheVariants.{Close, Claim}
 use Rattle.path_core.specs.declared.seat.Range.{Range}
 use Rattle.path_core.specs.declared.seat.Seat.{Seat}
 use Rattle.path_core.specs.declared.state.PathState.{PathState}
-use Rattle.path_core.specs.Parts.{fresh_seat, seat_of}
+use Rattle.path_core.specs.Parts.{fresh_seat, seat_of, touches}
 use Rattle.path_core.specs.Words.{by_of}
-use Rattle.path_core.specs.Next.{next_of}
+use Rattle.path_core.specs.Next.{next_of, places_from, end_of_claim}
 use Rattle.path_core.specs.Allowed.{IsStep}
-use Rattle.path_core.specs.Next.{places_from, end_of_claim}
-use Rattle.path_core.proofs.seats.Columns.{own_after}
-use Rattle.path_core.specs.Parts.{touches}
+use Rattle.path_core.proofs.seats.Columns.{own_after, claim_after}
 use Rattle.std.specs.List.{Contains}
 use Rattle.std.proofs.lemmas.List.Elements.{Contains-append_left, Contains-append_right}
 use Rattle.path_core.specs.declared.note.EntryNote.{EntryNote}
 use Rattle.path_core.specs.declared.state.Placed.{Placed}
 use Rattle.path_core.specs.Lawful.{IsLawfulLog, IsLawfulCore}
 use Rattle.path_core.specs.LawfulPlaces.{HasPlace, PlacesAre}
-use Rattle.path_core.proofs.seats.Columns.{claim_after}
-use native.Mathlib.Decide.{dec_lt}
-use Rattle.path_core.proofs.places.KeepsLater.{column}
 use Rattle.std.proofs.lemmas.List.{get_or_default}
 use Rattle.path_core.proofs.lists.Inserted.{insert_cases}
 use Rattle.path_core.proofs.log.KeepsNotes.{note_long}
 use Rattle.path_core.proofs.places.KeepsLater.{keeps_later, keeps_none_below}
 use Rattle.path_core.proofs.places.KeepsPlaced.{placed_there, keeps_placed}
 use Rattle.path_core.proofs.places.KeepsTries.{keeps_tries}
+use Rattle.path_core.proofs.orders.OtherSteps.{columns_of}
 
 module _ (x : PathState) (C : IsLawfulCore x) (P : PlacesAre x) where
   abbrev L : IsLawfulLog x
@@ -106,7 +102,8 @@ module _ (x : PathState) (C : IsLawfulCore x) (P : PlacesAre x) where
       (λ is. ap (λ k. (seat_of (next_of x e) k).claim) is
       ∙ ap (λ (s : Seat). s.claim)
       (get_or-set_same x.seats (by_of e) (own_after x e) fresh_seat a.seat)
-      ∙ (column x C P e a).claim ∙ own e a other (ap (λ k. (seat_of x k).claim) (sym is) ∙ h))
+      ∙ (columns_of x C.log.sized C.log.orders e a.is_there).claim
+      ∙ own e a other (ap (λ k. (seat_of x k).claim) (sym is) ∙ h))
       (λ n. other_claim e w n ∙ h)
     where
       own : (e : Event) → IsStep x e → (ClosesWrite e → ⊥) → (seat_of x (by_of e)).claim ≡ Some r

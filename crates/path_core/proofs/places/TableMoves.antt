@@ -34,23 +34,27 @@ use Rattle.path_core.specs.declared.event.Event.TheVariants.{
 }
 use Rattle.path_core.specs.declared.event.SwitchPart.TheVariants.{Open, Mark}
 use Rattle.path_core.specs.declared.state.PathState.{PathState}
-use Rattle.path_core.specs.Parts.{seat_of}
+use Rattle.path_core.specs.Parts.{
+  seat_of,
+  fresh_memtable,
+  fresh_table,
+  table_of,
+  memtable_at,
+  key_of_bound,
+}
 use Rattle.path_core.specs.declared.state.Bound.{Bound as BoundOf}
-use Rattle.path_core.specs.declared.state.Bound.TheVariants.{Raising}
-use Rattle.path_core.specs.SeatAfter.{raised_to, made_final}
-use Rattle.path_core.specs.Next.{next_of}
+use Rattle.path_core.specs.declared.state.Bound.TheVariants.{Raising, Live, Final}
+use Rattle.path_core.specs.SeatParts.{raised_to, made_final}
+use Rattle.path_core.specs.Next.{next_of, with_memtable, with_bound}
 use Rattle.clog_base.specs.declared.position.Key.{Key}
-use Rattle.path_core.specs.declared.state.Bound.TheVariants.{Live, Raising, Final}
 use Rattle.path_core.specs.declared.state.Memtable.{Memtable}
 use Rattle.path_core.specs.declared.state.TableState.{TableState}
-use Rattle.path_core.specs.Parts.{fresh_memtable, fresh_table, table_of, memtable_at, key_of_bound}
 use Rattle.path_core.specs.Allowed.{IsStep}
-use Rattle.path_core.specs.Next.{with_memtable, with_bound}
 use Rattle.path_core.specs.Lawful.{IsSized}
 use Rattle.path_core.specs.LawfulLog.{ClaimsTile}
 use Rattle.path_core.specs.LawfulOrders.{IsOrderly}
 use Rattle.path_core.specs.LawfulTables.{SwitchesAre}
-use Rattle.path_core.proofs.lists.Replaced.{put_at}
+use Rattle.path_core.proofs.lists.Replaced.{put_at, default_put}
 use Rattle.path_core.proofs.tables.WithBarriers.{
   barred_table,
   barred_at,
@@ -59,7 +63,6 @@ use Rattle.path_core.proofs.tables.WithBarriers.{
   barrier_before,
 }
 use Rattle.path_core.specs.LawfulPlaces.{IsAboveBefore, LetsIn, IsAccepted, TriesAbove}
-use Rattle.path_core.proofs.lists.Replaced.{default_put}
 
 -- How a table may move.
 pub record TableMoves (log group : ℕ) (table after : TableState) : Type 0 where

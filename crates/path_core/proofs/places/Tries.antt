@@ -45,23 +45,20 @@ use Rattle.path_core.specs.declared.seat.Switching.TheVariants.{
 }
 use Rattle.path_core.specs.Parts.{untouched, seat_table}
 use Rattle.path_core.specs.declared.state.Bound.TheVariants.{Raising}
-use Rattle.path_core.specs.SeatAfter.{
-  seat_after,
-  looked,
+use Rattle.path_core.specs.SeatAfter.{seat_after, looked, number_read, new_flush}
+use Rattle.path_core.specs.SeatParts.{
   at_table,
   in_flush,
   keeps,
-  is_finished,
   finished_found,
   bound_found,
   log_found,
   made_final,
   reaches,
   barrier_issued,
-  number_read,
-  new_flush,
 }
 use Rattle.path_core.proofs.seats.Columns.{at_table_keeps}
+use Rattle.op_core.specs.Tallies.{is_finished}
 
 abbrev pub tried_in : SeatTable → Option ℕ × Option ℕ
 tried_in st = (st.trying, st.place)

@@ -5,7 +5,7 @@ use Rattle.clog_base.specs.Sizes.{IsWithinLimits}
 use Rattle.path_core.specs.declared.event.Event.{Event}
 use Rattle.path_core.specs.declared.state.PathState.{PathState}
 use Rattle.path_core.specs.declared.state.TableState.{TableState}
-use Rattle.path_core.specs.Parts.{table_of}
+use Rattle.path_core.specs.Parts.{table_of, fresh_table}
 use Rattle.path_core.specs.Allowed.{IsStep}
 use Rattle.path_core.specs.Next.{next_of}
 use Rattle.path_core.specs.Whole.{CarriesWhole}
@@ -22,7 +22,9 @@ use Rattle.path_core.proofs.places.KeepsOnce.{
   closed_is_placed,
 }
 use Rattle.path_core.proofs.files.FilesTrue.{files_true}
-use Rattle.path_core.proofs.runs.KeepsPlacing.{keeps_placing, opening_placing, fresh_tables}
+use Rattle.path_core.proofs.runs.KeepsPlacing.{keeps_placing}
+use Rattle.path_core.proofs.runs.OpeningPlaces.{opening_placing}
+use Rattle.path_core.proofs.lists.Replaced.{replicated}
 
 -- What closed writes and files are follows from the other fields.
 lawful_filing : (x : PathState) → IsLawfulPlacing x → LastFiles x → FilesBegin x
@@ -60,7 +62,8 @@ opening_filing tables seats capacity ordinals base limits =
       each = λ f h. absurd (let l = h.1 in omega arith);
     }) (λ f h. absurd (let l = h.1 in omega arith)) (record {
       each = λ t m inside l. absurd (let z : (table_of x t).oldest_live ≡ 0
-          = ap (λ (tb : TableState). tb.oldest_live) (fresh_tables tables t) in omega arith);
+          = ap (λ (tb : TableState). tb.oldest_live) (replicated tables t fresh_table)
+          in omega arith);
       follow = λ t. tt;
     }) U (placed_once x Z U (λ t entry. omega arith))
   where

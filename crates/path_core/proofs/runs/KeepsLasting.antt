@@ -10,7 +10,14 @@ use Rattle.path_core.specs.declared.seat.SeatTable.{SeatTable}
 use Rattle.path_core.specs.declared.state.Memtable.{Memtable}
 use Rattle.path_core.specs.declared.state.PathState.{PathState}
 use Rattle.path_core.specs.declared.state.TableState.{TableState}
-use Rattle.path_core.specs.Parts.{fresh_seat, untouched, table_of, seat_table, marker_of}
+use Rattle.path_core.specs.Parts.{
+  fresh_seat,
+  untouched,
+  table_of,
+  seat_table,
+  marker_of,
+  fresh_table,
+}
 use Rattle.path_core.specs.Allowed.{IsStep}
 use Rattle.path_core.specs.Next.{next_of}
 use Rattle.path_core.specs.Runs.{opening}
@@ -21,13 +28,9 @@ use Rattle.path_core.specs.LawfulOrders.{SwitchesHeld}
 use Rattle.path_core.specs.LawfulSeats.{SeatKnows, StageIs}
 use Rattle.path_core.specs.LawfulTables.{BarriersBelow, LaterGroupsAbove}
 use Rattle.path_core.proofs.seats.Columns.{untouched_there}
-use Rattle.path_core.proofs.runs.KeepsPlacing.{
-  at_first,
-  fresh_tables,
-  fresh_at,
-  keeps_placing,
-  opening_placing,
-}
+use Rattle.path_core.proofs.runs.OpeningLog.{at_first}
+use Rattle.path_core.proofs.runs.OpeningPlaces.{fresh_at, opening_placing}
+use Rattle.path_core.proofs.runs.KeepsPlacing.{keeps_placing}
 use Rattle.path_core.proofs.tables.KeepsBarriers.{keeps_barriers}
 use Rattle.path_core.proofs.orders.GroupsMove.{groups_move}
 use Rattle.path_core.proofs.orders.KeepsSwitchHolders.{keeps_switches_held}
@@ -37,6 +40,7 @@ use Rattle.path_core.proofs.log.KeepsLogged.{keeps_logged_synced}
 use Rattle.path_core.proofs.seats.KnownWords.{KnowsWords}
 use Rattle.path_core.proofs.seats.KnownTables.{KnowsTable}
 use Rattle.path_core.proofs.seats.KeepsSeatsKnow.{seat_knows, keeps_seats_know}
+use Rattle.path_core.proofs.lists.Replaced.{replicated}
 
 -- Each allowed step keeps it.
 pub keeps_logged_part : (x : PathState) → IsLawfulLogged x → (e : Event) → IsStep x e
@@ -72,7 +76,7 @@ module _ (tables seats capacity ordinals base : ℕ) where
   -- no switch was made
   first_switches : SwitchesHeld first
   first_switches t inside = inl (λ l. absurd (let z : (table_of first t).newest ≡ 0
-      = ap (λ (tb : TableState). tb.newest) (fresh_tables tables t) in omega arith))
+      = ap (λ (tb : TableState). tb.newest) (replicated tables t fresh_table) in omega arith))
 
   -- no marker was claimed
   first_later : LaterGroupsAbove first

@@ -3,8 +3,6 @@ use Rattle.std.proofs.Common.{
   ◌≡◌,
   ◌≢◌,
   ℕ,
-  zero,
-  suc,
   ◌<◌,
   ◌==◌,
   Bool,
@@ -14,7 +12,6 @@ use Rattle.std.proofs.Common.{
   List,
   length,
   get_or,
-  replicate,
   Option,
   Some,
   None,
@@ -58,10 +55,11 @@ use Rattle.path_core.specs.declared.state.PathState.{PathState}
 use Rattle.path_core.specs.Keys.{claim_start}
 use Rattle.path_core.specs.Parts.{fresh_seat, untouched, seat_of, seat_table, holds_turn}
 use Rattle.path_core.specs.Words.{reading, by_of, place_of}
-use Rattle.path_core.specs.SeatAfter.{seat_after, at_table}
+use Rattle.path_core.specs.SeatAfter.{seat_after}
+use Rattle.path_core.specs.SeatParts.{at_table}
 use Rattle.path_core.specs.Next.{next_of, gives_file}
 use Rattle.path_core.specs.Lawful.{IsSized}
-use Rattle.path_core.proofs.lists.Replaced.{put_at}
+use Rattle.path_core.proofs.lists.Replaced.{put_at, replicated}
 
 -- the acting seat's part after its step
 abbrev pub own_after : PathState → Event → Seat
@@ -169,12 +167,7 @@ seat_fits x sized t w inside =
 -- A fresh seat did nothing at any table, and holds no turn.
 
 pub untouched_there : (t : ℕ) → seat_table fresh_seat t ≡ untouched
-untouched_there t = by 16 t
-  where
-    by : (n t : ℕ) → get_or (replicate n untouched) t untouched ≡ untouched
-    by zero t = refl
-    by (suc n) zero = refl
-    by (suc n) (suc t) = by n t
+untouched_there t = replicated 16 t untouched
 
 pub fresh_holds_none : (turn : Turn) → holds_turn fresh_seat turn ≡ false
 fresh_holds_none Sync = refl

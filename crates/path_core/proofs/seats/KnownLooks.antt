@@ -20,14 +20,8 @@ use Rattle.path_core.specs.declared.state.PathState.{PathState}
 use Rattle.path_core.specs.Parts.{groups_of, tally_of, seat_of}
 use Rattle.path_core.specs.Words.{reading}
 use Rattle.path_core.specs.Allowed.{IsStep}
-use Rattle.path_core.specs.SeatAfter.{
-  looked,
-  keeps,
-  is_finished,
-  current_found,
-  oldest_found,
-  finished_found,
-}
+use Rattle.path_core.specs.SeatAfter.{looked}
+use Rattle.path_core.specs.SeatParts.{keeps, current_found, oldest_found, finished_found}
 use Rattle.path_core.specs.Next.{next_of}
 use Rattle.path_core.specs.Lawful.{IsLawfulLog}
 use Rattle.path_core.proofs.orders.GroupsMove.{groups_move}
@@ -37,9 +31,10 @@ use Rattle.path_core.proofs.seats.KnownWords.{
   same_known,
   turn_mapped,
   keeps_known,
-  finished_is,
-  groups_same,
 }
+use Rattle.path_core.proofs.seats.WordsStay.{groups_same}
+use Rattle.op_core.specs.Tallies.{is_finished}
+use Rattle.op_core.proofs.Finished.{is_finished-true}
 
 module _ (x : PathState) (L : IsLawfulLog x) where
   -- A Look: what stands at the place is known.
@@ -56,7 +51,7 @@ module _ (x : PathState) (L : IsLawfulLog x) where
           (cond b (keeps o (finished_found group) (seat_of x by)) (seat_of x by))
       choose false e = K
       choose true e = let M = groups_move x L.orders o (Look by (Count o group)) a in
-          let now = M.finished group (finished_is (tally_of x o group) e) in
+          let now = M.finished group (is_finished-true (tally_of x o group) e) in
           keeps_known (next_of x (Look by (Count o group))) o (finished_found group) (seat_of x by)
           (λ groups G. record {
             current = G.current;

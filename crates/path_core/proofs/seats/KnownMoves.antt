@@ -57,7 +57,7 @@ use Rattle.path_core.specs.Parts.{
 }
 use Rattle.path_core.specs.Words.{by_of}
 use Rattle.path_core.specs.Allowed.{IsStep}
-use Rattle.path_core.specs.SeatAfter.{at_table, raised_to, made_final}
+use Rattle.path_core.specs.SeatParts.{at_table, raised_to, made_final}
 use Rattle.path_core.specs.Next.{next_of, with_memtable, with_bound, barred}
 use Rattle.path_core.specs.Lawful.{IsLawfulLog}
 use Rattle.path_core.specs.LawfulSeats.{BoundStays, BoundExact}
@@ -68,11 +68,13 @@ use Rattle.path_core.proofs.seats.KnownTables.{
   TableLeft,
   left_itself,
   left_grows,
+  same_grows,
+}
+use Rattle.path_core.proofs.seats.KnownBounds.{
   stays_itself,
   exact_itself,
   raised_exact,
   final_stays,
-  same_grows,
 }
 
 -- What a step leaves of a table.

@@ -1,7 +1,6 @@
 -- What a seat knows of the words of no table after its own step.
-use Rattle.std.proofs.Common.{ℕ, ◌≤◌, ◌||◌, Some, refl, sym, subst, arith}
+use Rattle.std.proofs.Common.{ℕ, ◌||◌, Some, refl, sym, subst, arith}
 use Rattle.std.proofs.lemmas.Option.{none-some, same_Some}
-use Rattle.op_core.specs.declared.count.Order.{Order}
 use Rattle.op_core.specs.declared.count.Order.TheVariants.{Write, Append}
 use Rattle.path_core.specs.declared.event.Carried.TheVariants.{Nothing, Deposit, Applied}
 use Rattle.path_core.specs.declared.event.ClaimKind.TheVariants.{Entry, Marker}
@@ -26,191 +25,24 @@ use Rattle.path_core.specs.declared.event.Event.TheVariants.{
 }
 use Rattle.path_core.specs.declared.event.SwitchPart.TheVariants.{Open, Mark}
 use Rattle.path_core.specs.declared.event.Turn.TheVariants.{Sync, Flush}
-use Rattle.path_core.specs.declared.seat.Issue.{Issue}
-use Rattle.path_core.specs.declared.seat.Issue.TheVariants.{Rest, Opened, Moved}
-use Rattle.path_core.specs.declared.seat.Seat.{Seat}
+use Rattle.path_core.specs.declared.seat.Issue.TheVariants.{Rest, Opened}
 use Rattle.path_core.specs.declared.seat.SyncTurn.{SyncTurn}
 use Rattle.path_core.specs.declared.state.PathState.{PathState}
 use Rattle.path_core.specs.Keys.{claim_start}
 use Rattle.path_core.specs.Parts.{seat_of}
 use Rattle.path_core.specs.Words.{by_of}
 use Rattle.path_core.specs.Allowed.{IsStep}
-use Rattle.path_core.specs.SeatAfter.{
-  in_sync,
-  in_turn_groups,
-  with_issue,
-  marker_claimed,
-  moved_turn,
-  oldest_found,
-  new_sync,
-}
+use Rattle.path_core.specs.SeatAfter.{new_sync}
 use Rattle.path_core.specs.Next.{next_of, gives_file}
 use Rattle.path_core.specs.Lawful.{IsLawfulLog}
 use Rattle.path_core.proofs.seats.Columns.{own_after}
-use Rattle.path_core.proofs.seats.KnownWords.{
-  SyncIs,
-  KnowsWords,
-  same_known,
-  turn_mapped,
-  words_stay,
-  known_left,
-}
+use Rattle.path_core.proofs.seats.KnownWords.{SyncIs, KnowsWords, same_known, turn_mapped}
+use Rattle.path_core.proofs.seats.WordsStay.{words_stay, known_left}
 use Rattle.path_core.proofs.seats.KnownLooks.{looks_know}
-
--- an issue is no word
-issued : (x : PathState) (issue : Issue) (s : Seat) → KnowsWords x s
-    → KnowsWords x (in_sync (with_issue issue) s)
-issued x issue s K = record {
-  words = K.words;
-  sync = turn_mapped (SyncIs x) s.sync (with_issue issue) (λ turn h. let E = K.sync turn h in
-      record { write = E.write; append = E.append; synced = E.synced; stopped = E.stopped });
-}
-
--- a marker is no word
-claimed : (x : PathState) (start : ℕ) (s : Seat) → KnowsWords x s
-    → KnowsWords x (in_sync (marker_claimed start) s)
-claimed x start s K = record {
-  words = K.words;
-  sync = turn_mapped (SyncIs x) s.sync (marker_claimed start) (λ turn h. let E = K.sync turn h in
-      record { write = E.write; append = E.append; synced = E.synced; stopped = E.stopped });
-}
-
--- a log key is found
-log_known : (x : PathState) (key : ℕ) (s : Seat) → key ≤ x.log → KnowsWords x s
-    → KnowsWords x (record s { found = record s.found { log = Some key } })
-log_known x key s low K = record {
-  words = let W = K.words in record {
-    write = W.write;
-    append = W.append;
-    log = λ k h. let is = same_Some key k h in omega arith;
-    synced = W.synced;
-    stopped = W.stopped;
-  };
-  sync = K.sync;
-}
-
--- a Sync turn that was just taken knows nothing
-new_turn_known : (x : PathState) → SyncIs x new_sync
-new_turn_known x = record {
-  write = record {
-    current = λ g h. absurd (none-some g h);
-    oldest = λ g h. absurd (none-some g h);
-    finished = λ g h. absurd (none-some g h);
-  };
-  append = record {
-    current = λ g h. absurd (none-some g h);
-    oldest = λ g h. absurd (none-some g h);
-    finished = λ g h. absurd (none-some g h);
-  };
-  synced = λ key h. absurd (none-some key h);
-  stopped = λ n h. absurd (none-some n h);
-}
+use Rattle.path_core.proofs.seats.KnownChanges.{issued, claimed, log_known, new_turn_known}
+use Rattle.path_core.proofs.seats.KnownIssues.{moves_know, advances_know}
 
 module _ (x : PathState) (L : IsLawfulLog x) where
-  -- The holder of the Sync turn makes the next group current.
-  moves_know : (by : ℕ) (o : Order) (group : ℕ) → IsStep x (MoveCurrent by o group)
-      → KnowsWords x (seat_of x by)
-      → KnowsWords (next_of x (MoveCurrent by o group)) (own_after x (MoveCurrent by o group))
-  moves_know by Write group a K = let e = MoveCurrent by Write group in record {
-    words = words_stay x L e a (seat_of x by).found K.words;
-    sync = turn_mapped (SyncIs (next_of x e)) (seat_of x by).sync
-        (moved_turn Write x.write.current group)
-        (λ turn h. let E = K.sync turn h in record {
-          write = let G = E.write in record {
-            current = λ g h. sym (same_Some group g h);
-            oldest = G.oldest;
-            finished = G.finished;
-          };
-          append = let G = E.append in record {
-            current = G.current;
-            oldest = G.oldest;
-            finished = G.finished;
-          };
-          synced = E.synced;
-          stopped = E.stopped;
-        });
-  }
-  moves_know by Append group a K = let e = MoveCurrent by Append group in record {
-    words = words_stay x L e a (seat_of x by).found K.words;
-    sync = turn_mapped (SyncIs (next_of x e)) (seat_of x by).sync
-        (moved_turn Append x.append.current group)
-        (λ turn h. let E = K.sync turn h in record {
-          write = let G = E.write in record {
-            current = G.current;
-            oldest = G.oldest;
-            finished = G.finished;
-          };
-          append = let G = E.append in record {
-            current = λ g h. sym (same_Some group g h);
-            oldest = G.oldest;
-            finished = G.finished;
-          };
-          synced = E.synced;
-          stopped = E.stopped;
-        });
-  }
-
-  -- It advances the oldest one.
-  advances_know : (by : ℕ) (o : Order) (group : ℕ) → IsStep x (Advance by o group)
-      → KnowsWords x (seat_of x by)
-      → KnowsWords (next_of x (Advance by o group)) (own_after x (Advance by o group))
-  advances_know by Write group a K = let e = Advance by Write group in record {
-    words = let W = words_stay x L e a (seat_of x by).found K.words in record {
-      write = let G = W.write in record {
-        current = G.current;
-        oldest = λ g h. let is = same_Some group g h in omega arith;
-        finished = G.finished;
-      };
-      append = W.append;
-      log = W.log;
-      synced = W.synced;
-      stopped = W.stopped;
-    };
-    sync = turn_mapped (SyncIs (next_of x e)) (seat_of x by).sync
-        (in_turn_groups Write (oldest_found group)) (λ turn h. let E = K.sync turn h in record {
-          write = let G = E.write in record {
-            current = G.current;
-            oldest = λ g h. sym (same_Some group g h);
-            finished = G.finished;
-          };
-          append = let G = E.append in record {
-            current = G.current;
-            oldest = G.oldest;
-            finished = G.finished;
-          };
-          synced = E.synced;
-          stopped = E.stopped;
-        });
-  }
-  advances_know by Append group a K = let e = Advance by Append group in record {
-    words = let W = words_stay x L e a (seat_of x by).found K.words in record {
-      write = W.write;
-      append = let G = W.append in record {
-        current = G.current;
-        oldest = λ g h. let is = same_Some group g h in omega arith;
-        finished = G.finished;
-      };
-      log = W.log;
-      synced = W.synced;
-      stopped = W.stopped;
-    };
-    sync = turn_mapped (SyncIs (next_of x e)) (seat_of x by).sync
-        (in_turn_groups Append (oldest_found group)) (λ turn h. let E = K.sync turn h in record {
-          write = let G = E.write in record {
-            current = G.current;
-            oldest = G.oldest;
-            finished = G.finished;
-          };
-          append = let G = E.append in record {
-            current = G.current;
-            oldest = λ g h. sym (same_Some group g h);
-            finished = G.finished;
-          };
-          synced = E.synced;
-          stopped = E.stopped;
-        });
-  }
-
   -- It puts the synced key, retires a memtable, or stops the log.
   puts_know : (by : ℕ) (cursor : Cursor) (value : ℕ) → IsStep x (Put by cursor value)
       → KnowsWords x (seat_of x by)
@@ -283,8 +115,8 @@ module _ (x : PathState) (L : IsLawfulLog x) where
   -- The acting seat knows the words after its own step.
   pub own_knows : (e : Event) → IsStep x e → KnowsWords x (seat_of x (by_of e))
       → KnowsWords (next_of x e) (own_after x e)
-  own_knows (MoveCurrent by order group) a K = moves_know by order group a K
-  own_knows (Advance by order group) a K = advances_know by order group a K
+  own_knows (MoveCurrent by order group) a K = moves_know x L by order group a K
+  own_knows (Advance by order group) a K = advances_know x L by order group a K
   own_knows (Put by cursor value) a K = puts_know by cursor value a K
   own_knows (Look by at) a K =
       looks_know x L by at a (known_left x L (Look by at) a (λ b. b) (seat_of x by) K)

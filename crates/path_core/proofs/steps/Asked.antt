@@ -16,7 +16,6 @@ use Rattle.std.proofs.Common.{
   [],
   ◌∷◌,
   get_or,
-  replicate,
   Option,
   Some,
   None,
@@ -39,15 +38,12 @@ use Rattle.std.specs.List.{list_any}
 use Rattle.std.specs.Option.{option_eq}
 use Rattle.clog_base.specs.declared.position.Key.{Key}
 use Rattle.path_core.specs.declared.event.Turn.{Turn}
-use Rattle.path_core.specs.declared.event.Turn.TheVariants.{Sync, Flush}
 use Rattle.path_core.specs.declared.seat.Range.{Range}
 use Rattle.path_core.specs.declared.seat.Seat.{Seat}
-use Rattle.path_core.specs.declared.seat.SeatTable.{SeatTable}
 use Rattle.path_core.specs.declared.state.Bound.TheVariants.{Final}
 use Rattle.path_core.specs.declared.state.PathState.{PathState}
 use Rattle.path_core.specs.Keys.{after}
 use Rattle.path_core.specs.Parts.{
-  untouched,
   fresh_seat,
   seat_of,
   seat_table,

@@ -7,8 +7,6 @@ use Rattle.std.proofs.Common.{
   ◌-◌,
   nat_lt,
   not,
-  true,
-  false,
   List,
   [],
   length,
@@ -17,7 +15,7 @@ use Rattle.std.proofs.Common.{
   arith,
 }
 use Rattle.std.specs.List.{position_or_len}
-use Rattle.std.proofs.lemmas.Bool.Decides.{nat_tests}
+use Rattle.std.proofs.lemmas.Bool.{ltb-true, ltb-false, lt-ltb, le-ltb}
 use Rattle.std.proofs.lemmas.List.Sorted.{IsNonDecreasingBy-insert}
 use Rattle.std.proofs.lemmas.List.Sums.{
   fails_before_first,
@@ -47,28 +45,16 @@ use Rattle.path_core.specs.declared.note.EntryNote.{EntryNote}
 use Rattle.path_core.specs.Next.{joined, notes_after}
 use Rattle.path_core.specs.Steps.{StandInOrder}
 
-below : (a b : ℕ) → nat_lt a b ≡ true → a < b
-below a b h = grind (arith, nat_tests)
-
-not_below : (a b : ℕ) → nat_lt a b ≡ false → b ≤ a
-not_below a b h = grind (arith, nat_tests)
-
-is_below : (a b : ℕ) → a < b → nat_lt a b ≡ true
-is_below a b h = grind (arith, nat_tests)
-
-is_not_below : (a b : ℕ) → b ≤ a → nat_lt a b ≡ false
-is_not_below a b h = grind (arith, nat_tests)
-
 joined_in_order : (note : EntryNote) (notes : List EntryNote) → StandInOrder notes
     → StandInOrder (joined note notes)
 joined_in_order note notes order =
     let place = position_or_len (λ (n : EntryNote). nat_lt note.start.0 n.start.0) notes in
     IsNonDecreasingBy-insert (λ (n : EntryNote). n.start.0) notes place note order
     (prefix_len-le-length (λ (n : EntryNote). not (nat_lt note.start.0 n.start.0)) notes)
-    (λ k d before. not_below note.start.0 (get_or notes k d).start.0
+    (λ k d before. ltb-false note.start.0 (get_or notes k d).start.0
     (fails_before_first (λ (n : EntryNote). nat_lt note.start.0 n.start.0) notes k d before))
     (λ k d behind inside.
-    let here = below note.start.0 (get_or notes place d).start.0
+    let here = ltb-true note.start.0 (get_or notes place d).start.0
     (passes_at_first (λ (n : EntryNote). nat_lt note.start.0 n.start.0) notes d (omega arith)) in
     let up = order place k d behind inside in omega arith)
 
@@ -110,7 +96,7 @@ pub joins_at : (start : ℕ) (notes : List EntryNote) (place : ℕ) (d : EntryNo
     → place ≡ position_or_len (λ (n : EntryNote). nat_lt start n.start.0) notes
 joins_at start notes place d order inside behind before =
     sym (position_or_len_is (λ (n : EntryNote). nat_lt start n.start.0) notes place d inside
-    (λ k l. is_not_below start (get_or notes k d).start.0
+    (λ k l. le-ltb start (get_or notes k d).start.0
     (let up = order k (place - 1) d (omega arith) (omega arith) in
     let last = before (omega arith) in omega arith))
-    (λ l. is_below start (get_or notes place d).start.0 (behind place d (omega arith) l)))
+    (λ l. lt-ltb start (get_or notes place d).start.0 (behind place d (omega arith) l)))

@@ -55,7 +55,7 @@ use Rattle.path_core.specs.Parts.{
   is_marker,
 }
 use Rattle.path_core.specs.Allowed.{IsStep, is_unbarred_marker}
-use Rattle.path_core.specs.SeatAfter.{raised_to, made_final}
+use Rattle.path_core.specs.SeatParts.{raised_to, made_final}
 use Rattle.path_core.specs.Next.{next_of, claim_of, with_memtable, with_bound, barred_marker}
 use Rattle.path_core.specs.Lawful.{IsSized}
 use Rattle.path_core.specs.LawfulLog.{ClaimsTile}

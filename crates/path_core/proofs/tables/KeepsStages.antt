@@ -1,5 +1,5 @@
 -- How far the holder of a table's turn has got with a switch: each step keeps that it is so.
-use Rattle.std.proofs.Common.{◌≡◌, ◌≢◌, ℕ, ◌-◌, Option, Some, None, refl, ap, ◌∙◌, subst}
+use Rattle.std.proofs.Common.{◌≡◌, ◌≢◌, ℕ, Option, Some, None, refl, ap, ◌∙◌, subst}
 use Rattle.std.specs.Option.{option_map, option_and_then}
 use Rattle.std.proofs.lemmas.Option.{none-some, same_Some}
 use mathlib.Core.Logic.{inl, inr}
@@ -43,18 +43,9 @@ use Rattle.path_core.proofs.tables.StageStands.{
   stage_stands,
   table_stands,
 }
-use Rattle.path_core.proofs.tables.StageSteps.{
-  Own,
-  looks_at_log,
-  issues,
-  opens,
-  marks,
-  finalises,
-  raises,
-  takes,
-  gives,
-  quiet_own,
-}
+use Rattle.path_core.proofs.tables.StageOwn.{Own, looks_at_log, issues, quiet_own}
+use Rattle.path_core.proofs.tables.StageSteps.{opens, marks, finalises, raises}
+use Rattle.path_core.proofs.tables.StageTurns.{takes, gives}
 
 module _ (x : PathState) (C : IsLawfulCore x) where
   -- The stages of the acting seat after its step.

@@ -24,15 +24,13 @@ use Rattle.std.proofs.Common.{
 }
 use mathlib.Core.Logic.{dite, inl, inr}
 use native.Mathlib.Decide.{ℕ_discrete}
-use Rattle.path_core.specs.Parts.{is_at}
+use Rattle.path_core.specs.Parts.{is_at, fresh_memtable, memtable_at, key_of_bound}
 use Rattle.path_core.specs.declared.state.Bound.TheVariants.{Raising}
-use Rattle.path_core.specs.SeatAfter.{raised_to}
+use Rattle.path_core.specs.SeatParts.{raised_to}
 use Rattle.path_core.specs.declared.seat.Marked.{Marked}
 use Rattle.clog_base.specs.declared.position.Key.{Key}
-use Rattle.path_core.specs.declared.state.Bound.TheVariants.{Raising}
 use Rattle.path_core.specs.declared.state.Memtable.{Memtable}
 use Rattle.path_core.specs.declared.state.TableState.{TableState}
-use Rattle.path_core.specs.Parts.{fresh_memtable, memtable_at, key_of_bound}
 use Rattle.path_core.specs.Next.{with_memtable, with_bound}
 use Rattle.path_core.specs.LawfulTables.{MarkedIsRaising}
 use Rattle.std.proofs.lemmas.Bool.{false≢true, or_cases, and_parts, eqb-true}

@@ -1,8 +1,4 @@
-use Rattle.path_core.proofs.tables.StageTells.{
-  equal_wanted,
-  equal_through,
-  equal_retires,
-}
+use Rattle.path_core.proofs.tables.EqualParts.{equal_wanted, equal_through, equal_retires}
 use Rattle.path_core.proofs.holder_law.equal_parts_get_equal_answers.Goals as goal
 
 pub returns-clause-wanted : goal.returns-clause-wanted

@@ -1,5 +1,5 @@
 use Rattle.path_core.proofs.runs.EveryRun.{log_of, from_opening}
-use Rattle.path_core.proofs.log.KeepsLogged.{deposited_below}
+use Rattle.path_core.proofs.log.Deposited.{deposited_below}
 use Rattle.path_core.proofs.law.entries_up_to_a_passed_marker_are_deposited.Goals as goal
 
 pub returns : goal.returns

@@ -1,5 +1,5 @@
 use Rattle.std.proofs.Common.{◌<◌, length, arith}
-use Rattle.path_core.specs.SeatAfter.{barrier_issued}
+use Rattle.path_core.specs.SeatParts.{barrier_issued}
 use Rattle.path_core.proofs.lists.Mapped.{set-mapped}
 use Rattle.path_core.proofs.move_changes.issue_stages.Goals as goal
 

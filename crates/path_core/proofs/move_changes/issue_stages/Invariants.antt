@@ -1,5 +1,5 @@
 use Rattle.std.proofs.Common.{◌≡◌, ◌++◌, map, take, drop}
-use Rattle.path_core.specs.SeatAfter.{barrier_issued}
+use Rattle.path_core.specs.SeatParts.{barrier_issued}
 use Rattle.path_core.proofs.move_changes.issue_stages.Given as goal
 
 abbrev pub invariant-loop-at : goal.invariant-loop-at

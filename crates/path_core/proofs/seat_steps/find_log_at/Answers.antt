@@ -1,5 +1,5 @@
 use Rattle.std.proofs.Common.{◌<◌, length, arith}
-use Rattle.path_core.specs.SeatAfter.{log_found}
+use Rattle.path_core.specs.SeatParts.{log_found}
 use Rattle.path_core.proofs.lists.Mapped.{set-mapped}
 use Rattle.path_core.proofs.seat_steps.find_log_at.Goals as goal
 

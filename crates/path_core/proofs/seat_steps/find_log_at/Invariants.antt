@@ -1,5 +1,5 @@
 use Rattle.std.proofs.Common.{◌≡◌, ◌++◌, map, take, drop}
-use Rattle.path_core.specs.SeatAfter.{log_found}
+use Rattle.path_core.specs.SeatParts.{log_found}
 use Rattle.path_core.proofs.seat_steps.find_log_at.Given as goal
 
 abbrev pub invariant-loop-at : goal.invariant-loop-at

@@ -1,5 +1,5 @@
 use Rattle.path_core.proofs.runs.EveryRun.{log_of}
-use Rattle.path_core.proofs.log.KeepsLogged.{deposited_below}
+use Rattle.path_core.proofs.log.Deposited.{deposited_below}
 use Rattle.path_core.proofs.state_law.up_to_a_passed_marker_all_is_deposited.Goals as goal
 
 pub returns : goal.returns

@@ -3,7 +3,7 @@ use Rattle.path_core.specs.declared.note.EntryNote.{EntryNote}
 use Rattle.path_core.specs.declared.table_files.Span.{Span}
 use Rattle.path_core.specs.Droppable.{is_of}
 use Rattle.path_core.specs.Spans.{Spans, IsSpan, widened}
-use Rattle.path_core.proofs.steps.Filed.{span_more, span_same}
+use Rattle.path_core.proofs.steps.SpanGrows.{span_more, span_same}
 use Rattle.path_core.proofs.table_files.span_of.Goals as goal
 use Rattle.path_core.proofs.table_files.span_of.Goals.{then-is_of, else-is_of}
 
