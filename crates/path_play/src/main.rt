@@ -1,6 +1,6 @@
-//! Plays runs of single steps of the write path. It reads them as lines of text from standard input,
-//! and prints for each step whether it was made, and states where a run asks for them. The page
-//! `docs/PROTOCOL.md` tells the form.
+//! Plays runs of single steps of the write path. It reads them as lines of text from standard
+//! input, and prints for each step whether it was made, and states where a run asks for them. The
+//! page `docs/PROTOCOL.md` tells the form.
 #![tactic(auto)]
 
 mod carried;
