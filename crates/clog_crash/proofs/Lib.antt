@@ -5,6 +5,7 @@ pub mod Payloads
 pub mod TableFiles
 pub mod WorkedRow
 pub mod changes
+pub mod counts
 pub mod damage
 pub mod flush
 pub mod life

@@ -82,11 +82,11 @@ use Rattle.clog_crash.proofs.OneMore.{new_or_old, some_is, stays, is_there}
 use Rattle.clog_crash.proofs.Payloads.{of_payload}
 use Rattle.clog_crash.proofs.TableFiles.{one_table_file}
 
-abbrev segment_name : List ℕ
+abbrev pub segment_name : List ℕ
 segment_name = segment_name_of 6 1000
 
 -- the name of the first file of this table
-abbrev table_name : Table → List ℕ
+abbrev pub table_name : Table → List ℕ
 table_name table = table_name_of table.0 1
 
 -- ---- the two files
@@ -129,7 +129,7 @@ is_segment_file = record {
   short = omega arith;
 }
 
-abbrev the_entry : Entry
+abbrev pub the_entry : Entry
 the_entry = entry_from 28 (payload_of the_mutation)
 
 held : IsSegment the_segment 1000 (the_entry ∷ []) (Clean 60)
@@ -187,14 +187,14 @@ is_file table upper few fits = record {
 
 -- ---- the folder
 
-named_segment : IsSegmentName segment_name 6 1000
+pub named_segment : IsSegmentName segment_name 6 1000
 named_segment = record { form = refl; version_fits = omega arith; id_fits = omega arith }
 
 no_some : (bytes : List ℕ) → ◌≡◌ {A = Option (List ℕ)} None (Some bytes) → ⊥
 no_some bytes e = cc
 
 -- what stands in the folder is one of the two files
-stands : (table : Table) (upper : ℕ) (name bytes : List ℕ)
+pub stands : (table : Table) (upper : ℕ) (name bytes : List ℕ)
     → finmap.get (the_folder table upper) name ≡ Some bytes
     → ((name ≡ table_name table) × (table_file_bytes (the_file table upper) ≡ bytes))
     ⊎ ((name ≡ segment_name) × (the_segment ≡ bytes))
@@ -208,7 +208,7 @@ stands table upper name bytes there =
       ]
     ]
 
-named_table : (table : Table) (name : List ℕ) → table.0 < most_tables → name ≡ table_name table
+pub named_table : (table : Table) (name : List ℕ) → table.0 < most_tables → name ≡ table_name table
     → IsTableName name table.0 1
 named_table table name few is = record {
   form = is;
@@ -224,7 +224,7 @@ same_table table name other sequence few is named =
     ap (λ (n : ℕ). record { 0 = n })
     (one_table name table.0 1 other.0 sequence (named_table table name few is) named).0
 
-no_table : (name : List ℕ) (table sequence : ℕ) → name ≡ segment_name
+pub no_table : (name : List ℕ) (table sequence : ℕ) → name ≡ segment_name
     → IsTableName name table sequence → ⊥
 no_table name table sequence is named =
     (segment_is_no_other name 6 1000 (record {
@@ -292,7 +292,7 @@ is_filed table upper few fits = record {
 
 -- ---- its log
 
-logged_is : (table : Table) (upper id : ℕ) (entry : Entry) → table.0 < most_tables
+pub logged_is : (table : Table) (upper id : ℕ) (entry : Entry) → table.0 < most_tables
     → IsLogged (the_folder table upper) id entry → (1000 ≡ id) × (the_entry ≡ entry)
 logged_is table upper id entry few l =
     let s = l.segment in
@@ -341,10 +341,10 @@ logged_cell_is table upper pair few c =
 
 -- ---- whether the interval holds its end
 
-abbrev its_end : Position
+abbrev pub its_end : Position
 its_end = record { id = 1000; offset = 60 }
 
-is_skipped : IsSkipped (the_folder first_table 60) first_table its_end
+pub is_skipped : IsSkipped (the_folder first_table 60) first_table its_end
 is_skipped = record {
   read = the_read first_table 60;
   there = is_read first_table 60 (omega arith) (omega arith);
@@ -365,7 +365,7 @@ not_kept pair c =
     (subst (λ (v : Update). IsSkipped (the_folder first_table 60) v.table its_end) u.3
     is_skipped)))
 
-not_skipped : IsSkipped (the_folder first_table 59) first_table its_end → ⊥
+pub not_skipped : IsSkipped (the_folder first_table 59) first_table its_end → ⊥
 not_skipped s =
     let inside : IsInInterval (the_file first_table 59) its_end =
     subst (λ (f : TableFile). IsInInterval f its_end)
@@ -383,10 +383,27 @@ not_skipped_by_another s =
     ap (λ (f : TableFile). f.table.0) read ∙ ap (λ (t : Table). t.0) s.same_table in
     omega (arith, tables)
 
-apart : (table : Table) → table.0 < most_tables → segment_name ≡ table_name table → ⊥
+pub apart : (table : Table) → table.0 < most_tables → segment_name ≡ table_name table → ⊥
 apart table few same =
     (segment_is_no_other segment_name 6 1000 named_segment).1 table.0 1
     (named_table table segment_name few same)
+
+pub is_logged_entry : (table : Table) (upper : ℕ) → table.0 < most_tables
+    → IsLogged (the_folder table upper) 1000 the_entry
+is_logged_entry table upper few = record {
+  name = segment_name;
+  entries = the_entry ∷ [];
+  end = Clean 60;
+  segment = record {
+    named = named_segment;
+    bytes = the_segment;
+    there = stays (finmap.insert no_files segment_name the_segment) (table_name table)
+        (table_file_bytes (the_file table upper)) segment_name the_segment (apart table few)
+        (is_there no_files segment_name the_segment);
+    holds = held;
+  };
+  listed = here the_entry [];
+}
 
 is_logged : (table : Table) (upper : ℕ) → table.0 < most_tables
     → ¬ IsSkipped (the_folder table upper) first_table its_end
@@ -394,20 +411,7 @@ is_logged : (table : Table) (upper : ℕ) → table.0 < most_tables
 is_logged table upper few not_skipped = record {
   id = 1000;
   entry = the_entry;
-  logged = record {
-    name = segment_name;
-    entries = the_entry ∷ [];
-    end = Clean 60;
-    segment = record {
-      named = named_segment;
-      bytes = the_segment;
-      there = stays (finmap.insert no_files segment_name the_segment) (table_name table)
-          (table_file_bytes (the_file table upper)) segment_name the_segment (apart table few)
-          (is_there no_files segment_name the_segment);
-      holds = held;
-    };
-    listed = here the_entry [];
-  };
+  logged = is_logged_entry table upper few;
   mutation = the_mutation;
   said = record { stored = stored; spelled = refl };
   update = the_update;

@@ -1,5 +1,5 @@
 -- What a list of appends brings to segments, and the log that it holds.
-use Rattle.std.specs.Prelude.{ℕ, List, [], ◌∷◌, ◌++◌, length, map, if◌then◌else◌, Contains}
+use Rattle.std.specs.Prelude.{ℕ, ◌<◌, ◌^◌, List, [], ◌∷◌, ◌++◌, length, map, if◌then◌else◌, Contains}
 use Rattle.std.specs.Str.{bytes_eq}
 use Rattle.std.specs.List.Sorted.{IsStrictlySortedBy}
 use Rattle.std.specs.Ordering.{nat_cmp}
@@ -17,8 +17,10 @@ grown [] name = []
 grown (a ∷ more) name = (if bytes_eq a.0 name then a.1 else []) ++ grown more name
 
 -- bytes were appended to the segment of this id
-abbrev pub HasGrown : List Append → ℕ → Type 0
-HasGrown appends id = (bytes : List ℕ) × Contains appends (segment_name_of 6 id, bytes)
+pub record HasGrown (appends : List Append) (id : ℕ) : Type 0 where
+  pub fits : id < 2 ^ 63
+  pub bytes : List ℕ
+  pub listed : Contains appends (segment_name_of 6 id, bytes)
 
 -- the segment that was made by the appends, whole: these are its entries
 abbrev pub HoldsGrown : List Append → ℕ → List Entry → Type 0

@@ -1,3 +1,4 @@
+pub mod Archive
 pub mod Chance
 pub mod Changes
 pub mod Counts
@@ -17,4 +18,5 @@ pub mod Showing
 pub mod Tail
 pub mod Worked
 pub mod WorkedDrop
+pub mod WorkedGrown
 pub mod WorkedTorn

@@ -1,10 +1,15 @@
 //! What a crash leaves of a folder to which a segment is written, and of one that is recovered.
-ghost use Rattle.std.specs.Prelude.{◌≡◌, ◌++◌, ◌∷◌, [], ℕ, List, length};
+ghost use Rattle.std.specs.Prelude.{◌≡◌, ◌↔◌, ◌++◌, ◌∷◌, [], ℕ, List, length, Contains};
 ghost use Rattle.std.specs.FinMap as finmap;
-ghost use Rattle.clog_spec.specs.Names.{segment_name_of, table_name_of};
+ghost use Rattle.clog_spec.specs.Names.{segment_name_of, table_name_of, IsArchiveName};
+ghost use Rattle.clog_base.specs.declared.cell.Cell.{Cell};
+ghost use Rattle.clog_base.specs.declared.cell.CellKey.{CellKey};
 ghost use Rattle.clog_disk.specs.Files.{Files, bytes_at};
+ghost use Rattle.clog_scan.specs.declared.answer.End.{End as segment_end};
 ghost use Rattle.clog_scan.specs.Cut.{Section};
+ghost use Rattle.clog_scan.specs.Segment.{Entry, IsSegment};
 ghost use Rattle.clog_table.specs.declared.table_file.TableFile.{TableFile};
+ghost use Rattle.clog_crash.specs.Archive.{IsArchived};
 ghost use Rattle.clog_crash.specs.Covering.{Either, SameMerge};
 ghost use Rattle.clog_crash.specs.Flush.{IsCoveredHere, IsNewFile, IsSameFolder};
 ghost use Rattle.clog_crash.specs.Log.{HasShown, Write, logged_in};
@@ -53,4 +58,17 @@ pub fn recovering_keeps_a_folder()
     ensures others { (files : Files) (id other : ℕ) → IsUndamaged files → IsCoveredHere files id
         → IsCoveredHere files other
         → IsCoveredHere (finmap.remove files (segment_name_of 6 id)) other }
+{}
+
+/// An archived segment holds the entries of the bytes that its name was given, whatever else is
+/// there; and the folder restores what it did without it.
+pub fn archives_are_not_read()
+    ensures holds { (files : Files) (name bytes : List ℕ) (id : ℕ) (entries : List Entry)
+        (end : segment_end) (entry : Entry) → IsArchiveName name id
+        → IsSegment bytes id entries end → Contains entries entry
+        → IsArchived (finmap.insert files name bytes) id entry }
+    ensures restores { (files : Files) (name bytes : List ℕ) (id : ℕ) → IsArchiveName name id
+        → (pair : CellKey × Cell)
+        → RestoresIn (bytes_at (finmap.insert files name bytes)) pair
+        ↔ RestoresIn (bytes_at files) pair }
 {}

@@ -5,6 +5,7 @@
 #![tactic(auto)]
 
 mod changing;
+mod counting;
 mod crashes;
 mod dropping;
 mod first_damage;
@@ -14,6 +15,10 @@ mod tears;
 pub use changing::{
     covered_segments_may_go, entries_add_their_cells, files_restore_what_they_read,
     merges_by_covering, merges_make_true_files, true_files_may_come,
+};
+pub use counting::{
+    a_folder_has_one_count, an_update_counts_as_merged_or_as_skipped, appended_sections_are_a_log,
+    appends_grow_their_name,
 };
 pub use crashes::{images_show_a_first_part, recovering_keeps_a_folder, shown_stays_shown};
 pub use dropping::{a_segment_goes_once_each_table_is_filed, droppable_segments_are_covered};

@@ -94,7 +94,7 @@ skipped_stays name unread r q others table at s = record {
   inside = s.inside;
 }
 
-restored_stays : (name : List ℕ) → IsUnread name → (r q : Reading) → DiffersAt name r q
+pub restored_stays : (name : List ℕ) → IsUnread name → (r q : Reading) → DiffersAt name r q
     → DiffersAt name q r → (pair : CellKey × Cell) → RestoresIn r pair → RestoresIn q pair
 restored_stays name unread r q others back pair restored = elim restored [
   | inl c ↦ inl (record {

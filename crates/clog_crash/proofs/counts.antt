@@ -1,0 +1,6 @@
+-- What a folder counts.
+pub mod Growing
+pub mod OneCount
+pub mod Sorted
+pub mod WorkedCounts
+pub mod WorkedGrown

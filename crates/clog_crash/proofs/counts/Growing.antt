@@ -1,0 +1,34 @@
+-- What appends bring to a name.
+use Rattle.std.proofs.Common.{◌≡◌, ℕ, Bool, true, false, List, [], ◌∷◌, ◌++◌, if◌then◌else◌, refl, sym, ◌∙◌, ap, append_assoc}
+use Rattle.std.specs.Str.{bytes_eq}
+use Rattle.std.proofs.lemmas.Slice.Eq.{bytes_eq-Decides}
+use Rattle.clog_crash.specs.Grown.{Append, grown}
+
+is_it : (name : List ℕ) → bytes_eq name name ≡ true
+is_it name = (bytes_eq-Decides name name).1 refl
+
+is_not : (other name : List ℕ) → (other ≡ name → ⊥) → (test : Bool) → bytes_eq other name ≡ test
+    → test ≡ false
+is_not other name apart true is = absurd (apart ((bytes_eq-Decides other name).0 is))
+is_not other name apart false is = refl
+
+-- bytes that are appended to the name stand behind what it holds
+pub grown_here : (name bytes : List ℕ) (more : List Append)
+    → grown ((name, bytes) ∷ more) name ≡ bytes ++ grown more name
+grown_here name bytes more =
+    ap (λ (b : Bool). (if b then bytes else []) ++ grown more name) (is_it name)
+
+-- those of another name do not
+pub grown_elsewhere : (other name bytes : List ℕ) (more : List Append) → (other ≡ name → ⊥)
+    → grown ((other, bytes) ∷ more) name ≡ grown more name
+grown_elsewhere other name bytes more apart =
+    ap (λ (b : Bool). (if b then bytes else []) ++ grown more name)
+    (is_not other name apart (bytes_eq other name) refl)
+
+pub grown-append : (appends more : List Append) (name : List ℕ)
+    → grown (appends ++ more) name ≡ grown appends name ++ grown more name
+grown-append [] more name = refl
+grown-append (a ∷ appends) more name =
+    let first = if bytes_eq a.0 name then a.1 else [] in
+    ap (λ (l : List ℕ). first ++ l) (grown-append appends more name)
+    ∙ sym (append_assoc first (grown appends name) (grown more name))
