@@ -1,5 +1,5 @@
--- What archived segments hold. No opening reads them, and what a folder restores to takes no note of
--- them.
+-- What archived segments hold. No opening reads them, and what a folder restores to takes no note
+-- of them.
 use Rattle.std.specs.Prelude.{◌≡◌, ℕ, List, Contains, Some}
 use Rattle.std.specs.FinMap as finmap
 use Rattle.clog_spec.specs.Names.{IsArchiveName}
