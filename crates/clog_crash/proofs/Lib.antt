@@ -9,5 +9,6 @@ pub mod counts
 pub mod damage
 pub mod flush
 pub mod life
+pub mod recovery
 pub mod rest
 pub mod torn

@@ -11,6 +11,7 @@ pub mod Grown
 pub mod Laws
 pub mod Log
 pub mod Readings
+pub mod Recovery
 pub mod Rest
 pub mod Restore
 pub mod Sections

@@ -1,21 +1,18 @@
-//! What a crash leaves of a folder to which a segment is written, and of one that is recovered.
+//! What a crash leaves of a folder to which a segment is written.
 ghost use Rattle.std.specs.Prelude.{◌≡◌, ◌↔◌, ◌++◌, ◌∷◌, [], ℕ, List, length, Contains};
 ghost use Rattle.std.specs.FinMap as finmap;
-ghost use Rattle.clog_spec.specs.Names.{segment_name_of, table_name_of, IsArchiveName};
+ghost use Rattle.clog_spec.specs.Names.{IsArchiveName};
 ghost use Rattle.clog_base.specs.declared.cell.Cell.{Cell};
 ghost use Rattle.clog_base.specs.declared.cell.CellKey.{CellKey};
 ghost use Rattle.clog_disk.specs.Files.{Files, bytes_at};
 ghost use Rattle.clog_scan.specs.declared.answer.End.{End as segment_end};
 ghost use Rattle.clog_scan.specs.Cut.{Section};
 ghost use Rattle.clog_scan.specs.Segment.{Entry, IsSegment};
-ghost use Rattle.clog_table.specs.declared.table_file.TableFile.{TableFile};
 ghost use Rattle.clog_crash.specs.Archive.{IsArchived};
 ghost use Rattle.clog_crash.specs.Covering.{Either, SameMerge};
-ghost use Rattle.clog_crash.specs.Flush.{IsCoveredHere, IsNewFile, IsSameFolder};
 ghost use Rattle.clog_crash.specs.Log.{HasShown, Write, logged_in};
 ghost use Rattle.clog_crash.specs.Readings.{IsCellAmong, Reading, RestoresIn};
 ghost use Rattle.clog_crash.specs.Rest.{IsInFiles, Lasting, settled};
-ghost use Rattle.clog_crash.specs.Restore.{IsUndamaged};
 ghost use Rattle.clog_crash.specs.Sections.{IsStored};
 ghost use Rattle.clog_crash.specs.Showing.{Shows};
 
@@ -45,19 +42,6 @@ pub fn shown_stays_shown()
         (sections : List Section) (image : Files) → IsStored id sections
         → HasShown r least past id sections image
         → HasShown r least (past ++ record { id = id; sections = sections } ∷ []) next [] image }
-{}
-
-/// A folder that is not damaged stays so, and restores the same, when a true table file comes; and
-/// when a segment goes for all of whose cells table files stand. The others then stay covered.
-pub fn recovering_keeps_a_folder()
-    ensures comes { (files : Files) (file : TableFile) (sequence : ℕ) (bytes : List ℕ)
-        → IsUndamaged files → IsNewFile files (bytes_at files) file sequence bytes
-        → IsSameFolder files (finmap.insert files (table_name_of file.table.0 sequence) bytes) }
-    ensures goes { (files : Files) (id : ℕ) → IsUndamaged files → IsCoveredHere files id
-        → IsSameFolder files (finmap.remove files (segment_name_of 6 id)) }
-    ensures others { (files : Files) (id other : ℕ) → IsUndamaged files → IsCoveredHere files id
-        → IsCoveredHere files other
-        → IsCoveredHere (finmap.remove files (segment_name_of 6 id)) other }
 {}
 
 /// An archived segment holds the entries of the bytes that its name was given, whatever else is

@@ -1,7 +1,7 @@
-//! What the files of a folder hold and restore to, and how far they are good: definitions alone,
-//! over a folder's names and bytes, with the laws that follow from them. A crash leaves some such
-//! folder; what it restores to is what counts (Cassandra's `CommitLogReplayer` over its SSTables
-//! and segments).
+//! What the files of a folder hold and restore to, how far they are good, and what a crash leaves
+//! of them: definitions alone, over a folder's names and bytes, with the laws that follow from them
+//! (Cassandra's `CommitLogReplayer` over its SSTables and segments, and the segments that
+//! `CommitLog` writes).
 #![tactic(auto)]
 
 mod changing;
@@ -10,6 +10,7 @@ mod crashes;
 mod dropping;
 mod first_damage;
 mod laws;
+mod recovering;
 mod tears;
 
 pub use changing::{
@@ -20,7 +21,7 @@ pub use counting::{
     a_folder_has_one_count, an_update_counts_as_merged_or_as_skipped, appended_sections_are_a_log,
     appends_grow_their_name,
 };
-pub use crashes::{images_show_a_first_part, recovering_keeps_a_folder, shown_stays_shown};
+pub use crashes::{archives_are_not_read, images_show_a_first_part, shown_stays_shown};
 pub use dropping::{a_segment_goes_once_each_table_is_filed, droppable_segments_are_covered};
 pub use first_damage::{
     a_bad_payload_is_damage, a_folder_has_one_first_bad_table, a_folder_has_one_first_damage,
@@ -32,6 +33,7 @@ pub use laws::{
     each_table_file_is_good, folders_restore_to_one_list, intervals_hold_their_upper_end,
     only_the_last_segment_may_be_torn,
 };
+pub use recovering::{recovering_keeps_a_folder, recovery_files_are_true, skipped_or_not};
 pub use tears::{
     cut_segments_have_nothing_by_chance, torn_sections_read_as_a_first_part,
     untorn_segments_have_nothing_by_chance,

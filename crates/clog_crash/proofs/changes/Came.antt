@@ -37,7 +37,7 @@ module _ (r q : Reading) (file : TableFile) (sequence : ℕ) (p : Puts r q file 
       p.others (segment_name_of 6 other)
       (λ same. not_segment other name file.table.0 sequence fits p.named (sym same))
 
-  log_now : (other : ℕ) (entry : Entry) → IsLoggedIn r other entry → IsLoggedIn q other entry
+  pub log_now : (other : ℕ) (entry : Entry) → IsLoggedIn r other entry → IsLoggedIn q other entry
   log_now other entry l = record {
     fits = l.fits;
     entries = l.entries;
@@ -47,7 +47,7 @@ module _ (r q : Reading) (file : TableFile) (sequence : ℕ) (p : Puts r q file 
     listed = l.listed;
   }
 
-  log_before : (other : ℕ) (entry : Entry) → IsLoggedIn q other entry → IsLoggedIn r other entry
+  pub log_before : (other : ℕ) (entry : Entry) → IsLoggedIn q other entry → IsLoggedIn r other entry
   log_before other entry l = record {
     fits = l.fits;
     entries = l.entries;
@@ -60,7 +60,7 @@ module _ (r q : Reading) (file : TableFile) (sequence : ℕ) (p : Puts r q file 
   -- ---- table files
 
   -- an older table file stays
-  older : (other : TableFile) → IsTableIn r other → IsTableIn q other
+  pub older : (other : TableFile) → IsTableIn r other → IsTableIn q other
   older other t = record {
     sequence = t.sequence;
     named = t.named;
@@ -83,7 +83,7 @@ module _ (r q : Reading) (file : TableFile) (sequence : ℕ) (p : Puts r q file 
       (subst (λ (x : Table). IsFileOf x (q name) other) table here)
 
   -- one that is there is the new one, or older
-  new_or_older : (other : TableFile) → IsTableIn q other → (other ≡ file) ⊎ IsTableIn r other
+  pub new_or_older : (other : TableFile) → IsTableIn q other → (other ≡ file) ⊎ IsTableIn r other
   new_or_older other t =
       let its = table_name_of other.table.0 t.sequence in
       elim (same_or_other its name) [
@@ -96,7 +96,7 @@ module _ (r q : Reading) (file : TableFile) (sequence : ℕ) (p : Puts r q file 
         })
       ]
 
-  new_there : IsTableIn q file
+  pub new_there : IsTableIn q file
   new_there = record { sequence = sequence; named = p.named; spelled = p.spelled }
 
   -- ---- what is restored now was so before

@@ -1,5 +1,5 @@
 use Rattle.clog_crash.proofs.flush.Recovered.{file_comes, segment_goes, still_covered}
-use Rattle.clog_crash.proofs.crashes.recovering_keeps_a_folder.Goals as goal
+use Rattle.clog_crash.proofs.recovering.recovering_keeps_a_folder.Goals as goal
 
 pub returns-clause-comes : goal.returns-clause-comes
 returns-clause-comes c = file_comes

@@ -1,0 +1,4 @@
+-- A folder is recovered.
+pub mod Decided
+pub mod Filed
+pub mod Whole
