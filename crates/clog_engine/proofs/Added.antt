@@ -26,11 +26,13 @@ use Rattle.std.proofs.Common.{
   sym,
   subst,
   ◌∙◌,
+  arith,
   Global,
 }
 use Rattle.std.specs.Prelude.{String, string_bytes, IfSome}
 use Rattle.std.specs.List.{flat_map, AllByRecursion}
 use Rattle.clog_spec.specs.Names.{segment_name_of}
+use Rattle.clog_spec.specs.Sizes.{front_size, greatest_capacity}
 use Rattle.clog_disk.specs.Files.{Files, Told}
 use Rattle.clog_base.specs.declared.cell.Cell.{Cell}
 use Rattle.clog_base.specs.declared.cell.CellKey.{CellKey}
@@ -38,6 +40,7 @@ use Rattle.clog_text.specs.CellTexts.{row_line}
 use Rattle.clog_mutation.specs.declared.mutation.Mutation.{Mutation}
 use Rattle.clog_mutation.specs.Stored.{IsStored}
 use Rattle.clog_engine.specs.declared.status.Status.{Status}
+use Rattle.clog_engine.specs.declared.words.ApplyOptions.{ApplyOptions}
 use Rattle.clog_engine.specs.declared.words.Request.{Request}
 use Rattle.clog_engine.specs.declared.words.Request.TheVariants.{Apply}
 use Rattle.clog_engine.specs.Apply.{
@@ -55,7 +58,6 @@ use Rattle.clog_engine.specs.Report.{report_of}
 use Rattle.clog_crash.specs.Folder.{TableRead, NamesId, IsBase, cells_of_tables}
 use Rattle.clog_engine.specs.Directory.{IsPlainDirectory}
 use Rattle.clog_engine.specs.Input.{entries_of}
-use Rattle.clog_engine.specs.Limits.{capacity}
 use Rattle.clog_engine.specs.Outside.{Outside, Sinks}
 use Rattle.clog_engine.specs.Report.{applied_line, IsReport}
 use Rattle.clog_engine.specs.Request.{Asks}
@@ -103,7 +105,7 @@ adds_some : (dump : Bool) (files now : Option Files) (reads : List TableRead) (m
     → Gains files now (segment_name_of 6 id) (segment_of id ms)
     → IfSome files (λ held. IsPlainDirectory held reads)
     → IfSome files (λ held. IsBase (NamesId held reads) moment id) → id < 2 ^ 63
-    → AllByRecursion IsStored ms → 28 + length (entries_of ms) < capacity
+    → AllByRecursion IsStored ms → front_size + length (entries_of ms) < greatest_capacity
     → IsReport dump (cells_of_tables reads) ms report → AddsTo dump files now ms report
 adds_some dump None now reads moment id ms report gains plain base fits stored room is = tt
 adds_some dump (Some before) now reads moment id ms report gains plain base fits stored room is =
@@ -121,7 +123,8 @@ adds_some dump (Some before) now reads moment id ms report gains plain base fits
 
 adds_landed : (dump : Bool) (o : Outside) (reads : List TableRead) (id : ℕ) (ms : List Mutation)
     (report : List ℕ) → IsBegun o reads id → id < 2 ^ 63 → AllByRecursion IsStored ms
-    → 28 + length (entries_of ms) < capacity → IsReport dump (cells_of_tables reads) ms report
+    → front_size + length (entries_of ms) < greatest_capacity
+    → IsReport dump (cells_of_tables reads) ms report
     → Lands o id ms → AddsTo dump o.files o.files_now ms report
 adds_landed dump o reads id [] report begun fits stored room is landed =
     adds_none dump o.files o.files_now reads report landed.files begun.plain is
@@ -129,39 +132,40 @@ adds_landed dump o reads id (m ∷ ms) report begun fits stored room is landed =
     adds_some dump o.files o.files_now reads begun.now id (m ∷ ms) report landed.gained begun.plain
     begun.base fits stored room is
 
-applied_adds : (o : Outside) (dump : Bool) (report bytes : List ℕ)
-    → IsApplied o dump report bytes → AddsFile dump o report bytes
-applied_adds o dump report bytes a = record {
+applied_adds : (o : Outside) (options : ApplyOptions) (report bytes : List ℕ)
+    → options.capacity ≡ greatest_capacity → IsApplied o options report bytes
+    → AddsFile options.dump o report bytes
+applied_adds o options report bytes greatest a = record {
   mutations = a.mutations;
   said = a.accepted.sized.read.read;
-  added = adds_landed dump o a.reads a.id a.mutations report a.begun a.fits a.stored
-      a.accepted.room a.reported a.landed;
+  added = adds_landed options.dump o a.reads a.id a.mutations report a.begun a.fits a.stored
+      (omega (arith, greatest, a.accepted.room)) a.reported a.landed;
 }
 
-no_such_refusal : (status refusal : Status) (o : Outside) → status ≡ refusal → IsReported status
-    → ApplyRefuses refusal o → ⊥
-no_such_refusal status refusal o same (inl is) refused =
-    subst (λ (x : Status). ApplyRefuses x o) (sym same ∙ is) refused
-no_such_refusal status refusal o same (inr is) refused =
-    subst (λ (x : Status). ApplyRefuses x o) (sym same ∙ is) refused
+no_such_refusal : (capacity : ℕ) (status refusal : Status) (o : Outside) → status ≡ refusal
+    → IsReported status → ApplyRefuses capacity refusal o → ⊥
+no_such_refusal n status refusal o same (inl is) refused =
+    subst (λ (x : Status). ApplyRefuses n x o) (sym same ∙ is) refused
+no_such_refusal n status refusal o same (inr is) refused =
+    subst (λ (x : Status). ApplyRefuses n x o) (sym same ∙ is) refused
 
-outcome_adds : (dump : Bool) (o : Outside) (s : Sinks) (status : Status)
-    (outcome : Result (List ℕ) Status) → Does (Some (Apply dump)) o outcome
-    → Prints outcome status s → IsReported status
-    → (report : List ℕ) × Reports report status s × ReadsToEnd o (AddsFile dump o report)
-outcome_adds dump o s status (ok report) done prints is =
-    (report, prints, (done.0, done.1, applied_adds o dump report done.0 done.2))
-outcome_adds dump o s status (err refusal) done prints is =
-    absurd (no_such_refusal status refusal o prints.0 is done)
+outcome_adds : (options : ApplyOptions) (o : Outside) (s : Sinks) (status : Status)
+    (outcome : Result (List ℕ) Status) → options.capacity ≡ greatest_capacity
+    → Does (Some (Apply options)) o outcome → Prints outcome status s → IsReported status
+    → (report : List ℕ) × Reports report status s × ReadsToEnd o (AddsFile options.dump o report)
+outcome_adds options o s status (ok report) greatest done prints is =
+    (report, prints, (done.0, done.1, applied_adds o options report done.0 greatest done.2))
+outcome_adds options o s status (err refusal) greatest done prints is =
+    absurd (no_such_refusal options.capacity status refusal o prints.0 is done)
 
 asked_adds : (request : Option Request) (words : List (String Global)) (o : Outside) (s : Sinks)
     (status : Status) (outcome : Result (List ℕ) Status) → Asks words request
     → Does request o outcome → Prints outcome status s → Adds words o s status
-asked_adds None words o s status outcome asks done prints dump says is =
-    absurd (asks (Apply dump) says)
-asked_adds (Some other) words o s status outcome asks done prints dump says is =
-    let same = one_request (map string_bytes words) other (Apply dump) asks says in
-    outcome_adds dump o s status outcome
+asked_adds None words o s status outcome asks done prints options says is =
+    absurd (asks (Apply options) says)
+asked_adds (Some other) words o s status outcome asks done prints options says is =
+    let same = one_request (map string_bytes words) other (Apply options) asks says in
+    outcome_adds options o s status outcome says.capacity
     (subst (λ (r : Request). Does (Some r) o outcome) same done) prints is
 
 pub adds : (words : List (String Global)) (o : Outside) (s : Sinks) (status : Status)

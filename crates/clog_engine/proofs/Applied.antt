@@ -19,6 +19,7 @@ use Rattle.std.proofs.Common.{
   length-append,
 }
 use Rattle.clog_spec.specs.Segment.{header_bytes, marker_bytes}
+use Rattle.clog_spec.specs.Sizes.{front_size, greatest_capacity, header_size}
 use Rattle.clog_mutation.specs.declared.mutation.Mutation.{Mutation}
 use Rattle.clog_text.specs.FileLines.{lines_of, line_limit}
 use Rattle.clog_text.specs.FileMutations.{file_mutations}
@@ -29,9 +30,18 @@ use Rattle.clog_disk.specs.declared.disk.DiskFault.TheVariants.{
   OutOfMemory as NoMemory,
 }
 use Rattle.clog_engine.specs.declared.status.Status.{Status}
-use Rattle.clog_engine.specs.Input.{IsAccepted, IsGood}
-use Rattle.clog_engine.specs.Reading.{TakesFile, HasSize, front_of}
+use Rattle.clog_engine.specs.Input.{HasFittingEntry, IsAccepted, IsGood}
+use Rattle.clog_engine.specs.Limits.{entry_limit}
+use Rattle.clog_engine.specs.Reading.{
+  TakesFile,
+  GivesMutations,
+  HasSize,
+  HasShortEntry,
+  HasShortSize,
+  front_of,
+}
 use Rattle.std.specs.Prelude.{◌⊎◌, IfSome}
+use Rattle.std.specs.List.{AllByRecursion}
 use Rattle.std.specs.FinMap as finmap
 use Rattle.clog_disk.specs.Files.{Files, MayAppend}
 use Rattle.clog_engine.specs.Apply.{Gains}
@@ -49,11 +59,11 @@ use Rattle.clog_engine.specs.Apply.{
 }
 
 -- all that was looked at before the disk
-pub accepted : (left left_now : Option (List ℕ)) (bytes : List ℕ) (mutations : List Mutation)
-    (size : ℕ) → TakesFile left left_now bytes
+accepted : (capacity : ℕ) (left left_now : Option (List ℕ)) (bytes : List ℕ)
+    (mutations : List Mutation) (size : ℕ) → TakesFile left left_now bytes
     → (length (lines_of bytes) ≤ line_limit) × (file_mutations bytes ≡ ok mutations)
-    → HasSize mutations size → IsAccepted bytes mutations
-accepted left left_now bytes mutations size takes read sized = record {
+    → HasSize capacity mutations size → IsAccepted capacity bytes mutations
+accepted capacity left left_now bytes mutations size takes read sized = record {
   sized = record {
     read = record {
       split = record { few_bytes = takes.few; few_lines = read.0 };
@@ -62,6 +72,33 @@ accepted left left_now bytes mutations size takes read sized = record {
     sized = sized.each;
   };
   room = omega (arith, sized.room, sized.size_is);
+}
+
+-- the same of the bytes and mutations that the steps were given, which are those that they gave
+pub accepted_as : (capacity : ℕ) (left left_now : Option (List ℕ)) (bytes read : List ℕ)
+    (mutations sized : List Mutation) (size : ℕ) → TakesFile left left_now bytes → read ≡ bytes
+    → GivesMutations read (ok mutations) → sized ≡ mutations → HasSize capacity sized size
+    → IsAccepted capacity bytes mutations
+accepted_as capacity left left_now bytes read mutations sized size takes same gives listed has =
+    accepted capacity left left_now bytes mutations size takes
+    (subst (λ (l : List ℕ). GivesMutations l (ok mutations)) same gives)
+    (subst (λ (ms : List Mutation). HasSize capacity ms size) listed has)
+
+-- half a segment is no larger than the greatest
+short_entries : (capacity : ℕ) (ms : List Mutation) → capacity ≤ greatest_capacity
+    → AllByRecursion (HasFittingEntry capacity) ms → AllByRecursion HasShortEntry ms
+unfolding entry_limit
+short_entries capacity [] few fitting = tt
+short_entries capacity (m ∷ ms) few fitting =
+    (omega (arith, few, fitting.0), short_entries capacity ms few fitting.1)
+
+-- what has room in a segment has room in the greatest
+pub short_size : (capacity : ℕ) (ms : List Mutation) (size : ℕ) → capacity ≤ greatest_capacity
+    → HasSize capacity ms size → HasShortSize ms size
+short_size capacity ms size few sized = record {
+  each = short_entries capacity ms few sized.each;
+  size_is = sized.size_is;
+  room = omega (arith, few, sized.room);
 }
 
 -- for no mutation nothing changes
@@ -76,9 +113,9 @@ pub lands_some : (o : Outside) (id : ℕ) (mutations : List Mutation) → 0 < le
 lands_some o id [] some landed = absurd (omega arith)
 lands_some o id (first ∷ more) some landed = landed
 
-pub length-front_of : (id end : ℕ) → length (front_of id end) ≡ 28
+pub length-front_of : (id end : ℕ) → length (front_of id end) ≡ front_size
 unfolding front_of
-length-front_of id end = length-append (header_bytes id) (marker_bytes id 20 end)
+length-front_of id end = length-append (header_bytes id) (marker_bytes id header_size end)
 
 -- what a fault leaves of a new file
 abbrev pub PartBy : Fault → Option Files → Option Files → List ℕ → List ℕ → Type 0
@@ -98,11 +135,12 @@ left_part NoMemory files files_now name bytes free (inr all) =
     inr (gained files files_now name bytes free all)
 
 -- why the segment did not land
-pub landing_refuses : (fault : Fault) (status : Status) (o : Outside) → status ≡ status_of fault
-    → ReadsToEnd o IsGood → LandingRefused o.disk_faults o.disk_faults_now fault
-    → IsPartly o (PartBy fault o.files o.files_now) → ApplyRefuses status o
-landing_refuses Failed status o is good refused part =
-    subst (λ s. ApplyRefuses s o) (sym is) (good, refused, inr part)
-landing_refuses NoSuchFile status o is good refused part = absurd refused
-landing_refuses NoMemory status o is good refused part =
-    subst (λ s. ApplyRefuses s o) (sym is) (inr part)
+pub landing_refuses : (capacity : ℕ) (fault : Fault) (status : Status) (o : Outside)
+    → status ≡ status_of fault → ReadsToEnd o (IsGood capacity)
+    → LandingRefused o.disk_faults o.disk_faults_now fault
+    → IsPartly capacity o (PartBy fault o.files o.files_now) → ApplyRefuses capacity status o
+landing_refuses n Failed status o is good refused part =
+    subst (λ s. ApplyRefuses n s o) (sym is) (good, refused, inr part)
+landing_refuses n NoSuchFile status o is good refused part = absurd refused
+landing_refuses n NoMemory status o is good refused part =
+    subst (λ s. ApplyRefuses n s o) (sym is) (inr part)

@@ -83,33 +83,34 @@ use Rattle.clog_engine.proofs.PlainFolder.{
 }
 
 -- a good mutation file and a plain directory are not refused
-apply_completes : (status : Status) (o : Outside) (s : Sinks) → Tells o.left IsGood
-    → Told o.files IsPlain → IsQuiet o s → ApplyRefuses status o → EndsWell status
-apply_completes Ok o s good plain quiet refused = absurd refused
-apply_completes Usage o s good plain quiet refused = absurd refused
-apply_completes (BadLine number cause) o s good plain quiet refused =
-    absurd (taken_good o _ good refused.0 (good_is_no_bad_line number cause))
-apply_completes (TooLarge number size most) o s good plain quiet refused =
-    absurd (taken_good o _ good refused.0 (good_is_not_large number size most))
-apply_completes ReadFault o s good plain quiet refused = absurd (quiet.source refused.0)
-apply_completes WriteFault o s good plain quiet refused = absurd refused
-apply_completes DiskFault o s good plain quiet refused = absurd (quiet.disk refused.1)
-apply_completes (BadTable name fault) o s good plain quiet refused =
+apply_completes : (capacity : ℕ) (status : Status) (o : Outside) (s : Sinks)
+    → Tells o.left (IsGood capacity) → Told o.files IsPlain → IsQuiet o s
+    → ApplyRefuses capacity status o → EndsWell status
+apply_completes n Ok o s good plain quiet refused = absurd refused
+apply_completes n Usage o s good plain quiet refused = absurd refused
+apply_completes n (BadLine number cause) o s good plain quiet refused =
+    absurd (taken_good n o _ good refused.0 (good_is_no_bad_line n number cause))
+apply_completes n (TooLarge number size most) o s good plain quiet refused =
+    absurd (taken_good n o _ good refused.0 (good_is_not_large n number size most))
+apply_completes n ReadFault o s good plain quiet refused = absurd (quiet.source refused.0)
+apply_completes n WriteFault o s good plain quiet refused = absurd refused
+apply_completes n DiskFault o s good plain quiet refused = absurd (quiet.disk refused.1)
+apply_completes n (BadTable name fault) o s good plain quiet refused =
     absurd (told_plain o.files _ plain refused.1 (plain_has_no_bad_table name fault))
-apply_completes OutOfMemory o s good plain quiet refused = inr refl
-apply_completes (Limit FileBytes most) o s good plain quiet refused =
-    absurd (good_is_short o.left good refused.1)
-apply_completes (Limit Lines most) o s good plain quiet refused =
-    absurd (taken_good o _ good refused.1 good_has_few_lines)
-apply_completes (Limit SegmentBytes most) o s good plain quiet refused = absurd refused
-apply_completes (Limit Ids most) o s good plain quiet refused =
+apply_completes n OutOfMemory o s good plain quiet refused = inr refl
+apply_completes n (Limit FileBytes most) o s good plain quiet refused =
+    absurd (good_is_short n o.left good refused.1)
+apply_completes n (Limit Lines most) o s good plain quiet refused =
+    absurd (taken_good n o _ good refused.1 (good_has_few_lines n))
+apply_completes n (Limit SegmentBytes most) o s good plain quiet refused = absurd refused
+apply_completes n (Limit Ids most) o s good plain quiet refused =
     absurd (told_plain o.files _ plain refused.2 plain_has_low_ids)
-apply_completes (Limit TableFiles most) o s good plain quiet refused =
+apply_completes n (Limit TableFiles most) o s good plain quiet refused =
     absurd (told_plain o.files _ plain refused.2 plain_has_few_tables)
-apply_completes (Absent name) o s good plain quiet refused = absurd refused
-apply_completes (NotBuilt Segment) o s good plain quiet refused =
-    absurd (taken_good o _ good refused.0 good_has_room)
-apply_completes (NotBuilt Directory) o s good plain quiet refused =
+apply_completes n (Absent name) o s good plain quiet refused = absurd refused
+apply_completes n (NotBuilt Segment) o s good plain quiet refused =
+    absurd (taken_good n o _ good refused.0 (good_has_room n))
+apply_completes n (NotBuilt Directory) o s good plain quiet refused =
     absurd (told_plain o.files _ plain refused.1 plain_has_no_segment)
 
 -- ---- a file that is there is not refused
@@ -155,8 +156,8 @@ scan_completes (NotBuilt what) o s name there quiet refused = absurd refused
 
 does_complete : (request : Request) (o : Outside) (s : Sinks) (status : Status) → IsFit request o
     → IsQuiet o s → Does (Some request) o (err status) → EndsWell status
-does_complete (Apply dump) o s status fit quiet done =
-    apply_completes status o s fit.0 fit.1 quiet done
+does_complete (Apply options) o s status fit quiet done =
+    apply_completes options.capacity status o s fit.0 fit.1 quiet done
 does_complete (Scan id) o s status fit quiet done =
     scan_completes status o s (segment_name_of 6 id) fit quiet done.0
 

@@ -1,37 +1,11 @@
 -- The sizes of entries and payloads.
-use Rattle.std.proofs.Common.{
-  ◌≡◌,
-  ℕ,
-  suc,
-  ◌+◌,
-  ◌-◌,
-  ◌^◌,
-  ◌<◌,
-  ◌≤◌,
-  List,
-  [],
-  ◌∷◌,
-  ◌++◌,
-  length,
-  take,
-  drop,
-  get_or,
-  min,
-  refl,
-  sym,
-  ap,
-  subst,
-  ◌∙◌,
-  arith,
-  length-append,
-  drop-cons,
-  add-one,
-}
+use Rattle.std.proofs.Common.{◌≡◌, ℕ, suc, ◌+◌, ◌-◌, ◌^◌, ◌<◌, ◌≤◌, List, [], ◌∷◌, ◌++◌, length, take, drop, get_or, min, sym, ap, subst, ◌∙◌, arith, length-append, drop-cons, add-one}
 use Rattle.std.specs.List.{flat_map, AllByRecursion}
 use Rattle.std.specs.Int.{w32, w64, w16, to_be_bytes, cast_unsigned}
 use Rattle.std.proofs.lemmas.List.{take-append-drop, length-take, take_more}
 use Rattle.clog_spec.specs.Crc.{crc32_of}
 use Rattle.clog_spec.specs.Segment.{entry_bytes, size_bytes}
+use Rattle.clog_spec.specs.Sizes.{frame_size, least_payload}
 use Rattle.clog_mutation.specs.declared.mutation.Update.{Update}
 use Rattle.clog_mutation.specs.declared.mutation.Mutation.{Mutation}
 use Rattle.clog_mutation.specs.Limits.{IsWithinLimits}
@@ -45,7 +19,7 @@ use Rattle.clog_engine.specs.Input.{
   HasLargeMutation,
 }
 
-pub length-entry_bytes : (p : List ℕ) → length (entry_bytes p) ≡ length p + 12
+pub length-entry_bytes : (p : List ℕ) → length (entry_bytes p) ≡ length p + frame_size
 length-entry_bytes p =
     omega (arith, length-append p (to_be_bytes w32 (crc32_of (size_bytes p ++ p))))
 
@@ -72,7 +46,8 @@ update_least u =
     )
 
 pub payload_least_of : (key : List ℕ) (us : List Update) → 1 ≤ length us
-    → 10 ≤ length (short_text key ++ to_be_bytes w16 (length us) ++ flat_map update_bytes us)
+    → least_payload
+    ≤ length (short_text key ++ to_be_bytes w16 (length us) ++ flat_map update_bytes us)
 payload_least_of key [] some = absurd (omega arith)
 payload_least_of key (u ∷ us) some =
     let count = to_be_bytes w16 (length (u ∷ us)) in
@@ -85,15 +60,16 @@ payload_least_of key (u ∷ us) some =
     )
 
 -- a payload has the lengths of the key and of the list, and an update
-pub payload_least : (m : Mutation) → IsWithinLimits m → 10 ≤ length (payload_of m)
+pub payload_least : (m : Mutation) → IsWithinLimits m → least_payload ≤ length (payload_of m)
 payload_least m within = payload_least_of m.key m.updates within.some
 
 -- the first mutation that is too large
-pub large_at : (ms : List Mutation) (i : ℕ) (m : Mutation) (number size : ℕ) → i < length ms
-    → m ≡ get_or ms i m → AllByRecursion HasFittingEntry (take i ms) → number ≡ i + 1
-    → entry_limit < entry_size m → size ≡ min (entry_size m) (2 ^ 32 - 1)
-    → HasLargeMutation ms number size entry_limit
-large_at ms i m number size inside is fitting number_is over size_is = record {
+pub large_at : (capacity most : ℕ) (ms : List Mutation) (i : ℕ) (m : Mutation) (number size : ℕ)
+    → i < length ms → m ≡ get_or ms i m
+    → AllByRecursion (HasFittingEntry capacity) (take i ms) → number ≡ i + 1
+    → entry_limit capacity < entry_size m → size ≡ min (entry_size m) (2 ^ 32 - 1)
+    → most ≡ entry_limit capacity → HasLargeMutation capacity ms number size most
+large_at n most ms i m number size inside is fitting number_is over size_is most_is = record {
   front = take i ms;
   large = m;
   rest = drop (suc i) ms;
@@ -104,7 +80,7 @@ large_at ms i m number size inside is fitting number_is over size_is = record {
   number_is = number_is ∙ omega (arith, length-take i ms);
   over = over;
   size_is = size_is;
-  most_is = refl;
+  most_is = most_is;
 }
 
 -- one mutation more
@@ -113,13 +89,13 @@ all_push : {A : Type 0} (P : A → Type 0) (xs : List A) (x : A) → AllByRecurs
 all_push P [] x all one = (one, tt)
 all_push P (y ∷ xs) x all one = (all.0, all_push P xs x all.1 one)
 
-pub fitting_more : (ms : List Mutation) (i : ℕ) (m : Mutation) → i < length ms → m ≡ get_or ms i m
-    → AllByRecursion HasFittingEntry (take i ms) → HasFittingEntry m
-    → AllByRecursion HasFittingEntry (take (i + 1) ms)
-fitting_more ms i m inside is fitting fits =
-    subst (λ (l : List Mutation). AllByRecursion HasFittingEntry l)
+pub fitting_more : (capacity : ℕ) (ms : List Mutation) (i : ℕ) (m : Mutation) → i < length ms
+    → m ≡ get_or ms i m → AllByRecursion (HasFittingEntry capacity) (take i ms)
+    → HasFittingEntry capacity m → AllByRecursion (HasFittingEntry capacity) (take (i + 1) ms)
+fitting_more capacity ms i m inside is fitting fits =
+    subst (λ (l : List Mutation). AllByRecursion (HasFittingEntry capacity) l)
     (sym (take_more ms i m inside ∙ ap (λ (x : Mutation). take i ms ++ x ∷ []) (sym is)))
-    (all_push HasFittingEntry (take i ms) m fitting fits)
+    (all_push (HasFittingEntry capacity) (take i ms) m fitting fits)
 
 pub sum_more : (ms : List Mutation) (i : ℕ) (m : Mutation) (total size : ℕ) → i < length ms
     → m ≡ get_or ms i m → size ≡ entry_size m

@@ -59,43 +59,47 @@ not_both : (bytes : List ℕ) (ms : List Mutation) (r : Refused) → file_mutati
     → file_mutations bytes ≡ err r → ⊥
 not_both bytes ms r a b = let same : ok ms ≡ err r = sym a ∙ b in cc
 
-all_fit_in : (front : List Mutation) (m : Mutation) (rest : List Mutation)
-    → AllByRecursion HasFittingEntry (front ++ m ∷ rest) → HasFittingEntry m
-all_fit_in [] m rest all = all.0
-all_fit_in (x ∷ front) m rest all = all_fit_in front m rest all.1
+all_fit_in : (capacity : ℕ) (front : List Mutation) (m : Mutation) (rest : List Mutation)
+    → AllByRecursion (HasFittingEntry capacity) (front ++ m ∷ rest) → HasFittingEntry capacity m
+all_fit_in capacity [] m rest all = all.0
+all_fit_in capacity (x ∷ front) m rest all = all_fit_in capacity front m rest all.1
 
-none_is_large : (ms : List Mutation) (number size most : ℕ) → AllByRecursion HasFittingEntry ms
-    → HasLargeMutation ms number size most → ⊥
-none_is_large ms number size most all large =
-    let fits = all_fit_in large.front large.large large.rest
-    (subst (AllByRecursion HasFittingEntry) large.parts all) in
+none_is_large : (capacity : ℕ) (ms : List Mutation) (number size most : ℕ)
+    → AllByRecursion (HasFittingEntry capacity) ms
+    → HasLargeMutation capacity ms number size most → ⊥
+none_is_large capacity ms number size most all large =
+    let fits = all_fit_in capacity large.front large.large large.rest
+    (subst (AllByRecursion (HasFittingEntry capacity)) large.parts all) in
     omega (arith, fits, large.over)
 
 -- what the bytes that were taken say contradicts that those that were told are good
-pub taken_good : (o : Outside) (P : List ℕ → Type 0) → Tells o.left IsGood → ReadsToEnd o P
-    → ((bytes : List ℕ) → IsGood bytes → P bytes → ⊥) → ⊥
-taken_good o P good reads clash =
-    clash reads.0 (same_bytes o.left o.left_now reads.0 IsGood good reads.1) reads.2
+pub taken_good : (capacity : ℕ) (o : Outside) (P : List ℕ → Type 0)
+    → Tells o.left (IsGood capacity) → ReadsToEnd o P
+    → ((bytes : List ℕ) → IsGood capacity bytes → P bytes → ⊥) → ⊥
+taken_good capacity o P good reads clash =
+    clash reads.0 (same_bytes o.left o.left_now reads.0 (IsGood capacity) good reads.1) reads.2
 
-pub good_is_no_bad_line : (number : ℕ) (cause : Cause) (bytes : List ℕ) → IsGood bytes
-    → HasBadLine bytes number cause → ⊥
-good_is_no_bad_line number cause bytes good bad =
+pub good_is_no_bad_line : (capacity number : ℕ) (cause : Cause) (bytes : List ℕ)
+    → IsGood capacity bytes → HasBadLine bytes number cause → ⊥
+good_is_no_bad_line capacity number cause bytes good bad =
     not_both bytes good.mutations (number, cause) good.accepted.sized.read.read bad.refused
 
-pub good_is_not_large : (number size most : ℕ) (bytes : List ℕ) → IsGood bytes
-    → HasLargeLine bytes number size most → ⊥
-good_is_not_large number size most bytes good large =
-    none_is_large large.mutations number size most
-    (subst (AllByRecursion HasFittingEntry)
+pub good_is_not_large : (capacity number size most : ℕ) (bytes : List ℕ) → IsGood capacity bytes
+    → HasLargeLine capacity bytes number size most → ⊥
+good_is_not_large capacity number size most bytes good large =
+    none_is_large capacity large.mutations number size most
+    (subst (AllByRecursion (HasFittingEntry capacity))
     (one_list bytes good.mutations large.mutations good.accepted.sized.read.read large.read.read)
     good.accepted.sized.sized) large.large
 
-pub good_has_few_lines : (bytes : List ℕ) → IsGood bytes → HasManyLines bytes → ⊥
-good_has_few_lines bytes good many =
+pub good_has_few_lines : (capacity : ℕ) (bytes : List ℕ) → IsGood capacity bytes
+    → HasManyLines bytes → ⊥
+good_has_few_lines capacity bytes good many =
     omega (arith, good.accepted.sized.read.split.few_lines, many.many_lines)
 
-pub good_has_room : (bytes : List ℕ) → IsGood bytes → HasNoRoom bytes → ⊥
-good_has_room bytes good no_room =
+pub good_has_room : (capacity : ℕ) (bytes : List ℕ) → IsGood capacity bytes
+    → HasNoRoom capacity bytes → ⊥
+good_has_room capacity bytes good no_room =
     let same = one_list bytes good.mutations no_room.mutations good.accepted.sized.read.read
     no_room.sized.read.read in
     omega (
@@ -105,8 +109,8 @@ good_has_room bytes good no_room =
       no_room.large,
     )
 
-pub good_is_short : (left : Option (List ℕ)) → Tells left IsGood
+pub good_is_short : (capacity : ℕ) (left : Option (List ℕ)) → Tells left (IsGood capacity)
     → IfSome left (λ bytes. file_limit < length bytes) → ⊥
-good_is_short None good long = good
-good_is_short (Some bytes) good long =
+good_is_short capacity None good long = good
+good_is_short capacity (Some bytes) good long =
     omega (arith, good.accepted.sized.read.split.few_bytes, long)

@@ -26,7 +26,7 @@ use Rattle.std.proofs.Common.{
   inr,
   arith,
 }
-use Rattle.std.specs.Prelude.{IfSome, IsSome}
+use Rattle.std.specs.Prelude.{◌↔◌, IfSome, IsSome, IsTrue}
 use Rattle.std.specs.FinMap as finmap
 use Rattle.std.specs.FinMap.{contains_key-keys}
 use Rattle.std.specs.List.{Any}
@@ -41,7 +41,7 @@ use Rattle.std.proofs.lemmas.Map.Views.{
   Contains-keys_from_lookup,
   tells_apart,
 }
-use Rattle.std.proofs.lemmas.Bool.{leb-true, leb-false}
+use Rattle.std.proofs.lemmas.Bool.{leb-true, leb-false, true≢false}
 use Rattle.clog_disk.specs.Files.{Files, Lists}
 use Rattle.clog_table.specs.declared.fault.TableFault.{TableFault}
 use Rattle.clog_engine.specs.declared.standing.Standing.{Standing}
@@ -215,19 +215,25 @@ pub record Seen (files : Option Files) (names : List (List ℕ)) (rows : List (P
   pub top : IsGreatestArchive names archive
   pub read : IfSome files (λ held. AreReadOf held rows reads)
 
--- the reading was of the disk as it was
-pub seen_now : (files now : Option Files) (names : List (List ℕ)) (rows : List (Place × List ℕ))
-    (archive : Option ℕ) (dump : Bool) (standing : Standing) → now ≡ files → Lists files names
-    → (Any IsNameOfSegment names → ⊥) → ArePlaces (Contains names) rows
+-- no name has P, by the answer of a test
+pub none_has : (P : List ℕ → Type 0) (names : List (List ℕ)) (has : Bool)
+    → (IsTrue has ↔ Any P names) → has ≡ false → Any P names → ⊥
+none_has P names has tells is any = true≢false (sym (tells.1 any) ∙ is)
+
+-- The reading was of the disk as it was, and the names are those that were listed.
+pub seen_now : (files now : Option Files) (names listed : List (List ℕ))
+    (rows : List (Place × List ℕ)) (archive : Option ℕ) (dump : Bool) (standing : Standing)
+    (has : Bool) → now ≡ files → Lists files listed → names ≡ listed
+    → (IsTrue has ↔ Any IsNameOfSegment names) → has ≡ false → ArePlaces (Contains names) rows
     → IsGreatestArchive names archive
     → (read : HasRead dump now rows archive standing) → Seen files names rows archive read.reads
-seen_now files now names rows archive dump standing same lists no_segment places top read = record {
-  lists = lists;
-  no_segment = no_segment;
+seen_now fs now names listed rows archive dump s has same lists is tells e places top r = record {
+  lists = subst (Lists fs) (sym is) lists;
+  no_segment = none_has IsNameOfSegment names has tells e;
   places = places;
   top = top;
-  read = subst (λ (f : Option Files). IfSome f (λ held. AreReadOf held rows read.reads)) same
-      read.read;
+  read = subst (λ (f : Option Files). IfSome f (λ held. AreReadOf held rows r.reads)) same
+      r.read;
 }
 
 is_readable : (held : Files) (names : List (List ℕ)) (rows : List (Place × List ℕ))

@@ -1,43 +1,9 @@
 -- What a refusal says of the directory contradicts that it is plain.
-use Rattle.std.proofs.Common.{
-  ◌≡◌,
-  ℕ,
-  ◌<◌,
-  List,
-  [],
-  ◌∷◌,
-  length,
-  map,
-  Option,
-  Some,
-  None,
-  Ok as ok,
-  Err as err,
-  inl,
-  inr,
-  refl,
-  sym,
-  ap,
-  subst,
-  ◌∙◌,
-  arith,
-}
-use Rattle.std.specs.Prelude.{IfSome, is_some, ◌≢◌, ◌≤◌, zero, suc, get_or}
-use Rattle.std.specs.List.{Contains}
-use Rattle.std.specs.FinMap as finmap
-use Rattle.std.proofs.lemmas.List.Elements.{All-contains, at_from_Contains}
+use Rattle.std.proofs.Common.{ℕ, List, Option, Some, None, Err as err, inl, inr, refl, ap, arith}
+use Rattle.std.specs.Prelude.{IfSome, ◌≢◌, ◌≤◌}
+use Rattle.std.proofs.lemmas.List.Elements.{All-contains}
 use Rattle.clog_disk.specs.Files.{Files, Told}
-use Rattle.clog_crash.specs.Folder.{
-  HasSegmentFile,
-  TableRead,
-  Place,
-  place_of,
-  IsNameOf,
-  IsHeld,
-  AreTables,
-  IsReadFrom,
-  HasUpper,
-}
+use Rattle.clog_crash.specs.Folder.{HasSegmentFile, TableRead, place_of, AreTables, IsReadFrom, HasUpper}
 use Rattle.clog_engine.specs.Directory.{HasManyTables, HasBadTable, HasGreatId}
 use Rattle.clog_base.specs.declared.cell.Table.{Table}
 use Rattle.clog_table.specs.declared.fault.TableFault.{TableFault}

@@ -1,50 +1,11 @@
 -- What a directory restores to with one more segment in it: its table files' cells, and the cells
 -- of the segment's mutations.
-use Rattle.std.proofs.Common.{
-  ◌≡◌,
-  ℕ,
-  ◌+◌,
-  ◌^◌,
-  ◌<◌,
-  ◌⊎◌,
-  List,
-  [],
-  ◌++◌,
-  length,
-  map,
-  cond,
-  Bool,
-  true,
-  false,
-  Option,
-  Some,
-  None,
-  inl,
-  inr,
-  refl,
-  sym,
-  ap,
-  subst,
-  ◌∙◌,
-  arith,
-}
-use Rattle.std.specs.Prelude.{Contains, IsSome, is_some, unwrap_or}
+use Rattle.std.proofs.Common.{◌≡◌, ℕ, ◌+◌, ◌^◌, ◌<◌, List, [], ◌++◌, length, map, Some, inl, inr, refl, sym, ap, subst, ◌∙◌, arith}
+use Rattle.std.specs.Prelude.{Contains, IsSome}
 use Rattle.std.specs.List.{flat_map, AllByRecursion}
 use Rattle.std.specs.FinMap as finmap
-use Rattle.std.specs.FinMap.{get-insert}
-use Rattle.std.specs.Ordering.{nat_cmp, eq_by_cmp, is_eq}
-use Rattle.std.specs.declared.cmp.Ordering.{Ordering}
-use Rattle.std.specs.declared.cmp.Ordering.TheVariants.{Less, Equal, Greater}
-use Rattle.std.specs.Cmp.{eq_by_cmp_equiv}
-use Rattle.std.specs.Cmp.Lexicographic.{slice_cmp, nat_list_cmp_total}
-use Rattle.std.proofs.lemmas.Map.Lookups.{exact_bytes}
-use Rattle.std.proofs.lemmas.List.Elements.{
-  All-contains,
-  All-weaker,
-  Contains-append_left,
-  Contains-append_right,
-  Contains-append_cases,
-}
+use Rattle.std.proofs.lemmas.List.Elements.{All-weaker, Contains-append_left, Contains-append_right, Contains-append_cases}
+use Rattle.clog_spec.specs.Sizes.{front_size, greatest_capacity}
 use Rattle.clog_spec.specs.Names.{segment_name_of, IsSegmentName}
 use Rattle.clog_base.proofs.NameLaws.{one_segment, segment_is_no_other}
 use Rattle.clog_base.specs.declared.cell.Cell.{Cell}
@@ -64,7 +25,6 @@ use Rattle.clog_scan.proofs.Theorems.{one_segment as one_reading}
 use Rattle.clog_table.specs.declared.table_file.TableFile.{TableFile}
 use Rattle.clog_engine.specs.Apply.{segment_of}
 use Rattle.clog_engine.specs.Input.{entries_of}
-use Rattle.clog_engine.specs.Limits.{capacity}
 use Rattle.clog_crash.specs.Folder.{
   Place,
   TableRead,
@@ -116,13 +76,13 @@ pub record IsNew (before : Files) (reads : List TableRead) (id : ℕ) (ms : List
     pub above : (n : ℕ) → NamesId before reads n → n < id
     pub fits : id < 2 ^ 63
     pub stored : AllByRecursion IsStored ms
-    pub room : 28 + length (entries_of ms) < capacity
+    pub room : front_size + length (entries_of ms) < greatest_capacity
 
 abbrev pub with_segment : Files → ℕ → List Mutation → Files
 with_segment before id ms = finmap.insert before (segment_name_of 6 id) (segment_of id ms)
 
 abbrev logged_entries : List Mutation → List Entry
-logged_entries ms = entries_from 28 (map payload_of ms)
+logged_entries ms = entries_from front_size (map payload_of ms)
 
 is_named : (id : ℕ) → id < 2 ^ 63 → IsSegmentName (segment_name_of 6 id) 6 id
 is_named id fits = record { form = refl; version_fits = omega arith; id_fits = fits }
@@ -227,7 +187,7 @@ logged_is before reads id ms new other entry logged =
     (new_end id ms) (segment_is_file id ms new.stored new.room) (omega (arith, new.fits)) holds
     (held id ms new.stored new.room) in
     from_map payload_of ms entry.payload
-    (payload_in 28 (map payload_of ms) entry
+    (payload_in front_size (map payload_of ms) entry
     (subst (λ (es : List Entry). Contains es entry) one.entries_are logged.listed))
 
 -- no table file stands for the new segment
@@ -270,7 +230,8 @@ in_logged_cell before reads id ms new pair h =
     let found = from_flat cells_of ms pair h in
     let m = found.0 in
     let update = from_map (pair_of m.key) m.updates pair found.2 in
-    let entry = entry_in 28 (map payload_of ms) (payload_of m) (in_map payload_of ms m found.1) in
+    let entry = entry_in front_size (map payload_of ms) (payload_of m)
+    (in_map payload_of ms m found.1) in
     record {
       id = id;
       entry = entry.0;
@@ -328,7 +289,7 @@ new_is_good before reads id ms new = record {
   may_end = tt;
   payloads = λ entry h.
       let m = from_map payload_of ms entry.payload
-      (payload_in 28 (map payload_of ms) entry h) in
+      (payload_in front_size (map payload_of ms) entry h) in
       (m.0, record { stored = all_have IsStored ms m.0 new.stored m.1; spelled = sym m.2 });
 }
 

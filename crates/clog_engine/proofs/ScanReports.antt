@@ -16,6 +16,7 @@ use Rattle.std.proofs.Common.{
   arith,
 }
 use Rattle.std.specs.List.{flat_map}
+use Rattle.clog_spec.specs.Sizes.{frame_size}
 use Rattle.clog_scan.specs.declared.answer.End.{End}
 use Rattle.clog_scan.specs.declared.answer.Found.{Found}
 use Rattle.clog_scan.specs.Laws.{AreLaidOut, place_of}
@@ -36,7 +37,7 @@ lines_same : (bytes : List ℕ) (id from place : ℕ) (entries : List Entry)
     → flat_map found_line (map found_of entries) ≡ flat_map entry_line entries
 lines_same bytes id from place [] laid_out = refl
 lines_same bytes id from place (e ∷ es) laid_out =
-    let size : e.end - e.start - 12 ≡ length e.payload = omega (arith, laid_out.1.range) in
+    let size : e.end - e.start - frame_size ≡ length e.payload = omega (arith, laid_out.1.range) in
     ap₂ (λ (a b : List ℕ). a ++ b) (ap (range_line e.start e.end) size)
     (lines_same bytes id e.end place es laid_out.2)
 

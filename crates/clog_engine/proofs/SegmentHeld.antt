@@ -23,6 +23,7 @@ use Rattle.std.proofs.Common.{
 use Rattle.std.specs.List.{AllByRecursion}
 use Rattle.std.proofs.lemmas.List.{append-nil}
 use Rattle.clog_spec.specs.Segment.{header_bytes, marker_bytes, entry_bytes}
+use Rattle.clog_spec.specs.Sizes.{front_size, greatest_capacity, header_size, least_payload}
 use Rattle.clog_mutation.specs.declared.mutation.Mutation.{Mutation}
 use Rattle.clog_mutation.specs.Payload.{payload_of}
 use Rattle.clog_mutation.specs.Stored.{IsStored}
@@ -34,7 +35,6 @@ use Rattle.clog_scan.proofs.Written.{written}
 use Rattle.clog_engine.specs.Apply.{segment_of}
 use Rattle.clog_engine.specs.Reading.{front_of}
 use Rattle.clog_engine.specs.Input.{entry_of, entries_of}
-use Rattle.clog_engine.specs.Limits.{capacity}
 use Rattle.clog_engine.proofs.Applied.{length-front_of}
 use Rattle.clog_engine.proofs.Entries.{payload_least_of}
 use Rattle.clog_engine.proofs.StoredBytes.{of_segment}
@@ -48,27 +48,27 @@ same_entries [] = refl
 same_entries (m ∷ ms) = ap (λ l. entry_bytes (payload_of m) ++ l) (same_entries ms)
 
 long_payloads : (ms : List Mutation) → AllByRecursion IsStored ms
-    → AllByRecursion (λ payload. 10 ≤ length payload) (payloads_of ms)
+    → AllByRecursion (λ payload. least_payload ≤ length payload) (payloads_of ms)
 long_payloads [] stored = tt
 long_payloads (m ∷ ms) stored =
     (payload_least_of m.key m.updates stored.0.some, long_payloads ms stored.1)
 
 -- the one section
 abbrev section_of : List Mutation → Section
-section_of ms = record { until = 28 + length (entries_of ms); payloads = payloads_of ms }
+section_of ms = record { until = front_size + length (entries_of ms); payloads = payloads_of ms }
 
 -- in two pieces
 pub segment_is : (id : ℕ) (ms : List Mutation)
-    → front_of id (28 + length (entries_of ms)) ++ entries_of ms ≡ segment_of id ms
+    → front_of id (front_size + length (entries_of ms)) ++ entries_of ms ≡ segment_of id ms
 unfolding front_of segment_of
 segment_is id ms =
-    append_assoc (header_bytes id) (marker_bytes id 20 (28 + length (entries_of ms)))
-    (entries_of ms)
+    let end = front_size + length (entries_of ms) in
+    append_assoc (header_bytes id) (marker_bytes id header_size end) (entries_of ms)
 
 pub length-segment_of : (id : ℕ) (ms : List Mutation)
-    → length (segment_of id ms) ≡ 28 + length (entries_of ms)
+    → length (segment_of id ms) ≡ front_size + length (entries_of ms)
 length-segment_of id ms =
-    let end = 28 + length (entries_of ms) in
+    let end = front_size + length (entries_of ms) in
     omega (
       arith,
       ap length (segment_is id ms),
@@ -77,31 +77,31 @@ length-segment_of id ms =
     )
 
 in_sections : (id : ℕ) (ms : List Mutation)
-    → segment_of id ms ≡ header_bytes id ++ sections_bytes id 20 (section_of ms ∷ [])
+    → segment_of id ms ≡ header_bytes id ++ sections_bytes id header_size (section_of ms ∷ [])
 unfolding segment_of
 in_sections id ms =
-    let marker = marker_bytes id 20 (28 + length (entries_of ms)) in
+    let marker = marker_bytes id header_size (front_size + length (entries_of ms)) in
     ap (λ l. header_bytes id ++ (marker ++ l))
     (same_entries ms ∙ sym (append-nil (entries_bytes (payloads_of ms))))
 
 -- what is written fits a file
 pub segment_is_file : (id : ℕ) (ms : List Mutation) → AllByRecursion IsStored ms
-    → 28 + length (entries_of ms) < capacity → IsFile (segment_of id ms)
+    → front_size + length (entries_of ms) < greatest_capacity → IsFile (segment_of id ms)
 segment_is_file id ms stored room = record {
   are_bytes = of_segment id ms stored;
   short = omega (arith, length-segment_of id ms, room);
 }
 
 pub held : (id : ℕ) (ms : List Mutation) → AllByRecursion IsStored ms
-    → 28 + length (entries_of ms) < capacity
-    → IsSegment (segment_of id ms) id (entries_from 28 (map payload_of ms))
+    → front_size + length (entries_of ms) < greatest_capacity
+    → IsSegment (segment_of id ms) id (entries_from front_size (map payload_of ms))
     (Clean (length (segment_of id ms)))
 held id ms stored room =
     let bytes = segment_of id ms in
     let size = length-segment_of id ms in
     let filled = ap length (same_entries ms) in
     subst (λ (es : List Entry). IsSegment bytes id es (Clean (length bytes)))
-    (append-nil (entries_from 28 (payloads_of ms)))
+    (append-nil (entries_from front_size (payloads_of ms)))
     (written bytes id (section_of ms ∷ []) (segment_is_file id ms stored room)
     (in_sections id ms) (
       record {

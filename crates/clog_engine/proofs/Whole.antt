@@ -28,7 +28,8 @@ use Rattle.std.proofs.lemmas.List.{append-nil, take-append-drop, length-take}
 use Rattle.std.proofs.Math.Seq.{drop-append_seam}
 use Rattle.clog_disk.specs.Files.{Files, IsLength, Reads}
 use Rattle.clog_disk.specs.Images.{Unchanged}
-use Rattle.clog_engine.specs.Looking.{Keeps, IsFront, HasFront, IsWhole}
+use Rattle.clog_engine.specs.Looking.{Keeps, IsFront, HasFront}
+use Rattle.clog_engine.specs.Scanning.{Holds}
 
 -- ---- the disk
 
@@ -127,7 +128,7 @@ nothing_taken count rest some none =
 
 -- as many bytes as the file has are the file
 pub whole_by_size : (files : Option Files) (name bytes : List ℕ) (size : ℕ) → size ≤ length bytes
-    → HasFront files name size bytes → IsWhole files name bytes
+    → HasFront files name size bytes → Holds files name bytes
 whole_by_size None name bytes size all f = tt
 whole_by_size (Some files) name bytes size all f =
     no_rest files name bytes size f
@@ -142,7 +143,7 @@ whole_by_size (Some files) name bytes size all f =
 -- where no byte comes, the file has ended
 pub whole_by_end : (files : Option Files) (name bytes piece : List ℕ) (size count : ℕ) → 0 < count
     → piece ≡ [] → HasFront files name size bytes → Reads files name (length bytes) count piece
-    → IsWhole files name bytes
+    → Holds files name bytes
 whole_by_end None name bytes piece size count some none f read = tt
 whole_by_end (Some files) name bytes piece size count some none f read =
     no_rest files name bytes size f

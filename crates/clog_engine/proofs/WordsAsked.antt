@@ -6,11 +6,13 @@ use Rattle.std.proofs.Common.{
   [],
   ◌∷◌,
   length,
+  Bool,
   true,
   false,
   refl,
   sym,
   ap,
+  ap₂,
   subst,
   ◌∙◌,
   arith,
@@ -20,7 +22,7 @@ use Rattle.clog_spec.specs.Names.{segment_name_of}
 use Rattle.clog_base.proofs.NameLaws.{one_segment}
 use Rattle.clog_engine.specs.declared.words.Request.{Request}
 use Rattle.clog_engine.specs.declared.words.Request.TheVariants.{Apply, Scan}
-use Rattle.clog_engine.specs.Request.{Says, AsksScan}
+use Rattle.clog_engine.specs.Request.{Says, AsksScan, apply_words}
 
 one_request_scan : (words : List (List ℕ)) (id id' : ℕ) → AsksScan words id → AsksScan words id'
     → id ≡ id'
@@ -36,20 +38,24 @@ abbrev first_length : List (List ℕ) → ℕ
 first_length [] = 0
 first_length (word ∷ words) = length word
 
+two_words : (dump : Bool) (name : List ℕ) → apply_words dump ≡ codes "scan" ∷ name ∷ [] → ⊥
+two_words false name same = omega (arith, ap length same)
+two_words true name same = let five : 5 ≡ 4 = ap first_length same in omega (arith, five)
+
+one_dump : (a b : Bool) → apply_words a ≡ apply_words b → a ≡ b
+one_dump false false same = refl
+one_dump true true same = refl
+one_dump false true same = absurd (omega (arith, ap length same))
+one_dump true false same = absurd (omega (arith, ap length same))
+
 -- words do not ask for two things
 pub one_request : (words : List (List ℕ)) (a b : Request) → Says words a → Says words b → a ≡ b
-one_request words (Apply false) (Apply false) x y = refl
-one_request words (Apply true) (Apply true) x y = refl
-one_request words (Apply false) (Apply true) x y =
-    absurd (omega (arith, ap length (sym x ∙ y)))
-one_request words (Apply true) (Apply false) x y =
-    absurd (omega (arith, ap length (sym x ∙ y)))
-one_request words (Apply false) (Scan id) x y =
-    absurd (omega (arith, ap length (sym x ∙ y.words_are)))
-one_request words (Scan id) (Apply false) x y =
-    absurd (omega (arith, ap length (sym y ∙ x.words_are)))
-one_request words (Apply true) (Scan id) x y =
-    let five : 5 ≡ 4 = ap first_length (sym x ∙ y.words_are) in absurd (omega (arith, five))
-one_request words (Scan id) (Apply true) x y =
-    let five : 5 ≡ 4 = ap first_length (sym y ∙ x.words_are) in absurd (omega (arith, five))
+one_request words (Apply a) (Apply b) x y =
+    let dump = one_dump a.dump b.dump (sym x.words_are ∙ y.words_are) in
+    let capacity = x.capacity ∙ sym y.capacity in
+    ap₂ (λ n d. Apply (record { capacity = n; dump = d })) capacity dump
+one_request words (Apply a) (Scan id) x y =
+    absurd (two_words a.dump y.name (sym x.words_are ∙ y.words_are))
+one_request words (Scan id) (Apply b) x y =
+    absurd (two_words b.dump x.name (sym y.words_are ∙ x.words_are))
 one_request words (Scan id) (Scan id') x y = ap Scan (one_request_scan words id id' x y)

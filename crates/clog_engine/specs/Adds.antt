@@ -8,6 +8,7 @@ use Rattle.clog_mutation.specs.declared.mutation.Mutation.{Mutation}
 use Rattle.clog_text.specs.FileMutations.{file_mutations}
 use Rattle.clog_engine.specs.declared.status.Status.{Status}
 use Rattle.clog_engine.specs.declared.status.Status.TheVariants.{Ok, WriteFault}
+use Rattle.clog_engine.specs.declared.words.ApplyOptions.{ApplyOptions}
 use Rattle.clog_engine.specs.declared.words.Request.TheVariants.{Apply}
 use Rattle.clog_engine.specs.Answering.{Reports}
 use Rattle.clog_engine.specs.Apply.{ReadsToEnd}
@@ -36,5 +37,5 @@ IsReported status = (status ≡ Ok) ⊎ (status ≡ WriteFault)
 -- `apply` that comes to a report has added what the source gave.
 abbrev pub Adds : List (String Global) → Outside → Sinks → Status → Type 0
 Adds words o s status =
-    (dump : Bool) → Says (map string_bytes words) (Apply dump) → IsReported status
-    → (report : List ℕ) × Reports report status s × ReadsToEnd o (AddsFile dump o report)
+    (options : ApplyOptions) → Says (map string_bytes words) (Apply options) → IsReported status
+    → (report : List ℕ) × Reports report status s × ReadsToEnd o (AddsFile options.dump o report)

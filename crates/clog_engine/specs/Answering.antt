@@ -21,7 +21,7 @@ pub record IsUnread (o : Outside) : Type 0 where
 -- What is asked for is done and reported, or is refused; no request at all is refused.
 abbrev pub Does : Option Request → Outside → Result (List ℕ) Status → Type 0
 Does None o outcome = (outcome ≡ result.Err Usage) × IsUntouched o × IsUnread o
-Does (Some (Apply dump)) o outcome = Applies dump o outcome
+Does (Some (Apply options)) o outcome = Applies options o outcome
 Does (Some (Scan id)) o outcome =
     Scans id o.files o.disk_faults o.disk_faults_now outcome × IsUntouched o × IsUnread o
 

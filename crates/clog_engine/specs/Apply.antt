@@ -1,23 +1,5 @@
 -- What `apply` does to the disk and reports, and why it does not.
-use Rattle.std.specs.Prelude.{
-  ◌≡◌,
-  ◌⊎◌,
-  ℕ,
-  ◌+◌,
-  ◌<◌,
-  ◌^◌,
-  List,
-  [],
-  ◌∷◌,
-  ◌++◌,
-  length,
-  Bool,
-  Option,
-  Some,
-  None,
-  IfSome,
-  Result,
-}
+use Rattle.std.specs.Prelude.{◌≡◌, ◌⊎◌, ℕ, ◌<◌, ◌^◌, List, [], ◌∷◌, ◌++◌, length, Option, Some, None, IfSome, Result}
 use Rattle.std.specs.declared.result.Result.TheVariants as result
 use Rattle.std.specs.List.{AllByRecursion}
 use Rattle.std.specs.FinMap as map
@@ -31,6 +13,7 @@ use Rattle.clog_disk.specs.Images.{Lasts, Tears}
 use Rattle.clog_mutation.specs.declared.mutation.Mutation.{Mutation}
 use Rattle.clog_mutation.specs.Stored.{IsStored}
 use Rattle.clog_text.specs.FileLines.{line_limit}
+use Rattle.clog_engine.specs.declared.words.ApplyOptions.{ApplyOptions}
 use Rattle.clog_engine.specs.declared.status.Unbuilt.TheVariants.{Segment, Directory}
 use Rattle.clog_engine.specs.declared.status.Status.{Status}
 use Rattle.clog_engine.specs.declared.status.Status.TheVariants.{
@@ -93,24 +76,24 @@ pub record IsBegun (o : Outside) (reads : List TableRead) (id : ℕ) : Type 0 wh
   pub base : IfSome o.files (λ files. IsBase (NamesId files reads) now id)
 
 -- The file's mutations each have a payload and stand in a new segment, and the report tells them.
-pub record IsApplied (o : Outside) (dump : Bool) (report bytes : List ℕ) : Type 0 where
+pub record IsApplied (o : Outside) (options : ApplyOptions) (report bytes : List ℕ) : Type 0 where
   pub mutations : List Mutation
-  pub accepted : IsAccepted bytes mutations
+  pub accepted : IsAccepted options.capacity bytes mutations
   pub stored : AllByRecursion IsStored mutations
   pub reads : List TableRead
   pub id : ℕ
   pub begun : IsBegun o reads id
   pub fits : id < 2 ^ 63
   pub landed : Lands o id mutations
-  pub reported : IsReport dump (cells_of_tables reads) mutations report
+  pub reported : IsReport options.dump (cells_of_tables reads) mutations report
 
 -- All was good, and there are mutations. Nothing has changed but the new segment, of whose name and
 -- bytes the part speaks that may be there; a crash leaves at each other name no more than before.
-pub record IsPartly (o : Outside) (Part : List ℕ → List ℕ → Type 0) : Type 0 where
+pub record IsPartly (capacity : ℕ) (o : Outside) (Part : List ℕ → List ℕ → Type 0) : Type 0 where
   pub bytes : List ℕ
   pub taken : TakesAll o.left o.left_now bytes
   pub mutations : List Mutation
-  pub accepted : IsAccepted bytes mutations
+  pub accepted : IsAccepted capacity bytes mutations
   pub some : 0 < length mutations
   pub reads : List TableRead
   pub id : ℕ
@@ -128,34 +111,39 @@ abbrev pub NothingOrAll : Outside → List ℕ → List ℕ → Type 0
 NothingOrAll o name bytes = (o.files_now ≡ o.files) ⊎ Gains o.files o.files_now name bytes
 
 -- the disk is as it was, or has such a part of the new segment
-abbrev pub LeavesPart : Outside → (List ℕ → List ℕ → Type 0) → Type 0
-LeavesPart o Part = IsUntouched o ⊎ IsPartly o Part
+abbrev pub LeavesPart : ℕ → Outside → (List ℕ → List ℕ → Type 0) → Type 0
+LeavesPart capacity o Part = IsUntouched o ⊎ IsPartly capacity o Part
 
--- Why nothing is reported, and what is left of the disk: each row with all that comes before it.
-abbrev pub ApplyRefuses : Status → Outside → Type 0
-ApplyRefuses (BadLine number cause) o =
+-- Why nothing is reported, and what is left of the disk, by the capacity of a segment: each row
+-- with all that comes before it.
+abbrev pub ApplyRefuses : ℕ → Status → Outside → Type 0
+ApplyRefuses capacity (BadLine number cause) o =
     ReadsToEnd o (λ bytes. HasBadLine bytes number cause) × IsUntouched o
-ApplyRefuses (TooLarge number size most) o =
-    ReadsToEnd o (λ bytes. HasLargeLine bytes number size most) × IsUntouched o
-ApplyRefuses ReadFault o = Rose o.source_faults o.source_faults_now × IsUntouched o
-ApplyRefuses DiskFault o =
-    ReadsToEnd o IsGood × Rose o.disk_faults o.disk_faults_now × LeavesPart o (BrokeOff o)
-ApplyRefuses (BadTable name fault) o =
-    ReadsToEnd o IsGood × IfSome o.files (λ files. HasBadTable files name fault) × IsUntouched o
-ApplyRefuses OutOfMemory o = LeavesPart o (NothingOrAll o)
-ApplyRefuses (Limit FileBytes most) o =
+ApplyRefuses capacity (TooLarge number size most) o =
+    ReadsToEnd o (λ bytes. HasLargeLine capacity bytes number size most) × IsUntouched o
+ApplyRefuses capacity ReadFault o = Rose o.source_faults o.source_faults_now × IsUntouched o
+ApplyRefuses capacity DiskFault o =
+    ReadsToEnd o (IsGood capacity) × Rose o.disk_faults o.disk_faults_now
+    × LeavesPart capacity o (BrokeOff o)
+ApplyRefuses capacity (BadTable name fault) o =
+    ReadsToEnd o (IsGood capacity) × IfSome o.files (λ files. HasBadTable files name fault)
+    × IsUntouched o
+ApplyRefuses capacity OutOfMemory o = LeavesPart capacity o (NothingOrAll o)
+ApplyRefuses capacity (Limit FileBytes most) o =
     (most ≡ file_limit) × IfSome o.left (λ bytes. file_limit < length bytes) × IsUntouched o
-ApplyRefuses (Limit Lines most) o = (most ≡ line_limit) × ReadsToEnd o HasManyLines × IsUntouched o
-ApplyRefuses (Limit TableFiles most) o =
-    (most ≡ sequence_limit) × ReadsToEnd o IsGood × IfSome o.files HasManyTables × IsUntouched o
-ApplyRefuses (Limit Ids most) o =
-    (most ≡ id_limit) × ReadsToEnd o IsGood × IfSome o.files HasGreatId × IsUntouched o
-ApplyRefuses (NotBuilt Segment) o = ReadsToEnd o HasNoRoom × IsUntouched o
-ApplyRefuses (NotBuilt Directory) o =
-    ReadsToEnd o IsGood × IfSome o.files HasSegmentFile × IsUntouched o
-ApplyRefuses other o = ⊥
+ApplyRefuses capacity (Limit Lines most) o =
+    (most ≡ line_limit) × ReadsToEnd o HasManyLines × IsUntouched o
+ApplyRefuses capacity (Limit TableFiles most) o =
+    (most ≡ sequence_limit) × ReadsToEnd o (IsGood capacity) × IfSome o.files HasManyTables
+    × IsUntouched o
+ApplyRefuses capacity (Limit Ids most) o =
+    (most ≡ id_limit) × ReadsToEnd o (IsGood capacity) × IfSome o.files HasGreatId × IsUntouched o
+ApplyRefuses capacity (NotBuilt Segment) o = ReadsToEnd o (HasNoRoom capacity) × IsUntouched o
+ApplyRefuses capacity (NotBuilt Directory) o =
+    ReadsToEnd o (IsGood capacity) × IfSome o.files HasSegmentFile × IsUntouched o
+ApplyRefuses capacity other o = ⊥
 
 -- a report, or why there is none
-abbrev pub Applies : Bool → Outside → Result (List ℕ) Status → Type 0
-Applies dump o (result.Ok report) = ReadsToEnd o (IsApplied o dump report)
-Applies dump o (result.Err status) = ApplyRefuses status o
+abbrev pub Applies : ApplyOptions → Outside → Result (List ℕ) Status → Type 0
+Applies options o (result.Ok report) = ReadsToEnd o (IsApplied o options report)
+Applies options o (result.Err status) = ApplyRefuses options.capacity status o

@@ -47,7 +47,7 @@ IsPlain files = (reads : List TableRead) × IsPlainDirectory files reads
 -- What is asked for can be done: `apply` has a good mutation file and a directory with no segment
 -- and good table files, `scan` its file.
 abbrev pub IsFit : Request → Outside → Type 0
-IsFit (Apply dump) o = Tells o.left IsGood × Told o.files IsPlain
+IsFit (Apply options) o = Tells o.left (IsGood options.capacity) × Told o.files IsPlain
 IsFit (Scan id) o = Told o.files (λ files. IsScannable files (segment_name_of 6 id))
 
 -- No fault was counted, and no count stands at its type's end.

@@ -1,14 +1,10 @@
 -- How much a run takes. Sizes are in bytes.
-use Rattle.std.specs.Prelude.{ℕ}
-use Rattle.clog_spec.specs.Sizes.{file_limit, greatest_capacity}
+use Rattle.std.specs.Prelude.{ℕ, ◌/◌}
+use Rattle.clog_spec.specs.Sizes.{file_limit}
 
--- of a segment
-abbrev pub capacity : ℕ
-capacity = greatest_capacity
-
--- of an entry: half a segment
-abbrev pub entry_limit : ℕ
-entry_limit = 16777216
+-- of an entry, by the capacity of a segment: half of it
+unfoldable pub entry_limit : ℕ → ℕ
+entry_limit capacity = capacity / 2
 
 -- of a segment's file that is scanned
 abbrev pub scan_limit : ℕ

@@ -66,6 +66,7 @@ use Rattle.clog_crash.specs.Folder.{
   IsFirstBad,
 }
 use Rattle.clog_engine.specs.Directory.{HasBadTable, HasManyTables, HasGreatId, IsPlainDirectory}
+use Rattle.clog_engine.specs.Scanning.{Holds}
 
 -- Nothing on the disk has changed, and its count of faults has not fallen.
 pub record Keeps (files files_now : Option Files)
@@ -76,17 +77,13 @@ pub record Keeps (files files_now : Option Files)
 
 -- ---- one file
 
--- where the files are told, these are all bytes of the file
-abbrev pub IsWhole : Option Files → List ℕ → List ℕ → Type 0
-IsWhole files name bytes = IfSome files (λ held. finmap.get held name ≡ Some bytes)
-
 abbrev pub WholeRefused : Option Files → List ℕ → ℕ → ℕ → DiskFault → Type 0
 WholeRefused files name faults now fault.Failed = Rose faults now
 WholeRefused files name faults now fault.NoSuchFile = IsAbsent files name
 WholeRefused files name faults now fault.OutOfMemory = ⊤
 
 abbrev pub GivesWhole : Option Files → List ℕ → ℕ → ℕ → Result (Vec ℕ Global) DiskFault → Type 0
-GivesWhole files name faults now (result.Ok bytes) = IsWhole files name bytes.items
+GivesWhole files name faults now (result.Ok bytes) = Holds files name bytes.items
 GivesWhole files name faults now (result.Err refusal) = WholeRefused files name faults now refusal
 
 -- The file is there and has so many bytes, of which these are the first.

@@ -1,8 +1,12 @@
 -- The outside of a run, before it and after it.
 use Rattle.std.specs.Prelude.{◌≡◌, ℕ, List, Option}
 use Rattle.std.specs.Io.KnownBytes.{Appends}
+use Rattle.clog_io.specs.declared.clock.Clock.{Ghosts as ClockTells}
+use Rattle.clog_io.specs.declared.sink.Sink.{Ghosts as SinkTells}
+use Rattle.clog_io.specs.declared.source.Source.{Ghosts as SourceTells}
 use Rattle.clog_io.specs.Causes.{Rose}
 use Rattle.clog_io.specs.Bytes.{AppendsPrefix}
+use Rattle.clog_disk.specs.declared.disk.Disk.{Ghosts as DiskTells}
 use Rattle.clog_disk.specs.Files.{Files}
 use Rattle.clog_disk.specs.Images.{SameImages}
 
@@ -23,6 +27,23 @@ pub record Outside : Type 1 where
   -- what the clock may tell, in milliseconds
   pub tells : ℕ → Type 0
 
+-- The outside, by what a source, a disk and a clock tell: each of the first two before and after.
+abbrev pub outside_of : {S D C : Type 0} → SourceTells S → DiskTells D → ClockTells C
+    → S → S → D → D → C → Outside
+outside_of source disk clock s s_now d d_now c = record {
+  left = source.left s;
+  left_now = source.left s_now;
+  source_faults = source.faults s;
+  source_faults_now = source.faults s_now;
+  files = disk.files d;
+  files_now = disk.files d_now;
+  leaves = disk.leaves d;
+  leaves_now = disk.leaves d_now;
+  disk_faults = disk.faults d;
+  disk_faults_now = disk.faults d_now;
+  tells = clock.tells c;
+}
+
 -- No file has changed, and a crash leaves just what it left before.
 pub record IsUntouched (o : Outside) : Type 0 where
   pub files : o.files_now ≡ o.files
@@ -34,6 +55,15 @@ pub record Sinks : Type 0 where
   pub held_now : Option (List ℕ)
   pub faults : ℕ
   pub faults_now : ℕ
+
+-- The sink, by what it tells, before and after.
+abbrev pub sinks_of : {K : Type 0} → SinkTells K → K → K → Sinks
+sinks_of sink k k_now = record {
+  held = sink.held k;
+  held_now = sink.held k_now;
+  faults = sink.faults k;
+  faults_now = sink.faults k_now;
+}
 
 -- the text went out
 abbrev pub Writes : Sinks → List ℕ → Type 0

@@ -25,10 +25,10 @@ use Rattle.clog_engine.specs.Input.{
   HasFittingEntry,
   HasLargeMutation,
   entries_of,
+  entry_size,
 }
 use Rattle.clog_spec.specs.Segment.{header_bytes, marker_bytes}
-use Rattle.clog_spec.specs.Sizes.{file_limit, front_size, header_size}
-use Rattle.clog_engine.specs.Limits.{capacity}
+use Rattle.clog_spec.specs.Sizes.{file_limit, front_size, greatest_capacity, header_size}
 
 -- ---- the bytes of the source
 
@@ -67,28 +67,39 @@ GivesMutations bytes (result.Err status) = MutationsRefused bytes status
 
 -- ---- the sizes of the entries
 
-abbrev pub SizesRefused : List Mutation → Status → Type 0
-SizesRefused mutations (TooLarge number size most) = HasLargeMutation mutations number size most
-SizesRefused mutations (NotBuilt Segment) =
-    AllByRecursion HasFittingEntry mutations
+abbrev pub SizesRefused : ℕ → List Mutation → Status → Type 0
+SizesRefused capacity mutations (TooLarge number size most) =
+    HasLargeMutation capacity mutations number size most
+SizesRefused capacity mutations (NotBuilt Segment) =
+    AllByRecursion (HasFittingEntry capacity) mutations
     × (capacity ≤ front_size + length (entries_of mutations))
-SizesRefused mutations other = ⊥
+SizesRefused capacity mutations other = ⊥
 
 -- the size of all entries, or the first that is too large
-abbrev pub SumsSizes : List Mutation → Result ℕ Status → Type 0
-SumsSizes mutations (result.Ok size) =
-    AllByRecursion HasFittingEntry mutations × (size ≡ length (entries_of mutations))
-SumsSizes mutations (result.Err status) = SizesRefused mutations status
+abbrev pub SumsSizes : ℕ → List Mutation → Result ℕ Status → Type 0
+SumsSizes capacity mutations (result.Ok size) =
+    AllByRecursion (HasFittingEntry capacity) mutations × (size ≡ length (entries_of mutations))
+SumsSizes capacity mutations (result.Err status) = SizesRefused capacity mutations status
 
 -- the size of all entries, which fit one by one and together
-pub record HasSize (mutations : List Mutation) (size : ℕ) : Type 0 where
-  pub each : AllByRecursion HasFittingEntry mutations
+pub record HasSize (capacity : ℕ) (mutations : List Mutation) (size : ℕ) : Type 0 where
+  pub each : AllByRecursion (HasFittingEntry capacity) mutations
   pub size_is : size ≡ length (entries_of mutations)
   pub room : front_size + size < capacity
 
-abbrev pub GivesSize : List Mutation → Result ℕ Status → Type 0
-GivesSize mutations (result.Ok size) = HasSize mutations size
-GivesSize mutations (result.Err status) = SizesRefused mutations status
+abbrev pub GivesSize : ℕ → List Mutation → Result ℕ Status → Type 0
+GivesSize capacity mutations (result.Ok size) = HasSize capacity mutations size
+GivesSize capacity mutations (result.Err status) = SizesRefused capacity mutations status
+
+-- an entry is no larger than the greatest segment
+abbrev pub HasShortEntry : Mutation → Type 0
+HasShortEntry mutation = entry_size mutation ≤ greatest_capacity
+
+-- the size of all entries, which have room in the greatest segment
+pub record HasShortSize (mutations : List Mutation) (size : ℕ) : Type 0 where
+  pub each : AllByRecursion HasShortEntry mutations
+  pub size_is : size ≡ length (entries_of mutations)
+  pub room : front_size + size < greatest_capacity
 
 -- ---- the front of a segment
 

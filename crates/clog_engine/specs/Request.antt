@@ -17,6 +17,8 @@ use Rattle.std.specs.Prelude.{
 }
 use Rattle.std.specs.declared.alloc.Global.{Global}
 use Rattle.clog_spec.specs.Names.{IsSegmentName}
+use Rattle.clog_spec.specs.Sizes.{greatest_capacity}
+use Rattle.clog_engine.specs.declared.words.ApplyOptions.{ApplyOptions}
 use Rattle.clog_engine.specs.declared.words.Request.{Request}
 use Rattle.clog_engine.specs.declared.words.Request.TheVariants.{Apply, Scan}
 
@@ -24,6 +26,11 @@ use Rattle.clog_engine.specs.declared.words.Request.TheVariants.{Apply, Scan}
 abbrev pub apply_words : Bool → List (List ℕ)
 apply_words false = codes "apply" ∷ []
 apply_words true = codes "apply" ∷ codes "--dump" ∷ []
+
+-- The words for `apply` with these options. None asks for another capacity than the greatest.
+pub record AsksApply (words : List (List ℕ)) (options : ApplyOptions) : Type 0 where
+  pub words_are : words ≡ apply_words options.dump
+  pub capacity : options.capacity ≡ greatest_capacity
 
 -- `scan`, and the name of a segment of version 6
 pub record AsksScan (words : List (List ℕ)) (id : ℕ) : Type 0 where
@@ -33,10 +40,10 @@ pub record AsksScan (words : List (List ℕ)) (id : ℕ) : Type 0 where
 
 -- The words, as their letters, ask for this.
 abbrev pub Says : List (List ℕ) → Request → Type 0
-Says words (Apply dump) = words ≡ apply_words dump
+Says words (Apply options) = AsksApply words options
 Says words (Scan id) = AsksScan words id
 
--- they ask for this, or for nothing that there is
+-- they ask for this, or for nothing that the program does
 abbrev pub GivesRequest : List (List ℕ) → Option Request → Type 0
 GivesRequest words request =
     MatchOption request ((other : Request) → ¬ Says words other) (Says words)

@@ -1,6 +1,8 @@
 //! The mutation file is applied: it becomes one segment and a report.
-ghost use Rattle.std.specs.Prelude.{◌≡◌};
+ghost use Rattle.std.specs.Prelude.{◌≡◌, ◌≤◌};
+ghost use Rattle.clog_spec.specs.Sizes.{greatest_capacity};
 ghost use Rattle.clog_engine.specs.Apply.{Applies};
+ghost use Rattle.clog_engine.specs.Outside.{outside_of};
 ghost use Rattle.clog_engine.specs.Quiet.{TellsEach, IsRefusedBefore};
 
 use crate::input::{bytes_of, mutations_of};
@@ -10,6 +12,7 @@ use crate::segment::segment;
 use crate::sizes::entries_size;
 use crate::standing::look;
 use crate::status::Status;
+use crate::words::ApplyOptions;
 use clog_base::{Bytes, OutOfMemory, segment_name};
 use clog_disk::Disk;
 use clog_io::{Clock, Source};
@@ -33,35 +36,25 @@ impl From<OutOfMemory> for Status {
 pub(crate) fn apply<T: Threads + Sync, S: Source, D: Disk, C: Clock>(
     rt: &T,
     alloc: Global,
-    dump: bool,
+    options: ApplyOptions,
     source: &mut S,
     disk: &mut D,
     clock: &C,
 ) -> Result<Bytes, Status>
-    ensures applies { Applies dump (record {
-      left = S.left source.old;
-      left_now = S.left source.new;
-      source_faults = S.faults source.old;
-      source_faults_now = S.faults source.new;
-      files = D.files disk.old;
-      files_now = D.files disk.new;
-      leaves = D.leaves disk.old;
-      leaves_now = D.leaves disk.new;
-      disk_faults = D.faults disk.old;
-      disk_faults_now = D.faults disk.new;
-      tells = C.tells clock.now;
-    }) result }
+    requires { options.capacity ≤ greatest_capacity }
+    ensures applies { Applies options (outside_of S.Source D.Disk C.Clock source.old source.new
+        disk.old disk.new clock.now) result }
     ensures quiet { TellsEach (D.faults disk.old) (D.faults disk.new) result }
     ensures uncalled { IsRefusedBefore result → disk.new ≡ disk.old }
 {
     let bytes = bytes_of(alloc, source)?;
     let mutations = mutations_of(rt, alloc, &bytes)?;
-    let size = entries_size(mutations.as_slice())?;
-    let standing = look(alloc, disk, dump)?;
+    let size = entries_size(mutations.as_slice(), options.capacity)?;
+    let standing = look(alloc, disk, options.dump)?;
     let id = standing.base(clock.now_ms());
     let lines = mutations.as_slice().len();
     let segment = segment(alloc, id, mutations.as_slice(), size)?;
-    let report = report(alloc, standing.cells, mutations, dump)?;
+    let report = report(alloc, standing.cells, mutations, options.dump)?;
     if lines == 0 {
         return Ok(report);
     }

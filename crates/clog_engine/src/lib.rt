@@ -27,4 +27,4 @@ pub use fault_line::FaultLine;
 pub use laws::segments_hold_their_mutations;
 pub use running::run;
 pub use status::{Status, Unbuilt};
-pub use words::{Request, request_of};
+pub use words::{ApplyOptions, Request, request_of};

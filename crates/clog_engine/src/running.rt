@@ -1,6 +1,7 @@
 //! The top call.
 ghost use Rattle.std.specs.Prelude.{◌≡◌};
 ghost use Rattle.clog_engine.specs.Answering.{Answers, DoesAsked, Prints};
+ghost use Rattle.clog_engine.specs.Outside.{outside_of, sinks_of};
 ghost use Rattle.clog_engine.specs.Run.{Runs};
 ghost use Rattle.clog_engine.specs.Quiet.{IsBeforeDisk, IsRefusedBefore, TellsEach};
 
@@ -18,12 +19,7 @@ use std::thread::Threads;
 
 // Prints a report, or the line of a refusal if the sink takes it.
 fn print<K: Sink>(sink: &mut K, outcome: Result<Bytes, Status>) -> Status
-    ensures { Prints outcome result (record {
-      held = K.held sink.old;
-      held_now = K.held sink.new;
-      faults = K.faults sink.old;
-      faults_now = K.faults sink.new;
-    }) }
+    ensures { Prints outcome result (sinks_of K.Sink sink.old sink.new) }
 {
     match outcome {
         Ok(report) => match sink.write_all(report.as_slice()) {
@@ -47,24 +43,13 @@ fn outcome_of<T: Threads + Sync, R: Source, D: Disk, C: Clock>(
     disk: &mut D,
     clock: &C,
 ) -> Result<Bytes, Status>
-    ensures done { DoesAsked words.now (record {
-      left = R.left source.old;
-      left_now = R.left source.new;
-      source_faults = R.faults source.old;
-      source_faults_now = R.faults source.new;
-      files = D.files disk.old;
-      files_now = D.files disk.new;
-      leaves = D.leaves disk.old;
-      leaves_now = D.leaves disk.new;
-      disk_faults = D.faults disk.old;
-      disk_faults_now = D.faults disk.new;
-      tells = C.tells clock.now;
-    }) result }
+    ensures done { DoesAsked words.now (outside_of R.Source D.Disk C.Clock source.old source.new
+        disk.old disk.new clock.now) result }
     ensures quiet { TellsEach (D.faults disk.old) (D.faults disk.new) result }
     ensures uncalled { IsRefusedBefore result → disk.new ≡ disk.old }
 {
     match request_of(words) {
-        Some(Request::Apply(dump)) => apply(rt, alloc, dump, source, disk, clock),
+        Some(Request::Apply(options)) => apply(rt, alloc, options, source, disk, clock),
         Some(Request::Scan(id)) => scan_segment(alloc, disk, id),
         None => Err(Status::Usage),
     }
@@ -80,24 +65,8 @@ fn answer<T: Threads + Sync, R: Source, K: Sink, D: Disk, C: Clock>(
     disk: &mut D,
     clock: &C,
 ) -> Status
-    ensures answers { Answers words.now (record {
-      left = R.left source.old;
-      left_now = R.left source.new;
-      source_faults = R.faults source.old;
-      source_faults_now = R.faults source.new;
-      files = D.files disk.old;
-      files_now = D.files disk.new;
-      leaves = D.leaves disk.old;
-      leaves_now = D.leaves disk.new;
-      disk_faults = D.faults disk.old;
-      disk_faults_now = D.faults disk.new;
-      tells = C.tells clock.now;
-    }) (record {
-      held = K.held sink.old;
-      held_now = K.held sink.new;
-      faults = K.faults sink.old;
-      faults_now = K.faults sink.new;
-    }) result }
+    ensures answers { Answers words.now (outside_of R.Source D.Disk C.Clock source.old source.new
+        disk.old disk.new clock.now) (sinks_of K.Sink sink.old sink.new) result }
     ensures uncalled { IsBeforeDisk result → disk.new ≡ disk.old }
 {
     let outcome = outcome_of(rt, alloc, words, source, disk, clock);
@@ -131,24 +100,8 @@ pub fn run<
     clock: &C,
     _gate: &G,
 ) -> (Status, D)
-    ensures runs { Runs words.now (record {
-      left = R.left source.old;
-      left_now = R.left source.new;
-      source_faults = R.faults source.old;
-      source_faults_now = R.faults source.new;
-      files = D.files disk;
-      files_now = D.files result.1;
-      leaves = D.leaves disk;
-      leaves_now = D.leaves result.1;
-      disk_faults = D.faults disk;
-      disk_faults_now = D.faults result.1;
-      tells = C.tells clock.now;
-    }) (record {
-      held = K.held sink.old;
-      held_now = K.held sink.new;
-      faults = K.faults sink.old;
-      faults_now = K.faults sink.new;
-    }) result.0 }
+    ensures runs { Runs words.now (outside_of R.Source D.Disk C.Clock source.old source.new disk
+        result.1 clock.now) (sinks_of K.Sink sink.old sink.new) result.0 }
     ensures uncalled { IsBeforeDisk result.0 → result.1 ≡ disk }
 {
     let mut disk = disk;

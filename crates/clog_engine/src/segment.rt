@@ -4,8 +4,8 @@ ghost use Rattle.std.specs.List.{AllByRecursion};
 ghost use Rattle.clog_mutation.specs.Limits.{IsWithinLimits};
 ghost use Rattle.clog_mutation.specs.Stored.{IsStored};
 ghost use Rattle.clog_engine.specs.Apply.{segment_of};
-ghost use Rattle.clog_engine.specs.Input.{HasFittingEntry, entry_of, entries_of};
-ghost use Rattle.clog_engine.specs.Reading.{HasSize, front_of};
+ghost use Rattle.clog_engine.specs.Input.{entry_of, entries_of};
+ghost use Rattle.clog_engine.specs.Reading.{HasShortEntry, HasShortSize, front_of};
 
 use clog_base::{FRONT_SIZE, HEADER_SIZE, OutOfMemory};
 use clog_entry::{begin_entry, end_entry, write_header, write_marker};
@@ -26,7 +26,7 @@ fn put_front(out: &mut Vec<u8>, id: u64, end: u32) -> Result<(), AllocError>
 #[tactic(auto, unfolding(crate::specs::Input::entry_of))]
 fn put_entry_of(out: &mut Vec<u8>, mutation: &Mutation) -> Result<(), OutOfMemory>
     requires within { IsWithinLimits mutation.now }
-    requires fitting { HasFittingEntry mutation.now }
+    requires short { HasShortEntry mutation.now }
     ensures bytes { OnOk result (out.new.items ≡ out.old.items ++ entry_of mutation.now) }
     ensures stored { OnOk result (IsStored mutation.now) }
 {
@@ -38,7 +38,7 @@ fn put_entry_of(out: &mut Vec<u8>, mutation: &Mutation) -> Result<(), OutOfMemor
 
 fn put_entries(out: &mut Vec<u8>, mutations: &[Mutation]) -> Result<(), OutOfMemory>
     requires within { AllByRecursion IsWithinLimits mutations.now }
-    requires fitting { AllByRecursion HasFittingEntry mutations.now }
+    requires short { AllByRecursion HasShortEntry mutations.now }
     ensures bytes { OnOk result (out.new.items ≡ out.old.items ++ entries_of mutations.now) }
     ensures stored { OnOk result (AllByRecursion IsStored mutations.now) }
 {
@@ -57,7 +57,7 @@ pub(crate) fn segment(
     size: u32,
 ) -> Result<Vec<u8>, OutOfMemory>
     requires within { AllByRecursion IsWithinLimits mutations.now }
-    requires sized { HasSize mutations.now size }
+    requires sized { HasShortSize mutations.now size }
     ensures bytes { IfOk result (λ bytes. bytes.items ≡ segment_of id mutations.now) }
     ensures stored { IfOk result (λ bytes. AllByRecursion IsStored mutations.now) }
 {

@@ -19,11 +19,12 @@ use std::alloc::Global;
 /// Ids that a directory names are less than this.
 const ID_LIMIT: u64 = 4_611_686_018_427_387_903;
 
-/// What a directory holds: the cells of its table files where a dump asks for them, and the
-/// greatest id that it names.
+/// What a directory holds.
 #[derive(Drop)]
 pub(crate) struct Standing {
+    /// The cells of its table files, merged, where a dump asks for them; else none.
     pub(crate) cells: CellMap,
+    /// The greatest id that it names, where it names one.
     pub(crate) greatest: Option<u64>,
 }
 

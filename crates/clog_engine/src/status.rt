@@ -21,7 +21,7 @@ pub enum Unbuilt {
 pub enum Status {
     /// The report was written whole.
     Ok,
-    /// The words ask for nothing that there is.
+    /// The words ask for nothing that this program does.
     Usage,
     /// The line of this number, from 1, is the first that is refused, for this cause.
     BadLine(u32, BadLine),

@@ -52,10 +52,12 @@ fn read_whole<D: Disk>(alloc: Global, disk: &mut D, name: &Name) -> Result<Vec<u
     Ok(bytes)
 }
 
-/// What a table file adds: its upper end, and its cells where a dump asks for them.
+/// What a table file adds.
 #[derive(Drop)]
 struct Addition {
+    /// Its upper end, inclusive.
     upper: Position,
+    /// Its cells, where a dump asks for them; else none.
     cells: CellMap,
 }
 

@@ -1,4 +1,4 @@
-use Rattle.std.proofs.Common.{◌≡◌, List, ℕ, Option, Ok, ap, sym, subst, ◌∙◌, arith, length, ◌<◌}
+use Rattle.std.proofs.Common.{◌≡◌, List, ℕ, Option, ap, sym, subst, ◌∙◌, arith, length, ◌<◌}
 use Rattle.std.specs.List.{AllByRecursion}
 use Rattle.clog_disk.specs.Files.{Files, IsEnd, AppendsTo}
 use Rattle.clog_disk.specs.Images.{Lasts}
@@ -7,10 +7,11 @@ use Rattle.clog_engine.specs.Apply.{Gains, segment_of}
 use Rattle.clog_crash.specs.Folder.{cells_of_tables}
 use Rattle.clog_mutation.specs.declared.mutation.Mutation.{Mutation}
 use Rattle.clog_mutation.specs.Stored.{IsStored}
-use Rattle.clog_engine.specs.Reading.{GivesMutations, HasSize}
+use Rattle.clog_engine.specs.Reading.{HasShortSize}
 use Rattle.clog_engine.specs.Landing.{LeftBehind}
 use Rattle.clog_engine.proofs.Applied.{
-  accepted,
+  accepted_as,
+  short_size,
   lands_none,
   lands_some,
   landing_refuses,
@@ -34,18 +35,15 @@ returns-then-lines-eq0-clause-applies g c =
       c.in_ok-bytes.ensures.taken,
       record {
         mutations = mutations;
-        accepted = accepted (g.S.Source.left c.args.source.now)
-            (g.S.Source.left c.bytes_of.new.source) c.in_ok-bytes.bytes.items mutations
-            c.in_ok-size.size c.in_ok-bytes.ensures
-            (subst (λ (l : List ℕ). GivesMutations l (Ok mutations)) c.deref.ensures.value
-            c.in_ok-mutations.ensures.mutations)
-            (subst (λ (ms : List Mutation). HasSize ms c.in_ok-size.size) c.as_slice.ensures
-            c.in_ok-size.ensures);
+        accepted = accepted_as c.args.options.capacity _ _ c.in_ok-bytes.bytes.items
+            c.deref.result.now mutations c.as_slice.result.now c.in_ok-size.size
+            c.in_ok-bytes.ensures c.deref.ensures.value c.in_ok-mutations.ensures.mutations
+            c.as_slice.ensures c.in_ok-size.ensures;
         stored = subst (λ (ms : List Mutation). AllByRecursion IsStored ms) c.as_slice-2.ensures
             c.in_ok-segment.ensures.stored;
         reads = s.reads;
         id = c.base-id.result;
-        begun = begun _ c.args.dump standing c.now_ms.result c.base-id.result s
+        begun = begun _ c.args.options.dump standing c.now_ms.result c.base-id.result s
             c.now_ms.ensures.told c.base-id.ensures;
         fits = fits_name standing c.base-id.result c.now_ms.result s.low c.now_ms.ensures.bound
             c.base-id.ensures;
@@ -53,10 +51,18 @@ returns-then-lines-eq0-clause-applies g c =
           files = keeps.same;
           images = keeps.images;
         });
-        reported = report_over c.args.dump (cells_of_tables s.reads) standing.cells mutations
-            c.in_ok-report.report s.merged c.in_ok-report.ensures;
+        reported = report_over c.args.options.dump (cells_of_tables s.reads) standing.cells
+            mutations c.in_ok-report.report s.merged c.in_ok-report.ensures;
       },
     )
+
+-- the sizes were those of these mutations
+pub segment-requires-clause-sized : goal.segment-requires-clause-sized
+segment-requires-clause-sized g c =
+    subst (λ (ms : List Mutation). HasShortSize ms c.in_ok-size.size)
+    (c.as_slice.ensures ∙ sym c.as_slice-2.ensures)
+    (short_size c.args.options.capacity c.as_slice.result.now c.in_ok-size.size c.requires
+    c.in_ok-size.ensures)
 
 pub land-requires : goal.land-requires
 land-requires g c =
@@ -64,8 +70,8 @@ land-requires g c =
     subst (λ (f : Option Files). IsEnd f c.segment_name.result 0)
     (sym c.in_ok-standing.ensures.keeps.same)
     (free_end before c.segment_name.result
-    (name_is_free before c.args.dump c.in_ok-standing.standing c.now_ms.result c.base-id.result
-    c.segment_name.result c.in_ok-standing.ensures.looks c.now_ms.ensures.bound
+    (name_is_free before c.args.options.dump c.in_ok-standing.standing c.now_ms.result
+    c.base-id.result c.segment_name.result c.in_ok-standing.ensures.looks c.now_ms.ensures.bound
     c.base-id.ensures c.segment_name.ensures))
 
 pub returns-in-Ok-clause-applies : goal.returns-in-Ok-clause-applies
@@ -77,8 +83,8 @@ returns-in-Ok-clause-applies g c =
     let s = c.in_ok-standing.ensures.looks in
     let keeps = c.in_ok-standing.ensures.keeps in
     let id = c.base-id.result in
-    let free = name_is_free before c.args.dump standing c.now_ms.result id c.segment_name.result s
-    c.now_ms.ensures.bound c.base-id.ensures c.segment_name.ensures in
+    let free = name_is_free before c.args.options.dump standing c.now_ms.result id
+    c.segment_name.result s c.now_ms.ensures.bound c.base-id.ensures c.segment_name.ensures in
     let lines : 0 < length mutations =
     let same = ap length c.as_slice-lines.ensures in
     omega (arith, same, c.if-lines-eq0.false) in
@@ -93,18 +99,15 @@ returns-in-Ok-clause-applies g c =
       c.in_ok-bytes.ensures.taken,
       record {
         mutations = mutations;
-        accepted = accepted (g.S.Source.left c.args.source.now)
-            (g.S.Source.left c.bytes_of.new.source) c.in_ok-bytes.bytes.items mutations
-            c.in_ok-size.size c.in_ok-bytes.ensures
-            (subst (λ (l : List ℕ). GivesMutations l (Ok mutations)) c.deref.ensures.value
-            c.in_ok-mutations.ensures.mutations)
-            (subst (λ (ms : List Mutation). HasSize ms c.in_ok-size.size) c.as_slice.ensures
-            c.in_ok-size.ensures);
+        accepted = accepted_as c.args.options.capacity _ _ c.in_ok-bytes.bytes.items
+            c.deref.result.now mutations c.as_slice.result.now c.in_ok-size.size
+            c.in_ok-bytes.ensures c.deref.ensures.value c.in_ok-mutations.ensures.mutations
+            c.as_slice.ensures c.in_ok-size.ensures;
         stored = subst (λ (ms : List Mutation). AllByRecursion IsStored ms) c.as_slice-2.ensures
             c.in_ok-segment.ensures.stored;
         reads = s.reads;
         id = id;
-        begun = begun _ c.args.dump standing c.now_ms.result id s c.now_ms.ensures.told
+        begun = begun _ c.args.options.dump standing c.now_ms.result id s c.now_ms.ensures.told
             c.base-id.ensures;
         fits = fits_name standing id c.now_ms.result s.low c.now_ms.ensures.bound
             c.base-id.ensures;
@@ -121,8 +124,8 @@ returns-in-Ok-clause-applies g c =
               keeps.images name (let size = ap length bytes in omega (arith, size))
               c.in-Ok.ensures.lands.2;
         });
-        reported = report_over c.args.dump (cells_of_tables s.reads) standing.cells mutations
-            c.in_ok-report.report s.merged c.in_ok-report.ensures;
+        reported = report_over c.args.options.dump (cells_of_tables s.reads) standing.cells
+            mutations c.in_ok-report.report s.merged c.in_ok-report.ensures;
       },
     )
 
@@ -136,25 +139,22 @@ returns-clause-applies g c =
     let s = c.in_ok-standing.ensures.looks in
     let keeps = c.in_ok-standing.ensures.keeps in
     let id = c.base-id.result in
-    let free = name_is_free before c.args.dump standing c.now_ms.result id c.segment_name.result s
-    c.now_ms.ensures.bound c.base-id.ensures c.segment_name.ensures in
+    let free = name_is_free before c.args.options.dump standing c.now_ms.result id
+    c.segment_name.result s c.now_ms.ensures.bound c.base-id.ensures c.segment_name.ensures in
     let name = c.segment_name.ensures in
     let bytes : c.deref-2.result.now ≡ segment_of id mutations =
     c.deref-2.ensures.value ∙ c.in_ok-segment.ensures.bytes
     ∙ ap (segment_of id) c.as_slice-2.ensures in
-    let is_accepted = accepted (g.S.Source.left c.args.source.now)
-    (g.S.Source.left c.bytes_of.new.source) c.in_ok-bytes.bytes.items mutations
-    c.in_ok-size.size c.in_ok-bytes.ensures
-    (subst (λ (l : List ℕ). GivesMutations l (Ok mutations)) c.deref.ensures.value
-    c.in_ok-mutations.ensures.mutations)
-    (subst (λ (ms : List Mutation). HasSize ms c.in_ok-size.size) c.as_slice.ensures
-    c.in_ok-size.ensures) in
+    let is_accepted = accepted_as c.args.options.capacity _ _ c.in_ok-bytes.bytes.items
+    c.deref.result.now mutations c.as_slice.result.now c.in_ok-size.size c.in_ok-bytes.ensures
+    c.deref.ensures.value c.in_ok-mutations.ensures.mutations c.as_slice.ensures
+    c.in_ok-size.ensures in
     let taken = c.in_ok-bytes.ensures.taken in
     let left : LeftBehind before after c.segment_name.result c.deref-2.result.now fault =
     subst (λ (f : Option Files).
     LeftBehind f after c.segment_name.result c.deref-2.result.now fault) keeps.same
     c.in-Err.ensures.lands.1 in
-    landing_refuses fault c.status_of.result _ c.status_of.ensures (
+    landing_refuses c.args.options.capacity fault c.status_of.result _ c.status_of.ensures (
       c.in_ok-bytes.bytes.items,
       taken,
       record {
@@ -173,7 +173,7 @@ returns-clause-applies g c =
           omega (arith, same, c.if-lines-eq0.false);
       reads = s.reads;
       id = id;
-      begun = begun _ c.args.dump standing c.now_ms.result id s c.now_ms.ensures.told
+      begun = begun _ c.args.options.dump standing c.now_ms.result id s c.now_ms.ensures.told
           c.base-id.ensures;
       part = subst (λ (n : List ℕ). PartBy fault before after n (segment_of id mutations)) name
           (subst (λ (b : List ℕ). PartBy fault before after c.segment_name.result b) bytes

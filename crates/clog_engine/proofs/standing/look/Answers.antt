@@ -1,12 +1,13 @@
 use Rattle.std.proofs.Common.{Option, refl, sym, subst, ◌∙◌}
 use Rattle.std.specs.Prelude.{IfSome}
-use Rattle.std.proofs.lemmas.Bool.{true≢false}
 use Rattle.clog_disk.specs.Files.{Files, Lists}
 use Rattle.clog_crash.specs.Folder.{IsNameOfSegment, IsHeld}
+use Rattle.clog_engine.specs.Directory.{IsLateTable}
 use Rattle.clog_engine.specs.Listing.{ArePlaces}
 use Rattle.clog_engine.proofs.Looked.{
   told_holds,
   told_places,
+  none_has,
   seen_now,
   tables_refused,
   many_tables,
@@ -42,7 +43,8 @@ returns-in-Err-read_tables-clause-looks g c =
     (g.D.Disk.faults c.list.new.self) (g.D.Disk.faults c.read_tables.new.disk) names
     c.in-Err-read_tables.status c.in-Ok.ensures.same.files
     (subst (Lists files) (sym c.as_slice-names.ensures) c.in-Ok.ensures.names)
-    (λ any. true≢false (sym (c.has_segment.ensures.1 any) ∙ c.if-has_segment.false))
+    (none_has IsNameOfSegment names c.has_segment.result c.has_segment.ensures
+    c.if-has_segment.false)
     c.in-Ok.ensures.cause.later c.in-Err-read_tables.ensures.reads
 
 pub returns-then-has_late_table-clause-looks : goal.returns-then-has_late_table-clause-looks
@@ -50,14 +52,13 @@ returns-then-has_late_table-clause-looks g c =
     let files = g.D.Disk.files c.args.disk.now in
     let names = c.as_slice-names.result.now in
     let rows = c.in_ok-tables.tables.entries in
-    let read = c.in-Ok-read_tables.ensures.reads in (
+    let read = c.in-Ok-read_tables.ensures.reads in
+    let seen = seen_now files _ names _ rows c.greatest_archive.result c.args.dump _
+    c.has_segment.result c.in-Ok.ensures.same.files c.in-Ok.ensures.names
+    c.as_slice-names.ensures c.has_segment.ensures c.if-has_segment.false c.in_ok-tables.ensures
+    c.greatest_archive.ensures read in (
       refl,
-      many_tables files names rows c.greatest_archive.result read.reads
-          (seen_now files (g.D.Disk.files c.list.new.self) names rows c.greatest_archive.result
-          c.args.dump c.in-Ok-read_tables.standing c.in-Ok.ensures.same.files
-          (subst (Lists files) (sym c.as_slice-names.ensures) c.in-Ok.ensures.names)
-          (λ any. true≢false (sym (c.has_segment.ensures.1 any) ∙ c.if-has_segment.false))
-          c.in_ok-tables.ensures c.greatest_archive.ensures read)
+      many_tables files names rows c.greatest_archive.result read.reads seen
           (c.has_late_table.ensures.0 c.if-has_late_table.true),
     )
 
@@ -66,17 +67,17 @@ returns-then-is_last-clause-looks g c =
     let files = g.D.Disk.files c.args.disk.now in
     let names = c.as_slice-names.result.now in
     let rows = c.in_ok-tables.tables.entries in
-    let read = c.in-Ok-read_tables.ensures.reads in (
+    let read = c.in-Ok-read_tables.ensures.reads in
+    let seen = seen_now files _ names _ rows c.greatest_archive.result c.args.dump _
+    c.has_segment.result c.in-Ok.ensures.same.files c.in-Ok.ensures.names
+    c.as_slice-names.ensures c.has_segment.ensures c.if-has_segment.false c.in_ok-tables.ensures
+    c.greatest_archive.ensures read in (
       refl,
       great_id files names rows c.greatest_archive.result read.reads
           c.in-Ok-read_tables.standing.greatest
-          (seen_now files (g.D.Disk.files c.list.new.self) names rows c.greatest_archive.result
-          c.args.dump c.in-Ok-read_tables.standing c.in-Ok.ensures.same.files
-          (subst (Lists files) (sym c.as_slice-names.ensures) c.in-Ok.ensures.names)
-          (λ any. true≢false (sym (c.has_segment.ensures.1 any) ∙ c.if-has_segment.false))
-          c.in_ok-tables.ensures c.greatest_archive.ensures read)
-          (λ any. true≢false (sym (c.has_late_table.ensures.1 any) ∙ c.if-has_late_table.false))
-          read.greatest (sym c.is_last.ensures ∙ c.if-is_last.true),
+          seen
+          (none_has IsLateTable names c.has_late_table.result c.has_late_table.ensures
+          c.if-has_late_table.false) read.greatest (sym c.is_last.ensures ∙ c.if-is_last.true),
     )
 
 pub returns-clause-looks : goal.returns-clause-looks
@@ -85,12 +86,13 @@ returns-clause-looks g c =
     let names = c.as_slice-names.result.now in
     let rows = c.in_ok-tables.tables.entries in
     let read = c.in-Ok-read_tables.ensures.reads in
+    let seen = seen_now files _ names _ rows c.greatest_archive.result c.args.dump _
+    c.has_segment.result c.in-Ok.ensures.same.files c.in-Ok.ensures.names
+    c.as_slice-names.ensures c.has_segment.ensures c.if-has_segment.false c.in_ok-tables.ensures
+    c.greatest_archive.ensures read in
     stands files (g.D.Disk.files c.list.new.self) names rows c.greatest_archive.result c.args.dump
     c.in-Ok-read_tables.standing read
-    (seen_now files (g.D.Disk.files c.list.new.self) names rows c.greatest_archive.result
-    c.args.dump c.in-Ok-read_tables.standing c.in-Ok.ensures.same.files
-    (subst (Lists files) (sym c.as_slice-names.ensures) c.in-Ok.ensures.names)
-    (λ any. true≢false (sym (c.has_segment.ensures.1 any) ∙ c.if-has_segment.false))
-    c.in_ok-tables.ensures c.greatest_archive.ensures read)
-    (λ any. true≢false (sym (c.has_late_table.ensures.1 any) ∙ c.if-has_late_table.false))
+    seen
+    (none_has IsLateTable names c.has_late_table.result c.has_late_table.ensures
+    c.if-has_late_table.false)
     (sym c.is_last.ensures ∙ c.if-is_last.false)
