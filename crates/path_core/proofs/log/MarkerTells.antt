@@ -58,15 +58,15 @@ last_among (d ∷ cs) o c h = elim (last_among cs (later_marker o d) c h) [
     choose false q = inl q
 
 module _ (x : PathState) (c : ClaimOf) (last : last_marker x ≡ Some c) where
-  among : Contains x.claims c
-  among = elim (last_among x.claims None c last) [
+  pub last_claimed : Contains x.claims c
+  last_claimed = elim (last_among x.claims None c last) [
     | inl q ↦ absurd (none-some c q)
     | inr r ↦ r
   ]
 
   -- While the last marker has no barrier, its writer wants one.
   pub last_wants : c.barrier ≡ None → WantsBarrier Append x c.by
-  last_wants none = any_from (is_unbarred_marker c.by) x.claims c among
+  last_wants none = any_from (is_unbarred_marker c.by) x.claims c last_claimed
       (and_from (is_marker c && (c.by == c.by)) (is_none c.barrier)
       (and_from (is_marker c) (c.by == c.by) (last_is_marker x.claims c last)
       (eq-eqb c.by c.by refl)) (ap (λ (o : Option ℕ). is_none o) none))
@@ -76,11 +76,11 @@ module _ (x : PathState) (c : ClaimOf) (last : last_marker x ≡ Some c) where
       → IsSyncPoint x c.start
   last_synced g issued passed = record {
     marker = c;
-    claimed = among;
+    claimed = last_claimed;
     is = last_is_marker x.claims c last;
     start = refl;
     above = c;
-    above_claimed = among;
+    above_claimed = last_claimed;
     above_is = last_is_marker x.claims c last;
     above_start = omega arith;
     group = g;
