@@ -1,0 +1,5 @@
+use Rattle.path_rule.proofs.boxes.OneHolder.{one_holder}
+use Rattle.path_rule.proofs.laws.each_box_has_one_holder.Goals as goal
+
+pub returns : goal.returns
+returns g c = λ size s r. one_holder g.K.Keeper.shown size s r

@@ -1,0 +1,116 @@
+-- The holder of the Sync turn makes the next group of the append order, for its own marker.
+use Rattle.std.proofs.Common.{
+  ◌≡◌,
+  ℕ,
+  suc,
+  ◌+◌,
+  ◌*◌,
+  ◌<◌,
+  ◌≤◌,
+  false,
+  [],
+  ◌∷◌,
+  length,
+  Some,
+  None,
+  is_some,
+  IsTrue,
+  refl,
+  ap,
+  ◌∙◌,
+  arith,
+}
+use Rattle.std.proofs.lemmas.List.{length-append}
+use mathlib.Core.Option.{none}
+use Rattle.atomic_table.specs.Table.{State, Me, step, keeps, Allows}
+use Rattle.op_core.specs.declared.count.Order.{Order}
+use Rattle.op_core.specs.declared.count.Order.TheVariants.{Write, Append}
+use Rattle.op_core.specs.declared.count.Tally.TheVariants.{Open}
+use Rattle.path_core.specs.declared.event.Event.TheVariants.{OpenGroup}
+use Rattle.path_core.specs.declared.seat.Issue.TheVariants.{Rest}
+use Rattle.path_core.specs.Allowed.{IsStep, IsAllowed}
+use Rattle.path_core.specs.LawfulOrders.{made_at}
+use Rattle.path_core.specs.Next.{next_of}
+use Rattle.path_core.specs.Parts.{groups_of, issue_of, marker_of}
+use Rattle.path_core.proofs.frame.Seats.{at_rest}
+use Rattle.path_core.proofs.log.MarkerTells.{wanted_by_marker}
+use Rattle.path_rule.specs.declared.lasting.Lasting.{Lasting}
+use Rattle.path_rule.specs.declared.slot.Slot.{Slot}
+use Rattle.path_rule.specs.declared.view.PathSize.{PathSize}
+use Rattle.path_rule.specs.declared.view.Role.TheVariants.{Steps}
+use Rattle.path_rule.specs.declared.view.View.{View}
+use Rattle.path_rule.specs.Rule.{Ruled, view_after, Was, HasRows}
+use Rattle.path_rule.specs.Told.{Made}
+use Rattle.path_rule.specs.TurnTold.{AppendOpened}
+use Rattle.path_rule.specs.Turns.{MarkerWaits, TurnSaw}
+use Rattle.path_rule.proofs.moves.HolderFacts.{outside, has, issue_at}
+use Rattle.path_rule.proofs.moves.Looks.{within, own_part, each_name}
+use Rattle.path_rule.proofs.moves.Moving.{core_lawful, was, plays}
+use Rattle.path_rule.proofs.moves.TurnFacts.{now_is, unseen}
+use Rattle.path_rule.proofs.seats.HolderKnows.{still}
+
+module _ {K : Type 0} (shows : K → Lasting) (size : PathSize) (slots id : ℕ)
+    (m : Me (Slot K) View) (w : ℕ) (mine : m.0.role ≡ Steps w) where
+  pub opens_append : (g c start : ℕ) → MarkerWaits m.0.part start → IsTrue (is_some m.0.part.sync)
+      → issue_of m.0.part ≡ Rest → TurnSaw Append m.0.part c → g ≡ suc c
+      → m.0.hands.box_taken ≡ None → g < 65536
+      → Allows (Ruled shows size) slots id m (73 + 2 * g) (λ _. 0)
+      (λ _. AppendOpened (step slots (73 + 2 * g) 0 0 none) m 0)
+  opens_append g c start waits held calm saw up empty fits s r _ there _ = let x = r.core in
+      let e = OpenGroup w Append g in let v' = view_after m.0 e 0 false in
+      let law = core_lawful shows size s r in
+      let now = now_is shows size slots id m w mine s r there held Append c saw in
+      let t = at_rest m.0.part held calm in
+      let is = issue_at shows size slots id m w mine s r there held Rest t.0 t.1 t.2 in
+      let long : length x.append.tallies ≡ suc x.append.current =
+      (law.orders.made_groups Append).made ∙ ap (λ i. made_at i Append x.append.current) is in
+      let may : IsStep x e = record {
+        seat = within shows size slots id m w mine s r there;
+        is_there = tt;
+        row = (
+          has shows size slots id m w mine s r there held,
+          own_part shows size
+              slots id m w mine s r there issue_of Rest calm,
+          up ∙ ap suc now,
+        );
+      } in
+      let told = refl in
+      let out = outside shows size slots id m w mine s r there held in (
+        v',
+        keeps,
+        tt,
+        plays shows size s r id w m.0 there mine e refl may tt fits
+            (rows s r g (let q = up ∙ ap suc now in omega arith)) 0 0 false told refl m.0.hands m.1
+            keeps
+            (unseen shows size slots id m w mine s r there held
+            (next_of x e).append v' refl refl refl out
+            (still _ m.0.part.sync held) refl empty),
+        (λ z q role _ word. each_name shows size slots id m w mine 73 g
+            (λ z q. Made z (OpenGroup z Append q) 0 m (v', m.1)
+            × ((was : Was m.0 z (OpenGroup z Append q))
+            × IsAllowed was.core (OpenGroup z Append q))) (
+              ((refl, was shows size s r id w m.0 there mine e may tt), refl),
+              (
+                was shows size s r id w m.0 there mine e may tt,
+                record {
+                  seat = may.seat;
+                  is_there = tt;
+                  row = (
+                    may.row,
+                    (wanted_by_marker x law w (record { start = start; barrier = None })
+                        (own_part shows size slots id m w mine s r there marker_of
+                        (Some (record { start = start; barrier = None })) waits)).1 refl,
+                  );
+                },
+              ),
+            ) z q role word),
+      )
+    where
+      rows : (s : State (Slot K) View) (r : Ruled shows size s) (g : ℕ)
+          → length r.core.append.tallies < 65536 → HasRows (next_of r.core (OpenGroup w Append g))
+      rows s r g more = record { groups = λ o. by o; memtables = r.rows.memtables }
+        where
+          by : (o : Order) → length (groups_of
+              (next_of r.core (OpenGroup w Append g)) o).tallies ≤ 65536
+          by Append = let l = length-append r.core.append.tallies (Open 0 ∷ []) in omega arith
+          by Write = r.rows.groups Write

@@ -1,0 +1,395 @@
+-- A writer joins a group of the append order with its box, and leaves it: with nothing, or with a
+-- note that it put into the box.
+use Rattle.std.proofs.Common.{
+  ◌≡◌,
+  ◌≢◌,
+  ℕ,
+  ◌+◌,
+  ◌-◌,
+  ◌*◌,
+  ◌%◌,
+  ◌^◌,
+  ◌<◌,
+  ◌≤◌,
+  eqb,
+  Bool,
+  false,
+  true,
+  List,
+  [],
+  ◌∷◌,
+  length,
+  set,
+  Option,
+  Some,
+  None,
+  is_some,
+  refl,
+  sym,
+  ap,
+  ◌∙◌,
+  subst,
+  ⊎_elim,
+  arith,
+}
+use Rattle.std.specs.Prelude.{slice_index, IsSome, ◌++◌, ◌==◌, ◌&&◌, is_none}
+use Rattle.std.proofs.lemmas.Bool.{eq-eqb}
+use Rattle.std.proofs.lemmas.List.{length-replicate}
+use Rattle.std.specs.List.{Contains}
+use Rattle.std.specs.Option.{option_map_or}
+use mathlib.Core.Logic.{inl, inr}
+use mathlib.Core.Option.{none, some}
+use lib.ListN.{get_elem?}
+use prog.Atomic.{either}
+use Rattle.atomic_table.proofs.Lists.{exchanged}
+use Rattle.atomic_table.specs.Table.{State, Me, step, takes, gives, put_back, rest, Allows}
+use Rattle.op_core.specs.Tallies.{IsOpen}
+use Rattle.op_core.specs.declared.count.Order.TheVariants.{Append}
+use Rattle.path_core.specs.declared.event.Carried.TheVariants.{Nothing, Deposit}
+use Rattle.path_core.specs.declared.event.Event.TheVariants.{Look, Register, Close}
+use Rattle.path_core.specs.declared.event.Place.TheVariants.{Count}
+use Rattle.path_core.specs.declared.event.Turn.TheVariants.{Sync}
+use Rattle.path_core.specs.declared.note.EntryNote.{EntryNote}
+use Rattle.path_core.specs.declared.seat.Issue.TheVariants.{Rest}
+use Rattle.path_core.specs.declared.seat.Range.{Range}
+use Rattle.path_core.specs.declared.seat.Seat.{Seat as SeatOf}
+use Rattle.path_core.specs.Allowed.{IsStep}
+use Rattle.path_core.specs.Lawful.{IsLawfulPath}
+use Rattle.path_core.specs.LawfulLog.{entry_claim, is_undeposited, is_note_at}
+use Rattle.path_core.specs.Next.{next_of}
+use Rattle.path_core.specs.Parts.{tally_of, seat_of, found_of, HoldsNoTurn, fresh_table, fresh_seat}
+use Rattle.path_core.specs.Whole.{IsWhole}
+use Rattle.path_core.proofs.frame.Runs.{past_sizes}
+use Rattle.path_core.proofs.frame.Seats.{some_left, group_made, at_rest, open_is_current}
+use Rattle.path_core.proofs.lists.Inserted.{insert_cases, insert_old, insert_new}
+use Rattle.path_core.proofs.lists.Replaced.{counted_in, counted_some}
+use Rattle.path_rule.specs.declared.lasting.Lasting.{Lasting}
+use Rattle.path_rule.specs.declared.slot.Slot.{Slot}
+use Rattle.path_rule.specs.declared.slot.Slot.TheVariants.{Notes}
+use Rattle.path_rule.specs.declared.view.PathSize.{PathSize}
+use Rattle.path_rule.specs.declared.view.Role.{Role}
+use Rattle.path_rule.specs.declared.view.Role.TheVariants.{Steps, Opener, Spent}
+use Rattle.path_rule.specs.declared.view.View.{View}
+use Rattle.path_rule.specs.Boxed.{HandsAs, ends_at, Boxed}
+use Rattle.path_rule.specs.Boxes.{box_of, boxes, HasOwn, HoldsAs, IsFree, NotesAre}
+use Rattle.path_rule.specs.HandsAfter.{with_notes}
+use Rattle.path_rule.specs.Lasts.{shown}
+use Rattle.path_rule.specs.Layout.{tally_word}
+use Rattle.path_rule.specs.Rule.{Knows, start_of, Ruled, view_after, with_hands}
+use Rattle.path_rule.specs.Told.{Took, Joined, Withdrew, Deposited, MadeAs, Made}
+use Rattle.path_rule.proofs.boxes.HeldBoxes.{boxed_take, boxed_give}
+use Rattle.path_rule.proofs.boxes.NotePut.{boxed_put}
+use Rattle.path_rule.proofs.moves.Looks.{
+  Owes,
+  as_part,
+  within,
+  below,
+  look_owes,
+  each_name,
+  own_part,
+}
+use Rattle.path_rule.proofs.moves.Moving.{core_lawful, known, was, plays, columns_now}
+use Rattle.path_rule.proofs.moves.StepFacts.{
+  more_word,
+  less_word,
+  group_low,
+  last_same,
+  notes_first,
+  logged_note,
+  known_groups,
+}
+use Rattle.path_rule.proofs.places.ReadBack.{rows_stay}
+
+module _ {K : Type 0} (shows : K → Lasting) (size : PathSize) (slots id : ℕ)
+    (m : Me (Slot K) View) (w : ℕ) (mine : m.0.role ≡ Steps w) where
+  module _ (s : State (Slot K) View) (r : Ruled shows size s)
+      (there : get_elem? s.views id ≡ some m.0) where
+    -- the own box, of a seat that is outside the append order, is free where its group is open
+    pub own_free : (g : ℕ) → m.0.part.append ≡ None → g ≤ r.core.append.current
+        → IsOpen (tally_of r.core Append g) → IsFree s.views (box_of w g)
+    own_free g outside low up j u e h =
+        by_role u.role (r.each_seat j u e).1 (r.boxed.in_hands j u e) h
+      where
+        law : IsLawfulPath r.core
+        law = core_lawful shows size s r
+
+        by_own : (z : ℕ) (o : Option ℕ) → (seat_of r.core z).append ≡ o → HasOwn z o (box_of w g)
+            → ⊥
+        by_own z None is h = h
+        by_own z (Some q) is h = let c : 1 + 2 * w + g % 2 ≡ 1 + 2 * z + q % 2 = h in
+            let same : z ≡ w = omega arith in
+            let f : Some q ≡ None = sym is ∙
+            (ap (λ (k : ℕ). (seat_of r.core k).append) same
+            ∙ own_part shows size slots id m w mine s r there
+            (λ (p : SeatOf). p.append) None outside) in cc
+
+        by_role : (ρ : Role) → Knows r.core r.events r.owner r.made r.boss j ρ u.part u.trail
+            u.returned → HandsAs r.boxed.contents
+            (shown r.core) r.boxed.pending r.boxed.progress r.core.append size.seats u.part u.hands
+            ρ
+            → HoldsAs u.part.append (is_some u.part.sync) u.hands.box_taken (box_of w g) ρ → ⊥
+        by_role (Opener k) kn H h = h
+        by_role Spent kn H h = h
+        by_role (Steps z) kn H h = ⊎_elim
+            (λ own. by_own z u.part.append (sym (ap (λ (p : SeatOf). p.append) kn.0.2)) own)
+            (λ more. ⊎_elim (λ desk. absurd (let q = desk.1 in omega arith))
+            (λ taken. let G = H.other (box_of w g) taken in let t = at_rest u.part G.holds G.rest in
+            let rest : law.orders.issue ≡ Rest =
+            sym (law.orders.one_holder_a_turn.issue_is z t.0
+            (ap (λ (p : SeatOf). p.sync) (sym kn.0.2) ∙ t.1)) ∙ t.2 in
+            let now = open_is_current r.core law rest Append g low up in
+            G.parity (let q = ap (λ (n : ℕ). n % 2) now in omega arith)) more) h
+
+    pub own_low : (g : ℕ) → box_of w g < boxes size.seats
+    own_low g = let l = within shows size slots id m w mine s r there in let k = r.long in
+        omega arith
+
+    pub low_seat : w < size.seats
+    low_seat = let l = within shows size slots id m w mine s r there in let k = r.long in
+        omega arith
+
+  pub joins : (g k : ℕ) → IsSome m.0.part.write → m.0.part.append ≡ None → m.0.part.claim ≡ None
+      → HoldsNoTurn m.0.part → (found_of Append m.0.part).current ≡ Some g → k < 2 ^ 63 → g < 65536
+      → Allows (Ruled shows size) slots id m (73 + 2 * g) (λ n. either (eqb n k) (k + 1) n)
+      (Joined (step slots (73 + 2 * g) k (k + 1) none) m)
+  joins g k write outside unclaimed bare saw low fits s r _ there _ = let n =
+      slice_index s.words (73 + 2 * g) in let x = r.core in let c = tally_of x Append g in
+      let found : n ≡ tally_word c = r.words (Count Append g) fits in
+      let then = Joined (step slots (73 + 2 * g) k (k + 1) none) m n in
+      exchanged n k (k + 1) (λ z. Owes shows size slots id m w mine s (73 + 2 * g) z then)
+      (λ hit. let e = Register w Append g in
+      let is = as_part shows size slots id m w mine s r there in
+      let more = more_word c (omega arith) in let box = box_of w g in
+      let ns = r.boxed.contents box in let h = with_notes ns m.0.hands in
+      let v' = with_hands h (view_after m.0 e (k + 1) false) in
+      let made = below shows size slots id m w mine s r there (Count Append g) (inl saw) in
+      let under = (known_groups x (core_lawful shows size s r) Append w).current g
+      (own_part shows size slots id m w mine s r there (λ (p : SeatOf). (found_of Append p).current)
+      (Some g) saw) in
+      let may : IsStep x e = record {
+        seat = within shows size slots id m w mine s r there;
+        is_there = made;
+        row = (
+          subst HoldsNoTurn is bare,
+          (
+            subst (λ (p : SeatOf). IsSome p.write) is write,
+            own_part shows size slots id m w mine s r there
+                (λ (p : SeatOf). p.append) None outside,
+            own_part shows size slots id m w mine s r there
+                (λ (p : SeatOf). p.claim) None unclaimed,
+          ),
+          own_part shows size slots id m w mine s r there
+              (λ (p : SeatOf). (found_of Append p).current) (Some g) saw,
+          more.0,
+        );
+      } in
+      let now = sym (more.1 ∙ ap (λ z. z + 1) (sym found ∙ hit)) in
+      let rows = rows_stay x e may (λ q. q) r.rows in
+      let home = r.boxed.at_home box (own_low s r there g)
+      (own_free s r there g outside under more.0) in
+      let C = columns_now shows size s r id w m.0 there mine e refl may tt fits rows (k + 1)
+      (k + 1) false now refl h in (
+        v',
+        takes box home.0,
+        home.1,
+        plays shows size s r id w m.0 there mine e refl may tt fits rows (k + 1)
+            (k + 1) false now refl h m.1 (takes box home.0)
+            (boxed_take shows size.seats x.notes (shown x) x.claims x.claims x.append
+            (next_of x e).append s.homes s.views r.boxed id w m.0 v' there mine refl refl refl
+            (λ i g l _ _. (l, refl)) refl C.issue g outside C.append refl),
+        (λ z q role _ word. each_name shows size slots id m w mine 73 g
+            (λ z q. (n ≡ k → ((notes : List EntryNote)
+            × MadeAs z (Register z Append q) (k + 1) (with_notes notes m.0.hands) m.0 v')
+            × Took (box_of z q) m (v', (box, home.0) ∷ m.1))
+            × (n ≢ k → Made z (Look z (Count Append q)) n m (v', (box, home.0) ∷ m.1))) (
+              (λ _. (
+                (ns, (refl, was shows size s r id w m.0 there mine e may tt)),
+                (home.0, refl, home.2.notes (omega arith)),
+              )),
+              (λ miss. absurd (miss hit)),
+            ) z q role
+            word),
+      ))
+      (λ miss. let v' = view_after m.0 (Look w (Count Append g)) n false in
+      look_owes shows size slots id m w mine s r there (Count Append g) fits (inl saw) then
+      (λ made _ z h role _ word.
+      each_name shows size slots id m w mine 73 g (λ z q. (n ≡ k → ((notes : List EntryNote)
+      × MadeAs z (Register z Append q) (k + 1) (with_notes notes m.0.hands) m.0 v')
+      × Took (box_of z q) m (v', m.1))
+      × (n ≢ k → Made z (Look z (Count Append q)) n m (v', m.1)))
+      ((λ hit. absurd (miss hit)), (λ _. made)) z h role word))
+
+  pub withdraws : (g : ℕ) (y : Slot K) (cs : List (ℕ × Slot K)) → m.0.part.append ≡ Some g
+      → m.0.part.claim ≡ None → m.1 ≡ (box_of w g, y) ∷ cs → NotesAre y m.0.hands.notes → g < 65536
+      → Allows (Ruled shows size) slots id m (73 + 2 * g) (λ n. (n + (2 ^ 64 - 1)) % 2 ^ 64)
+      (Withdrew (step slots (73 + 2 * g) 1 0 none) m)
+  withdraws g y cs append claim holds kept fits s r _ there low = let n =
+      slice_index s.words (73 + 2 * g) in let x = r.core in let c = tally_of x Append g in
+      let found : n ≡ tally_word c = r.words (Count Append g) fits in
+      let e = Close w Append g Nothing in
+      let here = own_part shows size slots id m w mine s r there (λ (p : SeatOf). p.append)
+      (Some g) append in
+      let made = group_made x (core_lawful shows size s r) Append w g here in
+      let v' = view_after m.0 e n false in
+      let may : IsStep x e = record {
+        seat = within shows size slots id m w mine s r there;
+        is_there = made;
+        row = (
+          here,
+          own_part shows size slots id m w mine s r there
+              (λ (p : SeatOf). p.claim) None claim,
+        );
+      } in
+      let now = ap (λ z. (z + (2 ^ 64 - 1)) % 2 ^ 64) found
+      ∙ less_word c (some_left x (core_lawful shows size s r) Append w g here)
+      (subst (λ z. z < 2 ^ 64) found low) in
+      let rows = rows_stay x e may (λ q. q) r.rows in
+      let C = columns_now shows size s r id w m.0 there mine e refl may tt fits rows
+      ((n + (2 ^ 64 - 1)) % 2 ^ 64) n false now refl m.0.hands in (
+        v',
+        gives,
+        tt,
+        plays shows size s r id w m.0 there mine e refl may tt fits rows
+            ((n + (2 ^ 64 - 1)) % 2 ^ 64) n false now refl m.0.hands m.1 gives
+            (subst (λ l. Boxed shows size.seats x.notes (shown x) x.claims (next_of x e).append
+            (put_back s.homes l) (set s.views id v')) (sym holds)
+            (boxed_give shows size.seats x.notes (shown x) x.claims x.claims x.append
+            (next_of x e).append s.homes s.views r.boxed id w m.0 v' there mine refl refl refl
+            (λ i g l _ _. (l, refl)) refl C.issue g y append C.append refl kept r.deep
+            (low_seat s r there))),
+        (λ z q role _ word. each_name shows size slots id m w mine 73 g
+            (λ z q. MadeAs z (Close z Append q Nothing) n m.0.hands m.0 v' × (rest m.1 ≡ rest m.1))
+            ((refl, was shows size s r id w m.0 there mine e may tt), refl) z q role word),
+      )
+
+  pub deposits : (g : ℕ) (note : EntryNote) (cs : List (ℕ × Slot K)) → m.0.part.append ≡ Some g
+      → m.0.part.claim ≡ Some (record { start = note.start.0; end = note.end.0 })
+      → note.writer.0 ≡ w → note.tables < 2 ^ m.0.size.tables → IsWhole note
+      → m.1 ≡ (box_of w g, Notes (m.0.hands.notes ++ note ∷ [])) ∷ cs → g < 65536
+      → Allows (Ruled shows size) slots id m (73 + 2 * g) (λ n. (n + (2 ^ 64 - 1)) % 2 ^ 64)
+      (Deposited (step slots (73 + 2 * g) 1 0 none) m)
+  deposits g note cs append claim writer tables whole holds fits s r _ there low = let n =
+      slice_index s.words (73 + 2 * g) in let x = r.core in let c = tally_of x Append g in
+      let found : n ≡ tally_word c = r.words (Count Append g) fits in
+      let law = core_lawful shows size s r in let e = Close w Append g (Deposit note) in
+      let here = own_part shows size slots id m w mine s r there (λ (p : SeatOf). p.append)
+      (Some g) append in
+      let range = own_part shows size slots id m w mine s r there (λ (p : SeatOf). p.claim)
+      (Some (record { start = note.start.0; end = note.end.0 })) claim in
+      let made = group_made x law Append w g here in let v' = view_after m.0 e n false in
+      let may : IsStep x e = record {
+        seat = within shows size slots id m w mine s r there;
+        is_there = made;
+        row = (
+          here,
+          record {
+            range = range;
+            writer = writer;
+            tables_are_there = few_bits s r there
+                note.tables tables;
+          },
+        );
+      } in
+      let now = ap (λ z. (z + (2 ^ 64 - 1)) % 2 ^ 64) found
+      ∙ less_word c (some_left x law Append w g here) (subst (λ z. z < 2 ^ 64) found low) in
+      let rows = rows_stay x e may (λ q. q) r.rows in
+      let C = columns_now shows size s r id w m.0 there mine e refl may whole fits rows
+      ((n + (2 ^ 64 - 1)) % 2 ^ 64) n false now refl m.0.hands in (
+        v',
+        gives,
+        tt,
+        plays shows size s r id w m.0 there mine e refl may whole fits rows
+            ((n + (2 ^ 64 - 1)) % 2 ^ 64) n false now refl m.0.hands m.1 gives
+            (subst (λ l. Boxed shows size.seats (next_of x e).notes (shown x) x.claims
+            (next_of x e).append (put_back s.homes l) (set s.views id v')) (sym holds)
+            (boxed_put shows size.seats x.notes (next_of x e).notes (shown x) x.claims x.append
+            (next_of x e).append s.homes s.views r.boxed id w m.0 v' there mine refl refl refl g
+            note append C.append C.issue refl
+            (no_turn s r there g append) r.deep (low_seat s r there) writer
+            (group_low x law Append w g here)
+            ((law.orders.counts_stand_for_seats Append).nobody_below w g here)
+            (λ i h l mark bar less. law.later_groups_log_above.markers i h g w
+            (record { start = note.start.0; end = note.end.0 }) l mark bar here less range)
+            (λ q in_it. ⊎_elim (λ old. inr old) (λ new. inl (sym new))
+            (insert_cases x.notes _ note q in_it))
+            (λ q in_it. insert_old x.notes _ note q in_it) (insert_new x.notes _ note)
+            (unnoted s r there note append claim) (unlogged s r there note append claim)
+            (λ j z u apart at is same. apart
+            (sym (subst (λ ρ. Knows x r.events r.owner r.made r.boss j ρ u.part u.trail
+            u.returned) is (r.each_seat j u at).1).0.1
+            ∙ (ap r.owner same ∙ (known shows size s r id w m.0 there mine).1.1))))),
+        (λ z q other role _ word has. let same : note
+            ≡ other = last_same m.0.hands.notes note other (ap notes_first (sym holds ∙ has)) in
+            subst (λ p. MadeAs z (Close z Append q (Deposit p)) n m.0.hands m.0 v'
+            × (rest m.1 ≡ rest m.1)) same
+            (each_name shows size slots id m w mine 73 g
+            (λ z q. MadeAs z (Close z Append q (Deposit note)) n m.0.hands m.0 v'
+            × (rest m.1 ≡ rest m.1)) (
+              (
+                refl,
+                was shows size s r id w m.0 there mine e may
+                    whole,
+              ),
+              refl,
+            ) z q role word)),
+      )
+    where
+      few_bits : (s : State (Slot K) View) (r : Ruled shows size s)
+          → get_elem? s.views id ≡ some m.0 → (n : ℕ) → n < 2 ^ m.0.size.tables
+          → n < 2 ^ length r.core.tables
+      few_bits s r there n l = let z = past_sizes r.events (start_of size) r.core r.run in
+          let k = (known shows size s r id w m.0 there mine).0 in
+          subst (λ (t : ℕ). n < 2 ^ t) (ap (λ (q : PathSize). q.tables) k
+          ∙ sym (z.tables ∙ length-replicate size.tables fresh_table)) l
+
+      -- the entry that the seat has claimed is not noted yet
+      unnoted : (s : State (Slot K) View) (r : Ruled shows size s) → get_elem? s.views id ≡ some m.0
+          → (note : EntryNote) → m.0.part.append ≡ Some g
+          → m.0.part.claim ≡ Some (record { start = note.start.0; end = note.end.0 })
+          → ends_at note.end.0 r.core.notes ≡ 0
+      unnoted s r there note append claim = let law = core_lawful shows size s r in
+          let x = r.core in
+          let range = own_part shows size slots id m w mine s r there (λ (p : SeatOf). p.claim)
+          (Some (record { start = note.start.0; end = note.end.0 })) claim in
+          let c = law.own_claim w (record { start = note.start.0; end = note.end.0 }) range in
+          let one = law.each_claim_noted_once.once
+          (entry_claim w note.start.0 note.end.0) c refl in
+          let some = counted_some (is_undeposited note.end.0) x.seats fresh_seat refl w
+          (ap (λ (q : Option Range). option_map_or
+          (λ (k : Range). k.end == note.end.0) q false && is_none (seat_of x w).note) range
+          ∙ (ap (λ (b : Bool). b && is_none (seat_of x w).note) (eq-eqb note.end.0 note.end.0 refl)
+          ∙ ap (λ (q : Option ℕ). is_none q) (unwritten (seat_of x w).note refl))) in
+          omega arith
+        where
+          unwritten : (o : Option ℕ) → (seat_of r.core w).note ≡ o → (seat_of r.core w).note ≡ None
+          unwritten None e = e
+          unwritten (Some t) e = absurd (let d =
+              ((core_lawful shows size s r).orders.orders_nest w).deposited t e in
+              let q : Some g ≡ None = sym (own_part shows size slots id m w mine s r there
+              (λ (p : SeatOf). p.append)
+              (Some g) append) ∙ d.0 in cc)
+
+      -- so it is not lasting either
+      unlogged : (s : State (Slot K) View) (r : Ruled shows size s)
+          → get_elem? s.views id ≡ some m.0 → (note : EntryNote) → m.0.part.append ≡ Some g
+          → m.0.part.claim ≡ Some (record { start = note.start.0; end = note.end.0 })
+          → ¬ Contains r.core.logged note.end.0
+      unlogged s r there note append claim h = let law = core_lawful shows size s r in
+          let t = logged_note r.core law note.end.0 h in
+          absurd (let c = counted_in (is_note_at note.end.0) r.core.notes t.0 t.1
+          (eq-eqb t.0.end.0 note.end.0 t.2) in let z = unnoted s r there note append claim in
+          omega arith)
+
+      no_turn : (s : State (Slot K) View) (r : Ruled shows size s) → get_elem? s.views id ≡ some m.0
+          → (g : ℕ) → m.0.part.append ≡ Some g → is_some m.0.part.sync ≡ false
+      no_turn s r there g append = by (is_some m.0.part.sync) refl
+        where
+          by : (b : Bool) → is_some m.0.part.sync ≡ b → b ≡ false
+          by false e = refl
+          by true e = absurd (let h = (core_lawful shows size s
+              r).orders.one_holder_a_turn.holder_is_idle Sync w
+              (own_part shows size slots id m w mine s r there
+              (λ (p : SeatOf). is_some p.sync) true e) in
+              let q : Some g ≡ None = sym (own_part shows size slots id m w mine s r there
+              (λ (p : SeatOf). p.append)
+              (Some g) append) ∙ h.1 in cc)

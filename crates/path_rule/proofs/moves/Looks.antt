@@ -1,0 +1,221 @@
+-- What a step owes: a new view, an act on the boxes, the rule for the state that the step leaves,
+-- and what it tells. First the looks at each place.
+use Rattle.std.proofs.Common.{
+  ◌≡◌,
+  ℕ,
+  ◌+◌,
+  ◌*◌,
+  ◌<◌,
+  false,
+  length,
+  set,
+  Some,
+  refl,
+  sym,
+  ap,
+  ◌∙◌,
+  subst,
+  ⊎_elim,
+  arith,
+}
+use Rattle.std.specs.Prelude.{slice_index}
+use Rattle.std.proofs.lemmas.List.{length-replicate}
+use mathlib.Core.Option.{none, some}
+use lib.ListN.{get_elem?}
+use Rattle.atomic_table.specs.Table.{
+  State,
+  Me,
+  step,
+  Act,
+  keeps,
+  Valid,
+  stepped,
+  Allows,
+  carried_after,
+}
+use Rattle.op_core.specs.declared.count.Order.{Order}
+use Rattle.op_core.specs.declared.count.Order.TheVariants.{Write, Append}
+use Rattle.path_core.specs.declared.event.Cursor.TheVariants.{Synced, OldestLive, Stopped}
+use Rattle.path_core.specs.declared.event.Event.{Event}
+use Rattle.path_core.specs.declared.event.Event.TheVariants.{Look}
+use Rattle.path_core.specs.declared.event.Place.{Place}
+use Rattle.path_core.specs.declared.event.Place.TheVariants.{
+  Count,
+  Current,
+  Oldest,
+  Log,
+  Newest,
+  Bound,
+  TurnWord,
+  CursorWord,
+}
+use Rattle.path_core.specs.declared.event.Turn.TheVariants.{Sync, Flush}
+use Rattle.path_core.specs.declared.seat.Seat.{Seat as SeatOf}
+use Rattle.path_core.specs.declared.seat.SyncTurn.{SyncTurn}
+use Rattle.path_core.specs.declared.state.PathState.{PathState}
+use Rattle.path_core.specs.Allowed.{IsStep}
+use Rattle.path_core.specs.Frame.{left_by}
+use Rattle.path_core.specs.Lawful.{IsLawfulPath}
+use Rattle.path_core.specs.LawfulSeats.{GroupsExact}
+use Rattle.path_core.specs.Next.{next_of, gives_file}
+use Rattle.path_core.specs.Parts.{seat_of, found_of, fresh_table}
+use Rattle.path_core.specs.SeatAfter.{seat_after}
+use Rattle.path_core.specs.Whole.{CarriesWhole}
+use Rattle.path_core.specs.Words.{reading, by_of, place_of, IsPlace}
+use Rattle.path_core.proofs.frame.Runs.{past_sizes}
+use Rattle.path_core.proofs.frame.Seats.{current_is_made}
+use Rattle.path_core.proofs.seats.Columns.{Columns}
+use Rattle.path_rule.specs.declared.lasting.Lasting.{Lasting}
+use Rattle.path_rule.specs.declared.slot.Slot.{Slot}
+use Rattle.path_rule.specs.declared.view.PathSize.{PathSize}
+use Rattle.path_rule.specs.declared.view.Role.TheVariants.{Steps}
+use Rattle.path_rule.specs.declared.view.View.{View}
+use Rattle.path_rule.specs.Boxed.{Boxed}
+use Rattle.path_rule.specs.Lasts.{shown}
+use Rattle.path_rule.specs.Layout.{word_at, IsWord, word_of, reading_at}
+use Rattle.path_rule.specs.Rule.{start_of, Ruled, HasRows, view_after, Was}
+use Rattle.path_rule.specs.Told.{Made, Looked}
+use Rattle.path_rule.specs.Turns.{TurnOld, turn_groups, Sighted}
+use Rattle.path_rule.proofs.boxes.HeldBoxes.{boxed_stay}
+use Rattle.path_rule.proofs.moves.Moving.{
+  core_lawful,
+  known,
+  part_is,
+  inside,
+  was,
+  plays,
+  columns_now,
+}
+use Rattle.path_rule.proofs.moves.StepFacts.{same_seat, known_groups}
+use Rattle.path_rule.proofs.places.ReadBack.{rows_stay, read_back}
+use Rattle.path_rule.proofs.places.SamePlace.{same_place}
+
+module _ {K : Type 0} (shows : K → Lasting) (size : PathSize) (slots id : ℕ) (m : Me (Slot K) View)
+    (w : ℕ) (mine : m.0.role ≡ Steps w) where
+  -- the view, the act and what they owe, where n is stored
+  abbrev pub Owes : State (Slot K) View → ℕ → ℕ → (Me (Slot K) View → Type 0) → Type 0
+  Owes s i n then = (v : View) × (a : Act (Slot K)) × Valid s.homes m.1 a
+      × Ruled shows size (stepped s i n id m.1 v a) × then (v, carried_after m.1 a)
+
+  module _ (s : State (Slot K) View) (r : Ruled shows size s)
+      (there : get_elem? s.views id ≡ some m.0) where
+    abbrev pub x : PathState
+    x = r.core
+
+    abbrev pub L : IsLawfulPath x
+    L = core_lawful shows size s r
+
+    pub as_part : m.0.part ≡ seat_of x w
+    as_part = part_is shows size s r id w m.0 there mine
+
+    pub within : w < length x.seats
+    within = inside shows size s r id w m.0 there mine
+
+    pub few_tables : (t : ℕ) → t < m.0.size.tables → t < length x.tables
+    few_tables t l = let z = past_sizes r.events (start_of size) x r.run in
+        let k = (known shows size s r id w m.0 there mine).0 in
+        let long = z.tables ∙ length-replicate size.tables fresh_table in
+        subst (λ n. t < n) (sym long) (subst (λ (q : PathSize). t < q.tables) k l)
+
+    turn_exact : (o : Order) (t : SyncTurn) → m.0.part.sync ≡ Some t
+        → GroupsExact x o (turn_groups o t)
+    turn_exact Write t e = ((L.seats_know w).sync t
+        (ap (λ (p : SeatOf). p.sync) (sym as_part) ∙ e)).write
+    turn_exact Append t e = ((L.seats_know w).sync t
+        (ap (λ (p : SeatOf). p.sync) (sym as_part) ∙ e)).append
+
+    pub below : (at : Place) → Sighted m.0 at → IsPlace x at
+    below (Count o g) h = let more = current_is_made x L o in let G = known_groups x L o w in
+        let old = (L.orders.made_groups o).oldest in ⊎_elim
+        (λ (e : (found_of o m.0.part).current ≡ Some g). let a = G.current g
+        (ap (λ (p : SeatOf). (found_of o p).current) (sym as_part) ∙ e) in omega arith)
+        (λ q. ⊎_elim
+        (λ (e : (found_of o m.0.part).oldest ≡ Some g). let a = G.oldest g
+        (ap (λ (p : SeatOf). (found_of o p).oldest) (sym as_part) ∙ e) in omega arith)
+        (λ (t : TurnOld o m.0.part g). let a = (turn_exact o t.0 t.1).oldest g t.2 in omega arith)
+        q) h
+    below (Current o) h = tt
+    below (Oldest o) h = tt
+    below Log h = tt
+    below (Newest t) h = few_tables t.0 h
+    below (Bound t k) h = (
+      few_tables t.0 h.0,
+      (let q = h.1 in let l = (L.switches.tables t.0).bounds_rise.made in omega arith),
+    )
+    below (TurnWord Sync) h = tt
+    below (TurnWord (Flush t)) h = few_tables t.0 h
+    below (CursorWord Synced) h = tt
+    below (CursorWord Stopped) h = tt
+    below (CursorWord (OldestLive t)) h = few_tables t.0 h
+
+    -- a step at which no box moves
+    pub acts : (e : Event) → by_of e ≡ w → IsStep x e → CarriesWhole e → IsWord (place_of e)
+        → HasRows (next_of x e) → (n found : ℕ)
+        → n ≡ word_of (left_by e (reading x (place_of e)))
+        → seat_after m.0.part e (reading_at (place_of e) found) false
+        ≡ seat_after m.0.part e (reading x (place_of e)) (gives_file x e)
+        → (Columns e m.0.part (view_after m.0 e found false).part
+        → Boxed shows size.seats (next_of x e).notes (shown (next_of x e)) (next_of x e).claims
+        (next_of x e).append s.homes (set s.views id (view_after m.0 e found false)))
+        → (then : Me (Slot K) View → Type 0)
+        → (Was m.0 w e → then (view_after m.0 e found false, m.1))
+        → Owes s (word_at (place_of e)) n then
+    acts e by may whole spot rows n found now told boxed then ok = (
+      view_after m.0 e found false,
+      keeps,
+      tt,
+      plays shows size s r id w m.0 there mine e by may whole spot rows n found false now told
+          m.0.hands m.1 keeps (boxed (columns_now shows size s r id w m.0 there mine e by may whole
+          spot rows n found false now told m.0.hands)),
+      ok (was shows size s r id w m.0 there mine e may whole),
+    )
+
+    pub look_owes : (at : Place) → IsWord at → Sighted m.0 at → (then : Me (Slot K) View → Type 0)
+        → (Made w (Look w at) (slice_index s.words (word_at at)) m
+        (view_after m.0 (Look w at) (slice_index s.words (word_at at)) false, m.1)
+        → ((was : Was m.0 w (Look w at)) ×
+        (word_of (reading was.core at) ≡ slice_index s.words (word_at at)))
+        → then (view_after m.0 (Look w at) (slice_index s.words (word_at at)) false, m.1))
+        → Owes s (word_at at) (slice_index s.words (word_at at)) then
+    look_owes at spot sighted then give = let n = slice_index s.words (word_at at) in
+        let found : n ≡ word_of (reading x at) = r.words at spot in
+        let may : IsStep x (Look w at) = record {
+          seat = within;
+          is_there = below at sighted;
+          row = tt;
+        } in
+        acts (Look w at) refl may tt spot (rows_stay x (Look w at) may (λ q. q) r.rows) n n found
+        (ap (λ k. seat_after m.0.part (Look w at) k false)
+        (ap (reading_at at) found ∙ read_back x L at))
+        (λ C. boxed_stay shows size.seats x.notes
+        (shown x) x.claims x.claims x.append x.append s.homes s.views r.boxed id w m.0
+        (view_after m.0 (Look w at) n false) there mine refl refl refl
+        (λ i g l _ _. (l, refl)) refl C.append C.issue refl)
+        then (λ u. give ((refl, u), refl)
+        (was shows size s r id w m.0 there mine (Look w at) may tt, sym found))
+
+  pub looks : (at : Place) → IsWord at → Sighted m.0 at
+      → Allows (Ruled shows size) slots id m (word_at at) (λ n. n)
+      (Looked (step slots (word_at at) 0 0 none) m)
+  looks at spot sighted s r _ there _ = let n = slice_index s.words (word_at at) in
+      look_owes s r there at spot sighted (Looked (step slots (word_at at) 0 0 none) m n)
+      (λ made seen z at' role word is.
+      let P : ℕ × Place → Type 0 = λ q. Made q.0 (Look q.0 q.1) n m
+      (view_after m.0 (Look w at) n false, m.1)
+      × ((was : Was m.0 q.0 (Look q.0 q.1)) × (word_of (reading was.core q.1) ≡ n)) in
+      subst P (λ i. (same_seat m.0.role w z mine role i, same_place at at' spot word is i))
+      (made, seen))
+
+  -- a step told for every number that the seat and the group may go by
+  pub each_name : (k g : ℕ) (P : ℕ → ℕ → Type 0) → P w g → (z h : ℕ) → m.0.role ≡ Steps z
+      → k + 2 * g ≡ k + 2 * h → P z h
+  each_name k g P p z h role is = let same : g ≡ h = omega arith in
+      subst (λ (q : ℕ × ℕ). P q.0 q.1) (λ i. (same_seat m.0.role w z mine role i, same i)) p
+
+  pub each_seat_name : (P : ℕ → Type 0) → P w → (z : ℕ) → m.0.role ≡ Steps z → P z
+  each_seat_name P p z role = subst P (same_seat m.0.role w z mine role) p
+
+  module _ (s : State (Slot K) View) (r : Ruled shows size s)
+      (there : get_elem? s.views id ≡ some m.0) where
+    pub own_part : {A : Type 0} (f : SeatOf → A) (a : A) → f m.0.part ≡ a → f (seat_of r.core w) ≡ a
+    own_part {A} f a e = ap f (sym (as_part s r there)) ∙ e

@@ -1,0 +1,131 @@
+-- A writer joins a group of the write order, and leaves it.
+use Rattle.std.proofs.Common.{
+  ◌≡◌,
+  ◌≢◌,
+  ℕ,
+  ◌+◌,
+  ◌-◌,
+  ◌*◌,
+  ◌%◌,
+  ◌^◌,
+  ◌<◌,
+  eqb,
+  false,
+  Some,
+  None,
+  refl,
+  sym,
+  ap,
+  ◌∙◌,
+  subst,
+  arith,
+}
+use Rattle.std.specs.Prelude.{slice_index}
+use mathlib.Core.Logic.{inl}
+use mathlib.Core.Option.{none}
+use prog.Atomic.{either}
+use Rattle.atomic_table.proofs.Lists.{exchanged}
+use Rattle.atomic_table.specs.Table.{Me, step, Allows}
+use Rattle.op_core.specs.declared.count.Order.TheVariants.{Write}
+use Rattle.path_core.specs.declared.event.Carried.TheVariants.{Nothing}
+use Rattle.path_core.specs.declared.event.Event.TheVariants.{Look, Register, Close}
+use Rattle.path_core.specs.declared.event.Place.TheVariants.{Count}
+use Rattle.path_core.specs.declared.seat.Seat.{Seat as SeatOf}
+use Rattle.path_core.specs.Allowed.{IsStep}
+use Rattle.path_core.specs.Parts.{tally_of, found_of, HoldsNoTurn, IsIdle}
+use Rattle.path_core.proofs.frame.Seats.{some_left, group_made}
+use Rattle.path_rule.specs.declared.lasting.Lasting.{Lasting}
+use Rattle.path_rule.specs.declared.slot.Slot.{Slot}
+use Rattle.path_rule.specs.declared.view.PathSize.{PathSize}
+use Rattle.path_rule.specs.declared.view.Role.TheVariants.{Steps}
+use Rattle.path_rule.specs.declared.view.View.{View}
+use Rattle.path_rule.specs.Lasts.{shown}
+use Rattle.path_rule.specs.Layout.{tally_word}
+use Rattle.path_rule.specs.Rule.{Ruled, view_after}
+use Rattle.path_rule.specs.Told.{Made, Registered, Stopped as StoppedBy}
+use Rattle.path_rule.proofs.boxes.HeldBoxes.{boxed_stay}
+use Rattle.path_rule.proofs.moves.Looks.{Owes, as_part, within, below, acts, look_owes, each_name}
+use Rattle.path_rule.proofs.moves.Moving.{core_lawful}
+use Rattle.path_rule.proofs.moves.StepFacts.{more_word, less_word}
+use Rattle.path_rule.proofs.places.ReadBack.{rows_stay}
+
+module _ {K : Type 0} (shows : K → Lasting) (size : PathSize) (slots id : ℕ)
+    (m : Me (Slot K) View) (w : ℕ) (mine : m.0.role ≡ Steps w) where
+  pub registers : (g k : ℕ) → IsIdle m.0.part → HoldsNoTurn m.0.part
+      → (found_of Write m.0.part).current ≡ Some g → k < 2 ^ 63 → g < 65536
+      → Allows (Ruled shows size) slots id m (72 + 2 * g) (λ n. either (eqb n k) (k + 1) n)
+      (Registered (step slots (72 + 2 * g) k (k + 1) none) m)
+  registers g k idle bare saw low fits s r _ there _ = let n = slice_index s.words (72 + 2 * g) in
+      let x = r.core in let c = tally_of x Write g in
+      let found : n ≡ tally_word c = r.words (Count Write g) fits in
+      let then = Registered (step slots (72 + 2 * g) k (k + 1) none) m n in
+      exchanged n k (k + 1) (λ z. Owes shows size slots id m w mine s (72 + 2 * g) z then)
+      (λ hit. let e = Register w Write g in
+      let is = as_part shows size slots id m w mine s r there in
+      let more = more_word c (omega arith) in let v' = view_after m.0 e (k + 1) false in
+      let made = below shows size slots id m w mine s r there (Count Write g) (inl saw) in
+      let may : IsStep x e = record {
+        seat = within shows size slots id m w mine s r there;
+        is_there = made;
+        row = (
+          subst HoldsNoTurn is bare,
+          subst IsIdle is idle,
+          ap (λ p. (found_of Write p).current)
+              (sym is) ∙ saw,
+          more.0,
+        );
+      } in
+      acts shows size slots id m w mine s r there e refl may tt fits
+      (rows_stay x e may (λ q. q) r.rows) (k + 1) (k + 1)
+      (sym (more.1 ∙ ap (λ z. z + 1) (sym found ∙ hit))) refl
+      (λ C. boxed_stay shows size.seats x.notes
+      (shown x) x.claims x.claims x.append x.append s.homes s.views r.boxed id w m.0 v' there
+      mine refl refl refl (λ i g l _ _. (l, refl)) refl C.append C.issue refl)
+      then (λ u z h role _ word. each_name shows size slots id m w mine 72 g
+      (λ z h. (n ≡ k → Made z (Register z Write h) (k + 1) m (v', m.1))
+      × (n ≢ k → Made z (Look z (Count Write h)) n m (v', m.1)))
+      ((λ _. ((refl, u), refl)), (λ miss. absurd (miss hit))) z h role word))
+      (λ miss. let v' = view_after m.0 (Look w (Count Write g)) n false in
+      look_owes shows size slots id m w mine s r there (Count Write g) fits (inl saw) then
+      (λ made _ z h role _ word.
+      each_name shows size slots id m w mine 72 g
+      (λ z h. (n ≡ k → Made z (Register z Write h) (k + 1) m (v', m.1))
+      × (n ≢ k → Made z (Look z (Count Write h)) n m (v', m.1)))
+      ((λ hit. absurd (miss hit)), (λ _. made)) z h role word))
+
+  pub stops : (g : ℕ) → m.0.part.write ≡ Some g → m.0.part.append ≡ None → m.0.part.claim ≡ None
+      → g < 65536
+      → Allows (Ruled shows size) slots id m (72 + 2 * g) (λ n. (n + (2 ^ 64 - 1)) % 2 ^ 64)
+      (StoppedBy (step slots (72 + 2 * g) 1 0 none) m)
+  stops g write append claim fits s r _ there low = let n = slice_index s.words (72 + 2 * g) in
+      let x = r.core in let c = tally_of x Write g in
+      let found : n ≡ tally_word c = r.words (Count Write g) fits in
+      let e = Close w Write g Nothing in let is = as_part shows size slots id m w mine s r there in
+      let here = ap (λ (p : SeatOf). p.write) (sym is) ∙ write in
+      let made = group_made x (core_lawful shows size s r) Write w g here in
+      let v' = view_after m.0 e n false in
+      let may : IsStep x e = record {
+        seat = within shows size slots id m w mine s r there;
+        is_there = made;
+        row = (
+          here,
+          (
+            ap (λ (p : SeatOf). p.append) (sym is)
+                ∙ append,
+            ap (λ (p : SeatOf). p.claim) (sym is) ∙ claim,
+          ),
+        );
+      } in
+      acts shows size slots id m w mine s r there e refl may tt fits
+      (rows_stay x e may (λ q. q) r.rows)
+      ((n + (2 ^ 64 - 1)) % 2 ^ 64) n
+      (ap (λ z. (z + (2 ^ 64 - 1)) % 2 ^ 64) found
+      ∙ less_word c (some_left x (core_lawful shows size s r) Write w g here)
+      (subst (λ z. z < 2 ^ 64) found low)) refl
+      (λ C. boxed_stay shows size.seats x.notes
+      (shown x) x.claims x.claims x.append x.append s.homes s.views r.boxed id w m.0 v' there
+      mine refl refl refl (λ i g l _ _. (l, refl)) refl C.append C.issue refl)
+      (StoppedBy (step slots (72 + 2 * g) 1 0 none) m n)
+      (λ u z h role _ word. each_name shows size slots id m w mine 72 g
+      (λ z h. Made z (Close z Write h Nothing) n m (v', m.1))
+      ((refl, u), refl) z h role word)

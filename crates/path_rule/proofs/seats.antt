@@ -1,0 +1,7 @@
+-- Seats: how they are handed out and taken in, and what they know after their steps.
+pub mod Dealing
+pub mod Begins
+pub mod Refusals
+pub mod HolderKnows
+pub mod CursorKnows
+pub mod Staying

@@ -1,0 +1,38 @@
+use Rattle.std.proofs.Common.{refl, sym, ap, ◌∙◌, subst, arith}
+use Rattle.path_rule.specs.declared.view.View.{View}
+use Rattle.path_rule.specs.Turns.{TurnRuns}
+use Rattle.path_rule.proofs.moves.LogStops.{looks_lent}
+use Rattle.path_rule.proofs.seats.CursorKnows.{synced_seen}
+use Rattle.path_rule.proofs.table.PathTable.look_lent.Goals as goal
+
+pub load-requires : goal.load-requires
+load-requires g c = let t = c.args.self.now in let m = c.args.member.now in
+    let k = t.table.shared.key in let wide = t.wide in (
+      c.requires.table.0,
+      omega arith,
+      looks_lent g.K.Keeper.shown k t.table.shared.table_id.slots
+          m.seat.id m.seat.me m.number m.role c.requires.turn.0.0 c.requires.turn.0.1
+          c.requires.turn.0.2
+          c.requires.turn.1,
+    )
+
+pub invariant_of-member : goal.invariant_of-member
+invariant_of-member g c = let m = c.args.member.now in let d = c.load.ensures.2 m.number m.role in
+    record { role = ap (λ (v : View). v.role) d.0.0.0 ∙ m.role }
+
+pub returns-clause-same : goal.returns-clause-same
+returns-clause-same g c = let m = c.args.member.now in let d = c.load.ensures.2 m.number m.role in
+    (c.load.ensures.0, refl, d.0.1)
+
+pub returns-clause-step : goal.returns-clause-step
+returns-clause-step g c = let m = c.args.member.now in let d = c.load.ensures.2 m.number m.role in
+    record { view = d.0.0.0; was = d.0.0.1 }
+
+pub returns-clause-lent : goal.returns-clause-lent
+returns-clause-lent g c = let m = c.args.member.now in (c.load.ensures.2 m.number m.role).1
+
+pub returns-clause-runs : goal.returns-clause-runs
+returns-clause-runs g c = let m = c.args.member.now in let d = c.load.ensures.2 m.number m.role in
+    λ value low. subst (λ (v : View). TurnRuns v.part value) (sym d.0.0.0)
+    (synced_seen m.seat.me.0 m.number c.load.result value c.requires.turn.0.0 c.requires.turn.0.1
+    c.requires.turn.0.2 low)

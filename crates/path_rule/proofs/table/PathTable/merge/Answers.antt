@@ -1,0 +1,16 @@
+use Rattle.std.proofs.Common.{arith}
+use Rattle.path_rule.proofs.seats.Dealing.{merges, holds_none}
+use Rattle.path_rule.proofs.table.PathTable.merge.Goals as goal
+
+pub join_seat-requires : goal.join_seat-requires
+join_seat-requires g c = let t = c.args.self.now in let m = c.args.first.now in
+    let o = c.args.other in let wide = t.wide in let q = c.requires.other in
+    let i = c.requires.idle in (
+      c.requires.first,
+      q.0,
+      q.1,
+      omega arith,
+      merges g.K.Keeper.shown t.table.shared.key m.seat.id
+          m.seat.me.0 m.number m.role o.seat.id o.number o.seat.me.0 o.role
+          (holds_none o.seat.me.0 i.0 i.1 q.2),
+    )

@@ -1,0 +1,31 @@
+use Rattle.std.proofs.Common.{refl, ap, ◌∙◌, arith}
+use Rattle.path_rule.specs.declared.view.View.{View}
+use Rattle.path_rule.proofs.moves.AppendBarriers.{moves}
+use Rattle.path_rule.proofs.table.PathTable.move_append.Goals as goal
+
+pub store-requires : goal.store-requires
+store-requires g c = let t = c.args.self.now in let m = c.args.member.now in
+    let k = t.table.shared.key in let wide = t.wide in (
+      c.requires.table.0,
+      omega arith,
+      moves g.K.Keeper.shown k t.table.shared.table_id.slots
+          m.seat.id m.seat.me m.number m.role c.args.group c.args.current c.requires.marker.0
+          c.requires.marker.1 c.requires.turn.0 c.requires.turn.1 c.requires.turn.2
+          c.requires.gathered.0
+          c.requires.gathered.1,
+    )
+
+pub invariant_of-member : goal.invariant_of-member
+invariant_of-member g c = let m = c.args.member.now in
+    let d = c.store.ensures.2 m.number c.args.current m.role c.requires.turn.1 in
+    record { role = ap (λ (v : View). v.role) d.0.0 ∙ m.role }
+
+pub returns-clause-same : goal.returns-clause-same
+returns-clause-same g c = let m = c.args.member.now in
+    let d = c.store.ensures.2 m.number c.args.current m.role c.requires.turn.1 in
+    (c.store.ensures.0, refl, d.1)
+
+pub returns-clause-step : goal.returns-clause-step
+returns-clause-step g c = let m = c.args.member.now in
+    let d = c.store.ensures.2 m.number c.args.current m.role c.requires.turn.1 in
+    record { view = d.0.0; was = d.0.1 }

@@ -1,0 +1,36 @@
+use Rattle.std.proofs.Common.{refl, ap, ◌∙◌, arith}
+use Rattle.atomic_table.specs.Table.{rest}
+use Rattle.path_rule.specs.declared.view.View.{View}
+use Rattle.path_rule.specs.Lasts.{more_lasting}
+use Rattle.path_rule.specs.Lent.{ends}
+use Rattle.path_rule.proofs.moves.SyncSteps.{syncs}
+use Rattle.path_rule.proofs.table.PathTable.put_synced.Goals as goal
+
+pub store-requires : goal.store-requires
+store-requires g c = let t = c.args.self.now in let m = c.args.member.now in
+    let k = t.table.shared.key in let wide = t.wide in let d = c.requires.desk in (
+      c.requires.table.0,
+      omega arith,
+      syncs g.K.Keeper.shown k t.table.shared.table_id.slots
+          m.seat.id m.seat.me m.number m.role c.args.value d.0 d.1 d.3.0
+          (rest m.seat.me.1) c.requires.turn.0 c.requires.turn.1 c.requires.turn.2 c.requires.marker
+          d.2
+          d.3.1 d.3.2,
+    )
+
+pub invariant_of-member : goal.invariant_of-member
+invariant_of-member g c = let m = c.args.member.now in let k = c.requires.desk in
+    let d = c.store.ensures.2 m.number
+    (more_lasting (ends k.0) c.args.value m.seat.me.0.hands.lasting) k.1 m.role k.3 in
+    record { role = ap (λ (v : View). v.role) d.0.0 ∙ m.role }
+
+pub returns-clause-same : goal.returns-clause-same
+returns-clause-same g c = let m = c.args.member.now in let k = c.requires.desk in
+    let d = c.store.ensures.2 m.number
+    (more_lasting (ends k.0) c.args.value m.seat.me.0.hands.lasting) k.1 m.role k.3 in
+    (c.store.ensures.0, refl, d.1)
+
+pub returns-clause-step : goal.returns-clause-step
+returns-clause-step g c = let m = c.args.member.now in
+    λ lasting pending C. let d = c.store.ensures.2 m.number lasting pending m.role C in
+    (record { view = d.0.0; was = d.0.1 }, d.2)

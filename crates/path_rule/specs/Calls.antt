@@ -1,0 +1,89 @@
+-- What the calls say of a seat's view before and after.
+use Rattle.std.specs.Prelude.{
+  ◌≡◌,
+  ◌≢◌,
+  ◌⊎◌,
+  ℕ,
+  suc,
+  ◌+◌,
+  ◌<◌,
+  ◌≤◌,
+  ◌^◌,
+  false,
+  cond,
+  Bool,
+  true,
+  List,
+  [],
+  ◌∷◌,
+  length,
+  None,
+  is_some,
+  IsTrue,
+}
+use Rattle.op_core.specs.declared.count.Order.{Order}
+use Rattle.path_core.specs.declared.event.Event.{Event}
+use Rattle.path_core.specs.declared.event.Event.TheVariants.{Look, Register}
+use Rattle.path_core.specs.declared.event.Place.{Place}
+use Rattle.path_core.specs.declared.event.Place.TheVariants.{Count, Current}
+use Rattle.path_core.specs.declared.seat.Issue.{Issue}
+use Rattle.path_core.specs.Parts.{issue_of}
+use Rattle.path_core.specs.Words.{place_of}
+use Rattle.path_rule.specs.declared.view.Hands.{Hands}
+use Rattle.path_rule.specs.declared.view.OwnStep.{OwnStep}
+use Rattle.path_rule.specs.declared.view.View.{View}
+use Rattle.path_rule.specs.Rule.{view_after, with_hands, Was}
+use Rattle.path_rule.specs.Turns.{TurnOld}
+
+-- Seat w made the step e, at which n was found or stored; h is what it knows of its boxes then.
+pub record DidAs (v : View) (w : ℕ) (e : Event) (n : ℕ) (h : Hands) (after : View) : Type 0 where
+  pub view : after ≡ with_hands h (view_after v e n false)
+  pub was : Was v w e
+
+-- the same where it knows of them what it knew
+pub record Did (v : View) (w : ℕ) (e : Event) (n : ℕ) (after : View) : Type 0 where
+  pub view : after ≡ view_after v e n false
+  pub was : Was v w e
+
+-- whether a step is no look
+abbrev pub is_act : Event → Bool
+is_act (Look by at) = false
+is_act _ = true
+
+-- how many steps other than looks were made
+abbrev pub acts : List OwnStep → ℕ
+acts [] = 0
+acts (t ∷ ts) = cond (is_act t.event) (suc (acts ts)) (acts ts)
+
+-- The number n was found or stored at this place, at a step whose number is above `before`.
+abbrev pub FoundSince : ℕ → Place → ℕ → List OwnStep → Type 0
+FoundSince before at n [] = ⊥
+FoundSince before at n (t ∷ ts) = ((before ≤ length ts) × (place_of t.event ≡ at) × (t.found ≡ n))
+    ⊎ FoundSince before at n ts
+
+-- the view after a look at the current group of an order, which found g, and one at its count
+abbrev pub looked_twice : View → ℕ → Order → ℕ → ℕ → View
+looked_twice v w o g k = view_after (view_after v (Look w (Current o)) g false)
+    (Look w (Count o g)) k false
+
+-- Seat w registered in group g, whose count it had found to be `looked`.
+pub record Started (v : View) (w : ℕ) (o : Order) (g : ℕ) (after : View) : Type 0 where
+  pub looked : ℕ
+  pub did : Did (looked_twice v w o g looked) w (Register w o g) (looked + 1) after
+
+-- Seat w only looked: it found the count `looked` and then `found`, which is expired or another.
+pub record Refused (v : View) (w : ℕ) (o : Order) (looked found : ℕ) (after : View) : Type 0 where
+  pub group : ℕ
+  pub view : (after ≡ looked_twice v w o group looked)
+      ⊎ (after ≡ view_after (looked_twice v w o group looked) (Look w (Count o group)) found false)
+  pub cause : (2 ^ 63 ≤ looked) ⊎ (found ≢ looked)
+
+-- The seat holds the Sync turn, with no box of another seat, at this issue.
+pub record Holds (i : Issue) (v : View) : Type 0 where
+  pub held : IsTrue (is_some v.part.sync)
+  pub issue : issue_of v.part ≡ i
+  pub empty : v.hands.box_taken ≡ None
+
+-- The barrier of a group is passed: the seat found, or put, a later one as the oldest.
+abbrev pub IsPast : Order → View → ℕ → Type 0
+IsPast o v g = (h : ℕ) × TurnOld o v.part h × (g < h)

@@ -1,0 +1,55 @@
+-- What a seat knows of its boxes after a step that moves one, or that changes what stands on the
+-- desk of the Sync turn.
+use Rattle.std.specs.Prelude.{ℕ, suc, ◌==◌, ◌||◌, false, List, [], ◌++◌, Option, Some, None}
+use Rattle.std.specs.Option.{option_map}
+use Rattle.path_core.specs.declared.note.EntryNote.{EntryNote}
+use Rattle.path_core.specs.declared.seat.LastMarker.{LastMarker}
+use Rattle.path_rule.specs.declared.lasting.Lasting.{Lasting}
+use Rattle.path_rule.specs.declared.view.Hands.{Hands}
+use Rattle.path_rule.specs.declared.view.Progress.{Progress}
+
+-- these notes are in its own box
+abbrev pub with_notes : List EntryNote → Hands → Hands
+with_notes notes h = record h { notes = notes }
+
+-- it knows of the desk what stands there
+abbrev pub with_desk : Lasting → List EntryNote → Progress → Hands → Hands
+with_desk lasting pending progress h = record h {
+  pending = pending;
+  lasting = lasting;
+  swept = 0;
+  progress = progress;
+}
+
+-- the box of another seat was taken, or is at home again
+abbrev pub with_taken : Option ℕ → List EntryNote → Hands → Hands
+with_taken b taken h = record h { box_taken = b; taken = taken }
+
+-- what was taken is pending, and one more box is gathered, perhaps the last one
+abbrev pub with_swept : ℕ → Hands → Hands
+with_swept seats h = record h {
+  box_taken = None;
+  taken = [];
+  pending = h.pending ++ h.taken;
+  swept = suc h.swept;
+  progress = record h.progress {
+    gathered = h.progress.gathered || (suc h.swept == seats);
+  };
+}
+
+-- nothing is gathered since the last barrier
+abbrev pub unswept_hands : Hands → Hands
+unswept_hands h = record h { swept = 0 }
+
+-- The barrier of the marker is issued, and nothing is gathered behind it yet.
+abbrev pub barred : ℕ → Progress → Progress
+barred group k = record {
+  gathered = false;
+  marker = option_map (λ (m : LastMarker). record m { barrier = Some group }) k.marker;
+}
+
+-- a marker that starts at the key is the last one
+abbrev pub with_marker : ℕ → Hands → Hands
+with_marker key h = record h {
+  progress = record h.progress { marker = Some (record { start = key; barrier = None }) };
+}

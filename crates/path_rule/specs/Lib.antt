@@ -1,0 +1,14 @@
+pub mod Layout
+pub mod Lasts
+pub mod Boxes
+pub mod Boxed
+pub mod Rule
+pub mod Lent
+pub mod HandsAfter
+pub mod Turns
+pub mod Told
+pub mod TurnTold
+pub mod Calls
+pub mod Members
+pub mod Passes
+pub mod Sharing

@@ -1,0 +1,66 @@
+-- What the contracts say of the members of a table.
+use Rattle.std.specs.Prelude.{◌≡◌, ℕ, List}
+use Rattle.atomic_table.specs.Seated.{TableId}
+use Rattle.atomic_table.specs.Table.{rest}
+use Rattle.path_core.specs.declared.event.Event.{Event}
+use Rattle.path_core.specs.declared.seat.Seat.{Seat}
+use Rattle.path_rule.specs.declared.slot.Slot.{Slot}
+use Rattle.path_rule.specs.declared.table.Member.{Member}
+use Rattle.path_rule.specs.declared.view.Hands.{Hands}
+use Rattle.path_rule.specs.declared.view.PathSize.{PathSize}
+use Rattle.path_rule.specs.declared.view.Returned.{Returned}
+use Rattle.path_rule.specs.declared.view.View.{View}
+use Rattle.path_rule.specs.Calls.{Did, DidAs}
+
+module _ {K : Type 0} where
+  -- what a member knows, and the boxes that it has, the one that it took last in front
+  abbrev pub view_of : Member K → View
+  view_of m = m.seat.me.0
+
+  abbrev pub boxes_of : Member K → List (ℕ × Slot K)
+  boxes_of m = m.seat.me.1
+
+  abbrev pub part_of : Member K → Seat
+  part_of m = (view_of m).part
+
+  abbrev pub hands_of : Member K → Hands
+  hands_of m = (view_of m).hands
+
+  -- It is a member of the table with this id, which has these sizes.
+  abbrev pub IsOf : TableId → PathSize → Member K → Type 0
+  IsOf id size m = (m.seat.table_id ≡ id) × (m.seat.me.0.size ≡ size)
+
+  -- It is the same member of the same table.
+  abbrev pub IsSame : Member K → Member K → Type 0
+  IsSame m m' = (m'.seat.table_id ≡ m.seat.table_id) × (m'.number ≡ m.number)
+
+  -- the same with the same boxes
+  abbrev pub KeepsBoxes : Member K → Member K → Type 0
+  KeepsBoxes m m' = (m'.seat.table_id ≡ m.seat.table_id) × (m'.number ≡ m.number)
+      × (m'.seat.me.1 ≡ m.seat.me.1)
+
+  -- and of a table with the same sizes
+  abbrev pub KeepsSizes : Member K → Member K → Type 0
+  KeepsSizes m m' = (m'.seat.table_id ≡ m.seat.table_id) × (m'.number ≡ m.number)
+      × (m'.seat.me.1 ≡ m.seat.me.1) × (m'.seat.me.0.size ≡ m.seat.me.0.size)
+
+  -- the same, and the box that it took last is at home again
+  abbrev pub PutsBack : Member K → Member K → Type 0
+  PutsBack m m' = (m'.seat.table_id ≡ m.seat.table_id) × (m'.number ≡ m.number)
+      × (m'.seat.me.1 ≡ rest m.seat.me.1)
+
+  -- It made the step e, at which n was found or stored, and knows of its boxes what it knew.
+  abbrev pub Stepped : Member K → Event → ℕ → Member K → Type 0
+  Stepped m e n m' = Did m.seat.me.0 m.number e n m'.seat.me.0
+
+  -- It made that step, and knows h of its boxes since.
+  abbrev pub SteppedAs : Member K → Event → ℕ → Hands → Member K → Type 0
+  SteppedAs m e n h m' = DidAs m.seat.me.0 m.number e n h m'.seat.me.0
+
+  -- what it knows, for the seat that takes it in
+  abbrev pub returned_of : Member K → Returned
+  returned_of m = record {
+    number = m.number;
+    part = m.seat.me.0.part;
+    trail = m.seat.me.0.trail;
+  }

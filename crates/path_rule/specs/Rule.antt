@@ -1,0 +1,187 @@
+-- The rule of the shared table: there is a run of the machine from its opening, in which each step
+-- was allowed, and its last state is what the words, the views and the boxes show.
+use Rattle.std.specs.Prelude.{
+  ◌≡◌,
+  ◌≢◌,
+  ℕ,
+  ◌<◌,
+  ◌≤◌,
+  ◌==◌,
+  cond,
+  Bool,
+  false,
+  List,
+  [],
+  ◌∷◌,
+  map,
+  length,
+  slice_index,
+  None,
+}
+use mathlib.Core.Option.{some}
+use lib.ListN.{get_elem?}
+use Rattle.atomic_table.specs.Table.{State}
+use Rattle.clog_base.specs.Sizes.{IsWithinLimits}
+use Rattle.op_core.specs.declared.count.Order.{Order}
+use Rattle.path_core.specs.declared.event.Event.{Event}
+use Rattle.path_core.specs.declared.event.Place.{Place}
+use Rattle.path_core.specs.declared.seat.Seat.{Seat}
+use Rattle.path_core.specs.declared.state.PathState.{PathState}
+use Rattle.path_core.specs.Allowed.{IsStep}
+use Rattle.path_core.specs.Lawful.{IsLawfulPath}
+use Rattle.path_core.specs.Parts.{fresh_seat, seat_of, groups_of, table_of}
+use Rattle.path_core.specs.Runs.{opening, Past}
+use Rattle.path_core.specs.SeatAfter.{seat_after}
+use Rattle.path_core.specs.Whole.{CarriesWhole}
+use Rattle.path_core.specs.Words.{reading, by_of, place_of}
+use Rattle.path_rule.specs.declared.lasting.Lasting.{Lasting}
+use Rattle.path_rule.specs.declared.slot.Slot.{Slot}
+use Rattle.path_rule.specs.declared.view.Hands.{Hands}
+use Rattle.path_rule.specs.declared.view.OwnStep.{OwnStep}
+use Rattle.path_rule.specs.declared.view.PathSize.{PathSize}
+use Rattle.path_rule.specs.declared.view.Returned.{Returned}
+use Rattle.path_rule.specs.declared.view.Role.{Role}
+use Rattle.path_rule.specs.declared.view.Role.TheVariants.{Opener, Steps, Spent}
+use Rattle.path_rule.specs.declared.view.View.{View}
+use Rattle.path_rule.specs.Boxed.{Boxed}
+use Rattle.path_rule.specs.Boxes.{boxes}
+use Rattle.path_rule.specs.Lasts.{shown, none_lasting}
+use Rattle.path_rule.specs.Layout.{
+  word_at,
+  IsWord,
+  word_of,
+  reading_at,
+  word_rows,
+  group_rows,
+  memtable_rows,
+}
+
+abbrev pub start_of : PathSize → PathState
+start_of size = opening size.tables size.seats size.capacity size.ordinals size.base
+
+abbrev pub IsFit : PathSize → Type 0
+IsFit size = IsWithinLimits size.tables size.seats size.capacity size.ordinals
+
+-- What a seat knows.
+
+abbrev pub event_of : OwnStep → Event
+event_of t = t.event
+
+-- the steps of seat w among these
+abbrev pub steps_by : ℕ → List Event → List Event
+steps_by w [] = []
+steps_by w (e ∷ es) = cond (by_of e == w) (e ∷ steps_by w es) (steps_by w es)
+
+-- of one that has no box
+abbrev pub no_hands : Hands
+no_hands = record {
+  notes = [];
+  box_taken = None;
+  taken = [];
+  pending = [];
+  lasting = none_lasting;
+  swept = 0;
+  progress = record { gathered = false; marker = None };
+}
+
+-- before the first step
+abbrev pub fresh_view : Role → PathSize → View
+fresh_view role size = record {
+  role = role;
+  part = fresh_seat;
+  trail = [];
+  returned = [];
+  hands = no_hands;
+  size = size;
+}
+
+-- the seat that hands out the others, and has handed out so many
+abbrev pub opener : ℕ → PathSize → View
+opener made size = fresh_view (Opener made) size
+
+-- the seat with this number
+abbrev pub new_seat : ℕ → PathSize → View
+new_seat w size = fresh_view (Steps w) size
+
+-- The view after the step e, at which n was found or stored, and a file was given or not.
+abbrev pub view_after : View → Event → ℕ → Bool → View
+view_after v e n filed = record v {
+  part = seat_after v.part e (reading_at (place_of e) n) filed;
+  trail = record { event = e; found = n; filed = filed } ∷ v.trail;
+}
+
+abbrev pub with_hands : Hands → View → View
+with_hands h v = record v { hands = h }
+
+-- What the seat j of the table knows of the machine. A seat that makes steps has exactly the part
+-- of its number, and its trail is exactly the steps that this number made in the run.
+module _ (core : PathState) (events : List Event) (owner : ℕ → ℕ) (made boss j : ℕ) where
+  abbrev pub IsSeat : ℕ → Seat → List OwnStep → Type 0
+  IsSeat w p t = (w < made) × (owner w ≡ j) × (p ≡ seat_of core w)
+      × (map event_of t ≡ steps_by w events)
+
+  abbrev pub Knows : Role → Seat → List OwnStep → List Returned → Type 0
+  Knows (Opener k) p t bs = (k ≡ made) × (j ≡ boss)
+      × ((n : ℕ) (b : Returned) → get_elem? bs n ≡ some b → IsSeat b.number b.part b.trail)
+  Knows (Steps w) p t bs = IsSeat w p t
+      × ((n : ℕ) (b : Returned) → get_elem? bs n ≡ some b
+      → IsSeat b.number b.part b.trail × (b.number ≢ w))
+  Knows Spent p t bs = Unit {0}
+
+-- A view tells the sizes, but for a spent one.
+abbrev pub SizedAs : PathSize → Role → PathSize → Type 0
+SizedAs size Spent z = Unit {0}
+SizedAs size (Steps w) z = z ≡ size
+SizedAs size (Opener k) z = z ≡ size
+
+abbrev pub IsSized : PathSize → View → Type 0
+IsSized size v = SizedAs size v.role v.size
+
+-- There are words for all groups and memtables that were made.
+pub record HasRows (x : PathState) : Type 0 where
+  pub groups : (o : Order) → length (groups_of x o).tallies ≤ group_rows
+  pub memtables : (t : ℕ) → length (table_of x t).memtables ≤ memtable_rows
+
+-- The rule. It has no law of its own: the law of the machine holds in each state that a run leads
+-- to.
+pub record Ruled {K : Type 0} (shows : K → Lasting) (size : PathSize)
+    (s : State (Slot K) View) : Type 0 where
+  -- the state of the machine, and the steps that led to it, the newest first
+  pub core : PathState
+  pub events : List Event
+  -- which seat of the table makes the steps of which seat of the machine
+  pub owner : ℕ → ℕ
+  -- how many seats were handed out, and which seat of the table hands them out
+  pub made : ℕ
+  pub boss : ℕ
+  pub run : Past (start_of size) events core
+  pub fit : IsFit size
+  pub wide : length s.words ≡ word_rows
+  pub rows : HasRows core
+  pub long : length core.seats ≡ size.seats
+  pub enough : made ≤ size.seats
+  -- each word shows what the machine reads at its place
+  pub words : (at : Place) → IsWord at
+      → slice_index s.words (word_at at) ≡ word_of (reading core at)
+  -- seats that were not handed out have made no step
+  pub fresh : (w : ℕ) → made ≤ w → (steps_by w events ≡ []) × (seat_of core w ≡ fresh_seat)
+  pub deep : length s.homes ≡ boxes size.seats
+  -- the boxes show the notes that are not yet lasting, and the keeper what is
+  pub boxed : Boxed shows size.seats core.notes (shown core) core.claims core.append s.homes s.views
+  -- each view shows its seat's part and steps
+  pub each_seat : (j : ℕ) (v : View) → get_elem? s.views j ≡ some v
+      → IsSized size v × Knows core events owner made boss j v.role v.part v.trail v.returned
+
+-- There was a lawful state, reached by steps of which the seat's own were those of its trail. In it
+-- the step e was allowed.
+pub record Was (v : View) (w : ℕ) (e : Event) : Type 0 where
+  pub core : PathState
+  pub events : List Event
+  pub fit : IsFit v.size
+  pub run : Past (start_of v.size) events core
+  pub lawful : IsLawfulPath core
+  pub allowed : IsStep core e
+  pub whole : CarriesWhole e
+  pub mine : map event_of v.trail ≡ steps_by w events
+  pub part : v.part ≡ seat_of core w
+  pub rows : HasRows core

@@ -1,0 +1,80 @@
+-- What the steps of each seat tell of it, before and after.
+use Rattle.std.specs.Prelude.{◌≡◌, ◌≢◌, ℕ, ◌+◌, ◌*◌, ◌<◌, false, List, [], ◌∷◌, ◌++◌}
+use Rattle.atomic_table.specs.Table.{Me, Step, rest}
+use Rattle.op_core.specs.declared.count.Order.TheVariants.{Write, Append}
+use Rattle.path_core.specs.declared.event.Carried.TheVariants.{Nothing, Deposit}
+use Rattle.path_core.specs.declared.event.ClaimKind.TheVariants.{Entry}
+use Rattle.path_core.specs.declared.event.Event.{Event}
+use Rattle.path_core.specs.declared.event.Event.TheVariants.{Look, Register, Close, Claim}
+use Rattle.path_core.specs.declared.event.Place.{Place}
+use Rattle.path_core.specs.declared.event.Place.TheVariants.{Count, Log}
+use Rattle.path_core.specs.declared.note.EntryNote.{EntryNote}
+use Rattle.path_core.specs.Words.{reading}
+use Rattle.path_rule.specs.declared.slot.Slot.{Slot}
+use Rattle.path_rule.specs.declared.slot.Slot.TheVariants.{Notes}
+use Rattle.path_rule.specs.declared.view.Hands.{Hands}
+use Rattle.path_rule.specs.declared.view.Role.TheVariants.{Steps}
+use Rattle.path_rule.specs.declared.view.View.{View}
+use Rattle.path_rule.specs.Boxes.{box_of, NotesAre}
+use Rattle.path_rule.specs.HandsAfter.{with_notes}
+use Rattle.path_rule.specs.Layout.{word_at, IsWord, word_of}
+use Rattle.path_rule.specs.Rule.{view_after, with_hands, Was}
+
+-- the seat w made the step e, at which n was found or stored, and knows h of its boxes then
+abbrev pub MadeAs : ℕ → Event → ℕ → Hands → View → View → Type 0
+MadeAs w e n h v v' = (v' ≡ with_hands h (view_after v e n false)) × Was v w e
+
+module _ {K : Type 0} where
+  -- the same where no box moved
+  abbrev pub Made : ℕ → Event → ℕ → Me (Slot K) View → Me (Slot K) View → Type 0
+  Made w e n m m' = MadeAs w e n m.0.hands m.0 m'.0 × (m'.1 ≡ m.1)
+
+  -- It looked at a place, and found what the machine read there.
+  abbrev pub Looked : Step (Slot K) → Me (Slot K) View → ℕ → Me (Slot K) View → Type 0
+  Looked st m n m' = (w : ℕ) (at : Place) → m.0.role ≡ Steps w → IsWord at → st.word ≡ word_at at
+      → Made w (Look w at) n m m' × ((was : Was m.0 w (Look w at))
+      × (word_of (reading was.core at) ≡ n))
+
+  -- it is in the group; or the count was another, and this was a look
+  abbrev pub Registered : Step (Slot K) → Me (Slot K) View → ℕ → Me (Slot K) View → Type 0
+  Registered st m n m' = (w g : ℕ) → m.0.role ≡ Steps w → g < 65536 → st.word ≡ 72 + 2 * g
+      → (n ≡ st.first → Made w (Register w Write g) st.second m m')
+      × (n ≢ st.first → Made w (Look w (Count Write g)) n m m')
+
+  -- the box b came, with what the seat knows
+  abbrev pub Took : ℕ → Me (Slot K) View → Me (Slot K) View → Type 0
+  Took b m m' = (y : Slot K) × (m'.1 ≡ (b, y) ∷ m.1) × NotesAre y m'.0.hands.notes
+
+  -- the box b was taken last, with these notes in it
+  abbrev pub CarriesNotes : ℕ → List EntryNote → Me (Slot K) View → Type 0
+  CarriesNotes b notes m = (y : Slot K) × (m.1 ≡ (b, y) ∷ rest m.1) × NotesAre y notes
+
+  abbrev pub Joined : Step (Slot K) → Me (Slot K) View → ℕ → Me (Slot K) View → Type 0
+  Joined st m n m' = (w g : ℕ) → m.0.role ≡ Steps w → g < 65536 → st.word ≡ 73 + 2 * g
+      → (n ≡ st.first → ((notes : List EntryNote)
+      × MadeAs w (Register w Append g) st.second (with_notes notes m.0.hands) m.0 m'.0)
+      × Took (box_of w g) m m')
+      × (n ≢ st.first → Made w (Look w (Count Append g)) n m m')
+
+  -- it left the write order, before a claim
+  abbrev pub Stopped : Step (Slot K) → Me (Slot K) View → ℕ → Me (Slot K) View → Type 0
+  Stopped st m n m' = (w g : ℕ) → m.0.role ≡ Steps w → g < 65536 → st.word ≡ 72 + 2 * g
+      → Made w (Close w Write g Nothing) n m m'
+
+  -- it left the append order, before a claim, and its box is at home
+  abbrev pub Withdrew : Step (Slot K) → Me (Slot K) View → ℕ → Me (Slot K) View → Type 0
+  Withdrew st m n m' = (w g : ℕ) → m.0.role ≡ Steps w → g < 65536 → st.word ≡ 73 + 2 * g
+      → MadeAs w (Close w Append g Nothing) n m.0.hands m.0 m'.0 × (m'.1 ≡ rest m.1)
+
+  -- it left the append order, with the note that it had put into its box
+  abbrev pub Deposited : Step (Slot K) → Me (Slot K) View → ℕ → Me (Slot K) View → Type 0
+  Deposited st m n m' = (w g : ℕ) (note : EntryNote) → m.0.role ≡ Steps w → g < 65536
+      → st.word ≡ 73 + 2 * g
+      → m.1 ≡ (box_of w g, Notes (m.0.hands.notes ++ note ∷ [])) ∷ rest m.1
+      → MadeAs w (Close w Append g (Deposit note)) n m.0.hands m.0 m'.0 × (m'.1 ≡ rest m.1)
+
+  -- the log moved from the first key to the second; or it stood elsewhere, and this was a look
+  abbrev pub Claimed : Step (Slot K) → Me (Slot K) View → ℕ → Me (Slot K) View → Type 0
+  Claimed st m n m' = (w : ℕ) → m.0.role ≡ Steps w
+      → (n ≡ st.first → Made w (Claim w (record { 0 = st.first }) (record { 0 = st.second }) Entry)
+      st.second m m') × (n ≢ st.first → Made w (Look w Log) n m m')

@@ -1,0 +1,169 @@
+-- What the steps of the holder of the Sync turn tell of it, before and after.
+use Rattle.std.specs.Prelude.{◌≡◌, ◌≢◌, ℕ, suc, ◌+◌, ◌*◌, ◌<◌, List, ◌∷◌, Some}
+use Rattle.std.specs.List.{filter}
+use Rattle.atomic_table.specs.Table.{Me, Step, rest}
+use Rattle.op_core.specs.declared.count.Order.TheVariants.{Write, Append}
+use Rattle.path_core.specs.declared.event.ClaimKind.TheVariants.{Marker}
+use Rattle.path_core.specs.declared.event.Cursor.TheVariants.{Synced, Stopped as StoppedCursor}
+use Rattle.path_core.specs.declared.event.Event.TheVariants.{
+  Look,
+  Claim,
+  TakeTurn,
+  GiveTurn,
+  MoveCurrent,
+  Expire,
+  Advance,
+  OpenGroup,
+  Put,
+}
+use Rattle.path_core.specs.declared.event.Place.TheVariants.{Oldest, Log, TurnWord, CursorWord}
+use Rattle.path_core.specs.declared.event.Turn.TheVariants.{Sync}
+use Rattle.path_core.specs.declared.note.EntryNote.{EntryNote}
+use Rattle.path_core.specs.Allowed.{IsAllowed}
+use Rattle.path_core.specs.Next.{next_of, is_between}
+use Rattle.path_rule.specs.declared.lasting.Lasting.{Lasting}
+use Rattle.path_rule.specs.declared.slot.Slot.{Slot}
+use Rattle.path_rule.specs.declared.view.Progress.{Progress}
+use Rattle.path_rule.specs.declared.view.Role.TheVariants.{Steps}
+use Rattle.path_rule.specs.declared.view.View.{View}
+use Rattle.path_rule.specs.Boxes.{box_of, desk_box, NotesAre, DeskIs}
+use Rattle.path_rule.specs.HandsAfter.{
+  with_desk,
+  with_taken,
+  with_swept,
+  unswept_hands,
+  barred,
+  with_marker,
+}
+use Rattle.path_rule.specs.Lasts.{shown, more_lasting}
+use Rattle.path_rule.specs.Lent.{ends, Parted, MayLend}
+use Rattle.path_rule.specs.Rule.{Was}
+use Rattle.path_rule.specs.Told.{MadeAs, Made}
+use Rattle.path_rule.specs.Turns.{TurnSaw, IsBarred}
+
+-- In the state that the look at the synced key found, what was pending up to a key is exactly what
+-- the machine would make lasting up to it, and may be lent to the keeper.
+abbrev pub IsLent : View → ℕ → ℕ → ℕ → List EntryNote → Type 0
+IsLent v w synced upto run = (was : Was v w (Look w (CursorWord Synced)))
+    × (shown was.core ≡ v.hands.lasting) × (was.core.synced ≡ synced)
+    × (filter (is_between synced upto) was.core.notes ≡ run)
+    × MayLend v.size.capacity v.size.ordinals v.hands.lasting.dropped synced upto run
+
+module _ {K : Type 0} where
+  -- the box of another seat came, with what the seat knows
+  abbrev pub TookBox : ℕ → Me (Slot K) View → Me (Slot K) View → Type 0
+  TookBox b m m' = (y : Slot K) × (m'.1 ≡ (b, y) ∷ m.1) × NotesAre y m'.0.hands.taken
+
+  -- where the oldest group was found to be the current one, c, the next box of the other parity
+  -- came
+  abbrev pub Gathered : Step (Slot K) → Me (Slot K) View → ℕ → Me (Slot K) View → Type 0
+  Gathered st m n m' = (w c : ℕ) → m.0.role ≡ Steps w → TurnSaw Append m.0.part c
+      → (n ≡ c → ((taken : List EntryNote)
+      × MadeAs w (Look w (Oldest Append)) n
+      (with_taken (Some (box_of m.0.hands.swept (suc c))) taken m.0.hands) m.0 m'.0)
+      × TookBox (box_of m.0.hands.swept (suc c)) m m')
+      × (n ≢ c → Made w (Look w (Oldest Append)) n m m')
+
+  -- the box went home empty, and what was in it is pending
+  abbrev pub GaveBack : Step (Slot K) → Me (Slot K) View → ℕ → Me (Slot K) View → Type 0
+  GaveBack st m n m' = (w : ℕ) → m.0.role ≡ Steps w
+      → MadeAs w (Look w (Oldest Append)) n (with_swept m.0.size.seats m.0.hands) m.0 m'.0
+      × (m'.1 ≡ rest m.1)
+
+  -- the seat gave the Sync turn back, and the desk is at home
+  abbrev pub SyncGiven : Step (Slot K) → Me (Slot K) View → ℕ → Me (Slot K) View → Type 0
+  SyncGiven st m n m' = (w : ℕ) → m.0.role ≡ Steps w
+      → MadeAs w (GiveTurn w Sync) n (unswept_hands m.0.hands) m.0 m'.0 × (m'.1 ≡ rest m.1)
+
+  -- A barrier is issued: the next group is made.
+  abbrev pub WriteOpened : Step (Slot K) → Me (Slot K) View → ℕ → Me (Slot K) View → Type 0
+  WriteOpened st m n m' = (w g : ℕ) → m.0.role ≡ Steps w → g < 65536 → st.word ≡ 72 + 2 * g
+      → Made w (OpenGroup w Write g) n m m'
+
+  -- A barrier of the write order goes on.
+  abbrev pub WriteMoved : Step (Slot K) → Me (Slot K) View → ℕ → Me (Slot K) View → Type 0
+  WriteMoved st m n m' = (w c : ℕ) → m.0.role ≡ Steps w → TurnSaw Write m.0.part c
+      → Made w (MoveCurrent w Write n) c m m'
+
+  abbrev pub WriteExpired : Step (Slot K) → Me (Slot K) View → ℕ → Me (Slot K) View → Type 0
+  WriteExpired st m n m' = (w g : ℕ) → m.0.role ≡ Steps w → g < 65536 → st.word ≡ 72 + 2 * g
+      → Made w (Expire w Write g) n m m'
+
+  abbrev pub WriteAdvanced : Step (Slot K) → Me (Slot K) View → ℕ → Me (Slot K) View → Type 0
+  WriteAdvanced st m n m' = (w : ℕ) → m.0.role ≡ Steps w → Made w (Advance w Write n) n m m'
+
+  -- One of the append order, where a marker of the seat waits for it.
+  abbrev pub AppendOpened : Step (Slot K) → Me (Slot K) View → ℕ → Me (Slot K) View → Type 0
+  AppendOpened st m n m' = (w g : ℕ) → m.0.role ≡ Steps w → g < 65536 → st.word ≡ 73 + 2 * g
+      → Made w (OpenGroup w Append g) n m m'
+      × ((was : Was m.0 w (OpenGroup w Append g)) × IsAllowed was.core (OpenGroup w Append g))
+
+  -- A barrier of the append order goes on.
+  abbrev pub AppendMoved : Step (Slot K) → Me (Slot K) View → ℕ → Me (Slot K) View → Type 0
+  AppendMoved st m n m' = (w c : ℕ) → m.0.role ≡ Steps w → TurnSaw Append m.0.part c
+      → MadeAs w (MoveCurrent w Append n) c (with_desk m.0.hands.lasting m.0.hands.pending
+      (barred c m.0.hands.progress) m.0.hands) m.0 m'.0 × (m'.1 ≡ m.1)
+
+  abbrev pub AppendExpired : Step (Slot K) → Me (Slot K) View → ℕ → Me (Slot K) View → Type 0
+  AppendExpired st m n m' = (w g : ℕ) → m.0.role ≡ Steps w → g < 65536 → st.word ≡ 73 + 2 * g
+      → Made w (Expire w Append g) n m m'
+
+  abbrev pub AppendAdvanced : Step (Slot K) → Me (Slot K) View → ℕ → Me (Slot K) View → Type 0
+  AppendAdvanced st m n m' = (w : ℕ) → m.0.role ≡ Steps w → Made w (Advance w Append n) n m m'
+
+  -- The same for a marker: the desk is to tell where it starts.
+  abbrev pub MarkerClaimed : Step (Slot K) → Me (Slot K) View → ℕ → Me (Slot K) View → Type 0
+  MarkerClaimed st m n m' = (w : ℕ) → m.0.role ≡ Steps w
+      → (n ≡ st.first → MadeAs w (Claim w (record { 0 = st.first })
+      (record { 0 = st.second }) Marker) st.second (with_marker st.first m.0.hands) m.0 m'.0
+      × (m'.1 ≡ m.1)) × (n ≢ st.first → Made w (Look w Log) n m m')
+
+  -- The synced key was found, and what is pending up to the last marker, behind whose barrier all
+  -- boxes were gathered, may be lent to the keeper.
+  abbrev pub LentFound : Step (Slot K) → Me (Slot K) View → ℕ → Me (Slot K) View → Type 0
+  LentFound st m n m' = (w : ℕ) → m.0.role ≡ Steps w → Made w (Look w (CursorWord Synced)) n m m'
+      × ((value : ℕ) (run left : List EntryNote) → n < value → IsBarred m.0.hands value
+      → Parted value m.0.hands.pending run left → IsLent m.0 w n value run)
+
+  -- the log is stopped
+  abbrev pub StoppedPut : Step (Slot K) → Me (Slot K) View → ℕ → Me (Slot K) View → Type 0
+  StoppedPut st m n m' = (w : ℕ) → m.0.role ≡ Steps w → Made w (Put w StoppedCursor st.first) n m m'
+
+module _ {K : Type 0} (shows : K → Lasting) where
+  -- the desk came, with what the seat knows
+  abbrev pub TookDesk : Me (Slot K) View → Me (Slot K) View → Type 0
+  TookDesk m m' = (y : Slot K) × (m'.1 ≡ (desk_box, y) ∷ m.1)
+      × DeskIs shows y m'.0.hands.lasting m'.0.hands.pending m'.0.hands.progress
+
+  -- the seat has the Sync turn, with the desk; or another had it, and this was a look
+  abbrev pub SyncTaken : Step (Slot K) → Me (Slot K) View → ℕ → Me (Slot K) View → Type 0
+  SyncTaken st m n m' = (w : ℕ) → m.0.role ≡ Steps w
+      → (n ≡ 0 → ((lasting : Lasting) × (pending : List EntryNote) × (progress : Progress)
+      × MadeAs w (TakeTurn w Sync) 1 (with_desk lasting pending progress m.0.hands) m.0 m'.0)
+      × TookDesk m m')
+      × (n ≢ 0 → Made w (Look w (TurnWord Sync)) n m m')
+
+  -- the desk was taken last, with what the seat knows in it
+  abbrev pub CarriesDesk : Me (Slot K) View → Type 0
+  CarriesDesk m = (y : Slot K) × (m.1 ≡ (desk_box, y) ∷ rest m.1)
+      × DeskIs shows y m.0.hands.lasting m.0.hands.pending m.0.hands.progress
+
+  -- the desk was taken last, with this in it
+  abbrev pub CarriesAs : Lasting → List EntryNote → Progress → Me (Slot K) View → Type 0
+  CarriesAs lasting pending progress m =
+      (y : Slot K) × (m.1 ≡ (desk_box, y) ∷ rest m.1) × DeskIs shows y lasting pending progress
+
+  -- the keeper on it made lasting what was pending up to a key, and the rest is pending still
+  abbrev pub CarriesSynced : ℕ → Me (Slot K) View → Type 0
+  CarriesSynced upto m = (run : List EntryNote) × (left : List EntryNote)
+      × Parted upto m.0.hands.pending run left
+      × CarriesAs (more_lasting (ends run) upto m.0.hands.lasting) left m.0.hands.progress m
+
+  -- The synced key is put, and what the keeper made lasting is what the machine has now.
+  abbrev pub SyncedPut : Step (Slot K) → Me (Slot K) View → ℕ → Me (Slot K) View → Type 0
+  SyncedPut st m n m' = (w : ℕ) (lasting : Lasting) (pending : List EntryNote) → m.0.role ≡ Steps w
+      → CarriesAs lasting pending m.0.hands.progress m
+      → MadeAs w (Put w Synced st.first) n
+      (with_desk lasting pending m.0.hands.progress m.0.hands) m.0 m'.0 × (m'.1 ≡ m.1)
+      × ((was : Was m.0 w (Put w Synced st.first))
+      × (shown (next_of was.core (Put w Synced st.first)) ≡ lasting))

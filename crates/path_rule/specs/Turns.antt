@@ -1,0 +1,76 @@
+-- What the holder of the Sync turn knows: it is exact while it holds it.
+use Rattle.std.specs.Prelude.{◌≡◌, ◌⊎◌, ℕ, ◌<◌, Option, Some, None}
+use Rattle.op_core.specs.declared.count.Order.{Order}
+use Rattle.op_core.specs.declared.count.Order.TheVariants.{Write, Append}
+use Rattle.path_core.specs.declared.event.Cursor.TheVariants.{OldestLive}
+use Rattle.path_core.specs.declared.event.Place.{Place}
+use Rattle.path_core.specs.declared.event.Place.TheVariants.{
+  Count,
+  Newest,
+  Bound,
+  TurnWord,
+  CursorWord,
+}
+use Rattle.path_core.specs.declared.event.Turn.TheVariants.{Flush}
+use Rattle.path_core.specs.declared.seat.FoundGroups.{FoundGroups}
+use Rattle.path_core.specs.declared.seat.LastMarker.{LastMarker}
+use Rattle.path_core.specs.declared.seat.Seat.{Seat}
+use Rattle.path_core.specs.declared.seat.SyncTurn.{SyncTurn}
+use Rattle.path_core.specs.Keys.{first_offset, behind_marker}
+use Rattle.path_core.specs.Parts.{found_of, marker_of}
+use Rattle.path_rule.specs.declared.view.Hands.{Hands}
+use Rattle.path_rule.specs.declared.view.View.{View}
+
+-- what the holder of the Sync turn found, or put, of an order's groups while it held it
+abbrev pub turn_groups : Order → SyncTurn → FoundGroups
+turn_groups Write t = t.write
+turn_groups Append t = t.append
+
+-- it is the current group
+abbrev pub TurnSaw : Order → Seat → ℕ → Type 0
+TurnSaw o p c = (t : SyncTurn) × (p.sync ≡ Some t) × ((turn_groups o t).current ≡ Some c)
+
+-- it is the oldest one
+abbrev pub TurnOld : Order → Seat → ℕ → Type 0
+TurnOld o p g = (t : SyncTurn) × (p.sync ≡ Some t) × ((turn_groups o t).oldest ≡ Some g)
+
+-- its count is finished
+abbrev pub TurnGone : Order → Seat → ℕ → Type 0
+TurnGone o p g = (t : SyncTurn) × (p.sync ≡ Some t) × ((turn_groups o t).finished ≡ Some g)
+
+-- The log runs, with the synced key below this one.
+abbrev pub TurnRuns : Seat → ℕ → Type 0
+TurnRuns p key = (t : SyncTurn) × (k : ℕ) × (p.sync ≡ Some t) × (t.stopped ≡ Some 0)
+    × (t.synced ≡ Some k) × (k < key)
+
+-- The seat knows that there is such a place.
+abbrev pub Sighted : View → Place → Type 0
+Sighted v (Count o g) = ((found_of o v.part).current ≡ Some g)
+    ⊎ (((found_of o v.part).oldest ≡ Some g) ⊎ TurnOld o v.part g)
+Sighted v (Newest t) = t.0 < v.size.tables
+Sighted v (Bound t m) = (t.0 < v.size.tables) × (m ≡ 0)
+Sighted v (TurnWord (Flush t)) = t.0 < v.size.tables
+Sighted v (CursorWord (OldestLive t)) = t.0 < v.size.tables
+Sighted v _ = Unit {0}
+
+-- What it found of an order's groups is what it found before.
+
+abbrev pub KeepsCurrent : Order → Seat → Seat → Type 0
+KeepsCurrent o p q = (c : ℕ) → TurnSaw o p c → TurnSaw o q c
+
+abbrev pub KeepsOldest : Order → Seat → Seat → Type 0
+KeepsOldest o p q = (c : ℕ) → TurnOld o p c → TurnOld o q c
+
+-- the holder of the Sync turn claimed the last marker, which starts at the key and has no barrier
+abbrev pub MarkerWaits : Seat → ℕ → Type 0
+MarkerWaits p start = marker_of p ≡ Some (record { start = start; barrier = None })
+
+-- the last marker starts at the key, and has a barrier
+abbrev pub IsBarred : Hands → ℕ → Type 0
+IsBarred h start =
+    (group : ℕ) × (h.progress.marker ≡ Some (record { start = start; barrier = Some group }))
+
+-- where the log stood behind the last marker, or at first
+abbrev pub behind_last : ℕ → Option LastMarker → ℕ
+behind_last capacity None = first_offset
+behind_last capacity (Some m) = behind_marker capacity m.start

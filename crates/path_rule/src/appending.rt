@@ -1,0 +1,169 @@
+//! The steps of a writer on the append order, with the box that it has while it is in a group.
+ghost use Rattle.std.specs.Prelude.{
+  ◌≡◌,
+  ◌≢◌,
+  ◌+◌,
+  ◌<◌,
+  ◌^◌,
+  List,
+  [],
+  ◌∷◌,
+  ◌++◌,
+  Some,
+  None,
+  IsSome,
+  IfOk,
+};
+ghost use Rattle.atomic_table.specs.Table.{rest};
+ghost use Rattle.op_core.specs.declared.count.Order.TheVariants.{Append};
+ghost use Rattle.path_core.specs.declared.event.Carried.TheVariants.{Nothing, Deposit};
+ghost use Rattle.path_core.specs.declared.event.Event.TheVariants.{Look, Register, Close};
+ghost use Rattle.path_core.specs.declared.event.Place.TheVariants.{Count, Current};
+ghost use Rattle.path_core.specs.declared.note.EntryNote.{EntryNote};
+ghost use Rattle.path_core.specs.Parts.{HoldsNoTurn, found_of};
+ghost use Rattle.path_core.specs.Whole.{IsWhole};
+ghost use Rattle.path_rule.specs.declared.slot.Slot.TheVariants.{Notes};
+ghost use Rattle.path_rule.specs.Boxes.{box_of};
+ghost use Rattle.path_rule.specs.HandsAfter.{with_notes};
+ghost use Rattle.path_rule.specs.Members.{
+  view_of,
+  part_of,
+  hands_of,
+  boxes_of,
+  IsOf,
+  IsSame,
+  KeepsBoxes,
+  PutsBack,
+  Stepped,
+  SteppedAs,
+};
+ghost use Rattle.path_rule.specs.Told.{Took, CarriesNotes};
+ghost use Rattle.path_rule.specs.Turns.{Sighted};
+
+use crate::plays::{DepositIn, JoinIn, LookAt, WithdrawFrom};
+use crate::slot::{Keeper, Slot};
+use crate::table::{Member, PathTable};
+use crate::words::{APPEND_COUNTS, CURRENT_APPEND};
+use path_core::EntryNote;
+use std::alloc::{AllocError, Allocator};
+use std::collections::LinkedList;
+
+impl<K: Keeper, A: Allocator> PathTable<K, A> {
+    /// The current group of the append order.
+    pub fn look_append(&self, member: &mut Member<K>) -> u64
+        requires { IsOf self.now.table.shared.table_id self.now.size member.old }
+        ensures same { KeepsBoxes member.old member.new }
+        ensures step { Stepped member.old (Look member.old.number (Current Append)) result
+            member.new }
+        ensures below { result < 65536 }
+    {
+        self.table
+            .shared
+            .load::<LookAt<K>>(&mut member.seat, CURRENT_APPEND)
+    }
+
+    /// The count of a group of the append order, which the member knows that it was made.
+    pub fn look_appenders(&self, member: &mut Member<K>, group: u64) -> u64
+        requires table { IsOf self.now.table.shared.table_id self.now.size member.old }
+        requires group { (group < 65536) × Sighted (view_of member.old) (Count Append group) }
+        ensures same { KeepsBoxes member.old member.new }
+        ensures step { Stepped member.old (Look member.old.number (Count Append group)) result
+            member.new }
+    {
+        self.table
+            .shared
+            .load::<LookAt<K>>(&mut member.seat, APPEND_COUNTS + 2 * group as usize)
+    }
+
+    /// Joins the group that the member last found current, if its count is still the one that was
+    /// looked at, and takes the member's box for groups of that parity. Returns the count that it
+    /// found: where that is another, this was a look.
+    pub fn join(&self, member: &mut Member<K>, group: u64, looked: u64) -> u64
+        requires table { IsOf self.now.table.shared.table_id self.now.size member.old }
+        requires group { (group < 65536)
+            × ((found_of Append (part_of member.old)).current ≡ Some group) × (looked < 2 ^ 63) }
+        requires ready { IsSome (part_of member.old).write × ((part_of member.old).append ≡ None)
+            × ((part_of member.old).claim ≡ None) × HoldsNoTurn (part_of member.old) }
+        ensures same { IsSame member.old member.new }
+        ensures hit { result ≡ looked
+            → ((notes : List EntryNote) × SteppedAs member.old
+            (Register member.old.number Append group) (looked + 1)
+            (with_notes notes (hands_of member.old)) member.new)
+            × Took (box_of member.old.number group) member.old.seat.me member.new.seat.me }
+        ensures miss { result ≢ looked
+            → Stepped member.old (Look member.old.number (Count Append group)) result member.new
+            × (boxes_of member.new ≡ boxes_of member.old) }
+    {
+        self.table.shared.compare_exchange::<JoinIn<K>>(
+            &mut member.seat,
+            APPEND_COUNTS + 2 * group as usize,
+            looked,
+            looked + 1,
+        )
+    }
+
+    /// Leaves the append order, before a claim. The box goes home as it was taken.
+    pub fn withdraw(&self, member: &mut Member<K>, group: u64) -> u64
+        requires table { IsOf self.now.table.shared.table_id self.now.size member.old }
+        requires group { (group < 65536) × ((part_of member.old).append ≡ Some group)
+            × ((part_of member.old).claim ≡ None) }
+        requires box_kept { CarriesNotes (box_of member.old.number group)
+            (hands_of member.old).notes member.old.seat.me }
+        ensures same { PutsBack member.old member.new }
+        ensures step { Stepped member.old (Close member.old.number Append group Nothing) result
+            member.new }
+    {
+        self.table
+            .shared
+            .fetch_sub::<WithdrawFrom<K>>(&mut member.seat, APPEND_COUNTS + 2 * group as usize, 1)
+    }
+
+    /// Puts notes into the member's box, behind those that it holds. For want of memory the box is
+    /// as it was.
+    pub fn put_notes(
+        &self,
+        member: Member<K>,
+        number: usize,
+        more: &mut LinkedList<EntryNote>,
+    ) -> (Member<K>, Result<(), AllocError>)
+        requires table { member.seat.table_id ≡ self.now.table.shared.table_id }
+        requires kept { CarriesNotes number (hands_of member).notes member.seat.me }
+        ensures same { IsSame member result.0 × (view_of result.0 ≡ view_of member) }
+        ensures kept { IfOk result.1 (λ u. boxes_of result.0
+            ≡ (number, Notes ((hands_of member).notes ++ more.old)) ∷ rest (boxes_of member)) }
+    {
+        let Member {
+            mut seat,
+            number: by,
+        } = member;
+        let shared = &self.table.shared;
+        let done = match seat.slot_mut(shared, number) {
+            Slot::Notes(kept) => kept.append(more),
+            Slot::Turn(_) => unreachable!(),
+        };
+        (Member { seat, number: by }, done)
+    }
+
+    /// Leaves the append order with the note of the claimed entry, which lies in the box behind
+    /// what was there (`Allocation.markWritten`). The box goes home.
+    pub fn deposit(&self, member: &mut Member<K>, group: u64, note: &EntryNote) -> u64
+        requires table { IsOf self.now.table.shared.table_id self.now.size member.old }
+        requires group { (group < 65536) × ((part_of member.old).append ≡ Some group)
+            × ((part_of member.old).claim
+            ≡ Some (record { start = note.now.start.0; end = note.now.end.0 })) }
+        requires note { (note.now.writer.0 ≡ member.old.number)
+            × (note.now.tables < 2 ^ (view_of member.old).size.tables) × IsWhole note.now }
+        requires box_kept { boxes_of member.old ≡ (
+          box_of member.old.number group,
+          Notes ((hands_of member.old).notes ++ note.now ∷ []),
+        ) ∷ rest (boxes_of member.old) }
+        ensures same { PutsBack member.old member.new }
+        ensures step { Stepped member.old (Close member.old.number Append group (Deposit note.now))
+            result member.new }
+    {
+        let _ = note;
+        self.table
+            .shared
+            .fetch_sub::<DepositIn<K>>(&mut member.seat, APPEND_COUNTS + 2 * group as usize, 1)
+    }
+}

@@ -1,0 +1,76 @@
+//! Seats are taken in by one of them, and that one closes the table.
+ghost use Rattle.std.specs.Prelude.{◌≡◌, None, [], ◌∷◌, ◌++◌};
+ghost use Rattle.path_rule.specs.Members.{
+  view_of,
+  part_of,
+  hands_of,
+  boxes_of,
+  returned_of,
+  IsSame,
+};
+ghost use Rattle.path_rule.specs.Sharing.{Ended, HasAll};
+
+use crate::plays::Merge;
+use crate::slot::{Desk, Keeper, Slot};
+use crate::table::{Member, PathTable};
+use crate::words::LOG;
+use std::alloc::{Allocator, Global};
+
+impl<K: Keeper, A: Allocator> PathTable<K, A> {
+    /// A seat takes in another, which has no box: it knows all that the other one did.
+    pub fn merge(&self, first: &mut Member<K>, other: Member<K>)
+        requires first { first.old.seat.table_id ≡ self.now.table.shared.table_id }
+        requires other { (other.seat.table_id ≡ self.now.table.shared.table_id)
+            × (boxes_of other ≡ []) × ((hands_of other).box_taken ≡ None) }
+        requires idle { ((part_of other).append ≡ None) × ((part_of other).sync ≡ None) }
+        ensures same { (first.new.seat.table_id ≡ first.old.seat.table_id)
+            × (first.new.number ≡ first.old.number)
+            × ((view_of first.new).trail ≡ (view_of first.old).trail)
+            × (part_of first.new ≡ part_of first.old) }
+        ensures returned { (view_of first.new).returned
+            ≡ (view_of first.old).returned ++ returned_of other ∷ [] }
+    {
+        let Member { seat, number: _ } = other;
+        self.table.shared.join_seat::<Merge>(&mut first.seat, seat);
+    }
+}
+
+fn let_go<S: Drop>(value: S) {
+    drop(value);
+}
+
+impl<K: Keeper + Drop> PathTable<K, Global> {
+    /// Closes the table by a seat that took in all others. It answers the keeper and the log key,
+    /// and what the path was: one run of the machine, in which each seat's steps are its own, and
+    /// which ends in a lawful state with that log key and exactly the keeper's entries lasting.
+    pub fn finish(self, member: Member<K>) -> (K, u64)
+        requires table { (member.seat.table_id ≡ self.table.shared.table_id)
+            × (boxes_of member ≡ []) }
+        requires all { HasAll self.size.seats member.number (view_of member).returned }
+        requires idle { ((part_of member).append ≡ None) × ((part_of member).sync ≡ None)
+            × ((hands_of member).box_taken ≡ None) }
+        ensures { Ended self.size (returned_of member ∷ (view_of member).returned) result.1
+            (K.shown result.0).logged }
+    {
+        let PathTable { table, size: _ } = self;
+        let Member { seat, number: _ } = member;
+        let mut closed = table.close_with(seat);
+        let log = closed.word(LOG);
+        let first = closed.take(0);
+        for i in 1..closed.slot_count() {
+            let_go(closed.take(i));
+        }
+        closed.free();
+        match first {
+            Slot::Turn(desk) => {
+                let Desk {
+                    keeper,
+                    pending: _,
+                    progress: _,
+                } = desk;
+                (keeper, log)
+            }
+            Slot::Notes(_) => unreachable!(),
+        }
+    }
+}

@@ -1,0 +1,45 @@
+//! The write path over a table of words and boxes that threads share. Each atomic step of a seat on
+//! one word is one step of the machine without threads (`path_core`), made by the seat of the same
+//! number; so under every schedule there is one run of the machine that the words, the boxes and
+//! what the seats know show, and its law holds at each moment.
+//!
+//! `PathTable` has a method for each kind of step, and `Member` is the seat that makes them.
+#![tactic(auto)]
+
+mod append_barrier;
+mod appending;
+mod claiming;
+mod closing;
+mod gathering;
+mod lasting;
+mod laws;
+mod opening;
+mod plays;
+mod rule;
+mod slot;
+mod syncing;
+mod table;
+mod trying;
+mod turn;
+mod turn_plays;
+mod view;
+mod waiting;
+mod words;
+mod write_barrier;
+mod writing;
+
+pub use lasting::Lasting;
+pub use laws::{
+    each_box_has_one_holder, gathering_reaches_the_last_marker,
+    the_keeper_at_home_shows_what_is_lasting, the_table_shows_a_lawful_state,
+};
+pub use opening::open;
+pub use rule::PathRule;
+pub use slot::{Desk, Keeper, Slot};
+pub use table::{Member, Opener, PathTable};
+pub use trying::{Begun, PathSeat, Seen};
+pub use view::{Hands, OwnStep, PathSize, Progress, Returned, Role, View};
+pub use waiting::{Holder, Passed};
+
+#[cfg(test)]
+mod tests;

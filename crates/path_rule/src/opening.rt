@@ -1,0 +1,95 @@
+//! A table is opened, and its seats are handed out.
+ghost use Rattle.std.specs.Prelude.{◌≡◌, ◌+◌, ◌<◌, ◌≤◌, [], length, IfOk};
+ghost use Rattle.path_rule.specs.Boxed.{AreFirst};
+ghost use Rattle.path_rule.specs.Boxes.{boxes};
+ghost use Rattle.path_rule.specs.Lasts.{none_lasting};
+ghost use Rattle.path_rule.specs.Layout.{first_words};
+ghost use Rattle.path_rule.specs.Members.{view_of, boxes_of};
+ghost use Rattle.path_rule.specs.Rule.{opener, new_seat, IsFit};
+
+use crate::plays::Deal;
+use crate::slot::{Desk, Keeper, Slot};
+use crate::table::{Member, Opener, PathTable};
+use crate::view::{PathSize, Progress};
+use crate::words::{FIRST_KEY, LOG, WORDS};
+use atomic_table::Table;
+use std::alloc::{AllocError, Allocator, Global};
+use std::collections::LinkedList;
+
+// The boxes of a new table: the keeper's desk, and two for each seat.
+fn first_boxes<K: Keeper + Drop>(
+    alloc: Global,
+    keeper: K,
+    seats: usize,
+) -> Result<Vec<Slot<K>>, AllocError>
+    requires few { seats ≤ 64 }
+    requires keeper { K.shown keeper ≡ none_lasting }
+    ensures { IfOk result (λ v. (length v.items ≡ boxes seats) × AreFirst K.shown v.items) }
+{
+    let mut boxes = Vec::new(alloc);
+    let progress = Progress {
+        gathered: true,
+        marker: None,
+    };
+    let desk = Desk {
+        keeper,
+        pending: LinkedList::new(alloc),
+        progress,
+    };
+    boxes.push(Slot::Turn(desk))?;
+    for _ in 0..2 * seats {
+        boxes.push(Slot::Notes(LinkedList::new(alloc)))?;
+    }
+    Ok(boxes)
+}
+
+// The words of a new table: the log is at its first key.
+fn first_words(alloc: Global) -> Result<Vec<u64>, AllocError>
+    ensures { IfOk result (λ v. v.items ≡ first_words) }
+{
+    let mut words = Vec::from_elem(alloc, 0u64, WORDS)?;
+    words[LOG] = FIRST_KEY;
+    Ok(words)
+}
+
+/// Opens a table for a machine of these sizes, over a keeper that has made nothing lasting. It
+/// answers the table and the seat that hands out the others. It takes 135,240 words.
+pub fn open<K: Keeper + Drop>(
+    alloc: Global,
+    keeper: K,
+    size: PathSize,
+) -> Result<(PathTable<K, Global>, Opener<K>), AllocError>
+    requires fit { IsFit size }
+    requires keeper { K.shown keeper ≡ none_lasting }
+    ensures { IfOk result (λ r. (r.0.size ≡ size)
+        × (r.1.seat.table_id ≡ r.0.table.shared.table_id) × (r.1.made ≡ 0)
+        × (r.1.seat.me.0 ≡ opener 0 size)) }
+{
+    let words = first_words(alloc)?;
+    let boxes = first_boxes(alloc, keeper, size.seats as usize)?;
+    let Ok((table, seat)) = Table::new(alloc, words.as_slice(), boxes, &size) else {
+        return Err(AllocError);
+    };
+    Ok((PathTable { table, size }, Opener { seat, made: 0 }))
+}
+
+impl<K: Keeper, A: Allocator> PathTable<K, A> {
+    /// Hands out the next seat, which has made no step.
+    pub fn seat(&self, opener: &mut Opener<K>) -> Member<K>
+        requires table { (opener.old.seat.table_id ≡ self.now.table.shared.table_id)
+            × (opener.old.seat.me.0.size ≡ self.now.size) }
+        requires left { opener.old.made < self.now.size.seats }
+        ensures opener { (opener.new.seat.table_id ≡ opener.old.seat.table_id)
+            × (opener.new.made ≡ opener.old.made + 1)
+            × (opener.new.seat.me.0.size ≡ opener.old.seat.me.0.size) }
+        ensures seat { (result.seat.table_id ≡ opener.old.seat.table_id)
+            × (result.number ≡ opener.old.made)
+            × (view_of result ≡ new_seat opener.old.made self.now.size)
+            × (boxes_of result ≡ []) }
+    {
+        let seat = self.table.shared.split_seat::<Deal>(&mut opener.seat);
+        let number = opener.made;
+        opener.made += 1;
+        Member { seat, number }
+    }
+}

@@ -1,0 +1,106 @@
+//! What the steps of a seat tell: each is a relation of the word's step, of what the seat knew, of
+//! the number that was found, and of what it knows then (`specs/Told.antt`). Beside them stands how
+//! seats are handed out and taken in.
+use crate::slot::Slot;
+use crate::view::View;
+use atomic_table::{Join, Play, Split};
+use std::marker::PhantomData;
+
+/// A look at a word.
+pub(crate) struct LookAt<K> {
+    keeper: PhantomData<K>,
+}
+
+impl<K> Play<Slot<K>, View> for LookAt<K> {
+    ghost use Rattle.path_rule.specs.Told.{Looked};
+
+    ghost then = { Looked };
+}
+
+/// A seat joins a group of the write order.
+pub(crate) struct RegisterIn<K> {
+    keeper: PhantomData<K>,
+}
+
+impl<K> Play<Slot<K>, View> for RegisterIn<K> {
+    ghost use Rattle.path_rule.specs.Told.{Registered};
+
+    ghost then = { Registered };
+}
+
+/// It leaves that group.
+pub(crate) struct StopIn<K> {
+    keeper: PhantomData<K>,
+}
+
+impl<K> Play<Slot<K>, View> for StopIn<K> {
+    ghost use Rattle.path_rule.specs.Told.{Stopped};
+
+    ghost then = { Stopped };
+}
+
+/// It joins a group of the append order, and takes its box.
+pub(crate) struct JoinIn<K> {
+    keeper: PhantomData<K>,
+}
+
+impl<K> Play<Slot<K>, View> for JoinIn<K> {
+    ghost use Rattle.path_rule.specs.Told.{Joined};
+
+    ghost then = { Joined };
+}
+
+/// It leaves that group, with nothing.
+pub(crate) struct WithdrawFrom<K> {
+    keeper: PhantomData<K>,
+}
+
+impl<K> Play<Slot<K>, View> for WithdrawFrom<K> {
+    ghost use Rattle.path_rule.specs.Told.{Withdrew};
+
+    ghost then = { Withdrew };
+}
+
+/// It leaves it with a note.
+pub(crate) struct DepositIn<K> {
+    keeper: PhantomData<K>,
+}
+
+impl<K> Play<Slot<K>, View> for DepositIn<K> {
+    ghost use Rattle.path_rule.specs.Told.{Deposited};
+
+    ghost then = { Deposited };
+}
+
+/// It claims the range of an entry.
+pub(crate) struct ClaimAt<K> {
+    keeper: PhantomData<K>,
+}
+
+impl<K> Play<Slot<K>, View> for ClaimAt<K> {
+    ghost use Rattle.path_rule.specs.Told.{Claimed};
+
+    ghost then = { Claimed };
+}
+
+/// A seat is handed out.
+pub(crate) struct Deal;
+
+impl Split<View> for Deal {
+    ghost use Rattle.path_rule.specs.Sharing.{handing, handed};
+
+    ghost left = { handing };
+
+    ghost right = { handed };
+}
+
+/// A seat takes in another.
+pub(crate) struct Merge;
+
+impl Join<View> for Merge {
+    ghost use Rattle.path_rule.specs.Sharing.{taking, spent};
+
+    ghost both = { taking };
+
+    ghost spent = { spent };
+}

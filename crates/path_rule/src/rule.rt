@@ -1,0 +1,19 @@
+//! The rule of the table: there is a run of the machine, from its opening, that leads to what the
+//! words, the boxes and the views show (`specs/Rule.antt`).
+use crate::slot::{Keeper, Slot};
+use crate::view::{PathSize, View};
+use atomic_table::TableRule;
+use std::marker::PhantomData;
+
+/// The rule, for a keeper of some type.
+pub struct PathRule<K> {
+    keeper: PhantomData<K>,
+}
+
+impl<K: Keeper> TableRule<Slot<K>, View, PathSize> for PathRule<K> {
+    ghost use Rattle.path_rule.specs.Rule.{Ruled, opener};
+
+    ghost holds = { Ruled K.shown };
+
+    ghost first = { opener 0 };
+}

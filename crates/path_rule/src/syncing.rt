@@ -1,0 +1,93 @@
+//! The steps at the end of a sync. The holder of the Sync turn looks at the synced key, lends the
+//! keeper what is pending up to the last marker, and puts the synced key there, or stops the log.
+ghost use Rattle.std.specs.Prelude.{◌≡◌, ℕ, ◌<◌, true, List, Some, None};
+ghost use Rattle.path_core.specs.declared.event.Cursor.TheVariants.{Synced, Stopped};
+ghost use Rattle.path_core.specs.declared.event.Event.TheVariants.{Look, Put};
+ghost use Rattle.path_core.specs.declared.event.Place.TheVariants.{CursorWord};
+ghost use Rattle.path_core.specs.declared.note.EntryNote.{EntryNote};
+ghost use Rattle.path_core.specs.declared.seat.SyncTurn.{SyncTurn};
+ghost use Rattle.path_core.specs.Next.{next_of};
+ghost use Rattle.path_rule.specs.declared.lasting.Lasting.{Lasting};
+ghost use Rattle.path_rule.specs.HandsAfter.{with_desk};
+ghost use Rattle.path_rule.specs.Lasts.{shown};
+ghost use Rattle.path_rule.specs.Lent.{Parted};
+ghost use Rattle.path_rule.specs.Members.{
+  view_of,
+  part_of,
+  hands_of,
+  IsOf,
+  KeepsBoxes,
+  Stepped,
+  SteppedAs,
+};
+ghost use Rattle.path_rule.specs.Rule.{Was};
+ghost use Rattle.path_rule.specs.TurnTold.{CarriesAs, CarriesSynced, IsLent};
+ghost use Rattle.path_rule.specs.Turns.{IsBarred, TurnRuns};
+
+use crate::plays::LookAt;
+use crate::slot::Keeper;
+use crate::table::{Member, PathTable};
+use crate::turn_plays::{LookLent, PutStopped, PutSynced};
+use crate::words::{STOPPED, SYNCED};
+use std::alloc::Allocator;
+
+impl<K: Keeper, A: Allocator> PathTable<K, A> {
+    /// The synced key, once all boxes behind the last barrier are gathered. For the last marker,
+    /// if it is above that key, what is pending up to it is exactly what the machine would make
+    /// lasting, and may be lent to the keeper.
+    pub fn look_lent(&self, member: &mut Member<K>) -> u64
+        requires table { IsOf self.now.table.shared.table_id self.now.size member.old }
+        requires turn { ((t : SyncTurn) × ((part_of member.old).sync ≡ Some t)
+            × (t.stopped ≡ Some 0)) × ((hands_of member.old).progress.gathered ≡ true) }
+        ensures same { KeepsBoxes member.old member.new }
+        ensures step { Stepped member.old (Look member.old.number (CursorWord Synced)) result
+            member.new }
+        ensures runs { (value : ℕ) → result < value → TurnRuns (part_of member.new) value }
+        ensures lent { (value : ℕ) (run left : List EntryNote) → result < value
+            → IsBarred (hands_of member.old) value
+            → Parted value (hands_of member.old).pending run left
+            → IsLent (view_of member.old) member.old.number result value run }
+    {
+        self.table
+            .shared
+            .load::<LookLent<K>>(&mut member.seat, SYNCED)
+    }
+
+    /// Puts the synced key at the last marker, once the keeper on the desk made lasting what was
+    /// pending up to there: what it shows is what the machine has lasting after the step.
+    pub fn put_synced(&self, member: &mut Member<K>, value: u64)
+        requires table { IsOf self.now.table.shared.table_id self.now.size member.old }
+        requires turn { TurnRuns (part_of member.old) value
+            × ((hands_of member.old).progress.gathered ≡ true)
+            × ((hands_of member.old).box_taken ≡ None) }
+        requires marker { IsBarred (hands_of member.old) value }
+        requires desk { CarriesSynced K.shown value member.old.seat.me }
+        ensures same { KeepsBoxes member.old member.new }
+        ensures step { (lasting : Lasting) (pending : List EntryNote)
+            → CarriesAs K.shown lasting pending (hands_of member.old).progress member.old.seat.me
+            → SteppedAs member.old (Put member.old.number Synced value) value
+            (with_desk lasting pending (hands_of member.old).progress (hands_of member.old))
+            member.new
+            × ((was : Was (view_of member.old) member.old.number
+            (Put member.old.number Synced value))
+            × (shown (next_of was.core (Put member.old.number Synced value)) ≡ lasting)) }
+    {
+        self.table
+            .shared
+            .store::<PutSynced<K>>(&mut member.seat, SYNCED, value);
+    }
+
+    /// Stops the log, which the member found running, with the keeper's count of faults.
+    pub fn put_stopped(&self, member: &mut Member<K>, value: u64)
+        requires table { IsOf self.now.table.shared.table_id self.now.size member.old }
+        requires turn { (t : SyncTurn) × ((part_of member.old).sync ≡ Some t)
+            × (t.stopped ≡ Some 0) }
+        requires value { (0 < value) × ((hands_of member.old).box_taken ≡ None) }
+        ensures same { KeepsBoxes member.old member.new }
+        ensures step { Stepped member.old (Put member.old.number Stopped value) value member.new }
+    {
+        self.table
+            .shared
+            .store::<PutStopped<K>>(&mut member.seat, STOPPED, value);
+    }
+}

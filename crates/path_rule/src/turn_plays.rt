@@ -1,0 +1,181 @@
+//! What the steps of the holder of the Sync turn tell (`specs/TurnTold.antt`).
+use crate::slot::{Keeper, Slot};
+use crate::view::View;
+use atomic_table::Play;
+use std::marker::PhantomData;
+
+/// The Sync turn is given back.
+pub(crate) struct GiveSync<K> {
+    keeper: PhantomData<K>,
+}
+
+impl<K> Play<Slot<K>, View> for GiveSync<K> {
+    ghost use Rattle.path_rule.specs.TurnTold.{SyncGiven};
+
+    ghost then = { SyncGiven };
+}
+
+/// The next group of the append order is the current one.
+pub(crate) struct MoveAppend<K> {
+    keeper: PhantomData<K>,
+}
+
+impl<K> Play<Slot<K>, View> for MoveAppend<K> {
+    ghost use Rattle.path_rule.specs.TurnTold.{AppendMoved};
+
+    ghost then = { AppendMoved };
+}
+
+/// The one before it expires.
+pub(crate) struct ExpireAppend<K> {
+    keeper: PhantomData<K>,
+}
+
+impl<K> Play<Slot<K>, View> for ExpireAppend<K> {
+    ghost use Rattle.path_rule.specs.TurnTold.{AppendExpired};
+
+    ghost then = { AppendExpired };
+}
+
+/// The oldest group moves on.
+pub(crate) struct AdvanceAppend<K> {
+    keeper: PhantomData<K>,
+}
+
+impl<K> Play<Slot<K>, View> for AdvanceAppend<K> {
+    ghost use Rattle.path_rule.specs.TurnTold.{AppendAdvanced};
+
+    ghost then = { AppendAdvanced };
+}
+
+/// The box of another seat is taken.
+pub(crate) struct GatherBox<K> {
+    keeper: PhantomData<K>,
+}
+
+impl<K> Play<Slot<K>, View> for GatherBox<K> {
+    ghost use Rattle.path_rule.specs.TurnTold.{Gathered};
+
+    ghost then = { Gathered };
+}
+
+/// That box is given back empty.
+pub(crate) struct GiveBack<K> {
+    keeper: PhantomData<K>,
+}
+
+impl<K> Play<Slot<K>, View> for GiveBack<K> {
+    ghost use Rattle.path_rule.specs.TurnTold.{GaveBack};
+
+    ghost then = { GaveBack };
+}
+
+/// The Sync turn is taken.
+pub(crate) struct TakeSync<K> {
+    keeper: PhantomData<K>,
+}
+
+impl<K: Keeper> Play<Slot<K>, View> for TakeSync<K> {
+    ghost use Rattle.path_rule.specs.TurnTold.{SyncTaken};
+
+    ghost then = { SyncTaken K.shown };
+}
+
+/// The next group of the write order is made.
+pub(crate) struct OpenWrite<K> {
+    keeper: PhantomData<K>,
+}
+
+impl<K> Play<Slot<K>, View> for OpenWrite<K> {
+    ghost use Rattle.path_rule.specs.TurnTold.{WriteOpened};
+
+    ghost then = { WriteOpened };
+}
+
+/// It is the current one.
+pub(crate) struct MoveWrite<K> {
+    keeper: PhantomData<K>,
+}
+
+impl<K> Play<Slot<K>, View> for MoveWrite<K> {
+    ghost use Rattle.path_rule.specs.TurnTold.{WriteMoved};
+
+    ghost then = { WriteMoved };
+}
+
+/// The one before it expires.
+pub(crate) struct ExpireWrite<K> {
+    keeper: PhantomData<K>,
+}
+
+impl<K> Play<Slot<K>, View> for ExpireWrite<K> {
+    ghost use Rattle.path_rule.specs.TurnTold.{WriteExpired};
+
+    ghost then = { WriteExpired };
+}
+
+/// The oldest group moves on.
+pub(crate) struct AdvanceWrite<K> {
+    keeper: PhantomData<K>,
+}
+
+impl<K> Play<Slot<K>, View> for AdvanceWrite<K> {
+    ghost use Rattle.path_rule.specs.TurnTold.{WriteAdvanced};
+
+    ghost then = { WriteAdvanced };
+}
+
+/// A marker is claimed.
+pub(crate) struct ClaimMarker<K> {
+    keeper: PhantomData<K>,
+}
+
+impl<K> Play<Slot<K>, View> for ClaimMarker<K> {
+    ghost use Rattle.path_rule.specs.TurnTold.{MarkerClaimed};
+
+    ghost then = { MarkerClaimed };
+}
+
+/// A look at the synced key, before the keeper is lent notes.
+pub(crate) struct LookLent<K> {
+    keeper: PhantomData<K>,
+}
+
+impl<K> Play<Slot<K>, View> for LookLent<K> {
+    ghost use Rattle.path_rule.specs.TurnTold.{LentFound};
+
+    ghost then = { LentFound };
+}
+
+/// The next group of the append order is made.
+pub(crate) struct OpenAppend<K> {
+    keeper: PhantomData<K>,
+}
+
+impl<K> Play<Slot<K>, View> for OpenAppend<K> {
+    ghost use Rattle.path_rule.specs.TurnTold.{AppendOpened};
+
+    ghost then = { AppendOpened };
+}
+
+/// The synced key is put.
+pub(crate) struct PutSynced<K> {
+    keeper: PhantomData<K>,
+}
+
+impl<K: Keeper> Play<Slot<K>, View> for PutSynced<K> {
+    ghost use Rattle.path_rule.specs.TurnTold.{SyncedPut};
+
+    ghost then = { SyncedPut K.shown };
+}
+
+/// The log is stopped.
+pub(crate) struct PutStopped<K> {
+    keeper: PhantomData<K>,
+}
+
+impl<K> Play<Slot<K>, View> for PutStopped<K> {
+    ghost use Rattle.path_rule.specs.TurnTold.{StoppedPut};
+
+    ghost then = { StoppedPut };
+}
