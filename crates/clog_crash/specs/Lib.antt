@@ -14,10 +14,12 @@ pub mod Readings
 pub mod Recovery
 pub mod Rest
 pub mod Restore
+pub mod Runs
 pub mod Sections
 pub mod Showing
 pub mod Tail
 pub mod Worked
 pub mod WorkedDrop
 pub mod WorkedGrown
+pub mod WorkedRuns
 pub mod WorkedTorn

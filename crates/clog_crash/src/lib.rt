@@ -10,6 +10,7 @@ mod crashes;
 mod dropping;
 mod first_damage;
 mod laws;
+mod placing;
 mod recovering;
 mod tears;
 
@@ -32,6 +33,10 @@ pub use laws::{
     cells_of_table_files_and_of_the_log_count, each_payload_is_that_of_a_mutation,
     each_table_file_is_good, folders_restore_to_one_list, intervals_hold_their_upper_end,
     only_the_last_segment_may_be_torn,
+};
+pub use placing::{
+    appended_segments_hold_their_entries, entries_are_cut_where_a_marker_stands,
+    the_next_section_is_a_run,
 };
 pub use recovering::{recovering_keeps_a_folder, recovery_files_are_true, skipped_or_not};
 pub use tears::{

@@ -1,8 +1,34 @@
 -- What appends bring to a name.
-use Rattle.std.proofs.Common.{◌≡◌, ℕ, Bool, true, false, List, [], ◌∷◌, ◌++◌, if◌then◌else◌, refl, sym, ◌∙◌, ap, append_assoc}
+use Rattle.std.proofs.Common.{
+  ◌≡◌,
+  ◌<◌,
+  ℕ,
+  Bool,
+  true,
+  false,
+  List,
+  [],
+  ◌∷◌,
+  ◌++◌,
+  length,
+  if◌then◌else◌,
+  refl,
+  sym,
+  ◌∙◌,
+  ap,
+  subst,
+  arith,
+  append_assoc,
+}
 use Rattle.std.specs.Str.{bytes_eq}
 use Rattle.std.proofs.lemmas.Slice.Eq.{bytes_eq-Decides}
-use Rattle.clog_crash.specs.Grown.{Append, grown}
+use Rattle.clog_spec.specs.Names.{segment_name_of}
+use Rattle.clog_scan.specs.declared.answer.End.TheVariants.{Clean}
+use Rattle.clog_scan.specs.Cut.{Section}
+use Rattle.clog_scan.specs.Segment.{entries_of, IsSegment}
+use Rattle.clog_crash.specs.Grown.{Append, HoldsGrown, grown}
+use Rattle.clog_crash.specs.Sections.{segment_bytes, IsStored}
+use Rattle.clog_crash.proofs.rest.Sectioned.{stored_holds}
 
 is_it : (name : List ℕ) → bytes_eq name name ≡ true
 is_it name = (bytes_eq-Decides name name).1 refl
@@ -32,3 +58,14 @@ grown-append (a ∷ appends) more name =
     let first = if bytes_eq a.0 name then a.1 else [] in
     ap (λ (l : List ℕ). first ++ l) (grown-append appends more name)
     ∙ sym (append_assoc first (grown appends name) (grown more name))
+
+-- the bytes of a segment with sections hold their entries
+pub grown_holds : (appends : List Append) (id : ℕ) (sections : List Section)
+    → IsStored id sections → 0 < length sections
+    → grown appends (segment_name_of 6 id) ≡ segment_bytes id sections
+    → HoldsGrown appends id (entries_of 20 sections)
+grown_holds appends id [] stored some is = absurd (omega (arith, some))
+grown_holds appends id (s ∷ ss) stored some is =
+    let all = s ∷ ss in
+    subst (λ (b : List ℕ). IsSegment b id (entries_of 20 all) (Clean (length b))) (sym is)
+    (stored_holds id s ss stored)
