@@ -1,5 +1,17 @@
 -- What a list of appends brings to segments, and the log that it holds.
-use Rattle.std.specs.Prelude.{ℕ, ◌<◌, ◌^◌, List, [], ◌∷◌, ◌++◌, length, map, if◌then◌else◌, Contains}
+use Rattle.std.specs.Prelude.{
+  ℕ,
+  ◌<◌,
+  ◌^◌,
+  List,
+  [],
+  ◌∷◌,
+  ◌++◌,
+  length,
+  map,
+  if◌then◌else◌,
+  Contains,
+}
 use Rattle.std.specs.Str.{bytes_eq}
 use Rattle.std.specs.List.Sorted.{IsStrictlySortedBy}
 use Rattle.std.specs.Ordering.{nat_cmp}

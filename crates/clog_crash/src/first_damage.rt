@@ -39,8 +39,8 @@ pub fn a_torn_segment_is_a_tail_or_damage()
     ensures next { IsFirstDamage torn_and_next (segment_name_of 6 1000) 20 MarkerCheck }
 {}
 
-/// A worked row: of the two entries of segment 1000 the first has a payload with a wrong tag, at 19.
-/// That is damage, at the entry's start, although no other segment is there. Past it the second
+/// A worked row: of the two entries of segment 1000 the first has a payload with a wrong tag, at
+/// 19. That is damage, at the entry's start, although no other segment is there. Past it the second
 /// entry counts.
 pub fn a_bad_payload_is_damage()
     ensures first { IsFirstDamage bad_alone (segment_name_of 6 1000) 28 (Payload (BadTag 19)) }

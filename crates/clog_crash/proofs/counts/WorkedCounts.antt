@@ -1,5 +1,20 @@
 -- What the folder of the worked row counts.
-use Rattle.std.proofs.Common.{◌≡◌, ◌⊎◌, ℕ, inl, inr, List, [], ◌∷◌, refl, sym, ◌∙◌, ap, subst, arith}
+use Rattle.std.proofs.Common.{
+  ◌≡◌,
+  ◌⊎◌,
+  ℕ,
+  inl,
+  inr,
+  List,
+  [],
+  ◌∷◌,
+  refl,
+  sym,
+  ◌∙◌,
+  ap,
+  subst,
+  arith,
+}
 use Rattle.std.specs.Prelude.{Contains, is_some}
 use Rattle.std.specs.Cmp.Lexicographic.{slice_cmp}
 use Rattle.std.specs.FinMap as finmap
@@ -30,7 +45,23 @@ use Rattle.clog_crash.specs.Worked.{
   the_segment,
 }
 use Rattle.clog_crash.proofs.OneMore.{bytes_of, is_there, stays}
-use Rattle.clog_crash.proofs.WorkedRow.{apart, is_skipped, its_end, is_logged_entry, logged_is, named_segment, named_table, no_table, not_skipped, only, segment_name, stands, stored, table_name, the_entry}
+use Rattle.clog_crash.proofs.WorkedRow.{
+  apart,
+  is_skipped,
+  its_end,
+  is_logged_entry,
+  logged_is,
+  named_segment,
+  named_table,
+  no_table,
+  not_skipped,
+  only,
+  segment_name,
+  stands,
+  stored,
+  table_name,
+  the_entry,
+}
 
 -- ---- names
 

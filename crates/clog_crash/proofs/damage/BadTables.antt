@@ -63,8 +63,8 @@ in_order a b = elim (cases_lt a.0.0 b.0.0) [
 -- a good file is not refused but for want of memory
 good_is_not_bad : (files : Files) (place : Place) (name bytes : List ℕ) (file : TableFile)
     (fault : TableFault) → IsGoodTable files place name file
-    → finmap.get files name ≡ Some bytes → Refuses place.0 bytes fault → (d : IsFirstBad files name fault)
-    → ⊥
+    → finmap.get files name ≡ Some bytes → Refuses place.0 bytes fault
+    → IsFirstBad files name fault → ⊥
 good_is_not_bad files place name bytes file fault good there refused d =
     let same : good.bytes ≡ bytes = some_is good.bytes bytes (sym good.there ∙ there) in
     d.known (not_refused place.0 bytes file

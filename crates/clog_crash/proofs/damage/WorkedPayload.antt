@@ -1,5 +1,23 @@
 -- A payload with a wrong tag is damage, whatever stands behind it. Past it the next entry counts.
-use Rattle.std.proofs.Common.{◌≡◌, ◌⊎◌, ℕ, inl, inr, List, [], ◌∷◌, ◌++◌, refl, sym, ◌∙◌, ap, subst, arith, codes, lit<}
+use Rattle.std.proofs.Common.{
+  ◌≡◌,
+  ◌⊎◌,
+  ℕ,
+  inl,
+  inr,
+  List,
+  [],
+  ◌∷◌,
+  ◌++◌,
+  refl,
+  sym,
+  ◌∙◌,
+  ap,
+  subst,
+  arith,
+  codes,
+  lit<,
+}
 use Rattle.std.specs.Prelude.{Contains, is_some, pos}
 use Rattle.clog_spec.specs.Crc.{IsBytes}
 use Rattle.clog_spec.specs.Segment.{header_bytes, marker_bytes, entry_bytes}

@@ -1,6 +1,24 @@
 -- A segment whose marker's check is wrong is a crash's tail where it is the last one, and damage
 -- where another stands behind it.
-use Rattle.std.proofs.Common.{◌≡◌, ℕ, zero, suc, inl, inr, List, [], ◌++◌, Some, Err, refl, sym, ap, subst, arith, lit<}
+use Rattle.std.proofs.Common.{
+  ◌≡◌,
+  ℕ,
+  zero,
+  suc,
+  inl,
+  inr,
+  List,
+  [],
+  ◌++◌,
+  Some,
+  Err,
+  refl,
+  sym,
+  ap,
+  subst,
+  arith,
+  lit<,
+}
 use Rattle.std.specs.Prelude.{is_some}
 use Rattle.std.specs.FinMap as finmap
 use Rattle.clog_spec.specs.Crc.{IsBytes, crc32_after, crc32_of, divide, divide_once}

@@ -144,7 +144,8 @@ file_comes f file sequence bytes undamaged new =
         tables = tables_with f r file sequence bytes new undamaged.tables;
         segments = λ name version id named held.
             let same = stays name version id named in
-            let good = undamaged.segments name version id named (held_before f g name same held) in (
+            let good = undamaged.segments name version id named
+            (held_before f g name same held) in (
               good.0,
               good_stands f g name id same
                   (λ n v o is there. held_before f g n (stays n v o is) there) good.1,

@@ -1,5 +1,20 @@
 -- A segment may be dropped once files of both its tables stand for their parts, and not before.
-use Rattle.std.proofs.Common.{◌≡◌, ◌⊎◌, ◌≤◌, inl, inr, List, [], ◌∷◌, refl, sym, ◌∙◌, ap, subst, arith}
+use Rattle.std.proofs.Common.{
+  ◌≡◌,
+  ◌⊎◌,
+  ◌≤◌,
+  inl,
+  inr,
+  List,
+  [],
+  ◌∷◌,
+  refl,
+  sym,
+  ◌∙◌,
+  ap,
+  subst,
+  arith,
+}
 use Rattle.std.specs.Prelude.{Contains}
 use Rattle.clog_base.specs.declared.cell.Table.{Table}
 use Rattle.clog_base.proofs.Members.{first_or_further, here, further}

@@ -1,5 +1,20 @@
 -- An interval from the log's very beginning to its greatest position holds each entry's end.
-use Rattle.std.proofs.Common.{◌≡◌, ◌<◌, ℕ, zero, suc, inl, inr, List, [], ◌∷◌, refl, sym, subst, arith}
+use Rattle.std.proofs.Common.{
+  ◌≡◌,
+  ◌<◌,
+  ℕ,
+  zero,
+  suc,
+  inl,
+  inr,
+  List,
+  [],
+  ◌∷◌,
+  refl,
+  sym,
+  subst,
+  arith,
+}
 use Rattle.std.specs.Prelude.{Contains}
 use Rattle.clog_spec.specs.Names.{segment_name_of}
 use Rattle.clog_base.specs.declared.position.Position.{Position}
