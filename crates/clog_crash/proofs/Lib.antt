@@ -3,7 +3,6 @@ pub mod Good
 pub mod OneMore
 pub mod Payloads
 pub mod TableFiles
-pub mod WorkedRow
 pub mod changes
 pub mod counts
 pub mod damage
@@ -12,3 +11,4 @@ pub mod life
 pub mod recovery
 pub mod rest
 pub mod torn
+pub mod worked

@@ -45,22 +45,15 @@ use Rattle.clog_crash.specs.Worked.{
   the_segment,
 }
 use Rattle.clog_crash.proofs.OneMore.{bytes_of, is_there, stays}
-use Rattle.clog_crash.proofs.WorkedRow.{
+use Rattle.clog_crash.proofs.worked.Cells.{logged_is, only}
+use Rattle.clog_crash.proofs.worked.Files.{segment_name, stored, table_name, the_entry}
+use Rattle.clog_crash.proofs.worked.Folder.{named_segment, named_table, no_table, stands}
+use Rattle.clog_crash.proofs.worked.Skipping.{
   apart,
   is_skipped,
   its_end,
   is_logged_entry,
-  logged_is,
-  named_segment,
-  named_table,
-  no_table,
   not_skipped,
-  only,
-  segment_name,
-  stands,
-  stored,
-  table_name,
-  the_entry,
 }
 
 -- ---- names

@@ -43,7 +43,8 @@ use Rattle.clog_crash.specs.Grown.{
 use Rattle.clog_crash.specs.Worked.{the_mutation}
 use Rattle.clog_crash.specs.WorkedGrown.{entry_at, one_entry, the_appends}
 use Rattle.clog_crash.proofs.Payloads.{of_payload}
-use Rattle.clog_crash.proofs.WorkedRow.{only, stored}
+use Rattle.clog_crash.proofs.worked.Cells.{only}
+use Rattle.clog_crash.proofs.worked.Files.{stored}
 use Rattle.clog_crash.proofs.changes.Names.{one_id}
 use Rattle.clog_crash.proofs.counts.Growing.{grown_here, grown_elsewhere}
 

@@ -64,7 +64,8 @@ use Rattle.clog_crash.proofs.damage.OneSegment.{
   no_read,
   none_first,
 }
-use Rattle.clog_crash.proofs.WorkedRow.{ab, cd, one_in_order, only, stored, the_update}
+use Rattle.clog_crash.proofs.worked.Cells.{only, the_update}
+use Rattle.clog_crash.proofs.worked.Files.{ab, cd, one_in_order, stored}
 
 -- ---- the payload
 

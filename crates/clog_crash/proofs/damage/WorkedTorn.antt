@@ -49,7 +49,7 @@ use Rattle.clog_crash.specs.WorkedTorn.{
 }
 use Rattle.clog_crash.proofs.OneMore.{new_or_old, is_there, stays, bytes_of}
 use Rattle.clog_crash.proofs.Payloads.{of_payload}
-use Rattle.clog_crash.proofs.WorkedRow.{stored}
+use Rattle.clog_crash.proofs.worked.Files.{stored}
 use Rattle.clog_crash.proofs.changes.Names.{is_named}
 use Rattle.clog_crash.proofs.damage.OneSegment.{
   this,

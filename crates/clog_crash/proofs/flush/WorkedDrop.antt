@@ -35,7 +35,8 @@ use Rattle.clog_crash.specs.WorkedDrop.{
   the_other_update,
   the_second_entry,
 }
-use Rattle.clog_crash.proofs.WorkedRow.{ab, cd, only, stored, the_update}
+use Rattle.clog_crash.proofs.worked.Cells.{only, the_update}
+use Rattle.clog_crash.proofs.worked.Files.{ab, cd, stored}
 
 other_stored : IsStored the_other_mutation
 other_stored = record {

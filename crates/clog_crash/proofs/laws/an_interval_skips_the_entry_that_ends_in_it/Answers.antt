@@ -1,4 +1,4 @@
-use Rattle.clog_crash.proofs.WorkedRow.{skipped, kept, other_table}
+use Rattle.clog_crash.proofs.worked.Row.{skipped, kept, other_table}
 use Rattle.clog_crash.proofs.laws.an_interval_skips_the_entry_that_ends_in_it.Goals as goal
 
 pub returns-clause-skipped : goal.returns-clause-skipped

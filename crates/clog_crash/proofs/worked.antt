@@ -1,0 +1,6 @@
+-- The folder of the worked row.
+pub mod Cells
+pub mod Files
+pub mod Folder
+pub mod Row
+pub mod Skipping
