@@ -6,3 +6,5 @@ pub mod Ranges
 pub mod Mapped
 pub mod Options
 pub mod Counted
+pub mod Ascending
+pub mod PartedNotes

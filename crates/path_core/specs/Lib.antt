@@ -22,3 +22,5 @@ pub mod Spans
 pub mod Steps
 pub mod Promises
 pub mod Holders
+pub mod Keeper
+pub mod ListKept

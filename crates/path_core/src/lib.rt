@@ -12,9 +12,12 @@ mod file_changes;
 mod group_changes;
 mod groups_known;
 mod holder_law;
+mod keeper;
+mod keeper_law;
 mod keys;
 mod law;
 mod lawful_path;
+mod list_keeper;
 mod log_changes;
 mod making;
 mod move_changes;
@@ -48,6 +51,11 @@ pub use holder_law::{
     the_stage_tells_when_a_memtable_may_be_retired, the_stage_tells_when_a_switch_is_through,
     the_stages_tell_when_a_barrier_is_wanted,
 };
+pub use keeper::{Keeper, KeeperFault};
+pub use keeper_law::{
+    a_first_entry_may_be_synced, a_fresh_keeper_drops_nothing, a_keeper_drops_one_list,
+    a_sync_logs_what_was_pending, what_may_be_synced_can_be,
+};
 pub use law::{
     a_switch_has_a_holder, claims_never_overlap, closed_writes_are_placed_in_one_memtable,
     closed_writes_are_placed_once, dropped_entries_are_in_files, dropped_was_droppable,
@@ -60,6 +68,7 @@ pub use law::{
     synced_is_the_start_of_a_marker, what_seats_found_stands, writes_are_placed_at_most_once,
 };
 pub use lawful_path::LawfulPath;
+pub use list_keeper::{ListFile, ListKeeper};
 pub use note::EntryNote;
 pub use op_core::{Order, Tally};
 pub use path::{Path, StepFault};
