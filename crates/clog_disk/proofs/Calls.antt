@@ -148,7 +148,7 @@ settled_reads None = refl
 settled_reads (Some f) = refl
 
 -- a file that lasts leaves what is read
-settled_leaves : (file : Option Stored) (left : Option (List ℕ))
+pub settled_leaves : (file : Option Stored) (left : Option (List ℕ))
     → may_leave (option_map settled file) left → left ≡ bytes_in file
 settled_leaves None left m = m
 settled_leaves (Some f) None m = absurd (false≢true (sym m))

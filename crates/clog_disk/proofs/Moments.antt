@@ -1,7 +1,17 @@
 -- How a run of calls of a disk goes on.
-use Rattle.std.proofs.Common.{inl, inr, ⊎_elim, ℕ, List, Option, arith}
+use Rattle.std.proofs.Common.{inl, inr, ⊎_elim, ℕ, List, Option, ◌∙◌, arith}
 use Rattle.clog_disk.specs.Files.{Files}
-use Rattle.clog_disk.specs.Images.{Elapses, LeavesOnly, IsImage, SinceThen}
+use Rattle.clog_disk.specs.Images.{IsLater, Elapses, LeavesOnly, IsImage, SinceThen}
+
+-- what is later than a later state is later
+pub later_still : {D : Type 0} (moment : D → ℕ) (read_at : D → ℕ → Option (List ℕ → List ℕ))
+    (old mid new : D) → IsLater moment read_at old mid → IsLater moment read_at mid new
+    → IsLater moment read_at old new
+later_still moment read_at old mid new first next = record {
+  no_sooner = omega (arith, first.no_sooner, next.no_sooner);
+  remembers = λ t le.
+      next.remembers t (omega (arith, le, first.no_sooner)) ∙ first.remembers t le;
+}
 
 module _ {D : Type 0} (moment : D → ℕ) (since : D → ℕ → Files → Type 0) where
   -- before the first call
@@ -20,7 +30,7 @@ module _ {D : Type 0} (moment : D → ℕ) (since : D → ℕ → Files → Type
       → LeavesOnly moment since old mid P → Elapses moment since leaves read_at mid new
       → ((image : Files) → IsImage (leaves new) image → P image) → LeavesOnly moment since old new P
   goes_on leaves read_at old mid new P so_far time here = record {
-    later = omega (arith, so_far.later, time.later);
+    later = omega (arith, so_far.later, time.later.no_sooner);
     each = λ image left.
         ⊎_elim (so_far.each image) (here image) (
         time.nothing_else (moment old) image so_far.later left

@@ -135,7 +135,10 @@ module _ {D : Type 0} (state : D → List ℕ → Option Stored) (undos : D → 
       λ d name left. may_leave (state d name) left
       ) (λ d t. Some (reading_at (state d) (undos d) t)) old new
   elapses old new (inl same) = record {
-    later = omega (arith, ap (λ (l : List Undo). length l) same.1);
+    later = record {
+      no_sooner = omega (arith, ap (λ (l : List Undo). length l) same.1);
+      remembers = λ t le i. Some (reading_at (same.0 i) (same.1 i) t);
+    };
     nothing_else = λ t image le since.
         inl (
         subst (λ (st : List ℕ → Option Stored). Since st (undos old) t image) same.0 (
@@ -146,14 +149,20 @@ module _ {D : Type 0} (state : D → List ℕ → Option Stored) (undos : D → 
         subst (λ (us : List Undo). Since (state new) us t image) (sym same.1) (
         subst (λ (st : List ℕ → Option Stored). Since st (undos old) t image) (sym same.0) since
         );
-    remembers = λ t le i. Some (reading_at (same.0 i) (same.1 i) t);
   }
   elapses old new (inr step) =
       let u = step.0 in
       let before = same_before (state old) (state new) (undos old) (undos new) u step.1 step.2 in
       let more = longer (state old) (state new) (undos old) (undos new) u step.1 step.2 in
       record {
-        later = omega (arith, more);
+        later = record {
+          no_sooner = omega (arith, more);
+          remembers = λ t le.
+              ap (λ (st : List ℕ → Option Stored).
+              Some (λ (name : List ℕ).
+              unwrap_or (option_map (λ (file : Stored). file.bytes) (st name)) [])
+              ) (before t le);
+        };
         nothing_else = λ t image le since. elim (split since.0 (length (undos old))) [
           | inl early ↦ inl (
             since.0,
@@ -176,9 +185,4 @@ module _ {D : Type 0} (state : D → List ℕ → Option Stored) (undos : D → 
               may_leave (st name) (finmap.get image name)
               ) (sym (before since.0 since.2)) (since.3 name),
         );
-        remembers = λ t le.
-            ap (λ (st : List ℕ → Option Stored).
-            Some (λ (name : List ℕ).
-            unwrap_or (option_map (λ (file : Stored). file.bytes) (st name)) [])
-            ) (before t le);
       }

@@ -1,9 +1,16 @@
 -- Worked cases of what a crash may leave, and of what is undone.
 use Rattle.std.proofs.Common.{◌≡◌, List, ℕ, [], ◌∷◌, false, Option, Some, None, refl, arith}
 use Rattle.clog_disk.specs.declared.stored.Undo.{Undo}
-use Rattle.clog_disk.specs.declared.stored.Undo.TheVariants.{Cut, Absent}
+use Rattle.clog_disk.specs.declared.stored.Undo.TheVariants.{Cut, Absent, Was}
+use Rattle.clog_disk.specs.declared.stored.sample.Left.TheVariants.{
+  Written,
+  Lasting,
+  Zeroed,
+  Cut as Cut_file,
+}
 use Rattle.clog_disk.specs.Stored.{Stored, may_leave, made_of, grown, settled}
 use Rattle.clog_disk.specs.InMemory.{with_file, back, reading_at}
+use Rattle.clog_disk.specs.Sample.{zeroed, sample_of}
 
 -- three bytes, of which two last
 abbrev file : Stored
@@ -45,3 +52,16 @@ one_byte_between = refl
 
 both_bytes_at_last : reading_at now undos 2 name ≡ 1 ∷ 2 ∷ []
 both_bytes_at_last = refl
+
+-- what stood at a name before it was removed
+what_was_removed_is_back : back (Was name file ∷ []) (λ other. None) name ≡ Some file
+what_was_removed_is_back = refl
+
+-- in a sample, zeros stand behind what lasts
+zeros_behind_two_bytes : zeroed file ≡ 1 ∷ 2 ∷ 0 ∷ []
+zeros_behind_two_bytes = refl
+
+-- of two files, one of which has bytes that do not last, there are four images
+four_images : sample_of ((name, file) ∷ (8 ∷ [], settled file) ∷ [])
+    ≡ Written ∷ Lasting ∷ Cut_file name ∷ Zeroed name ∷ []
+four_images = refl

@@ -93,3 +93,18 @@ Told (Some files) P = P files
 abbrev pub SameTold : Option Files → Option Files → Type 0
 SameTold None new = new ≡ None
 SameTold (Some files) new = Told new (λ now. ⊤)
+
+-- these files, with this at the name, or with nothing there
+abbrev pub with_at : Files → List ℕ → Option (List ℕ) → Files
+with_at files name None = map.remove files name
+with_at files name (Some bytes) = map.insert files name bytes
+
+-- this stands at the name, and all other files stay
+abbrev pub PutsAt : Option Files → Option Files → List ℕ → Option (List ℕ) → Type 0
+PutsAt None new name what = new ≡ None
+PutsAt (Some old) new name what = new ≡ Some (with_at old name what)
+
+-- nothing has changed, or this stands at the name
+abbrev pub MayPutAt : Option Files → Option Files → List ℕ → Option (List ℕ) → Type 0
+MayPutAt None new name what = new ≡ None
+MayPutAt (Some old) new name what = (new ≡ Some old) ⊎ (new ≡ Some (with_at old name what))

@@ -15,7 +15,7 @@ use Rattle.std.specs.Prelude.{
   ⊤,
 }
 use Rattle.std.specs.FinMap as map
-use Rattle.clog_disk.specs.Files.{Files, bytes_at}
+use Rattle.clog_disk.specs.Files.{Files, at_name, bytes_at, Told}
 
 -- an image is, at each name by itself, what may be left of it
 abbrev pub IsImage : (List ℕ → Option (List ℕ) → Type 0) → Files → Type 0
@@ -68,17 +68,22 @@ Tears (Some files) old new name n = (other : List ℕ) (left : Option (List ℕ)
     → old other left
     ⊎ ((other ≡ name) × ((bytes : List ℕ) × (left ≡ Some bytes) × Torn files old name n bytes))
 
--- Time goes on from one state of a disk to a later one, by one call. What a crash since a moment
--- might have left is what it might have left before, or what it may leave now; and how the names
--- read at each earlier moment stays known.
+-- A later state of a disk: the moment is none before, and how the names read at each moment up to
+-- the earlier one stays known. A function of several calls hands this on whatever else it says.
+pub record IsLater {D : Type 0} (moment : D → ℕ) (read_at : D → ℕ → Option (List ℕ → List ℕ))
+    (old new : D) : Type 0 where
+  pub no_sooner : moment old ≤ moment new
+  pub remembers : (t : ℕ) → t ≤ moment old → read_at new t ≡ read_at old t
+
+-- Time goes on by one call. What a crash since a moment might have left is what it might have left
+-- before the call, or what it may leave now.
 pub record Elapses {D : Type 0} (moment : D → ℕ) (since : D → ℕ → Files → Type 0)
     (leaves : D → List ℕ → Option (List ℕ) → Type 0)
     (read_at : D → ℕ → Option (List ℕ → List ℕ)) (old new : D) : Type 0 where
-  pub later : moment old ≤ moment new
+  pub later : IsLater moment read_at old new
   pub nothing_else : (t : ℕ) (image : Files) → t ≤ moment old → since new t image
       → since old t image ⊎ IsImage (leaves new) image
   pub keeps : (t : ℕ) (image : Files) → t ≤ moment old → since old t image → since new t image
-  pub remembers : (t : ℕ) → t ≤ moment old → read_at new t ≡ read_at old t
 
 -- A crash at any moment since old leaves files that have P: what a function of several calls says.
 pub record LeavesOnly {D : Type 0} (moment : D → ℕ) (since : D → ℕ → Files → Type 0) (old new : D)
@@ -95,3 +100,10 @@ pub record SinceThen {D : Type 0} (moment : D → ℕ) (since : D → ℕ → Fi
     (now : D) (P : Files → Type 0) : Type 0 where
   pub later : t ≤ moment now
   pub each : (image : Files) → since now t image → P image
+
+-- A disk that was started again on one of these images: its files are the image, and all that is
+-- there lasts.
+pub record IsRestarted (images : Files → Type 0) (files : Option Files)
+    (leaves : List ℕ → Option (List ℕ) → Type 0) : Type 0 where
+  pub image : Told files images
+  pub lasts : (name : List ℕ) → LastsAs leaves name (at_name files name)

@@ -27,7 +27,7 @@ use Rattle.std.specs.Map.{lookup}
 use Rattle.std.specs.Ordering.{nat_cmp}
 use Rattle.std.specs.Cmp.Lexicographic.{slice_cmp}
 use Rattle.clog_disk.specs.declared.stored.Undo.{Undo}
-use Rattle.clog_disk.specs.declared.stored.Undo.TheVariants.{Cut, Absent}
+use Rattle.clog_disk.specs.declared.stored.Undo.TheVariants.{Cut, Absent, Was}
 use Rattle.clog_disk.specs.Files.{Files}
 use Rattle.clog_disk.specs.Stored.{Stored, may_leave, cut_to}
 
@@ -51,11 +51,17 @@ undo_at name (Some file) = Cut name (
     record { size = length file.bytes; synced = file.synced; sure = file.sure }
     )
 
+-- how a call is undone that takes away what stands at a name, or puts something else there
+abbrev pub moved_at : List ℕ → Option Stored → Undo
+moved_at name None = Absent name
+moved_at name (Some file) = Was name file
+
 -- the state before one call
 abbrev pub undone : Undo → (List ℕ → Option Stored) → List ℕ → Option Stored
 undone (Cut name was) state =
     with_file state name (cut_to (state name) was.size was.synced was.sure)
 undone (Absent name) state = with_file state name None
+undone (Was name file) state = with_file state name (Some file)
 
 -- the state before these calls, of which the first is the earliest
 abbrev pub back : List Undo → (List ℕ → Option Stored) → List ℕ → Option Stored

@@ -28,7 +28,7 @@ use Rattle.clog_disk.specs.Files.{Files, bytes_at}
 use Rattle.clog_disk.specs.Stored.{Stored, may_leave}
 use Rattle.clog_disk.specs.InMemory.{files_of, state_of, back, Since, reading_at}
 
-none_left : {A : Type 0} (xs : List A) → drop (length xs) xs ≡ []
+pub none_left : {A : Type 0} (xs : List A) → drop (length xs) xs ≡ []
 none_left [] = refl
 none_left (x ∷ xs) = none_left xs
 

@@ -52,3 +52,7 @@ abbrev pub cut_to : Option Stored → ℕ → ℕ → Bool → Option Stored
 cut_to None size synced sure = None
 cut_to (Some file) size synced sure =
     Some (record { bytes = take size file.bytes; synced = synced; sure = sure })
+
+-- put in place, all of it lasting
+abbrev pub lasting_of : List ℕ → Stored
+lasting_of bytes = record { bytes = bytes; synced = length bytes; sure = true }

@@ -3,6 +3,9 @@
 //! A crash leaves an image: each name is gone or has bytes that are possible for it. The files as
 //! they read now are always one of the images of now. Time counts in moments, and the images since
 //! a moment are those of each moment from it on, within the calls too.
+//!
+//! The changes are the calls that answered Ok and may have changed a file. They are told for those
+//! who want to know in which order files came and went.
 ghost use Rattle.std.specs.Prelude.{
   ◌≡◌,
   ◌≢◌,
@@ -11,6 +14,9 @@ ghost use Rattle.std.specs.Prelude.{
   List,
   length,
   Option,
+  Some,
+  None,
+  is_some,
   option_map,
   Err,
   IfOk,
@@ -21,6 +27,7 @@ ghost use Rattle.std.specs.Prelude.{
 ghost use Rattle.clog_disk.specs.Files.{
   Files,
   bytes_at,
+  at_name,
   IsEnd,
   AppendsTo,
   MayAppend,
@@ -28,6 +35,8 @@ ghost use Rattle.clog_disk.specs.Files.{
   IsLength,
   Reads,
   SameTold,
+  PutsAt,
+  MayPutAt,
 };
 ghost use Rattle.clog_disk.specs.Images.{
   IsImage,
@@ -35,17 +44,21 @@ ghost use Rattle.clog_disk.specs.Images.{
   SameImages,
   Unchanged,
   Lasts,
+  LastsAs,
   Tears,
+  TurnsTo,
   Elapses,
 };
+ghost use Rattle.clog_disk.specs.Changes.{Adds, count_of};
+ghost use Rattle.clog_disk.specs.declared.change.Change.{Change as change_type};
+ghost use Rattle.clog_disk.specs.declared.change.Change.TheVariants as change;
 ghost use Rattle.clog_disk.specs.Causes.{HasDiskCause, Finds, StaysReliable};
 ghost use Rattle.clog_disk.specs.declared.disk.DiskFault.TheVariants.{
   Failed as failed,
   NoSuchFile as no_file,
 };
 
-use crate::names::Names;
-use clog_base::Name;
+use clog_base::{Name, Rows};
 use std::alloc::{AllocError, AllocFailed};
 
 /// Why a call of a disk did nothing, or not all.
@@ -88,6 +101,9 @@ pub trait Disk {
     /// The files as they read now, where the disk tells them.
     ghost files: { Self → Option Files };
 
+    /// The calls that answered Ok and may have changed a file, in order, where the disk tells them.
+    ghost changes: { Self → Option (List change_type) };
+
     /// What a crash now may leave of a name: nothing there, or these bytes. An image is one such
     /// for each name.
     ghost leaves: { Self → List ℕ → Option (List ℕ) → Type 0 };
@@ -108,10 +124,11 @@ pub trait Disk {
     ghost reliable: { Self → Type 0 } = { λ _. ⊥ };
 
     /// All names of files that are a `Name`, ascending by their bytes.
-    fn list(&mut self) -> Result<Names, DiskFault>
+    fn list(&mut self) -> Result<Rows<Name>, DiskFault>
         ensures names { IfOk result (λ names. Lists (files self.old) names) }
         ensures same { Unchanged (files self.old) (files self.new) (leaves self.old)
             (leaves self.new) }
+        ensures quiet { changes self.new ≡ changes self.old }
         ensures time { Elapses moment since leaves read_at self.old self.new }
         ensures found { result ≢ Err no_file }
         ensures cause { HasDiskCause (faults self.old) (faults self.new) result }
@@ -122,6 +139,7 @@ pub trait Disk {
         ensures length { IfOk result (IsLength (files self.old) name.now) }
         ensures same { Unchanged (files self.old) (files self.new) (leaves self.old)
             (leaves self.new) }
+        ensures quiet { changes self.new ≡ changes self.old }
         ensures time { Elapses moment since leaves read_at self.old self.new }
         ensures finds { Finds (files self.old) name.now result }
         ensures cause { HasDiskCause (faults self.old) (faults self.new) result }
@@ -134,6 +152,7 @@ pub trait Disk {
         ensures few { IfOk result (λ bytes. length bytes.items ≤ count) }
         ensures same { Unchanged (files self.old) (files self.new) (leaves self.old)
             (leaves self.new) }
+        ensures quiet { changes self.new ≡ changes self.old }
         ensures time { Elapses moment since leaves read_at self.old self.new }
         ensures finds { Finds (files self.old) name.now result }
         ensures cause { HasDiskCause (faults self.old) (faults self.new) result }
@@ -149,6 +168,8 @@ pub trait Disk {
             bytes.now) }
         ensures maybe { OnErr result (MayAppend (files self.old) (files self.new) name.now
             (length bytes.now)) }
+        ensures adds { Adds (change.Append name.now bytes.now) (changes self.old)
+            (changes self.new) result }
         ensures crash { Tears (files self.old) (leaves self.old) (leaves self.new) name.now
             (length bytes.now) }
         ensures refused { result ≢ Err failed → OnErr result (Unchanged (files self.old)
@@ -162,8 +183,66 @@ pub trait Disk {
     fn sync(&mut self, name: &Name) -> Result<(), DiskFault>
         ensures lasts { OnOk result (Lasts (files self.old) (leaves self.new) name.now) }
         ensures same { files self.new ≡ files self.old }
+        ensures quiet { changes self.new ≡ changes self.old }
         ensures crash { Within (leaves self.old) (leaves self.new) }
         ensures refused { OnErr result (SameImages (leaves self.old) (leaves self.new)) }
+        ensures time { Elapses moment since leaves read_at self.old self.new }
+        ensures finds { Finds (files self.old) name.now result }
+        ensures cause { HasDiskCause (faults self.old) (faults self.new) result }
+        ensures reliable { reliable self.old → StaysReliable (reliable self.new) result };
+
+    /// Puts a file in place with these bytes, lasting, over what stands there. A crash meanwhile,
+    /// and `Failed`, leave the name as it was or with all of the bytes.
+    fn publish(&mut self, name: &Name, bytes: &[u8]) -> Result<(), DiskFault>
+        ensures told { SameTold (files self.old) (files self.new) }
+        ensures puts { OnOk result (PutsAt (files self.old) (files self.new) name.now
+            (Some bytes.now)) }
+        ensures maybe { OnErr result (MayPutAt (files self.old) (files self.new) name.now
+            (Some bytes.now)) }
+        ensures adds { Adds (change.Publish name.now bytes.now) (changes self.old)
+            (changes self.new) result }
+        ensures lasts { OnOk result (LastsAs (leaves self.new) name.now (Some bytes.now)) }
+        ensures crash { TurnsTo (leaves self.old) (leaves self.new) name.now (Some bytes.now) }
+        ensures refused { result ≢ Err failed → OnErr result (Unchanged (files self.old)
+            (files self.new) (leaves self.old) (leaves self.new)) }
+        ensures time { Elapses moment since leaves read_at self.old self.new }
+        ensures found { result ≢ Err no_file }
+        ensures cause { HasDiskCause (faults self.old) (faults self.new) result }
+        ensures reliable { reliable self.old → StaysReliable (reliable self.new) result };
+
+    /// Removes a file, so that it stays gone. A crash meanwhile, and `Failed`, leave it as it was
+    /// or gone.
+    fn remove(&mut self, name: &Name) -> Result<(), DiskFault>
+        ensures told { SameTold (files self.old) (files self.new) }
+        ensures puts { OnOk result (PutsAt (files self.old) (files self.new) name.now None) }
+        ensures maybe { OnErr result (MayPutAt (files self.old) (files self.new) name.now None) }
+        ensures adds { Adds (change.Remove name.now) (changes self.old) (changes self.new)
+            result }
+        ensures lasts { OnOk result (LastsAs (leaves self.new) name.now None) }
+        ensures crash { TurnsTo (leaves self.old) (leaves self.new) name.now None }
+        ensures refused { result ≢ Err failed → OnErr result (Unchanged (files self.old)
+            (files self.new) (leaves self.old) (leaves self.new)) }
+        ensures time { Elapses moment since leaves read_at self.old self.new }
+        ensures finds { Finds (files self.old) name.now result }
+        ensures cause { HasDiskCause (faults self.old) (faults self.new) result }
+        ensures reliable { reliable self.old → StaysReliable (reliable self.new) result };
+
+    /// Gives what a file holds to a second name too, lasting there, over what stands there. A crash
+    /// meanwhile, and `Failed`, leave the second name as it was or with all of the bytes.
+    fn link(&mut self, name: &Name, second: &Name) -> Result<(), DiskFault>
+        ensures told { SameTold (files self.old) (files self.new) }
+        ensures puts { OnOk result (PutsAt (files self.old) (files self.new) second.now
+            (at_name (files self.old) name.now)) }
+        ensures maybe { OnErr result (MayPutAt (files self.old) (files self.new) second.now
+            (at_name (files self.old) name.now)) }
+        ensures adds { Adds (change.Link name.now second.now) (changes self.old)
+            (changes self.new) result }
+        ensures lasts { OnOk result (LastsAs (leaves self.new) second.now
+            (at_name (files self.old) name.now)) }
+        ensures crash { TurnsTo (leaves self.old) (leaves self.new) second.now
+            (at_name (files self.old) name.now) }
+        ensures refused { result ≢ Err failed → OnErr result (Unchanged (files self.old)
+            (files self.new) (leaves self.old) (leaves self.new)) }
         ensures time { Elapses moment since leaves read_at self.old self.new }
         ensures finds { Finds (files self.old) name.now result }
         ensures cause { HasDiskCause (faults self.old) (faults self.new) result }
@@ -176,6 +255,13 @@ pub trait Disk {
     /// The moment, for those who want to speak of it later.
     fn moment_count(&self) -> u64
         ensures { result ≡ moment self.now };
+
+    /// How many changes there are, and 0 where they are not told.
+    fn change_count(&self) -> u64
+        ensures { result ≡ count_of (changes self.now) };
+
+    /// The disk tells its changes exactly where it tells its files.
+    ghost tells_both: { (d : Self) → is_some (changes d) ≡ is_some (files d) };
 
     /// Now each name reads as the files do.
     ghost reads_now: { (d : Self) → read_at d (moment d) ≡ option_map bytes_at (files d) };

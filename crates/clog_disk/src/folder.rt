@@ -6,18 +6,22 @@
 //! it, or the folder was absent at first and is there at the first write, the disk is refused: each
 //! of its calls fails, and nothing is changed. So does each call after a sync that the system has
 //! refused.
+//!
+//! A file is published by writing it under a name that no `Name` has, syncing it, renaming it and
+//! syncing the folder; a link is a copy that is published. What a program that ended early left of
+//! this is never listed, and the next one that changes the folder removes it.
 ghost use Rattle.std.specs.Prelude.{◌≡◌, ◌≢◌, Err};
 ghost use Rattle.clog_disk.specs.Causes.{HasDiskCause};
 
+mod trying;
+
 use crate::disk::{Disk, DiskFault};
 use crate::hold::Hold;
-use crate::names::Names;
-use crate::real_files::{FOLDER, length_of, names_in_folder, open_to_read, path_of, read_part};
-use clog_base::Name;
+use crate::real_files::{FOLDER, path_of};
+use clog_base::{Name, Rows};
 use std::alloc::Global;
 use std::fs::File;
 use std::io;
-use std::io::ErrorKind;
 use std::rt::Files;
 
 /// A file that was opened to be read.
@@ -51,20 +55,6 @@ fn refusal(alloc: Global, call: &str, name: Option<&Name>, error: io::Error) -> 
     }
 }
 
-// The names, none where the folder is absent and no lock keeps it there.
-fn names_found<R: Files<File = File> + AllocGlobal + Clone + Drop>(
-    rt: &R,
-    hold: &Hold,
-) -> io::Result<Vec<Name>> {
-    if let Hold::Absent = hold {
-        return Ok(Vec::new(rt.alloc()));
-    }
-    match (names_in_folder(rt), hold) {
-        (Err(e), Hold::Reads) if e.kind() == ErrorKind::NotFound => Ok(Vec::new(rt.alloc())),
-        (names, _) => names,
-    }
-}
-
 impl<R: Files<File = File> + AllocGlobal + Clone + Drop> FolderDisk<R> {
     // A disk that has called nothing yet.
     fn new(rt: R, hold: Hold) -> Self
@@ -91,7 +81,7 @@ impl<R: Files<File = File> + AllocGlobal + Clone + Drop> FolderDisk<R> {
     pub fn for_reading(rt: R) -> Self
         ensures { ⟦<FolderDisk<R> as Disk>⟧.faults result ≡ 0 }
     {
-        FolderDisk::new(rt, Hold::Reads)
+        FolderDisk::new(rt, Hold::OnlyReads)
     }
 
     /// The last call that the system has refused, for people to read: `append commitlog/NAME: ` and
@@ -123,56 +113,14 @@ impl<R: Files<File = File> + AllocGlobal + Clone + Drop> FolderDisk<R> {
             }
         }
     }
-
-    fn try_list(&mut self) -> io::Result<Vec<Name>>
-        ensures { self.new.faults ≡ self.old.faults }
-    {
-        self.hold.enter(&self.rt)?;
-        names_found(&self.rt, &self.hold)
-    }
-
-    fn try_len(&mut self, name: &Name) -> io::Result<u64>
-        ensures { self.new.faults ≡ self.old.faults }
-    {
-        self.hold.enter(&self.rt)?;
-        length_of(&self.rt, name)
-    }
-
-    // A file that is read on stays open; a reading that begins anew opens it anew.
-    fn try_read(&mut self, name: &Name, at: u64, count: u32) -> io::Result<Vec<u8>>
-        ensures { self.new.faults ≡ self.old.faults }
-    {
-        self.hold.enter(&self.rt)?;
-        let mut file = match self.opened.take() {
-            Some(opened) if at != 0 && opened.name == *name => opened.file,
-            _ => open_to_read(&self.rt, name)?,
-        };
-        let bytes = read_part(self.rt.alloc(), &mut file, at, count)?;
-        self.opened = Some(Opened { name: *name, file });
-        Ok(bytes)
-    }
-
-    fn try_append(&mut self, name: &Name, at: u64, bytes: &[u8]) -> io::Result<()>
-        ensures { self.new.faults ≡ self.old.faults }
-    {
-        self.hold.enter(&self.rt)?;
-        let held = self.hold.to_write(&self.rt)?;
-        held.append(&self.rt, name, at, bytes)
-    }
-
-    fn try_sync(&mut self, name: &Name) -> io::Result<()>
-        ensures { self.new.faults ≡ self.old.faults }
-    {
-        self.hold.enter(&self.rt)?;
-        let held = self.hold.held()?;
-        held.sync(&self.rt, name)
-    }
 }
 
 impl<R: Files<File = File> + AllocGlobal + Clone + Drop> Disk for FolderDisk<R> {
     ghost use Rattle.std.specs.Prelude.{None, [], refl};
 
     ghost files = { λ d. None };
+
+    ghost changes = { λ d. None };
 
     ghost leaves = { λ d name left. ⊥ };
 
@@ -184,9 +132,9 @@ impl<R: Files<File = File> + AllocGlobal + Clone + Drop> Disk for FolderDisk<R> 
 
     ghost faults = { λ d. d.faults };
 
-    fn list(&mut self) -> Result<Names, DiskFault> {
+    fn list(&mut self) -> Result<Rows<Name>, DiskFault> {
         let names = self.try_list();
-        Ok(Names::new(self.counted("list", None, names)?))
+        Ok(Rows::new(self.counted("list", None, names)?))
     }
 
     fn len(&mut self, name: &Name) -> Result<u64, DiskFault> {
@@ -212,6 +160,21 @@ impl<R: Files<File = File> + AllocGlobal + Clone + Drop> Disk for FolderDisk<R> 
         self.counted("sync", Some(name), done)
     }
 
+    fn publish(&mut self, name: &Name, bytes: &[u8]) -> Result<(), DiskFault> {
+        let done = self.try_publish(name, bytes);
+        self.counted("publish", Some(name), done)
+    }
+
+    fn remove(&mut self, name: &Name) -> Result<(), DiskFault> {
+        let done = self.try_remove(name);
+        self.counted("remove", Some(name), done)
+    }
+
+    fn link(&mut self, name: &Name, second: &Name) -> Result<(), DiskFault> {
+        let done = self.try_link(name, second);
+        self.counted("link", Some(name), done)
+    }
+
     fn fault_count(&self) -> u64 {
         self.faults
     }
@@ -219,6 +182,12 @@ impl<R: Files<File = File> + AllocGlobal + Clone + Drop> Disk for FolderDisk<R> 
     fn moment_count(&self) -> u64 {
         0
     }
+
+    fn change_count(&self) -> u64 {
+        0
+    }
+
+    ghost tells_both = { λ d. refl };
 
     ghost reads_now = { λ d. refl };
 

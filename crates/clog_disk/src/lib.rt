@@ -2,18 +2,21 @@
 //! that are counted. `FolderDisk` is a real folder, `MemDisk` is in memory.
 #![tactic(auto)]
 
+mod change;
 mod disk;
 mod folder;
+mod held;
 mod hold;
 mod memory;
-mod names;
+mod moved;
 mod real_files;
 mod stored;
+mod unfinished;
 
+pub use change::Change;
 pub use disk::{Disk, DiskFault};
 pub use folder::FolderDisk;
 pub use memory::MemDisk;
-pub use names::Names;
 
 #[cfg(test)]
 mod tests;

@@ -2,24 +2,29 @@
 //! file is undone, so that each past moment can be told.
 ghost use Rattle.std.specs.Prelude.{◌≡◌, ℕ, List, [], length, Some, None, option_map};
 ghost use Rattle.std.specs.FinMap as map;
+ghost use Rattle.clog_disk.specs.Changes.{change_at};
 ghost use Rattle.clog_disk.specs.Files.{at_name, no_files};
 ghost use Rattle.clog_disk.specs.Images.{LastsAs};
 
-use crate::disk::{Disk, DiskFault};
-use crate::names::Names;
-use crate::stored::{File, Undo, append_to, names_of, part, settle_file};
+mod calls;
+mod images;
+
+use crate::change::Change;
+use crate::disk::Disk;
+use crate::stored::{File, Undo};
 use clog_base::Name;
 use clog_io::FailingCalls;
 use std::alloc::Global;
 use std::collections::BTreeMap;
 
-/// Files in memory. The calls that are to fail, of whatever kind, do nothing but count a fault. Its
-/// images are all that the trait lets a crash leave: `may_leave` says which, by name.
+/// Files in memory. Its images are all that the trait lets a crash leave: `may_leave` says which,
+/// by name.
 #[derive(Drop)]
 pub struct MemDisk {
     alloc: Global,
     files: BTreeMap<Name, File>,
     undos: Vec<Undo>,
+    changes: Vec<Change>,
     calls: FailingCalls,
 }
 
@@ -29,17 +34,22 @@ impl MemDisk {
         ensures files { ⟦<MemDisk as Disk>⟧.files result ≡ Some no_files }
         ensures images { (name : List ℕ) → LastsAs (⟦<MemDisk as Disk>⟧.leaves result) name None }
         ensures moment { ⟦<MemDisk as Disk>⟧.moment result ≡ 0 }
+        ensures changes { ⟦<MemDisk as Disk>⟧.changes result ≡ Some [] }
         ensures faults { ⟦<MemDisk as Disk>⟧.faults result ≡ 0 }
         ensures reliable { ⟦<MemDisk as Disk>⟧.reliable result }
     {
         MemDisk::failing(alloc, Vec::new(alloc))
     }
 
-    /// A disk with no file. `calls` are the numbers of the calls that fail, from 1, ascending.
+    /// A disk with no file. `calls` are the numbers of the calls that fail, from 1, ascending:
+    /// counted are the calls of `list`, `len`, `read`, `append_at`, `sync`, `publish`, `remove` and
+    /// `link`, all together and in the order in which they come. A call that fails does nothing but
+    /// count a fault.
     pub fn failing(alloc: Global, calls: Vec<u64>) -> MemDisk
         ensures files { ⟦<MemDisk as Disk>⟧.files result ≡ Some no_files }
         ensures images { (name : List ℕ) → LastsAs (⟦<MemDisk as Disk>⟧.leaves result) name None }
         ensures moment { ⟦<MemDisk as Disk>⟧.moment result ≡ 0 }
+        ensures changes { ⟦<MemDisk as Disk>⟧.changes result ≡ Some [] }
         ensures faults { ⟦<MemDisk as Disk>⟧.faults result ≡ 0 }
         ensures reliable { calls.items ≡ [] → ⟦<MemDisk as Disk>⟧.reliable result }
     {
@@ -47,6 +57,7 @@ impl MemDisk {
             alloc,
             files: BTreeMap::new(alloc),
             undos: Vec::new(alloc),
+            changes: Vec::new(alloc),
             calls: FailingCalls::new(calls),
         }
     }
@@ -61,94 +72,12 @@ impl MemDisk {
             None => None,
         }
     }
-}
 
-impl Disk for MemDisk {
-    ghost use Rattle.clog_disk.specs.Stored.{may_leave};
-    ghost use Rattle.clog_disk.specs.InMemory.{files_of, state_of, Since, reading_at};
-    ghost use Rattle.clog_disk.specs.InMemoryLaws.{
-      reading_now,
-      reads_now_an_image,
-      counts_this_moment,
-      only_this_moment,
-    };
-
-    ghost files = { λ d. Some (files_of d.files.entries) };
-
-    ghost leaves = { λ d name left. may_leave (state_of d.files.entries name) left };
-
-    ghost moment = { λ d. length d.undos.items };
-
-    ghost since = { λ d t image. Since (state_of d.files.entries) d.undos.items t image };
-
-    ghost read_at = { λ d t. Some (reading_at (state_of d.files.entries) d.undos.items t) };
-
-    ghost faults = { λ d. d.calls.faults };
-
-    ghost reliable = { λ d. d.calls.failing ≡ [] };
-
-    fn list(&mut self) -> Result<Names, DiskFault> {
-        if self.calls.make() {
-            return Err(DiskFault::Failed);
-        }
-        let names = names_of(self.alloc, &self.files)?;
-        Ok(Names::new(names))
+    /// The change at a place, from 0, and nothing behind the last. It is no call of the disk.
+    pub fn change(&self, n: u64) -> Option<&Change>
+        ensures { option_map (λ change. change.now) result
+            ≡ change_at (⟦<MemDisk as Disk>⟧.changes self.now) n }
+    {
+        self.changes.get(n as usize)
     }
-
-    fn len(&mut self, name: &Name) -> Result<u64, DiskFault> {
-        if self.calls.make() {
-            return Err(DiskFault::Failed);
-        }
-        match self.files.get(name) {
-            Some(file) => Ok(file.as_slice().len() as u64),
-            None => Err(DiskFault::NoSuchFile),
-        }
-    }
-
-    fn read(&mut self, name: &Name, at: u64, count: u32) -> Result<Vec<u8>, DiskFault> {
-        if self.calls.make() {
-            return Err(DiskFault::Failed);
-        }
-        match self.files.get(name) {
-            Some(file) => Ok(part(self.alloc, file.as_slice(), at, count)?),
-            None => Err(DiskFault::NoSuchFile),
-        }
-    }
-
-    fn append_at(&mut self, name: &Name, _at: u64, bytes: &[u8]) -> Result<(), DiskFault> {
-        if self.calls.make() {
-            return Err(DiskFault::Failed);
-        }
-        append_to(self.alloc, &mut self.files, &mut self.undos, name, bytes)?;
-        Ok(())
-    }
-
-    fn sync(&mut self, name: &Name) -> Result<(), DiskFault> {
-        if self.calls.make() {
-            return Err(DiskFault::Failed);
-        }
-        if !self.files.contains_key(name) {
-            return Err(DiskFault::NoSuchFile);
-        }
-        settle_file(&mut self.files, &mut self.undos, name)?;
-        Ok(())
-    }
-
-    fn fault_count(&self) -> u64 {
-        self.calls.fault_count()
-    }
-
-    fn moment_count(&self) -> u64 {
-        self.undos.len() as u64
-    }
-
-    ghost reads_now = { λ d. reading_now d.files.entries d.undos.items };
-
-    ghost reads_an_image = { λ d. reads_now_an_image d.files.entries };
-
-    ghost counts_now = { λ d t image le left.
-        counts_this_moment (state_of d.files.entries) d.undos.items t image le left };
-
-    ghost only_now = { λ d image left.
-        only_this_moment (state_of d.files.entries) d.undos.items image left };
 }

@@ -84,6 +84,15 @@ fn open_regular<R: Files<File = File>>(rt: &R, how: &OpenOptions, path: &str) ->
     how.open(rt, path)
 }
 
+/// Refuses what is there and no regular file.
+pub(crate) fn refuse_others<R: Files>(rt: &R, path: &str) -> io::Result<()> {
+    match look_at(rt, path) {
+        Ok(_) => Ok(()),
+        Err(e) if e.kind() == ErrorKind::NotFound => Ok(()),
+        Err(e) => Err(e),
+    }
+}
+
 /// The length of a regular file, in bytes.
 pub(crate) fn length_of<R: Files + AllocGlobal>(rt: &R, name: &Name) -> io::Result<u64> {
     let path = path_of(rt.alloc(), name)?;
@@ -149,4 +158,11 @@ pub(crate) fn open_to_sync<R: Files<File = File> + AllocGlobal>(
 ) -> io::Result<File> {
     let path = path_of(rt.alloc(), name)?;
     open_regular(rt, OpenOptions::new().write(true), path.as_str())
+}
+
+/// Removes a regular file.
+pub(crate) fn remove_regular<R: Files + AllocGlobal>(rt: &R, name: &Name) -> io::Result<()> {
+    let path = path_of(rt.alloc(), name)?;
+    look_at(rt, path.as_str())?;
+    fs::remove_file(rt, path.as_str())
 }

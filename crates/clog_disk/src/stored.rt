@@ -14,10 +14,15 @@ ghost use Rattle.std.specs.Prelude.{
 ghost use Rattle.std.specs.BTreeMap.{keys, IsOrdered};
 ghost use Rattle.std.specs.Ordering.{nat_cmp};
 ghost use Rattle.std.specs.Cmp.Lexicographic.{slice_cmp};
-ghost use Rattle.clog_disk.specs.Stored.{grown, grown_at, made_of, settled};
+ghost use Rattle.clog_disk.specs.Stored.{grown, grown_at, made_of, lasting_of, settled};
 ghost use Rattle.clog_disk.specs.InMemory.{state_of, with_file, undo_at, Steps};
 
+mod past;
+mod sample;
+
 use clog_base::Name;
+pub(crate) use past::files_at;
+pub(crate) use sample::{Left, image_of, sample_of};
 use std::alloc::{AllocError, Global};
 use std::collections::BTreeMap;
 use std::marker::Model;
@@ -53,6 +58,8 @@ pub(crate) enum Undo {
     Cut(Name, Extent),
     /// The file was not there.
     Absent(Name),
+    /// This file stood there.
+    Was(Name, File),
 }
 
 impl File {
@@ -64,6 +71,17 @@ impl File {
             bytes: bytes.to_vec(alloc)?,
             synced: 0,
             sure: false,
+        })
+    }
+
+    /// A file all of whose bytes last.
+    pub(crate) fn lasting_of(alloc: Global, bytes: &[u8]) -> Result<File, AllocError>
+        ensures { IfOk result (λ f. f ≡ lasting_of bytes.now) }
+    {
+        Ok(File {
+            bytes: bytes.to_vec(alloc)?,
+            synced: bytes.len(),
+            sure: true,
         })
     }
 
@@ -101,8 +119,9 @@ impl File {
     }
 }
 
-// How a call that changes what stands at a name is undone.
-fn undo_of(files: &BTreeMap<Name, File>, name: &Name) -> Undo
+/// How a call that changes what stands at a name is undone, where it only puts bytes behind it or
+/// makes it last.
+pub(crate) fn undo_of(files: &BTreeMap<Name, File>, name: &Name) -> Undo
     ensures { result ≡ undo_at name.now (state_of files.now.entries name.now) }
 {
     match files.get(name) {

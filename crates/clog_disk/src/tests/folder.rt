@@ -5,7 +5,7 @@ use std::os::unix::fs::symlink;
 use std::test::Fail;
 use std::{env, fs, io};
 
-fn enter(rt: &HostRuntime, folder: &str) -> io::Result<()> {
+pub(super) fn enter(rt: &HostRuntime, folder: &str) -> io::Result<()> {
     // A run that was broken off has left it.
     if fs::metadata(rt, folder).is_ok() {
         fs::remove_dir_all(rt, folder)?;
@@ -14,12 +14,12 @@ fn enter(rt: &HostRuntime, folder: &str) -> io::Result<()> {
     env::set_current_dir(rt, folder)
 }
 
-fn leave(rt: &HostRuntime, folder: &str) -> io::Result<()> {
+pub(super) fn leave(rt: &HostRuntime, folder: &str) -> io::Result<()> {
     env::set_current_dir(rt, "..")?;
     fs::remove_dir_all(rt, folder)
 }
 
-fn write_hello(rt: &HostRuntime, name: &Name) -> Result<FolderDisk<HostRuntime>, Fail> {
+pub(super) fn write_hello(rt: &HostRuntime, name: &Name) -> Result<FolderDisk<HostRuntime>, Fail> {
     let mut disk = FolderDisk::for_writing(rt.clone()?);
     disk.append_at(name, 0, b"hello")?;
     disk.append_at(name, 5, b"!")?;
@@ -27,15 +27,23 @@ fn write_hello(rt: &HostRuntime, name: &Name) -> Result<FolderDisk<HostRuntime>,
     Ok(disk)
 }
 
+// Whether the three calls fail that change what stands at a name.
+pub(super) fn refuses_changes(disk: &mut FolderDisk<HostRuntime>, name: &Name) -> bool {
+    disk.publish(name, b"?") == Err(DiskFault::Failed)
+        && disk.remove(name) == Err(DiskFault::Failed)
+        && disk.link(name, &segment_name(7)) == Err(DiskFault::Failed)
+}
+
 // Whether a disk's calls all fail, and count it.
-fn is_refused(disk: &mut FolderDisk<HostRuntime>, name: &Name) -> bool {
+pub(super) fn is_refused(disk: &mut FolderDisk<HostRuntime>, name: &Name) -> bool {
     let before = disk.fault_count();
     disk.list().is_err()
         && disk.len(name) == Err(DiskFault::Failed)
         && disk.read(name, 0, 1).is_err()
         && disk.append_at(name, 6, b"?") == Err(DiskFault::Failed)
         && disk.sync(name) == Err(DiskFault::Failed)
-        && disk.fault_count() == before.saturating_add(5)
+        && refuses_changes(disk, name)
+        && disk.fault_count() == before.saturating_add(8)
 }
 
 // Whether two files can be written in turn and synced.
@@ -50,7 +58,7 @@ fn writes_in_turn(disk: &mut FolderDisk<HostRuntime>, one: &Name, other: &Name) 
 }
 
 // Whether the system's last refusal reads so.
-fn said(disk: &FolderDisk<HostRuntime>, want: &str) -> bool {
+pub(super) fn said(disk: &FolderDisk<HostRuntime>, want: &str) -> bool {
     matches!(disk.last_refusal(), Some(text) if text == want)
 }
 
