@@ -1,14 +1,17 @@
 -- How a folder is recovered: for each table one file comes, whose interval holds the whole log, and
 -- then the segments go.
-use Rattle.std.specs.Prelude.{◌≡◌, ◌↔◌, ℕ, List, Contains}
+use Rattle.std.specs.Prelude.{◌≡◌, ◌⊎◌, ◌↔◌, ℕ, List, Contains}
+use Rattle.clog_spec.specs.Names.{IsSegmentName}
 use Rattle.clog_base.specs.declared.cell.Cell.{Cell}
 use Rattle.clog_base.specs.declared.cell.CellKey.{CellKey}
 use Rattle.clog_base.specs.declared.cell.Table.{Table}
 use Rattle.clog_base.specs.declared.position.Position.{Position}
 use Rattle.clog_base.specs.Positions.{IsUpTo}
 use Rattle.clog_cells.specs.Merge.{IsMergeOf}
+use Rattle.clog_disk.specs.Files.{Files, bytes_at}
 use Rattle.clog_scan.specs.Segment.{Entry}
 use Rattle.clog_table.specs.declared.table_file.TableFile.{TableFile}
+use Rattle.clog_crash.specs.Folder.{HasArchive, IsHeld}
 use Rattle.clog_crash.specs.Readings.{
   Reading,
   IsLoggedCellIn,
@@ -53,6 +56,7 @@ HoldsAll r file = (id : ℕ) (entry : Entry) → IsLoggedIn r id entry
 pub record AreFiled (r q : Reading) (done : List Table) : Type 0 where
   pub log : (id : ℕ) (entry : Entry) → IsLoggedIn q id entry ↔ IsLoggedIn r id entry
   pub older : (file : TableFile) → IsTableIn r file → IsTableIn q file
+  pub no_other : (file : TableFile) → IsTableIn q file → IsTableIn r file ⊎ IsRecoveryFile r file
   pub filed : (table : Table) → Contains done table → (id : ℕ) (entry : Entry)
       → IsLoggedIn r id entry → IsSkippedIn q table (end_position id entry)
   pub others : (table : Table) (at : Position) → ¬ Contains done table → IsSkippedIn q table at
@@ -62,3 +66,11 @@ pub record AreFiled (r q : Reading) (done : List Table) : Type 0 where
 abbrev pub AreAllLive : Reading → List Table → Type 0
 AreAllLive r tables = (pair : CellKey × Cell) → IsLoggedCellIn r pair
     → Contains tables pair.0.table
+
+-- the id of a segment's name of any version, of an archive's, or of the upper end of a table file's
+-- interval
+abbrev pub NamesAny : Files → ℕ → Type 0
+NamesAny files id =
+    ((name : List ℕ) × ((version : ℕ) × IsSegmentName name version id × IsHeld files name))
+    ⊎ (HasArchive files id
+    ⊎ ((file : TableFile) × IsTableIn (bytes_at files) file × (id ≡ file.upper.id)))

@@ -6,6 +6,7 @@ use Rattle.std.specs.Prelude.{
   ℕ,
   ◌+◌,
   ◌<◌,
+  ◌≤◌,
   List,
   [],
   ◌∷◌,
@@ -15,7 +16,13 @@ use Rattle.std.specs.Prelude.{
   ⊤,
 }
 use Rattle.std.specs.List.{flat_map}
-use Rattle.clog_spec.specs.Sizes.{header_size, marker_size, front_size}
+use Rattle.clog_spec.specs.Sizes.{
+  header_size,
+  marker_size,
+  front_size,
+  frame_size,
+  least_payload,
+}
 use Rattle.clog_scan.specs.Cut.{AreLong, Section, entries_bytes}
 use Rattle.clog_scan.specs.Segment.{Entry, entries_from, entries_of}
 use Rattle.clog_crash.specs.Log.{Write}
@@ -57,6 +64,15 @@ AreRuns id until [] = ⊤
 AreRuns id until (run ∷ runs) =
     BeginsAt id until run × (0 < length run.payloads) × AreLong run.payloads
     × AreRuns run.id (run_end run) runs
+
+-- the entry's range is that of an entry of its payload, which is long enough
+pub record IsWhole (e : Entry) : Type 0 where
+  pub end : e.end ≡ e.start + frame_size + length e.payload
+  pub long : least_payload ≤ length e.payload
+
+-- the run that an entry begins
+abbrev pub run_from : Placed → Run
+run_from p = record { id = p.0; start = p.1.start; payloads = p.1.payload ∷ [] }
 
 -- Entries that follow one another, the first behind one that ends at an offset of a segment: end to
 -- end, with a marker between them, or in a later segment.

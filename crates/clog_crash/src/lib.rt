@@ -36,7 +36,7 @@ pub use laws::{
 };
 pub use placing::{
     appended_segments_hold_their_entries, entries_are_cut_where_a_marker_stands,
-    the_next_section_is_a_run,
+    entries_that_follow_are_runs, the_next_section_is_a_run,
 };
 pub use recovering::{recovering_keeps_a_folder, recovery_files_are_true, skipped_or_not};
 pub use tears::{

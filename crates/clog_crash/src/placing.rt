@@ -1,12 +1,24 @@
 //! Entries at their places in the log, and the sections that they make.
 ghost use Rattle.std.specs.Prelude.{◌≡◌, ◌<◌, ◌+◌, ◌++◌, ◌∷◌, [], ℕ, List, length};
+ghost use Rattle.std.specs.List.{AllByRecursion};
 ghost use Rattle.clog_spec.specs.Names.{segment_name_of};
 ghost use Rattle.clog_spec.specs.Sizes.{header_size, marker_size};
 ghost use Rattle.clog_scan.specs.Cut.{Section, last_until};
 ghost use Rattle.clog_scan.specs.Segment.{entries_of};
 ghost use Rattle.clog_crash.specs.Grown.{Append, HoldsGrown, grown};
 ghost use Rattle.clog_crash.specs.Log.{Write};
-ghost use Rattle.clog_crash.specs.Runs.{AreRuns, placed_in, placed_in_all, placed_log};
+ghost use Rattle.clog_crash.specs.Runs.{
+  AreRuns,
+  BeginsAt,
+  FollowOn,
+  IsWhole,
+  Placed,
+  Run,
+  placed_in,
+  placed_in_all,
+  placed_log,
+  run_from,
+};
 ghost use Rattle.clog_crash.specs.Sections.{IsStored, next_section, segment_bytes};
 ghost use Rattle.clog_crash.specs.WorkedRuns.{the_places, the_runs};
 
@@ -24,6 +36,14 @@ pub fn the_next_section_is_a_run()
     ensures rolled { (past : List Write) (id next : ℕ) (sections : List Section)
         → placed_log (past ++ record { id = id; sections = sections } ∷ []) next []
         ≡ placed_log past id sections }
+{}
+
+/// Entries that follow one another behind a log, end to end, with a marker between them, or in a
+/// later segment, are runs.
+pub fn entries_that_follow_are_runs()
+    ensures { (id until : ℕ) (p : Placed) (ps : List Placed) → BeginsAt id until (run_from p)
+        → IsWhole p.1 → FollowOn p.0 p.1.end ps → AllByRecursion (λ (q : Placed). IsWhole q.1) ps
+        → (runs : List Run) × AreRuns id until runs × (placed_in_all runs ≡ p ∷ ps) }
 {}
 
 /// A worked row: of four entries the first two stand end to end and are one run; behind them stands

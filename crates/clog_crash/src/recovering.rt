@@ -1,6 +1,6 @@
 //! A folder is recovered: table files come, one for each table that has cells which the log
 //! restores, and then its segments go.
-ghost use Rattle.std.specs.Prelude.{◌≡◌, ◌⊎◌, ◌∷◌, [], ℕ, List, Contains};
+ghost use Rattle.std.specs.Prelude.{◌≡◌, ◌<◌, ◌⊎◌, ◌∷◌, [], ℕ, List, Contains};
 ghost use Rattle.std.specs.FinMap as finmap;
 ghost use Rattle.clog_spec.specs.Names.{segment_name_of, table_name_of};
 ghost use Rattle.clog_base.specs.declared.cell.Table.{Table};
@@ -10,8 +10,8 @@ ghost use Rattle.clog_table.specs.declared.table_file.TableFile.{TableFile};
 ghost use Rattle.clog_crash.specs.Changes.{AreCovered, IsTrueOf, Puts};
 ghost use Rattle.clog_crash.specs.Flush.{IsCoveredHere, IsNewFile, IsSameFolder};
 ghost use Rattle.clog_crash.specs.Folder.{AreTables, TableRead};
-ghost use Rattle.clog_crash.specs.Readings.{IsSkippedIn, Reading};
-ghost use Rattle.clog_crash.specs.Recovery.{AreAllLive, AreFiled, IsRecoveryFile};
+ghost use Rattle.clog_crash.specs.Readings.{IsSkippedIn, IsTableIn, Reading};
+ghost use Rattle.clog_crash.specs.Recovery.{AreAllLive, AreFiled, IsRecoveryFile, NamesAny};
 ghost use Rattle.clog_crash.specs.Restore.{IsSkipped, IsUndamaged};
 
 /// A folder that is not damaged stays so, and restores the same, when a true table file comes; and
@@ -29,7 +29,8 @@ pub fn recovering_keeps_a_folder()
 
 /// The files of a recovery, made of what the log restored at first, are true one after another, in
 /// any order of the tables. Once each table that has such cells has its file, table files stand for
-/// all cells of each segment.
+/// all cells of each segment. An id that is above all that the folder named is above the ends of
+/// all intervals then too.
 pub fn recovery_files_are_true()
     ensures begins { (r : Reading) → AreFiled r r [] }
     ensures is_true { (r q : Reading) (done : List Table) (file : TableFile) → AreFiled r q done
@@ -41,6 +42,9 @@ pub fn recovery_files_are_true()
         → AreAllLive r done
         → ((table : Table) (at : Position) → IsSkippedIn r table at ⊎ (¬ IsSkippedIn r table at))
         → AreCovered q id }
+    ensures below { (files : Files) (q : Reading) (done : List Table) (base : ℕ)
+        → AreFiled (bytes_at files) q done → ((n : ℕ) → NamesAny files n → n < base)
+        → (file : TableFile) → IsTableIn q file → file.upper.id < base }
 {}
 
 /// Where all table files are told it is decided whether one stands for a position.

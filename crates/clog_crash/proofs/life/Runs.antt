@@ -1,4 +1,4 @@
--- A run comes behind others, or one entry more behind a run; and what a run adds to the log.
+-- A run comes behind others, or one entry more behind a run.
 use Rattle.std.proofs.Common.{
   ◌≡◌,
   ℕ,
@@ -21,9 +21,8 @@ use Rattle.std.specs.List.{flat_map}
 use Rattle.std.proofs.lemmas.List.{append-nil, length-append}
 use Rattle.clog_spec.specs.Segment.{entry_bytes}
 use Rattle.clog_spec.proofs.Lengths.{length-entry_bytes}
-use Rattle.clog_scan.specs.Cut.{AreLong, Section, entries_bytes, last_until}
-use Rattle.clog_scan.specs.Segment.{Entry, entry_from, entries_from, entries_of}
-use Rattle.clog_scan.proofs.Appended.{entries_of-append}
+use Rattle.clog_scan.specs.Cut.{AreLong, entries_bytes}
+use Rattle.clog_scan.specs.Segment.{Entry, entry_from, entries_from}
 use Rattle.clog_crash.specs.Log.{Write}
 use Rattle.clog_crash.specs.Runs.{
   AreRuns,
@@ -33,16 +32,13 @@ use Rattle.clog_crash.specs.Runs.{
   placed,
   placed_in,
   placed_in_all,
-  placed_log,
   placed_of,
   run_end,
 }
-use Rattle.clog_crash.specs.Sections.{next_section}
-use Rattle.clog_crash.proofs.life.Shown.{written}
 
 -- ---- lists joined
 
-placed-append : (id : ℕ) (es more : List Entry)
+pub placed-append : (id : ℕ) (es more : List Entry)
     → placed id (es ++ more) ≡ placed id es ++ placed id more
 placed-append id [] more = refl
 placed-append id (e ∷ es) more = ap (λ (l : List Placed). (id, e) ∷ l) (placed-append id es more)
@@ -54,7 +50,7 @@ all_placed-append (run ∷ runs) more =
     ap (λ (l : List Placed). placed_in run ++ l) (all_placed-append runs more)
     ∙ sym (append_assoc (placed_in run) (placed_in_all runs) (placed_in_all more))
 
-past-append : (past more : List Write)
+pub past-append : (past more : List Write)
     → flat_map placed_of (past ++ more) ≡ flat_map placed_of past ++ flat_map placed_of more
 past-append [] more = refl
 past-append (w ∷ past) more =
@@ -159,31 +155,3 @@ pub placed_push : (runs : List Run) (run : Run)
 placed_push runs run =
     all_placed-append runs (run ∷ [])
     ∙ ap (λ (l : List Placed). placed_in_all runs ++ l) (append-nil (placed_in run))
-
--- ---- what a run adds to the log
-
--- the next section of a segment is the run behind its end
-pub log_more : (past : List Write) (id : ℕ) (sections : List Section)
-    (payloads : List (List ℕ))
-    → placed_log past id (sections ++ next_section sections payloads ∷ [])
-    ≡ placed_log past id sections
-    ++ placed_in (record { id = id; start = last_until 20 sections + 8; payloads = payloads })
-log_more past id sections payloads =
-    let before = flat_map placed_of past in
-    let section = next_section sections payloads in
-    let new = entries_from (last_until 20 sections + 8) payloads in
-    let all : entries_of 20 (sections ++ section ∷ []) ≡ entries_of 20 sections ++ new =
-    entries_of-append 20 sections (section ∷ [])
-    ∙ ap (λ (l : List Entry). entries_of 20 sections ++ l) (append-nil new) in
-    ap (λ (l : List Entry). before ++ placed id l) all
-    ∙ ap (λ (l : List Placed). before ++ l) (placed-append id (entries_of 20 sections) new)
-    ∙ sym (append_assoc before (placed id (entries_of 20 sections)) (placed id new))
-
--- the log is the same once it goes on in the next segment
-pub log_rolled : (past : List Write) (id next : ℕ) (sections : List Section)
-    → placed_log (past ++ written id sections ∷ []) next [] ≡ placed_log past id sections
-log_rolled past id next sections =
-    append-nil (flat_map placed_of (past ++ written id sections ∷ []))
-    ∙ past-append past (written id sections ∷ [])
-    ∙ ap (λ (l : List Placed). flat_map placed_of past ++ l)
-    (append-nil (placed id (entries_of 20 sections)))

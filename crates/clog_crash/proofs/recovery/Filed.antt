@@ -28,25 +28,30 @@ pub none_filed : (r : Reading) → AreFiled r r []
 none_filed r = record {
   log = λ id entry. (λ l. l, λ l. l);
   older = λ file t. t;
+  no_other = λ file t. inl t;
   filed = λ table h. absurd (nothing_there table h);
   others = λ table at apart s. s;
 }
 
 pub filed_next : (r q q' : Reading) (done : List Table) (file : TableFile) (sequence : ℕ)
-    → AreFiled r q done → HoldsAll r file → Puts q q' file sequence
+    → AreFiled r q done → IsRecoveryFile r file → Puts q q' file sequence
     → AreFiled r q' (file.table ∷ done)
-filed_next r q q' done file sequence so_far holds p = record {
+filed_next r q q' done file sequence so_far is p = record {
   log = λ id entry. (
     λ l. (so_far.log id entry).0 (log_before q q' file sequence p id entry l),
     λ l. log_now q q' file sequence p id entry ((so_far.log id entry).1 l),
   );
   older = λ other t. older q q' file sequence p other (so_far.older other t);
+  no_other = λ other t. elim (new_or_older q q' file sequence p other t) [
+    | inl new ↦ inr (subst (IsRecoveryFile r) (sym new) is)
+    | inr before ↦ so_far.no_other other before
+  ];
   filed = λ table h id entry l. elim (first_or_further file.table done table h) [
     | inl same ↦ record {
       file = file;
       there = new_there q q' file sequence p;
       same_table = same;
-      inside = holds id entry l;
+      inside = recovery_file_holds_all r file is id entry l;
     }
     | inr before ↦
         let s = so_far.filed table before id entry l in

@@ -1,4 +1,4 @@
-use Rattle.clog_crash.proofs.life.Runs.{log_more, log_rolled}
+use Rattle.clog_crash.proofs.life.RunLog.{log_more, log_rolled}
 use Rattle.clog_crash.proofs.placing.the_next_section_is_a_run.Goals as goal
 
 pub returns-clause-more : goal.returns-clause-more
