@@ -8,3 +8,4 @@ pub mod places
 pub mod files
 pub mod runs
 pub mod frame
+pub mod lent

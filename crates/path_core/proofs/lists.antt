@@ -6,5 +6,6 @@ pub mod Ranges
 pub mod Mapped
 pub mod Options
 pub mod Counted
+pub mod Heads
 pub mod Ascending
 pub mod PartedNotes

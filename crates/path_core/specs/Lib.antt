@@ -24,3 +24,4 @@ pub mod Promises
 pub mod Holders
 pub mod Keeper
 pub mod ListKept
+pub mod Lent

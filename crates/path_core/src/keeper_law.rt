@@ -3,14 +3,21 @@ ghost use Rattle.std.specs.Prelude.{◌≡◌, ◌⊎◌, ℕ, ◌<◌, ◌≤�
 ghost use Rattle.std.specs.List.{Contains};
 ghost use Rattle.clog_base.specs.declared.sizes.Sizes.{Sizes};
 ghost use Rattle.path_core.specs.declared.note.EntryNote.{EntryNote};
+ghost use Rattle.path_core.specs.declared.state.PathState.{PathState};
+ghost use Rattle.path_core.specs.Allowed.{IsAllowed};
+ghost use Rattle.path_core.specs.Lawful.{IsLawfulPath};
+ghost use Rattle.path_core.specs.Lent.{AgreesWith, IsKeptOf, run_to};
 ghost use Rattle.path_core.specs.Keeper.{
   Holding,
   IsFresh,
   IsWritable,
   MaySync,
+  MayWrite,
   Syncs,
   Drops,
 };
+
+use crate::event::{Cursor, Event};
 
 /// After a sync each entry that was pending is logged where it ends at or below the key, and else
 /// pending still.
@@ -43,4 +50,14 @@ pub fn a_keeper_drops_one_list()
     ensures { (before now other : Holding) (closed count others : ℕ)
         → Drops before now closed count → Drops before other closed others
         → (now.dropped ≡ other.dropped) × (count ≡ others) }
+{}
+
+/// What a path's sync makes lasting may be written: where the path is lawful and may put its synced
+/// key to a marker, and its keeper agrees with it, the notes up to the marker are what the keeper
+/// asks. So it is behind what the keeper kept, where that is what a sync up to an earlier marker
+/// would have made lasting.
+pub fn what_a_path_syncs_may_be_written()
+    ensures { (x : PathState) (by value : ℕ) (h : Holding) → IsLawfulPath x
+        → IsAllowed x (Event.Put by Cursor.Synced value) → AgreesWith x h
+        → IsKeptOf x value h.kept → MayWrite h value (run_to x value) }
 {}

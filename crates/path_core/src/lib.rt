@@ -54,7 +54,7 @@ pub use holder_law::{
 pub use keeper::{Keeper, KeeperFault};
 pub use keeper_law::{
     a_first_entry_may_be_synced, a_fresh_keeper_drops_nothing, a_keeper_drops_one_list,
-    a_sync_logs_what_was_pending, what_may_be_synced_can_be,
+    a_sync_logs_what_was_pending, what_a_path_syncs_may_be_written, what_may_be_synced_can_be,
 };
 pub use law::{
     a_switch_has_a_holder, claims_never_overlap, closed_writes_are_placed_in_one_memtable,
