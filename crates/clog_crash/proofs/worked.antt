@@ -1,5 +1,6 @@
 -- The folder of the worked row.
 pub mod Cells
+pub mod Crash
 pub mod Files
 pub mod Folder
 pub mod Row

@@ -16,12 +16,20 @@ use Rattle.std.specs.Str.{bytes_eq}
 use Rattle.std.specs.List.Sorted.{IsStrictlySortedBy}
 use Rattle.std.specs.Ordering.{nat_cmp}
 use Rattle.clog_spec.specs.Names.{segment_name_of}
+use Rattle.clog_disk.specs.declared.change.Change.{Change}
+use Rattle.clog_disk.specs.declared.change.Change.TheVariants.{Append as Appended}
 use Rattle.clog_scan.specs.declared.answer.End.TheVariants.{Clean}
 use Rattle.clog_scan.specs.Segment.{Entry, IsSegment}
 
 -- an append: the name, and the bytes
 abbrev pub Append : Type 0
 Append = List ℕ × List ℕ
+
+-- the appends among a disk's changes
+abbrev pub appends_of : List Change → List Append
+appends_of [] = []
+appends_of (Appended name bytes ∷ more) = (name, bytes) ∷ appends_of more
+appends_of (other ∷ more) = appends_of more
 
 -- the bytes that were appended to a name, laid end to end
 abbrev pub grown : List Append → List ℕ → List ℕ

@@ -19,6 +19,7 @@ pub mod Sections
 pub mod Showing
 pub mod Tail
 pub mod Worked
+pub mod WorkedCrash
 pub mod WorkedDrop
 pub mod WorkedGrown
 pub mod WorkedRuns

@@ -1,8 +1,15 @@
 //! What a folder counts, and the log that appends bring.
 ghost use Rattle.std.specs.Prelude.{◌≡◌, ◌++◌, ◌∷◌, [], ℕ, List};
 ghost use Rattle.clog_disk.specs.Files.{Files};
+ghost use Rattle.clog_disk.specs.declared.change.Change.{Change};
+ghost use Rattle.clog_disk.specs.declared.change.Change.TheVariants.{
+  Append as Appended,
+  Publish as Published,
+  Link as Linked,
+  Remove as Removed,
+};
 ghost use Rattle.clog_crash.specs.Counts.{AreCounts, IsLog, LoggedMutation};
-ghost use Rattle.clog_crash.specs.Grown.{Append, IsKept, grown};
+ghost use Rattle.clog_crash.specs.Grown.{Append, IsKept, appends_of, grown};
 ghost use Rattle.clog_crash.specs.Worked.{first_table, the_folder};
 ghost use Rattle.clog_crash.specs.WorkedGrown.{entry_at, the_appends};
 
@@ -33,6 +40,18 @@ pub fn appends_grow_their_name()
         → grown ((other, bytes) ∷ more) name ≡ grown more name }
     ensures behind { (appends more : List Append) (name : List ℕ)
         → grown (appends ++ more) name ≡ grown appends name ++ grown more name }
+{}
+
+/// Of a disk's changes the appends alone bring bytes to segments: another change brings nothing,
+/// and changes that follow bring theirs behind.
+pub fn appends_alone_bring_bytes()
+    ensures appends { (name bytes : List ℕ)
+        → appends_of (Appended name bytes ∷ []) ≡ (name, bytes) ∷ [] }
+    ensures publishes { (name bytes : List ℕ) → appends_of (Published name bytes ∷ []) ≡ [] }
+    ensures links { (old new : List ℕ) → appends_of (Linked old new ∷ []) ≡ [] }
+    ensures removes { (name : List ℕ) → appends_of (Removed name ∷ []) ≡ [] }
+    ensures behind { (changes more : List Change)
+        → appends_of (changes ++ more) ≡ appends_of changes ++ appends_of more }
 {}
 
 /// A worked row: two sections are appended to segment 1000 and one to segment 1001, each with one

@@ -1,20 +1,24 @@
 //! What a crash leaves of a folder to which a segment is written.
-ghost use Rattle.std.specs.Prelude.{◌≡◌, ◌↔◌, ◌++◌, ◌∷◌, [], ℕ, List, length, Contains};
+ghost use Rattle.std.specs.Prelude.{◌≡◌, ◌↔◌, ◌⊎◌, ◌++◌, ◌∷◌, [], ℕ, List, length, Contains};
 ghost use Rattle.std.specs.FinMap as finmap;
-ghost use Rattle.clog_spec.specs.Names.{IsArchiveName};
+ghost use Rattle.clog_spec.specs.Names.{IsArchiveName, segment_name_of};
 ghost use Rattle.clog_base.specs.declared.cell.Cell.{Cell};
 ghost use Rattle.clog_base.specs.declared.cell.CellKey.{CellKey};
-ghost use Rattle.clog_disk.specs.Files.{Files, bytes_at};
+ghost use Rattle.clog_disk.specs.Files.{Files, bytes_at, no_files};
 ghost use Rattle.clog_scan.specs.declared.answer.End.{End as segment_end};
 ghost use Rattle.clog_scan.specs.Cut.{Section};
 ghost use Rattle.clog_scan.specs.Segment.{Entry, IsSegment};
 ghost use Rattle.clog_crash.specs.Archive.{IsArchived};
+ghost use Rattle.clog_crash.specs.Chance.{NoChance};
 ghost use Rattle.clog_crash.specs.Covering.{Either, SameMerge};
 ghost use Rattle.clog_crash.specs.Log.{HasShown, Write, logged_in};
 ghost use Rattle.clog_crash.specs.Readings.{IsCellAmong, Reading, RestoresIn};
 ghost use Rattle.clog_crash.specs.Rest.{IsInFiles, Lasting, settled};
+ghost use Rattle.clog_crash.specs.Restore.{IsRestored, IsUndamaged};
 ghost use Rattle.clog_crash.specs.Sections.{IsStored};
 ghost use Rattle.clog_crash.specs.Showing.{Shows};
+ghost use Rattle.clog_crash.specs.Worked.{logged};
+ghost use Rattle.clog_crash.specs.WorkedCrash.{one_section};
 
 /// While sections are written behind those that last, each image shows what lasts and the first of
 /// their entries, in the order of the log; and so it does since an opening, with all entries that
@@ -55,4 +59,14 @@ pub fn archives_are_not_read()
         → (pair : CellKey × Cell)
         → RestoresIn (bytes_at (finmap.insert files name bytes)) pair
         ↔ RestoresIn (bytes_at files) pair }
+{}
+
+/// A worked row: into an empty folder segment 1000 is written, with one section of one entry, and
+/// has not been made to last. Whatever a crash leaves restores the entry's cell or nothing, and is
+/// not damaged.
+pub fn a_crash_leaves_the_entry_or_nothing()
+    ensures { (image : Files)
+        → Lasting no_files (λ name left. left ≡ finmap.get image name) 1000 [] one_section
+        → NoChance 1000 one_section (bytes_at image (segment_name_of 6 1000))
+        → IsUndamaged image × (IsRestored image [] ⊎ IsRestored image (logged ∷ [])) }
 {}

@@ -20,9 +20,12 @@ pub use changing::{
 };
 pub use counting::{
     a_folder_has_one_count, an_update_counts_as_merged_or_as_skipped, appended_sections_are_a_log,
-    appends_grow_their_name,
+    appends_alone_bring_bytes, appends_grow_their_name,
 };
-pub use crashes::{archives_are_not_read, images_show_a_first_part, shown_stays_shown};
+pub use crashes::{
+    a_crash_leaves_the_entry_or_nothing, archives_are_not_read, images_show_a_first_part,
+    shown_stays_shown,
+};
 pub use dropping::{a_segment_goes_once_each_table_is_filed, droppable_segments_are_covered};
 pub use first_damage::{
     a_bad_payload_is_damage, a_folder_has_one_first_bad_table, a_folder_has_one_first_damage,

@@ -26,7 +26,14 @@ use Rattle.clog_spec.specs.Names.{segment_name_of}
 use Rattle.clog_scan.specs.declared.answer.End.TheVariants.{Clean}
 use Rattle.clog_scan.specs.Cut.{Section}
 use Rattle.clog_scan.specs.Segment.{entries_of, IsSegment}
-use Rattle.clog_crash.specs.Grown.{Append, HoldsGrown, grown}
+use Rattle.clog_disk.specs.declared.change.Change.{Change}
+use Rattle.clog_disk.specs.declared.change.Change.TheVariants.{
+  Append as Appended,
+  Publish,
+  Link,
+  Remove,
+}
+use Rattle.clog_crash.specs.Grown.{Append, HoldsGrown, appends_of, grown}
 use Rattle.clog_crash.specs.Sections.{segment_bytes, IsStored}
 use Rattle.clog_crash.proofs.rest.Sectioned.{stored_holds}
 
@@ -58,6 +65,19 @@ grown-append (a ∷ appends) more name =
     let first = if bytes_eq a.0 name then a.1 else [] in
     ap (λ (l : List ℕ). first ++ l) (grown-append appends more name)
     ∙ sym (append_assoc first (grown appends name) (grown more name))
+
+-- ---- changes
+
+pub appends_of-append : (changes more : List Change)
+    → appends_of (changes ++ more) ≡ appends_of changes ++ appends_of more
+appends_of-append [] more = refl
+appends_of-append (Appended name bytes ∷ changes) more =
+    ap (λ (l : List Append). (name, bytes) ∷ l) (appends_of-append changes more)
+appends_of-append (Publish name bytes ∷ changes) more = appends_of-append changes more
+appends_of-append (Link old new ∷ changes) more = appends_of-append changes more
+appends_of-append (Remove name ∷ changes) more = appends_of-append changes more
+
+-- ---- segments
 
 -- the bytes of a segment with sections hold their entries
 pub grown_holds : (appends : List Append) (id : ℕ) (sections : List Section)
