@@ -1,0 +1,5 @@
+mod Beside
+mod Kept
+mod Lived
+mod Outcomes
+mod Recovered

@@ -1,0 +1,45 @@
+use Rattle.std.proofs.Common.{◌∙◌, sym, ap}
+use Rattle.clog_spec.specs.Names.{table_name_of}
+use Rattle.clog_base.specs.declared.cell.Table.{Table}
+use Rattle.clog_store.specs.Resting.{ShowsBehind}
+use Rattle.clog_store.proofs.Beside.{comes_show, rests_with, rests_for_file}
+use Rattle.clog_store.proofs.Kept.{rests_show, rests_on}
+use Rattle.clog_store.proofs.Outcomes.{ok_both, err_then, one_call}
+use Rattle.clog_store.proofs.changing.put_table.Goals as goal
+
+pub returns-clause-comes : goal.returns-clause-comes
+returns-clause-comes g c r past id old kept file table_is may =
+    let D = g.D.Disk in
+    let before = c.args.disk.now in
+    let after = c.publish.new.self in
+    let name_is = c.table_name.ensures
+    ∙ ap (λ (t : Table). table_name_of t.0 c.args.sequence) (sym table_is) in
+    ok_both c.publish.result c.publish.ensures.puts c.publish.ensures.lasts (λ puts lasts.
+    rests_with (D.leaves before) (D.leaves after) r past id old kept _ file c.args.sequence
+    c.args.bytes.now name_is c.publish.ensures.crash (D.files before) (D.files after) may puts
+    lasts)
+
+pub returns-clause-refused : goal.returns-clause-refused
+returns-clause-refused g c other r past id old kept rests =
+    let D = g.D.Disk in
+    let before = c.args.disk.now in
+    let after = c.publish.new.self in
+    err_then c.publish.result (c.publish.ensures.refused other) (λ unchanged.
+    rests_on (D.files before) (D.files after) (D.leaves before) (D.leaves after) r past id old kept
+    unchanged.files unchanged.images.fewer rests)
+
+pub returns-clause-any_moment : goal.returns-clause-any_moment
+returns-clause-any_moment g c r past id old kept file table_is may =
+    let D = g.D.Disk in
+    let before = c.args.disk.now in
+    let after = c.publish.new.self in
+    let name_is = c.table_name.ensures
+    ∙ ap (λ (t : Table). table_name_of t.0 c.args.sequence) (sym table_is) in
+    one_call D.moment D.since D.leaves D.read_at before after (ShowsBehind r past id old kept)
+    (g.met.D.Disk.only_now before)
+    (rests_show (D.files before) (D.leaves before) r past id old kept
+    (rests_for_file (D.files before) (D.leaves before) r past id old kept file c.args.sequence
+    c.args.bytes.now may))
+    c.publish.ensures.time
+    (comes_show (D.leaves before) (D.leaves after) r past id old kept _ file c.args.sequence
+    c.args.bytes.now name_is c.publish.ensures.crash (D.files before) may)

@@ -1,0 +1,36 @@
+use Rattle.clog_store.specs.Resting.{ShowsBehind}
+use Rattle.clog_store.proofs.Beside.{goes_show, rests_without, rests_for_none}
+use Rattle.clog_store.proofs.Kept.{rests_show, rests_on}
+use Rattle.clog_store.proofs.Outcomes.{ok_both, err_then, one_call}
+use Rattle.clog_store.proofs.changing.take_away.Goals as goal
+
+pub returns-clause-goes : goal.returns-clause-goes
+returns-clause-goes g c r past id old kept may =
+    let D = g.D.Disk in
+    let before = c.args.disk.now in
+    let after = c.remove.new.self in
+    ok_both c.remove.result c.remove.ensures.puts c.remove.ensures.lasts (λ puts lasts.
+    rests_without (D.leaves before) (D.leaves after) r past id old kept _ c.args.segment
+    c.segment_name.ensures c.remove.ensures.crash (D.files before) (D.files after) may puts lasts)
+
+pub returns-clause-refused : goal.returns-clause-refused
+returns-clause-refused g c other r past id old kept rests =
+    let D = g.D.Disk in
+    let before = c.args.disk.now in
+    let after = c.remove.new.self in
+    err_then c.remove.result (c.remove.ensures.refused other) (λ unchanged.
+    rests_on (D.files before) (D.files after) (D.leaves before) (D.leaves after) r past id old kept
+    unchanged.files unchanged.images.fewer rests)
+
+pub returns-clause-any_moment : goal.returns-clause-any_moment
+returns-clause-any_moment g c r past id old kept may =
+    let D = g.D.Disk in
+    let before = c.args.disk.now in
+    let after = c.remove.new.self in
+    one_call D.moment D.since D.leaves D.read_at before after (ShowsBehind r past id old kept)
+    (g.met.D.Disk.only_now before)
+    (rests_show (D.files before) (D.leaves before) r past id old kept
+    (rests_for_none (D.files before) (D.leaves before) r past id old kept c.args.segment may))
+    c.remove.ensures.time
+    (goes_show (D.leaves before) (D.leaves after) r past id old kept _ c.args.segment
+    c.segment_name.ensures c.remove.ensures.crash (D.files before) may)

@@ -1,0 +1,34 @@
+use Rattle.std.proofs.Common.{◌∙◌, [], sym, ap}
+use Rattle.clog_spec.specs.Names.{table_name_of}
+use Rattle.clog_base.specs.declared.cell.Table.{Table}
+use Rattle.clog_crash.specs.Flush.{IsSameFolder}
+use Rattle.clog_store.proofs.Recovered.{here_show, here_for_file, file_shows, file_settles}
+use Rattle.clog_store.proofs.Outcomes.{ok_both, one_call}
+use Rattle.clog_store.proofs.recovering.put_recovered.Goals as goal
+
+pub returns-clause-comes : goal.returns-clause-comes
+returns-clause-comes g c first file table_is may =
+    let D = g.D.Disk in
+    let before = c.args.disk.now in
+    let after = c.publish.new.self in
+    let name_is = c.table_name.ensures
+    ∙ ap (λ (t : Table). table_name_of t.0 c.args.sequence) (sym table_is) in
+    ok_both c.publish.result c.publish.ensures.puts c.publish.ensures.lasts (λ puts lasts.
+    file_settles first (D.leaves before) (D.leaves after) _ file c.args.sequence c.args.bytes.now
+    name_is c.publish.ensures.crash (D.files before) (D.files after) may puts lasts)
+
+pub returns-clause-any_moment : goal.returns-clause-any_moment
+returns-clause-any_moment g c first file table_is may =
+    let D = g.D.Disk in
+    let before = c.args.disk.now in
+    let after = c.publish.new.self in
+    let name_is = c.table_name.ensures
+    ∙ ap (λ (t : Table). table_name_of t.0 c.args.sequence) (sym table_is) in
+    one_call D.moment D.since D.leaves D.read_at before after (IsSameFolder first)
+    (g.met.D.Disk.only_now before)
+    (here_show first (D.files before) (D.leaves before) []
+    (here_for_file first (D.files before) (D.leaves before) file c.args.sequence c.args.bytes.now
+    may))
+    c.publish.ensures.time
+    (file_shows first (D.leaves before) (D.leaves after) _ file c.args.sequence c.args.bytes.now
+    name_is c.publish.ensures.crash (D.files before) may)

@@ -1,0 +1,85 @@
+use Rattle.std.proofs.Common.{◌≡◌, ℕ, ◌+◌, List, ◌∷◌, drop, get_or, refl, sym, subst, arith}
+use Rattle.std.proofs.lemmas.List.{drop_more, drop_all}
+use Rattle.clog_disk.proofs.Moments.{started, goes_on_by, later_still}
+use Rattle.clog_disk.proofs.Telling.{same_told_self, same_told_then}
+use Rattle.clog_crash.specs.Flush.{IsSameFolder}
+use Rattle.clog_store.specs.Coming.{IsRecovering, AreGone}
+use Rattle.clog_store.proofs.Recovered.{here_show, gone_then, gone_none}
+use Rattle.clog_store.proofs.recovering.take_all_recovered.Goals as goal
+
+pub loop-segment-init : goal.loop-segment-init
+loop-segment-init g c =
+    let D = g.D.Disk in
+    let old = c.args.disk.now in
+    record {
+      told = same_told_self (D.files old);
+      later = record { no_sooner = omega arith; remembers = λ t le. refl };
+      may = λ first may. may;
+      gone = λ now gone. gone;
+      only = λ first may. started D.moment D.since old (IsSameFolder first) (λ image left.
+          here_show first (D.files old) (D.leaves old) c.args.segments.now may image
+          (g.met.D.Disk.only_now old image left));
+    }
+
+pub returns-in_err-take_recovered-clause-any_moment :
+    goal.returns-in_err-take_recovered-clause-any_moment
+returns-in_err-take_recovered-clause-any_moment g c first may =
+    let D = g.D.Disk in
+    let i = c.loop-segment.segment-index in
+    let xs = c.args.segments.now in
+    let split : drop i xs ≡ get_or xs i 0 ∷ drop (i + 1) xs =
+    drop_more xs i 0 c.loop-segment-test.true in
+    let before = c.loop-segment.disk in
+    goes_on_by D.moment D.since c.args.disk.now before c.take_recovered.new.disk
+    (IsSameFolder first) (c.loop-segment.invariant.only first may)
+    (c.take_recovered.ensures.any_moment first (drop (i + 1) xs)
+    (subst (λ (l : List ℕ). IsRecovering first (D.files before) (D.leaves before) l) split
+    (c.loop-segment.invariant.may first may)))
+
+pub loop-segment-preserved : goal.loop-segment-preserved
+loop-segment-preserved g c =
+    let D = g.D.Disk in
+    let i = c.loop-segment.segment-index in
+    let xs = c.args.segments.now in
+    let split : drop i xs ≡ get_or xs i 0 ∷ drop (i + 1) xs =
+    drop_more xs i 0 c.loop-segment-test.true in
+    let old = c.args.disk.now in
+    let before = c.loop-segment.disk in
+    let after = c.take_recovered.new.disk in
+    record {
+      told = same_told_then (D.files old) (D.files before) (D.files after)
+          c.loop-segment.invariant.told c.take_recovered.ensures.told;
+      later = later_still D.moment D.read_at old before after c.loop-segment.invariant.later
+          c.take_recovered.ensures.later;
+      may = λ first may. c.in_ok-take_recovered.ensures.goes first (drop (i + 1) xs)
+          (subst (λ (l : List ℕ). IsRecovering first (D.files before) (D.leaves before) l) split
+          (c.loop-segment.invariant.may first may));
+      gone = λ now gone. c.loop-segment.invariant.gone now
+          (subst (λ (l : List ℕ). AreGone (D.files before) now l) (sym split)
+          (gone_then (D.files before) (D.files after) now (get_or xs i 0) (drop (i + 1) xs)
+          c.in_ok-take_recovered.ensures.puts gone));
+      only = λ first may. goes_on_by D.moment D.since old before after (IsSameFolder first)
+          (c.loop-segment.invariant.only first may)
+          (c.take_recovered.ensures.any_moment first (drop (i + 1) xs)
+          (subst (λ (l : List ℕ). IsRecovering first (D.files before) (D.leaves before) l) split
+          (c.loop-segment.invariant.may first may)));
+    }
+
+pub returns-clause-go : goal.returns-clause-go
+returns-clause-go g c first may =
+    let D = g.D.Disk in
+    let now = c.loop-segment.disk in
+    let xs = c.args.segments.now in
+    subst (λ (l : List ℕ). IsRecovering first (D.files now) (D.leaves now) l)
+    (drop_all c.loop-segment.segment-index xs (omega (arith, c.loop-segment-test.false)))
+    (c.loop-segment.invariant.may first may)
+
+pub returns-clause-gone : goal.returns-clause-gone
+returns-clause-gone g c =
+    let D = g.D.Disk in
+    let now = D.files c.loop-segment.disk in
+    let xs = c.args.segments.now in
+    c.loop-segment.invariant.gone now
+    (subst (λ (l : List ℕ). AreGone now now l)
+    (sym (drop_all c.loop-segment.segment-index xs (omega (arith, c.loop-segment-test.false))))
+    (gone_none now))

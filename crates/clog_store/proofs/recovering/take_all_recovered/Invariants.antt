@@ -1,0 +1,23 @@
+use Rattle.std.proofs.Common.{Option, drop}
+use Rattle.clog_disk.specs.Files.{Files, SameTold}
+use Rattle.clog_disk.specs.Images.{IsLater, LeavesOnly}
+use Rattle.clog_crash.specs.Flush.{IsSameFolder}
+use Rattle.clog_store.specs.Coming.{IsRecovering, AreGone}
+use Rattle.clog_store.proofs.recovering.take_all_recovered.Given as goal
+
+-- the segments that were yielded are gone, and the others may go
+abbrev pub invariant-loop-segment : goal.invariant-loop-segment
+invariant-loop-segment g l = record {
+  told : SameTold (g.D.Disk.files l.fn.disk) (g.D.Disk.files l.disk);
+  later : IsLater g.D.Disk.moment g.D.Disk.read_at l.fn.disk l.disk;
+  may : (first : Files)
+      → IsRecovering first (g.D.Disk.files l.fn.disk) (g.D.Disk.leaves l.fn.disk) l.segments
+      → IsRecovering first (g.D.Disk.files l.disk) (g.D.Disk.leaves l.disk)
+      (drop l.segment-index l.segments);
+  gone : (now : Option Files)
+      → AreGone (g.D.Disk.files l.disk) now (drop l.segment-index l.segments)
+      → AreGone (g.D.Disk.files l.fn.disk) now l.segments;
+  only : (first : Files)
+      → IsRecovering first (g.D.Disk.files l.fn.disk) (g.D.Disk.leaves l.fn.disk) l.segments
+      → LeavesOnly g.D.Disk.moment g.D.Disk.since l.fn.disk l.disk (IsSameFolder first);
+}

@@ -1,0 +1,26 @@
+use Rattle.std.proofs.Common.{◌∷◌}
+use Rattle.clog_crash.specs.Flush.{IsSameFolder}
+use Rattle.clog_store.proofs.Recovered.{here_show, segment_shows, segment_settles}
+use Rattle.clog_store.proofs.Outcomes.{ok_both, one_call}
+use Rattle.clog_store.proofs.recovering.take_recovered.Goals as goal
+
+pub returns-clause-goes : goal.returns-clause-goes
+returns-clause-goes g c first others may =
+    let D = g.D.Disk in
+    let before = c.args.disk.now in
+    let after = c.remove.new.self in
+    ok_both c.remove.result c.remove.ensures.puts c.remove.ensures.lasts (λ puts lasts.
+    segment_settles first (D.leaves before) (D.leaves after) _ c.args.segment others
+    c.segment_name.ensures c.remove.ensures.crash (D.files before) (D.files after) may puts lasts)
+
+pub returns-clause-any_moment : goal.returns-clause-any_moment
+returns-clause-any_moment g c first others may =
+    let D = g.D.Disk in
+    let before = c.args.disk.now in
+    let after = c.remove.new.self in
+    one_call D.moment D.since D.leaves D.read_at before after (IsSameFolder first)
+    (g.met.D.Disk.only_now before)
+    (here_show first (D.files before) (D.leaves before) (c.args.segment ∷ others) may)
+    c.remove.ensures.time
+    (segment_shows first (D.leaves before) (D.leaves after) _ c.args.segment others
+    c.segment_name.ensures c.remove.ensures.crash (D.files before) may)

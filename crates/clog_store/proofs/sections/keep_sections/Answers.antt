@@ -1,0 +1,45 @@
+use Rattle.std.proofs.Common.{◌++◌}
+use Rattle.clog_store.specs.Resting.{ShowsBehind}
+use Rattle.clog_store.proofs.Kept.{rests_show, rests_show_more, rests_on, torn_show, rests_kept}
+use Rattle.clog_store.proofs.Outcomes.{ok_then, err_then, one_call}
+use Rattle.clog_store.proofs.sections.keep_sections.Goals as goal
+
+pub returns-clause-kept : goal.returns-clause-kept
+returns-clause-kept g c r past old kept new brings rests =
+    let D = g.D.Disk in
+    let before = c.args.disk.now in
+    let after = c.append_at.new.self in
+    ok_then c.append_at.result c.append_at.ensures.appends (λ appends.
+    rests_kept (D.leaves before) (D.leaves after) r past c.args.id old kept _
+    c.segment_name.ensures new c.args.bytes.now brings (D.files before) (D.files after) rests
+    c.append_at.ensures.crash appends)
+
+pub returns-clause-refused : goal.returns-clause-refused
+returns-clause-refused g c other r past old kept rests =
+    let D = g.D.Disk in
+    let id = c.args.id in
+    let before = c.args.disk.now in
+    let after = c.append_at.new.self in
+    err_then c.append_at.result (c.append_at.ensures.refused other) (λ unchanged.
+    let now = rests_on (D.files before) (D.files after) (D.leaves before) (D.leaves after) r past
+    id old kept unchanged.files unchanged.images.fewer rests in (
+      now,
+      one_call D.moment D.since D.leaves D.read_at before after (ShowsBehind r past id old kept)
+          (g.met.D.Disk.only_now before)
+          (rests_show (D.files before) (D.leaves before) r past id old kept rests)
+          c.append_at.ensures.time
+          (rests_show (D.files after) (D.leaves after) r past id old kept now),
+    ))
+
+pub returns-clause-any_moment : goal.returns-clause-any_moment
+returns-clause-any_moment g c r past old kept new brings rests =
+    let D = g.D.Disk in
+    let before = c.args.disk.now in
+    let after = c.append_at.new.self in
+    one_call D.moment D.since D.leaves D.read_at before after
+    (ShowsBehind r past c.args.id old (kept ++ new)) (g.met.D.Disk.only_now before)
+    (rests_show_more (D.files before) (D.leaves before) r past c.args.id old kept new rests)
+    c.append_at.ensures.time
+    (torn_show (D.leaves before) (D.leaves after) r past c.args.id old kept _
+    c.segment_name.ensures new c.args.bytes.now brings (D.files before) rests
+    c.append_at.ensures.crash)

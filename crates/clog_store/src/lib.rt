@@ -1,0 +1,16 @@
+//! The calls by which a store changes a folder: sections are written and made to last, table files
+//! come, and segments go. Each says what stands when it has ended, and what a crash at any moment
+//! within it may leave.
+#![tactic(auto)]
+
+mod changing;
+mod next;
+mod recovering;
+mod sections;
+mod store;
+
+pub use changing::{put_table, take_away};
+pub use next::write_section;
+pub use recovering::{put_recovered, take_all_recovered, take_recovered};
+pub use sections::{keep_sections, put_sections, settle_sections};
+pub use store::{Store, StoreFault, Written};

@@ -1,0 +1,79 @@
+//! A folder in which everything lasts is recovered: table files come, and then segments go. After
+//! each change, and in each image of a crash, it restores the same.
+ghost use Rattle.std.specs.Prelude.{◌≡◌, ◌<◌, ◌^◌, [], ◌∷◌, ℕ, List, Some, None, OnOk};
+ghost use Rattle.clog_spec.specs.Names.{segment_name_of, table_name_of};
+ghost use Rattle.clog_disk.specs.Causes.{HasDiskCause};
+ghost use Rattle.clog_disk.specs.Changes.{Adds};
+ghost use Rattle.clog_disk.specs.Files.{Files, PutsAt, SameTold};
+ghost use Rattle.clog_disk.specs.Images.{IsLater, LeavesOnly};
+ghost use Rattle.clog_disk.specs.declared.change.Change.TheVariants as change;
+ghost use Rattle.clog_table.specs.declared.table_file.TableFile.{TableFile};
+ghost use Rattle.clog_crash.specs.Flush.{IsSameFolder};
+ghost use Rattle.clog_store.specs.Coming.{AreGone, IsRecovering, MayComeHere};
+
+use clog_base::{Table, segment_name, table_name};
+use clog_disk::{Disk, DiskFault};
+
+/// Puts a new table file in place that is true of the folder.
+pub fn put_recovered<D: Disk>(
+    disk: &mut D,
+    table: Table,
+    sequence: u64,
+    bytes: &[u8],
+) -> Result<(), DiskFault>
+    requires starts { 0 < sequence }
+    requires fits { sequence < 2 ^ 63 }
+    ensures told { SameTold (D.files disk.old) (D.files disk.new) }
+    ensures puts { OnOk result (PutsAt (D.files disk.old) (D.files disk.new)
+        (table_name_of table.0 sequence) (Some bytes.now)) }
+    ensures adds { Adds (change.Publish (table_name_of table.0 sequence) bytes.now)
+        (D.changes disk.old) (D.changes disk.new) result }
+    ensures later { IsLater D.moment D.read_at disk.old disk.new }
+    ensures cause { HasDiskCause (D.faults disk.old) (D.faults disk.new) result }
+    ensures comes { (first : Files) (file : TableFile) → file.table ≡ table
+        → MayComeHere first (D.files disk.old) (D.leaves disk.old) file sequence bytes.now
+        → OnOk result (IsRecovering first (D.files disk.new) (D.leaves disk.new) []) }
+    ensures any_moment { (first : Files) (file : TableFile) → file.table ≡ table
+        → MayComeHere first (D.files disk.old) (D.leaves disk.old) file sequence bytes.now
+        → LeavesOnly D.moment D.since disk.old disk.new (IsSameFolder first) }
+{
+    disk.publish(&table_name(table, sequence), bytes)
+}
+
+/// Takes a segment away for all of whose cells table files stand. For others they then still do.
+pub fn take_recovered<D: Disk>(disk: &mut D, segment: u64) -> Result<(), DiskFault>
+    ensures told { SameTold (D.files disk.old) (D.files disk.new) }
+    ensures puts { OnOk result (PutsAt (D.files disk.old) (D.files disk.new)
+        (segment_name_of 6 segment) None) }
+    ensures adds { Adds (change.Remove (segment_name_of 6 segment)) (D.changes disk.old)
+        (D.changes disk.new) result }
+    ensures later { IsLater D.moment D.read_at disk.old disk.new }
+    ensures cause { HasDiskCause (D.faults disk.old) (D.faults disk.new) result }
+    ensures goes { (first : Files) (others : List ℕ)
+        → IsRecovering first (D.files disk.old) (D.leaves disk.old) (segment ∷ others)
+        → OnOk result (IsRecovering first (D.files disk.new) (D.leaves disk.new) others) }
+    ensures any_moment { (first : Files) (others : List ℕ)
+        → IsRecovering first (D.files disk.old) (D.leaves disk.old) (segment ∷ others)
+        → LeavesOnly D.moment D.since disk.old disk.new (IsSameFolder first) }
+{
+    disk.remove(&segment_name(segment))
+}
+
+/// Takes segments away, in the order in which they are given, for all of whose cells table files
+/// stand. It goes on until one is refused.
+pub fn take_all_recovered<D: Disk>(disk: &mut D, segments: &[u64]) -> Result<(), DiskFault>
+    ensures told { SameTold (D.files disk.old) (D.files disk.new) }
+    ensures later { IsLater D.moment D.read_at disk.old disk.new }
+    ensures go { (first : Files)
+        → IsRecovering first (D.files disk.old) (D.leaves disk.old) segments.now
+        → OnOk result (IsRecovering first (D.files disk.new) (D.leaves disk.new) []) }
+    ensures gone { OnOk result (AreGone (D.files disk.old) (D.files disk.new) segments.now) }
+    ensures any_moment { (first : Files)
+        → IsRecovering first (D.files disk.old) (D.leaves disk.old) segments.now
+        → LeavesOnly D.moment D.since disk.old disk.new (IsSameFolder first) }
+{
+    for segment in segments {
+        take_recovered(disk, *segment)?;
+    }
+    Ok(())
+}

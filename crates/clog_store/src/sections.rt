@@ -1,0 +1,107 @@
+//! The steps by which sections come to last: their bytes are kept behind those of the segment, and
+//! then made to last. A store changes its own numbers between the two.
+ghost use Rattle.std.specs.Prelude.{◌≡◌, ◌≢◌, ◌⊎◌, ◌++◌, [], ℕ, List, OnOk, OnErr, Err};
+ghost use Rattle.clog_spec.specs.Names.{segment_name_of};
+ghost use Rattle.clog_disk.specs.Causes.{HasDiskCause};
+ghost use Rattle.clog_disk.specs.Changes.{Adds};
+ghost use Rattle.clog_disk.specs.Files.{AppendsTo, IsEnd, SameTold};
+ghost use Rattle.clog_disk.specs.Images.{IsLater, LeavesOnly};
+ghost use Rattle.clog_disk.specs.declared.change.Change.TheVariants as change;
+ghost use Rattle.clog_disk.specs.declared.disk.DiskFault.TheVariants.{Failed as failed};
+ghost use Rattle.clog_scan.specs.Cut.{Section};
+ghost use Rattle.clog_crash.specs.Log.{Write};
+ghost use Rattle.clog_crash.specs.Readings.{Reading};
+ghost use Rattle.clog_crash.specs.Sections.{Brings};
+ghost use Rattle.clog_store.specs.Resting.{RestsAt, ShowsBehind};
+
+use clog_base::segment_name;
+use clog_disk::{Disk, DiskFault};
+
+/// Puts the bytes of further sections behind those of a segment, whose file has this size. They are
+/// kept, and do not last yet. Where it is refused for memory nothing has changed.
+pub fn keep_sections<D: Disk>(
+    disk: &mut D,
+    id: u64,
+    size: u64,
+    bytes: &[u8],
+) -> Result<(), DiskFault>
+    requires end { IsEnd (D.files disk.old) (segment_name_of 6 id) size }
+    ensures told { SameTold (D.files disk.old) (D.files disk.new) }
+    ensures appends { OnOk result (AppendsTo (D.files disk.old) (D.files disk.new)
+        (segment_name_of 6 id) bytes.now) }
+    ensures adds { Adds (change.Append (segment_name_of 6 id) bytes.now) (D.changes disk.old)
+        (D.changes disk.new) result }
+    ensures later { IsLater D.moment D.read_at disk.old disk.new }
+    ensures cause { HasDiskCause (D.faults disk.old) (D.faults disk.new) result }
+    ensures kept { (r : Reading) (past : List Write) (old kept new : List Section)
+        → Brings id old kept new bytes.now
+        → RestsAt (D.files disk.old) (D.leaves disk.old) r past id old kept
+        → OnOk result
+        (RestsAt (D.files disk.new) (D.leaves disk.new) r past id old (kept ++ new)) }
+    ensures refused { result ≢ Err failed → (r : Reading) (past : List Write)
+        (old kept : List Section)
+        → RestsAt (D.files disk.old) (D.leaves disk.old) r past id old kept
+        → OnErr result (RestsAt (D.files disk.new) (D.leaves disk.new) r past id old kept
+        × LeavesOnly D.moment D.since disk.old disk.new (ShowsBehind r past id old kept)) }
+    ensures any_moment { (r : Reading) (past : List Write) (old kept new : List Section)
+        → Brings id old kept new bytes.now
+        → RestsAt (D.files disk.old) (D.leaves disk.old) r past id old kept
+        → LeavesOnly D.moment D.since disk.old disk.new
+        (ShowsBehind r past id old (kept ++ new)) }
+{
+    disk.append_at(&segment_name(id), size, bytes)
+}
+
+/// Makes the sections last that are kept. Where it is refused, for whatever cause, nothing has
+/// changed.
+pub fn settle_sections<D: Disk>(disk: &mut D, id: u64) -> Result<(), DiskFault>
+    ensures same { D.files disk.new ≡ D.files disk.old }
+    ensures quiet { D.changes disk.new ≡ D.changes disk.old }
+    ensures later { IsLater D.moment D.read_at disk.old disk.new }
+    ensures cause { HasDiskCause (D.faults disk.old) (D.faults disk.new) result }
+    ensures lasts { (r : Reading) (past : List Write) (old kept : List Section)
+        → RestsAt (D.files disk.old) (D.leaves disk.old) r past id old kept
+        → OnOk result
+        (RestsAt (D.files disk.new) (D.leaves disk.new) r past id (old ++ kept) []) }
+    ensures refused { (r : Reading) (past : List Write) (old kept : List Section)
+        → RestsAt (D.files disk.old) (D.leaves disk.old) r past id old kept
+        → OnErr result (RestsAt (D.files disk.new) (D.leaves disk.new) r past id old kept) }
+    ensures any_moment { (r : Reading) (past : List Write) (old kept : List Section)
+        → RestsAt (D.files disk.old) (D.leaves disk.old) r past id old kept
+        → LeavesOnly D.moment D.since disk.old disk.new (ShowsBehind r past id old kept) }
+{
+    disk.sync(&segment_name(id))
+}
+
+/// Puts the bytes of further sections behind those of a segment and makes them last, with those
+/// that were kept there. Where it is refused for memory, the new ones are kept or are not there.
+pub fn put_sections<D: Disk>(
+    disk: &mut D,
+    id: u64,
+    size: u64,
+    bytes: &[u8],
+) -> Result<(), DiskFault>
+    requires end { IsEnd (D.files disk.old) (segment_name_of 6 id) size }
+    ensures told { SameTold (D.files disk.old) (D.files disk.new) }
+    ensures appends { OnOk result (AppendsTo (D.files disk.old) (D.files disk.new)
+        (segment_name_of 6 id) bytes.now) }
+    ensures later { IsLater D.moment D.read_at disk.old disk.new }
+    ensures put { (r : Reading) (past : List Write) (old kept new : List Section)
+        → Brings id old kept new bytes.now
+        → RestsAt (D.files disk.old) (D.leaves disk.old) r past id old kept
+        → OnOk result
+        (RestsAt (D.files disk.new) (D.leaves disk.new) r past id (old ++ (kept ++ new)) []) }
+    ensures refused { result ≢ Err failed → (r : Reading) (past : List Write)
+        (old kept new : List Section) → Brings id old kept new bytes.now
+        → RestsAt (D.files disk.old) (D.leaves disk.old) r past id old kept
+        → OnErr result (RestsAt (D.files disk.new) (D.leaves disk.new) r past id old kept
+        ⊎ RestsAt (D.files disk.new) (D.leaves disk.new) r past id old (kept ++ new)) }
+    ensures any_moment { (r : Reading) (past : List Write) (old kept new : List Section)
+        → Brings id old kept new bytes.now
+        → RestsAt (D.files disk.old) (D.leaves disk.old) r past id old kept
+        → LeavesOnly D.moment D.since disk.old disk.new
+        (ShowsBehind r past id old (kept ++ new)) }
+{
+    keep_sections(disk, id, size, bytes)?;
+    settle_sections(disk, id)
+}

@@ -1,0 +1,161 @@
+//! A store that writes one segment. Over its whole life each image of a crash since its opening
+//! restores what the folder restored then, and the first of the entries that it was handed: the
+//! invariant of its type, `HasLived`. From the first fault of the disk on it writes nothing.
+ghost use Rattle.std.specs.Prelude.{◌≡◌, ◌++◌, List, [], ◌∷◌, take, drop, length, IfSome, OnOk};
+ghost use Rattle.clog_scan.specs.Cut.{Section};
+ghost use Rattle.clog_spec.specs.Names.{segment_name_of};
+ghost use Rattle.clog_disk.specs.Files.{IsEnd};
+ghost use Rattle.clog_crash.specs.Rest.{IsAtRest};
+ghost use Rattle.clog_crash.specs.Sections.{Brings};
+ghost use Rattle.clog_store.specs.Life.{ShownSince};
+
+use crate::sections::{keep_sections, settle_sections};
+use clog_base::Bytes;
+use clog_disk::{Disk, DiskFault};
+use std::alloc::{AllocFailed, Global};
+use std::marker::Model;
+
+/// A section as it was handed over: where it ends, and its entries' payloads.
+#[derive(Drop)]
+pub struct Written {
+    pub until: u64,
+    pub payloads: Vec<Bytes>,
+}
+
+impl Model for Written {
+    ghost use Rattle.clog_scan.specs.Cut.{Section};
+
+    ghost Value = { Section };
+
+    ghost view = { λ w. record { until = w.until; payloads = w.payloads.items } };
+}
+
+/// Why a store did not write a section, or did not make it last.
+#[derive(Clone, Copy, Debug, PartialEq, Eq)]
+pub enum StoreFault {
+    /// The disk has failed, in this call or in an earlier one.
+    Stopped,
+    /// Memory was refused. The section is not there, or is kept.
+    OutOfMemory,
+}
+
+impl<T: Drop> From<AllocFailed<T>> for StoreFault {
+    ghost use Rattle.clog_store.specs.declared.store.StoreFault.TheVariants.{OutOfMemory};
+
+    ghost from_gives = { λ _ e. e ≡ OutOfMemory };
+
+    fn from(_: AllocFailed<T>) -> Self {
+        StoreFault::OutOfMemory
+    }
+}
+
+/// A store of one segment.
+#[derive(Drop)]
+pub struct Store<D: Disk> {
+    disk: D,
+    /// The disk's moment at the opening.
+    opened: u64,
+    id: u64,
+    sections: Vec<Written>,
+    /// How many of them last.
+    synced: usize,
+    /// The disk has failed.
+    is_stopped: bool,
+}
+
+impl<D: Disk> Model for Store<D> {
+    ghost use Rattle.clog_store.specs.Life.{State, HasLived};
+
+    ghost Value = { State D };
+
+    ghost view = { λ s. record {
+      disk = s.disk;
+      opened = s.opened;
+      id = s.id;
+      sections = s.sections.items;
+      synced = s.synced;
+      is_stopped = s.is_stopped;
+    } };
+
+    ghost invariant = { λ s. HasLived D.files D.moment D.since D.leaves D.read_at s.disk s.opened
+        s.id s.sections.items s.synced s.is_stopped };
+}
+
+// The last section goes, since nothing of it came onto the disk.
+fn take_back(sections: &mut Vec<Written>)
+    ensures { (before : List Section) (last : Section) → sections.old.items ≡ before ++ last ∷ []
+        → sections.new.items ≡ before }
+{
+    sections.pop();
+}
+
+impl<D: Disk> Store<D> {
+    /// Opens a store over a folder in which everything lasts, for a segment above all that it
+    /// names.
+    pub fn open(alloc: Global, disk: D, id: u64) -> Store<D>
+        requires rest { IfSome (D.files disk) (λ f. IsAtRest f (D.leaves disk) id [] []) }
+        ensures disk { result.disk ≡ disk }
+        ensures opened { result.opened ≡ D.moment disk }
+        ensures id { result.id ≡ id }
+        ensures sections { result.sections ≡ [] }
+    {
+        let opened = disk.moment_count();
+        Store {
+            disk,
+            opened,
+            id,
+            sections: Vec::new(alloc),
+            synced: 0,
+            is_stopped: false,
+        }
+    }
+
+    /// Writes one section more, whose bytes these are, and makes it last, with those that were
+    /// kept. `size` is the length of the segment's file.
+    pub fn write(&mut self, section: Written, size: u64, bytes: &[u8]) -> Result<(), StoreFault>
+        requires end { IsEnd (D.files self.old.disk) (segment_name_of 6 self.old.id) size }
+        requires brings { Brings self.old.id (take self.old.synced self.old.sections)
+            (drop self.old.synced self.old.sections) (section ∷ []) bytes.now }
+        ensures opened { self.new.opened ≡ self.old.opened }
+        ensures id { self.new.id ≡ self.old.id }
+        ensures written { OnOk result (self.new.sections ≡ self.old.sections ++ section ∷ []) }
+        ensures lasts { OnOk result (self.new.synced ≡ length self.new.sections) }
+    {
+        if self.is_stopped {
+            return Err(StoreFault::Stopped);
+        }
+        self.sections.push(section)?;
+        match keep_sections(&mut self.disk, self.id, size, bytes) {
+            Ok(()) => {}
+            Err(DiskFault::OutOfMemory) => {
+                take_back(&mut self.sections);
+                return Err(StoreFault::OutOfMemory);
+            }
+            Err(_) => {
+                self.is_stopped = true;
+                return Err(StoreFault::Stopped);
+            }
+        }
+        match settle_sections(&mut self.disk, self.id) {
+            Ok(()) => {
+                self.synced = self.sections.len();
+                Ok(())
+            }
+            Err(DiskFault::OutOfMemory) => Err(StoreFault::OutOfMemory),
+            Err(_) => {
+                self.is_stopped = true;
+                Err(StoreFault::Stopped)
+            }
+        }
+    }
+
+    /// Gives the disk back, of which each image since the opening restores what the folder restored
+    /// then and the first of the entries.
+    pub fn into_disk(self) -> D
+        ensures disk { result ≡ self.disk }
+        ensures shown { ShownSince D.files D.moment D.since D.read_at result self.opened self.id
+            self.sections }
+    {
+        self.disk
+    }
+}
