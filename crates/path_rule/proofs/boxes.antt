@@ -6,3 +6,7 @@ pub mod AllGathered
 pub mod DeskMoved
 pub mod DeskChanged
 pub mod OneHolder
+pub mod AtHome
+pub mod HandsStay
+pub mod SameBoxes
+pub mod PutAt

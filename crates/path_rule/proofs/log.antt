@@ -1,5 +1,3 @@
--- The log: the last marker, and what may be lent to the keeper.
+-- The log: the last marker, and what is pending up to it.
 pub mod Lending
-pub mod Tiling
-pub mod Lendable
 pub mod LastMarkers

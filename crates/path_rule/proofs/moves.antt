@@ -16,3 +16,5 @@ pub mod MarkerSteps
 pub mod SyncFacts
 pub mod SyncSteps
 pub mod LogStops
+pub mod DepositSteps
+pub mod AppendMoved

@@ -5,3 +5,8 @@ pub mod Refusals
 pub mod HolderKnows
 pub mod CursorKnows
 pub mod Staying
+pub mod Merging
+pub mod FirstWords
+pub mod Ends
+pub mod HolderLooks
+pub mod HolderIssues

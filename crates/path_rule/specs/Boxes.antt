@@ -43,10 +43,12 @@ desk_box = 0
 abbrev pub box_of : ℕ → ℕ → ℕ
 box_of w g = 1 + 2 * w + g % 2
 
+-- how many boxes there are
 abbrev pub boxes : ℕ → ℕ
 boxes seats = 1 + 2 * seats
 
--- Which boxes a seat has is told by its view.
+-- Which boxes a seat has is told by its view: its own one while it is in a group of the append
+-- order, the desk while it holds the Sync turn, and the one of another seat that it took.
 
 abbrev pub HasOwn : ℕ → Option ℕ → ℕ → Type 0
 HasOwn w None b = ⊥
@@ -66,6 +68,7 @@ HoldsAs append held taken b Spent = ⊥
 abbrev pub HoldsBox : View → ℕ → Type 0
 HoldsBox v b = HoldsAs v.part.append (is_some v.part.sync) v.hands.box_taken b v.role
 
+-- no seat has the box
 abbrev pub IsFree : List View → ℕ → Type 0
 IsFree views b = (j : ℕ) (v : View) → get_elem? views j ≡ some v → ¬ HoldsBox v b
 
@@ -85,11 +88,13 @@ first_progress = record { gathered = true; marker = None }
 -- What a box holds.
 
 module _ {K : Type 0} where
+  -- these notes
   abbrev pub NotesAre : Slot K → List EntryNote → Type 0
   NotesAre (Notes kept) notes = kept ≡ notes
   NotesAre (Turn desk) notes = ⊥
 
 module _ {K : Type 0} (shows : K → Lasting) where
+  -- a keeper that shows this, these pending notes, and this progress
   abbrev pub DeskIs : Slot K → Lasting → List EntryNote → Progress → Type 0
   DeskIs (Notes kept) lasting pending progress = ⊥
   DeskIs (Turn desk) lasting pending progress =

@@ -37,7 +37,7 @@ with_swept seats h = record h {
   };
 }
 
--- nothing is gathered since the last barrier
+-- it gathers no more: the turn is given back
 abbrev pub unswept_hands : Hands → Hands
 unswept_hands h = record h { swept = 0 }
 
@@ -53,3 +53,7 @@ abbrev pub with_marker : ℕ → Hands → Hands
 with_marker key h = record h {
   progress = record h.progress { marker = Some (record { start = key; barrier = None }) };
 }
+
+-- The desk tells that the barrier of the last marker is issued.
+abbrev pub issued_hands : ℕ → Hands → Hands
+issued_hands group h = with_desk h.lasting h.pending (barred group h.progress) h

@@ -1,5 +1,6 @@
 -- What the keeper shows of the machine.
-use Rattle.std.specs.Prelude.{ℕ, List, [], ◌++◌}
+use Rattle.std.specs.Prelude.{ℕ, List, [], ◌++◌, map}
+use Rattle.path_core.specs.declared.note.EntryNote.{EntryNote}
 use Rattle.path_core.specs.declared.state.PathState.{PathState}
 use Rattle.path_rule.specs.declared.lasting.Lasting.{Lasting}
 
@@ -11,4 +12,8 @@ none_lasting = record { logged = []; synced = 0; dropped = [] }
 
 -- more entries are lasting, up to a key
 abbrev pub more_lasting : List ℕ → ℕ → Lasting → Lasting
-more_lasting more upto l = record { logged = l.logged ++ more; synced = upto; dropped = l.dropped }
+more_lasting more upto l = record l { logged = l.logged ++ more; synced = upto }
+
+-- where entries end
+abbrev pub ends : List EntryNote → List ℕ
+ends l = map (λ (n : EntryNote). n.end.0) l

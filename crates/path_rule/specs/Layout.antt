@@ -41,9 +41,11 @@ group_rows = 65536
 abbrev pub memtable_rows : ℕ
 memtable_rows = 256
 
+-- and the words in all
 abbrev pub word_rows : ℕ
 word_rows = 135240
 
+-- where the word of a place stands
 abbrev pub word_at : Place → ℕ
 word_at (Current Write) = 0
 word_at (Current Append) = 1
@@ -80,6 +82,7 @@ bound_word Live = 0
 bound_word (Raising k) = k.0 + 2 ^ 62
 bound_word (Final k) = k.0 + 2 ^ 63
 
+-- The word of what is read at a place.
 abbrev pub word_of : Reading → ℕ
 word_of (Operations k) = tally_word k
 word_of (Number n) = n

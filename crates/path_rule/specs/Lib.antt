@@ -3,7 +3,6 @@ pub mod Lasts
 pub mod Boxes
 pub mod Boxed
 pub mod Rule
-pub mod Lent
 pub mod HandsAfter
 pub mod Turns
 pub mod Told

@@ -56,9 +56,11 @@ use Rattle.path_rule.specs.Layout.{
   memtable_rows,
 }
 
+-- the machine's opening
 abbrev pub start_of : PathSize → PathState
 start_of size = opening size.tables size.seats size.capacity size.ordinals size.base
 
+-- the sizes are within the limits
 abbrev pub IsFit : PathSize → Type 0
 IsFit size = IsWithinLimits size.tables size.seats size.capacity size.ordinals
 

@@ -1,6 +1,5 @@
 -- What the steps of the holder of the Sync turn tell of it, before and after.
 use Rattle.std.specs.Prelude.{◌≡◌, ◌≢◌, ℕ, suc, ◌+◌, ◌*◌, ◌<◌, List, ◌∷◌, Some}
-use Rattle.std.specs.List.{filter}
 use Rattle.atomic_table.specs.Table.{Me, Step, rest}
 use Rattle.op_core.specs.declared.count.Order.TheVariants.{Write, Append}
 use Rattle.path_core.specs.declared.event.ClaimKind.TheVariants.{Marker}
@@ -20,7 +19,9 @@ use Rattle.path_core.specs.declared.event.Place.TheVariants.{Oldest, Log, TurnWo
 use Rattle.path_core.specs.declared.event.Turn.TheVariants.{Sync}
 use Rattle.path_core.specs.declared.note.EntryNote.{EntryNote}
 use Rattle.path_core.specs.Allowed.{IsAllowed}
-use Rattle.path_core.specs.Next.{next_of, is_between}
+use Rattle.path_core.specs.Keeper.{IsParted}
+use Rattle.path_core.specs.Lent.{run_to}
+use Rattle.path_core.specs.Next.{next_of}
 use Rattle.path_rule.specs.declared.lasting.Lasting.{Lasting}
 use Rattle.path_rule.specs.declared.slot.Slot.{Slot}
 use Rattle.path_rule.specs.declared.view.Progress.{Progress}
@@ -35,19 +36,18 @@ use Rattle.path_rule.specs.HandsAfter.{
   barred,
   with_marker,
 }
-use Rattle.path_rule.specs.Lasts.{shown, more_lasting}
-use Rattle.path_rule.specs.Lent.{ends, Parted, MayLend}
+use Rattle.path_rule.specs.Lasts.{shown, more_lasting, ends}
 use Rattle.path_rule.specs.Rule.{Was}
 use Rattle.path_rule.specs.Told.{MadeAs, Made}
 use Rattle.path_rule.specs.Turns.{TurnSaw, IsBarred}
 
 -- In the state that the look at the synced key found, what was pending up to a key is exactly what
--- the machine would make lasting up to it, and may be lent to the keeper.
+-- the machine would make lasting up to it, and the synced key may be put there. So a keeper that
+-- agrees with the path may be lent it (`what_a_path_syncs_may_be_written`).
 abbrev pub IsLent : View → ℕ → ℕ → ℕ → List EntryNote → Type 0
 IsLent v w synced upto run = (was : Was v w (Look w (CursorWord Synced)))
     × (shown was.core ≡ v.hands.lasting) × (was.core.synced ≡ synced)
-    × (filter (is_between synced upto) was.core.notes ≡ run)
-    × MayLend v.size.capacity v.size.ordinals v.hands.lasting.dropped synced upto run
+    × (run_to was.core upto ≡ run) × IsAllowed was.core (Put w Synced upto)
 
 module _ {K : Type 0} where
   -- the box of another seat came, with what the seat knows
@@ -123,7 +123,7 @@ module _ {K : Type 0} where
   abbrev pub LentFound : Step (Slot K) → Me (Slot K) View → ℕ → Me (Slot K) View → Type 0
   LentFound st m n m' = (w : ℕ) → m.0.role ≡ Steps w → Made w (Look w (CursorWord Synced)) n m m'
       × ((value : ℕ) (run left : List EntryNote) → n < value → IsBarred m.0.hands value
-      → Parted value m.0.hands.pending run left → IsLent m.0 w n value run)
+      → IsParted value m.0.hands.pending run left → IsLent m.0 w n value run)
 
   -- the log is stopped
   abbrev pub StoppedPut : Step (Slot K) → Me (Slot K) View → ℕ → Me (Slot K) View → Type 0
@@ -156,7 +156,7 @@ module _ {K : Type 0} (shows : K → Lasting) where
   -- the keeper on it made lasting what was pending up to a key, and the rest is pending still
   abbrev pub CarriesSynced : ℕ → Me (Slot K) View → Type 0
   CarriesSynced upto m = (run : List EntryNote) × (left : List EntryNote)
-      × Parted upto m.0.hands.pending run left
+      × IsParted upto m.0.hands.pending run left
       × CarriesAs (more_lasting (ends run) upto m.0.hands.lasting) left m.0.hands.progress m
 
   -- The synced key is put, and what the keeper made lasting is what the machine has now.

@@ -16,6 +16,7 @@ mod laws;
 mod opening;
 mod plays;
 mod rule;
+mod seeking;
 mod slot;
 mod syncing;
 mod table;

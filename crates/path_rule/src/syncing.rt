@@ -6,11 +6,11 @@ ghost use Rattle.path_core.specs.declared.event.Event.TheVariants.{Look, Put};
 ghost use Rattle.path_core.specs.declared.event.Place.TheVariants.{CursorWord};
 ghost use Rattle.path_core.specs.declared.note.EntryNote.{EntryNote};
 ghost use Rattle.path_core.specs.declared.seat.SyncTurn.{SyncTurn};
+ghost use Rattle.path_core.specs.Keeper.{IsParted};
 ghost use Rattle.path_core.specs.Next.{next_of};
 ghost use Rattle.path_rule.specs.declared.lasting.Lasting.{Lasting};
 ghost use Rattle.path_rule.specs.HandsAfter.{with_desk};
 ghost use Rattle.path_rule.specs.Lasts.{shown};
-ghost use Rattle.path_rule.specs.Lent.{Parted};
 ghost use Rattle.path_rule.specs.Members.{
   view_of,
   part_of,
@@ -45,7 +45,7 @@ impl<K: Keeper, A: Allocator> PathTable<K, A> {
         ensures runs { (value : ℕ) → result < value → TurnRuns (part_of member.new) value }
         ensures lent { (value : ℕ) (run left : List EntryNote) → result < value
             → IsBarred (hands_of member.old) value
-            → Parted value (hands_of member.old).pending run left
+            → IsParted value (hands_of member.old).pending run left
             → IsLent (view_of member.old) member.old.number result value run }
     {
         self.table

@@ -1,16 +1,18 @@
-//! A barrier of the write order that waits until all operations before it are closed
-//! (`OpOrder.Barrier.await`).
-ghost use Rattle.std.specs.Prelude.{◌≡◌, ℕ, suc, ◌+◌, ◌<◌, ◌≤◌};
-ghost use Rattle.op_core.specs.declared.count.Order.TheVariants.{Write};
+//! Barriers that wait until all operations before them are closed (`OpOrder.Barrier.await`): of the
+//! write order, and of the append order for the last marker.
+ghost use Rattle.std.specs.Prelude.{◌≡◌, ℕ, suc, ◌+◌, ◌<◌, ◌≤◌, true};
+ghost use Rattle.op_core.specs.declared.count.Order.TheVariants.{Write, Append};
 ghost use Rattle.path_core.specs.declared.seat.Issue.TheVariants.{Rest};
 ghost use Rattle.path_rule.specs.Calls.{Holds, IsPast};
-ghost use Rattle.path_rule.specs.Members.{view_of, part_of, IsOf, KeepsSizes};
+ghost use Rattle.path_rule.specs.HandsAfter.{issued_hands};
+ghost use Rattle.path_rule.specs.Members.{view_of, part_of, hands_of, IsOf, KeepsSizes};
 ghost use Rattle.path_rule.specs.Passes.{MatchPassed};
-ghost use Rattle.path_rule.specs.Turns.{TurnSaw, TurnOld};
+ghost use Rattle.path_rule.specs.Turns.{MarkerWaits, TurnSaw, TurnOld, TurnGone, KeepsCurrent};
 
 use crate::slot::Keeper;
 use crate::table::{Member, PathTable};
 use crate::words::{EXPIRED, LAST_GROUP};
+use op_core::Order;
 use std::alloc::Allocator;
 use std::sync::Wait;
 use std::thread::yield_now;
@@ -34,22 +36,48 @@ pub enum Passed {
 }
 
 impl<K: Keeper, A: Allocator> PathTable<K, A> {
-    // Moves the oldest group of the write order up to the current one, and waits until it is there.
-    fn advance_to<R: Wait>(&self, rt: &R, holder: Holder<K>, current: u64) -> Holder<K>
+    // Moves the oldest group of an order over one whose count was found finished.
+    fn advance(&self, member: &mut Member<K>, order: Order, group: u64, oldest: u64, current: u64)
+        requires table { IsOf self.now.table.shared.table_id self.now.size member.old }
+        requires turn { Holds Rest (view_of member.old)
+            × TurnSaw order (part_of member.old) current
+            × TurnOld order (part_of member.old) oldest
+            × TurnGone order (part_of member.old) oldest }
+        requires group { (group ≡ suc oldest) × (group ≤ current) }
+        ensures same { KeepsSizes member.old member.new }
+        ensures turn { Holds Rest (view_of member.new)
+            × KeepsCurrent order (part_of member.old) (part_of member.new) }
+        ensures hands { hands_of member.new ≡ hands_of member.old }
+    {
+        match order {
+            Order::Write => self.advance_write(member, group, oldest, current),
+            Order::Append => self.advance_append(member, group, oldest, current),
+        }
+    }
+
+    // Moves the oldest group up to the current one, and waits until it is there.
+    fn advance_to<R: Wait>(
+        &self,
+        rt: &R,
+        holder: Holder<K>,
+        order: Order,
+        current: u64,
+    ) -> Holder<K>
         requires table { IsOf self.now.table.shared.table_id self.now.size holder.member }
-        requires current { TurnSaw Write (part_of holder.member) current × (current < 65536) }
+        requires current { TurnSaw order (part_of holder.member) current × (current < 65536) }
         ensures same { KeepsSizes holder.member result.member }
-        ensures past { (h : ℕ) × TurnOld Write (part_of result.member) h × (current ≤ h) }
+        ensures past { (h : ℕ) × TurnOld order (part_of result.member) h × (current ≤ h) }
+        ensures hands { hands_of result.member ≡ hands_of holder.member }
     {
         let Holder { mut member } = holder;
         for _ in rt.forever() {
-            let oldest = self.seek_oldest(&mut member);
+            let oldest = self.seek_oldest(&mut member, order);
             if oldest >= current {
                 return Holder { member };
             }
-            let count = self.seek_count(&mut member, oldest);
+            let count = self.seek_count(&mut member, order, oldest);
             if count == EXPIRED {
-                self.advance_write(&mut member, oldest + 1, oldest, current);
+                self.advance(&mut member, order, oldest + 1, oldest, current);
             } else {
                 yield_now();
             }
@@ -57,23 +85,50 @@ impl<K: Keeper, A: Allocator> PathTable<K, A> {
         unreachable!()
     }
 
-    /// Issues a barrier of the write order, and waits until it is passed. No clause says that it
-    /// returns.
+    /// Issues a barrier of the write order, and waits until it is passed. Where the last group that
+    /// there is a word for is the current one, it answers `Rows` and issues nothing. No clause says
+    /// that it returns.
     pub fn barrier<R: Wait>(&self, rt: &R, holder: Holder<K>) -> (Holder<K>, Passed)
         requires { IsOf self.now.table.shared.table_id self.now.size holder.member }
         ensures same { KeepsSizes holder.member result.0.member }
         ensures passed { MatchPassed result.1
-            (λ g. IsPast Write (view_of result.0.member) g) (λ n. n ≡ 65536) }
+            (λ g. IsPast Write (view_of result.0.member) g)
+            (λ n. (n ≡ 65536) × TurnSaw Write (part_of result.0.member) 65535) }
     {
         let Holder { mut member } = holder;
-        let current = self.seek_current(&mut member);
+        let current = self.seek_current(&mut member, Order::Write);
         if current == LAST_GROUP {
             return (Holder { member }, Passed::Rows(LAST_GROUP + 1));
         }
         self.open_write(&mut member, current + 1, current);
         self.move_write(&mut member, current + 1, current);
         self.expire_write(&mut member, current, current + 1);
-        let holder = self.advance_to(rt, Holder { member }, current + 1);
+        let holder = self.advance_to(rt, Holder { member }, Order::Write, current + 1);
+        (holder, Passed::Passed(current))
+    }
+
+    /// Issues the barrier of the last marker, which is the member's own and has none, and waits
+    /// until it is passed: then the boxes of the groups before the current one may be gathered.
+    /// The boxes of the barrier before it have to be.
+    pub fn marker_barrier<R: Wait>(&self, rt: &R, holder: Holder<K>) -> (Holder<K>, Passed)
+        requires table { IsOf self.now.table.shared.table_id self.now.size holder.member }
+        requires marker { (start : ℕ) × MarkerWaits (part_of holder.member) start }
+        requires gathered { (hands_of holder.member).progress.gathered ≡ true }
+        ensures same { KeepsSizes holder.member result.0.member }
+        ensures passed { MatchPassed result.1
+            (λ g. IsPast Append (view_of result.0.member) g
+            × (hands_of result.0.member ≡ issued_hands g (hands_of holder.member)))
+            (λ n. (n ≡ 65536) × TurnSaw Append (part_of result.0.member) 65535) }
+    {
+        let Holder { mut member } = holder;
+        let current = self.seek_current(&mut member, Order::Append);
+        if current == LAST_GROUP {
+            return (Holder { member }, Passed::Rows(LAST_GROUP + 1));
+        }
+        self.open_append(&mut member, current + 1, current);
+        self.move_append(&mut member, current + 1, current);
+        self.expire_append(&mut member, current, current + 1);
+        let holder = self.advance_to(rt, Holder { member }, Order::Append, current + 1);
         (holder, Passed::Passed(current))
     }
 }

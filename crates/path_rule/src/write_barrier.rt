@@ -1,22 +1,18 @@
 //! The steps of a barrier of the write order, each with what its holder knows since: how far the
-//! issue has got (`Holds`), the current group (`TurnSaw`), the oldest one (`TurnOld`), and one
-//! whose count is finished (`TurnGone`).
-ghost use Rattle.std.specs.Prelude.{◌≡◌, ℕ, suc, ◌<◌, ◌≤◌, ◌^◌};
+//! issue has got (`Holds`), and the current group (`TurnSaw`).
+ghost use Rattle.std.specs.Prelude.{◌≡◌, ℕ, suc, ◌<◌, ◌≤◌};
 ghost use Rattle.op_core.specs.declared.count.Order.TheVariants.{Write};
 ghost use Rattle.path_core.specs.declared.event.Event.TheVariants.{
-  Look,
   OpenGroup,
   MoveCurrent,
   Expire,
   Advance,
 };
-ghost use Rattle.path_core.specs.declared.event.Place.TheVariants.{Count, Current, Oldest};
 ghost use Rattle.path_core.specs.declared.seat.Issue.TheVariants.{Rest, Opened, Moved};
 ghost use Rattle.path_rule.specs.Calls.{Holds};
-ghost use Rattle.path_rule.specs.Members.{view_of, part_of, IsOf, KeepsSizes, Stepped};
-ghost use Rattle.path_rule.specs.Turns.{TurnSaw, TurnOld, TurnGone, KeepsCurrent, KeepsOldest};
+ghost use Rattle.path_rule.specs.Members.{view_of, part_of, hands_of, IsOf, KeepsSizes, Stepped};
+ghost use Rattle.path_rule.specs.Turns.{TurnSaw, TurnOld, TurnGone, KeepsCurrent};
 
-use crate::plays::LookAt;
 use crate::slot::Keeper;
 use crate::table::{Member, PathTable};
 use crate::turn_plays::{AdvanceWrite, ExpireWrite, MoveWrite, OpenWrite};
@@ -24,56 +20,6 @@ use crate::words::{CURRENT_WRITE, EXPIRED, OLDEST_WRITE, WRITE_COUNTS};
 use std::alloc::Allocator;
 
 impl<K: Keeper, A: Allocator> PathTable<K, A> {
-    // The current group, exact while the turn is held.
-    pub(crate) fn seek_current(&self, member: &mut Member<K>) -> u64
-        requires table { IsOf self.now.table.shared.table_id self.now.size member.old }
-        requires turn { Holds Rest (view_of member.old) }
-        ensures same { KeepsSizes member.old member.new }
-        ensures step { Stepped member.old (Look member.old.number (Current Write)) result
-            member.new }
-        ensures below { result < 65536 }
-        ensures turn { Holds Rest (view_of member.new)
-            × TurnSaw Write (part_of member.new) result }
-    {
-        self.table
-            .shared
-            .load::<LookAt<K>>(&mut member.seat, CURRENT_WRITE)
-    }
-
-    // The oldest group, exact while the turn is held.
-    pub(crate) fn seek_oldest(&self, member: &mut Member<K>) -> u64
-        requires table { IsOf self.now.table.shared.table_id self.now.size member.old }
-        requires turn { Holds Rest (view_of member.old) }
-        ensures same { KeepsSizes member.old member.new }
-        ensures step { Stepped member.old (Look member.old.number (Oldest Write)) result
-            member.new }
-        ensures below { result < 65536 }
-        ensures turn { Holds Rest (view_of member.new) × TurnOld Write (part_of member.new) result
-            × KeepsCurrent Write (part_of member.old) (part_of member.new) }
-    {
-        self.table
-            .shared
-            .load::<LookAt<K>>(&mut member.seat, OLDEST_WRITE)
-    }
-
-    // The count of the oldest group.
-    pub(crate) fn seek_count(&self, member: &mut Member<K>, group: u64) -> u64
-        requires table { IsOf self.now.table.shared.table_id self.now.size member.old }
-        requires turn { Holds Rest (view_of member.old) × TurnOld Write (part_of member.old) group
-            × (group < 65536) }
-        ensures same { KeepsSizes member.old member.new }
-        ensures step { Stepped member.old (Look member.old.number (Count Write group)) result
-            member.new }
-        ensures turn { Holds Rest (view_of member.new)
-            × KeepsCurrent Write (part_of member.old) (part_of member.new)
-            × KeepsOldest Write (part_of member.old) (part_of member.new) }
-        ensures gone { result ≡ 2 ^ 63 → TurnGone Write (part_of member.new) group }
-    {
-        self.table
-            .shared
-            .load::<LookAt<K>>(&mut member.seat, WRITE_COUNTS + 2 * group as usize)
-    }
-
     // Makes the next group.
     pub(crate) fn open_write(&self, member: &mut Member<K>, group: u64, current: u64)
         requires table { IsOf self.now.table.shared.table_id self.now.size member.old }
@@ -144,6 +90,7 @@ impl<K: Keeper, A: Allocator> PathTable<K, A> {
             member.new }
         ensures turn { Holds Rest (view_of member.new)
             × KeepsCurrent Write (part_of member.old) (part_of member.new) }
+        ensures hands { hands_of member.new ≡ hands_of member.old }
     {
         self.table
             .shared

@@ -37,7 +37,7 @@ use Rattle.path_rule.specs.declared.view.Role.TheVariants.{Opener, Steps, Spent}
 use Rattle.path_rule.specs.declared.view.View.{View}
 use Rattle.path_rule.specs.Boxed.{HandsAs, IsSomewhere, IsKept, ends_at, Boxed}
 use Rattle.path_rule.specs.Boxes.{boxes, HoldsAs, HoldsBox, IsFree, Fits}
-use Rattle.path_rule.proofs.boxes.HeldBoxes.{inside_list, same_homes}
+use Rattle.path_rule.proofs.boxes.AtHome.{inside_list, same_homes}
 
 -- What is on the desk changes, in the hand of the holder of the turn.
 module _ {K : Type 0} (shows : K → Lasting) (seats : ℕ) (notes : List EntryNote)

@@ -37,7 +37,7 @@ use Rattle.path_rule.specs.declared.view.Role.TheVariants.{Steps}
 use Rattle.path_rule.specs.declared.view.View.{View}
 use Rattle.path_rule.specs.Boxed.{HandsAs, Boxed}
 use Rattle.path_rule.specs.Boxes.{desk_box, boxes, HoldsAs, HoldsBox, DeskIs, Fits}
-use Rattle.path_rule.proofs.boxes.HeldBoxes.{take_homes, give_homes}
+use Rattle.path_rule.proofs.boxes.AtHome.{take_homes, give_homes}
 
 module _ {K : Type 0} (shows : K → Lasting) (seats : ℕ) (notes : List EntryNote) (lasting : Lasting)
     (claims : List Claim) (append : OrderGroups) (homes : List (maybe.Option (Slot K)))

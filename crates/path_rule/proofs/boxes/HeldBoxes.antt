@@ -1,23 +1,20 @@
--- Boxes: who has one, and what is in those at home.
+-- A seat takes its own box, puts it back as it was, or moves none.
 use Rattle.std.proofs.Common.{
   ◌≡◌,
   ◌≢◌,
   ℕ,
-  zero,
   suc,
   ◌%◌,
   ◌<◌,
   Bool,
   List,
   [],
-  ◌∷◌,
   length,
   set,
   Option,
   Some,
   None,
   is_some,
-  IsTrue,
   refl,
   sym,
   ap,
@@ -26,167 +23,35 @@ use Rattle.std.proofs.Common.{
   ⊎_elim,
   arith,
 }
-use Rattle.std.specs.Option.{option_map, option_map_or}
-use mathlib.Core.Logic.{dite, inl, inr}
+use mathlib.Core.Logic.{inl, inr}
 use mathlib.Core.Option.{some, none, some-injective, some-ne-none}
 use mathlib.Core.Option as maybe
-use native.Mathlib.Decide.{ℕ_discrete}
 use lib.ListN.{get_elem?}
-use Rattle.atomic_table.proofs.Lists.{at_set, set_here, set_else}
+use Rattle.atomic_table.proofs.Lists.{at_set}
 use Rattle.path_core.specs.declared.note.EntryNote.{EntryNote}
 use Rattle.path_core.specs.declared.seat.Issue.{Issue}
-use Rattle.path_core.specs.declared.seat.Issue.TheVariants.{Rest}
 use Rattle.path_core.specs.declared.seat.Seat.{Seat}
-use Rattle.path_core.specs.declared.seat.SyncTurn.{SyncTurn}
 use Rattle.path_core.specs.declared.state.Claim.{Claim}
 use Rattle.path_core.specs.declared.state.OrderGroups.{OrderGroups}
-use Rattle.path_core.specs.LawfulLog.{claim_in}
-use Rattle.path_core.specs.Parts.{issue_of, is_marker}
 use Rattle.path_core.proofs.seats.Columns.{issue_held}
 use Rattle.path_rule.specs.declared.lasting.Lasting.{Lasting}
 use Rattle.path_rule.specs.declared.slot.Slot.{Slot}
 use Rattle.path_rule.specs.declared.view.Hands.{Hands}
 use Rattle.path_rule.specs.declared.view.Progress.{Progress}
 use Rattle.path_rule.specs.declared.view.Role.{Role}
-use Rattle.path_rule.specs.declared.view.Role.TheVariants.{Opener, Steps, Spent}
+use Rattle.path_rule.specs.declared.view.Role.TheVariants.{Steps}
 use Rattle.path_rule.specs.declared.view.View.{View}
-use Rattle.path_rule.specs.Boxed.{Gathers, Swept, HandsAre, HandsAs, Stamped, Boxed}
-use Rattle.path_rule.specs.Boxes.{
-  last_kept,
-  box_of,
-  boxes,
-  HoldsAs,
-  HoldsBox,
-  IsFree,
-  Fits,
-  NotesAre,
-}
+use Rattle.path_rule.specs.Boxed.{Gathers, Swept, HandsAre, HandsAs, Boxed}
+use Rattle.path_rule.specs.Boxes.{last_kept, box_of, boxes, HoldsAs, HoldsBox, Fits, NotesAre}
 use Rattle.path_rule.specs.HandsAfter.{with_notes}
-use Rattle.path_rule.proofs.places.ReadBack.{is_some_held}
-
-pub inside_list : {A : Type 0} (l : List A) (j : ℕ) (a : A) → get_elem? l j ≡ some a → j < length l
-inside_list [] j a e = absurd (some-ne-none a (sym e))
-inside_list (x ∷ xs) zero a e = omega arith
-inside_list (x ∷ xs) (suc j) a e = let h = inside_list xs j a e in omega arith
-
--- what is free after seat id has changed was free before, where the seat goes on to have it
-old_free : (views : List View) (id : ℕ) (v v' : View) → get_elem? views id ≡ some v → (b : ℕ)
-    → (HoldsBox v b → HoldsBox v' b) → IsFree (set views id v') b → IsFree views b
-old_free views id v v' at b more free j u e h = dite (ℕ_discrete j id)
-    (λ is. let same : u ≡ v = some-injective u v (sym e ∙ (ap (get_elem? views) is ∙ at)) in
-    free id v' (set_here views id v' (inside_list views id v at))
-    (more (subst (λ z. HoldsBox z b) same h)))
-    (λ apart. free j u (set_else views id j v' apart ∙ e) h)
-
--- the issue that a seat is at
-pub issue_known : (p q : Seat) → issue_held q ≡ issue_held p → issue_of q ≡ issue_of p
-issue_known p q same = sym (by q.sync)
-    ∙ (ap (λ (o : Option Issue). option_map_or (λ (i : Issue). i) o Rest) same ∙ by p.sync)
-  where
-    by : (o : Option SyncTurn) → option_map_or (λ (i : Issue). i)
-        (option_map (λ (t : SyncTurn). t.issue) o) Rest
-        ≡ option_map_or (λ (t : SyncTurn). t.issue) o Rest
-    by None = refl
-    by (Some t) = refl
-
-module _ {K : Type 0} where
-  abbrev AtHome : (ℕ → Slot K → Type 0) → ℕ → List (maybe.Option (Slot K)) → List View → Type 0
-  AtHome P n homes views = (b : ℕ) → b < n → IsFree views b
-      → (y : Slot K) × (get_elem? homes b ≡ some (some y)) × P b y
-
-  module _ (P Q : ℕ → Slot K → Type 0) (n : ℕ) (homes : List (maybe.Option (Slot K)))
-      (views : List View) (id : ℕ) (v v' : View) (at : get_elem? views id ≡ some v)
-      (home : AtHome P n homes views) where
-    pub same_homes : ((b : ℕ) → HoldsBox v b → HoldsBox v' b)
-        → ((b : ℕ) (y : Slot K) → P b y → Q b y) → AtHome Q n homes (set views id v')
-    same_homes more goes b l free = let h = home b l (old_free views id v v' at b (more b) free) in
-        (h.0, h.1, goes b h.0 h.2)
-
-    pub take_homes : (box : ℕ) → HoldsBox v' box → ((b : ℕ) → HoldsBox v b → HoldsBox v' b)
-        → ((b : ℕ) (y : Slot K) → P b y → Q b y) → AtHome Q n (set homes box none) (set views id v')
-    take_homes box has more goes b l free = let apart : b ≢ box =
-        (λ e. free id v' (set_here views id v' (inside_list views id v at))
-        (subst (HoldsBox v') (sym e) has)) in
-        let old = home b l (old_free views id v v' at b (more b) free) in
-        (old.0, set_else homes box b none apart ∙ old.1, goes b old.0 old.2)
-
-    pub give_homes : (box : ℕ) (y : Slot K) → box < length homes → Q box y
-        → ((b : ℕ) → b ≢ box → HoldsBox v b → HoldsBox v' b)
-        → ((b : ℕ) (y : Slot K) → b ≢ box → P b y → Q b y)
-        → AtHome Q n (set homes box (some y)) (set views id v')
-    give_homes box y inside fits more goes b l free = dite (ℕ_discrete b box)
-        (λ e. (
-          y,
-          ap (get_elem? (set homes box (some y))) e
-              ∙ set_here homes box (some y) inside,
-          subst (λ c. Q c y) (sym e) fits,
-        ))
-        (λ apart. let old = home b l (old_free views id v v' at b (more b apart) free) in
-        (old.0, set_else homes box b (some y) apart ∙ old.1, goes b old.0 apart old.2))
-
--- What a seat knows of its boxes stays.
-hands_stay : (contents : ℕ → List EntryNote) (lasting : Lasting) (pending : List EntryNote)
-    (gathered : Progress) (append after : OrderGroups) (seats w : ℕ) (p q : Seat) (h : Hands)
-    → after.current ≡ append.current → after.oldest ≡ append.oldest → q.append ≡ p.append
-    → issue_held q ≡ issue_held p
-    → HandsAre contents lasting pending gathered append seats w p h
-    → HandsAre contents lasting pending gathered after seats w q h
-hands_stay contents lasting pending gathered append after seats w p q h current oldest same issue
-    H = let held : is_some q.sync ≡ is_some p.sync =
-    sym (is_some_held q) ∙ (ap (λ (o : Option Issue). is_some o) issue ∙ is_some_held p) in record {
-      own = λ g e. H.own g (sym same ∙ e);
-      desk = λ e. H.desk (sym held ∙ e);
-      other = λ b e. let G = H.other b e in record {
-        holds = held ∙ G.holds;
-        rest = issue_known p q issue ∙ G.rest;
-        passed = oldest ∙ (G.passed ∙ sym current);
-        parity = λ z. G.parity (z ∙ ap (λ (c : ℕ). c % 2) current);
-        above = G.above;
-        inside = G.inside;
-        taken = G.taken;
-      };
-      swept = λ l. let S = H.swept l in record {
-        holds = held ∙ S.holds;
-        passed = oldest ∙ (S.passed ∙ sym current);
-        empty = λ z q. subst (λ c. contents (box_of z (suc c)) ≡ []) (sym current) (S.empty z q);
-      };
-    }
-
-role_hands_stay : (contents : ℕ → List EntryNote) (lasting : Lasting) (pending : List EntryNote)
-    (gathered : Progress) (append after : OrderGroups) (seats : ℕ) (p q : Seat) (h : Hands)
-    (ρ : Role)
-    → after.current ≡ append.current → after.oldest ≡ append.oldest → q.append ≡ p.append
-    → issue_held q ≡ issue_held p
-    → HandsAs contents lasting pending gathered append seats p h ρ
-    → HandsAs contents lasting pending gathered after seats q h ρ
-role_hands_stay contents lasting pending gathered append after seats p q h
-    (Opener k) current oldest same issue H = tt
-role_hands_stay contents lasting pending gathered append after seats p q h Spent current oldest same
-    issue H = tt
-role_hands_stay contents lasting pending gathered append after seats p q h
-    (Steps w) current oldest same issue H =
-    hands_stay contents lasting pending gathered append after seats w p q h current oldest same
-    issue H
-
--- the markers that have barriers are the same
-abbrev pub SameBarriers : List Claim → List Claim → Type 0
-SameBarriers claims after = (i g : ℕ) → i < length after → IsTrue (is_marker (claim_in after i))
-    → (claim_in after i).barrier ≡ Some g
-    → (i < length claims) × (claim_in claims i ≡ claim_in after i)
-
-pub stamp_stays : (claims after : List Claim) (current c : ℕ) (gathered : Bool) (b group : ℕ)
-    (n : EntryNote) → c ≡ current → SameBarriers claims after
-    → Stamped claims current gathered b group n → Stamped after c gathered b group n
-stamp_stays claims after current c gathered b group n is same S = record {
-  own = S.own;
-  not_above = (let l = S.not_above in omega arith);
-  recent = (let l = S.recent in omega arith);
-  gathered = λ t. S.gathered t ∙ sym is;
-  above = λ i g l m bar low. let q = same i g l m bar in
-      subst (λ (d : Claim). d.start < n.end.0) q.1
-      (S.above i g q.0 (subst (λ (d : Claim). IsTrue (is_marker d)) (sym q.1) m)
-      (subst (λ (d : Claim). d.barrier ≡ Some g) (sym q.1) bar) low);
+use Rattle.path_rule.proofs.boxes.AtHome.{same_homes, take_homes, give_homes}
+use Rattle.path_rule.proofs.boxes.HandsStay.{
+  issue_known,
+  role_hands_stay,
+  SameBarriers,
+  stamp_stays,
 }
+use Rattle.path_rule.proofs.places.ReadBack.{is_some_held}
 
 -- A step at which no box moves and the seat's turn stays.
 module _ {K : Type 0} (shows : K → Lasting) (seats : ℕ) (notes : List EntryNote) (lasting : Lasting)

@@ -73,8 +73,8 @@ use Rattle.path_rule.specs.Boxes.{
   NotesAre,
 }
 use Rattle.path_rule.specs.HandsAfter.{with_taken, with_swept}
-use Rattle.path_rule.proofs.boxes.HeldBoxes.{inside_list, same_homes, take_homes, give_homes}
-use Rattle.path_rule.proofs.boxes.NotePut.{put, put_here, put_else}
+use Rattle.path_rule.proofs.boxes.AtHome.{inside_list, same_homes, take_homes, give_homes}
+use Rattle.path_rule.proofs.boxes.PutAt.{put, put_here, put_else}
 
 module _ {K : Type 0} (shows : K → Lasting) (seats : ℕ) (notes : List EntryNote) (lasting : Lasting)
     (claims after : List Claim) (append groups : OrderGroups) (homes : List (maybe.Option (Slot K)))

@@ -10,7 +10,6 @@ use Rattle.std.proofs.Common.{
   ◌%◌,
   ◌<◌,
   ◌≤◌,
-  ◌==◌,
   cond,
   Bool,
   true,
@@ -33,7 +32,6 @@ use Rattle.std.proofs.Common.{
   subst,
   ⊎_elim,
   arith,
-  eq-eqb,
   ne_eqb,
 }
 use Rattle.std.specs.Prelude.{◌⊎◌}
@@ -67,18 +65,9 @@ use Rattle.path_rule.specs.declared.view.Role.TheVariants.{Opener, Steps, Spent}
 use Rattle.path_rule.specs.declared.view.View.{View}
 use Rattle.path_rule.specs.Boxed.{HandsAre, HandsAs, Stamped, ends_at, Boxed}
 use Rattle.path_rule.specs.Boxes.{box_of, boxes, HoldsAs, HoldsBox, Fits, NotesAre}
-use Rattle.path_rule.proofs.boxes.HeldBoxes.{give_homes}
+use Rattle.path_rule.proofs.boxes.AtHome.{give_homes}
+use Rattle.path_rule.proofs.boxes.PutAt.{put, put_here, put_else}
 use Rattle.path_rule.proofs.places.ReadBack.{is_some_held}
-
--- a function that has another value at one place
-abbrev pub put : {A : Type 0} → (ℕ → A) → ℕ → A → ℕ → A
-put f b a c = cond (c == b) a (f c)
-
-pub put_here : {A : Type 0} (f : ℕ → A) (b : ℕ) (a : A) → put f b a b ≡ a
-put_here f b a = ap (λ t. cond t a (f b)) (eq-eqb b b refl)
-
-pub put_else : {A : Type 0} (f : ℕ → A) (b : ℕ) (a : A) (c : ℕ) → c ≢ b → put f b a c ≡ f c
-put_else f b a c n = ap (λ t. cond t a (f c)) (ne_eqb c b n)
 
 the_one : {A : Type 0} (a b : A) → Contains (a ∷ []) b → a ≡ b
 the_one a b (zero, l, e) = e

@@ -3,8 +3,6 @@
 use Rattle.std.proofs.Common.{
   ◌≡◌,
   ℕ,
-  zero,
-  suc,
   ◌+◌,
   ◌<◌,
   ◌≤◌,
@@ -19,7 +17,6 @@ use Rattle.std.proofs.Common.{
   [],
   ◌∷◌,
   ◌++◌,
-  get_or,
   refl,
   sym,
   ap,
@@ -35,7 +32,6 @@ use Rattle.std.proofs.lemmas.List.Elements.{
   Contains-append_left,
   Contains-append_right,
   Contains-append_cases,
-  Contains-get_or,
 }
 use Rattle.std.proofs.lemmas.List.Kept.{AllPairs-filter}
 use Rattle.std.proofs.lemmas.List.Sorted.{
@@ -45,37 +41,20 @@ use Rattle.std.proofs.lemmas.List.Sorted.{
 }
 use Rattle.std.proofs.lemmas.List.Sums.{sum_by-append, sum_by-cons}
 use Rattle.std.specs.List.{Contains, AllPairs, filter}
-use mathlib.Core.Logic.{dite, inl, inr}
+use mathlib.Core.Logic.{dite}
 use native.Mathlib.Decide.{dec_le}
 use Rattle.path_core.specs.declared.note.EntryNote.{EntryNote}
 use Rattle.path_core.specs.declared.state.PathState.{PathState}
+use Rattle.path_core.specs.Keeper.{IsParted}
 use Rattle.path_core.specs.Lawful.{IsLawfulPath}
 use Rattle.path_core.specs.LawfulLog.{is_note_at, is_at_most}
 use Rattle.path_core.specs.Next.{is_between}
+use Rattle.path_core.proofs.lent.Beginnings.{notes_rise}
+use Rattle.path_core.proofs.lists.Heads.{first_in, later_in, first_or_later, ahead, behind}
 use Rattle.path_core.proofs.lists.Inserted.{map_old, map_from}
 use Rattle.path_core.proofs.lists.Passing.{filter_from, kept_in}
 use Rattle.path_core.proofs.lists.Replaced.{counted_in}
-use Rattle.path_core.proofs.log.KeepsNotes.{note_long}
 use Rattle.path_rule.specs.Boxed.{ends_at}
-use Rattle.path_rule.specs.Lent.{Parted}
-
-pub first : {A : Type 0} (x : A) (xs : List A) → Contains (x ∷ xs) x
-first x xs = (zero, omega arith, refl)
-
-pub later : {A : Type 0} (x z : A) (xs : List A) → Contains xs z → Contains (x ∷ xs) z
-later x z xs h = (suc h.0, (let l = h.1 in omega arith), h.2)
-
-pub either_one : {A : Type 0} (x z : A) (xs : List A) → Contains (x ∷ xs) z
-    → (x ≡ z) ⊎ Contains xs z
-either_one x z xs (zero, l, e) = inl e
-either_one x z xs (suc k, l, e) = inr (k, omega arith, e)
-
-module _ {A : Type 0} (R : A → A → Type 0) (x : A) (xs : List A) (order : AllPairs R (x ∷ xs)) where
-  pub ahead : (z : A) → Contains xs z → R x z
-  ahead z h = subst (R x) h.2 (order zero (suc h.0) z (omega arith) (let l = h.1 in omega arith))
-
-  pub behind : AllPairs R xs
-  behind i j d l h = order (suc i) (suc j) d (omega arith) (omega arith)
 
 -- two lists in order, of the same notes
 pub same_list : (xs ys : List EntryNote) → AllPairs (λ (a b : EntryNote). a.end.0 < b.end.0) xs
@@ -83,23 +62,24 @@ pub same_list : (xs ys : List EntryNote) → AllPairs (λ (a b : EntryNote). a.e
     → ((n : EntryNote) → Contains xs n → Contains ys n)
     → ((n : EntryNote) → Contains ys n → Contains xs n) → xs ≡ ys
 same_list [] [] ox oy one to from = refl
-same_list [] (y ∷ ys) ox oy one to from = absurd (let l = (from y (first y ys)).1 in omega arith)
-same_list (x ∷ xs) [] ox oy one to from = absurd (let l = (to x (first x xs)).1 in omega arith)
+same_list [] (y ∷ ys) ox oy one to from = absurd (let l = (from y (first_in y ys)).1 in omega arith)
+same_list (x ∷ xs) [] ox oy one to from = absurd (let l = (to x (first_in x xs)).1 in omega arith)
 same_list (x ∷ xs) (y ∷ ys) ox oy one to from = let tails =
     same_list xs ys (behind (λ (a b : EntryNote). a.end.0 < b.end.0) x xs ox)
     (behind (λ (a b : EntryNote). a.end.0 ≤ b.end.0) y ys oy) fewer
     (λ z h. ⊎_elim (λ s. absurd (let a = ahead
     (λ (a b : EntryNote). a.end.0 < b.end.0) x xs ox z h in
     let e = ap (λ (n : EntryNote). n.end.0) (same ∙ s) in omega arith)) (λ q. q)
-    (either_one y z ys (to z (later x z xs h))))
+    (first_or_later y z ys (to z (later_in x z xs h))))
     (λ z h. ⊎_elim (λ s. absurd (twice z (sym same ∙ s) h)) (λ q. q)
-    (either_one x z xs (from z (later y z ys h)))) in (λ i. same i ∷ tails i)
+    (first_or_later x z xs (from z (later_in y z ys h)))) in (λ i. same i ∷ tails i)
   where
     same : x ≡ y
     same = ⊎_elim (λ s. s) (λ hy. ⊎_elim (λ s. sym s)
         (λ hx. absurd (let a = ahead (λ (a b : EntryNote). a.end.0 < b.end.0) x xs ox y hy in
         let b = ahead (λ (a b : EntryNote). a.end.0 ≤ b.end.0) y ys oy x hx in omega arith))
-        (either_one y x ys (to x (first x xs)))) (either_one x y xs (from y (first y ys)))
+        (first_or_later y x ys (to x (first_in x xs))))
+        (first_or_later x y xs (from y (first_in y ys)))
 
     fewer : (k : ℕ) → ends_at k ys ≤ 1
     fewer k = let o = one k in let c =
@@ -123,15 +103,7 @@ both_from true true p = (refl, refl)
 both_from true false p = (refl, p)
 both_from false b p = (p, absurd (let q : false ≡ true = p in cc))
 
--- the notes rise strictly
-pub notes_rise : (x : PathState) → IsLawfulPath x
-    → AllPairs (λ (a b : EntryNote). a.end.0 < b.end.0) x.notes
-notes_rise x L i j d l h = let o = L.notes_are_claims.in_order i j d l h in
-    let long = note_long x L.sized L.claims_tile_the_log L.orders L.own_claim
-    L.each_claim_noted_once L.notes_are_claims (get_or x.notes j d)
-    (Contains-get_or x.notes j d h) in omega arith
-
-module _ (upto : ℕ) (pending run left : List EntryNote) (P : Parted upto pending run left) where
+module _ (upto : ℕ) (pending run left : List EntryNote) (P : IsParted upto pending run left) where
   pub parts_of : (n : EntryNote) → Contains pending n → Contains run n ⊎ Contains left n
   parts_of n h = Contains-append_cases run left n
       (Contains-permutation pending (run ++ left) n P.all h)
@@ -150,7 +122,7 @@ module _ (upto : ℕ) (pending run left : List EntryNote) (P : Parted upto pendi
       ∙ sum_by-append (λ (a : EntryNote). cond {A = ℕ} (is_note_at k a) 1 0) run left
 
 module _ (x : PathState) (L : IsLawfulPath x) (upto : ℕ) (pending run left : List EntryNote)
-    (P : Parted upto pending run left)
+    (P : IsParted upto pending run left)
     (sound : (n : EntryNote) → Contains pending n → Contains x.notes n)
     (unlogged : (n : EntryNote) → Contains pending n → ¬ Contains x.logged n.end.0)
     (once : (k : ℕ) → ends_at k pending ≤ 1)

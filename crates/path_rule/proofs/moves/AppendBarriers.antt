@@ -1,8 +1,8 @@
--- The holder of the Sync turn issues a barrier of the append order.
+-- A barrier of the append order: the group before the current one expires, and the oldest one moves
+-- on.
 use Rattle.std.proofs.Common.{
   ◌≡◌,
   ℕ,
-  zero,
   suc,
   ◌+◌,
   ◌*◌,
@@ -10,14 +10,8 @@ use Rattle.std.proofs.Common.{
   ◌^◌,
   ◌<◌,
   ◌≤◌,
-  Bool,
   false,
-  true,
-  List,
-  [],
-  ◌∷◌,
   length,
-  map,
   Option,
   Some,
   None,
@@ -28,60 +22,35 @@ use Rattle.std.proofs.Common.{
   ap,
   ◌∙◌,
   subst,
-  ⊎_elim,
   arith,
 }
-use Rattle.std.specs.Prelude.{slice_index, if◌then◌else◌, ◌⊎◌, is_none, ◌&&◌, ◌==◌}
-use Rattle.std.proofs.lemmas.Bool.{false≢true, and_from, eq-eqb}
-use Rattle.std.proofs.lemmas.List.{length-map}
-use Rattle.std.specs.List.{Contains}
+use Rattle.std.specs.Prelude.{slice_index}
 use Rattle.std.specs.Option.{option_map}
-use mathlib.Core.Logic.{inl, inr}
 use mathlib.Core.Option.{none, some}
 use lib.ListN.{get_elem?}
 use Rattle.atomic_table.specs.Table.{State, Me, step, keeps, Allows}
 use Rattle.op_core.specs.declared.count.Order.TheVariants.{Append}
-use Rattle.path_core.specs.declared.event.Event.TheVariants.{MoveCurrent, Expire, Advance}
+use Rattle.path_core.specs.declared.event.Event.TheVariants.{Expire, Advance}
 use Rattle.path_core.specs.declared.event.Place.TheVariants.{Count}
-use Rattle.path_core.specs.declared.event.Reading.TheVariants.{Number}
-use Rattle.path_core.specs.declared.note.EntryNote.{EntryNote}
-use Rattle.path_core.specs.declared.seat.Issue.TheVariants.{Rest, Opened, Moved}
-use Rattle.path_core.specs.declared.seat.LastMarker.{LastMarker}
+use Rattle.path_core.specs.declared.seat.Issue.TheVariants.{Rest, Moved}
 use Rattle.path_core.specs.declared.seat.Seat.{Seat}
 use Rattle.path_core.specs.declared.seat.SyncTurn.{SyncTurn}
-use Rattle.path_core.specs.declared.state.Claim.{Claim}
-use Rattle.path_core.specs.declared.state.PathState.{PathState}
-use Rattle.path_core.specs.Allowed.{IsStep, is_unbarred_marker}
-use Rattle.path_core.specs.Lawful.{IsLawfulPath}
-use Rattle.path_core.specs.LawfulLog.{claim_in}
-use Rattle.path_core.specs.LawfulOrders.{made_at}
-use Rattle.path_core.specs.Next.{next_of, barred_marker}
-use Rattle.path_core.specs.Parts.{marker_of, tally_of, seat_of, issue_of, is_marker}
-use Rattle.path_core.specs.SeatAfter.{seat_after}
+use Rattle.path_core.specs.Allowed.{IsStep}
+use Rattle.path_core.specs.Next.{next_of}
+use Rattle.path_core.specs.Parts.{tally_of, issue_of}
 use Rattle.path_core.proofs.frame.Seats.{current_is_made}
-use Rattle.path_core.proofs.log.MarkerSteps.{
-  last_is_marker,
-  last_marker_barred,
-  barred_start,
-  barred_is_marker,
-}
-use Rattle.path_core.proofs.log.MarkerTells.{marker_exact}
 use Rattle.path_rule.specs.declared.lasting.Lasting.{Lasting}
 use Rattle.path_rule.specs.declared.slot.Slot.{Slot}
-use Rattle.path_rule.specs.declared.view.Hands.{Hands}
 use Rattle.path_rule.specs.declared.view.PathSize.{PathSize}
-use Rattle.path_rule.specs.declared.view.Progress.{Progress}
 use Rattle.path_rule.specs.declared.view.Role.TheVariants.{Steps}
 use Rattle.path_rule.specs.declared.view.View.{View}
-use Rattle.path_rule.specs.Boxed.{HandsAs, HandsAre, Stamped}
-use Rattle.path_rule.specs.Boxes.{kept_of, last_kept}
-use Rattle.path_rule.specs.HandsAfter.{barred, with_desk}
+use Rattle.path_rule.specs.Boxed.{HandsAs, HandsAre}
 use Rattle.path_rule.specs.Lasts.{shown}
 use Rattle.path_rule.specs.Layout.{tally_word}
-use Rattle.path_rule.specs.Rule.{Ruled, view_after, with_hands}
-use Rattle.path_rule.specs.Told.{MadeAs, Made}
-use Rattle.path_rule.specs.TurnTold.{AppendMoved, AppendExpired, AppendAdvanced}
-use Rattle.path_rule.specs.Turns.{TurnSaw, MarkerWaits}
+use Rattle.path_rule.specs.Rule.{Ruled, view_after}
+use Rattle.path_rule.specs.Told.{Made}
+use Rattle.path_rule.specs.TurnTold.{AppendExpired, AppendAdvanced}
+use Rattle.path_rule.specs.Turns.{TurnSaw, TurnOld, TurnGone}
 use Rattle.path_rule.proofs.boxes.HolderBoxes.{boxed_goes}
 use Rattle.path_rule.proofs.moves.HolderFacts.{
   expired_word,
@@ -169,128 +138,6 @@ module _ {K : Type 0} (shows : K → Lasting) (size : PathSize) (slots id : ℕ)
           by None h = h
           by (Some t) h = refl
 
-  -- A marker that gets its barrier.
-  module _ (group : ℕ) (c : Claim) where
-    bar_case : (h : ℕ) → (barred_marker w group c).barrier ≡ Some h
-        → (h ≡ group) ⊎ (c.barrier ≡ Some h)
-    bar_case h = by (is_unbarred_marker w c)
-      where
-        by : (b : Bool) → (if b then record c { barrier = Some group } else c).barrier ≡ Some h
-            → (h ≡ group) ⊎ (c.barrier ≡ Some h)
-        by true e = inl (let q : Some group ≡ Some h = e in cc)
-        by false e = inr e
-
-  map_at : (f : Claim → Claim) (l : List Claim) (i : ℕ) → i < length l
-      → claim_in (map f l) i ≡ f (claim_in l i)
-  map_at f [] i l = absurd (omega arith)
-  map_at f (x ∷ xs) zero l = refl
-  map_at f (x ∷ xs) (suc i) l = map_at f xs i (omega arith)
-
-  -- the marker that waited has its barrier
-  now_barred : (x : PathState) → IsLawfulPath x → (start group : ℕ) (h : Hands)
-      → MarkerWaits (seat_of x w) start
-      → last_kept x.claims ≡ h.progress.marker
-      → last_kept (next_of x (MoveCurrent w Append group)).claims
-      ≡ (barred x.append.current h.progress).marker
-  now_barred x L start group h waits told =
-      let K = marker_exact x L w (record { start = start; barrier = None }) waits in
-      let c = K.claim in
-      let own : is_unbarred_marker w c ≡ true =
-      and_from (is_marker c && (c.by == w)) (is_none c.barrier)
-      (and_from (is_marker c) (c.by == w) (last_is_marker x.claims c K.last)
-      (eq-eqb c.by w K.writer)) (ap (λ (o : Option ℕ). is_none o) K.barrier) in
-      ap (option_map kept_of) (last_marker_barred x w group
-      ∙ ap (option_map (barred_marker w x.append.current)) K.last)
-      ∙ (ap (λ (b : Bool). Some (kept_of
-      (if b then record c { barrier = Some x.append.current } else c))) own
-      ∙ ap (option_map (λ (m : LastMarker). record m { barrier = Some x.append.current }))
-      (sym (ap (option_map kept_of) K.last) ∙ told))
-
-  pub moves : (g c start : ℕ) → MarkerWaits m.0.part start → issue_of m.0.part ≡ Opened Append
-      → TurnSaw Append m.0.part c → g ≡ suc c → m.0.hands.progress.gathered ≡ true
-      → m.0.hands.box_taken ≡ None
-      → Allows (Ruled shows size) slots id m 1 (λ _. g)
-      (λ _. AppendMoved (step slots 1 g 0 none) m g)
-  moves g c start waits doing saw up all empty s r _ there _ = let x = r.core in
-      let e = MoveCurrent w Append g in
-      let h = with_desk m.0.hands.lasting m.0.hands.pending
-      (barred c m.0.hands.progress) m.0.hands in let v' = with_hands h (view_after m.0 e c false) in
-      let law = core_lawful shows size s r in
-      let t = at_issue m.0.part (Opened Append) (λ q. cc) doing in
-      let held = is_held m.0.part.sync t.0 t.1 in
-      let now = current_is shows size slots id m w mine s r there held c saw in
-      let is = issue_at shows size slots id m w mine s r there held (Opened Append) t.0 t.1 t.2 in
-      let long : length x.append.tallies ≡ suc (suc x.append.current) =
-      (law.orders.made_groups Append).made ∙ ap (λ i. made_at i Append x.append.current) is in
-      let made : g < length x.append.tallies = omega arith in
-      let may : IsStep x e = record {
-        seat = within shows size slots id m w mine s r there;
-        is_there = made;
-        row = (
-          own_part shows size slots id m w mine s r there issue_of
-              (Opened Append) doing,
-          up ∙ ap suc now,
-        );
-      } in
-      let out = outside shows size slots id m w mine s r there held in
-      let H = hands_now shows size slots id m w mine s r there in let D = H.desk held in
-      let whole : r.boxed.progress.gathered ≡ true =
-      ap (λ (k : Progress). k.gathered) (sym D.2) ∙ all in
-      let kept = r.boxed.marked ∙ ap (λ (k : Progress). k.marker) (sym D.2) in
-      let marked = subst (λ k. last_kept (next_of x e).claims
-      ≡ (barred k m.0.hands.progress).marker) (sym now)
-      (now_barred x law start g m.0.hands
-      (own_part shows size slots id m w mine s r there marker_of
-      (Some (record { start = start; barrier = None })) waits) kept) in (
-        v',
-        keeps,
-        tt,
-        plays shows size s r id w m.0 there mine e refl may tt tt
-            (rows_stay x e may (λ q. q) r.rows) g c false refl
-            (ap (λ k. seat_after m.0.part e (Number k) false) now) h m.1 keeps
-            (boxed_goes shows size.seats x.notes (shown x) x.claims (next_of x e).claims x.append
-            (next_of x e).append s.homes s.views r.boxed id w m.0 v' there mine refl out out
-            held (still _ m.0.part.sync held)
-            (others_free shows size slots id m w mine s r there held)
-            (others_near shows size slots id m w mine s r there held)
-            (barred c m.0.hands.progress) empty empty (D.0, D.1, refl)
-            (let p = r.boxed.all whole in omega arith) (λ no. absurd (false≢true no)) marked
-            (λ b n q. moved s r g b n (up ∙ ap suc now) whole q) (λ l. absurd (omega arith))),
-        (λ z c' role saw'. let same : c ≡ c' = now
-            ∙ sym (current_is shows size slots id m w mine s r there held c' saw') in
-            each_seat_name shows size slots id m w mine
-            (λ z. MadeAs z (MoveCurrent z Append g) c'
-            (with_desk m.0.hands.lasting m.0.hands.pending
-            (barred c' m.0.hands.progress) m.0.hands) m.0 v' × (m.1 ≡ m.1))
-            (subst (λ k. MadeAs w (MoveCurrent w Append g) k
-            (with_desk m.0.hands.lasting m.0.hands.pending
-            (barred k m.0.hands.progress) m.0.hands) m.0 v' × (m.1 ≡ m.1)) same
-            ((refl, was shows size s r id w m.0 there mine e may tt), refl)) z role),
-      )
-    where
-      moved : (s : State (Slot K) View) (r : Ruled shows size s) (g b : ℕ) (n : EntryNote)
-          → g ≡ suc r.core.append.current → r.boxed.progress.gathered ≡ true
-          → Contains (r.boxed.contents b) n
-          → Stamped (map (barred_marker w r.core.append.current) r.core.claims) g false b
-          (r.boxed.stamp b) n
-      moved s r g b n up whole q = let S = r.boxed.stamped b n q in
-          let cur = r.core.append.current in let now = S.gathered whole in record {
-            own = S.own;
-            not_above = (omega arith);
-            recent = (omega arith);
-            gathered = λ no. absurd (false≢true no);
-            above = λ i h l mark bar less. let claims = r.core.claims in
-                let low : i < length claims = (let k = length-map claims (barred_marker w cur) in
-                omega arith) in let at = map_at (barred_marker w cur) claims i low in
-                subst (λ k. k < n.end.0) (sym (ap (λ (c : Claim). c.start) at
-                ∙ barred_start w cur (claim_in claims i)))
-                (⊎_elim (λ (same : h ≡ cur). absurd (omega arith))
-                (λ old. S.above i h low (sym (barred_is_marker w cur (claim_in claims i))
-                ∙ (ap (λ (c : Claim). is_marker c) (sym at) ∙ mark)) old less)
-                (bar_case cur (claim_in claims i) h
-                (ap (λ (c : Claim). c.barrier) (sym at) ∙ bar)));
-          }
-
   pub advances : (g o c : ℕ) (t : SyncTurn) → m.0.part.sync ≡ Some t → t.append.current ≡ Some c
       → t.append.oldest ≡ Some o → t.append.finished ≡ Some o → g ≡ suc o → g ≤ c
       → m.0.hands.box_taken ≡ None
@@ -332,3 +179,15 @@ module _ {K : Type 0} (shows : K → Lasting) (size : PathSize) (slots id : ℕ)
         each_seat_name shows size slots id m w mine (λ z. Made z (Advance z Append g) g m (v', m.1))
             ((refl, was shows size s r id w m.0 there mine e may tt), refl),
       )
+
+  -- the same, told by what was found
+  pub advances_at : (g o c : ℕ) → TurnSaw Append m.0.part c → TurnOld Append m.0.part o
+      → TurnGone Append m.0.part o → g ≡ suc o → g ≤ c → m.0.hands.box_taken ≡ None
+      → Allows (Ruled shows size) slots id m 3 (λ _. g)
+      (λ _. AppendAdvanced (step slots 3 g 0 none) m g)
+  advances_at g o c saw old gone = advances g o c saw.0 saw.1 saw.2
+      (ap (λ (t : SyncTurn). t.append.oldest) (same (sym saw.1 ∙ old.1)) ∙ old.2)
+      (ap (λ (t : SyncTurn). t.append.finished) (same (sym saw.1 ∙ gone.1)) ∙ gone.2)
+    where
+      same : {a b : SyncTurn} → Some a ≡ Some b → a ≡ b
+      same e = cc

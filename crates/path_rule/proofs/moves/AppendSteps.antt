@@ -1,5 +1,4 @@
--- A writer joins a group of the append order with its box, and leaves it: with nothing, or with a
--- note that it put into the box.
+-- A writer joins a group of the append order, with its box, and leaves it before a claim.
 use Rattle.std.proofs.Common.{
   ◌≡◌,
   ◌≢◌,
@@ -12,13 +11,9 @@ use Rattle.std.proofs.Common.{
   ◌<◌,
   ◌≤◌,
   eqb,
-  Bool,
   false,
-  true,
   List,
-  [],
   ◌∷◌,
-  length,
   set,
   Option,
   Some,
@@ -32,12 +27,8 @@ use Rattle.std.proofs.Common.{
   ⊎_elim,
   arith,
 }
-use Rattle.std.specs.Prelude.{slice_index, IsSome, ◌++◌, ◌==◌, ◌&&◌, is_none}
-use Rattle.std.proofs.lemmas.Bool.{eq-eqb}
-use Rattle.std.proofs.lemmas.List.{length-replicate}
-use Rattle.std.specs.List.{Contains}
-use Rattle.std.specs.Option.{option_map_or}
-use mathlib.Core.Logic.{inl, inr}
+use Rattle.std.specs.Prelude.{slice_index, IsSome}
+use mathlib.Core.Logic.{inl}
 use mathlib.Core.Option.{none, some}
 use lib.ListN.{get_elem?}
 use prog.Atomic.{either}
@@ -45,40 +36,31 @@ use Rattle.atomic_table.proofs.Lists.{exchanged}
 use Rattle.atomic_table.specs.Table.{State, Me, step, takes, gives, put_back, rest, Allows}
 use Rattle.op_core.specs.Tallies.{IsOpen}
 use Rattle.op_core.specs.declared.count.Order.TheVariants.{Append}
-use Rattle.path_core.specs.declared.event.Carried.TheVariants.{Nothing, Deposit}
+use Rattle.path_core.specs.declared.event.Carried.TheVariants.{Nothing}
 use Rattle.path_core.specs.declared.event.Event.TheVariants.{Look, Register, Close}
 use Rattle.path_core.specs.declared.event.Place.TheVariants.{Count}
-use Rattle.path_core.specs.declared.event.Turn.TheVariants.{Sync}
 use Rattle.path_core.specs.declared.note.EntryNote.{EntryNote}
 use Rattle.path_core.specs.declared.seat.Issue.TheVariants.{Rest}
-use Rattle.path_core.specs.declared.seat.Range.{Range}
 use Rattle.path_core.specs.declared.seat.Seat.{Seat as SeatOf}
 use Rattle.path_core.specs.Allowed.{IsStep}
 use Rattle.path_core.specs.Lawful.{IsLawfulPath}
-use Rattle.path_core.specs.LawfulLog.{entry_claim, is_undeposited, is_note_at}
 use Rattle.path_core.specs.Next.{next_of}
-use Rattle.path_core.specs.Parts.{tally_of, seat_of, found_of, HoldsNoTurn, fresh_table, fresh_seat}
-use Rattle.path_core.specs.Whole.{IsWhole}
-use Rattle.path_core.proofs.frame.Runs.{past_sizes}
+use Rattle.path_core.specs.Parts.{tally_of, seat_of, found_of, HoldsNoTurn}
 use Rattle.path_core.proofs.frame.Seats.{some_left, group_made, at_rest, open_is_current}
-use Rattle.path_core.proofs.lists.Inserted.{insert_cases, insert_old, insert_new}
-use Rattle.path_core.proofs.lists.Replaced.{counted_in, counted_some}
 use Rattle.path_rule.specs.declared.lasting.Lasting.{Lasting}
 use Rattle.path_rule.specs.declared.slot.Slot.{Slot}
-use Rattle.path_rule.specs.declared.slot.Slot.TheVariants.{Notes}
 use Rattle.path_rule.specs.declared.view.PathSize.{PathSize}
 use Rattle.path_rule.specs.declared.view.Role.{Role}
 use Rattle.path_rule.specs.declared.view.Role.TheVariants.{Steps, Opener, Spent}
 use Rattle.path_rule.specs.declared.view.View.{View}
-use Rattle.path_rule.specs.Boxed.{HandsAs, ends_at, Boxed}
+use Rattle.path_rule.specs.Boxed.{HandsAs, Boxed}
 use Rattle.path_rule.specs.Boxes.{box_of, boxes, HasOwn, HoldsAs, IsFree, NotesAre}
 use Rattle.path_rule.specs.HandsAfter.{with_notes}
 use Rattle.path_rule.specs.Lasts.{shown}
 use Rattle.path_rule.specs.Layout.{tally_word}
-use Rattle.path_rule.specs.Rule.{Knows, start_of, Ruled, view_after, with_hands}
-use Rattle.path_rule.specs.Told.{Took, Joined, Withdrew, Deposited, MadeAs, Made}
+use Rattle.path_rule.specs.Rule.{Knows, Ruled, view_after, with_hands}
+use Rattle.path_rule.specs.Told.{Took, Joined, Withdrew, MadeAs, Made}
 use Rattle.path_rule.proofs.boxes.HeldBoxes.{boxed_take, boxed_give}
-use Rattle.path_rule.proofs.boxes.NotePut.{boxed_put}
 use Rattle.path_rule.proofs.moves.Looks.{
   Owes,
   as_part,
@@ -88,16 +70,8 @@ use Rattle.path_rule.proofs.moves.Looks.{
   each_name,
   own_part,
 }
-use Rattle.path_rule.proofs.moves.Moving.{core_lawful, known, was, plays, columns_now}
-use Rattle.path_rule.proofs.moves.StepFacts.{
-  more_word,
-  less_word,
-  group_low,
-  last_same,
-  notes_first,
-  logged_note,
-  known_groups,
-}
+use Rattle.path_rule.proofs.moves.Moving.{core_lawful, was, plays, columns_now}
+use Rattle.path_rule.proofs.moves.StepFacts.{more_word, less_word, known_groups}
 use Rattle.path_rule.proofs.places.ReadBack.{rows_stay}
 
 module _ {K : Type 0} (shows : K → Lasting) (size : PathSize) (slots id : ℕ)
@@ -261,135 +235,3 @@ module _ {K : Type 0} (shows : K → Lasting) (size : PathSize) (slots id : ℕ)
             (λ z q. MadeAs z (Close z Append q Nothing) n m.0.hands m.0 v' × (rest m.1 ≡ rest m.1))
             ((refl, was shows size s r id w m.0 there mine e may tt), refl) z q role word),
       )
-
-  pub deposits : (g : ℕ) (note : EntryNote) (cs : List (ℕ × Slot K)) → m.0.part.append ≡ Some g
-      → m.0.part.claim ≡ Some (record { start = note.start.0; end = note.end.0 })
-      → note.writer.0 ≡ w → note.tables < 2 ^ m.0.size.tables → IsWhole note
-      → m.1 ≡ (box_of w g, Notes (m.0.hands.notes ++ note ∷ [])) ∷ cs → g < 65536
-      → Allows (Ruled shows size) slots id m (73 + 2 * g) (λ n. (n + (2 ^ 64 - 1)) % 2 ^ 64)
-      (Deposited (step slots (73 + 2 * g) 1 0 none) m)
-  deposits g note cs append claim writer tables whole holds fits s r _ there low = let n =
-      slice_index s.words (73 + 2 * g) in let x = r.core in let c = tally_of x Append g in
-      let found : n ≡ tally_word c = r.words (Count Append g) fits in
-      let law = core_lawful shows size s r in let e = Close w Append g (Deposit note) in
-      let here = own_part shows size slots id m w mine s r there (λ (p : SeatOf). p.append)
-      (Some g) append in
-      let range = own_part shows size slots id m w mine s r there (λ (p : SeatOf). p.claim)
-      (Some (record { start = note.start.0; end = note.end.0 })) claim in
-      let made = group_made x law Append w g here in let v' = view_after m.0 e n false in
-      let may : IsStep x e = record {
-        seat = within shows size slots id m w mine s r there;
-        is_there = made;
-        row = (
-          here,
-          record {
-            range = range;
-            writer = writer;
-            tables_are_there = few_bits s r there
-                note.tables tables;
-          },
-        );
-      } in
-      let now = ap (λ z. (z + (2 ^ 64 - 1)) % 2 ^ 64) found
-      ∙ less_word c (some_left x law Append w g here) (subst (λ z. z < 2 ^ 64) found low) in
-      let rows = rows_stay x e may (λ q. q) r.rows in
-      let C = columns_now shows size s r id w m.0 there mine e refl may whole fits rows
-      ((n + (2 ^ 64 - 1)) % 2 ^ 64) n false now refl m.0.hands in (
-        v',
-        gives,
-        tt,
-        plays shows size s r id w m.0 there mine e refl may whole fits rows
-            ((n + (2 ^ 64 - 1)) % 2 ^ 64) n false now refl m.0.hands m.1 gives
-            (subst (λ l. Boxed shows size.seats (next_of x e).notes (shown x) x.claims
-            (next_of x e).append (put_back s.homes l) (set s.views id v')) (sym holds)
-            (boxed_put shows size.seats x.notes (next_of x e).notes (shown x) x.claims x.append
-            (next_of x e).append s.homes s.views r.boxed id w m.0 v' there mine refl refl refl g
-            note append C.append C.issue refl
-            (no_turn s r there g append) r.deep (low_seat s r there) writer
-            (group_low x law Append w g here)
-            ((law.orders.counts_stand_for_seats Append).nobody_below w g here)
-            (λ i h l mark bar less. law.later_groups_log_above.markers i h g w
-            (record { start = note.start.0; end = note.end.0 }) l mark bar here less range)
-            (λ q in_it. ⊎_elim (λ old. inr old) (λ new. inl (sym new))
-            (insert_cases x.notes _ note q in_it))
-            (λ q in_it. insert_old x.notes _ note q in_it) (insert_new x.notes _ note)
-            (unnoted s r there note append claim) (unlogged s r there note append claim)
-            (λ j z u apart at is same. apart
-            (sym (subst (λ ρ. Knows x r.events r.owner r.made r.boss j ρ u.part u.trail
-            u.returned) is (r.each_seat j u at).1).0.1
-            ∙ (ap r.owner same ∙ (known shows size s r id w m.0 there mine).1.1))))),
-        (λ z q other role _ word has. let same : note
-            ≡ other = last_same m.0.hands.notes note other (ap notes_first (sym holds ∙ has)) in
-            subst (λ p. MadeAs z (Close z Append q (Deposit p)) n m.0.hands m.0 v'
-            × (rest m.1 ≡ rest m.1)) same
-            (each_name shows size slots id m w mine 73 g
-            (λ z q. MadeAs z (Close z Append q (Deposit note)) n m.0.hands m.0 v'
-            × (rest m.1 ≡ rest m.1)) (
-              (
-                refl,
-                was shows size s r id w m.0 there mine e may
-                    whole,
-              ),
-              refl,
-            ) z q role word)),
-      )
-    where
-      few_bits : (s : State (Slot K) View) (r : Ruled shows size s)
-          → get_elem? s.views id ≡ some m.0 → (n : ℕ) → n < 2 ^ m.0.size.tables
-          → n < 2 ^ length r.core.tables
-      few_bits s r there n l = let z = past_sizes r.events (start_of size) r.core r.run in
-          let k = (known shows size s r id w m.0 there mine).0 in
-          subst (λ (t : ℕ). n < 2 ^ t) (ap (λ (q : PathSize). q.tables) k
-          ∙ sym (z.tables ∙ length-replicate size.tables fresh_table)) l
-
-      -- the entry that the seat has claimed is not noted yet
-      unnoted : (s : State (Slot K) View) (r : Ruled shows size s) → get_elem? s.views id ≡ some m.0
-          → (note : EntryNote) → m.0.part.append ≡ Some g
-          → m.0.part.claim ≡ Some (record { start = note.start.0; end = note.end.0 })
-          → ends_at note.end.0 r.core.notes ≡ 0
-      unnoted s r there note append claim = let law = core_lawful shows size s r in
-          let x = r.core in
-          let range = own_part shows size slots id m w mine s r there (λ (p : SeatOf). p.claim)
-          (Some (record { start = note.start.0; end = note.end.0 })) claim in
-          let c = law.own_claim w (record { start = note.start.0; end = note.end.0 }) range in
-          let one = law.each_claim_noted_once.once
-          (entry_claim w note.start.0 note.end.0) c refl in
-          let some = counted_some (is_undeposited note.end.0) x.seats fresh_seat refl w
-          (ap (λ (q : Option Range). option_map_or
-          (λ (k : Range). k.end == note.end.0) q false && is_none (seat_of x w).note) range
-          ∙ (ap (λ (b : Bool). b && is_none (seat_of x w).note) (eq-eqb note.end.0 note.end.0 refl)
-          ∙ ap (λ (q : Option ℕ). is_none q) (unwritten (seat_of x w).note refl))) in
-          omega arith
-        where
-          unwritten : (o : Option ℕ) → (seat_of r.core w).note ≡ o → (seat_of r.core w).note ≡ None
-          unwritten None e = e
-          unwritten (Some t) e = absurd (let d =
-              ((core_lawful shows size s r).orders.orders_nest w).deposited t e in
-              let q : Some g ≡ None = sym (own_part shows size slots id m w mine s r there
-              (λ (p : SeatOf). p.append)
-              (Some g) append) ∙ d.0 in cc)
-
-      -- so it is not lasting either
-      unlogged : (s : State (Slot K) View) (r : Ruled shows size s)
-          → get_elem? s.views id ≡ some m.0 → (note : EntryNote) → m.0.part.append ≡ Some g
-          → m.0.part.claim ≡ Some (record { start = note.start.0; end = note.end.0 })
-          → ¬ Contains r.core.logged note.end.0
-      unlogged s r there note append claim h = let law = core_lawful shows size s r in
-          let t = logged_note r.core law note.end.0 h in
-          absurd (let c = counted_in (is_note_at note.end.0) r.core.notes t.0 t.1
-          (eq-eqb t.0.end.0 note.end.0 t.2) in let z = unnoted s r there note append claim in
-          omega arith)
-
-      no_turn : (s : State (Slot K) View) (r : Ruled shows size s) → get_elem? s.views id ≡ some m.0
-          → (g : ℕ) → m.0.part.append ≡ Some g → is_some m.0.part.sync ≡ false
-      no_turn s r there g append = by (is_some m.0.part.sync) refl
-        where
-          by : (b : Bool) → is_some m.0.part.sync ≡ b → b ≡ false
-          by false e = refl
-          by true e = absurd (let h = (core_lawful shows size s
-              r).orders.one_holder_a_turn.holder_is_idle Sync w
-              (own_part shows size slots id m w mine s r there
-              (λ (p : SeatOf). is_some p.sync) true e) in
-              let q : Some g ≡ None = sym (own_part shows size slots id m w mine s r there
-              (λ (p : SeatOf). p.append)
-              (Some g) append) ∙ h.1 in cc)

@@ -72,7 +72,7 @@ use Rattle.path_rule.specs.Rule.{Ruled, view_after, with_hands, Was}
 use Rattle.path_rule.specs.Told.{MadeAs, Made}
 use Rattle.path_rule.specs.TurnTold.{Gathered, GaveBack}
 use Rattle.path_rule.specs.Turns.{TurnSaw}
-use Rattle.path_rule.proofs.boxes.HeldBoxes.{issue_known}
+use Rattle.path_rule.proofs.boxes.HandsStay.{issue_known}
 use Rattle.path_rule.proofs.boxes.HolderBoxes.{boxed_gather, boxed_give_back}
 use Rattle.path_rule.proofs.moves.HolderFacts.{
   is_held,

@@ -1,22 +1,6 @@
 -- The holder of the Sync turn looks at the synced key before it lends notes, and stops the log.
-use Rattle.std.proofs.Common.{
-  ◌≡◌,
-  ℕ,
-  ◌<◌,
-  true,
-  false,
-  List,
-  Some,
-  None,
-  refl,
-  sym,
-  ap,
-  ◌∙◌,
-  subst,
-  arith,
-}
+use Rattle.std.proofs.Common.{◌≡◌, ℕ, ◌<◌, true, false, List, Some, None, refl, sym, arith}
 use Rattle.std.specs.Prelude.{slice_index}
-use Rattle.std.specs.List.{filter}
 use mathlib.Core.Option.{none}
 use Rattle.atomic_table.specs.Table.{Me, step, keeps, Allows}
 use Rattle.path_core.specs.declared.event.Cursor.TheVariants.{Synced, Stopped}
@@ -25,21 +9,18 @@ use Rattle.path_core.specs.declared.event.Place.TheVariants.{CursorWord}
 use Rattle.path_core.specs.declared.note.EntryNote.{EntryNote}
 use Rattle.path_core.specs.declared.seat.SyncTurn.{SyncTurn}
 use Rattle.path_core.specs.Allowed.{IsStep}
-use Rattle.path_core.specs.Next.{is_between}
-use Rattle.path_core.proofs.frame.Runs.{past_sizes}
+use Rattle.path_core.specs.Keeper.{IsParted}
 use Rattle.path_rule.specs.declared.lasting.Lasting.{Lasting}
 use Rattle.path_rule.specs.declared.slot.Slot.{Slot}
 use Rattle.path_rule.specs.declared.view.PathSize.{PathSize}
 use Rattle.path_rule.specs.declared.view.Role.TheVariants.{Steps}
 use Rattle.path_rule.specs.declared.view.View.{View}
 use Rattle.path_rule.specs.Lasts.{shown}
-use Rattle.path_rule.specs.Lent.{Parted, MayLend}
-use Rattle.path_rule.specs.Rule.{Ruled, start_of, view_after, Was}
+use Rattle.path_rule.specs.Rule.{Ruled, view_after}
 use Rattle.path_rule.specs.Told.{Made}
-use Rattle.path_rule.specs.TurnTold.{StoppedPut, LentFound}
+use Rattle.path_rule.specs.TurnTold.{IsLent, StoppedPut, LentFound}
 use Rattle.path_rule.specs.Turns.{IsBarred}
 use Rattle.path_rule.proofs.boxes.HolderBoxes.{boxed_goes}
-use Rattle.path_rule.proofs.log.Lendable.{may_lend}
 use Rattle.path_rule.proofs.moves.HolderFacts.{
   has,
   outside,
@@ -49,7 +30,7 @@ use Rattle.path_rule.proofs.moves.HolderFacts.{
   hands_now,
 }
 use Rattle.path_rule.proofs.moves.Looks.{look_owes, within, each_seat_name}
-use Rattle.path_rule.proofs.moves.Moving.{core_lawful, known, was, plays}
+use Rattle.path_rule.proofs.moves.Moving.{was, plays}
 use Rattle.path_rule.proofs.moves.SyncFacts.{turn_exact, settled}
 use Rattle.path_rule.proofs.places.ReadBack.{rows_stay}
 use Rattle.path_rule.proofs.seats.HolderKnows.{still}
@@ -109,16 +90,10 @@ module _ {K : Type 0} (shows : K → Lasting) (size : PathSize) (slots id : ℕ)
         seat = within shows size slots id m w mine s r there;
         is_there = tt;
         row = tt;
-      } in let law = core_lawful shows size s r in
-      let z = past_sizes r.events (start_of size) x r.run in
-      let k = (known shows size s r id w m.0 there mine).0 in
-      let wide = ap (λ (q : PathSize). q.capacity) k ∙ sym z.capacity in
-      let many = ap (λ (q : PathSize). q.ordinals) k ∙ sym z.ordinals in
+      } in
       let P : ℕ → Type 0 = λ u. (value : ℕ) (run left : List EntryNote) → n < value
-      → IsBarred m.0.hands value → Parted value m.0.hands.pending run left
-      → (was : Was m.0 u (Look u (CursorWord Synced))) × (shown was.core ≡ m.0.hands.lasting)
-      × (was.core.synced ≡ n) × (filter (is_between n value) was.core.notes ≡ run)
-      × MayLend m.0.size.capacity m.0.size.ordinals m.0.hands.lasting.dropped n value run in
+      → IsBarred m.0.hands value → IsParted value m.0.hands.pending run left
+      → IsLent m.0 u n value run in
       look_owes shows size slots id m w mine s r there (CursorWord Synced) tt tt
       (LentFound (step slots 5 0 0 none) m n) (λ made _.
       each_seat_name shows size slots id m w mine
@@ -128,13 +103,11 @@ module _ {K : Type 0} (shows : K → Lasting) (size : PathSize) (slots id : ℕ)
             let S = settled shows size slots id m w mine s r there t sync runs all value run left
             (omega arith) barred parted in
             let D = (hands_now shows size slots id m w mine s r there).desk
-            (is_held m.0.part.sync t sync) in let lend = may_lend x law w value S.0 in (
+            (is_held m.0.part.sync t sync) in (
               was shows size s r id w m.0 there mine e may tt,
               sym D.0,
               sym found,
-              subst (λ a. filter (is_between a value) x.notes ≡ run) (sym found) S.1,
-              subst (λ (q : (ℕ × ℕ) × (Lasting × (ℕ × List EntryNote))). MayLend q.0.0 q.0.1
-                  q.1.0.dropped q.1.1.0 value q.1.1.1)
-                  (λ i. ((sym wide i, sym many i), (sym D.0 i, (sym found i, S.1 i)))) lend,
+              S.1,
+              record { seat = S.0.seat; is_there = S.0.is_there; row = S.0.row },
             )),
       ))

@@ -206,6 +206,13 @@ module _ {K : Type 0} (shows : K → Lasting) (size : PathSize) (slots id : ℕ)
       subst P (λ i. (same_seat m.0.role w z mine role i, same_place at at' spot word is i))
       (made, seen))
 
+  -- the same, where the word is told by an equation
+  pub looks_at : (at : Place) → IsWord at → Sighted m.0 at → (i : ℕ) → i ≡ word_at at
+      → Allows (Ruled shows size) slots id m i (λ n. n) (Looked (step slots i 0 0 none) m)
+  looks_at at spot sighted i is = subst
+      (λ j. Allows (Ruled shows size) slots id m j (λ n. n) (Looked (step slots j 0 0 none) m))
+      (sym is) (looks at spot sighted)
+
   -- a step told for every number that the seat and the group may go by
   pub each_name : (k g : ℕ) (P : ℕ → ℕ → Type 0) → P w g → (z h : ℕ) → m.0.role ≡ Steps z
       → k + 2 * g ≡ k + 2 * h → P z h

@@ -45,7 +45,7 @@ use Rattle.path_rule.specs.Rule.{Ruled, start_of, view_after, with_hands}
 use Rattle.path_rule.specs.Told.{MadeAs, Made}
 use Rattle.path_rule.specs.TurnTold.{MarkerClaimed}
 use Rattle.path_rule.specs.Turns.{behind_last}
-use Rattle.path_rule.proofs.boxes.HeldBoxes.{stamp_stays}
+use Rattle.path_rule.proofs.boxes.HandsStay.{stamp_stays}
 use Rattle.path_rule.proofs.boxes.HolderBoxes.{boxed_goes}
 use Rattle.path_rule.proofs.log.LastMarkers.{entry_since}
 use Rattle.path_rule.proofs.moves.HolderFacts.{has, outside, others_free, others_near, hands_now}

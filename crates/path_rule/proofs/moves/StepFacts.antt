@@ -57,7 +57,7 @@ use Rattle.path_rule.specs.declared.view.Role.TheVariants.{Steps}
 use Rattle.path_rule.specs.declared.view.View.{View}
 use Rattle.path_rule.specs.Layout.{tally_word, word_of}
 use Rattle.path_rule.specs.Rule.{Was}
-use Rattle.path_rule.proofs.boxes.HeldBoxes.{SameBarriers}
+use Rattle.path_rule.proofs.boxes.HandsStay.{SameBarriers}
 use Rattle.path_rule.proofs.moves.Moving.{was}
 
 pub same_seat : (ρ : Role) (w z : ℕ) → ρ ≡ Steps w → ρ ≡ Steps z → w ≡ z

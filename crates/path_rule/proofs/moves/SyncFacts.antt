@@ -16,6 +16,7 @@ use Rattle.path_core.specs.declared.seat.Seat.{Seat}
 use Rattle.path_core.specs.declared.seat.SyncTurn.{SyncTurn}
 use Rattle.path_core.specs.declared.state.Claim.{Claim}
 use Rattle.path_core.specs.Allowed.{IsStep, IsSyncPoint}
+use Rattle.path_core.specs.Keeper.{IsParted}
 use Rattle.path_core.specs.LawfulLog.{claim_in}
 use Rattle.path_core.specs.LawfulSeats.{SyncExact}
 use Rattle.path_core.specs.Next.{is_between}
@@ -29,7 +30,6 @@ use Rattle.path_rule.specs.declared.view.Progress.{Progress}
 use Rattle.path_rule.specs.declared.view.Role.TheVariants.{Steps}
 use Rattle.path_rule.specs.declared.view.View.{View}
 use Rattle.path_rule.specs.Lasts.{shown}
-use Rattle.path_rule.specs.Lent.{Parted}
 use Rattle.path_rule.specs.Rule.{Ruled}
 use Rattle.path_rule.specs.Turns.{IsBarred}
 use Rattle.path_rule.proofs.boxes.AllGathered.{gathered_all, marker_at}
@@ -54,7 +54,7 @@ module _ {K : Type 0} (shows : K → Lasting) (size : PathSize) (slots id : ℕ)
       (runs : t.stopped ≡ Some 0) (all : m.0.hands.progress.gathered ≡ true)
       (value : ℕ) (run left : List EntryNote) (low : r.core.synced < value)
       (barred : IsBarred m.0.hands value)
-      (parted : Parted value m.0.hands.pending run left) where
+      (parted : IsParted value m.0.hands.pending run left) where
     pub settled : IsStep r.core (Put w Synced value)
         × (filter (is_between r.core.synced value) r.core.notes ≡ run)
         × ((b : ℕ) (n : EntryNote) → Contains (r.boxed.contents b) n → value < n.end.0)
@@ -93,7 +93,7 @@ module _ {K : Type 0} (shows : K → Lasting) (size : PathSize) (slots id : ℕ)
               point,
             );
           },
-          run_is x law value B.pending run left (subst (λ p. Parted value p run left) D.1 parted)
+          run_is x law value B.pending run left (subst (λ p. IsParted value p run left) D.1 parted)
               (λ n h. B.sound n (inl h)) (λ n h. B.unlogged n (inl h))
               (λ k. let a = B.alone k 0 1 (λ q. absurd (omega arith)) in omega arith)
               (λ n h le. gathered_all shows size.seats x.notes

@@ -39,6 +39,7 @@ use Rattle.path_core.specs.declared.event.Cursor.TheVariants.{Synced}
 use Rattle.path_core.specs.declared.event.Event.TheVariants.{Put}
 use Rattle.path_core.specs.declared.note.EntryNote.{EntryNote}
 use Rattle.path_core.specs.declared.seat.SyncTurn.{SyncTurn}
+use Rattle.path_core.specs.Keeper.{IsParted}
 use Rattle.path_core.specs.Next.{next_of}
 use Rattle.path_core.proofs.lists.Inserted.{map_old, map_from}
 use Rattle.path_rule.specs.declared.lasting.Lasting.{Lasting}
@@ -51,8 +52,7 @@ use Rattle.path_rule.specs.declared.view.View.{View}
 use Rattle.path_rule.specs.Boxed.{ends_at, Boxed}
 use Rattle.path_rule.specs.Boxes.{desk_box, DeskIs}
 use Rattle.path_rule.specs.HandsAfter.{with_desk}
-use Rattle.path_rule.specs.Lasts.{shown, more_lasting}
-use Rattle.path_rule.specs.Lent.{ends, Parted}
+use Rattle.path_rule.specs.Lasts.{shown, more_lasting, ends}
 use Rattle.path_rule.specs.Rule.{Ruled, view_after, with_hands, Was}
 use Rattle.path_rule.specs.Told.{MadeAs}
 use Rattle.path_rule.specs.TurnTold.{SyncedPut}
@@ -82,7 +82,7 @@ module _ {K : Type 0} (shows : K → Lasting) (size : PathSize) (slots id : ℕ)
   pub syncs : (value : ℕ) (run left : List EntryNote) (y : Slot K) (cs : List (ℕ × Slot K))
       → TurnRuns m.0.part value → m.0.hands.progress.gathered ≡ true → m.0.hands.box_taken ≡ None
       → IsBarred m.0.hands value
-      → Parted value m.0.hands.pending run left → m.1 ≡ (desk_box, y) ∷ cs
+      → IsParted value m.0.hands.pending run left → m.1 ≡ (desk_box, y) ∷ cs
       → DeskIs shows y (more_lasting (ends run) value m.0.hands.lasting) left m.0.hands.progress
       → Allows (Ruled shows size) slots id m 5 (λ _. value)
       (λ _. SyncedPut shows (step slots 5 value 0 none) m value)
@@ -96,7 +96,8 @@ module _ {K : Type 0} (shows : K → Lasting) (size : PathSize) (slots id : ℕ)
       omega arith) in let S = settled shows size slots id m w mine s r there t turn.2 turn.3 all
       value run left low barred
       parted in let may = S.0 in let is = S.1 in let above = S.2 in
-      let P : Parted value B.pending run left = subst (λ p. Parted value p run left) D.1 parted in
+      let P : IsParted value B.pending run left =
+      subst (λ p. IsParted value p run left) D.1 parted in
       let sound : (n : EntryNote) → Contains B.pending n → Contains x.notes n =
       λ n h. B.sound n (inl h) in
       let fresh : (n : EntryNote) → Contains B.pending n → ¬ Contains x.logged n.end.0 =

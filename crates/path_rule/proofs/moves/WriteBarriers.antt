@@ -26,7 +26,6 @@ use Rattle.std.proofs.Common.{
 }
 use Rattle.std.specs.Prelude.{slice_index}
 use Rattle.std.proofs.lemmas.List.{length-append}
-use mathlib.Core.Logic.{inr}
 use mathlib.Core.Option.{none}
 use Rattle.atomic_table.specs.Table.{State, Me, step, keeps, Allows}
 use Rattle.op_core.specs.declared.count.Order.{Order}
@@ -57,7 +56,7 @@ use Rattle.path_rule.specs.Layout.{tally_word}
 use Rattle.path_rule.specs.Rule.{Ruled, view_after, HasRows}
 use Rattle.path_rule.specs.Told.{Made}
 use Rattle.path_rule.specs.TurnTold.{WriteOpened, WriteMoved, WriteExpired, WriteAdvanced}
-use Rattle.path_rule.specs.Turns.{TurnSaw, TurnOld, TurnGone, Sighted}
+use Rattle.path_rule.specs.Turns.{TurnSaw, TurnOld, TurnGone}
 use Rattle.path_rule.proofs.moves.HolderFacts.{
   expired_word,
   at_issue,
@@ -249,7 +248,3 @@ module _ {K : Type 0} (shows : K → Lasting) (size : PathSize) (slots id : ℕ)
     where
       same : {a b : SyncTurn} → Some a ≡ Some b → a ≡ b
       same e = cc
-
--- a group that the holder found as the oldest is one that it found
-pub sighted : (v : View) (g : ℕ) → TurnOld Write v.part g → Sighted v (Count Write g)
-sighted v g old = inr (inr old)

@@ -6,8 +6,8 @@ use Rattle.path_rule.specs.declared.view.PathSize.{PathSize}
 use Rattle.path_rule.specs.Boxes.{DeskIs}
 use Rattle.path_rule.specs.Lasts.{shown}
 use Rattle.path_rule.specs.Sharing.{HasAll}
-use Rattle.path_rule.proofs.seats.Begins.{ends_by, desk_home}
-use Rattle.path_rule.proofs.seats.Dealing.{holds_none}
+use Rattle.path_rule.proofs.boxes.SameBoxes.{holds_none}
+use Rattle.path_rule.proofs.seats.Ends.{ends_by, desk_home}
 use Rattle.path_rule.proofs.closing.PathTable+K+Global.finish.Goals as goal
 
 pub unreachable-requires : goal.unreachable-requires

@@ -1,5 +1,4 @@
 use Rattle.std.proofs.Common.{◌≡◌}
-use Rattle.op_core.specs.declared.count.Order.TheVariants.{Write}
 use Rattle.path_core.specs.declared.seat.Issue.TheVariants.{Rest}
 use Rattle.path_rule.specs.Calls.{Holds}
 use Rattle.path_rule.specs.Turns.{TurnSaw}
@@ -14,5 +13,6 @@ invariant-loop g l = record {
   size : l.member.seat.me.0.size ≡ l.initial.member.seat.me.0.size;
   boxes : l.member.seat.me.1 ≡ l.initial.member.seat.me.1;
   holds : Holds Rest l.member.seat.me.0;
-  saw : TurnSaw Write l.member.seat.me.0.part l.current;
+  saw : TurnSaw l.order l.member.seat.me.0.part l.current;
+  hands : l.member.seat.me.0.hands ≡ l.initial.member.seat.me.0.hands;
 }

@@ -5,7 +5,7 @@ use Rattle.path_rule.specs.declared.view.View.{View}
 use Rattle.path_rule.specs.Calls.{Holds}
 use Rattle.path_rule.specs.Turns.{TurnSaw}
 use Rattle.path_rule.proofs.moves.WriteBarriers.{advances_at}
-use Rattle.path_rule.proofs.seats.HolderKnows as know
+use Rattle.path_rule.proofs.seats.HolderIssues as know
 use Rattle.path_rule.proofs.table.PathTable.advance_write.Goals as goal
 
 pub store-requires : goal.store-requires
@@ -35,8 +35,12 @@ returns-clause-step g c = let m = c.args.member.now in let q = c.store.ensures.2
 pub returns-clause-turn : goal.returns-clause-turn
 returns-clause-turn g c = let m = c.args.member.now in let v = m.seat.me.0 in
     let q = c.store.ensures.2 m.number m.role in let d = q in let e = sym d.0.0 in (
-      subst (Holds Rest) e (know.advanced_held v m.number c.args.group c.args.group Rest
+      subst (Holds Rest) e (know.advanced_held v m.number c.args.group Write c.args.group Rest
           c.requires.turn.0),
       (λ k s. subst (λ (z : View). TurnSaw Write z.part k) e
-          (know.advanced_saw v m.number c.args.group c.args.group k s)),
+          (know.advanced_saw v m.number c.args.group Write c.args.group k s)),
     )
+
+pub returns-clause-hands : goal.returns-clause-hands
+returns-clause-hands g c = let m = c.args.member.now in let q = c.store.ensures.2 m.number m.role in
+    ap (λ (v : View). v.hands) q.0.0

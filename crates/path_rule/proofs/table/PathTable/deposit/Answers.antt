@@ -1,7 +1,7 @@
 use Rattle.std.proofs.Common.{refl, ap, ◌∙◌, arith}
 use Rattle.atomic_table.specs.Table.{rest}
 use Rattle.path_rule.specs.declared.view.View.{View}
-use Rattle.path_rule.proofs.moves.AppendSteps.{deposits}
+use Rattle.path_rule.proofs.moves.DepositSteps.{deposits}
 use Rattle.path_rule.proofs.table.PathTable.deposit.Goals as goal
 
 pub fetch_sub-requires : goal.fetch_sub-requires

@@ -5,7 +5,7 @@ use Rattle.path_rule.specs.declared.view.View.{View}
 use Rattle.path_rule.specs.Calls.{Holds}
 use Rattle.path_rule.specs.Turns.{TurnSaw}
 use Rattle.path_rule.proofs.moves.WriteBarriers.{expires_write}
-use Rattle.path_rule.proofs.seats.HolderKnows as know
+use Rattle.path_rule.proofs.seats.HolderIssues as know
 use Rattle.path_rule.proofs.table.PathTable.expire_write.Goals as goal
 
 pub fetch_add-requires : goal.fetch_add-requires
@@ -39,7 +39,7 @@ returns-clause-turn g c = let m = c.args.member.now in let v = m.seat.me.0 in
     let q = c.fetch_add.ensures.2 m.number c.args.group m.role c.requires.turn.3 refl in
     let d = q in let e = sym d.0.0 in (
       subst (Holds Rest) e
-          (know.expired_held v m.number c.fetch_add.result c.args.group c.requires.turn.0),
+          (know.expired_held v m.number c.fetch_add.result Write c.args.group c.requires.turn.0),
       (λ k s. subst (λ (z : View). TurnSaw Write z.part k) e
-          (know.expired_saw v m.number c.fetch_add.result c.args.group k s)),
+          (know.expired_saw v m.number c.fetch_add.result Write c.args.group k s)),
     )

@@ -1,5 +1,6 @@
 use Rattle.std.proofs.Common.{arith}
-use Rattle.path_rule.proofs.seats.Dealing.{merges, holds_none}
+use Rattle.path_rule.proofs.boxes.SameBoxes.{holds_none}
+use Rattle.path_rule.proofs.seats.Merging.{merges}
 use Rattle.path_rule.proofs.table.PathTable.merge.Goals as goal
 
 pub join_seat-requires : goal.join_seat-requires

@@ -5,7 +5,7 @@ use Rattle.path_rule.specs.declared.view.View.{View}
 use Rattle.path_rule.specs.Calls.{Holds}
 use Rattle.path_rule.specs.Turns.{TurnSaw}
 use Rattle.path_rule.proofs.moves.WriteBarriers.{moves_write}
-use Rattle.path_rule.proofs.seats.HolderKnows as know
+use Rattle.path_rule.proofs.seats.HolderIssues as know
 use Rattle.path_rule.proofs.table.PathTable.move_write.Goals as goal
 
 pub store-requires : goal.store-requires
@@ -38,8 +38,8 @@ returns-clause-turn g c = let m = c.args.member.now in let v = m.seat.me.0 in
     let q = c.store.ensures.2 m.number c.args.current m.role c.requires.turn.1 in let d = q in
     let e = sym d.0.0 in (
       subst (Holds (Moved Write)) e
-          (know.moved_held v m.number c.args.current c.args.group c.requires.turn.0),
+          (know.moved_held v m.number c.args.current Write c.args.group c.requires.turn.0),
       subst
           (λ (z : View). TurnSaw Write z.part c.args.group) e
-          (know.moved_saw v m.number c.args.current c.args.group c.requires.turn.0.held),
+          (know.moved_saw v m.number c.args.current Write c.args.group c.requires.turn.0.held),
     )

@@ -5,7 +5,7 @@ use Rattle.path_rule.specs.declared.view.View.{View}
 use Rattle.path_rule.specs.Calls.{Holds}
 use Rattle.path_rule.specs.Turns.{TurnSaw}
 use Rattle.path_rule.proofs.moves.WriteBarriers.{opens_write}
-use Rattle.path_rule.proofs.seats.HolderKnows as know
+use Rattle.path_rule.proofs.seats.HolderIssues as know
 use Rattle.path_rule.proofs.table.PathTable.open_write.Goals as goal
 
 pub store-requires : goal.store-requires
@@ -39,7 +39,7 @@ returns-clause-turn g c = let m = c.args.member.now in let v = m.seat.me.0 in
     let q = c.store.ensures.2 m.number c.args.group m.role c.requires.turn.3 refl in let d = q in
     let e = sym d.0.0 in (
       subst (Holds (Opened Write)) e
-          (know.opened_held v m.number 0 c.args.group c.requires.turn.0),
+          (know.opened_held v m.number 0 Write c.args.group c.requires.turn.0),
       (λ k s. subst (λ (z : View). TurnSaw Write z.part k) e
-          (know.opened_saw v m.number 0 c.args.group k s)),
+          (know.opened_saw v m.number 0 Write c.args.group k s)),
     )

@@ -1,8 +1,7 @@
 use Rattle.std.proofs.Common.{refl, ap, ◌∙◌, arith}
 use Rattle.atomic_table.specs.Table.{rest}
 use Rattle.path_rule.specs.declared.view.View.{View}
-use Rattle.path_rule.specs.Lasts.{more_lasting}
-use Rattle.path_rule.specs.Lent.{ends}
+use Rattle.path_rule.specs.Lasts.{more_lasting, ends}
 use Rattle.path_rule.proofs.moves.SyncSteps.{syncs}
 use Rattle.path_rule.proofs.table.PathTable.put_synced.Goals as goal
 

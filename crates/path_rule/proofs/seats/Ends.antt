@@ -1,0 +1,110 @@
+-- What a closed table tells.
+use Rattle.std.proofs.Common.{
+  ◌≡◌,
+  ℕ,
+  zero,
+  suc,
+  List,
+  [],
+  ◌∷◌,
+  map,
+  is_some,
+  refl,
+  sym,
+  ap,
+  ◌∙◌,
+  subst,
+  ⊎_elim,
+  arith,
+}
+use Rattle.std.specs.Prelude.{slice_index}
+use mathlib.Core.Option.{some, some-injective, some-ne-none}
+use lib.ListN.{get_elem?}
+use Rattle.atomic_table.specs.Table.{State, Final, Seen}
+use Rattle.path_core.specs.declared.event.Place.TheVariants.{Log}
+use Rattle.path_core.specs.declared.note.EntryNote.{EntryNote}
+use Rattle.path_core.specs.Parts.{seat_of}
+use Rattle.path_core.specs.Runs.{Past}
+use Rattle.path_rule.specs.declared.lasting.Lasting.{Lasting}
+use Rattle.path_rule.specs.declared.slot.Slot.{Slot}
+use Rattle.path_rule.specs.declared.view.PathSize.{PathSize}
+use Rattle.path_rule.specs.declared.view.Progress.{Progress}
+use Rattle.path_rule.specs.declared.view.Returned.{Returned}
+use Rattle.path_rule.specs.declared.view.Role.{Role}
+use Rattle.path_rule.specs.declared.view.Role.TheVariants.{Opener, Steps, Spent}
+use Rattle.path_rule.specs.declared.view.View.{View}
+use Rattle.path_rule.specs.Boxes.{HoldsAs, HoldsBox, IsFree, DeskIs}
+use Rattle.path_rule.specs.Lasts.{shown}
+use Rattle.path_rule.specs.Rule.{start_of, Knows, Ruled, event_of, steps_by}
+use Rattle.path_rule.specs.Sharing.{Ended, HasAll}
+use Rattle.path_rule.proofs.moves.Moving.{core_lawful}
+
+module _ {K : Type 0} (shows : K → Lasting) where
+  at_four : (l : List ℕ) (i a : ℕ) → get_elem? l i ≡ some a → slice_index l i ≡ a
+  at_four [] i a e = absurd (some-ne-none a (sym e))
+  at_four (x ∷ xs) zero a e = some-injective x a e
+  at_four (x ∷ xs) (suc i) a e = at_four xs i a e
+
+  module _ (key : PathSize) (id w : ℕ) (v : View) (role : v.role ≡ Steps w)
+      (all : HasAll key.seats w v.returned) (bare : (b : ℕ) → ¬ HoldsBox v b) where
+    -- where a seat took in all others, every box is at home
+    free_all : (s : State (Slot K) View) (r : Ruled shows key s) → get_elem? s.views id ≡ some v
+        → (b : ℕ) → IsFree s.views b
+    free_all s r at b j u e h = by_role u.role (r.each_seat j u e).1 h
+      where
+        mine : Knows r.core r.events r.owner r.made r.boss id (Steps w) v.part v.trail v.returned
+        mine = subst (λ ρ. Knows r.core r.events r.owner r.made r.boss id ρ v.part v.trail
+            v.returned) role (r.each_seat id v at).1
+
+        own : j ≡ id → ⊥
+        own same = bare b (subst (λ z. HoldsBox z b)
+            (some-injective u v (sym e ∙ (ap (get_elem? s.views) same ∙ at))) h)
+
+        by_role : (ρ : Role) → Knows r.core r.events r.owner r.made r.boss j ρ u.part u.trail
+            u.returned → HoldsAs u.part.append (is_some u.part.sync) u.hands.box_taken b ρ → ⊥
+        by_role (Opener k) kn h = h
+        by_role Spent kn h = h
+        by_role (Steps z) kn h = ⊎_elim (λ same. own (sym kn.0.1 ∙ (ap r.owner same ∙ mine.0.1)))
+            (λ (t : (n : ℕ) × (c : Returned) × (get_elem? v.returned n ≡ some c) × (c.number ≡ z)).
+            own (sym kn.0.1 ∙ (ap r.owner (sym t.3) ∙ (mine.1 t.0 t.1 t.2).0.1)))
+            (all z (let a = kn.0.0 in let c = r.enough in omega arith))
+
+    -- so the keeper is at home
+    pub desk_home : (ws : List ℕ) (xs : List (Slot K)) → Final (Seen (Ruled shows key) id v) ws xs
+        → (y : Slot K) × (get_elem? xs 0 ≡ some y)
+        × ((pending : List EntryNote) × (gathered : Progress)
+        × (f : Final (Seen (Ruled shows key) id v) ws xs)
+        × DeskIs shows y (shown f.1.0.core) pending gathered)
+    desk_home ws xs f = let r : Ruled shows key f.0 = f.1.0 in
+        let y = r.boxed.at_home 0 (omega arith) (free_all f.0 r f.1.1 0) in
+        (y.0, f.4 0 y.0 y.1, (r.boxed.pending, r.boxed.progress, f, y.2.desk refl))
+
+  pub ends_by : (size key : PathSize) (id w log : ℕ) (lasting : List ℕ) (v : View) (ws : List ℕ)
+      (xs : List (Slot K)) → key ≡ size → v.role ≡ Steps w
+      → (f : Final (Seen (Ruled shows key) id v) ws xs) → get_elem? ws 4 ≡ some log
+      → lasting ≡ f.1.0.core.logged
+      → Ended size (record { number = w; part = v.part; trail = v.trail } ∷ v.returned) log lasting
+  ends_by size key id w log lasting v ws xs same role f e kept = let s = f.0 in
+      let r : Ruled shows key s = f.1.0 in
+      let k = subst (λ ρ. Knows r.core r.events r.owner r.made r.boss id ρ v.part v.trail
+      v.returned) role (r.each_seat id v f.1.1).1 in record {
+        core = r.core;
+        events = r.events;
+        run = subst (λ (z : PathSize). Past (start_of z) r.events r.core) same r.run;
+        lawful = core_lawful shows key s r;
+        log_is = sym (at_four ws 4 log e) ∙
+            (ap (λ (l : List ℕ). slice_index l 4) (sym f.2) ∙ r.words Log tt);
+        lasting_is = kept;
+        each = one s r k;
+      }
+    where
+      one : (s : State (Slot K) View) (r : Ruled shows key s)
+          → Knows r.core r.events r.owner r.made r.boss id (Steps w) v.part v.trail v.returned
+          → (n : ℕ) (b : Returned) → get_elem?
+          (record { number = w; part = v.part; trail = v.trail } ∷ v.returned) n ≡ some b
+          → (b.part ≡ seat_of r.core b.number) × (map event_of b.trail ≡ steps_by b.number r.events)
+      one s r k zero b q = let is : record { number = w; part = v.part; trail = v.trail } ≡ b =
+          some-injective (record { number = w; part = v.part; trail = v.trail }) b q in
+          subst (λ (c : Returned). (c.part ≡ seat_of r.core c.number)
+          × (map event_of c.trail ≡ steps_by c.number r.events)) is (k.0.2, k.0.3)
+      one s r k (suc n) b q = let h = (k.1 n b q).0 in (h.2, h.3)

@@ -1,0 +1,91 @@
+-- What the holder of the Sync turn knows after its steps of a barrier.
+use Rattle.std.proofs.Common.{◌≡◌, ℕ, false, None, is_some, IsTrue, refl, ap}
+use Rattle.std.specs.Option.{option_map}
+use Rattle.op_core.specs.declared.count.Order.{Order}
+use Rattle.op_core.specs.declared.count.Order.TheVariants.{Write, Append}
+use Rattle.path_core.specs.declared.event.Event.TheVariants.{
+  OpenGroup,
+  MoveCurrent,
+  Expire,
+  Advance,
+}
+use Rattle.path_core.specs.declared.seat.Issue.{Issue}
+use Rattle.path_core.specs.declared.seat.Issue.TheVariants.{Rest, Opened, Moved}
+use Rattle.path_core.specs.Parts.{marker_of}
+use Rattle.path_rule.specs.declared.view.Hands.{Hands}
+use Rattle.path_rule.specs.declared.view.View.{View}
+use Rattle.path_rule.specs.Calls.{Holds}
+use Rattle.path_rule.specs.Rule.{view_after, with_hands}
+use Rattle.path_rule.specs.Turns.{TurnSaw}
+use Rattle.path_rule.proofs.seats.HolderKnows.{the_turn, marker_stays, changes, saw_after}
+
+module _ (v : View) (w n : ℕ) where
+  pub opened_held : (o : Order) (g : ℕ) → Holds Rest v
+      → Holds (Opened o) (view_after v (OpenGroup w o g) n false)
+  opened_held Write g H = changes _ Rest (Opened Write) (λ t e. refl) v
+      (view_after v (OpenGroup w Write g) n false) refl refl H
+  opened_held Append g H = changes _ Rest (Opened Append) (λ t e. refl) v
+      (view_after v (OpenGroup w Append g) n false) refl refl H
+
+  pub opened_saw : (o : Order) (g c : ℕ) → TurnSaw o v.part c
+      → TurnSaw o (view_after v (OpenGroup w o g) n false).part c
+  opened_saw Write g c s = saw_after _ Write v.part
+      (view_after v (OpenGroup w Write g) n false).part c
+      (λ t. refl) refl s
+  opened_saw Append g c s = saw_after _ Append v.part
+      (view_after v (OpenGroup w Append g) n false).part c
+      (λ t. refl) refl s
+
+  pub moved_held : (o : Order) (g : ℕ) → Holds (Opened o) v
+      → Holds (Moved o) (view_after v (MoveCurrent w o g) n false)
+  moved_held Write g H = changes _ (Opened Write) (Moved Write) (λ t e. refl) v
+      (view_after v (MoveCurrent w Write g) n false) refl refl H
+  moved_held Append g H = changes _ (Opened Append) (Moved Append) (λ t e. refl) v
+      (view_after v (MoveCurrent w Append g) n false) refl refl H
+
+  pub moved_saw : (o : Order) (g : ℕ) → IsTrue (is_some v.part.sync)
+      → TurnSaw o (view_after v (MoveCurrent w o g) n false).part g
+  moved_saw Write g h = let t = the_turn v.part h in (_, ap (option_map _) t.1, refl)
+  moved_saw Append g h = let t = the_turn v.part h in (_, ap (option_map _) t.1, refl)
+
+  pub expired_held : (o : Order) (g : ℕ) → Holds (Moved o) v
+      → Holds Rest (view_after v (Expire w o g) n false)
+  expired_held Write g H = changes _ (Moved Write) Rest (λ t e. refl) v
+      (view_after v (Expire w Write g) n false) refl refl H
+  expired_held Append g H = changes _ (Moved Append) Rest (λ t e. refl) v
+      (view_after v (Expire w Append g) n false) refl refl H
+
+  pub expired_saw : (o : Order) (g c : ℕ) → TurnSaw o v.part c
+      → TurnSaw o (view_after v (Expire w o g) n false).part c
+  expired_saw Write g c s = saw_after _ Write v.part
+      (view_after v (Expire w Write g) n false).part c
+      (λ t. refl) refl s
+  expired_saw Append g c s = saw_after _ Append v.part
+      (view_after v (Expire w Append g) n false).part c
+      (λ t. refl) refl s
+
+  pub advanced_held : (o : Order) (g : ℕ) (i : Issue) → Holds i v
+      → Holds i (view_after v (Advance w o g) n false)
+  advanced_held Write g i H = changes _ i i (λ t e. e) v
+      (view_after v (Advance w Write g) n false) refl refl H
+  advanced_held Append g i H = changes _ i i (λ t e. e) v
+      (view_after v (Advance w Append g) n false) refl refl H
+
+  pub advanced_saw : (o : Order) (g c : ℕ) → TurnSaw o v.part c
+      → TurnSaw o (view_after v (Advance w o g) n false).part c
+  advanced_saw Write g c s = saw_after _ Write v.part
+      (view_after v (Advance w Write g) n false).part c
+      (λ t. refl) refl s
+  advanced_saw Append g c s = saw_after _ Append v.part
+      (view_after v (Advance w Append g) n false).part c
+      (λ t. refl) refl s
+
+  pub opened_marker : (o : Order) (g : ℕ)
+      → marker_of (view_after v (OpenGroup w o g) n false).part ≡ marker_of v.part
+  opened_marker Write g = marker_stays _ v.part.sync (λ t. refl)
+  opened_marker Append g = marker_stays _ v.part.sync (λ t. refl)
+
+-- what it knows of its boxes may change with it
+pub handed_held : {v : View} (h : Hands) (i : Issue) → Holds i v → h.box_taken ≡ None
+    → Holds i (with_hands h v)
+handed_held h i H empty = record { held = H.held; issue = H.issue; empty = empty }

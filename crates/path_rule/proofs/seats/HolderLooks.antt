@@ -1,0 +1,130 @@
+-- What the holder of the Sync turn knows after it looked at the groups of an order.
+use Rattle.std.proofs.Common.{◌≡◌, ℕ, ◌^◌, Bool, true, false, is_some, IsTrue, refl, sym, ap, subst}
+use Rattle.std.specs.Prelude.{if◌then◌else◌}
+use Rattle.std.specs.Option.{option_map}
+use Rattle.op_core.specs.Tallies.{is_finished}
+use Rattle.op_core.specs.declared.count.Order.{Order}
+use Rattle.op_core.specs.declared.count.Order.TheVariants.{Write, Append}
+use Rattle.path_core.specs.declared.event.Event.TheVariants.{Look}
+use Rattle.path_core.specs.declared.event.Place.TheVariants.{Count, Current, Oldest}
+use Rattle.path_core.specs.declared.seat.Issue.{Issue}
+use Rattle.path_core.specs.Parts.{marker_of}
+use Rattle.path_core.specs.SeatParts.{keeps, finished_found}
+use Rattle.path_rule.specs.declared.view.View.{View}
+use Rattle.path_rule.specs.Calls.{Holds}
+use Rattle.path_rule.specs.Layout.{tally_in}
+use Rattle.path_rule.specs.Rule.{view_after}
+use Rattle.path_rule.specs.Turns.{TurnSaw, TurnOld, TurnGone}
+use Rattle.path_rule.proofs.seats.HolderKnows.{
+  the_turn,
+  marker_stays,
+  changes,
+  is_gone,
+  saw_after,
+  old_after,
+}
+
+module _ (v : View) (w n : ℕ) where
+  pub current_held : (o : Order) (i : Issue) → Holds i v
+      → Holds i (view_after v (Look w (Current o)) n false)
+  current_held Write i H = changes _ i i (λ t e. e) v
+      (view_after v (Look w (Current Write)) n false) refl refl H
+  current_held Append i H = changes _ i i (λ t e. e) v
+      (view_after v (Look w (Current Append)) n false) refl refl H
+
+  pub current_saw : (o : Order) → IsTrue (is_some v.part.sync)
+      → TurnSaw o (view_after v (Look w (Current o)) n false).part n
+  current_saw Write h = let t = the_turn v.part h in (_, ap (option_map _) t.1, refl)
+  current_saw Append h = let t = the_turn v.part h in (_, ap (option_map _) t.1, refl)
+
+  pub oldest_held : (o : Order) (i : Issue) → Holds i v
+      → Holds i (view_after v (Look w (Oldest o)) n false)
+  oldest_held Write i H = changes _ i i (λ t e. e) v
+      (view_after v (Look w (Oldest Write)) n false) refl refl H
+  oldest_held Append i H = changes _ i i (λ t e. e) v
+      (view_after v (Look w (Oldest Append)) n false) refl refl H
+
+  pub oldest_saw : (o : Order) (c : ℕ) → TurnSaw o v.part c
+      → TurnSaw o (view_after v (Look w (Oldest o)) n false).part c
+  oldest_saw Write c s = saw_after _ Write v.part
+      (view_after v (Look w (Oldest Write)) n false).part c
+      (λ t. refl) refl s
+  oldest_saw Append c s = saw_after _ Append v.part
+      (view_after v (Look w (Oldest Append)) n false).part c
+      (λ t. refl) refl s
+
+  pub oldest_old : (o : Order) → IsTrue (is_some v.part.sync)
+      → TurnOld o (view_after v (Look w (Oldest o)) n false).part n
+  oldest_old Write h = let t = the_turn v.part h in (_, ap (option_map _) t.1, refl)
+  oldest_old Append h = let t = the_turn v.part h in (_, ap (option_map _) t.1, refl)
+
+  pub count_held : (o : Order) (g : ℕ) (i : Issue) → Holds i v
+      → Holds i (view_after v (Look w (Count o g)) n false)
+  count_held Write g i H = by (is_finished (tally_in n))
+    where
+      by : (b : Bool) → Holds i (record
+          (view_after v (Look w (Count Write g)) n false)
+          { part = if b then keeps Write (finished_found g) v.part else v.part })
+      by true = changes _ i i (λ t e. e) v
+          (record (view_after v (Look w (Count Write g)) n false)
+          { part = keeps Write (finished_found g) v.part }) refl refl H
+      by false = record { held = H.held; issue = H.issue; empty = H.empty }
+  count_held Append g i H = by (is_finished (tally_in n))
+    where
+      by : (b : Bool) → Holds i (record
+          (view_after v (Look w (Count Append g)) n false)
+          { part = if b then keeps Append (finished_found g) v.part else v.part })
+      by true = changes _ i i (λ t e. e) v
+          (record (view_after v (Look w (Count Append g)) n false)
+          { part = keeps Append (finished_found g) v.part }) refl refl H
+      by false = record { held = H.held; issue = H.issue; empty = H.empty }
+
+  pub count_saw : (o : Order) (g c : ℕ) → TurnSaw o v.part c
+      → TurnSaw o (view_after v (Look w (Count o g)) n false).part c
+  count_saw Write g c s = by (is_finished (tally_in n))
+    where
+      by : (b : Bool) → TurnSaw Write (if b then keeps Write (finished_found g) v.part else v.part)
+          c
+      by true = saw_after _ Write v.part (keeps Write (finished_found g) v.part) c
+          (λ t. refl) refl s
+      by false = s
+  count_saw Append g c s = by (is_finished (tally_in n))
+    where
+      by : (b : Bool) → TurnSaw Append (if b then keeps Append
+          (finished_found g) v.part else v.part)
+          c
+      by true = saw_after _ Append v.part (keeps Append (finished_found g) v.part) c
+          (λ t. refl) refl s
+      by false = s
+
+  pub count_old : (o : Order) (g c : ℕ) → TurnOld o v.part c
+      → TurnOld o (view_after v (Look w (Count o g)) n false).part c
+  count_old Write g c s = by (is_finished (tally_in n))
+    where
+      by : (b : Bool) → TurnOld Write (if b then keeps Write (finished_found g) v.part else v.part)
+          c
+      by true = old_after _ Write v.part (keeps Write (finished_found g) v.part) c
+          (λ t. refl) refl s
+      by false = s
+  count_old Append g c s = by (is_finished (tally_in n))
+    where
+      by : (b : Bool) → TurnOld Append (if b then keeps Append
+          (finished_found g) v.part else v.part)
+          c
+      by true = old_after _ Append v.part (keeps Append (finished_found g) v.part) c
+          (λ t. refl) refl s
+      by false = s
+
+  pub count_gone : (o : Order) (g : ℕ) → n ≡ 2 ^ 63 → IsTrue (is_some v.part.sync)
+      → TurnGone o (view_after v (Look w (Count o g)) n false).part g
+  count_gone Write g e h = subst (λ b. TurnGone Write
+      (if b then keeps Write (finished_found g) v.part else v.part) g) (sym (is_gone n e))
+      (let t = the_turn v.part h in (_, ap (option_map _) t.1, refl))
+  count_gone Append g e h = subst (λ b. TurnGone Append
+      (if b then keeps Append (finished_found g) v.part else v.part) g) (sym (is_gone n e))
+      (let t = the_turn v.part h in (_, ap (option_map _) t.1, refl))
+
+  pub current_marker : (o : Order)
+      → marker_of (view_after v (Look w (Current o)) n false).part ≡ marker_of v.part
+  current_marker Write = marker_stays _ v.part.sync (λ t. refl)
+  current_marker Append = marker_stays _ v.part.sync (λ t. refl)
