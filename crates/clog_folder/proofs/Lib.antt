@@ -1,0 +1,10 @@
+pub mod EntriesCounted
+pub mod FolderRead
+pub mod PairOrder
+pub mod RowsHeld
+pub mod SegmentsHeld
+pub mod SegmentsRead
+pub mod Passing
+pub mod Rows
+pub mod TablesRead
+pub mod WholeFiles

@@ -1,0 +1,16 @@
+use Rattle.std.proofs.Common.{◌≡◌, ◌++◌}
+use Rattle.clog_folder.specs.Passing.{IsUntouched}
+use Rattle.clog_folder.specs.Segments.{AreHeld}
+use Rattle.clog_folder.proofs.segments.read_segments.Given as goal
+
+-- The disk is as it was, has counted no fault, and what was taken of the names was read.
+abbrev pub invariant-loop-place : goal.invariant-loop-place
+invariant-loop-place g l = record {
+  can_next : (goal.iterator-loop-place g).can_next l.place-iterator;
+  is_finite : (goal.iterator-loop-place g).is_finite l.place-iterator;
+  keeps : IsUntouched g.D.Disk.files g.D.Disk.changes g.D.Disk.leaves g.D.Disk.moment
+      g.D.Disk.since g.D.Disk.read_at g.D.Disk.faults l.fn.disk l.disk;
+  quiet : g.D.Disk.faults l.disk ≡ g.D.Disk.faults l.fn.disk;
+  parts : l.fn.names.entries ≡ l.yielded ++ l.place-iterator;
+  held : AreHeld l.ignore l.greatest (g.D.Disk.files l.fn.disk) l.yielded l.segments.items;
+}

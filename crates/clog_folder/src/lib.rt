@@ -1,0 +1,21 @@
+//! What a folder holds, read whole: its table files in their order, and then its segments in
+//! theirs, up to the first that is refused (Cassandra's `CommitLogReplayer`, in front of its
+//! merge). Opening a log and replaying it both begin so.
+//!
+//! Nothing on the disk changes. Each file is read once, and the bytes of a segment are kept once:
+//! its entries are ranges of them.
+#![tactic(auto)]
+
+mod entries;
+mod fault;
+mod folder;
+mod listing;
+mod segment;
+mod segments;
+mod tables;
+mod whole;
+
+pub use fault::OpenFault;
+pub use folder::{Folder, read_folder};
+pub use segment::SegmentHeld;
+pub use tables::TableHeld;
