@@ -12,6 +12,8 @@ use Rattle.std.proofs.Common.{
   sym,
   subst,
   append_assoc,
+  IfSome,
+  refl,
 }
 use Rattle.clog_spec.specs.Names.{segment_name_of}
 use Rattle.clog_disk.specs.Files.{Files, AppendsTo}
@@ -101,3 +103,9 @@ pub stored_of : (told : Option Files) (leaves : List ℕ → Option (List ℕ) �
     → IsStored id (old ++ kept)
 stored_of None leaves r past id old kept rests = absurd rests
 stored_of (Some f) leaves r past id old kept rests = rests.rest.stored
+
+-- what is so of the files where they are told
+pub if_told : (told : Option Files) (P : Files → Type 0)
+    → ((f : Files) → told ≡ Some f → P f) → IfSome told P
+if_told None P h = tt
+if_told (Some f) P h = h f refl

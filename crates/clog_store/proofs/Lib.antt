@@ -1,4 +1,5 @@
 mod Beside
+mod Going
 mod Kept
 mod Lived
 mod Outcomes

@@ -61,7 +61,7 @@ at_both told read P f r is t e =
     subst (λ (o : Option Reading). IfSome o (λ q. P f q)) e
     (subst (λ (o : Option Files). IfSome o (λ g. IfSome read (λ q. P g q))) t is)
 
-told_before : (old new : Option Files) (g : Files) → SameTold old new → new ≡ Some g
+pub told_before : (old new : Option Files) (g : Files) → SameTold old new → new ≡ Some g
     → (f : Files) × (old ≡ Some f)
 told_before None new g same is = let no : None ≡ Some g = sym same ∙ is in cc
 told_before (Some f) new g same is = (f, refl)

@@ -1,3 +1,4 @@
 pub mod Coming
 pub mod Life
 pub mod Resting
+pub mod Several

@@ -7,10 +7,12 @@ mod changing;
 mod next;
 mod recovering;
 mod sections;
+mod segments;
 mod store;
 
 pub use changing::{put_table, take_away};
 pub use next::write_section;
 pub use recovering::{put_recovered, take_all_recovered, take_recovered};
 pub use sections::{keep_sections, put_sections, settle_sections};
+pub use segments::{Part, put_all, put_segments};
 pub use store::{Store, StoreFault, Written};
