@@ -1,0 +1,4 @@
+mod FirstSettings
+mod OneRequest
+mod Refusals
+mod SettingLists

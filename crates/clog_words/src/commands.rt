@@ -1,0 +1,175 @@
+//! The commands, each with the options or the words that it has.
+ghost use Rattle.std.specs.Prelude.{◌≡◌, ◌∷◌, ℕ, List, codes, MatchOption, MatchResult};
+ghost use Rattle.clog_spec.specs.Names.{IsSegmentName};
+ghost use Rattle.clog_words.specs.declared.request.ApplyOptions.{ApplyOptions as AskedApply};
+ghost use Rattle.clog_words.specs.declared.request.ReplayOptions.{ReplayOptions as AskedReplay};
+ghost use Rattle.clog_words.specs.declared.request.Request.{Request as Asked};
+ghost use Rattle.clog_words.specs.Asks.{
+  Asks,
+  AsksApply,
+  AsksReplay,
+  AsksScan,
+  AsksDrill,
+  OnUsage,
+  SaysApply,
+  SaysReplay,
+  apply_names,
+  replay_names,
+};
+ghost use Rattle.clog_words.specs.Given.{letters, settings_of, texts};
+
+use crate::choices::{mark, number_if_said, number_or, sync_of};
+use crate::number::number_within;
+use crate::request::{ApplyOptions, ReplayOptions, Request, WordsFault};
+use crate::settings::{Setting, settings_given};
+use clog_base::{Name, parse_segment_name};
+use std::alloc::Global;
+
+const APPLY_NAMES: [&str; 9] = [
+    "writers",
+    "sync",
+    "period",
+    "segment-kib",
+    "flush-at",
+    "archive",
+    "receipts",
+    "drain",
+    "dump",
+];
+
+const REPLAY_NAMES: [&str; 2] = ["workers", "ignore-errors"];
+
+fn apply_options(settings: &[Setting<'_>]) -> Option<ApplyOptions>
+    ensures { MatchOption result
+        ((options : AskedApply) → ¬ SaysApply (settings_of settings.now) options)
+        (SaysApply (settings_of settings.now)) }
+{
+    Some(ApplyOptions {
+        writers: number_or(settings, "writers", 1, 64, 1)? as u8,
+        sync: sync_of(settings)?,
+        segment_kib: number_or(settings, "segment-kib", 4, 32_768, 32_768)? as u16,
+        flush_at: number_if_said(settings, "flush-at", 1, 1_000_000)?,
+        archive: mark(settings, "archive")?,
+        receipts: mark(settings, "receipts")?,
+        drain: mark(settings, "drain")?,
+        dump: mark(settings, "dump")?,
+    })
+}
+
+fn replay_options(settings: &[Setting<'_>]) -> Option<ReplayOptions>
+    ensures { MatchOption result
+        ((options : AskedReplay) → ¬ SaysReplay (settings_of settings.now) options)
+        (SaysReplay (settings_of settings.now)) }
+{
+    Some(ReplayOptions {
+        workers: number_or(settings, "workers", 1, 64, 1)? as u8,
+        ignore_errors: mark(settings, "ignore-errors")?,
+    })
+}
+
+fn apply(alloc: Global, words: &[String]) -> Result<ApplyOptions, WordsFault>
+    ensures { MatchResult result (AsksApply (texts words.now))
+        (λ fault. OnUsage fault ((options : AskedApply) → ¬ AsksApply (texts words.now) options)) }
+{
+    let settings = settings_given(alloc, words, &APPLY_NAMES)?;
+    match apply_options(&settings) {
+        Some(options) => Ok(options),
+        None => Err(WordsFault::Usage),
+    }
+}
+
+fn replay(alloc: Global, words: &[String]) -> Result<ReplayOptions, WordsFault>
+    ensures { MatchResult result (AsksReplay (texts words.now))
+        (λ fault. OnUsage fault
+        ((options : AskedReplay) → ¬ AsksReplay (texts words.now) options)) }
+{
+    let settings = settings_given(alloc, words, &REPLAY_NAMES)?;
+    match replay_options(&settings) {
+        Some(options) => Ok(options),
+        None => Err(WordsFault::Usage),
+    }
+}
+
+// The word, where it is the name of a segment of version 6.
+fn segment_name(word: &str) -> Option<Name>
+    ensures { MatchOption result ((id : ℕ) → ¬ IsSegmentName word.now 6 id)
+        (λ name. (name ≡ word.now) × ((id : ℕ) × IsSegmentName word.now 6 id)) }
+{
+    let Some(name) = Name::make(word.as_bytes()) else {
+        return None;
+    };
+    let Some(said) = parse_segment_name(&name) else {
+        return None;
+    };
+    if said.version == 6 { Some(name) } else { None }
+}
+
+fn scan(words: &[String]) -> Option<Name>
+    ensures { MatchOption result ((name : List ℕ) → ¬ AsksScan (texts words.now) name)
+        (AsksScan (texts words.now)) }
+{
+    match words {
+        [word] => segment_name(word.as_str()),
+        _ => None,
+    }
+}
+
+fn drill(words: &[String]) -> Option<(u32, u32)>
+    ensures { MatchOption result ((seed count : ℕ) → ¬ AsksDrill (texts words.now) seed count)
+        (λ drill. AsksDrill (texts words.now) drill.0 drill.1) }
+{
+    let [seed_word, count_word] = words else {
+        return None;
+    };
+    let Some(seed) = number_within(seed_word.as_str(), 0, 4_294_967_295) else {
+        return None;
+    };
+    let Some(count) = number_within(count_word.as_str(), 0, 1_000_000) else {
+        return None;
+    };
+    Some((seed, count))
+}
+
+fn request_of(alloc: Global, command: &str, words: &[String]) -> Result<Request, WordsFault>
+    ensures { MatchResult result (Asks (command.now ∷ texts words.now))
+        (λ fault. OnUsage fault
+        ((request : Asked) → ¬ Asks (command.now ∷ texts words.now) request)) }
+{
+    if command == "apply" {
+        return match apply(alloc, words) {
+            Ok(options) => Ok(Request::Apply(options)),
+            Err(fault) => Err(fault),
+        };
+    }
+    if command == "replay" {
+        return match replay(alloc, words) {
+            Ok(options) => Ok(Request::Replay(options)),
+            Err(fault) => Err(fault),
+        };
+    }
+    if command == "scan" {
+        return match scan(words) {
+            Some(name) => Ok(Request::Scan(name)),
+            None => Err(WordsFault::Usage),
+        };
+    }
+    if command == "drill" {
+        return match drill(words) {
+            Some((seed, count)) => Ok(Request::Drill { seed, count }),
+            None => Err(WordsFault::Usage),
+        };
+    }
+    Err(WordsFault::Usage)
+}
+
+/// Reads the words after the program's name. `Usage` comes exactly where they ask for nothing that
+/// there is; `OutOfMemory` where memory was refused.
+pub fn parse(alloc: Global, words: &[String]) -> Result<Request, WordsFault>
+    ensures { MatchResult result (Asks (texts words.now))
+        (λ fault. OnUsage fault ((request : Asked) → ¬ Asks (texts words.now) request)) }
+{
+    match words {
+        [command, rest @ ..] => request_of(alloc, command.as_str(), rest),
+        [] => Err(WordsFault::Usage),
+    }
+}

@@ -1,0 +1,18 @@
+//! The words after the program's name, read into what they ask for. Words are accepted exactly
+//! where they ask for something, and then for one thing alone: the first word is the command, its
+//! options follow in any order, each once at most, as `--name value` or `--name=value`, and no name
+//! is shortened.
+#![tactic(auto)]
+
+mod choices;
+mod commands;
+mod laws;
+mod number;
+mod request;
+mod settings;
+#[cfg(test)]
+mod tests;
+
+pub use commands::parse;
+pub use laws::words_laws;
+pub use request::{ApplyOptions, ReplayOptions, Request, WordsFault};
