@@ -19,9 +19,12 @@
 //! | `newlines N` | the input has so many newlines more |
 //! | `run WORD ..` | a run with these words takes the input and the failing calls |
 //! | `show NAME` | tells a file's bytes in hexadecimal digits |
+//! | `output HEX` | these bytes are told as if a run had printed them |
 //!
-//! A run tells its words, its status, each line that it printed behind `| `, each file with its
-//! length, and the moment that the clock tells next, which says whether it was asked.
+//! A run tells its words, its status, what it printed, each file with its length, and the moment
+//! that the clock tells next, which says whether it was asked. What it printed is told to the byte:
+//! each line behind `|`, a blank one as `|` alone, and `no newline at the end` behind a last line
+//! that has none.
 #![tactic(auto)]
 
 mod outcome;

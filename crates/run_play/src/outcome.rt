@@ -4,13 +4,25 @@ use clog_base::Name;
 use clog_disk::{Disk, MemDisk};
 use std::io::Write;
 
-/// Puts each line that was printed behind `| `.
+// Puts each of these lines behind `|`, a blank one too.
+fn put_lines(out: &mut Vec<u8>, lines: &[u8]) -> Result<()> {
+    for line in lines.split(|byte| *byte == b'\n') {
+        out.push(b'|')?;
+        out.extend_from_slice(line)?;
+        out.push(b'\n')?;
+    }
+    Ok(())
+}
+
+/// Puts what was printed, so that it can be read back byte for byte: each line behind `|`, and a
+/// line of its own where the last one has no newline.
 pub fn put_printed(out: &mut Vec<u8>, printed: &[u8]) -> Result<()> {
-    for line in printed.split(|byte| *byte == b'\n') {
-        if !line.is_empty() {
-            out.extend_from_slice(b"| ")?;
-            out.extend_from_slice(line)?;
-            out.push(b'\n')?;
+    match printed.split_last() {
+        None => {}
+        Some((b'\n', lines)) => put_lines(out, lines)?,
+        Some(_) => {
+            put_lines(out, printed)?;
+            writeln!(out, "no newline at the end")?;
         }
     }
     Ok(())

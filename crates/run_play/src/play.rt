@@ -89,6 +89,7 @@ impl Play {
             Step::Input(bytes) => play.input.extend_from_slice(&bytes)?,
             Step::Run(words) => play = play.run(rt, alloc, words, &mut out)?,
             Step::Show(name) => put_bytes(&mut out, &play.disk, &name)?,
+            Step::Output(bytes) => put_printed(&mut out, &bytes)?,
         }
         Ok((play, out))
     }

@@ -28,11 +28,13 @@ pub enum Cause {
     OutOfMemory(#[from(alloc)] AllocError),
 }
 
-/// A line that is refused: its number, from 1, and why.
+/// A line that is refused.
 #[derive(Debug, Drop, Error)]
 #[error("line {number}: {cause}")]
 pub struct PlayError {
+    /// The number of the line, from 1.
     pub number: u64,
+    /// Why it is refused.
     pub cause: Cause,
 }
 
@@ -59,6 +61,8 @@ pub enum Step<'a> {
     Run(&'a str),
     /// A file's bytes are told.
     Show(Name),
+    /// These bytes are told as if a run had printed them.
+    Output(Vec<u8>),
 }
 
 // The first word, and what is behind the space after it.
@@ -168,6 +172,7 @@ impl<'a> Step<'a> {
             "newlines" => Ok(Step::Input(times(alloc, number_of(rest)?, b"\n")?)),
             "run" => Ok(Step::Run(rest)),
             "show" => Ok(Step::Show(name_of(rest)?)),
+            "output" => Ok(Step::Output(bytes_of(alloc, rest)?)),
             _ => Err(Cause::Word),
         }
     }
