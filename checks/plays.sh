@@ -1,9 +1,10 @@
-# Runs of the path's steps as text: a faulty line ends them with its number, and a run has a path of
-# its own.
+# Runs as text, of the path's steps and of the program over a folder in memory: a faulty line ends
+# them with its number. A run of steps has a path of its own.
 . "$top/checks/lib"
 play=$top/crates/path_play/out/path_play
+cases=$top/crates/run_play/out/run_play
 
-# faulty WHAT TEXT OUT ERR: the text ends with this fault.
+# faulty WHAT TEXT OUT ERR: the text ends with this fault, by the program `play`.
 faulty() {
     printf "$2" >run
     expect "$1" 1 "$3" "Error: $4" sh -c '"$0" <run' "$play"
@@ -15,15 +16,37 @@ if [ -x "$play" ]; then
     faulty 'a step before the path' 'run a\nlook 0 log\n' 'run a' 'line 2: no path: *'
     faulty 'the path of another run' "run a\n${begun}run b\nlook 0 log\n" 'run a
 run b' 'line 4: no path: *'
-    faulty 'an unknown step' "${begun}\n# no step\nlok 0 log\n" '' 'line 4: a word that is not known *'
+    faulty 'an unknown step' "${begun}\n# no step\nlok 0 log\n" '' \
+        'line 4: a word that is not known *'
     faulty 'a line that ends too early' "${begun}look 0\n" '' 'line 2: the line ends too early'
     faulty 'a word too many' "${begun}look 0 log 1\n" '' 'line 2: a word that is not known *'
     faulty 'a seat that is no number' "${begun}look x log\n" '' 'line 2: a word that is no number*'
-    faulty 'sizes outside their limits' 'path tables 0 writers 1 capacity 4096 ordinals 1 base 1\n' '' \
+    faulty 'sizes outside their limits' \
+        'path tables 0 writers 1 capacity 4096 ordinals 1 base 1\n' '' \
         'line 1: sizes outside their limits'
     printf "${begun}look 0 log\nput 0 synced 60\n" >run
     expect 'steps that are made and refused' 0 'made look 0 log
 refused put 0 synced 60' '' sh -c '"$0" <run' "$play"
 else
     skipped 'path_play is not built'
+fi
+
+play=$cases
+if [ -x "$play" ]; then
+    fresh
+    faulty 'an unknown line' 'case a\nlin x\n' 'case a' 'line 2: no such line'
+    faulty 'a moment that is no number' '\n# none\nclock 1 x\n' '' 'line 3: a number is wanted'
+    faulty 'half a byte' 'output 0\n' '' 'line 1: bytes are wanted'
+    faulty 'a name that is none' 'show a/b\n' '' 'line 1: a name is wanted'
+    printf 'output 610a0a62\nrun\n' >run
+    expect 'output to the byte, and faulty words' 0 '|a
+|
+|b
+no newline at the end
+run 
+status 1
+|error 1: usage
+clock 1000' '' sh -c '"$0" <run' "$play"
+else
+    skipped 'run_play is not built'
 fi

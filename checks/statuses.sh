@@ -14,10 +14,12 @@ that 'it makes no folder' test ! -e commitlog
 { printf '{"key":"k","updates":[{"table":0,"column":"c","ts":1,"value":"'
     head -c 16777216 /dev/zero | tr '\0' x
     echo '"}]}'; } >large
-expect 'a line too large' 3 'error 3: line 1: size 16777250 above 16777216' '' "$pinsilver" apply <large
+expect 'a line too large' 3 'error 3: line 1: size 16777250 above 16777216' '' \
+    "$pinsilver" apply <large
 head -c 67108865 /dev/zero |
     expect 'a file too large' 10 'error 10: limit file-bytes 67108864' '' "$pinsilver" apply
-expect 'a scan of no file' 11 'error 11: no file CommitLog-6-5.log' '' "$pinsilver" scan CommitLog-6-5.log
+expect 'a scan of no file' 11 'error 11: no file CommitLog-6-5.log' '' \
+    "$pinsilver" scan CommitLog-6-5.log
 that 'none of them makes a folder' test ! -e commitlog
 
 fresh
@@ -37,6 +39,29 @@ fresh
 : >commitlog
 apply_line expect 'commitlog is no folder' 6 'error 6: disk fault' \
     'pinsilver: list commitlog: Not a directory' "$pinsilver" apply
+
+# The other limits. What is too long is seen by its length alone.
+fresh
+mkdir commitlog
+if truncate -s 67108865 commitlog/CommitLog-6-5.log 2>/dev/null; then
+    expect 'a segment too long' 10 'error 10: limit segment-bytes 67108864' '' \
+        "$pinsilver" scan CommitLog-6-5.log
+else
+    skipped 'no truncate'
+fi
+fresh
+head -c 1000001 /dev/zero | tr '\0' '\n' |
+    expect 'too many lines' 10 'error 10: limit lines 1000000' '' "$pinsilver" apply
+mkdir commitlog
+: >commitlog/Archive-CommitLog-6-4611686018427387903.log
+apply_line expect 'an id at its limit' 10 'error 10: limit ids 4611686018427387903' '' \
+    "$pinsilver" apply
+that 'it is left alone' test "$(ls commitlog)" = Archive-CommitLog-6-4611686018427387903.log
+fresh
+mkdir commitlog
+printf '\0\0\0\1%033d' 0 | tr 0 '\0' >commitlog/Table-0-4611686018427387905.tbl
+apply_line expect 'a table file comes before its sequence' 8 \
+    'error 8: Table-0-4611686018427387905.tbl: HeadCheck' '' "$pinsilver" apply
 
 # Too little memory for the file's bytes.
 fresh

@@ -2,9 +2,11 @@
 . "$top/checks/lib"
 
 fresh
-expect 'input is closed' 4 'error 4: read fault' 'pinsilver: read standard input: Bad file descriptor' \
+expect 'input is closed' 4 'error 4: read fault' \
+    'pinsilver: read standard input: Bad file descriptor' \
     sh -c '"$0" apply <&-' "$pinsilver"
-expect 'input is a folder' 4 'error 4: read fault' 'pinsilver: read standard input: Is a directory' \
+expect 'input is a folder' 4 'error 4: read fault' \
+    'pinsilver: read standard input: Is a directory' \
     "$pinsilver" apply <.
 that 'no folder is made' test ! -e commitlog
 
@@ -24,6 +26,14 @@ if [ -c /dev/full ]; then
 else
     skipped 'no /dev/full'
 fi
+
+# The reader closes the pipe before the program writes.
+fresh
+expect 'the reader of the output has gone' 5 '' \
+    'pinsilver: write standard output: Broken pipe' \
+    sh -c '{ until [ -e gone ]; do sleep 0.1; done; echo "$1" | "$0" apply; echo $? >ended; } |
+        { exec <&-; : >gone; }; exit "$(cat ended)"' "$program" "$line"
+that 'the segment is there all the same' test "$(segment_size)" -eq 60
 
 # Nothing that is meant for a stream lands in the segment.
 fresh
