@@ -237,9 +237,11 @@ pub record IsLoggedCell (h : Holding) (f : PutFile) (pair : CellKey × Cell) : T
   pub above : f.lower < note.end.0
   pub up_to : note.end.0 ≤ f.upper
 
--- What is asked of a table file: the log is lasting up to its upper key, it goes on where the last
--- file of its table ended, and its cells are the merge of what its interval holds.
+-- What is asked of a table file: there is such a table, the log is lasting up to its upper key, it
+-- goes on where the last file of its table ended, and its cells are the merge of what its interval
+-- holds.
 pub record MayPublish (h : Holding) (f : PutFile) : Type 0 where
+  pub table_is : f.table < h.sizes.tables
   pub lasting : f.upper ≤ after h.sizes.capacity h.synced
   pub goes_on : f.lower ≡ upper_from f.table 0 h.files
   pub forward : f.lower ≤ f.upper
@@ -275,12 +277,13 @@ pub record IsFiledIn (files : List PutFile) (t key : ℕ) : Type 0 where
   pub above : file.lower < key
   pub up_to : key ≤ file.upper
 
--- A segment is droppable: it has an entry that is lasting, and for each table each key from one to
--- another of the ends of its entries that touch the table lies in the table's files.
+-- A segment is droppable: it has an entry that is lasting, none that is kept, and for each table each
+-- key from one to another of the ends of its entries that touch the table lies in the table's files.
 pub record MayDrop (h : Holding) (o : ℕ) : Type 0 where
   pub note : EntryNote
   pub among : Contains h.logged note
   pub here : ordinal_of note.start.0 ≡ o
+  pub none_kept : (n : EntryNote) → Contains h.kept n → ordinal_of n.start.0 ≡ o → ⊥
   pub filed : (t : ℕ) (a b : EntryNote) → Contains h.logged a → Contains h.logged b
       → IsTrue (is_of o t a) → IsTrue (is_of o t b)
       → (key : ℕ) → a.end.0 ≤ key → key ≤ b.end.0 → IsFiledIn h.files t key

@@ -85,92 +85,135 @@ pub enum Carried {
     Applied(Rows<(Table, u64)>),
 }
 
-/// A step. `by` is the seat that makes it; groups and memtables are named by their numbers.
+/// A step. Seats, groups and memtables are named by their numbers.
 #[derive(Drop)]
 pub enum Event {
     /// It reads the word at a place.
     Look {
+        /// The seat that makes it.
         by: u8,
+        /// The place.
         at: Place,
     },
     /// It enters a group of an order.
     Register {
+        /// The seat that makes it.
         by: u8,
+        /// The order.
         order: Order,
+        /// The group that it enters.
         group: u64,
     },
     /// It leaves a group of an order.
     Close {
+        /// The seat that makes it.
         by: u8,
+        /// The order.
         order: Order,
+        /// The group that it leaves.
         group: u64,
+        /// What it carries there.
         carried: Carried,
     },
     /// It makes the next group of an order.
     OpenGroup {
+        /// The seat that makes it.
         by: u8,
+        /// The order.
         order: Order,
+        /// The group that is made.
         group: u64,
     },
     /// It makes that group the current one; what waits for a barrier gets the one before.
     MoveCurrent {
+        /// The seat that makes it.
         by: u8,
+        /// The order.
         order: Order,
+        /// The group that becomes the current one.
         group: u64,
     },
     /// It ends registering in the group before the current one.
     Expire {
+        /// The seat that makes it.
         by: u8,
+        /// The order.
         order: Order,
+        /// The group in which registering ends.
         group: u64,
     },
     /// It makes the next group the oldest one that is not known to be finished.
     Advance {
+        /// The seat that makes it.
         by: u8,
+        /// The order.
         order: Order,
+        /// The group that becomes the oldest one.
         group: u64,
     },
     /// It moves the log key, from the one that stands there to the one behind what it claims.
     Claim {
+        /// The seat that makes it.
         by: u8,
+        /// The log key that stands there.
         from: Key,
+        /// The key behind the claimed range.
         to: Key,
+        /// What the range is for.
         what: ClaimKind,
     },
     /// It makes one half of the switch of a table to a new memtable.
     Switch {
+        /// The seat that makes it.
         by: u8,
+        /// The table.
         table: Table,
+        /// The memtable that is opened or marked.
         memtable: u64,
+        /// Which half.
         part: SwitchPart,
     },
     /// It raises the bound of a memtable to a key, where that is greater.
     Raise {
+        /// The seat that makes it.
         by: u8,
+        /// The table.
         table: Table,
+        /// The memtable whose bound is raised.
         memtable: u64,
+        /// The key that the bound is raised to.
         to: Key,
     },
     /// It makes the bound of a memtable final.
     Finalise {
+        /// The seat that makes it.
         by: u8,
+        /// The table.
         table: Table,
+        /// The memtable whose bound becomes final.
         memtable: u64,
     },
     /// It takes a turn that nobody holds.
     TakeTurn {
+        /// The seat that makes it.
         by: u8,
+        /// The turn.
         turn: Turn,
     },
     /// It gives a turn back.
     GiveTurn {
+        /// The seat that makes it.
         by: u8,
+        /// The turn.
         turn: Turn,
     },
     /// It puts a number at a cursor.
     Put {
+        /// The seat that makes it.
         by: u8,
+        /// The cursor.
         cursor: Cursor,
+        /// The number.
         value: u64,
     },
 }

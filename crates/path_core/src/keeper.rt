@@ -122,9 +122,9 @@ pub trait Keeper {
 
     /// Drops the droppable segments of ordinals below `closed` that were not dropped before, in the
     /// order of their ids, and answers how many. After a refusal the first of them were dropped.
-    /// A segment is droppable here whose entries that are lasting lie in table files, so `closed`
-    /// is to be at most the ordinal of the synced key, or one more than the last one of the log
-    /// once all of it is lasting.
+    /// A segment is droppable here whose entries that are lasting lie in table files and of which
+    /// none is kept, so `closed` is to be at most the ordinal of the synced key, or one more than
+    /// the last one of the log once all of it is lasting.
     fn discard(&mut self, closed: u32) -> Result<u32, KeeperFault>
         ensures drops { IfOk result (Drops (holds self.old) (holds self.new) closed) }
         ensures refused { OnErr result (DropRefused (holds self.old) (holds self.new) closed) }

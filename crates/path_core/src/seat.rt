@@ -110,7 +110,12 @@ pub enum Switching {
     /// It made this one final, and it waits for its barrier.
     Waiting(u64),
     /// The barrier of this one is issued.
-    WithBarrier { memtable: u64, group: u64 },
+    WithBarrier {
+        /// The memtable.
+        memtable: u64,
+        /// Its barrier's group.
+        group: u64,
+    },
 }
 
 /// A Flush turn in a seat's hand. What is kept of the words was found or put while it is held.

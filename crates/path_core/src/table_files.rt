@@ -19,7 +19,9 @@ use crate::state::{PathState, WrittenFile};
 /// The least and the greatest of some positions.
 #[derive(Clone, Copy, Debug, PartialEq, Eq)]
 pub(crate) struct Span {
+    /// The least of the ends, as a key.
     pub least: u64,
+    /// The greatest of the ends, as a key.
     pub greatest: u64,
 }
 
