@@ -4,3 +4,4 @@ pub mod FileMutations
 pub mod Refusals
 pub mod CellTexts
 pub mod UsualLines
+pub mod Made

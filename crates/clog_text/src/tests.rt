@@ -1,6 +1,7 @@
 //! What no clause says: that calls succeed with ample memory, and values from outside.
 mod cells;
 mod files;
+mod generator;
 mod limits;
 mod lines;
 
