@@ -16,6 +16,7 @@ ghost use Rattle.std.specs.Prelude.{
 };
 ghost use Rattle.clog_spec.specs.Segment.{header_bytes, section_bytes};
 ghost use Rattle.clog_spec.specs.Names.{segment_name_of};
+ghost use Rattle.clog_spec.specs.Sizes.{front_size, header_size, marker_size};
 ghost use Rattle.clog_disk.specs.Files.{AppendsTo, IsEnd, SameTold};
 ghost use Rattle.clog_disk.specs.Images.{IsLater, LeavesOnly};
 ghost use Rattle.clog_scan.specs.Cut.{Section, entries_bytes};
@@ -25,7 +26,7 @@ ghost use Rattle.clog_crash.specs.Sections.{IsNext, next_bytes, next_section};
 ghost use Rattle.clog_store.specs.Resting.{RestsAt, ShowsBehind};
 
 use crate::sections::put_sections;
-use clog_base::HEADER_SIZE;
+use clog_base::{HEADER_SIZE, MARKER_SIZE};
 use clog_disk::{Disk, DiskFault};
 use clog_entry::{write_header, write_marker};
 use std::alloc::{AllocError, Global};
@@ -39,27 +40,24 @@ fn joined(alloc: Global, front: &[u8], back: &[u8]) -> Result<Vec<u8>, AllocErro
 }
 
 fn section_behind(alloc: Global, id: u64, at: u32, entries: &[u8]) -> Result<Vec<u8>, AllocError>
-    requires room { at + 8 + length entries.now < 2 ^ 31 }
+    requires room { at + marker_size + length entries.now < 2 ^ 31 }
     ensures { IfOk result (λ bytes. bytes.items ≡ section_bytes id at entries.now) }
 {
-    joined(
-        alloc,
-        &write_marker(id, at, at + 8 + entries.len() as u32),
-        entries,
-    )
+    let end = at + MARKER_SIZE as u32 + entries.len() as u32;
+    joined(alloc, &write_marker(id, at, end), entries)
 }
 
 fn first_bytes(alloc: Global, id: u64, entries: &[u8]) -> Result<Vec<u8>, AllocError>
-    requires room { 28 + length entries.now < 2 ^ 31 }
+    requires room { front_size + length entries.now < 2 ^ 31 }
     ensures { IfOk result (λ bytes. bytes.items
-        ≡ header_bytes id ++ section_bytes id 20 entries.now) }
+        ≡ header_bytes id ++ section_bytes id header_size entries.now) }
 {
     let section = section_behind(alloc, id, HEADER_SIZE as u32, entries)?;
     joined(alloc, &write_header(id), &section)
 }
 
 fn bytes_of_next(alloc: Global, id: u64, size: u32, entries: &[u8]) -> Result<Vec<u8>, AllocError>
-    requires room { size + 28 + length entries.now < 2 ^ 31 }
+    requires room { size + front_size + length entries.now < 2 ^ 31 }
     ensures { IfOk result (λ bytes. bytes.items ≡ next_bytes id size entries.now) }
 {
     if size == 0 {
@@ -99,7 +97,7 @@ pub fn write_section<D: Disk>(
     size: u32,
     entries: &[u8],
 ) -> Result<(), DiskFault>
-    requires room { size + 28 + length entries.now < 2 ^ 31 }
+    requires room { size + front_size + length entries.now < 2 ^ 31 }
     requires end { IsEnd (D.files disk.old) (segment_name_of 6 id) size }
     ensures told { SameTold (D.files disk.old) (D.files disk.new) }
     ensures appends { OnOk result (AppendsTo (D.files disk.old) (D.files disk.new)
