@@ -1,7 +1,7 @@
 #!/bin/sh
-# Time a line and peak memory of `apply` and `apply --dump`, for 1,000, 10,000 and 100,000 lines with
-# distinct keys, on all processors and on one. Needs GNU time, taskset and a built program. No part of
-# the gate.
+# Time a line and peak memory of `apply` and `apply --dump`, for 1,000, 10,000 and 100,000 lines
+# with distinct keys, on all processors and on one. Needs GNU time, taskset and a built program. No
+# part of the gate.
 set -e
 top=$(cd "$(dirname "$0")/.." && pwd)
 . "$top/bench/setup.sh"

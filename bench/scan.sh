@@ -1,6 +1,7 @@
 #!/bin/sh
 # Time and peak memory of `scan` for a segment of 100,000 small entries and for one of two large
-# ones, which tells how fast the checks are. Needs GNU time and a built program. No part of the gate.
+# ones, which tells how fast the checks are. Needs GNU time and a built program. No part of the
+# gate.
 set -e
 top=$(cd "$(dirname "$0")/.." && pwd)
 . "$top/bench/setup.sh"

@@ -12,7 +12,8 @@ end clean 60" '' "$pinsilver" scan "$name"
 # The bytes between the first backquotes behind each offset of the example, as octal escapes.
 fresh
 mkdir commitlog
-bytes=$(sed -n '/^### The example/,/^### Reading/s/^| [0-9]* |\([^|]*\)|.*/\1/p' "$top/docs/FORMATS.md" | tr -dc '0-9a-f')
+bytes=$(sed -n '/^### The example/,/^### Reading/s/^| [0-9]* |\([^|]*\)|.*/\1/p' \
+    "$top/docs/FORMATS.md" | tr -dc '0-9a-f')
 for byte in $(echo "$bytes" | sed 's/../& /g'); do
     printf "\\$(printf %o "0x$byte")"
 done >commitlog/CommitLog-6-1000.log

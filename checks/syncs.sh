@@ -15,6 +15,11 @@ that 'the segment is opened once' test "$(calls 'open.*"commitlog/CommitLog-6-')
 that 'it is written once' test "$(calls 'write(.*CommitLog-6-.*= 60$')" -eq 1
 that 'it is synced once' test "$(calls 'fsync(.*CommitLog-6-.*= 0$')" -eq 1
 that 'the folder and the one above are synced' test "$(calls 'fsync(.*= 0$')" -eq 3
+sed -n 's/^fsync([0-9]*<\(.*\)>).*/\1/p' "$box/trace" >"$box/synced"
+that 'the folder behind the segment' sh -c \
+    '[ "$(sed -n 2p "$0")" = "$(dirname "$(sed -n 1p "$0")")" ]' "$box/synced"
+that 'and the one above behind the folder' sh -c \
+    '[ "$(sed -n 3p "$0")" = "$(dirname "$(sed -n 2p "$0")")" ]' "$box/synced"
 that 'all after the write' sh -c \
     'sed -n "/write(.*CommitLog/,\$p" "$0" | grep -c "fsync(" | grep -qx 3' "$box/trace"
 that 'and before the report' sh -c \

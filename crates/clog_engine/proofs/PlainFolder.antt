@@ -3,7 +3,14 @@ use Rattle.std.proofs.Common.{ℕ, List, Option, Some, None, Err as err, inl, in
 use Rattle.std.specs.Prelude.{IfSome, ◌≢◌, ◌≤◌}
 use Rattle.std.proofs.lemmas.List.Elements.{All-contains}
 use Rattle.clog_disk.specs.Files.{Files, Told}
-use Rattle.clog_crash.specs.Folder.{HasSegmentFile, TableRead, place_of, AreTables, IsReadFrom, HasUpper}
+use Rattle.clog_crash.specs.Folder.{
+  HasSegmentFile,
+  TableRead,
+  place_of,
+  AreTables,
+  IsReadFrom,
+  HasUpper,
+}
 use Rattle.clog_engine.specs.Directory.{HasManyTables, HasBadTable, HasGreatId}
 use Rattle.clog_base.specs.declared.cell.Table.{Table}
 use Rattle.clog_table.specs.declared.fault.TableFault.{TableFault}

@@ -1,10 +1,35 @@
 -- What a directory restores to with one more segment in it: its table files' cells, and the cells
 -- of the segment's mutations.
-use Rattle.std.proofs.Common.{◌≡◌, ℕ, ◌+◌, ◌^◌, ◌<◌, List, [], ◌++◌, length, map, Some, inl, inr, refl, sym, ap, subst, ◌∙◌, arith}
+use Rattle.std.proofs.Common.{
+  ◌≡◌,
+  ℕ,
+  ◌+◌,
+  ◌^◌,
+  ◌<◌,
+  List,
+  [],
+  ◌++◌,
+  length,
+  map,
+  Some,
+  inl,
+  inr,
+  refl,
+  sym,
+  ap,
+  subst,
+  ◌∙◌,
+  arith,
+}
 use Rattle.std.specs.Prelude.{Contains, IsSome}
 use Rattle.std.specs.List.{flat_map, AllByRecursion}
 use Rattle.std.specs.FinMap as finmap
-use Rattle.std.proofs.lemmas.List.Elements.{All-weaker, Contains-append_left, Contains-append_right, Contains-append_cases}
+use Rattle.std.proofs.lemmas.List.Elements.{
+  All-weaker,
+  Contains-append_left,
+  Contains-append_right,
+  Contains-append_cases,
+}
 use Rattle.clog_spec.specs.Sizes.{front_size, greatest_capacity}
 use Rattle.clog_spec.specs.Names.{segment_name_of, IsSegmentName}
 use Rattle.clog_base.proofs.NameLaws.{one_segment, segment_is_no_other}

@@ -59,7 +59,7 @@ pub record IsQuiet (o : Outside) (s : Sinks) : Type 0 where
 abbrev pub EndsWell : Status → Type 0
 EndsWell status = (status ≡ Ok) ⊎ (status ≡ OutOfMemory)
 
--- Words that ask for what can be done, and no fault, end the run well.
+-- Where the words ask for what can be done and no fault was counted, the run ends well.
 abbrev pub Completes : List (String Global) → Outside → Sinks → Status → Type 0
 Completes words o s status =
     (request : Request) → Says (map string_bytes words) request → IsFit request o → IsQuiet o s

@@ -79,8 +79,9 @@ fn answer<T: Threads + Sync, R: Source, K: Sink, D: Disk, C: Clock>(
 /// mutations stand in one new segment (none for an empty file), lasting, that the folder restores
 /// to what it restored to before with the mutations' cells merged in, no file of it damaged, and
 /// that the report went out whole, whose dump is what the folder restores to now; of `scan` that
-/// the report tells what the segment's file holds. Words that ask for what can be done, and no
-/// fault, end with `Ok` or for want of memory. A fault of the disk is told: without `DiskFault`
+/// the report tells what the segment's file holds. Where the words ask
+/// for what can be done and no fault was counted, it ends with `Ok`, or for want of memory. A fault
+/// of the disk is told: without `DiskFault`
 /// none was counted. What the words or the mutation file refuse by themselves leaves the disk
 /// uncalled.
 pub fn run<

@@ -18,7 +18,9 @@ use std::marker::Model;
 /// A section as it was handed over: where it ends, and its entries' payloads.
 #[derive(Drop)]
 pub struct Written {
+    /// Where it ends in its segment's file, in bytes, exclusive.
     pub until: u64,
+    /// The payloads of its entries, in their order.
     pub payloads: Vec<Bytes>,
 }
 

@@ -12,14 +12,19 @@ use std::fmt;
 pub enum Part {
     /// The object that is the whole line.
     Line,
+    /// The partition's key.
     Key,
     /// The array of updates.
     Updates,
     /// One object of that array.
     Update,
+    /// The table's number.
     Table,
+    /// The column's name.
     Column,
+    /// The timestamp.
     Ts,
+    /// The value, or none for a deletion.
     Value,
 }
 

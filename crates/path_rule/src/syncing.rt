@@ -77,7 +77,8 @@ impl<K: Keeper, A: Allocator> PathTable<K, A> {
             .store::<PutSynced<K>>(&mut member.seat, SYNCED, value);
     }
 
-    /// Stops the log, which the member found running, with the keeper's count of faults.
+    /// Stops the log, which the member found running, with a count of faults above 0. That it is
+    /// the keeper's is for the caller to see.
     pub fn put_stopped(&self, member: &mut Member<K>, value: u64)
         requires table { IsOf self.now.table.shared.table_id self.now.size member.old }
         requires turn { (t : SyncTurn) × ((part_of member.old).sync ≡ Some t)
