@@ -277,8 +277,9 @@ pub record IsFiledIn (files : List PutFile) (t key : ℕ) : Type 0 where
   pub above : file.lower < key
   pub up_to : key ≤ file.upper
 
--- A segment is droppable: it has an entry that is lasting, none that is kept, and for each table each
--- key from one to another of the ends of its entries that touch the table lies in the table's files.
+-- A segment is droppable: it has an entry that is lasting, none that is kept, and for each table
+-- each key from one to another of the ends of its entries that touch the table lies in the table's
+-- files.
 pub record MayDrop (h : Holding) (o : ℕ) : Type 0 where
   pub note : EntryNote
   pub among : Contains h.logged note
