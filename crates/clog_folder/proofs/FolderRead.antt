@@ -10,7 +10,6 @@ use Rattle.std.proofs.Common.{
   length,
   map,
   Bool,
-  true,
   Option,
   Some,
   None,
@@ -19,25 +18,14 @@ use Rattle.std.proofs.Common.{
   sym,
   ap,
   subst,
-  ◌∙◌,
   inl,
   inr,
   arith,
 }
 use Rattle.std.specs.Prelude.{IfSome, is_some}
 use Rattle.std.specs.FinMap as finmap
-use Rattle.std.specs.FinMap.{contains_key-keys}
-use Rattle.std.specs.Ordering.{nat_cmp, eq_by_cmp}
 use Rattle.std.specs.declared.cmp.Ordering.{Ordering}
-use Rattle.std.specs.Cmp.{IsEquivalence, eq_by_cmp_equiv}
-use Rattle.std.specs.Cmp.Lexicographic.{slice_cmp, nat_list_cmp_total}
 use Rattle.std.proofs.lemmas.List.Elements.{All-contains}
-use Rattle.std.proofs.lemmas.Map.Lookups.{exact_bytes}
-use Rattle.std.proofs.lemmas.Map.Views.{
-  Contains-from_any,
-  list_any-from_Contains,
-  tells_apart,
-}
 use Rattle.clog_base.specs.declared.cell.Table.{Table}
 use Rattle.clog_base.specs.declared.fault.Quantity.TheVariants.{SegmentBytes}
 use Rattle.clog_spec.specs.Names.{IsSegmentName}
@@ -47,12 +35,13 @@ use Rattle.clog_scan.specs.Laws.{IsRange}
 use Rattle.clog_scan.specs.Segment.{found_of}
 use Rattle.clog_scan.proofs.Order.{ranges}
 use Rattle.clog_base.proofs.Members.{first_or_further, nothing_there}
-use Rattle.clog_crash.specs.Counts.{IsLog, IsLoggedMutation, LoggedMutation}
+use Rattle.clog_crash.specs.Counts.{IsLog, IsLoggedMutation, IsNameOfTable, LoggedMutation}
 use Rattle.clog_crash.specs.Folder.{
   AreGoodTables,
   IsFirstBad,
   IsHeld,
   IsNameOf,
+  IsNameOfSegment,
   place_cmp,
 }
 use Rattle.clog_crash.proofs.TableFiles.{tables_are_good}
@@ -73,6 +62,7 @@ use Rattle.clog_folder.specs.Folder.{
   HasLongSegment,
   IsHeldOf,
   IsReadAs,
+  AreNamed,
   IsGoodEntry,
 }
 use Rattle.clog_folder.specs.Listing.{AreRows, IsSegmentAt, segment_cmp}
@@ -89,35 +79,13 @@ use Rattle.clog_folder.specs.Segments.{
 use Rattle.clog_folder.specs.Tables.{HaveRead, TablesRefused, read_of}
 use Rattle.clog_folder.specs.Entries.{IsGoodIn}
 use Rattle.clog_folder.proofs.EntriesCounted.{picks_have}
+use Rattle.clog_folder.proofs.Listed.{held_of, listed_of}
 use Rattle.clog_folder.proofs.RowsHeld.{IsLogOfRows, find_held, log_of_rows, row_is_read}
 use Rattle.clog_folder.proofs.SegmentsHeld.{at}
 use Rattle.clog_folder.proofs.SegmentsRead.{last_of}
 use Rattle.clog_folder.proofs.TablesRead.{are_tables}
 
 -- ---- what is listed is there
-
-abbrev name_cmp_eq : List ℕ → List ℕ → Bool
-name_cmp_eq = eq_by_cmp (slice_cmp nat_cmp)
-
-name_equiv : IsEquivalence name_cmp_eq
-name_equiv = eq_by_cmp_equiv nat_list_cmp_total
-
-one_name : (a b : List ℕ) → name_cmp_eq a b ≡ true → a ≡ b
-one_name = tells_apart exact_bytes
-
-held_of : (files : Files) (names : List (List ℕ)) → names ≡ finmap.keys files
-    → (name : List ℕ) → Contains names name → IsHeld files name
-held_of files names lists name there =
-    contains_key-keys files name
-    ∙ list_any-from_Contains name_equiv name (finmap.keys files)
-    (subst (λ (l : List (List ℕ)). Contains l name) lists there)
-
-listed_of : (files : Files) (names : List (List ℕ)) → names ≡ finmap.keys files
-    → (name : List ℕ) → IsHeld files name → Contains names name
-listed_of files names lists name held =
-    subst (λ (l : List (List ℕ)). Contains l name) (sym lists)
-    (Contains-from_any one_name name (finmap.keys files)
-    (sym (contains_key-keys files name) ∙ held))
 
 rows_held : {K : Type 0} (cmp : K → K → Ordering) (IsNamed : K → List ℕ → Type 0) (files : Files)
     (names : List (List ℕ)) (rows : List (K × List ℕ)) → names ≡ finmap.keys files
@@ -304,9 +272,11 @@ pub is_held_of : (ignore : Bool) (files now later : Option Files)
     → IfSome files (λ held. AreRows segment_cmp IsSegmentAt (IsHeld held) rows)
     → IfSome files (λ held. AreRows place_cmp IsNameOf (IsHeld held) table_rows)
     → HaveHeld ignore later rows folder.segments → HaveRead now table_rows folder.tables
+    → IfSome files (λ held. AreNamed held IsNameOfTable folder.table_names)
+    → IfSome files (λ held. AreNamed held IsNameOfSegment folder.segment_names)
     → IsHeldOf ignore files folder
 is_held_of ignore files now later rows table_rows folder same same' places table_places have
-    read =
+    read tables segments =
     let have_old : HaveHeld ignore files rows folder.segments =
     subst (λ (f : Option Files). HaveHeld ignore f rows folder.segments) same' have in
     record {
@@ -315,4 +285,6 @@ is_held_of ignore files now later rows table_rows folder same same' places table
       told = told_as ignore files rows folder.segments folder.tables table_rows places have_old
           table_places
           (subst (λ (f : Option Files). HaveRead f table_rows folder.tables) same read);
+      tables = tables;
+      segments = segments;
     }

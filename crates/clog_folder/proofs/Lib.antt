@@ -1,4 +1,6 @@
 pub mod EntriesCounted
+pub mod Counting
+pub mod Listed
 pub mod FolderRead
 pub mod PairOrder
 pub mod RowsHeld

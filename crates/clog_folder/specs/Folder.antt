@@ -27,8 +27,14 @@ use Rattle.clog_entry.specs.declared.cause.Cause.{Cause}
 use Rattle.clog_mutation.specs.Stored.{IsPayload}
 use Rattle.clog_scan.specs.declared.answer.Found.{Found}
 use Rattle.clog_scan.specs.Laws.{IsRange}
-use Rattle.clog_crash.specs.Counts.{LoggedMutation, IsLog}
-use Rattle.clog_crash.specs.Folder.{TableRead, AreTables, AreGoodTables, IsFirstBad}
+use Rattle.clog_crash.specs.Counts.{AreNames, IsLog, IsNameOfTable, LoggedMutation}
+use Rattle.clog_crash.specs.Folder.{
+  TableRead,
+  AreTables,
+  AreGoodTables,
+  IsFirstBad,
+  IsNameOfSegment,
+}
 use Rattle.clog_crash.specs.Restore.{IsUndamaged}
 use Rattle.clog_folder.specs.declared.fault.OpenFault.{OpenFault}
 use Rattle.clog_folder.specs.declared.fault.OpenFault.TheVariants.{
@@ -76,6 +82,12 @@ pub record IsReadAs (ignore : Bool) (files : Files) (tables : List TableRead)
   pub short : (name : List ℕ) (id : ℕ) → IsSegmentName name 6 id → ¬ IsTooLong files name
   pub undamaged : ignore ≡ false → IsUndamaged files
 
+-- So many names that are there have P.
+pub record AreNamed (files : Files) (P : List ℕ → Type 0) (n : ℕ) : Type 0 where
+  pub names : List (List ℕ)
+  pub are : AreNames files P names
+  pub count : n ≡ length names
+
 -- an entry that counts lies in its segment's bytes, and its payload is a mutation's
 pub record IsGoodEntry (held : SegmentHeld) (found : Found) : Type 0 where
   pub range : IsRange (length held.bytes) found
@@ -88,6 +100,8 @@ pub record IsHeldOf (ignore : Bool) (files : Option Files) (folder : Folder) : T
       → Contains held.entries found → IsGoodEntry held found
   pub told : IfSome files (λ held.
       IsReadAs ignore held (map read_of folder.tables) folder.segments)
+  pub tables : IfSome files (λ held. AreNamed held IsNameOfTable folder.table_names)
+  pub segments : IfSome files (λ held. AreNamed held IsNameOfSegment folder.segment_names)
 
 -- ---- why it is refused
 

@@ -1,5 +1,5 @@
 -- What the names of a listing say.
-use Rattle.std.specs.Prelude.{◌≡◌, ◌⊎◌, ℕ, List, [], ◌∷◌, Contains}
+use Rattle.std.specs.Prelude.{◌≡◌, ◌⊎◌, ℕ, List, [], ◌∷◌, length, Contains}
 use Rattle.std.specs.declared.cmp.Ordering.{Ordering}
 use Rattle.std.specs.List.Sorted.{IsStrictlySortedBy}
 use Rattle.std.specs.Map.{keys_of}
@@ -33,3 +33,7 @@ Picks P [] picked = picked ≡ []
 Picks P (x ∷ xs) picked =
     (P x × ((rest : List _) × (picked ≡ x ∷ rest) × Picks P xs rest))
     ⊎ ((¬ P x) × Picks P xs picked)
+
+-- so many of the names have P
+abbrev pub IsCount : (List ℕ → Type 0) → List (List ℕ) → ℕ → Type 0
+IsCount P names n = (picked : List (List ℕ)) × Picks P names picked × (n ≡ length picked)

@@ -3,7 +3,7 @@ ghost use Rattle.clog_folder.specs.Folder.{ReadsFolder};
 ghost use Rattle.clog_folder.specs.Passing.{IsUntouched, TellsEach};
 
 use crate::fault::{OpenFault, fault_of};
-use crate::listing::{segment_names, table_names};
+use crate::listing::{count_segments, count_tables, segment_names, table_names};
 use crate::segment::SegmentHeld;
 use crate::segments::read_segments;
 use crate::tables::{TableHeld, read_tables};
@@ -18,6 +18,10 @@ pub struct Folder {
     pub tables: Rows<TableHeld>,
     /// Its segments of all versions, by id, and of one id by version.
     pub segments: Rows<SegmentHeld>,
+    /// How many names of table files it has.
+    pub table_names: usize,
+    /// How many names of segments it has, of all versions.
+    pub segment_names: usize,
 }
 
 /// Reads a whole folder. Table files are looked at first, by table and sequence, and then segments,
@@ -60,5 +64,7 @@ pub fn read_folder<D: Disk>(alloc: Global, disk: &mut D, ignore: bool) -> Result
     Ok(Folder {
         tables: Rows::new(tables),
         segments: Rows::new(segments),
+        table_names: count_tables(names.as_slice()),
+        segment_names: count_segments(names.as_slice()),
     })
 }

@@ -1,7 +1,8 @@
 //! What the names of a folder's files say.
-ghost use Rattle.std.specs.Prelude.{IfOk, Contains};
-ghost use Rattle.clog_crash.specs.Folder.{IsNameOf, place_cmp};
-ghost use Rattle.clog_folder.specs.Listing.{AreRows, IsSegmentAt, segment_cmp};
+ghost use Rattle.std.specs.Prelude.{◌↔◌, IsTrue, IfOk, Contains};
+ghost use Rattle.clog_crash.specs.Counts.{IsNameOfTable};
+ghost use Rattle.clog_crash.specs.Folder.{IsNameOf, IsNameOfSegment, place_cmp};
+ghost use Rattle.clog_folder.specs.Listing.{AreRows, IsCount, IsSegmentAt, segment_cmp};
 
 use clog_base::{Name, OutOfMemory, Table, parse_segment_name, parse_table_name};
 use std::alloc::Global;
@@ -12,6 +13,44 @@ pub(crate) type TableNames = BTreeMap<(Table, u64), Name>;
 
 /// The names of segments of any version, by id and version.
 pub(crate) type SegmentNames = BTreeMap<(u64, u32), Name>;
+
+fn is_segment(name: &Name) -> bool
+    ensures { IsTrue result ↔ IsNameOfSegment name.now }
+{
+    parse_segment_name(name).is_some()
+}
+
+fn is_table(name: &Name) -> bool
+    ensures { IsTrue result ↔ IsNameOfTable name.now }
+{
+    parse_table_name(name).is_some()
+}
+
+/// How many of the names are those of segments, of any version.
+pub(crate) fn count_segments(names: &[Name]) -> usize
+    ensures { IsCount IsNameOfSegment names.now result }
+{
+    let mut count = 0;
+    for name in names {
+        if is_segment(name) {
+            count += 1;
+        }
+    }
+    count
+}
+
+/// How many of the names are those of table files.
+pub(crate) fn count_tables(names: &[Name]) -> usize
+    ensures { IsCount IsNameOfTable names.now result }
+{
+    let mut count = 0;
+    for name in names {
+        if is_table(name) {
+            count += 1;
+        }
+    }
+    count
+}
 
 /// The names that are those of table files.
 pub(crate) fn table_names(alloc: Global, names: &[Name]) -> Result<TableNames, OutOfMemory>

@@ -1,6 +1,8 @@
 use Rattle.std.proofs.Common.{Option, List, refl, sym, subst, ◌∙◌, arith}
 use Rattle.clog_disk.specs.Files.{Files, Lists}
-use Rattle.clog_crash.specs.Folder.{IsNameOf, place_cmp}
+use Rattle.clog_crash.specs.Counts.{IsNameOfTable}
+use Rattle.clog_crash.specs.Folder.{IsNameOf, IsNameOfSegment, place_cmp}
+use Rattle.clog_folder.proofs.Counting.{told_named}
 use Rattle.clog_folder.specs.declared.segment.SegmentHeld.{SegmentHeld}
 use Rattle.clog_folder.specs.declared.tables.TableHeld.{TableHeld}
 use Rattle.clog_folder.specs.Listing.{IsSegmentAt, segment_cmp}
@@ -52,7 +54,12 @@ returns-clause-reads g c =
     let tables : List TableHeld = c.new.result in
     is_held_of c.args.ignore files (g.D.Disk.files c.list.new.self)
     (g.D.Disk.files c.read_tables.new.disk) rows table_rows
-    (record { tables = tables; segments = segments }) c.in-Ok.ensures.same.files
+    (record {
+      tables = tables;
+      segments = segments;
+      table_names = c.count_tables.result;
+      segment_names = c.count_segments.result;
+    }) c.in-Ok.ensures.same.files
     (c.in-Ok-read_tables.ensures.keeps.same.files ∙ c.in-Ok.ensures.same.files)
     (told_rows segment_cmp IsSegmentAt files files c.as_slice-2.result.now rows refl
     (subst (Lists files) (sym c.as_slice-2.ensures) c.in-Ok.ensures.names)
@@ -63,3 +70,8 @@ returns-clause-reads g c =
     (sym c.new-2.ensures) c.in-Ok-read_segments.ensures.reads)
     (subst (HaveRead (g.D.Disk.files c.list.new.self) table_rows) (sym c.new.ensures)
     c.in-Ok-read_tables.ensures.reads)
+    (told_named files IsNameOfTable _ _
+    (subst (Lists files) (sym c.as_slice-3.ensures) c.in-Ok.ensures.names) c.count_tables.ensures)
+    (told_named files IsNameOfSegment _ _
+    (subst (Lists files) (sym c.as_slice-4.ensures) c.in-Ok.ensures.names)
+    c.count_segments.ensures)
