@@ -13,6 +13,8 @@ mod listing;
 mod segment;
 mod segments;
 mod tables;
+#[cfg(test)]
+mod tests;
 mod whole;
 
 pub use fault::OpenFault;
