@@ -2,6 +2,8 @@
 //! restores what the folder restored then, and the first of the entries that it was handed: the
 //! invariant of its type, `HasLived`. From the first fault of the disk on it writes nothing.
 ghost use Rattle.std.specs.Prelude.{◌≡◌, ◌++◌, List, [], ◌∷◌, take, drop, length, IfSome, OnOk};
+ghost use Rattle.std.specs.Prelude.{Err, true, false};
+ghost use Rattle.clog_store.specs.declared.store.StoreFault.TheVariants.{Stopped as stopped};
 ghost use Rattle.clog_scan.specs.Cut.{Section};
 ghost use Rattle.clog_spec.specs.Names.{segment_name_of};
 ghost use Rattle.clog_disk.specs.Files.{IsEnd};
@@ -122,6 +124,10 @@ impl<D: Disk> Store<D> {
         ensures id { self.new.id ≡ self.old.id }
         ensures written { OnOk result (self.new.sections ≡ self.old.sections ++ section ∷ []) }
         ensures lasts { OnOk result (self.new.synced ≡ length self.new.sections) }
+        // So the disk rests, with all sections lasting.
+        ensures runs { OnOk result (self.new.is_stopped ≡ false) }
+        ensures stays { self.old.is_stopped ≡ true → (result ≡ Err stopped)
+            × (self.new.disk ≡ self.old.disk) }
     {
         if self.is_stopped {
             return Err(StoreFault::Stopped);
