@@ -1,0 +1,4 @@
+pub mod TableSets
+pub mod SmallSets
+pub mod NoteLaws
+pub mod LeastEntry
