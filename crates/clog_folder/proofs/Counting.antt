@@ -95,7 +95,8 @@ module _ (P : List ℕ → Type 0) (names : List (List ℕ)) (i n : ℕ) (name :
 
 -- ---- all
 
-picks_all : {A : Type 0} (P : A → Type 0) (xs picked : List A) (x : A) → Picks P xs picked
+-- what has P is picked
+pub picks_all : {A : Type 0} (P : A → Type 0) (xs picked : List A) (x : A) → Picks P xs picked
     → Contains xs x → P x → Contains picked x
 picks_all P [] picked x none there has = absurd (omega (arith, there.1))
 picks_all P (y ∷ xs) picked x (inl is) there has =

@@ -1,0 +1,200 @@
+-- Updates are taken in one after another.
+use Rattle.std.proofs.Common.{
+  ◌≡◌,
+  ◌⊎◌,
+  ℕ,
+  ◌+◌,
+  ◌<◌,
+  take,
+  get_or,
+  List,
+  [],
+  ◌∷◌,
+  ◌++◌,
+  length,
+  map,
+  refl,
+  sym,
+  ap,
+  subst,
+  ◌∙◌,
+  append_assoc,
+  length-append,
+  inl,
+  inr,
+  arith,
+}
+use Rattle.std.specs.List.{flat_map}
+use Rattle.std.proofs.lemmas.List.{append-nil, map-append, take_more}
+use Rattle.std.proofs.lemmas.Grind.{flat_map-append}
+use Rattle.clog_base.specs.declared.cell.Cell.{Cell}
+use Rattle.clog_base.specs.declared.cell.CellKey.{CellKey}
+use Rattle.clog_cells.specs.Merge.{IsMerge}
+use Rattle.clog_cells.proofs.Merging.{continues}
+use Rattle.clog_mutation.specs.declared.mutation.Mutation.{Mutation}
+use Rattle.clog_mutation.specs.declared.mutation.Update.{Update}
+use Rattle.clog_scan.specs.declared.answer.Found.{Found}
+use Rattle.clog_base.specs.declared.position.Position.{Position}
+use Rattle.clog_crash.specs.Counts.{LoggedMutation}
+use Rattle.clog_folder.specs.declared.segment.SegmentHeld.{SegmentHeld}
+use Rattle.clog_folder.specs.declared.tables.TableHeld.{TableHeld}
+use Rattle.clog_folder.specs.Folder.{PlacedPayload, Say, payloads_of, placed}
+use Rattle.clog_folder.specs.Listing.{Picks}
+use Rattle.clog_folder.proofs.EntriesCounted.{picks_both}
+use Rattle.replay_merge.specs.declared.merged.Merged.{Merged}
+use Rattle.replay_merge.specs.Merged.{
+  IsKept,
+  IsMergedOf,
+  IsSkip,
+  IsSkippedBy,
+  KeyedUpdate,
+  Takes,
+  TakesOne,
+  keyed,
+  pair_at,
+  updates_of,
+}
+use Rattle.replay_merge.specs.Taking.{TakesEntry, TakesLog}
+
+-- what is seen up to an index, and what stands there
+pub seen : {A : Type 0} (xs : List A) (i : ℕ) (x : A) → i < length xs → x ≡ get_or xs i x
+    → take i xs ++ x ∷ [] ≡ take (i + 1) xs
+seen xs i x inside is =
+    ap (λ y. take i xs ++ y ∷ []) is ∙ sym (take_more xs i x inside)
+
+abbrev Pairs : Type 0
+Pairs = List (CellKey × Cell)
+
+module _ (tables : List TableHeld) where
+  abbrev Left : KeyedUpdate → Type 0
+  Left u = ¬ IsSkippedBy tables u
+
+  -- ---- updates
+
+  pub takes_none : (m : Merged) → Takes tables [] m m
+  takes_none m before is =
+      subst (λ (us : List KeyedUpdate). IsMergedOf tables us m) (sym (append-nil before)) is
+
+  pub takes_both : (us vs : List KeyedUpdate) (old mid new : Merged) → Takes tables us old mid
+      → Takes tables vs mid new → Takes tables (us ++ vs) old new
+  takes_both us vs old mid new first second before is =
+      subst (λ (l : List KeyedUpdate). IsMergedOf tables l new) (append_assoc before us vs)
+      (second (before ++ us) (first before is))
+
+  skips : (u : KeyedUpdate) (old new : Merged) → IsSkippedBy tables u → IsSkip old new
+      → Takes tables (u ∷ []) old new
+  skips u old new skipped s before is = record {
+    kept = is.kept;
+    picks_kept = subst (Picks Left (before ++ u ∷ [])) (append-nil is.kept)
+        (picks_both Left before (u ∷ []) is.kept [] is.picks_kept
+        (inr ((λ left. left skipped), refl)));
+    cells = subst (λ (l : Pairs). IsMerge (map pair_at is.kept) l) (sym s.cells) is.cells;
+    updates = s.updates ∙ is.updates;
+    gone = is.gone ++ u ∷ [];
+    picks_gone = picks_both (IsSkippedBy tables) before (u ∷ []) is.gone (u ∷ []) is.picks_gone
+        (inl (skipped, ([], refl, refl)));
+    skipped = omega (arith, s.skipped, is.skipped, length-append is.gone (u ∷ []));
+  }
+
+  keeps : (u : KeyedUpdate) (old new : Merged) → (¬ IsSkippedBy tables u)
+      → IsKept (pair_at u) old new → Takes tables (u ∷ []) old new
+  keeps u old new left k before is = record {
+    kept = is.kept ++ u ∷ [];
+    picks_kept = picks_both Left before (u ∷ []) is.kept (u ∷ []) is.picks_kept
+        (inl (left, ([], refl, refl)));
+    cells = subst (λ (l : Pairs). IsMerge l new.cells)
+        (sym (map-append pair_at is.kept (u ∷ [])))
+        (continues (map pair_at is.kept) old.cells (pair_at u ∷ []) new.cells is.cells k.cells);
+    updates = omega (arith, k.updates, is.updates, length-append is.kept (u ∷ []));
+    gone = is.gone;
+    picks_gone = subst (Picks (IsSkippedBy tables) (before ++ u ∷ [])) (append-nil is.gone)
+        (picks_both (IsSkippedBy tables) before (u ∷ []) is.gone [] is.picks_gone
+        (inr (left, refl)));
+    skipped = k.skipped ∙ is.skipped;
+  }
+
+  pub takes_one : (u : KeyedUpdate) (old new : Merged) → TakesOne tables u old new
+      → Takes tables (u ∷ []) old new
+  takes_one u old new (inl s) = skips u old new s.0 s.1
+  takes_one u old new (inr k) = keeps u old new k.0 k.1
+
+  -- one update more of a mutation
+  pub update_more : (at : Position) (key : List ℕ) (front : List Update) (last : Update)
+      (old mid new : Merged) → Takes tables (map (keyed at key) front) old mid
+      → TakesOne tables (keyed at key last) mid new
+      → Takes tables (map (keyed at key) (front ++ last ∷ [])) old new
+  update_more at key front last old mid new so_far step =
+      subst (λ (us : List KeyedUpdate). Takes tables us old new)
+      (sym (map-append (keyed at key) front (last ∷ [])))
+      (takes_both (map (keyed at key) front) (keyed at key last ∷ []) old mid new so_far
+      (takes_one (keyed at key last) mid new step))
+
+  -- ---- entries, and segments
+
+  pub no_log : (m : Merged) → TakesLog tables [] m m
+  no_log m = record { log = []; say = refl; takes = takes_none m }
+
+  say_both : (ps qs : List PlacedPayload) (log more : List LoggedMutation) → Say ps log
+      → Say qs more → Say (ps ++ qs) (log ++ more)
+  say_both [] qs log more first second =
+      subst (λ (l : List LoggedMutation). Say qs (l ++ more)) (sym first) second
+  say_both (p ∷ ps) qs log more first second = (
+    first.0,
+    (
+      first.1.0 ++ more,
+      ap (λ (l : List LoggedMutation). l ++ more) first.1.1,
+      first.1.2,
+      first.1.3,
+      say_both ps qs first.1.0 more first.1.4 second,
+    ),
+  )
+
+  pub log_both : (ps qs : List PlacedPayload) (old mid new : Merged) → TakesLog tables ps old mid
+      → TakesLog tables qs mid new → TakesLog tables (ps ++ qs) old new
+  log_both ps qs old mid new first second = record {
+    log = first.log ++ second.log;
+    say = say_both ps qs first.log second.log first.say second.say;
+    takes = subst (λ (us : List KeyedUpdate). Takes tables us old new)
+        (sym (flat_map-append updates_of first.log second.log))
+        (takes_both (flat_map updates_of first.log) (flat_map updates_of second.log) old mid new
+        first.takes second.takes);
+  }
+
+  pub entry_log : (held : SegmentHeld) (found : Found) (old new : Merged)
+      → TakesEntry tables held.id held.bytes found old new
+      → TakesLog tables (placed held found ∷ []) old new
+  entry_log held found old new is = record {
+    log = record {
+      at = record { id = held.id; offset = found.end };
+      mutation = is.mutation;
+    } ∷ [];
+    say = (
+      record { at = record { id = held.id; offset = found.end }; mutation = is.mutation },
+      ([], refl, refl, is.said, refl),
+    );
+    takes = subst (λ (us : List KeyedUpdate). Takes tables us old new)
+        (sym (append-nil _)) is.takes;
+  }
+
+  -- one entry more of a segment
+  pub entry_more : (held : SegmentHeld) (front : List Found) (found : Found)
+      (old mid new : Merged) → TakesLog tables (map (placed held) front) old mid
+      → TakesEntry tables held.id held.bytes found mid new
+      → TakesLog tables (map (placed held) (front ++ found ∷ [])) old new
+  entry_more held front found old mid new so_far step =
+      subst (λ (ps : List PlacedPayload). TakesLog tables ps old new)
+      (sym (map-append (placed held) front (found ∷ [])))
+      (log_both (map (placed held) front) (placed held found ∷ []) old mid new so_far
+      (entry_log held found mid new step))
+
+  -- one segment more
+  pub segment_more : (front : List SegmentHeld) (held : SegmentHeld) (old mid new : Merged)
+      → TakesLog tables (flat_map payloads_of front) old mid
+      → TakesLog tables (payloads_of held) mid new
+      → TakesLog tables (flat_map payloads_of (front ++ held ∷ [])) old new
+  segment_more front held old mid new so_far step =
+      subst (λ (ps : List PlacedPayload). TakesLog tables ps old new)
+      (ap (λ (l : List PlacedPayload). flat_map payloads_of front ++ l)
+      (sym (append-nil (payloads_of held)))
+      ∙ sym (flat_map-append payloads_of front (held ∷ [])))
+      (log_both (flat_map payloads_of front) (payloads_of held) old mid new so_far step)

@@ -1,0 +1,11 @@
+use Rattle.replay_merge.proofs.Replayed.{ranges_of, replays}
+use Rattle.replay_merge.proofs.restoring.replay_alone.Goals as goal
+
+pub restore-requires : goal.restore-requires
+restore-requires g c =
+    ranges_of c.args.ignore (g.D.Disk.files c.args.disk.now) c.in-Ok.folder c.in-Ok.ensures.reads
+
+pub returns-clause-replays : goal.returns-clause-replays
+returns-clause-replays g c =
+    replays c.args.ignore (g.D.Disk.files c.args.disk.now) c.in-Ok.folder _
+    c.in-Ok.ensures.reads c.in_ok-restore.ensures

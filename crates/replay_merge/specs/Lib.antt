@@ -1,0 +1,4 @@
+pub mod Merged
+pub mod Restoring
+pub mod Skipping
+pub mod Taking

@@ -1,0 +1,43 @@
+-- What a folder restores to, and its counts.
+use Rattle.std.specs.Prelude.{◌≡◌, ℕ, List, ◌++◌, length, map, Bool, Option, IfSome, Result}
+use Rattle.std.specs.declared.result.Result.TheVariants as result
+use Rattle.std.specs.List.{flat_map}
+use Rattle.clog_cells.specs.Merge.{IsMerge}
+use Rattle.clog_disk.specs.Files.{Files}
+use Rattle.clog_crash.specs.Counts.{AreCounts, LoggedMutation}
+use Rattle.clog_crash.specs.Folder.{cells_of_tables}
+use Rattle.clog_crash.specs.Restore.{IsRestored}
+use Rattle.clog_folder.specs.declared.fault.OpenFault.{OpenFault}
+use Rattle.clog_folder.specs.declared.folder.Folder.{Folder}
+use Rattle.clog_folder.specs.Folder.{FolderRefused, Say, payloads_of}
+use Rattle.clog_folder.specs.Tables.{read_of}
+use Rattle.replay_merge.specs.declared.merged.Merged.{Merged}
+use Rattle.replay_merge.specs.declared.restoring.Counts.{Counts}
+use Rattle.replay_merge.specs.declared.restoring.Restored.{Restored}
+use Rattle.replay_merge.specs.Merged.{IsMergedOf, updates_of}
+
+-- What was merged of a folder that was read: for private clauses.
+pub record IsRestoredOf (folder : Folder) (restored : Restored) : Type 0 where
+  pub log : List LoggedMutation
+  pub say : Say (flat_map payloads_of folder.segments) log
+  pub merged : Merged
+  pub taken : IsMergedOf folder.tables (flat_map updates_of log) merged
+  pub cells : IsMerge (merged.cells ++ cells_of_tables (map read_of folder.tables)) restored.cells
+  pub segments : restored.counts.segments ≡ folder.segment_names
+  pub tables : restored.counts.tables ≡ folder.table_names
+  pub entries : restored.counts.entries ≡ length (flat_map payloads_of folder.segments)
+  pub updates : restored.counts.updates ≡ merged.updates
+  pub skipped : restored.counts.skipped ≡ merged.skipped
+
+-- the cells are what the files restore to, and the counts are theirs
+pub record IsReplayOf (files : Files) (restored : Restored) : Type 0 where
+  pub cells : IsRestored files restored.cells
+  pub counts :
+      AreCounts files restored.counts.segments restored.counts.tables restored.counts.entries
+      restored.counts.updates restored.counts.skipped
+
+-- what a folder restores to, or why it is not read
+abbrev pub Replays : Bool → Option Files → ℕ → ℕ → Result Restored OpenFault → Type 0
+Replays ignore files faults now (result.Ok restored) =
+    IfSome files (λ held. IsReplayOf held restored)
+Replays ignore files faults now (result.Err refusal) = FolderRefused ignore files faults now refusal

@@ -1,0 +1,11 @@
+//! What a folder restores to, and how much was read of it (Cassandra's `CommitLogReplayer`). An
+//! update is left out where a table file of its table stands for its position.
+#![tactic(auto)]
+
+mod merged;
+mod restoring;
+mod skipping;
+mod taking;
+
+pub use merged::Merged;
+pub use restoring::{Counts, Restored, replay_alone};

@@ -1,0 +1,120 @@
+//! What a folder restores to, and its counts.
+ghost use Rattle.std.specs.Prelude.{◌≡◌, ◌++◌, All, IfOk, OnOk, length, map};
+ghost use Rattle.std.specs.List.{flat_map};
+ghost use Rattle.clog_cells.specs.Merge.{AreInOrder, IsMerge};
+ghost use Rattle.clog_crash.specs.Folder.{cells_of_tables};
+ghost use Rattle.clog_folder.specs.Folder.{payloads_of};
+ghost use Rattle.clog_folder.specs.Passing.{IsUntouched};
+ghost use Rattle.clog_folder.specs.Tables.{read_of};
+ghost use Rattle.replay_merge.specs.Restoring.{IsRestoredOf, Replays};
+ghost use Rattle.replay_merge.specs.Taking.{AreRanges};
+
+use crate::merged::Merged;
+use crate::taking::take_segments;
+use clog_base::OutOfMemory;
+use clog_cells::CellMap;
+use clog_disk::Disk;
+use clog_folder::{Folder, OpenFault, SegmentHeld, TableHeld, read_folder};
+use std::alloc::Global;
+
+/// How much was read of a folder.
+#[derive(Clone, Copy, Debug, PartialEq, Eq)]
+pub struct Counts {
+    /// Names of segments, of all versions, torn ones among them.
+    pub segments: u32,
+    /// Names of table files.
+    pub tables: u32,
+    /// Entries of the log whose payloads are mutations'.
+    pub entries: u64,
+    /// Their updates that were merged.
+    pub updates: u64,
+    /// Their updates that were not, since table files stand for them.
+    pub skipped: u64,
+}
+
+/// What a folder restores to.
+#[derive(Drop)]
+pub struct Restored {
+    /// The newest cell of each key.
+    pub cells: CellMap,
+    /// How much was read.
+    pub counts: Counts,
+}
+
+/// Merges the cells of table files in.
+fn add_tables(cells: &mut CellMap, tables: Vec<TableHeld>) -> Result<(), OutOfMemory>
+    requires { AreInOrder cells.old }
+    ensures { OnOk result (IsMerge (cells.old ++ cells_of_tables (map read_of tables.items))
+        cells.new) }
+{
+    for held in tables {
+        cells.merge(held.file.cells)?;
+    }
+    Ok(())
+}
+
+/// How many entries of segments count.
+fn count_entries(segments: &[SegmentHeld]) -> Result<u64, OutOfMemory>
+    ensures { IfOk result (λ n. n ≡ length (flat_map payloads_of segments.now)) }
+{
+    let mut count: u64 = 0;
+    for held in segments {
+        let Some(sum) = count.checked_add(held.entries.len() as u64) else {
+            return Err(OutOfMemory);
+        };
+        count = sum;
+    }
+    Ok(count)
+}
+
+/// What a folder that was read restores to.
+fn restore(alloc: Global, folder: Folder) -> Result<Restored, OutOfMemory>
+    requires { All AreRanges folder.segments }
+    ensures { IfOk result (IsRestoredOf folder) }
+{
+    let mut merged = Merged::new(alloc);
+    take_segments(
+        alloc,
+        folder.tables.as_slice(),
+        &mut merged,
+        folder.segments.as_slice(),
+    )?;
+    let entries = count_entries(folder.segments.as_slice())?;
+    let (Ok(segments), Ok(tables)) = (
+        u32::try_from(folder.segment_names),
+        u32::try_from(folder.table_names),
+    ) else {
+        return Err(OutOfMemory);
+    };
+    let counts = Counts {
+        segments,
+        tables,
+        entries,
+        updates: merged.updates,
+        skipped: merged.skipped,
+    };
+    let mut cells = merged.cells;
+    add_tables(&mut cells, folder.tables.into_vec())?;
+    Ok(Restored { cells, counts })
+}
+
+/// What a folder restores to, past damage where it is to be ignored. It writes nothing.
+///
+/// Each refusal comes exactly where the reading of the folder gives it; want of memory may come
+/// anywhere.
+pub fn replay_alone<D: Disk>(
+    alloc: Global,
+    disk: &mut D,
+    ignore: bool,
+) -> Result<Restored, OpenFault>
+    ensures replays { Replays ignore (D.files disk.old) (D.faults disk.old) (D.faults disk.new)
+        result }
+    ensures keeps { IsUntouched D.files D.changes D.leaves D.moment D.since D.read_at
+        D.faults disk.old disk.new }
+{
+    let folder = match read_folder(alloc, disk, ignore) {
+        Ok(folder) => folder,
+        Err(fault) => return Err(fault),
+    };
+    Ok(restore(alloc, folder)?)
+}
