@@ -2,3 +2,5 @@ pub mod TableSets
 pub mod SmallSets
 pub mod NoteLaws
 pub mod LeastEntry
+pub mod BoxKept
+pub mod Answered

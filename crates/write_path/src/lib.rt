@@ -1,12 +1,15 @@
 //! The write path as its callers use it: what a write takes before it commits, so that a commit
-//! takes no memory.
+//! takes no memory, and the seats that begin a write.
 #![tactic(auto)]
 
 mod entry;
 mod fault;
 mod laws;
 mod prepared;
+mod seats;
 
 pub use fault::PrepareFault;
 pub use laws::note_laws;
+pub use path_rule::{Begun, PathSeat, Seen};
 pub use prepared::Prepared;
+pub use seats::{Appending, WritePath};

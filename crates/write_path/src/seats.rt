@@ -1,0 +1,151 @@
+//! The seats of a path by how far their write has got, and the calls that take a seat from one to
+//! the next. Each makes one try and waits for nobody.
+//!
+//!     PathSeat ── try_start ──▶ Begun ── try_append ──▶ Appending
+//!              ◀──── stop ────        ◀── stop_append ──
+ghost use Rattle.std.specs.Prelude.{◌≡◌, ℕ, ◌<◌, [], ◌∷◌, Some, None, MatchResult};
+ghost use Rattle.op_core.specs.declared.count.Order.TheVariants.{Write, Append};
+ghost use Rattle.path_core.specs.declared.event.Carried.TheVariants.{Nothing};
+ghost use Rattle.path_core.specs.declared.event.Event.TheVariants.{Close};
+ghost use Rattle.path_core.specs.Parts.{HoldsNoTurn};
+ghost use Rattle.path_rule.specs.declared.slot.Slot.TheVariants.{Notes};
+ghost use Rattle.path_rule.specs.Boxes.{box_of};
+ghost use Rattle.path_rule.specs.Calls.{Started};
+ghost use Rattle.path_rule.specs.Members.{view_of, IsOf, Stepped};
+ghost use Rattle.write_path.specs.Tries.{Stays, Joined, OnlyLooked};
+
+use path_rule::{Begun, Keeper, Member, PathSeat, PathTable, Seen};
+use std::alloc::Allocator;
+
+/// The highest bit of a count, which marks an expired group.
+const EXPIRED: u64 = 0x8000_0000_0000_0000;
+
+/// A path that threads share.
+#[derive(Drop)]
+pub struct WritePath<K: Keeper, A: Allocator> {
+    /// Its words and boxes.
+    pub table: PathTable<K, A>,
+}
+
+/// A seat in a group of the write order and in one of the append order, before its claim. It has
+/// its box for the parity of the latter.
+#[derive(Drop)]
+pub struct Appending<K> {
+    /// The seat.
+    pub member: Member<K>,
+    /// The group of the write order.
+    pub writing: u64,
+    /// The group of the append order.
+    pub group: u64,
+    pub ghost writes: { member.seat.me.0.part.write ≡ Some writing },
+    pub ghost appends: { member.seat.me.0.part.append ≡ Some group },
+    pub ghost unclaimed: { member.seat.me.0.part.claim ≡ None },
+    pub ghost free: { HoldsNoTurn member.seat.me.0.part },
+    pub ghost carries: { member.seat.me.1
+        ≡ (box_of member.number group, Notes member.seat.me.0.hands.notes) ∷ [] },
+}
+
+impl<K: Keeper, A: Allocator> WritePath<K, A> {
+    /// Joins the current group of the write order, if its count stays as it was looked at
+    /// (`OpOrder.start`). A refused seat only looked, and says what it found in this call.
+    pub fn try_start(&self, seat: PathSeat<K>) -> Result<Begun<K>, (PathSeat<K>, Seen)>
+        requires { IsOf self.now.table.table.shared.table_id self.now.table.size seat.member }
+        ensures same { MatchResult result
+            (λ b. Stays self.now.table.table.shared.table_id self.now.table.size seat.member
+            b.member × (b.group < 65536))
+            (λ r. Stays self.now.table.table.shared.table_id self.now.table.size seat.member
+            r.0.member) }
+        ensures step { MatchResult result
+            (λ b. Started (view_of seat.member) seat.member.number Write b.group
+            (view_of b.member))
+            (λ r. OnlyLooked Write (view_of seat.member) seat.member.number r.1.looked r.1.found
+            (view_of r.0.member)) }
+    {
+        self.table.try_start(seat)
+    }
+
+    /// Joins the current group of the append order, if its count stays as it was looked at
+    /// (`OpOrder.start` of the log's appends). A refused seat only looked, and says what it found
+    /// in this call.
+    pub fn try_append(&self, seat: Begun<K>) -> Result<Appending<K>, (Begun<K>, Seen)>
+        requires { IsOf self.now.table.table.shared.table_id self.now.table.size seat.member }
+        ensures same { MatchResult result
+            (λ a. Stays self.now.table.table.shared.table_id self.now.table.size seat.member
+            a.member × (a.writing ≡ seat.group) × (a.group < 65536))
+            (λ r. Stays self.now.table.table.shared.table_id self.now.table.size seat.member
+            r.0.member × (r.0.group ≡ seat.group)) }
+        ensures step { MatchResult result
+            (λ a. Joined (view_of seat.member) seat.member.number a.group (view_of a.member))
+            (λ r. OnlyLooked Append (view_of seat.member) seat.member.number r.1.looked r.1.found
+            (view_of r.0.member)) }
+    {
+        let Begun {
+            mut member,
+            group: writing,
+        } = seat;
+        let group = self.table.look_append(&mut member);
+        let looked = self.table.look_appenders(&mut member, group);
+        if looked >= EXPIRED {
+            let seen = Seen {
+                looked,
+                found: looked,
+            };
+            return Err((
+                Begun {
+                    member,
+                    group: writing,
+                },
+                seen,
+            ));
+        }
+        let found = self.table.join(&mut member, group, looked);
+        if found == looked {
+            Ok(Appending {
+                member,
+                writing,
+                group,
+            })
+        } else {
+            Err((
+                Begun {
+                    member,
+                    group: writing,
+                },
+                Seen { looked, found },
+            ))
+        }
+    }
+
+    /// Leaves the append order, before a claim. The box goes home.
+    pub fn stop_append(&self, seat: Appending<K>) -> Begun<K>
+        requires table { IsOf self.now.table.table.shared.table_id self.now.table.size seat.member }
+        requires group { seat.group < 65536 }
+        ensures same { Stays self.now.table.table.shared.table_id self.now.table.size seat.member
+            result.member × (result.group ≡ seat.writing) }
+        ensures step { (n : ℕ) × Stepped seat.member
+            (Close seat.member.number Append seat.group Nothing) n result.member }
+    {
+        let Appending {
+            mut member,
+            writing,
+            group,
+        } = seat;
+        let _found = self.table.withdraw(&mut member, group);
+        Begun {
+            member,
+            group: writing,
+        }
+    }
+
+    /// Leaves the write order, before a claim.
+    pub fn stop(&self, seat: Begun<K>) -> PathSeat<K>
+        requires table { IsOf self.now.table.table.shared.table_id self.now.table.size seat.member }
+        requires group { seat.group < 65536 }
+        ensures same { Stays self.now.table.table.shared.table_id self.now.table.size seat.member
+            result.member }
+        ensures step { (n : ℕ) × Stepped seat.member
+            (Close seat.member.number Write seat.group Nothing) n result.member }
+    {
+        self.table.stop(seat)
+    }
+}
