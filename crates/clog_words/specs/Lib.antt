@@ -1,3 +1,4 @@
 pub mod Asks
+pub mod Built
 pub mod Given
 pub mod Numbers

@@ -90,6 +90,21 @@ fn replay(alloc: Global, words: &[String]) -> Result<ReplayOptions, WordsFault>
     }
 }
 
+// The id that the name says, where it is that of a segment of version 6.
+pub(crate) fn segment_id(name: &Name) -> Option<u64>
+    ensures { MatchOption result ((id : ℕ) → ¬ IsSegmentName name.now 6 id)
+        (IsSegmentName name.now 6) }
+{
+    let Some(said) = parse_segment_name(name) else {
+        return None;
+    };
+    if said.version == 6 {
+        Some(said.id)
+    } else {
+        None
+    }
+}
+
 // The word, where it is the name of a segment of version 6.
 fn segment_name(word: &str) -> Option<Name>
     ensures { MatchOption result ((id : ℕ) → ¬ IsSegmentName word.now 6 id)
@@ -98,10 +113,10 @@ fn segment_name(word: &str) -> Option<Name>
     let Some(name) = Name::make(word.as_bytes()) else {
         return None;
     };
-    let Some(said) = parse_segment_name(&name) else {
-        return None;
-    };
-    if said.version == 6 { Some(name) } else { None }
+    match segment_id(&name) {
+        Some(_) => Some(name),
+        None => None,
+    }
 }
 
 fn scan(words: &[String]) -> Option<Name>

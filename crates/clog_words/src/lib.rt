@@ -4,6 +4,7 @@
 //! is shortened.
 #![tactic(auto)]
 
+mod built;
 mod choices;
 mod commands;
 mod laws;
@@ -13,6 +14,7 @@ mod settings;
 #[cfg(test)]
 mod tests;
 
+pub use built::{Built, parse_built};
 pub use commands::parse;
 pub use laws::words_laws;
 pub use request::{ApplyOptions, ReplayOptions, Request, WordsFault};

@@ -1,6 +1,6 @@
 //! Both edges of each option, and words that ask for nothing: since `parse` is exact, these rows
 //! are rows of the definition.
-use crate::{ApplyOptions, ReplayOptions, Request, WordsFault, parse};
+use crate::{ApplyOptions, Built, ReplayOptions, Request, WordsFault, parse, parse_built};
 use std::alloc::Global;
 use std::rt::HostRuntime;
 use std::test::Fail;
@@ -19,12 +19,16 @@ const PLAIN: ApplyOptions = ApplyOptions {
 };
 
 // The words of a line stand between its spaces.
-fn asked(alloc: Global, line: &str) -> Result<Result<Request, WordsFault>, Fail> {
+fn words_of(alloc: Global, line: &str) -> Result<Vec<String>, Fail> {
     let mut words = Vec::new(alloc);
     for word in line.split(' ') {
         words.push(String::from_str(alloc, word)?)?;
     }
-    Ok(parse(alloc, &words))
+    Ok(words)
+}
+
+fn asked(alloc: Global, line: &str) -> Result<Result<Request, WordsFault>, Fail> {
+    Ok(parse(alloc, &words_of(alloc, line)?))
 }
 
 #[test]
@@ -158,6 +162,44 @@ fn other_words_ask_for_nothing(rt: HostRuntime) -> Result<(), Fail> {
         "drill 1 1000001",
     ] {
         assert!(rt; asked(rt.alloc(), line)? == Err(WordsFault::Usage));
+    }
+    Ok(())
+}
+
+#[test]
+fn what_is_built_is_asked_for(rt: HostRuntime) -> Result<(), Fail> {
+    let alloc = rt.alloc();
+    let options = ReplayOptions {
+        workers: 64,
+        ignore_errors: true,
+    };
+    for (line, built) in [
+        ("apply", Built::Apply { dump: false }),
+        ("apply --dump --writers 1", Built::Apply { dump: true }),
+        ("scan CommitLog-6-1000.log", Built::Scan { id: 1000 }),
+        (
+            "replay --ignore-errors --workers=64",
+            Built::Replay(options),
+        ),
+    ] {
+        assert!(rt; parse_built(alloc, &words_of(alloc, line)?) == Ok(built));
+    }
+    Ok(())
+}
+
+#[test]
+fn what_is_planned_alone_is_refused(rt: HostRuntime) -> Result<(), Fail> {
+    let alloc = rt.alloc();
+    for line in [
+        "apply --writers 2",
+        "apply --sync batch",
+        "apply --segment-kib 4",
+        "apply --flush-at 1",
+        "apply --receipts",
+        "drill 7 2",
+        "help",
+    ] {
+        assert!(rt; parse_built(alloc, &words_of(alloc, line)?) == Err(WordsFault::Usage));
     }
     Ok(())
 }

@@ -7,7 +7,6 @@ use Rattle.std.proofs.Common.{
   codes,
   refl,
   ap,
-  subst,
   ◌∙◌,
   arith,
   lit<,
@@ -15,7 +14,6 @@ use Rattle.std.proofs.Common.{
 }
 use Rattle.clog_spec.specs.Names.{is_name, IsSegmentName}
 use Rattle.clog_base.proofs.Names.{two_numbered_is_name}
-use Rattle.clog_base.proofs.NameLaws.{one_segment}
 use Rattle.clog_words.proofs.commands.segment_name.Goals as goal
 
 segment_is_name : (name : List ℕ) (id : ℕ) → IsSegmentName name 6 id → is_name name ≡ true
@@ -30,12 +28,3 @@ returns-in_default c id segment =
     c.in_default.ensures.made.1
     (ap is_name c.as_bytes.ensures.value ∙ segment_is_name c.args.word.now id segment) in
     cc
-
-pub returns-else-said-eq6 : goal.returns-else-said-eq6
-returns-else-said-eq6 c id segment =
-    let name = c.in-Some.ensures.same ∙ c.as_bytes.ensures.value in
-    let same = one_segment c.args.word.now c.in-Some-parse_segment_name.said.version
-    c.in-Some-parse_segment_name.said.id 6 id
-    (subst (λ (n : List ℕ). IsSegmentName n c.in-Some-parse_segment_name.said.version
-    c.in-Some-parse_segment_name.said.id) name c.in-Some-parse_segment_name.ensures) segment in
-    omega (arith, same.0, c.if-said-eq6.false)

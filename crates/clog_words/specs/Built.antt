@@ -1,0 +1,36 @@
+-- What of the requests the program does today.
+use Rattle.std.specs.Prelude.{◌≡◌, ℕ, List, Bool, false, None}
+use Rattle.clog_spec.specs.Names.{IsSegmentName}
+use Rattle.sync_core.specs.declared.SyncCore.TheVariants.{Periodic}
+use Rattle.clog_words.specs.Asks.{Asks}
+use Rattle.clog_words.specs.declared.built.Built.{Built}
+use Rattle.clog_words.specs.declared.built.Built.TheVariants as built
+use Rattle.clog_words.specs.declared.request.ApplyOptions.{ApplyOptions}
+use Rattle.clog_words.specs.declared.request.Request.{Request}
+use Rattle.clog_words.specs.declared.request.Request.TheVariants.{Apply, Replay, Scan}
+
+-- each option of `apply` but `--dump` as it is where it is not given
+abbrev pub plain_options : Bool → ApplyOptions
+plain_options dump = record {
+  writers = 1;
+  sync = Periodic 10000;
+  segment_kib = 32768;
+  flush_at = None;
+  archive = false;
+  receipts = false;
+  drain = false;
+  dump = dump;
+}
+
+-- The request asks for this, which the program does.
+abbrev pub IsBuilt : Request → Built → Type 0
+IsBuilt request (built.Apply dump) = request ≡ Apply (plain_options dump)
+IsBuilt request (built.Replay options) = request ≡ Replay options
+IsBuilt request (built.Scan id) =
+    (name : List ℕ) × (request ≡ Scan name) × IsSegmentName name 6 id
+
+-- The words ask for this, which the program does.
+pub record AsksBuilt (words : List (List ℕ)) (asked : Built) : Type 0 where
+  pub request : Request
+  pub asks : Asks words request
+  pub is_built : IsBuilt request asked

@@ -1,0 +1,92 @@
+//! What the program does today of what words can ask for.
+ghost use Rattle.std.specs.Prelude.{◌≡◌, MatchOption, MatchResult};
+ghost use Rattle.clog_words.specs.Asks.{OnUsage};
+ghost use Rattle.clog_words.specs.Built.{AsksBuilt, IsBuilt, plain_options};
+ghost use Rattle.clog_words.specs.Given.{texts};
+ghost use Rattle.clog_words.specs.declared.built.Built.{Built as AskedBuilt};
+
+use crate::commands::{parse, segment_id};
+use crate::request::{ApplyOptions, ReplayOptions, Request, WordsFault};
+use clog_base::Name;
+use std::alloc::Global;
+use sync_core::SyncCore;
+
+/// One thing that the program does. Of `apply` it does what all options but `--dump` ask for by
+/// their defaults, given or not; of `drill` nothing.
+#[derive(Clone, Copy, Debug, PartialEq, Eq)]
+pub enum Built {
+    /// `apply`: apply the mutation file on standard input.
+    Apply {
+        /// `--dump`: the cells are printed at the end.
+        dump: bool,
+    },
+    /// `replay`: tell what the folder holds.
+    Replay(ReplayOptions),
+    /// `scan`: tell what a segment of version 6 holds.
+    Scan {
+        /// The segment's id, by its name.
+        id: u64,
+    },
+}
+
+// What `apply` asks for where no option but `--dump` says another than its default.
+fn plain(dump: bool) -> ApplyOptions
+    ensures { result ≡ plain_options dump }
+{
+    ApplyOptions {
+        writers: 1,
+        sync: SyncCore::Periodic { period_ms: 10_000 },
+        segment_kib: 32_768,
+        flush_at: None,
+        archive: false,
+        receipts: false,
+        drain: false,
+        dump,
+    }
+}
+
+fn apply(options: ApplyOptions) -> Option<Built>
+    ensures { MatchOption result ((built : AskedBuilt) → ¬ IsBuilt (Request.Apply options) built)
+        (IsBuilt (Request.Apply options)) }
+{
+    let dump = options.dump;
+    if options == plain(dump) {
+        Some(Built::Apply { dump })
+    } else {
+        None
+    }
+}
+
+fn scan(name: Name) -> Option<Built>
+    ensures { MatchOption result ((built : AskedBuilt) → ¬ IsBuilt (Request.Scan name) built)
+        (IsBuilt (Request.Scan name)) }
+{
+    match segment_id(&name) {
+        Some(id) => Some(Built::Scan { id }),
+        None => None,
+    }
+}
+
+fn built_of(request: Request) -> Option<Built>
+    ensures { MatchOption result ((built : AskedBuilt) → ¬ IsBuilt request built)
+        (IsBuilt request) }
+{
+    match request {
+        Request::Apply(options) => apply(options),
+        Request::Replay(options) => Some(Built::Replay(options)),
+        Request::Scan(name) => scan(name),
+        Request::Drill { .. } => None,
+    }
+}
+
+/// Reads the words after the program's name. `Usage` comes exactly where they ask for nothing that
+/// the program does; `OutOfMemory` where memory was refused.
+pub fn parse_built(alloc: Global, words: &[String]) -> Result<Built, WordsFault>
+    ensures { MatchResult result (AsksBuilt (texts words.now))
+        (λ fault. OnUsage fault ((built : AskedBuilt) → ¬ AsksBuilt (texts words.now) built)) }
+{
+    match built_of(parse(alloc, words)?) {
+        Some(built) => Ok(built),
+        None => Err(WordsFault::Usage),
+    }
+}
