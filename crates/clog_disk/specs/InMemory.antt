@@ -34,10 +34,6 @@ use Rattle.clog_disk.specs.Stored.{Stored, may_leave, cut_to}
 abbrev pub files_of : List (List ℕ × Stored) → Files
 files_of entries = from_entries (map (λ entry. (entry.0, entry.1.bytes)) entries)
 
--- what stands at each name
-abbrev pub State : Type 0
-State = List ℕ → Option Stored
-
 abbrev pub state_of : List (List ℕ × Stored) → List ℕ → Option Stored
 state_of entries name = lookup (is_at (slice_cmp nat_cmp name)) entries
 

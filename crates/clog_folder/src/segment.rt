@@ -87,6 +87,7 @@ pub(crate) fn read_place<D: Disk>(
         Ok(bytes) => bytes,
         Err(fault) => return Err(fault),
     };
+    // A match in place of `?`, since the exit speaks of what was read.
     match entries_of(alloc, name, place.0, &bytes, last, ignore) {
         Ok(entries) => Ok(SegmentHeld {
             id: place.0,

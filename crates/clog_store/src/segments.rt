@@ -25,7 +25,9 @@ use clog_disk::{Disk, DiskFault};
 /// A new segment: its id, and the bytes of its file.
 #[derive(Drop)]
 pub struct Part {
+    /// Its id.
     pub id: u64,
+    /// All bytes of its file: header, marker, sections.
     pub bytes: Bytes,
 }
 

@@ -64,6 +64,7 @@ fn rest_of(bytes: &[u8], head: Head) -> Result<&[u8], TableFault>
     let mut rest = bytes.split_at(HEAD_SIZE).1;
     for _ in 0..head.count {
         let at = (bytes.len() - rest.len()) as u64;
+        // A match in place of `?`, since the exit speaks of what was read.
         match next_cell(last, rest, at) {
             Ok((cell, behind)) => {
                 last = Some(cell);

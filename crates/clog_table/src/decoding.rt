@@ -53,6 +53,7 @@ fn decoded(alloc: Global, bytes: &[u8], table: Table) -> Result<TableFile, Table
     ensures { Decodes table bytes.now result }
 {
     let head = head_of(bytes, table)?;
+    // A match in place of `?`, since the exit speaks of what was read.
     match cells_of(alloc, bytes, head) {
         Ok((cells, rest)) => match judge_end(bytes, rest) {
             Ok(()) => Ok(TableFile {
@@ -75,6 +76,7 @@ fn cells_of(alloc: Global, bytes: &[u8], head: Head) -> Result<(CellMap, &[u8]),
     let mut rest = bytes.split_at(HEAD_SIZE).1;
     for _ in 0..head.count {
         let at = (bytes.len() - rest.len()) as u64;
+        // A match in place of `?`, since the exit speaks of what was read.
         match take_cell(alloc, &mut cells, head.table, rest, at) {
             Ok(behind) => rest = behind,
             Err(fault) => return Err(fault),

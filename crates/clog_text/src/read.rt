@@ -120,6 +120,7 @@ fn updates_of(alloc: Global, items: &[Value]) -> Result<Vec<Update>, BadLine>
 {
     let mut updates = Vec::new(alloc);
     for item in items {
+        // A match in place of `?`, since the exit speaks of what was read.
         match update_of(alloc, item) {
             Ok(update) => updates.push(update)?,
             Err(e) => return Err(e),
@@ -137,6 +138,7 @@ fn counted(alloc: Global, items: &[Value]) -> Result<Updates, BadLine>
 {
     match items.len() {
         0 => Err(BadLine::NoUpdates),
+        // A match in place of `?`, since the exit speaks of what was read.
         1..=MOST_UPDATES => match updates_of(alloc, items) {
             Ok(updates) => Ok(Updates::new(updates)),
             Err(e) => Err(e),

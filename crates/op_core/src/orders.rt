@@ -90,8 +90,8 @@ impl Orders {
         }
     }
 
-    /// Makes the next group of the order, which is the current one then. Last where `limit` were
-    /// made; nothing changes then. It takes no memory.
+    /// Makes the next group of the order. Last where `limit` were made; nothing changes then. It
+    /// takes no memory.
     pub fn open_next(&mut self, order: Order) -> Result<u64, GroupFault>
         ensures { Opens result self.old.limit (tallies_of self.old order)
             (λ ts. self.new ≡ with_tallies self.old order ts) }

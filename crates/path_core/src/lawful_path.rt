@@ -39,6 +39,7 @@ impl LawfulPath {
         })
     }
 
+    /// The state as it is now, which is lawful.
     pub fn state(&self) -> &PathState
         ensures same { result.now ≡ self.now }
         ensures lawful { ∥ IsLawfulPath self.now ∥₁ }

@@ -139,6 +139,7 @@ impl Path {
         })
     }
 
+    /// The state as it is now.
     pub fn state(&self) -> &PathState
         ensures { result.now ≡ self.now }
     {
