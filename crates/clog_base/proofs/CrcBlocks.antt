@@ -30,12 +30,12 @@ use Rattle.std.proofs.Common.{
   arith,
   drop-cons,
   length-drop,
-  lit<,
 }
 use Rattle.std.proofs.lemmas.List.{drop_all, take-append-drop, length-take}
 use Rattle.std.proofs.lemmas.Nat.{xor_comm, xor_mod, xor_shr}
 use lib.Bits.{xor_assoc, xor_zero_r}
 use Rattle.clog_spec.specs.Crc.{IsBytes, tail_of_polynomial, polynomial_of, divide_once, divide}
+use Rattle.clog_spec.proofs.Bytes.{take-IsBytes, drop-IsBytes}
 use Rattle.clog_spec.proofs.Divide.{
   xor_swap,
   xor_twice,
@@ -175,21 +175,10 @@ register-eight c bytes fits size fits_c =
     ∙ apart_past s6 bytes 7 0 fits size
     ∙ ap (bit_xor s7) (ap (register 0) none ∙ register-nil 0) ∙ xor_zero_r s7
 
-IsBytes-take : (n : ℕ) (bytes : List ℕ) → IsBytes bytes → IsBytes (take n bytes)
-IsBytes-take zero bytes fits i = lit< tt
-IsBytes-take (suc n) [] fits i = lit< tt
-IsBytes-take (suc n) (b ∷ bytes) fits zero = fits 0
-IsBytes-take (suc n) (b ∷ bytes) fits (suc i) = IsBytes-take n bytes (λ j. fits (suc j)) i
-
-IsBytes-drop : (n : ℕ) (bytes : List ℕ) → IsBytes bytes → IsBytes (drop n bytes)
-IsBytes-drop zero bytes fits i = fits i
-IsBytes-drop (suc n) [] fits i = lit< tt
-IsBytes-drop (suc n) (b ∷ bytes) fits i = IsBytes-drop n bytes (λ j. fits (suc j)) i
-
 -- what is behind a front of bytes is bytes
 pub bytes_behind : (n : ℕ) (bytes back : List ℕ) → back ≡ drop n bytes → IsBytes bytes
     → IsBytes back
-bytes_behind n bytes back is fits = subst IsBytes (sym is) (IsBytes-drop n bytes fits)
+bytes_behind n bytes back is fits = subst IsBytes (sym is) (drop-IsBytes n bytes fits)
 
 -- a block goes into the register
 pub register-block : (c : ℕ) (block behind bytes : List ℕ) → IsBytes bytes
@@ -200,5 +189,5 @@ register-block c block behind bytes fits is_block is_behind enough =
     let size : length block ≡ 8 = omega (arith, ap length is_block, length-take 8 bytes) in
     ap (λ n. register (divide (8 * n) (bit_xor c (polynomial_of block))) behind) (sym size)
     ∙ ap₂ (λ front. register (register c front)) is_block is_behind
-    ∙ sym (register-append c (take 8 bytes) (drop 8 bytes) (IsBytes-take 8 bytes fits))
+    ∙ sym (register-append c (take 8 bytes) (drop 8 bytes) (take-IsBytes 8 bytes fits))
     ∙ ap (register c) (take-append-drop 8 bytes)

@@ -1,9 +1,10 @@
--- The members of mapped and joined lists.
+-- Members of lists, of mapped and of joined ones, and what holds of each.
 use Rattle.std.proofs.Common.{
   ◌≡◌,
   List,
   [],
   ◌∷◌,
+  ◌++◌,
   map,
   ◌⊎◌,
   inl,
@@ -41,6 +42,12 @@ first_or_further x xs y h = elim (Contains-append_cases (x ∷ []) xs y h) [
   | inr more ↦ inr more
 ]
 
+pub only_one : {A : Type 0} (x y : A) → Contains (x ∷ []) y → x ≡ y
+only_one x y h = elim (first_or_further x [] y h) [
+  | inl same ↦ same
+  | inr none ↦ absurd (nothing_there y none)
+]
+
 pub all_have : {A : Type 0} (P : A → Type 0) (xs : List A) (y : A) → AllByRecursion P xs
     → Contains xs y → P y
 all_have P [] y all h = absurd (nothing_there y h)
@@ -48,6 +55,17 @@ all_have P (x ∷ xs) y all h = elim (first_or_further x xs y h) [
   | inl same ↦ subst P same all.0
   | inr more ↦ all_have P xs y all.1 more
 ]
+
+pub all_from : {A : Type 0} (P : A → Type 0) (xs : List A) → ((x : A) → Contains xs x → P x)
+    → AllByRecursion P xs
+all_from P [] has = tt
+all_from P (x ∷ xs) has =
+    (has x (here x xs), all_from P xs (λ y there. has y (further x xs y there)))
+
+pub all_more : {A : Type 0} (P : A → Type 0) (xs : List A) (x : A) → AllByRecursion P xs → P x
+    → AllByRecursion P (xs ++ x ∷ [])
+all_more P [] x all has = (has, tt)
+all_more P (y ∷ xs) x all has = (all.0, all_more P xs x all.1 has)
 
 pub in_map : {A B : Type 0} (f : A → B) (xs : List A) (y : A) → Contains xs y
     → Contains (map f xs) (f y)

@@ -1,54 +1,8 @@
 -- Numbers are read from a text exactly where they were written into it.
-use Rattle.std.proofs.Common.{
-  ◌≡◌,
-  ◌≢◌,
-  ℕ,
-  ◌+◌,
-  ◌-◌,
-  ◌%◌,
-  ◌^◌,
-  ◌<◌,
-  List,
-  [],
-  ◌∷◌,
-  ◌++◌,
-  length,
-  take,
-  drop,
-  get_or,
-  Bool,
-  true,
-  false,
-  ◌&&◌,
-  ◌==◌,
-  not,
-  cond,
-  eqb,
-  Option,
-  Some,
-  None,
-  codes,
-  decimal,
-  refl,
-  ap,
-  ap₂,
-  ◌∙◌,
-  sym,
-  arith,
-  append_assoc,
-  length-append,
-  inl,
-  inr,
-  MatchOption,
-  unwrap_or,
-  add-one,
-  drop-cons,
-  Bor,
-  length-drop,
-}
+use Rattle.std.proofs.Common.{◌≡◌, ◌≢◌, ℕ, ◌+◌, ◌%◌, ◌^◌, ◌<◌, List, [], ◌∷◌, ◌++◌, length, take, drop, get_or, Bool, true, false, ◌&&◌, ◌==◌, not, cond, eqb, Option, Some, None, codes, decimal, refl, ap, ap₂, ◌∙◌, sym, arith, append_assoc, length-append, inl, inr, MatchOption, unwrap_or, add-one, drop-cons, Bor}
 use Rattle.std.specs.List.{list_all, position, position_or_len, prefix_len}
 use Rattle.std.specs.Bool.{Decides}
-use Rattle.std.proofs.Math.Seq.{take-length, take-append_seam, drop-append-add, drop-append_seam}
+use Rattle.std.proofs.Math.Seq.{take-append_seam, drop-append-add, drop-append_seam}
 use Rattle.std.proofs.lemmas.List.{take-append-drop}
 use Rattle.std.proofs.lemmas.List.Folds.{list_all-append}
 use Rattle.std.proofs.lemmas.List.Quantifiers.{position-Some}
@@ -85,11 +39,6 @@ not_between front back bytes rest None is none =
     not_between-back front back bytes rest.now is none
 not_between front back bytes rest (Some middle) is found =
     is ∙ ap (λ l. front ++ l) found ∙ sym (append_assoc front middle.now back)
-
--- a slice to the end
-pub rest-is : (k : ℕ) (bytes : List ℕ) → take (length bytes - k) (drop k bytes) ≡ drop k bytes
-rest-is k bytes =
-    ap (λ n. take n (drop k bytes)) (sym (length-drop k bytes)) ∙ take-length (drop k bytes)
 
 -- not a dash
 abbrev pub is_no_dash : ℕ → Bool

@@ -13,6 +13,7 @@ ghost use Rattle.std.specs.Cmp.Lexicographic.{
   texts_ties,
   texts_po,
 };
+ghost use Rattle.clog_spec.specs.Sizes.{longest_file_name};
 ghost use Rattle.clog_spec.specs.Names.{is_name, is_name_byte as is_byte_of_name};
 
 use crate::format::LONGEST_FILE_NAME;
@@ -129,7 +130,7 @@ impl Name {
     pub fn as_bytes(&self) -> &[u8]
         ensures same { result.now ≡ self.now }
         ensures name { is_name self.now ≡ true }
-        ensures short { length self.now ≤ 64 }
+        ensures short { length self.now ≤ longest_file_name }
     {
         &self.bytes[..self.len]
     }

@@ -46,3 +46,16 @@ next_in_order copies left rest all p whole next ordered =
     front_in_order (copies ++ p ∷ []) rest
     (subst AreInOrder (sym whole ∙ ap (λ (l : Pairs). copies ++ l) next
     ∙ sym (append_assoc copies (p ∷ []) rest)) ordered)
+
+-- and the merge with that pair is the next front
+pub next_merged : (copies left rest all merged : Pairs) (p q : CellKey × Cell)
+    → copies ++ left ≡ all → left ≡ p ∷ rest → AreInOrder all → q ≡ p
+    → IsMerge (copies ++ q ∷ []) merged → merged ++ rest ≡ all
+next_merged copies left rest all merged p q whole next ordered same is =
+    let fits : AreInOrder (copies ++ q ∷ []) =
+    subst (λ (r : CellKey × Cell). AreInOrder (copies ++ r ∷ [])) (sym same)
+    (next_in_order copies left rest all p whole next ordered) in
+    ap (λ (l : Pairs). l ++ rest) (merge_in_order (copies ++ q ∷ []) merged fits is)
+    ∙ ap (λ (r : CellKey × Cell). (copies ++ r ∷ []) ++ rest) same
+    ∙ append_assoc copies (p ∷ []) rest
+    ∙ ap (λ (l : Pairs). copies ++ l) (sym next) ∙ whole

@@ -19,10 +19,9 @@ use Rattle.std.proofs.Common.{
   ◌∙◌,
   append_assoc,
 }
-use Rattle.std.specs.Prelude.{IfSome, T, ◌&&◌}
+use Rattle.std.specs.Prelude.{IfSome, T}
 use Rattle.std.specs.Ordering.{eq_by_cmp, is_lt}
-use Rattle.std.specs.declared.cmp.Ordering.{Ordering}
-use Rattle.std.specs.declared.cmp.Ordering.TheVariants.{Less, Equal, Greater}
+use Rattle.std.specs.declared.cmp.Ordering.TheVariants.{Less}
 use Rattle.std.specs.Map.{keys_of}
 use Rattle.std.specs.BTreeMap.{is_at}
 use Rattle.std.specs.FinMap.{FinMap, entries, from_sorted, insert, get, get-insert}
@@ -33,6 +32,7 @@ use Rattle.std.specs.List.Sorted.{IsStrictlySortedBy}
 use Rattle.clog_base.specs.declared.cell.Cell.{Cell}
 use Rattle.clog_base.specs.declared.cell.CellKey.{CellKey}
 use Rattle.clog_cells.specs.Merge.{key_cmp, is_newer, found_at, AreInOrder, IsMerge}
+use Rattle.clog_base.proofs.Orderings.{first_holds, second_holds, is_less}
 use Rattle.clog_cells.proofs.Orders.{key_total, key_equiv}
 use Rattle.clog_cells.proofs.InOrder.{nothing_in_order}
 use Rattle.clog_cells.proofs.Merging.{rises, found_as, kept, grown, continues, none_yet}
@@ -42,27 +42,14 @@ Pairs = List (CellKey × Cell)
 
 -- ---- the rows of a finite map are in order
 
-first_of : (a b : Bool) → T (a && b) → T a
-first_of true b p = tt
-first_of false b p = p
-
-second_of : (a b : Bool) → T (a && b) → T b
-second_of true b p = p
-second_of false b p = absurd p
-
-is_less : (r : Ordering) → T (is_lt r) → r ≡ Less
-is_less Less p = refl
-is_less Equal p = absurd p
-is_less Greater p = absurd p
-
 below_listed : (key : CellKey) (rows : Pairs) → T (below_all key_cmp key rows)
     → AllByRecursion (λ other. key_cmp key other ≡ Less) (keys_of rows)
 below_listed key [] h = tt
 below_listed key (row ∷ rows) h =
     let test = is_lt (key_cmp key row.0) in
     let rest = below_all key_cmp key rows in (
-      is_less (key_cmp key row.0) (first_of test rest h),
-      below_listed key rows (second_of test rest h),
+      is_less (key_cmp key row.0) (first_holds test rest h),
+      below_listed key rows (second_holds test rest h),
     )
 
 in_order : (rows : Pairs) → T (is_sorted key_cmp rows) → AreInOrder rows
@@ -71,7 +58,7 @@ in_order [] h = tt
 in_order (row ∷ rows) h =
     let test = below_all key_cmp row.0 rows in
     let rest = is_sorted key_cmp rows in
-    (below_listed row.0 rows (first_of test rest h), in_order rows (second_of test rest h))
+    (below_listed row.0 rows (first_holds test rest h), in_order rows (second_holds test rest h))
 
 -- ---- one pair more
 

@@ -2,7 +2,7 @@
 use Rattle.std.proofs.Common.{◌≡◌, List, [], ◌∷◌, ◌++◌, Bool, true, false, cond, Option, Some, None}
 use Rattle.std.proofs.Common.{refl, sym, ap, subst, ◌∙◌, inl, inr, append_assoc}
 use Rattle.std.proofs.lemmas.List.{append-nil}
-use Rattle.std.specs.Prelude.{Contains, IfSome, T, ◌&&◌, ◌↔◌}
+use Rattle.std.specs.Prelude.{Contains, IfSome, T, ◌↔◌}
 use Rattle.std.proofs.lemmas.Bool.{true≢false}
 use Rattle.std.specs.Ordering.{eq_by_cmp, is_lt}
 use Rattle.std.specs.BTreeMap.{is_at}
@@ -20,6 +20,7 @@ use Rattle.std.proofs.lemmas.List.Elements.{Contains-append_cases, Contains-push
 use Rattle.std.proofs.lemmas.List.Elements.{Contains-push_cases}
 use Rattle.clog_base.specs.declared.cell.Cell.{Cell}
 use Rattle.clog_base.specs.declared.cell.CellKey.{CellKey}
+use Rattle.clog_base.proofs.Orderings.{both_hold}
 use Rattle.clog_cells.specs.Merge.{key_cmp, is_newer, found_at, AreInOrder, IsNewestAt}
 use Rattle.clog_cells.specs.Merge.{IsNewestAmong, IsMerge, IsMergeOf, HaveSameMembers}
 use Rattle.clog_cells.proofs.Orders.{key_total, exact_keys, key_equiv, one_key, one_cell, not_newer}
@@ -29,23 +30,19 @@ abbrev Pairs : Type 0
 Pairs = List (CellKey × Cell)
 
 -- rows in order that read alike are the same, as finite maps are
-both : (a b : Bool) → T a → T b → T (a && b)
-both true b p q = q
-both false b p q = p
-
 below_rest : (key : CellKey) (rows : Pairs)
     → AllByRecursion (λ other. key_cmp key other ≡ Less) (keys_of rows)
     → T (below_all key_cmp key rows)
 below_rest key [] h = tt
 below_rest key (row ∷ rows) h =
-    both (is_lt (key_cmp key row.0)) (below_all key_cmp key rows)
+    both_hold (is_lt (key_cmp key row.0)) (below_all key_cmp key rows)
     (subst (λ r. T (is_lt r)) (sym h.0) tt) (below_rest key rows h.1)
 
 pub rises : (rows : Pairs) → AreInOrder rows → T (is_sorted key_cmp rows)
 unfolding IsStrictlySortedBy
 rises [] h = tt
 rises (row ∷ rows) h =
-    both (below_all key_cmp row.0 rows) (is_sorted key_cmp rows) (below_rest row.0 rows h.0)
+    both_hold (below_all key_cmp row.0 rows) (is_sorted key_cmp rows) (below_rest row.0 rows h.0)
     (rises rows h.1)
 
 pub found_as : (rows : Pairs) (key : CellKey) → find key_cmp key rows ≡ found_at rows key

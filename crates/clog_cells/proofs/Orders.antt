@@ -2,9 +2,9 @@
 use Rattle.std.proofs.Common.{◌≡◌, true, false, refl, ap}
 use Rattle.std.specs.declared.cmp.Ordering.{Ordering}
 use Rattle.std.specs.declared.cmp.Ordering.TheVariants.{Less, Equal, Greater}
-use Rattle.std.specs.Ordering.{nat_cmp, int_cmp, ordering_then, ordering_reverse, eq_by_cmp, is_eq}
+use Rattle.std.specs.Ordering.{nat_cmp, int_cmp, ordering_then, ordering_reverse, eq_by_cmp}
 use Rattle.std.specs.Ordering.{is_gt}
-use Rattle.std.specs.Cmp.{IsTotalOrder, IsEquivalence, eq_by_cmp_equiv}
+use Rattle.std.specs.Cmp.{IsTotalOrder, IsEquivalence, eq_by_cmp_equiv, Equal-is}
 use Rattle.std.specs.Cmp.Lexicographic.{slice_cmp, nat_list_cmp_total}
 use Rattle.std.proofs.lemmas.Cmp.{then_total, on_total, nat_cmp_total, int_cmp_total, upto}
 use Rattle.std.proofs.lemmas.Cmp.{tied_itself}
@@ -14,6 +14,7 @@ use Rattle.clog_base.specs.declared.cell.Kind.{Kind}
 use Rattle.clog_base.specs.declared.cell.Kind.TheVariants.{Deletion, Live}
 use Rattle.clog_base.specs.declared.cell.Cell.{Cell}
 use Rattle.clog_base.specs.declared.cell.CellKey.{CellKey}
+use Rattle.clog_base.proofs.Orderings.{both_equal}
 use Rattle.clog_cells.specs.Merge.{key_cmp, cell_cmp, kind_rank, is_newer}
 
 pub key_total : IsTotalOrder key_cmp
@@ -27,11 +28,6 @@ cell_total =
     then_total (on_total (λ (c : Cell). c.ts) int_cmp_total)
     (then_total (on_total (λ (c : Cell). kind_rank c.kind) nat_cmp_total)
     (on_total (λ (c : Cell). c.value) nat_list_cmp_total))
-
-both_equal : (r s : Ordering) → ordering_then r s ≡ Equal → (r ≡ Equal) × (s ≡ Equal)
-both_equal Less s e = cc
-both_equal Equal s e = (refl, e)
-both_equal Greater s e = cc
 
 pub exact_keys : CmpEqualImpliesEq key_cmp
 exact_keys a b e =
@@ -66,14 +62,9 @@ exact_cells a b e =
 pub key_equiv : IsEquivalence (eq_by_cmp key_cmp)
 key_equiv = eq_by_cmp_equiv key_total
 
-is_equal : (r : Ordering) → is_eq r ≡ true → r ≡ Equal
-is_equal Less p = cc
-is_equal Equal p = refl
-is_equal Greater p = cc
-
 -- keys that compare as equal are one
 pub one_key : (a b : CellKey) → eq_by_cmp key_cmp a b ≡ true → a ≡ b
-one_key a b e = exact_keys a b (is_equal (key_cmp a b) e)
+one_key a b e = exact_keys a b ((Equal-is (key_cmp a b)).0 e)
 
 neither_greater : (r s : Ordering) → r ≡ ordering_reverse s → is_gt r ≡ false → is_gt s ≡ false
     → r ≡ Equal

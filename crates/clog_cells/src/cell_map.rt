@@ -21,7 +21,6 @@ ghost use Rattle.std.specs.Prelude.{
 ghost use Rattle.clog_cells.specs.Merge.{
   is_newer,
   found_at,
-  AreInOrder,
   IsMerge,
   MergesPart,
   IsCellMap,
@@ -84,17 +83,6 @@ impl CellMap {
         ensures unchanged { OnErr result (self.new ≡ self.old) }
     {
         put(&mut self.cells, key, cell)
-    }
-
-    /// Adds a cell whose key is above all others. For want of memory the pair comes back, and the
-    /// map is as it was.
-    pub fn push_last(&mut self, key: CellKey, cell: Cell) -> Result<(), (CellKey, Cell)>
-        requires { AreInOrder (self.old ++ (key, cell) ∷ []) }
-        ensures pushed { OnOk result (self.new ≡ self.old ++ (key, cell) ∷ []) }
-        ensures returned { IfErr result (λ pair. pair ≡ (key, cell)) }
-        ensures unchanged { OnErr result (self.new ≡ self.old) }
-    {
-        push_last(&mut self.cells, key, cell)
     }
 
     /// Moves the cells of another map in. After a refusal the map is its old content merged with a
@@ -183,22 +171,6 @@ fn put(cells: &mut BTreeMap<CellKey, Cell>, key: CellKey, cell: Cell) -> Result<
     }
 }
 
-fn push_last(
-    cells: &mut BTreeMap<CellKey, Cell>,
-    key: CellKey,
-    cell: Cell,
-) -> Result<(), (CellKey, Cell)>
-    requires map { IsCellMap cells.old.entries }
-    requires last { AreInOrder (cells.old.entries ++ (key, cell) ∷ []) }
-    ensures pushed { OnOk result
-        (cells.new.entries ≡ cells.old.entries ++ (key, cell) ∷ []) }
-    ensures returned { IfErr result (λ pair. pair ≡ (key, cell)) }
-    ensures unchanged { OnErr result (cells.new.entries ≡ cells.old.entries) }
-    ensures map { IsCellMap cells.new.entries }
-{
-    put(cells, key, cell)
-}
-
 fn merge(
     cells: &mut BTreeMap<CellKey, Cell>,
     others: BTreeMap<CellKey, Cell>,
@@ -242,7 +214,7 @@ fn copy_of_all(
     let mut copies = BTreeMap::new(alloc);
     for (key, cell) in cells {
         let (key, cell) = copy_of(alloc, key, cell)?;
-        let Ok(()) = push_last(&mut copies, key, cell) else {
+        let Ok(()) = put(&mut copies, key, cell) else {
             return Err(OutOfMemory);
         };
     }

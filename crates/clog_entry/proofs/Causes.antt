@@ -64,6 +64,7 @@ use Rattle.clog_entry.specs.Reading.{
   entry_read,
 }
 use Rattle.clog_entry.specs.Soft.{IsSoft, IsOfHeader, PassesAsHeader}
+use Rattle.clog_entry.proofs.HeaderLaws.{all_fits}
 
 -- ---- markers
 
@@ -132,13 +133,10 @@ entry_soft bytes at end cause refused =
 
 -- ---- headers
 
-abbrev no_fault : Result Unit Cause
-no_fault = Ok tt
-
 -- with a wrong check the cause is soft, and with a right one it is of the header
 judged_so : (a b c d : Bool) (version id : ℕ) (cause : Cause)
     → cond a (Err HeaderCheck) (cond b (Err (Version version)) (cond c (Err (HeaderId id))
-    (cond d (Err Parameters) no_fault))) ≡ Err cause
+    (cond d (Err Parameters) all_fits))) ≡ Err cause
     → IsSoft cause ⊎ (IsOfHeader cause × (a ≡ false))
 judged_so true b c d version id cause refused =
     let same : HeaderCheck ≡ cause = cc in inl (subst IsSoft same tt)
@@ -174,7 +172,7 @@ header_refused bytes id cause refused =
     let c = not (found == id) in
     let d = not (bytes_eq parameters (codes "{}")) in
     let judgement = cond wrong (Err HeaderCheck) (cond b (Err (Version version))
-    (cond c (Err (HeaderId found)) (cond d (Err Parameters) no_fault))) in
+    (cond c (Err (HeaderId found)) (cond d (Err Parameters) all_fits))) in
     let short = nat_lt (length bytes) (18 + size) in
     elim (long_enough (nat_lt (length bytes) 14) short judgement cause refused) [
       | inl soft ↦ inl soft
@@ -194,7 +192,7 @@ passed_so : (few short a b c d : Bool) (version id : ℕ) (cause : Cause)
     → few ≡ false → short ≡ false → a ≡ false
     → cond few (Err Short) (cond short (Err Short) (cond a (Err HeaderCheck)
     (cond b (Err (Version version)) (cond c (Err (HeaderId id))
-    (cond d (Err Parameters) no_fault))))) ≡ Err cause
+    (cond d (Err Parameters) all_fits))))) ≡ Err cause
     → IsOfHeader cause
 passed_so true short a b c d version id cause few long right refused = absurd cc
 passed_so false true a b c d version id cause few long right refused = absurd cc

@@ -1,40 +1,5 @@
 -- What is read as a header is one, and each header is read.
-use Rattle.std.proofs.Common.{
-  ◌≡◌,
-  ℕ,
-  zero,
-  suc,
-  ◌+◌,
-  ◌^◌,
-  ◌<◌,
-  ◌≤◌,
-  ◌==◌,
-  Bool,
-  true,
-  false,
-  not,
-  cond,
-  List,
-  [],
-  ◌∷◌,
-  ◌++◌,
-  length,
-  take,
-  drop,
-  codes,
-  nat_lt,
-  Result,
-  Ok,
-  Err,
-  refl,
-  sym,
-  ◌∙◌,
-  ap,
-  ap₂,
-  arith,
-  append_assoc,
-  lit<,
-}
+use Rattle.std.proofs.Common.{◌≡◌, ℕ, ◌+◌, ◌^◌, ◌<◌, ◌≤◌, ◌==◌, Bool, true, false, not, cond, List, [], ◌∷◌, ◌++◌, length, take, drop, codes, nat_lt, Result, Ok, Err, refl, sym, ◌∙◌, ap, ap₂, arith, append_assoc, lit<}
 use Rattle.std.proofs.lemmas.List.{length-drop, length-take, take-append-drop}
 use Rattle.std.proofs.lemmas.Bool.Decides.{nat_tests}
 use Rattle.std.proofs.lemmas.Slice.Eq.{bytes_eq-Decides}
@@ -54,6 +19,7 @@ use Rattle.clog_entry.specs.declared.cause.Cause.TheVariants.{
 use Rattle.clog_entry.specs.Fields.{header_fields}
 use Rattle.clog_entry.specs.Reading.{first_of, number_at, header_judged, header_read}
 use Rattle.clog_entry.specs.Spelled.{IsHeaderAt}
+use Rattle.clog_spec.proofs.StoredBytes.{braces-IsBytes}
 use Rattle.clog_spec.proofs.Bytes.{number-IsBytes, append-IsBytes}
 use Rattle.clog_entry.proofs.Pieces.{
   check_fits,
@@ -79,7 +45,7 @@ header_read_is : (bytes : List ℕ) (id : ℕ) → header_read bytes id
 unfolding header_read judged
 header_read_is bytes id = refl
 
-abbrev all_fits : Result Unit Cause
+abbrev pub all_fits : Result Unit Cause
 all_fits = Ok tt
 
 long_enough : (a b : Bool) (judgement : Result Unit Cause)
@@ -168,11 +134,6 @@ header_found bytes id are_bytes h =
     ∙ ap (λ k. to_be_bytes w32 k ++ drop 20 bytes) check_is))))
     ∙ joined (to_be_bytes w32 6) (to_be_bytes w64 id) (to_be_bytes w16 2) (codes "{}")
     (to_be_bytes w32 (crc32_of (header_checked id))) (drop 20 bytes)
-
-braces-IsBytes : IsBytes (codes "{}")
-braces-IsBytes zero = lit< tt
-braces-IsBytes (suc zero) = lit< tt
-braces-IsBytes (suc (suc i)) = lit< tt
 
 header_checked-IsBytes : (id : ℕ) → IsBytes (header_checked id)
 header_checked-IsBytes id =

@@ -12,7 +12,7 @@ use Rattle.std.proofs.lemmas.Int.{of_z-to_z, to_z-of_z}
 use Rattle.std.proofs.Math.Facts.{sfits_to_z}
 use Rattle.clog_spec.specs.Crc.{IsBytes}
 use Rattle.clog_spec.specs.Sizes.{longest_name}
-use Rattle.clog_spec.proofs.Bytes.{bytes-nil, bytes-cons, short_number, number-IsBytes, long_number}
+use Rattle.clog_spec.proofs.Bytes.{one_byte-IsBytes, short_number, number-IsBytes, long_number}
 use Rattle.clog_base.specs.declared.cell.Kind.{Kind}
 use Rattle.clog_base.specs.declared.cell.Kind.TheVariants.{Deletion, Live}
 use Rattle.clog_base.specs.declared.fault.PayloadFault.TheVariants.{BadTag, NotUtf8, NameLength}
@@ -76,9 +76,6 @@ number_reader w limit wide end =
     (bytes_reader end (byte_len w))
     (λ text h. wide.back text h.0 h.1) (λ text h. wide.below text h.1)
     (λ n h. (wide.len n, wide.fits n h)) (λ n h. wide.again n h)
-
-one_byte-IsBytes : (n : ℕ) → n < 256 → IsBytes (n ∷ [])
-one_byte-IsBytes n fits = bytes-cons n [] fits bytes-nil
 
 one_of : (text : List ℕ) → length text ≡ 1 → one_byte (first_byte text) ≡ text
 one_of [] e = absurd (omega arith)

@@ -22,17 +22,7 @@ use Rattle.clog_intervals.specs.declared.interval.Interval.{Interval}
 use Rattle.clog_base.specs.Positions.{IsBelow, IsUpTo, is_below}
 use Rattle.clog_intervals.specs.Union.{AreApart}
 use Rattle.clog_intervals.specs.Joined.{BeginAbove}
-use Rattle.clog_intervals.proofs.Order.{
-  below_trans,
-  below_is_upto,
-  upto_below,
-  upto_trans,
-  at_itself,
-  is_below-true,
-  below-is_below,
-  not_below-upto,
-  upto-not_below,
-}
+use Rattle.clog_base.proofs.PositionOrder.{below_trans, below_is_up_to, up_to_below, up_to_trans, up_to_itself, is_below-true, below-is_below, not_below-up_to, up_to-not_below}
 use Rattle.clog_intervals.proofs.Unions.{apart_behind}
 
 begins_above_at : (at : Position) (xs : List Interval) (k : ℕ) (d : Interval) → k < length xs
@@ -51,11 +41,11 @@ some_at (x ∷ xs) (suc k) d h a = let h' : k < length xs = omega arith in some_
 uppers_rise : (xs : List Interval) (i j : ℕ) (d : Interval) → AreApart xs → i ≤ j → j < length xs
     → IsUpTo (get_or xs i d).upper (get_or xs j d).upper
 uppers_rise [] i j d a h k = absurd (omega arith)
-uppers_rise (x ∷ xs) zero zero d a h k = at_itself x.upper
+uppers_rise (x ∷ xs) zero zero d a h k = up_to_itself x.upper
 uppers_rise (x ∷ xs) (suc i) zero d a h k = absurd (omega arith)
 uppers_rise (x ∷ xs) zero (suc j) d a h k =
     let k' : j < length xs = omega arith in
-    below_is_upto x.upper (get_or xs j d).upper
+    below_is_up_to x.upper (get_or xs j d).upper
     (below_trans x.upper (get_or xs j d).lower (get_or xs j d).upper
     (begins_above_at x.upper xs j d k' (apart_behind x xs a)) (some_at xs j d k' a.2))
 uppers_rise (x ∷ xs) (suc i) (suc j) d a h k =
@@ -66,11 +56,11 @@ uppers_rise (x ∷ xs) (suc i) (suc j) d a h k =
 lowers_rise : (xs : List Interval) (i j : ℕ) (d : Interval) → AreApart xs → i ≤ j → j < length xs
     → IsUpTo (get_or xs i d).lower (get_or xs j d).lower
 lowers_rise [] i j d a h k = absurd (omega arith)
-lowers_rise (x ∷ xs) zero zero d a h k = at_itself x.lower
+lowers_rise (x ∷ xs) zero zero d a h k = up_to_itself x.lower
 lowers_rise (x ∷ xs) (suc i) zero d a h k = absurd (omega arith)
 lowers_rise (x ∷ xs) zero (suc j) d a h k =
     let k' : j < length xs = omega arith in
-    below_is_upto x.lower (get_or xs j d).lower
+    below_is_up_to x.lower (get_or xs j d).lower
     (below_trans x.lower x.upper (get_or xs j d).lower a.0
     (begins_above_at x.upper xs j d k' (apart_behind x xs a)))
 lowers_rise (x ∷ xs) (suc i) (suc j) d a h k =
@@ -82,15 +72,15 @@ pub ends_parted : (xs : List Interval) (at : Position) → AreApart xs
     → IsPartitionedBy (λ i. is_below i.upper at) xs
 ends_parted xs at a i j d h k e =
     below-is_below (get_or xs i d).upper at
-    (upto_below (get_or xs i d).upper (get_or xs j d).upper at (uppers_rise xs i j d a h k)
+    (up_to_below (get_or xs i d).upper (get_or xs j d).upper at (uppers_rise xs i j d a h k)
     (is_below-true (get_or xs j d).upper at e))
 
 pub begins_parted : (xs : List Interval) (at : Position) → AreApart xs
     → IsPartitionedBy (λ i. not (is_below at i.lower)) xs
 begins_parted xs at a i j d h k e =
-    upto-not_below at (get_or xs i d).lower
-    (upto_trans (get_or xs i d).lower (get_or xs j d).lower at (lowers_rise xs i j d a h k)
-    (not_below-upto at (get_or xs j d).lower e))
+    up_to-not_below at (get_or xs i d).lower
+    (up_to_trans (get_or xs i d).lower (get_or xs j d).lower at (lowers_rise xs i j d a h k)
+    (not_below-up_to at (get_or xs j d).lower e))
 
 -- what holds at each index below k holds of the first k
 pub all_in_front : (P : Interval → Type 0) (xs : List Interval) (k : ℕ) → k ≤ length xs

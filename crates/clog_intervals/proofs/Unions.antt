@@ -44,20 +44,8 @@ use Rattle.clog_intervals.specs.Joined.{
   IsRun,
   IsJoined,
 }
-use Rattle.clog_intervals.proofs.Order.{
-  below_trans,
-  below_upto,
-  upto_below,
-  upto_trans,
-  below_is_upto,
-  not_both,
-  below_or_upto,
-  at_itself,
-  next_is_least,
-  next_between,
-  from_least,
-  to_greatest,
-}
+use Rattle.clog_base.proofs.PositionOrder.{below_trans, below_up_to, up_to_below, up_to_trans, below_is_up_to, not_both, below_or_up_to, up_to_itself}
+use Rattle.clog_intervals.proofs.Order.{next_is_least, next_between, from_least, to_greatest}
 
 pub Holds-left : (xs ys : List Interval) (p : Position) → Holds xs p → Holds (xs ++ ys) p
 Holds-left [] ys p h = absurd h
@@ -77,7 +65,7 @@ Holds-cases (x ∷ xs) ys p (inr h) =
 
 pub held_below : (xs : List Interval) (at p : Position) → EndBelow at xs → Holds xs p → IsBelow p at
 held_below [] at p e h = absurd h
-held_below (x ∷ xs) at p e (inl h) = upto_below p x.upper at h.1 e.0
+held_below (x ∷ xs) at p e (inl h) = up_to_below p x.upper at h.1 e.0
 held_below (x ∷ xs) at p e (inr h) = held_below xs at p e.1 h
 
 pub held_above : (xs : List Interval) (at p : Position) → BeginAbove at xs → Holds xs p
@@ -136,7 +124,7 @@ pub points_in_order : (xs : List Interval) (first last : ℕ) (lower upper : Pos
 points_in_order xs zero last lower upper apart some below above fits = omega arith
 points_in_order [] (suc first) last lower upper apart some below above fits = absurd (omega arith)
 points_in_order (x ∷ xs) (suc first) zero lower upper apart some below above fits =
-    absurd (not_both upper x.lower above.0 (below_is_upto x.lower upper
+    absurd (not_both upper x.lower above.0 (below_is_up_to x.lower upper
     (below_trans x.lower x.upper upper apart.0 (below_trans x.upper lower upper below.0 some))))
 points_in_order (x ∷ xs) (suc first) (suc last) lower upper apart some below above fits =
     let rest : first ≤ last = points_in_order xs first last lower upper apart.2 some below.1 above
@@ -148,20 +136,20 @@ within_joined : (new first last joined : Interval) (p : Position) → IsJoined n
     → IsUpTo new.lower first.upper → IsUpTo last.lower new.upper → IsWithin joined p
     → IsWithin first p ⊎ (IsWithin last p ⊎ IsWithin new p)
 within_joined new first last joined p j meets_first meets_last h =
-    elim (below_or_upto new.lower p) [
+    elim (below_or_up_to new.lower p) [
       | inr low ↦
           let above_first : IsBelow first.lower p = elim (j.lower) [
             | inl e ↦ absurd (not_both new.lower p (subst (λ x. IsBelow x p) e h.0) low)
             | inr e ↦ subst (λ x. IsBelow x p) e h.0
           ] in
-          inl (above_first, upto_trans p new.lower first.upper low meets_first)
-      | inl above ↦ elim (below_or_upto new.upper p) [
+          inl (above_first, up_to_trans p new.lower first.upper low meets_first)
+      | inl above ↦ elim (below_or_up_to new.upper p) [
         | inl high ↦
             let below_last : IsUpTo p last.upper = elim (j.upper) [
               | inl e ↦ absurd (not_both new.upper p high (subst (λ x. IsUpTo p x) e h.1))
               | inr e ↦ subst (λ x. IsUpTo p x) e h.1
             ] in
-            inr (inl (upto_below last.lower new.upper p meets_last high, below_last))
+            inr (inl (up_to_below last.lower new.upper p meets_last high, below_last))
         | inr low ↦ inr (inr (above, low))
       ]
     ]
@@ -209,8 +197,8 @@ module _
       ] in
       apart_with front joined back (AreApart-left front (first ∷ behind) apart_at_first)
       apart_from_last.2 ends begins
-      (upto_below joined.lower new.lower joined.upper j.below_new
-      (below_upto new.lower new.upper joined.upper t.some j.above_new))
+      (up_to_below joined.lower new.lower joined.upper j.below_new
+      (below_up_to new.lower new.upper joined.upper t.some j.above_new))
 
   in_all_by_first : (p : Position) → Holds (front ++ first ∷ behind) p → Holds xs p
   in_all_by_first p h = subst (λ l. Holds l p) (sym t.at_first) h
@@ -239,7 +227,7 @@ module _
 
   below_last : (p : Position) → Holds before p ⊎ IsWithin last p → IsUpTo p last.upper
   below_last p (inl h) =
-      below_is_upto p last.upper (below_trans p last.lower last.upper
+      below_is_up_to p last.upper (below_trans p last.lower last.upper
       (held_below before last.lower p (apart_before before last back apart_at_last) h)
       apart_from_last.0)
   below_last p (inr w) = w.1
@@ -247,8 +235,8 @@ module _
   between_them : (p : Position) → IsBelow first.lower p → Holds before p ⊎ IsWithin last p
       → IsWithin joined p
   between_them p above h = (
-    upto_below joined.lower first.lower p j.below_first above,
-    upto_trans p last.upper joined.upper (below_last p h) j.above_last,
+    up_to_below joined.lower first.lower p j.below_first above,
+    up_to_trans p last.upper joined.upper (below_last p h) j.above_last,
   )
 
   joined_keeps : (p : Position) → Holds xs p → Holds (front ++ joined ∷ back) p
@@ -269,8 +257,8 @@ module _
   joined_union p (inl h) = joined_keeps p h
   joined_union p (inr w) =
       Holds-right front (joined ∷ back) p (inl (
-        upto_below joined.lower new.lower p j.below_new w.0,
-        upto_trans p new.upper joined.upper w.1 j.above_new,
+        up_to_below joined.lower new.lower p j.below_new w.0,
+        up_to_trans p new.upper joined.upper w.1 j.above_new,
       ))
 
 drop_at : (xs : List Interval) (k : ℕ) (d : Interval) → k < length xs
@@ -304,7 +292,7 @@ none_before [] at a b h = h
 none_before (x ∷ xs) at a b (inl w) = not_both x.lower at w.0 b
 none_before (x ∷ []) at a b (inr h) = h
 none_before (x ∷ y ∷ xs) at a b (inr h) =
-    none_before (y ∷ xs) at a.2 (below_is_upto at y.lower (upto_below at x.lower y.lower b
+    none_before (y ∷ xs) at a.2 (below_is_up_to at y.lower (up_to_below at x.lower y.lower b
     (below_trans x.lower x.upper y.lower a.0 a.1))) h
 
 -- The first of the intervals that does not end below a place.
@@ -348,7 +336,7 @@ module _
 
   pub none_below_found : IsUpTo at found.lower → Holds xs at → ⊥
   none_below_found low h = none_before (found ∷ behind) at apart_found low
-      (in_found at (at_itself at) h)
+      (in_found at (up_to_itself at) h)
 
   none_past : (p : Position) → ((q : Position) → IsBelow found.upper q → IsUpTo p q)
       → IsBelow found.upper p → Holds (found ∷ behind) p → ⊥
@@ -361,7 +349,7 @@ module _
   gap_behind_found p same_id next h =
       let above : IsBelow found.upper p = inr (sym same_id, omega arith) in
       none_past p (next_is_least found.upper p same_id next) above
-      (in_found p (below_is_upto at p (upto_below at found.upper p f.ends above)) h)
+      (in_found p (below_is_up_to at p (up_to_below at found.upper p f.ends above)) h)
 
   pub has_found : IsBelow found.lower at → Has xs at found
   has_found low = record {
@@ -375,7 +363,7 @@ pub none_if_all_end : (xs : List Interval) (k : ℕ) (at : Position) → length 
     → EndBelow at (take k xs) → Holds xs at → ⊥
 none_if_all_end xs k at whole below h =
     not_both at at (held_below xs at at (subst (EndBelow at) (take_all k xs whole) below) h)
-    (at_itself at)
+    (up_to_itself at)
 
 -- Every place from least to greatest is held exactly where the interval that holds the least one
 -- reaches the greatest.
@@ -384,15 +372,15 @@ pub covered_by_one : (xs : List Interval) (least greatest : Position) (found : I
     → IsCovered xs (Some (least, greatest))
 covered_by_one xs least greatest found ordered h reaches p between =
     h.one p (
-      below_upto found.lower least p h.within.0 (from_least least greatest p between),
-      upto_trans p greatest found.upper (to_greatest least greatest p ordered between) reaches,
+      below_up_to found.lower least p h.within.0 (from_least least greatest p between),
+      up_to_trans p greatest found.upper (to_greatest least greatest p ordered between) reaches,
     )
 
 pub one_covers : (xs : List Interval) (least greatest : Position) (found : Interval)
     → IsBetween least greatest greatest → Has xs least found
     → IsCovered xs (Some (least, greatest)) → IsUpTo greatest found.upper
 one_covers xs least greatest found ordered h covered =
-    elim (below_or_upto found.upper greatest) [
+    elim (below_or_up_to found.upper greatest) [
       | inr reaches ↦ reaches
       | inl short ↦
           let next : Position = record { id = found.upper.id; offset = found.upper.offset + 1 } in

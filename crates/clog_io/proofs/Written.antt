@@ -3,23 +3,18 @@ use Rattle.std.proofs.Common.{
   ◌≡◌,
   ℕ,
   ◌+◌,
-  ◌-◌,
   List,
   ◌++◌,
-  length,
   take,
   drop,
   Option,
   Some,
   None,
-  arith,
   ap,
   ◌∙◌,
   sym,
   append_assoc,
-  length-drop,
   take-add,
-  take_all,
 }
 use Rattle.std.specs.Io.KnownBytes.{Appends, Keeps}
 
@@ -30,11 +25,6 @@ keeps_on None taken now bytes before stays = tt
 keeps_on (Some xs) None now bytes before stays = absurd before
 keeps_on (Some xs) (Some ys) None bytes before stays = absurd stays
 keeps_on (Some xs) (Some ys) (Some zs) bytes before stays = stays ∙ before
-
--- what is left from a place on
-pub rest_is : (at : ℕ) (bytes : List ℕ) → take (length bytes - at) (drop at bytes) ≡ drop at bytes
-rest_is at bytes =
-    take_all (length bytes - at) (drop at bytes) (omega (arith, length-drop at bytes))
 
 -- one piece more, from a place on
 pub one_piece_more : (held taken now : Option (List ℕ)) (bytes rest : List ℕ) (at n : ℕ)

@@ -76,7 +76,7 @@ whole-append len at [] more whole behind = behind
 whole-append len at (s ∷ ss) more whole behind =
     (whole.0, whole.1, whole-append len s.until ss more whole.2 behind)
 
-section_longer : (len len' at : ℕ) (s : Section) → len ≤ len' → IsSection len at s
+pub section_longer : (len len' at : ℕ) (s : Section) → len ≤ len' → IsSection len at s
     → IsSection len' at s
 section_longer len len' at s longer is = record {
   behind = is.behind;

@@ -1,32 +1,6 @@
 -- What stands at and behind a segment's end does not matter to the entries in front of it.
-use Rattle.std.proofs.Common.{
-  ◌≡◌,
-  ℕ,
-  zero,
-  suc,
-  ◌+◌,
-  ◌^◌,
-  ◌<◌,
-  ◌≤◌,
-  List,
-  [],
-  ◌∷◌,
-  ◌++◌,
-  length,
-  take,
-  drop,
-  Option,
-  Some,
-  None,
-  refl,
-  sym,
-  ◌∙◌,
-  ap,
-  ap₂,
-  subst,
-  arith,
-}
-use Rattle.std.proofs.lemmas.List.{drop-take, take-append-drop}
+use Rattle.std.proofs.Common.{◌≡◌, ℕ, ◌+◌, ◌^◌, ◌<◌, ◌≤◌, List, [], ◌∷◌, ◌++◌, length, take, drop, Option, Some, None, refl, sym, ◌∙◌, ap, ap₂, subst, arith}
+use Rattle.std.proofs.lemmas.List.{drop-take, take-append-drop, take-take}
 use Rattle.std.proofs.Math.Seq.{take-append_seam}
 use Rattle.clog_spec.specs.Segment.{header_bytes, marker_bytes, entry_bytes}
 use Rattle.clog_entry.specs.Spelled.{IsHeaderAt, IsMarkerAt, IsEntryAt}
@@ -47,18 +21,12 @@ use Rattle.clog_scan.proofs.Theorems.{
 use Rattle.clog_scan.proofs.Order.{stop_place}
 use Rattle.clog_spec.specs.Sizes.{header_size, marker_size, frame_size}
 
-take_less : (n k : ℕ) (l : List ℕ) → n ≤ k → take n (take k l) ≡ take n l
-take_less zero k l less = refl
-take_less (suc n) zero l less = absurd (omega arith)
-take_less (suc n) (suc k) [] less = refl
-take_less (suc n) (suc k) (x ∷ l) less = ap (λ r. x ∷ r) (take_less n k l (omega arith))
-
 piece_kept : (bytes other : List ℕ) (at m place : ℕ) → take place other ≡ take place bytes
     → at + m ≤ place → take m (drop at other) ≡ take m (drop at bytes)
 piece_kept bytes other at m place same less =
     sym (drop-take at m other)
-    ∙ ap (drop at) (sym (take_less (at + m) place other less) ∙ ap (take (at + m)) same
-    ∙ take_less (at + m) place bytes less)
+    ∙ ap (drop at) (sym (take-take (at + m) place other less) ∙ ap (take (at + m)) same
+    ∙ take-take (at + m) place bytes less)
     ∙ drop-take at m bytes
 
 text_kept : (bytes other text : List ℕ) (at next place : ℕ)

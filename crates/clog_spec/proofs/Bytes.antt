@@ -11,6 +11,7 @@ use Rattle.std.proofs.Common.{
   [],
   ◌∷◌,
   ◌++◌,
+  take,
   drop,
   Bool,
   true,
@@ -50,6 +51,12 @@ pub drop-IsBytes : (n : ℕ) (bytes : List ℕ) → IsBytes bytes → IsBytes (d
 drop-IsBytes zero bytes fits i = fits i
 drop-IsBytes (suc n) [] fits i = lit< tt
 drop-IsBytes (suc n) (b ∷ bytes) fits i = drop-IsBytes n bytes (λ j. fits (suc j)) i
+
+pub take-IsBytes : (n : ℕ) (bytes : List ℕ) → IsBytes bytes → IsBytes (take n bytes)
+take-IsBytes zero bytes fits i = lit< tt
+take-IsBytes (suc n) [] fits i = lit< tt
+take-IsBytes (suc n) (b ∷ bytes) fits zero = fits 0
+take-IsBytes (suc n) (b ∷ bytes) fits (suc i) = take-IsBytes n bytes (λ j. fits (suc j)) i
 
 pub front-IsBytes : (front back : List ℕ) → IsBytes (front ++ back) → IsBytes front
 front-IsBytes [] back fits i = lit< tt
@@ -98,11 +105,11 @@ scalar_is_low c is = elim (scalar_cases c is) [
   | inr high ↦ omega (arith, high.1)
 ]
 
-one_byte : (a : ℕ) → a < 256 → IsBytes (a ∷ [])
-one_byte a fits = bytes-cons a [] fits bytes-nil
+pub one_byte-IsBytes : (a : ℕ) → a < 256 → IsBytes (a ∷ [])
+one_byte-IsBytes a fits = bytes-cons a [] fits bytes-nil
 
 two_bytes : (a b : ℕ) → a < 256 → b < 256 → IsBytes (a ∷ b ∷ [])
-two_bytes a b fits more = bytes-cons a (b ∷ []) fits (one_byte b more)
+two_bytes a b fits more = bytes-cons a (b ∷ []) fits (one_byte-IsBytes b more)
 
 three_bytes : (a b c : ℕ) → a < 256 → b < 256 → c < 256 → IsBytes (a ∷ b ∷ c ∷ [])
 three_bytes a b c fits second third =
@@ -118,7 +125,7 @@ unfolding encode
 char_bytes c low =
     chosen (nat_lt c 128) _ _
     (λ one. let small : c < 128 = grind (arith, nat_tests) in
-    one_byte c (omega (arith, small)))
+    one_byte-IsBytes c (omega (arith, small)))
     (λ more. chosen (nat_lt c 2048) _ _
     (λ two. let small : c < 2048 = grind (arith, nat_tests) in
     two_bytes (192 + c / 64) (next c) (omega (arith, small)) (later_byte c))

@@ -14,10 +14,11 @@ use Rattle.clog_spec.specs.Segment.{
 }
 use Rattle.clog_spec.proofs.Bytes.{append-IsBytes, short_number, number-IsBytes, long_number}
 
-braces : IsBytes (codes "{}")
-braces zero = lit< tt
-braces (suc zero) = lit< tt
-braces (suc (suc i)) = lit< tt
+-- the parameters of a header
+pub braces-IsBytes : IsBytes (codes "{}")
+braces-IsBytes zero = lit< tt
+braces-IsBytes (suc zero) = lit< tt
+braces-IsBytes (suc (suc i)) = lit< tt
 
 pub header-IsBytes : (id : ℕ) → IsBytes (header_bytes id)
 header-IsBytes id =
@@ -28,7 +29,7 @@ header-IsBytes id =
     append-IsBytes (header_front id) check
     (append-IsBytes (version ++ number ++ two) (codes "{}")
     (append-IsBytes (version ++ number) two
-    (append-IsBytes version number (number-IsBytes 6) (long_number id)) (short_number 2)) braces)
+    (append-IsBytes version number (number-IsBytes 6) (long_number id)) (short_number 2)) braces-IsBytes)
     (number-IsBytes (crc32_of (header_checked id)))
 
 pub marker-IsBytes : (id at end : ℕ) → IsBytes (marker_bytes id at end)

@@ -304,6 +304,11 @@ module _ (table : Table) (bytes : List ℕ) (file : TableFile) (f : IsFileOf tab
   decodes_to_it (Ok other) h = inl (ap Ok (one_file other h))
   decodes_to_it (Err fault) h = inr (ap Err (not_refused fault h))
 
+-- bytes are one table file at most
+pub one_table_file : (table : Table) (bytes : List ℕ) (file other : TableFile)
+    → IsFileOf table bytes file → IsFileOf table bytes other → other ≡ file
+one_table_file table bytes file other a b = one_file table bytes file a other b
+
 limits_of : (table : Table) (cells : Pairs) → AllByRecursion (IsStoredCell table) cells
     → AllByRecursion (IsWithinLimits table) cells
 limits_of table [] h = tt

@@ -14,7 +14,6 @@ use Rattle.std.proofs.Common.{
   refl,
   sym,
   ap,
-  subst,
   ◌∙◌,
   arith,
 }
@@ -24,14 +23,10 @@ use Rattle.std.proofs.lemmas.Nat.{
   be_bytes_8,
   from_be_bytes-to_be_bytes_4,
 }
-use Rattle.std.proofs.lemmas.List.{take-append-drop, length-take-le}
+use Rattle.std.proofs.lemmas.List.{length-take-le}
 use Rattle.byteorder.specs.Endian.{big_number}
 use Rattle.clog_spec.specs.Crc.{IsBytes}
-use Rattle.clog_spec.proofs.Bytes.{front-IsBytes}
-
-take_fits : (n : ℕ) (bs : List ℕ) → IsBytes bs → IsBytes (take n bs)
-take_fits n bs fits =
-    front-IsBytes (take n bs) (drop n bs) (subst IsBytes (sym (take-append-drop n bs)) fits)
+use Rattle.clog_spec.proofs.Bytes.{take-IsBytes}
 
 pub four_at : (bs : List ℕ) → 4 ≤ length bs → from_be_bytes w32 bs ≡ from_be_bytes w32 (take 4 bs)
 four_at [] h = absurd (omega arith)
@@ -55,13 +50,13 @@ eight_at (a ∷ b ∷ c ∷ d ∷ e ∷ f ∷ g ∷ i ∷ bs) h = refl
 pub four_spelled : (bs : List ℕ) → 4 ≤ length bs → IsBytes bs
     → take 4 bs ≡ to_be_bytes w32 (from_be_bytes w32 bs)
 four_spelled bs h fits =
-    sym (be_bytes_4 (take 4 bs) (from_be_bytes w32 bs) (length-take-le 4 bs h) (take_fits 4 bs fits)
+    sym (be_bytes_4 (take 4 bs) (from_be_bytes w32 bs) (length-take-le 4 bs h) (take-IsBytes 4 bs fits)
     (four_at bs h))
 
 pub eight_spelled : (bs : List ℕ) → 8 ≤ length bs → IsBytes bs
     → take 8 bs ≡ to_be_bytes w64 (from_be_bytes w64 bs)
 eight_spelled bs h fits =
-    sym (be_bytes_8 (take 8 bs) (from_be_bytes w64 bs) (length-take-le 8 bs h) (take_fits 8 bs fits)
+    sym (be_bytes_8 (take 8 bs) (from_be_bytes w64 bs) (length-take-le 8 bs h) (take-IsBytes 8 bs fits)
     (eight_at bs h))
 
 pub four_below : (bs : List ℕ) → IsBytes bs → from_be_bytes w32 bs < 2 ^ 32

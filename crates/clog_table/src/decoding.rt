@@ -126,7 +126,7 @@ fn push(cells: &mut CellMap, key: CellKey, cell: Cell) -> Result<(), OutOfMemory
     requires { AreInOrder (cells.old ++ (key, cell) ∷ []) }
     ensures { OnOk result (cells.new ≡ cells.old ++ (key, cell) ∷ []) }
 {
-    let Ok(()) = cells.push_last(key, cell) else {
+    let Ok(()) = cells.put(key, cell) else {
         return Err(OutOfMemory);
     };
     Ok(())

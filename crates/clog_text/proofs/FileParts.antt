@@ -186,7 +186,3 @@ pub within_more : (front ms : List Mutation) → AllByRecursion IsWithinLimits f
     → AllByRecursion IsWithinLimits ms → AllByRecursion IsWithinLimits (front ++ ms)
 within_more [] ms all more = more
 within_more (m ∷ front) ms all more = (all.0, within_more front ms all.1 more)
-
-pub nothing_left : {A : Type 0} (xs : List A) → length xs ≡ 0 → xs ≡ []
-nothing_left [] none = refl
-nothing_left (x ∷ xs) none = absurd (omega arith)

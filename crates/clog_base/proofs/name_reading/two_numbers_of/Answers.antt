@@ -1,5 +1,6 @@
 use Rattle.std.proofs.Common.{◌∙◌, ◌+◌, sym, subst}
-use Rattle.clog_base.proofs.Readings.{no_pair-dash, no_pair-first, no_pair-second, is_pair, rest-is}
+use Rattle.std.proofs.lemmas.List.{take_rest}
+use Rattle.clog_base.proofs.Readings.{no_pair-dash, no_pair-first, no_pair-second, is_pair}
 use Rattle.clog_base.specs.NameReading.{IsNoNumber}
 use Rattle.clog_base.proofs.name_reading.two_numbers_of.Goals as goal
 
@@ -14,11 +15,11 @@ returns-in_default-number_of-clause-read c =
 pub returns-in_default-number_of-2-clause-read : goal.returns-in_default-number_of-2-clause-read
 returns-in_default-number_of-2-clause-read c =
     no_pair-second c.args.bytes.now c.in-Some.at (sym c.in-Some.ensures)
-    (subst IsNoNumber (rest-is (c.in-Some.at + 1) c.args.bytes.now)
+    (subst IsNoNumber (take_rest c.args.bytes.now (c.in-Some.at + 1))
     c.in_default-number_of-2.ensures)
 
 pub returns-clause-read : goal.returns-clause-read
 returns-clause-read c =
     is_pair c.args.bytes.now c.in-Some.at c.in-Some-number_of.first c.in-Some-number_of-2.second
     (sym c.in-Some.ensures) c.in-Some-number_of.ensures
-    (sym (rest-is (c.in-Some.at + 1) c.args.bytes.now) ∙ c.in-Some-number_of-2.ensures)
+    (sym (take_rest c.args.bytes.now (c.in-Some.at + 1)) ∙ c.in-Some-number_of-2.ensures)

@@ -1,7 +1,7 @@
 use Rattle.std.proofs.Common.{rules, not}
 use Rattle.std.proofs.lemmas.List.Sorted.{IsPartitionPoint-from_clause}
 use Rattle.clog_base.specs.Positions.{IsBelow, IsUpTo, is_below}
-use Rattle.clog_intervals.proofs.Order.{not_below-upto, not_not_below}
+use Rattle.clog_base.proofs.PositionOrder.{not_below-up_to, not_not_below}
 use Rattle.clog_intervals.proofs.Halves.{begins_parted, all_in_front, all_in_back}
 use Rattle.clog_intervals.proofs.cleans.begun_up_to.Goals as goal
 
@@ -11,7 +11,7 @@ returns-clause-begun c =
     c.partition_point.ensures.partitioned (begins_parted _ c.args.at c.requires)
     (λ a r q k. search rules) in
     all_in_front (λ i. IsUpTo i.lower c.args.at) _ _ c.partition_point.ensures.bound
-    (λ k d l r. not_below-upto _ _ (point.0 k d l r))
+    (λ k d l r. not_below-up_to _ _ (point.0 k d l r))
 
 pub returns-clause-others : goal.returns-clause-others
 returns-clause-others c =

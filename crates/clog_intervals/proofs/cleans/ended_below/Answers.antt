@@ -1,7 +1,7 @@
 use Rattle.std.proofs.Common.{rules}
 use Rattle.std.proofs.lemmas.List.Sorted.{IsPartitionPoint-from_clause}
 use Rattle.clog_base.specs.Positions.{IsBelow, IsUpTo, is_below}
-use Rattle.clog_intervals.proofs.Order.{is_below-true, is_below-false}
+use Rattle.clog_base.proofs.PositionOrder.{is_below-true, is_below-false}
 use Rattle.clog_intervals.proofs.Halves.{ends_parted, all_in_front, all_in_back}
 use Rattle.clog_intervals.proofs.cleans.ended_below.Goals as goal
 

@@ -2,7 +2,7 @@ use Rattle.std.proofs.Common.{◌≡◌, length, false, ap, sym, ◌∙◌}
 use Rattle.std.proofs.lemmas.Bool.{ltb-false}
 use Rattle.std.proofs.Math.Dec.{ltb}
 use Rattle.std.specs.Option.{is_some}
-use Rattle.clog_intervals.proofs.Order.{is_below-true, is_below-false}
+use Rattle.clog_base.proofs.PositionOrder.{is_below-true, is_below-false}
 use Rattle.clog_intervals.proofs.Unions.{
   first_from,
   has_found,

@@ -1,6 +1,7 @@
 use Rattle.std.proofs.Common.{◌-◌, length, take, drop, arith, sym, ap, subst, length-drop}
 use Rattle.std.specs.Io.KnownBytes.{Appends}
-use Rattle.clog_io.proofs.Written.{keeps_on, one_piece_more, rest_is}
+use Rattle.clog_io.proofs.Written.{keeps_on, one_piece_more}
+use Rattle.std.proofs.lemmas.List.{take_rest}
 use Rattle.clog_io.proofs.sink.write_out.Goals.{in-Ok, in-Err}
 use Rattle.clog_io.proofs.sink.write_out.Goals as goal
 
@@ -16,13 +17,13 @@ loop-preserved g c =
           arith,
           w.at-is,
           w.in-Ok.ensures.bound,
-          ap length (rest_is at bytes),
+          ap length (take_rest bytes at),
           length-drop at bytes,
           c.loop.invariant.within,
         );
         taken = subst (λ k. Appends held new (take k bytes)) (sym w.at-is) (
             one_piece_more held (g.W.Write.contents c.loop.writer) new bytes
-            (take (length bytes - at) (drop at bytes)) at w.in-Ok.count (rest_is at bytes)
+            (take (length bytes - at) (drop at bytes)) at w.in-Ok.count (take_rest bytes at)
             c.loop.invariant.taken w.in-Ok.ensures.bytes
             );
       }

@@ -7,7 +7,8 @@ use Rattle.clog_mutation.specs.Limits.{IsWithinLimits}
 use Rattle.clog_text.specs.FileMutations.{Refused, IsPartRead, joined, part_from}
 use Rattle.clog_text.proofs.FileReading.{within_none}
 use Rattle.clog_text.proofs.FileParts.{from_part, none_yet, part_more, all_parts_read}
-use Rattle.clog_text.proofs.FileParts.{part_refused, next_is_read, within_more, nothing_left}
+use Rattle.clog_text.proofs.FileParts.{part_refused, next_is_read, within_more}
+use Rattle.std.proofs.lemmas.List.{nil_from_length}
 use Rattle.clog_text.proofs.file.join_parts.Goals as goal
 
 pub loop-part-init : goal.loop-part-init
@@ -74,7 +75,7 @@ returns-in-Err-clause-reads c =
 pub returns-clause-reads : goal.returns-clause-reads
 returns-clause-reads c =
     let l = c.loop-part in
-    let empty = nothing_left l.part-iterator.rest.items
+    let empty = nil_from_length l.part-iterator.rest.items
     (sym l.invariant.count ∙ c.in-None.ensures.steps.0) in
     let all : length l.yielded ≡ length c.args.parts.items =
     sym (ap length (l.invariant.parts
