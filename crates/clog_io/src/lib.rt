@@ -5,6 +5,9 @@
 mod calls;
 mod clock;
 mod gate;
+#[cfg(test)]
+mod gate_tests;
+mod hold_gate;
 mod memory_sink;
 mod memory_source;
 mod reading;
@@ -14,6 +17,7 @@ mod source;
 pub use calls::FailingCalls;
 pub use clock::{Clock, FixedClock, ListClock, SystemClock};
 pub use gate::{Gate, OpenGate, Point};
+pub use hold_gate::HoldGate;
 pub use memory_sink::MemSink;
 pub use memory_source::MemSource;
 pub use reading::{ReadAllFault, read_all};
