@@ -3,9 +3,11 @@
 #![tactic(auto)]
 
 mod merged;
+mod replaying;
 mod restoring;
 mod skipping;
 mod taking;
 
 pub use merged::Merged;
+pub use replaying::replay;
 pub use restoring::{Counts, Restored, replay_alone};

@@ -4,7 +4,7 @@ ghost use Rattle.std.specs.List.{flat_map};
 ghost use Rattle.clog_cells.specs.Merge.{AreInOrder, IsMerge};
 ghost use Rattle.clog_crash.specs.Folder.{cells_of_tables};
 ghost use Rattle.clog_folder.specs.Folder.{payloads_of};
-ghost use Rattle.clog_folder.specs.Passing.{IsUntouched};
+ghost use Rattle.clog_folder.specs.Passing.{IsUntouched, TellsEach};
 ghost use Rattle.clog_folder.specs.Tables.{read_of};
 ghost use Rattle.replay_merge.specs.Restoring.{IsRestoredOf, Replays};
 ghost use Rattle.replay_merge.specs.Taking.{AreRanges};
@@ -111,6 +111,8 @@ pub fn replay_alone<D: Disk>(
         result }
     ensures keeps { IsUntouched D.files D.changes D.leaves D.moment D.since D.read_at
         D.faults disk.old disk.new }
+    // What is answered for another reason than the disk's has counted no fault of it.
+    ensures quiet { TellsEach (D.faults disk.old) (D.faults disk.new) result }
 {
     let folder = match read_folder(alloc, disk, ignore) {
         Ok(folder) => folder,
