@@ -3,6 +3,7 @@ use Rattle.std.proofs.Common.{
   ◌≡◌,
   ℕ,
   ◌+◌,
+  ◌*◌,
   ◌%◌,
   ◌^◌,
   ◌<◌,
@@ -29,7 +30,8 @@ use Rattle.std.proofs.lemmas.List.Folds.{list_all-append}
 use Rattle.std.proofs.lemmas.Bool.Decides.{nat_tests}
 use Rattle.std.proofs.lemmas.Fmt.{decimal_by_steps, length-decimal-le}
 use Rattle.clog_spec.specs.Names.{is_name, is_name_byte}
-use Rattle.clog_base.specs.NameText.{numbered, two_numbered}
+use Rattle.clog_spec.specs.Sizes.{longest_file_name}
+use Rattle.clog_base.specs.NameText.{most_digits, numbered, two_numbered}
 
 digit_is_name_byte : (d : ℕ) → d < 10 → is_name_byte (48 + d) ≡ true
 digit_is_name_byte d h = grind (arith, nat_tests)
@@ -49,15 +51,15 @@ digits_are n h =
 
 -- bytes of a name, few enough and not none, are a name
 is_name_by : (bytes : List ℕ) → list_all is_name_byte bytes ≡ true → 0 < length bytes
-    → length bytes ≤ 64 → is_name bytes ≡ true
+    → length bytes ≤ longest_file_name → is_name bytes ≡ true
 is_name_by bytes all some few = grind (arith, nat_tests)
 
-digits_few : (n : ℕ) → n < 2 ^ 64 → length (decimal n) ≤ 20
-digits_few n h = length-decimal-le 20 n (omega arith) (omega arith) h
+digits_few : (n : ℕ) → n < 2 ^ 64 → length (decimal n) ≤ most_digits
+digits_few n h = length-decimal-le most_digits n (omega arith) (omega arith) h
 
 pub numbered_is_name : (front : List ℕ) (n : ℕ) (back : List ℕ) → n < 2 ^ 64
     → list_all is_name_byte front ≡ true → list_all is_name_byte back ≡ true
-    → 0 < length front → length front + length back + 20 ≤ 64
+    → 0 < length front → length front + length back + most_digits ≤ longest_file_name
     → is_name (numbered front n back) ≡ true
 numbered_is_name front n back fits front_is back_is some few =
     let e : length (numbered front n back) ≡ length front + length (decimal n) + length back =
@@ -70,7 +72,7 @@ numbered_is_name front n back fits front_is back_is some few =
 
 pub two_numbered_is_name : (front : List ℕ) (m n : ℕ) (back : List ℕ) → m < 2 ^ 64 → n < 2 ^ 64
     → list_all is_name_byte front ≡ true → list_all is_name_byte back ≡ true
-    → 0 < length front → length front + length back + 41 ≤ 64
+    → 0 < length front → length front + length back + 2 * most_digits + 1 ≤ longest_file_name
     → is_name (two_numbered front m n back) ≡ true
 two_numbered_is_name front m n back fits_m fits_n front_is back_is some few =
     let dash : list_all is_name_byte (codes "-") ≡ true = refl in
@@ -90,5 +92,5 @@ two_numbered_is_name front m n back fits_m fits_n front_is back_is some few =
     back_is)
     (omega (arith, e)) (omega (arith, e, digits_few m fits_m, digits_few n fits_n))
 
-pub name_is_short : (bytes : List ℕ) → is_name bytes ≡ true → length bytes ≤ 64
+pub name_is_short : (bytes : List ℕ) → is_name bytes ≡ true → length bytes ≤ longest_file_name
 name_is_short bytes h = grind (arith, nat_tests)

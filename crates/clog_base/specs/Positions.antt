@@ -16,7 +16,6 @@ use Rattle.std.specs.Prelude.{
   ◌||◌,
   ◌==◌,
   nat_lt,
-  nat_le,
 }
 use Rattle.clog_base.specs.declared.position.Position.{Position}
 
@@ -31,10 +30,6 @@ IsUpTo a b = (a.id < b.id) ⊎ ((a.id ≡ b.id) × (a.offset ≤ b.offset))
 -- whether a stands before b
 abbrev pub is_below : Position → Position → Bool
 is_below a b = nat_lt a.id b.id || (a.id == b.id && nat_lt a.offset b.offset)
-
--- whether a stands before b, or is b
-abbrev pub is_up_to : Position → Position → Bool
-is_up_to a b = nat_lt a.id b.id || (a.id == b.id && nat_le a.offset b.offset)
 
 -- ---- keys: an ordinal counts segments, and offsets are below 2^31
 

@@ -15,6 +15,12 @@ use crate::format::MOST_TABLES;
 use crate::name::Name;
 use crate::name_reading::{between, number_of, two_numbers_of};
 
+/// The greatest id of a segment, and the greatest sequence of a table file.
+const GREATEST_ID: u64 = (1 << 63) - 1;
+
+/// The greatest version of a segment's format.
+const GREATEST_VERSION: u64 = (1 << 32) - 1;
+
 /// The version and the id in a segment's name.
 #[derive(Clone, Copy, Debug, PartialEq, Eq)]
 pub struct SegmentName {
@@ -35,7 +41,7 @@ pub fn parse_segment_name(name: &Name) -> Option<SegmentName>
     let Some((version, id)) = two_numbers_of(middle) else {
         return None;
     };
-    if version > 0xffff_ffff || id > 0x7fff_ffff_ffff_ffff {
+    if version > GREATEST_VERSION || id > GREATEST_ID {
         return None;
     }
     Some(SegmentName {
@@ -54,7 +60,7 @@ pub fn parse_archive_name(name: &Name) -> Option<u64>
     let Some(id) = number_of(middle) else {
         return None;
     };
-    if id > 0x7fff_ffff_ffff_ffff {
+    if id > GREATEST_ID {
         return None;
     }
     Some(id)
@@ -71,7 +77,7 @@ pub fn parse_table_name(name: &Name) -> Option<(Table, u64)>
     let Some((table, sequence)) = two_numbers_of(middle) else {
         return None;
     };
-    if table >= u64::from(MOST_TABLES) || sequence == 0 || sequence > 0x7fff_ffff_ffff_ffff {
+    if table >= u64::from(MOST_TABLES) || sequence == 0 || sequence > GREATEST_ID {
         return None;
     }
     Some((Table(table as u8), sequence))

@@ -1,3 +1,4 @@
+pub mod AppendedParts
 pub mod Texts
 pub mod Values
 pub mod Readers

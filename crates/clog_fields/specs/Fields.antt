@@ -1,5 +1,5 @@
--- The bytes of a field. Numbers are big endian.
-use Rattle.std.specs.Prelude.{ℕ, ℤ, List, [], ◌∷◌, ◌++◌, length}
+-- The bytes of a field, and what a refused write leaves of them. Numbers are big endian.
+use Rattle.std.specs.Prelude.{◌≡◌, ℕ, ℤ, List, [], ◌∷◌, ◌++◌, length}
 use Rattle.std.specs.Int.{w16, w32, w64, to_be_bytes, cast_unsigned}
 use Rattle.clog_base.specs.declared.cell.Kind.{Kind}
 use Rattle.clog_base.specs.declared.cell.Kind.TheVariants.{Deletion, Live}
@@ -16,3 +16,10 @@ timestamp_bytes ts = to_be_bytes w64 (cast_unsigned w64 ts)
 abbrev pub tagged : Kind → List ℕ → List ℕ
 tagged Deletion value = 0 ∷ []
 tagged Live value = 1 ∷ (to_be_bytes w32 (length value) ++ value)
+
+-- A first part of the bytes stands behind the old ones: none of them, some, or all.
+pub record AppendsPart (old new bytes : List ℕ) : Type 0 where
+  pub part : List ℕ
+  pub rest : List ℕ
+  pub parts : bytes ≡ part ++ rest
+  pub appended : new ≡ old ++ part

@@ -5,6 +5,5 @@
 mod reading;
 mod writing;
 
-pub use clog_base::PayloadFault;
 pub use reading::{byte, name, place, short_number, timestamp, value};
 pub use writing::{put_name, put_timestamp, put_value, value_size};

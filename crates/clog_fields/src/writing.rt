@@ -1,9 +1,10 @@
 //! Fields are appended to what is there. What is written can be read back: it is within the limits,
-//! and its texts are UTF-8.
-ghost use Rattle.std.specs.Prelude.{◌≡◌, ◌<◌, ◌^◌, ◌++◌, length, OnOk, IsUtf8, FitsSigned};
+//! and its texts are UTF-8. For want of memory a first part of a field may stand behind what was
+//! there.
+ghost use Rattle.std.specs.Prelude.{◌≡◌, ◌<◌, ◌^◌, ◌++◌, length, OnOk, OnErr, IsUtf8, FitsSigned};
 ghost use Rattle.std.specs.Int.{w64};
 ghost use Rattle.clog_fields.specs.Limits.{IsNameLength, IsValueSize, IsNameText, IsStoredValue};
-ghost use Rattle.clog_fields.specs.Fields.{short_text, timestamp_bytes, tagged};
+ghost use Rattle.clog_fields.specs.Fields.{short_text, timestamp_bytes, tagged, AppendsPart};
 
 use clog_base::{Kind, OutOfMemory, Text};
 
@@ -21,16 +22,18 @@ pub fn put_name(out: &mut Vec<u8>, name: &Text) -> Result<(), OutOfMemory>
     requires { IsNameLength (length name.now) }
     ensures bytes { OnOk result (out.new.items ≡ out.old.items ++ short_text name.now) }
     ensures stored { OnOk result (IsNameText name.now) }
+    ensures err { OnErr result (AppendsPart out.old.items out.new.items (short_text name.now)) }
 {
     out.extend_from_slice(&(name.len() as u16).to_be_bytes())?;
     Ok(out.extend_from_slice(bytes_of(name))?)
 }
 
-/// Appends a timestamp, eight bytes.
+/// Appends a timestamp, eight bytes. For want of memory nothing was appended.
 #[inline]
 pub fn put_timestamp(out: &mut Vec<u8>, ts: i64) -> Result<(), OutOfMemory>
     ensures bytes { OnOk result (out.new.items ≡ out.old.items ++ timestamp_bytes ts) }
     ensures stored { FitsSigned w64 ts }
+    ensures err { OnErr result (out.new.items ≡ out.old.items) }
 {
     Ok(out.extend_from_slice(&ts.to_be_bytes())?)
 }
@@ -42,6 +45,8 @@ pub fn put_value(out: &mut Vec<u8>, kind: Kind, value: &Text) -> Result<(), OutO
     requires { IsValueSize kind value.now }
     ensures bytes { OnOk result (out.new.items ≡ out.old.items ++ tagged kind value.now) }
     ensures stored { OnOk result (IsStoredValue kind value.now) }
+    ensures err { OnErr result
+        (AppendsPart out.old.items out.new.items (tagged kind value.now)) }
 {
     match kind {
         Kind::Deletion => Ok(out.push(0)?),

@@ -6,7 +6,6 @@ mod mutation;
 mod reading;
 mod writing;
 
-pub use clog_base::PayloadFault;
 pub use laws::payload_laws;
 pub use mutation::{Mutation, Mutations, Update, Updates};
 pub use reading::decode;

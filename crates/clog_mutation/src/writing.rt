@@ -1,5 +1,5 @@
 //! The bytes of a mutation's payload: its size, computed first, and the writing.
-ghost use Rattle.std.specs.Prelude.{◌≡◌, ◌≤◌, ◌<◌, ◌^◌, ◌+◌, ◌++◌, length, OnOk, IfOk};
+ghost use Rattle.std.specs.Prelude.{◌≡◌, ◌≤◌, ◌<◌, ◌^◌, ◌+◌, ◌++◌, length, OnOk, OnErr, IfOk};
 ghost use Rattle.std.specs.List.{flat_map, AllByRecursion};
 ghost use Rattle.clog_mutation.specs.Limits.{
   IsWithinLimits,
@@ -11,6 +11,7 @@ ghost use Rattle.clog_mutation.specs.Stored.{
   IsPayload,
 };
 ghost use Rattle.clog_mutation.specs.Payload.{update_bytes, payload_of};
+ghost use Rattle.clog_fields.specs.Fields.{AppendsPart};
 
 use crate::mutation::{Mutation, Update};
 use clog_base::OutOfMemory;
@@ -22,6 +23,8 @@ fn put_update(out: &mut Vec<u8>, update: &Update) -> Result<(), OutOfMemory>
     requires size { length (update_bytes update.now) < 2 ^ 32 }
     ensures bytes { OnOk result (out.new.items ≡ out.old.items ++ update_bytes update.now) }
     ensures stored { OnOk result (IsStoredUpdate update.now) }
+    ensures err { OnErr result
+        (AppendsPart out.old.items out.new.items (update_bytes update.now)) }
 {
     out.push(update.table.0)?;
     put_name(out, &update.column)?;
@@ -35,6 +38,8 @@ fn put_updates(out: &mut Vec<u8>, updates: &[Update]) -> Result<(), OutOfMemory>
     ensures bytes { OnOk result
         (out.new.items ≡ out.old.items ++ flat_map update_bytes updates.now) }
     ensures stored { OnOk result (AllByRecursion IsStoredUpdate updates.now) }
+    ensures err { OnErr result
+        (AppendsPart out.old.items out.new.items (flat_map update_bytes updates.now)) }
 {
     for update in updates {
         put_update(out, update)?;
@@ -43,13 +48,15 @@ fn put_updates(out: &mut Vec<u8>, updates: &[Update]) -> Result<(), OutOfMemory>
 }
 
 /// Appends the payload of a mutation, `payload_size` bytes. For want of memory a first part of the
-/// payload may stand behind what was there.
+/// payload stands behind what was there, which may be none of it.
 pub fn put_mutation(out: &mut Vec<u8>, mutation: &Mutation) -> Result<(), OutOfMemory>
     requires limits { IsWithinLimits mutation.now }
     requires size { length (payload_of mutation.now) ≤ 2 ^ 30 }
     ensures bytes { OnOk result (out.new.items ≡ out.old.items ++ payload_of mutation.now) }
     // What was appended is a payload: what `decode` reads back.
     ensures payload { OnOk result (IsPayload (payload_of mutation.now) mutation.now) }
+    ensures err { OnErr result
+        (AppendsPart out.old.items out.new.items (payload_of mutation.now)) }
 {
     put_name(out, &mutation.key)?;
     let updates = mutation.updates.as_slice();

@@ -67,6 +67,7 @@ use Rattle.clog_table.specs.RawFields.{pair_of}
 use Rattle.clog_table.specs.Heads.{BeginsWithHead, HasHead, IsStoredHead, head_at}
 use Rattle.clog_table.specs.Cells.{HasCells, BeginsWithNoCell, BeginsWithCell}
 use Rattle.clog_table.specs.Refusals.{IsFileOf, HasAllCells, Refuses, Decodes, IsUnlessMemory}
+use Rattle.clog_fields.proofs.Values.{stored_size}
 use Rattle.clog_table.proofs.Numbers.{four_once}
 use Rattle.clog_table.proofs.HeadParts.{head_is_long}
 use Rattle.clog_table.proofs.Grammar.{parts, cell_again, pair_of-parts}
@@ -109,7 +110,7 @@ one_cell table a b x y p q e =
     (sym (pair_of-parts table a p) ∙ ap (pair_of table) same.0 ∙ pair_of-parts table b q, same.1)
 
 -- the cells are a front and later ones, and the rest behind the front spells these
-pub record IsFront (table : Table) (cells front : Pairs) (tail rest : List ℕ) : Type 0 where
+pub record IsFrontOfCells (table : Table) (cells front : Pairs) (tail rest : List ℕ) : Type 0 where
   pub later : Pairs
   pub joined : cells ≡ front ++ later
   pub spelled : rest ≡ cells_bytes later ++ tail
@@ -118,7 +119,7 @@ pub record IsFront (table : Table) (cells front : Pairs) (tail rest : List ℕ) 
 pub front_of : (table : Table) (cells front : Pairs) (tail rest : List ℕ)
     → AllByRecursion (IsStoredCell table) cells → AllByRecursion (IsStoredCell table) front
     → length front ≤ length cells → cells_bytes cells ++ tail ≡ cells_bytes front ++ rest
-    → IsFront table cells front tail rest
+    → IsFrontOfCells table cells front tail rest
 front_of table cells [] tail rest p q few e =
     record { later = cells; joined = refl; spelled = sym e; stored = p }
 front_of table [] (f ∷ fs) tail rest p q few e = absurd (omega arith)
@@ -140,7 +141,7 @@ no_items [] e = refl
 no_items (x ∷ xs) e = absurd (omega arith)
 
 nothing_later : (table : Table) (cells front : Pairs) (tail rest : List ℕ)
-    (f : IsFront table cells front tail rest) → length front ≡ length cells → f.later ≡ []
+    (f : IsFrontOfCells table cells front tail rest) → length front ≡ length cells → f.later ≡ []
 nothing_later table cells front tail rest f same = no_items f.later (
     let e : length cells ≡ length front + length f.later =
     ap (λ (l : Pairs). length l) f.joined ∙ length-append front f.later in
@@ -171,7 +172,7 @@ module _ (table : Table) (bytes : List ℕ) (file : TableFile) (f : IsFileOf tab
 
   front : (head : Head) (cells : Pairs) (rest : List ℕ) → HasHead table bytes head
       → HasCells table head.count (behind_head bytes) cells rest
-      → (length file.cells ≡ head.count) × IsFront table file.cells cells
+      → (length file.cells ≡ head.count) × IsFrontOfCells table file.cells cells
       (check_bytes (cells_bytes file.cells)) rest
   front head cells rest has h =
       let heads : head_of file ≡ head = one_head bytes (head_of file) head begins has.begins in
@@ -312,7 +313,17 @@ one_table_file table bytes file other a b = one_file table bytes file a other b
 limits_of : (table : Table) (cells : Pairs) → AllByRecursion (IsStoredCell table) cells
     → AllByRecursion (IsWithinLimits table) cells
 limits_of table [] h = tt
-limits_of table (cell ∷ cells) h = (h.0.limits, limits_of table cells h.1)
+limits_of table (cell ∷ cells) h = (
+  record {
+    same_table = h.0.same_table;
+    sizes = record {
+      key = h.0.key.size;
+      column = h.0.column.size;
+      value = stored_size cell.1.kind cell.1.value h.0.value;
+    };
+  },
+  limits_of table cells h.1,
+)
 
 -- what is decoded can be written
 pub can_be_written : (table : Table) (bytes : List ℕ) (answer : Result TableFile TableFault)

@@ -49,8 +49,8 @@ use Rattle.clog_table.specs.Format.{
 use Rattle.clog_table.specs.Limits.{IsStoredCell}
 use Rattle.clog_table.specs.Heads.{HasHead}
 use Rattle.clog_table.specs.Cells.{HasCells}
+use Rattle.clog_fields.specs.Refusals.{place}
 use Rattle.clog_table.specs.Refusals.{
-  place,
   cells_text,
   HasAllCells,
   IsFileOf,
@@ -87,19 +87,19 @@ module _ (table : Table) (bytes : List ℕ) (head : Head) (cells : Pairs) (rest 
 
   pub text_is : cells_text bytes rest ≡ cells_bytes cells
   text_is =
-      let n : length (head_bytes head ++ cells_bytes cells) ≡ place bytes rest =
+      let n : length (head_bytes head ++ cells_bytes cells) ≡ place (length bytes) rest =
       (let e : length bytes ≡ length (head_bytes head ++ cells_bytes cells) + length rest =
       ap (λ (l : List ℕ). length l) spelled
       ∙ length-append (head_bytes head ++ cells_bytes cells) rest in omega arith) in
-      let t : take (place bytes rest) bytes ≡ head_bytes head ++ cells_bytes cells =
-      ap (take (place bytes rest)) spelled
-      ∙ take_at (head_bytes head ++ cells_bytes cells) rest (place bytes rest) n in
+      let t : take (place (length bytes) rest) bytes ≡ head_bytes head ++ cells_bytes cells =
+      ap (take (place (length bytes) rest)) spelled
+      ∙ take_at (head_bytes head ++ cells_bytes cells) rest (place (length bytes) rest) n in
       ap behind_head t ∙ (let b : behind_head (head_bytes head ++ cells_bytes cells)
       ≡ cells_bytes cells = refl in b)
 
   -- why the end is refused is why the bytes are
   pub end_refused : (fault : TableFault)
-      → RefusesEnd (cells_bytes cells) rest (place bytes rest) fault
+      → RefusesEnd (cells_bytes cells) rest (place (length bytes) rest) fault
       → Refuses table bytes fault
   end_refused Short h = inr (record {
     head = head;
@@ -125,9 +125,9 @@ module _ (table : Table) (bytes : List ℕ) (head : Head) (cells : Pairs) (rest 
   end_refused Interval h = absurd h
 
   pub refused_at_end : (fault : TableFault)
-      → RefusesEnd (cells_text bytes rest) rest (place bytes rest) fault → Refuses table bytes fault
+      → RefusesEnd (cells_text bytes rest) rest (place (length bytes) rest) fault → Refuses table bytes fault
   refused_at_end fault h =
-      end_refused fault (subst (λ (l : List ℕ). RefusesEnd l rest (place bytes rest) fault)
+      end_refused fault (subst (λ (l : List ℕ). RefusesEnd l rest (place (length bytes) rest) fault)
       text_is h)
 
   -- the head is that of the file

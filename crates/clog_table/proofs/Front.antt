@@ -41,7 +41,8 @@ use Rattle.clog_table.specs.declared.fault.TableFault.TheVariants.{
 use Rattle.clog_table.specs.Format.{cell_bytes, cells_bytes}
 use Rattle.clog_table.specs.Limits.{IsStoredCell}
 use Rattle.clog_table.specs.Cells.{HasCells}
-use Rattle.clog_table.specs.Refusals.{place, IsTaken, RefusesCell, RefusesCells}
+use Rattle.clog_fields.specs.Refusals.{place}
+use Rattle.clog_table.specs.Refusals.{IsTaken, RefusesCell, RefusesCells}
 use Rattle.clog_table.proofs.Keys.{Pairs}
 use Rattle.clog_cells.proofs.InOrder.{nothing_in_order}
 
@@ -107,7 +108,7 @@ rest_within table count bytes cells rest front =
 pub refused_here : (file : List ℕ) (table : Table) (count : ℕ) (bytes : List ℕ) (cells : Pairs)
     (rest : List ℕ) (fault : TableFault)
     → HasCells table count bytes cells rest → length cells < count
-    → RefusesCell table (place file rest) cells rest fault
+    → RefusesCell table (place (length file) rest) cells rest fault
     → RefusesCells file table count bytes fault
 refused_here file table count bytes cells rest (NoCell at) front wanted h = (
   rest,

@@ -8,7 +8,6 @@ use Rattle.clog_base.specs.declared.fault.PayloadFault.{PayloadFault}
 use Rattle.clog_fields.specs.Limits.{IsNameText}
 use Rattle.clog_fields.specs.Refusals.{Refusing, Either, IsRefusedBehind, NameIsRefused}
 use Rattle.clog_fields.specs.Reading.{both_of, name_at, ts_at, tagged_at}
-use Rattle.clog_fields.proofs.Values.{stored_size, value_is_text, size_and_text}
 use Rattle.clog_fields.proofs.Readers.{IsReader, both_reader}
 use Rattle.clog_fields.proofs.Grammar.{name_reader, tagged_bytes}
 use Rattle.clog_fields.proofs.Columns.{spell_column, good_column, refuses_column, column_reader}
@@ -56,18 +55,11 @@ cell_takes end table bytes rest x fits e =
     let t = (fields_reader end).takes bytes rest x fits e in (
       t.0 ∙ sym (cell_bytes-are table x rest),
       record {
-        limits = record {
-          same_table = refl;
-          sizes = record {
-            key = t.1.0.size;
-            column = t.1.1.0.size;
-            value = stored_size x.1.1.1.0 x.1.1.1.1 t.1.1.1.1;
-          };
-        };
-        key = t.1.0.utf8;
-        column = t.1.1.0.utf8;
+        same_table = refl;
+        key = t.1.0;
+        column = t.1.1.0;
         ts = t.1.1.1.0;
-        value = value_is_text x.1.1.1.0 x.1.1.1.1 t.1.1.1.1;
+        value = t.1.1.1.1;
       },
     )
 
@@ -76,13 +68,7 @@ pub cell_again : (end : ℕ) (table : Table) (pair : CellKey × Cell) (rest : Li
     → IsStoredCell table pair → cell_at end (cell_bytes pair ++ rest) ≡ Ok (parts pair, rest)
 cell_again end table pair rest h =
     ap (cell_at end) (cell_bytes-are pair.0.table (parts pair) rest)
-    ∙ (fields_reader end).again rest (parts pair) (
-      record { size = h.limits.sizes.key; utf8 = h.key },
-      (
-        record { size = h.limits.sizes.column; utf8 = h.column },
-        (h.ts, size_and_text pair.1.kind pair.1.value h.limits.sizes.value h.value),
-      ),
-    )
+    ∙ (fields_reader end).again rest (parts pair) (h.key, (h.column, (h.ts, h.value)))
 
 -- where reading is refused, none stands there
 pub no_cell : (end : ℕ) (table : Table) (bytes : List ℕ) (fault : PayloadFault)
@@ -97,4 +83,4 @@ no_cell end table bytes fault e pair behind stored spelled =
 pub pair_of-parts : (table : Table) (pair : CellKey × Cell) → IsStoredCell table pair
     → pair_of table (parts pair) ≡ pair
 pair_of-parts table pair h =
-    ap (λ (t : Table). pair_of t (parts pair)) (sym h.limits.same_table)
+    ap (λ (t : Table). pair_of t (parts pair)) (sym h.same_table)

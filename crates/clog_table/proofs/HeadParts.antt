@@ -32,7 +32,7 @@ use Rattle.std.proofs.lemmas.Bool.{eqb-true, ltb-true}
 use Rattle.clog_base.specs.declared.cell.Table.{Table}
 use Rattle.clog_spec.specs.Crc.{IsBytes}
 use Rattle.clog_spec.proofs.Bytes.{drop-IsBytes}
-use Rattle.clog_base.specs.declared.position.Position.{Position}
+use Rattle.clog_spec.specs.Sizes.{most_tables}
 use Rattle.clog_table.specs.declared.head.Head.{Head}
 use Rattle.clog_table.specs.Format.{
   position_bytes,
@@ -42,13 +42,7 @@ use Rattle.clog_table.specs.Format.{
   check_bytes,
   head_front_size,
 }
-use Rattle.clog_table.specs.Limits.{
-  IsStoredPosition,
-  IsUpTo,
-  is_up_to,
-  IsThisTable,
-  is_this_table,
-}
+use Rattle.clog_table.specs.Limits.{IsStoredPosition, IsThisTable, is_this_table}
 use Rattle.clog_table.specs.Heads.{BeginsWithHead, position_at, head_at}
 use Rattle.clog_table.proofs.Numbers.{
   four_spelled,
@@ -167,18 +161,12 @@ both_of false b e = absurd cc
 
 pub this_table : (a b : Table) → true ≡ is_this_table a b → IsThisTable a b
 this_table a b e =
-    let both = both_of (nat_lt a.0 16) (a.0 == b.0) e in
+    let both = both_of (nat_lt a.0 most_tables) (a.0 == b.0) e in
     let same : a.0 ≡ b.0 = eqb-true a.0 b.0 both.1 in
-    (ltb-true a.0 16 both.0, λ i. record { 0 = same i })
+    (ltb-true a.0 most_tables both.0, λ i. record { 0 = same i })
 
 pub other_table : (a b : Table) → false ≡ is_this_table a b → IsThisTable a b → ⊥
 other_table a b e h =
     let same : a.0 ≡ b.0 = ap (λ (t : Table). t.0) h.1 in
-    let known : a.0 < 16 = h.0 in
+    let known : a.0 < most_tables = h.0 in
     grind (arith, nat_tests)
-
-pub is_up_to-true : (a b : Position) → true ≡ is_up_to a b → IsUpTo a b
-is_up_to-true a b e = grind (arith, nat_tests)
-
-pub is_up_to-false : (a b : Position) → false ≡ is_up_to a b → IsUpTo a b → ⊥
-is_up_to-false a b e h = grind (arith, nat_tests)

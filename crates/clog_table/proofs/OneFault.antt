@@ -62,7 +62,8 @@ use Rattle.clog_table.specs.Format.{
 use Rattle.clog_table.specs.Limits.{IsThisTable, IsUpTo}
 use Rattle.clog_table.specs.Heads.{BeginsWithHead, HasHead, HasVersion, RefusesHead, head_at}
 use Rattle.clog_table.specs.Cells.{BeginsWithNoCell}
-use Rattle.clog_table.specs.Refusals.{place, HasAllCells, Refuses, Decodes}
+use Rattle.clog_fields.specs.Refusals.{place}
+use Rattle.clog_table.specs.Refusals.{HasAllCells, Refuses, Decodes}
 use Rattle.clog_table.specs.Refusals.{IsFaultUnlessMemory}
 use Rattle.clog_table.proofs.Numbers.{four_at, four_once}
 use Rattle.clog_table.proofs.HeadParts.{head_is_long}
@@ -239,7 +240,7 @@ stop_fault at (suc (suc (suc (suc n)))) = Trailing (at + 4)
 record Names (table : Table) (bytes : List ℕ) (fault : TableFault) (s : Stop) : Type 0 where
   pub rule : ℕ
   pub first : IsFirst (stop_rules table s) rule
-  pub named : fault ≡ stop_fault (place bytes s.1.1) rule
+  pub named : fault ≡ stop_fault (place (length bytes) s.1.1) rule
 
 record StopSays (table : Table) (bytes : List ℕ) (fault : TableFault) : Type 0 where
   pub head : Head
@@ -368,7 +369,7 @@ same_name : (table : Table) (bytes : List ℕ) (fault other : TableFault) (s : S
     → Names table bytes fault s → Names table bytes other s → fault ≡ other
 same_name table bytes fault other s p q =
     p.named
-    ∙ ap (stop_fault (place bytes s.1.1))
+    ∙ ap (stop_fault (place (length bytes) s.1.1))
     (one_first (stop_rules table s) p.rule q.rule p.first q.first)
     ∙ sym q.named
 

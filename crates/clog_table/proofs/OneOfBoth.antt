@@ -70,15 +70,16 @@ use Rattle.clog_table.specs.Format.{
   file_of,
   head_front_size,
 }
-use Rattle.clog_table.specs.Limits.{IsThisTable, is_this_table, IsUpTo, is_up_to}
+use Rattle.clog_table.specs.Limits.{IsThisTable, is_this_table, IsUpTo}
 use Rattle.clog_table.specs.Reading.{Fields, cell_at}
 use Rattle.clog_table.specs.RawFields.{pair_of}
 use Rattle.clog_table.specs.Heads.{HasHead, head_at, BeginsWithHead}
 use Rattle.clog_table.specs.Cells.{HasCells, BeginsWithCell, IsAbove}
-use Rattle.clog_table.specs.Refusals.{place, RefusesCells, RefusesEnd, Refuses, IsFileOf}
+use Rattle.clog_fields.specs.Refusals.{place}
+use Rattle.clog_table.specs.Refusals.{RefusesCells, RefusesEnd, Refuses, IsFileOf}
 use Rattle.clog_table.proofs.Numbers.{four_spelled, four_below}
 use Rattle.clog_table.proofs.HeadParts.{begins_with, this_table, other_table}
-use Rattle.clog_table.proofs.HeadParts.{is_up_to-true, is_up_to-false}
+use Rattle.clog_base.proofs.PositionOrder.{below_or_up_to, not_both}
 use Rattle.clog_table.proofs.Grammar.{no_cell, cell_takes}
 use Rattle.clog_table.proofs.Keys.{Pairs, order_goes_on, last_is_above}
 use Rattle.clog_table.proofs.Front.{no_cells, one_more, length_push, refused_here}
@@ -114,9 +115,11 @@ table_or : (found table : Table) (b : Bool) → b ≡ is_this_table found table
 table_or found table true e = inl (this_table found table e)
 table_or found table false e = inr (other_table found table e)
 
-interval_or : (a b : Position) (r : Bool) → r ≡ is_up_to a b → IsUpTo a b ⊎ (¬ IsUpTo a b)
-interval_or a b true e = inl (is_up_to-true a b e)
-interval_or a b false e = inr (is_up_to-false a b e)
+interval_or : (a b : Position) → IsUpTo a b ⊎ (¬ IsUpTo a b)
+interval_or a b = elim (below_or_up_to b a) [
+  | inl turned ↦ inr (not_both b a turned)
+  | inr ordered ↦ inl ordered
+]
 
 above_by : (row : CellKey × Cell) (rows : Pairs) (key : CellKey) (r : Ordering)
     → key_cmp row.0 key ≡ r → IsAbove rows key ⊎ (¬ IsAbove rows key)
@@ -177,8 +180,7 @@ by_head table bytes fits = elim (below_or (length bytes) head_size) [
                       },
                     ))
                     | inl this ↦
-                        elim (interval_or head.lower head.upper (is_up_to head.lower head.upper)
-                        refl) [
+                        elim (interval_or head.lower head.upper) [
                           | inr turned ↦ inl (inr (
                             Interval,
                             (λ e. cc e),
@@ -215,7 +217,7 @@ module _ (table : Table) (bytes : List ℕ) (head : Head) (has : HasHead table b
   ended : (cells : Pairs) (rest : List ℕ)
       → HasCells head.table head.count (behind_head bytes) cells rest
       → length cells ≡ head.count → (fault : TableFault) → fault ≢ OutOfMemory
-      → RefusesEnd (cells_bytes cells) rest (place bytes rest) fault → Verdict table bytes
+      → RefusesEnd (cells_bytes cells) rest (place (length bytes) rest) fault → Verdict table bytes
   ended cells rest front all fault known h =
       inr (fault, known, end_refused table bytes head cells rest has front all fault h)
 
@@ -228,7 +230,7 @@ module _ (table : Table) (bytes : List ℕ) (head : Head) (has : HasHead table b
         elim (decided _ (bytes_eq-Decides (take 4 rest) (check_bytes (cells_bytes cells)))) [
           | inr wrong ↦ ended cells rest front all CellsCheck (λ e. cc e) (long, wrong)
           | inl right ↦ elim (below_or 4 (length rest)) [
-            | inl more ↦ ended cells rest front all (Trailing (place bytes rest + 4)) (λ e. cc e)
+            | inl more ↦ ended cells rest front all (Trailing (place (length bytes) rest + 4)) (λ e. cc e)
                 (right, more, refl)
             | inr whole ↦
                 let text = text_is table bytes head cells rest has front all in
@@ -254,9 +256,9 @@ module _ (table : Table) (bytes : List ℕ) (head : Head) (has : HasHead table b
   by_cell n cells rest front fits count again (Err fault) e =
       let wanted : length cells < head.count = omega (arith, count) in
       let none = no_cell (length rest) head.table rest fault e in
-      refused (NoCell (place bytes rest)) (known_cell (place bytes rest))
+      refused (NoCell (place (length bytes) rest)) (known_cell (place (length bytes) rest))
       (refused_here bytes head.table head.count (behind_head bytes) cells rest
-      (NoCell (place bytes rest)) front wanted (refl, none))
+      (NoCell (place (length bytes) rest)) front wanted (refl, none))
   by_cell n cells rest front fits count again (Ok x) e =
       let wanted : length cells < head.count = omega (arith, count) in
       let t = cell_takes (length rest) head.table rest x.1 x.0 fits e in
@@ -276,9 +278,9 @@ module _ (table : Table) (bytes : List ℕ) (head : Head) (has : HasHead table b
             }))
             (back-IsBytes (cell_bytes pair) x.1 (subst IsBytes t.0 fits))
             (omega (arith, count, length_push cells pair))
-        | inr not ↦ refused (Order (place bytes rest)) (known_order (place bytes rest))
+        | inr not ↦ refused (Order (place (length bytes) rest)) (known_order (place (length bytes) rest))
             (refused_here bytes head.table head.count (behind_head bytes) cells rest
-            (Order (place bytes rest)) front wanted (
+            (Order (place (length bytes) rest)) front wanted (
               refl,
               record {
                 next = pair;

@@ -48,7 +48,7 @@ NextCell last at bytes (Err fault) = (table : Table) (cells : List (CellKey × C
     → AreInOrder cells → EndsWith table cells last → RefusesCell table at cells bytes fault
 
 -- so many cells are read, and end so
-pub record HasRead (table : Table) (count : ℕ) (bytes : List ℕ) (number : ℕ)
+pub record HasReadCells (table : Table) (count : ℕ) (bytes : List ℕ) (number : ℕ)
     (last : Option Fields) (rest : List ℕ) : Type 0 where
   pub cells : List (CellKey × Cell)
   pub front : HasCells table count bytes cells rest

@@ -1,7 +1,8 @@
 -- What a table file can hold. Lengths are in bytes.
-pub use Rattle.clog_base.specs.Positions.{IsUpTo, is_up_to}
+pub use Rattle.clog_base.specs.Positions.{IsUpTo}
 pub use Rattle.clog_fields.specs.Limits.{IsNameLength, IsValueSize}
-use Rattle.std.specs.Prelude.{◌≡◌, ℕ, ◌<◌, ◌^◌, List, length, IsUtf8, FitsSigned}
+use Rattle.clog_fields.specs.Limits.{IsNameText, IsStoredValue}
+use Rattle.std.specs.Prelude.{◌≡◌, ℕ, ◌<◌, ◌^◌, List, length, FitsSigned}
 use Rattle.std.specs.Prelude.{Bool, ◌&&◌, ◌==◌, nat_lt}
 use Rattle.std.specs.List.{AllByRecursion}
 use Rattle.std.specs.Int.{w64}
@@ -43,13 +44,14 @@ pub record IsWritable (file : TableFile) : Type 0 where
   pub interval : IsUpTo file.lower file.upper
   pub cells : AllByRecursion (IsWithinLimits file.table) file.cells
 
--- a cell as it stands in a file: within the limits, texts in UTF-8, a timestamp of 64 bits
+-- a cell of this table as it stands in a file: texts within the limits and in UTF-8, a timestamp
+-- of eight bytes
 pub record IsStoredCell (table : Table) (pair : CellKey × Cell) : Type 0 where
-  pub limits : IsWithinLimits table pair
-  pub key : IsUtf8 pair.0.key
-  pub column : IsUtf8 pair.0.column
+  pub same_table : pair.0.table ≡ table
+  pub key : IsNameText pair.0.key
+  pub column : IsNameText pair.0.column
   pub ts : FitsSigned w64 pair.1.ts
-  pub value : IsUtf8 pair.1.value
+  pub value : IsStoredValue pair.1.kind pair.1.value
 
 -- the numbers of a position fit their bytes
 pub record IsStoredPosition (at : Position) : Type 0 where

@@ -1,26 +1,12 @@
 -- What bytes decode to: the table file whose one spelling they are, or the first rule that they
 -- break.
-use Rattle.std.specs.Prelude.{
-  ◌≡◌,
-  ◌≢◌,
-  ℕ,
-  ◌+◌,
-  ◌-◌,
-  ◌<◌,
-  ◌≤◌,
-  ◌⊎◌,
-  List,
-  [],
-  ◌∷◌,
-  ◌++◌,
-  length,
-  take,
-}
+use Rattle.std.specs.Prelude.{◌≡◌, ◌≢◌, ℕ, ◌+◌, ◌<◌, ◌≤◌, ◌⊎◌, List, [], ◌∷◌, ◌++◌, length, take}
 use Rattle.std.specs.Prelude.{Result, Ok, Err, ⊤}
 use Rattle.std.specs.Borrow.{Bor}
 use Rattle.clog_base.specs.declared.cell.Cell.{Cell}
 use Rattle.clog_base.specs.declared.cell.CellKey.{CellKey}
 use Rattle.clog_base.specs.declared.cell.Table.{Table}
+use Rattle.clog_fields.specs.Refusals.{place}
 use Rattle.clog_cells.specs.Merge.{AreInOrder}
 use Rattle.clog_table.specs.declared.table_file.TableFile.{TableFile}
 use Rattle.clog_table.specs.declared.fault.TableFault.{TableFault}
@@ -40,10 +26,6 @@ use Rattle.clog_table.specs.Format.{cells_bytes, check_bytes, behind_head, table
 use Rattle.clog_table.specs.Limits.{IsTableFile}
 use Rattle.clog_table.specs.Heads.{RefusesHead, BehindHead}
 use Rattle.clog_table.specs.Cells.{HasCells, BeginsWithNoCell, BeginsWithCell}
-
--- where the rest of bytes begins
-abbrev pub place : List ℕ → List ℕ → ℕ
-place bytes rest = length bytes - length rest
 
 -- ---- of the cells: the bytes are those behind the head
 
@@ -95,9 +77,9 @@ pub record HasTrailing (table : Table) (count : ℕ) (bytes rest : List ℕ) : T
 -- Why not all cells are read. Offsets are those of the whole file.
 abbrev pub RefusesCells : List ℕ → Table → ℕ → List ℕ → TableFault → Type 0
 RefusesCells file table count bytes (NoCell at) =
-    (rest : List ℕ) × HasNoCell table count bytes rest × (at ≡ place file rest)
+    (rest : List ℕ) × HasNoCell table count bytes rest × (at ≡ place (length file) rest)
 RefusesCells file table count bytes (Order at) =
-    (rest : List ℕ) × HasDisorder table count bytes rest × (at ≡ place file rest)
+    (rest : List ℕ) × HasDisorder table count bytes rest × (at ≡ place (length file) rest)
 RefusesCells file table count bytes OutOfMemory = ⊤
 RefusesCells file table count bytes Short = ⊥
 RefusesCells file table count bytes (Version n) = ⊥
@@ -129,7 +111,7 @@ Refuses table bytes (Order at) =
     BehindHead table bytes (λ count behind. RefusesCells bytes table count behind (Order at))
 Refuses table bytes CellsCheck = BehindHead table bytes (HasWrongCellsCheck table)
 Refuses table bytes (Trailing at) = BehindHead table bytes (λ count behind. (rest : List ℕ)
-    × HasTrailing table count behind rest × (at ≡ place bytes rest + 4))
+    × HasTrailing table count behind rest × (at ≡ place (length bytes) rest + 4))
 Refuses table bytes OutOfMemory = ⊤
 
 abbrev pub Decodes : Table → List ℕ → Result TableFile TableFault → Type 0
@@ -170,40 +152,40 @@ pub record IsDisordered (table : Table) (old : List (CellKey × Cell)) (bytes : 
 
 -- why the cell at a place is not taken
 abbrev pub RefusesCell : Table → ℕ → List (CellKey × Cell) → List ℕ → TableFault → Type 0
-RefusesCell table place old bytes (NoCell at) = (at ≡ place) × BeginsWithNoCell table bytes
-RefusesCell table place old bytes (Order at) = (at ≡ place) × IsDisordered table old bytes
-RefusesCell table place old bytes OutOfMemory = ⊤
-RefusesCell table place old bytes Short = ⊥
-RefusesCell table place old bytes (Version n) = ⊥
-RefusesCell table place old bytes HeadCheck = ⊥
-RefusesCell table place old bytes OtherTable = ⊥
-RefusesCell table place old bytes Interval = ⊥
-RefusesCell table place old bytes CellsCheck = ⊥
-RefusesCell table place old bytes (Trailing at) = ⊥
+RefusesCell table offset old bytes (NoCell at) = (at ≡ offset) × BeginsWithNoCell table bytes
+RefusesCell table offset old bytes (Order at) = (at ≡ offset) × IsDisordered table old bytes
+RefusesCell table offset old bytes OutOfMemory = ⊤
+RefusesCell table offset old bytes Short = ⊥
+RefusesCell table offset old bytes (Version n) = ⊥
+RefusesCell table offset old bytes HeadCheck = ⊥
+RefusesCell table offset old bytes OtherTable = ⊥
+RefusesCell table offset old bytes Interval = ⊥
+RefusesCell table offset old bytes CellsCheck = ⊥
+RefusesCell table offset old bytes (Trailing at) = ⊥
 
 abbrev pub TakesCell : Table → ℕ → List (CellKey × Cell) → List (CellKey × Cell) → List ℕ
     → Result (Bor (List ℕ)) TableFault → Type 0
-TakesCell table place old new bytes (Ok rest) = IsTaken table old new bytes rest.now
-TakesCell table place old new bytes (Err fault) = RefusesCell table place old bytes fault
+TakesCell table offset old new bytes (Ok rest) = IsTaken table old new bytes rest.now
+TakesCell table offset old new bytes (Err fault) = RefusesCell table offset old bytes fault
 
 -- the bytes between the head and a rest
 abbrev pub cells_text : List ℕ → List ℕ → List ℕ
-cells_text bytes rest = behind_head (take (place bytes rest) bytes)
+cells_text bytes rest = behind_head (take (place (length bytes) rest) bytes)
 
 -- why what stands behind the cells is not their check alone
 abbrev pub RefusesEnd : List ℕ → List ℕ → ℕ → TableFault → Type 0
-RefusesEnd cells rest place Short = length rest < 4
-RefusesEnd cells rest place CellsCheck = (4 ≤ length rest) × (take 4 rest ≢ check_bytes cells)
-RefusesEnd cells rest place (Trailing at) =
-    (take 4 rest ≡ check_bytes cells) × (4 < length rest) × (at ≡ place + 4)
-RefusesEnd cells rest place (NoCell at) = ⊥
-RefusesEnd cells rest place (Order at) = ⊥
-RefusesEnd cells rest place OutOfMemory = ⊥
-RefusesEnd cells rest place (Version n) = ⊥
-RefusesEnd cells rest place HeadCheck = ⊥
-RefusesEnd cells rest place OtherTable = ⊥
-RefusesEnd cells rest place Interval = ⊥
+RefusesEnd cells rest offset Short = length rest < 4
+RefusesEnd cells rest offset CellsCheck = (4 ≤ length rest) × (take 4 rest ≢ check_bytes cells)
+RefusesEnd cells rest offset (Trailing at) =
+    (take 4 rest ≡ check_bytes cells) × (4 < length rest) × (at ≡ offset + 4)
+RefusesEnd cells rest offset (NoCell at) = ⊥
+RefusesEnd cells rest offset (Order at) = ⊥
+RefusesEnd cells rest offset OutOfMemory = ⊥
+RefusesEnd cells rest offset (Version n) = ⊥
+RefusesEnd cells rest offset HeadCheck = ⊥
+RefusesEnd cells rest offset OtherTable = ⊥
+RefusesEnd cells rest offset Interval = ⊥
 
 abbrev pub EndGives : List ℕ → List ℕ → ℕ → Result Unit TableFault → Type 0
-EndGives cells rest place (Ok done) = rest ≡ check_bytes cells
-EndGives cells rest place (Err fault) = RefusesEnd cells rest place fault
+EndGives cells rest offset (Ok done) = rest ≡ check_bytes cells
+EndGives cells rest offset (Err fault) = RefusesEnd cells rest offset fault

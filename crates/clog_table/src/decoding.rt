@@ -11,6 +11,7 @@ ghost use Rattle.clog_table.specs.declared.table_file.TableFile.{TableFile as Fi
 ghost use Rattle.clog_table.specs.declared.fault.TableFault.{TableFault as Fault};
 ghost use Rattle.clog_table.specs.declared.fault.TableFault.TheVariants.{OutOfMemory as no_memory};
 ghost use Rattle.clog_table.specs.Limits.{IsWritable};
+ghost use Rattle.clog_fields.specs.Refusals.{place};
 ghost use Rattle.clog_table.specs.Refusals.{
   Decodes,
   IsFileOf,
@@ -21,7 +22,6 @@ ghost use Rattle.clog_table.specs.Refusals.{
   TakesCell,
   EndGives,
   cells_text,
-  place,
 };
 
 use crate::check::is_check_of;
@@ -158,7 +158,7 @@ fn take_cell<'a>(
 /// behind the cells.
 pub(crate) fn judge_end(bytes: &[u8], rest: &[u8]) -> Result<(), TableFault>
     requires { head_size + length rest.now ≤ length bytes.now }
-    ensures { EndGives (cells_text bytes.now rest.now) rest.now (place bytes.now rest.now) result }
+    ensures { EndGives (cells_text bytes.now rest.now) rest.now (place (length bytes.now) rest.now) result }
 {
     if rest.len() < 4 {
         return Err(TableFault::Short);

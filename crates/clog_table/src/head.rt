@@ -2,7 +2,7 @@
 ghost use Rattle.std.specs.Prelude.{◌≡◌, ◌≤◌, ◌↔◌, length, take, drop, IsTrue};
 ghost use Rattle.clog_table.specs.Format.{check_bytes, head_size, head_front_size};
 ghost use Rattle.clog_table.specs.Heads.{position_at, head_at, HeadGives};
-ghost use Rattle.clog_table.specs.Limits.{is_up_to, is_this_table};
+ghost use Rattle.clog_table.specs.Limits.{is_this_table};
 
 use crate::check::is_check_of;
 use crate::fault::TableFault;
@@ -61,12 +61,6 @@ fn is_checked(bytes: &[u8]) -> bool
     is_check_of(check, front)
 }
 
-fn is_up_to(lower: Position, upper: Position) -> bool
-    ensures { result ≡ is_up_to lower upper }
-{
-    lower <= upper
-}
-
 /// Whether the table of a head is the one that is asked for, and below 16.
 fn is_this_table(found: Table, table: Table) -> bool
     ensures { result ≡ is_this_table found table }
@@ -92,7 +86,7 @@ pub(crate) fn head_of(bytes: &[u8], table: Table) -> Result<Head, TableFault>
     if !is_this_table(head.table, table) {
         return Err(TableFault::Table);
     }
-    if !is_up_to(head.lower, head.upper) {
+    if !head.lower.is_up_to(head.upper) {
         return Err(TableFault::Interval);
     }
     Ok(head)

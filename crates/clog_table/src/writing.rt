@@ -28,7 +28,6 @@ use clog_fields::{put_name, put_timestamp, put_value};
 use std::alloc::Global;
 use std::collections::BTreeMap;
 
-#[tactic(auto, using(clog_fields::proofs::Values::value_is_text))]
 fn put_cell(out: &mut Vec<u8>, key: &CellKey, cell: &Cell) -> Result<(), OutOfMemory>
     requires { IsSized (key.now, cell.now) }
     ensures bytes { OnOk result (out.new.items ≡ out.old.items ++ cell_bytes (key.now, cell.now)) }

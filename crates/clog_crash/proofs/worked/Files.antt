@@ -113,18 +113,11 @@ is_file table upper few fits = record {
   interval = inr (refl, omega arith);
   stored = (
     record {
-      limits = record {
-        same_table = refl;
-        sizes = record {
-          key = record { some = omega arith; few = omega arith };
-          column = record { some = omega arith; few = omega arith };
-          value = refl;
-        };
-      };
-      key = aa;
-      column = cd;
+      same_table = refl;
+      key = record { size = record { some = omega arith; few = omega arith }; utf8 = aa };
+      column = record { size = record { some = omega arith; few = omega arith }; utf8 = cd };
       ts = record { sfits = omega arith };
-      value = ([], (refl, refl));
+      value = refl;
     },
     tt,
   );

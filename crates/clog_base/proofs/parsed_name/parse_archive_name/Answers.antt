@@ -12,11 +12,11 @@ returns-in_default-number_of c id said =
     (archive_says c.args.name.now c.in-Some.middle.now
     (sym c.as_bytes.ensures.same ∙ c.in-Some.ensures) id said)
 
-pub returns-then-id-gt9223372036854775807 : goal.returns-then-id-gt9223372036854775807
-returns-then-id-gt9223372036854775807 c id said =
+pub returns-then-id-gt-GREATEST_ID : goal.returns-then-id-gt-GREATEST_ID
+returns-then-id-gt-GREATEST_ID c id said =
     let same : c.in-Some-number_of.id ≡ id =
     decimal_injective c.in-Some-number_of.id id (omega arith) (omega (arith, said.id_fits))
     (sym c.in-Some-number_of.ensures
     ∙ archive_says c.args.name.now c.in-Some.middle.now
     (sym c.as_bytes.ensures.same ∙ c.in-Some.ensures) id said) in
-    omega (arith, same, said.id_fits, c.if-id-gt9223372036854775807.true)
+    omega (arith, same, said.id_fits, c.if-id-gt-GREATEST_ID.true)

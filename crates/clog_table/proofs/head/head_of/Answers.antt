@@ -1,15 +1,10 @@
 use Rattle.std.proofs.Common.{◌≡◌, ◌≤◌, length, refl, sym, subst, ◌∙◌, arith}
+use Rattle.std.proofs.lemmas.Bool.{true≢false}
 use Rattle.std.specs.Int.{w32, from_be_bytes}
 use Rattle.clog_table.specs.Format.{head_size}
 use Rattle.clog_table.specs.Heads.{BeginsWithHead}
 use Rattle.clog_table.proofs.Numbers.{big_is}
-use Rattle.clog_table.proofs.HeadParts.{
-  begins_with,
-  this_table,
-  other_table,
-  is_up_to-true,
-  is_up_to-false,
-}
+use Rattle.clog_table.proofs.HeadParts.{begins_with, this_table, other_table}
 use Rattle.clog_table.proofs.head.head_of.Goals as goal
 
 pub returns-then-not-is_this_table : goal.returns-then-not-is_this_table
@@ -41,8 +36,7 @@ returns-then-not-is_up_to c =
           (c.if-not-is_checked.ensures.0 refl));
       known = this.0;
       same_table = this.1;
-      disordered = is_up_to-false c.head_at-head.result.lower c.head_at-head.result.upper
-          c.if-not-is_up_to.ensures;
+      disordered = λ ordered. true≢false (sym (c.if-not-is_up_to.ensures.1 ordered));
     }
 
 pub returns : goal.returns
@@ -59,6 +53,5 @@ returns c =
           (c.if-not-is_checked.ensures.0 refl));
       known = this.0;
       same_table = this.1;
-      interval = is_up_to-true c.head_at-head.result.lower c.head_at-head.result.upper
-          c.if-not-is_up_to.ensures;
+      interval = c.if-not-is_up_to.ensures.0 refl;
     }
