@@ -7,6 +7,20 @@ use Rattle.clog_spec.specs.Segment.{low_half, high_half}
 abbrev pub entry_front_size : ℕ
 entry_front_size = 8
 
+-- where a header's fields stand: behind the version the id, the length of the parameters, and these
+abbrev pub header_id_at : ℕ
+header_id_at = 4
+
+abbrev pub parameters_size_at : ℕ
+parameters_size_at = 12
+
+abbrev pub parameters_at : ℕ
+parameters_at = 14
+
+-- a header without its parameters
+abbrev pub bare_header_size : ℕ
+bare_header_size = 18
+
 -- what a header's check is of: version, halves of the id, length of the parameters, parameters
 abbrev pub header_fields : ℕ → ℕ → List ℕ → List ℕ
 header_fields version id parameters =

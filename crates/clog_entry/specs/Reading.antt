@@ -28,7 +28,14 @@ use Rattle.byteorder.specs.Endian.{big_number}
 use Rattle.clog_spec.specs.Crc.{crc32_of}
 use Rattle.clog_spec.specs.Segment.{marker_checked}
 use Rattle.clog_spec.specs.Sizes.{marker_size, frame_size, least_payload}
-use Rattle.clog_entry.specs.Fields.{header_fields, entry_front_size}
+use Rattle.clog_entry.specs.Fields.{
+  header_fields,
+  entry_front_size,
+  header_id_at,
+  parameters_size_at,
+  parameters_at,
+  bare_header_size,
+}
 use Rattle.clog_entry.specs.declared.cause.Cause.{Cause}
 use Rattle.clog_entry.specs.declared.cause.Cause.TheVariants.{
   Short,
@@ -70,13 +77,13 @@ header_judged version found parameters check id =
 -- the header of the segment of an id
 unfoldable pub header_read : List ℕ → ℕ → Result Unit Cause
 header_read bytes id =
-    let size = big_number 2 (drop 12 bytes) in
+    let size = big_number 2 (drop parameters_size_at bytes) in
     first_of (
-    (nat_lt (length bytes) 14, Err Short)
-    ∷ (nat_lt (length bytes) (18 + size), Err Short)
+    (nat_lt (length bytes) parameters_at, Err Short)
+    ∷ (nat_lt (length bytes) (bare_header_size + size), Err Short)
     ∷ [])
-    (header_judged (number_at bytes 0) (big_number 8 (drop 4 bytes)) (take size (drop 14 bytes))
-    (number_at bytes (14 + size)) id)
+    (header_judged (number_at bytes 0) (big_number 8 (drop header_id_at bytes))
+    (take size (drop parameters_at bytes)) (number_at bytes (parameters_at + size)) id)
 
 -- A marker of this target and check at an offset, in a file of this length that has room for it.
 unfoldable pub marker_judged : ℕ → ℕ → ℕ → ℕ → ℕ → Result Marker Cause

@@ -9,7 +9,13 @@ use Rattle.clog_entry.specs.declared.cause.Cause.TheVariants.{
   HeaderId,
   Payload,
 }
-use Rattle.clog_entry.specs.Fields.{header_fields}
+use Rattle.clog_entry.specs.Fields.{
+  header_fields,
+  header_id_at,
+  parameters_size_at,
+  parameters_at,
+  bare_header_size,
+}
 use Rattle.clog_entry.specs.Reading.{number_at}
 
 -- A crash may leave a segment torn for this cause. The others come behind a check that was right.
@@ -29,8 +35,8 @@ IsOfHeader other = ⊥
 
 -- The bytes begin with a header of any version, id and parameters, whose check is right.
 pub record PassesAsHeader (bytes : List ℕ) : Type 0 where
-  pub fits : 18 + big_number 2 (drop 12 bytes) ≤ length bytes
+  pub fits : bare_header_size + big_number 2 (drop parameters_size_at bytes) ≤ length bytes
   pub check :
-      number_at bytes (14 + big_number 2 (drop 12 bytes))
-      ≡ crc32_of (header_fields (number_at bytes 0) (big_number 8 (drop 4 bytes))
-      (take (big_number 2 (drop 12 bytes)) (drop 14 bytes)))
+      number_at bytes (parameters_at + big_number 2 (drop parameters_size_at bytes))
+      ≡ crc32_of (header_fields (number_at bytes 0) (big_number 8 (drop header_id_at bytes))
+      (take (big_number 2 (drop parameters_size_at bytes)) (drop parameters_at bytes)))

@@ -12,6 +12,17 @@ use crate::marker::Marker;
 use byteorder::{BigEndian, ByteOrder};
 use clog_base::MARKER_SIZE;
 
+// Where the fields of a header stand: behind the version the id, the length of the parameters, and
+// these.
+const HEADER_ID_AT: usize = 4;
+
+const PARAMETERS_SIZE_AT: usize = 12;
+
+const PARAMETERS_AT: usize = 14;
+
+// A header without its parameters.
+const BARE_HEADER_SIZE: usize = 18;
+
 /// Reads the header of the segment of an id, at the front of the segment's bytes. Where it is of
 /// another version, id or parameters, its check is right.
 pub fn read_header(bytes: &[u8], id: u64) -> Result<(), Cause>
@@ -58,17 +69,23 @@ pub fn read_entry(bytes: &[u8], at: u32, end: u32) -> Result<u32, Cause>
 fn header_of(bytes: &[u8], id: u64) -> Result<(), Cause>
     ensures { result ≡ header_read bytes.now id }
 {
-    if bytes.len() < 14 {
+    if bytes.len() < PARAMETERS_AT {
         return Err(Cause::Short);
     }
-    let size = usize::from(BigEndian::read_u16(&bytes[12..]));
-    if bytes.len() < 18 + size {
+    let size = usize::from(BigEndian::read_u16(&bytes[PARAMETERS_SIZE_AT..]));
+    if bytes.len() < BARE_HEADER_SIZE + size {
         return Err(Cause::Short);
     }
     let version = BigEndian::read_u32(bytes);
-    let found = BigEndian::read_u64(&bytes[4..]);
-    let check = BigEndian::read_u32(&bytes[14 + size..]);
-    judge_header(version, found, &bytes[14..14 + size], check, id)
+    let found = BigEndian::read_u64(&bytes[HEADER_ID_AT..]);
+    let check = BigEndian::read_u32(&bytes[PARAMETERS_AT + size..]);
+    judge_header(
+        version,
+        found,
+        &bytes[PARAMETERS_AT..PARAMETERS_AT + size],
+        check,
+        id,
+    )
 }
 
 #[tactic(auto, unfolding(crate::specs::Reading::marker_read))]
