@@ -45,8 +45,8 @@ GivesLines reading (Ok ms) = reading ≡ Ok ms
 GivesLines reading (Err refused) = FailsAt refused.0 refused.1 reading
 
 -- the answer is what the file's lines give, unless memory ran out
-abbrev pub GivesFile : List ℕ → Result (List Mutation) Refused → Type 0
-GivesFile bytes = GivesLines (file_mutations bytes)
+abbrev pub GivesMutations : List ℕ → Result (List Mutation) Refused → Type 0
+GivesMutations bytes = GivesLines (file_mutations bytes)
 
 -- What lines give and then those behind them: a refusal on the left counts first.
 unfoldable pub joined : Result (List Mutation) Refused → Result (List Mutation) Refused

@@ -3,7 +3,7 @@
 ghost use Rattle.std.specs.Prelude.{◌≡◌, ◌+◌, ◌*◌, ◌<◌, ◌≤◌, ℕ, List, ◌++◌, length, IfOk};
 ghost use Rattle.std.specs.List.{AllByRecursion};
 ghost use Rattle.clog_text.specs.FileLines.{IsRangeWithin, Splits, line_limit};
-ghost use Rattle.clog_text.specs.FileMutations.{mutations_from, GivesLines, GivesFile};
+ghost use Rattle.clog_text.specs.FileMutations.{mutations_from, GivesLines, GivesMutations};
 ghost use Rattle.clog_text.specs.FileMutations.{joined, PartsRead, part_from};
 ghost use Rattle.clog_mutation.specs.Limits.{IsWithinLimits};
 
@@ -35,7 +35,7 @@ pub fn reading_laws()
 /// come at any line.
 pub fn read_lines(alloc: Global, bytes: &[u8], lines: &Lines) -> Result<Mutations, (u32, BadLine)>
     requires { Splits bytes.now lines.now }
-    ensures reads { GivesFile bytes.now result }
+    ensures reads { GivesMutations bytes.now result }
     ensures within { IfOk result (AllByRecursion IsWithinLimits) }
 {
     read_part(alloc, bytes, 0, lines.as_slice())
@@ -51,7 +51,7 @@ pub fn read_lines_in_parts<R: Threads + Sync>(
     lines: &Lines,
 ) -> Result<Mutations, (u32, BadLine)>
     requires { Splits bytes.now lines.now }
-    ensures reads { GivesFile bytes.now result }
+    ensures reads { GivesMutations bytes.now result }
     ensures within { IfOk result (AllByRecursion IsWithinLimits) }
 {
     let size = part_size(rt, bytes.len(), lines.len());
@@ -85,7 +85,7 @@ fn read_by_size<R: Threads + Sync>(
 ) -> Result<Mutations, (u32, BadLine)>
     requires splits { Splits bytes.now lines.now }
     requires some { 0 < size }
-    ensures reads { GivesFile bytes.now result }
+    ensures reads { GivesMutations bytes.now result }
     ensures within { IfOk result (AllByRecursion IsWithinLimits) }
 {
     let ranges = lines.as_slice();
