@@ -28,23 +28,15 @@ use Rattle.std.specs.FinMap.{
 }
 use Rattle.std.specs.Cmp.{eq_by_cmp_equiv}
 use Rattle.std.specs.Cmp.Lexicographic.{slice_cmp, nat_list_cmp_total}
-use Rattle.std.specs.declared.cmp.Ordering.{Ordering}
-use Rattle.std.specs.declared.cmp.Ordering.TheVariants.{Less, Equal, Greater}
-use Rattle.std.specs.Ordering.{nat_cmp, eq_by_cmp, is_eq}
+use Rattle.std.specs.Ordering.{nat_cmp, eq_by_cmp}
+use Rattle.std.proofs.lemmas.Map.Lookups.{exact_bytes}
+use Rattle.std.proofs.lemmas.Map.Views.{tells_apart}
 use Rattle.clog_disk.specs.Files.{Files}
-
-is_equal : (r : Ordering) → is_eq r ≡ true → r ≡ Equal
-is_equal Less p = cc
-is_equal Equal p = refl
-is_equal Greater p = cc
 
 -- names compare equal just where they are
 pub equal_names : (other name : List ℕ) → eq_by_cmp (slice_cmp nat_cmp) other name ≡ true
     → other ≡ name
-equal_names other name e =
-    slice_cmp-IsAntisymmetric nat_cmp-IsAntisymmetric other name (
-    is_equal (slice_cmp nat_cmp other name) e
-    )
+equal_names = tells_apart exact_bytes
 
 pub same_name : (name : List ℕ) → eq_by_cmp (slice_cmp nat_cmp) name name ≡ true
 same_name name = (eq_by_cmp_equiv nat_list_cmp_total).refl name

@@ -33,7 +33,7 @@ use Rattle.std.proofs.Common.{
   length-append,
 }
 use Rattle.std.proofs.lemmas.Bool.{false≢true}
-use Rattle.std.proofs.lemmas.List.{length-replicate}
+use Rattle.std.proofs.lemmas.List.{length-replicate, length-take, take-take}
 use Rattle.std.proofs.lemmas.List.Elements.{All-cons}
 use Rattle.std.specs.Prelude.{option_map, IsSome, is_some}
 use Rattle.std.specs.FinMap as finmap
@@ -171,16 +171,6 @@ module _ (left : Left) (whole rest : Entries) (image new : List ℕ → Option S
 
 -- ---- what is left may be left
 
-short_part : (n : ℕ) (bytes : List ℕ) → length (take n bytes) ≤ length bytes
-short_part zero bytes = omega arith
-short_part (suc n) [] = omega arith
-short_part (suc n) (b ∷ bytes) = omega (arith, short_part n bytes)
-
-part_of_part : (n : ℕ) (bytes : List ℕ) → take n (take n bytes) ≡ take n bytes
-part_of_part zero bytes = refl
-part_of_part (suc n) [] = refl
-part_of_part (suc n) (b ∷ bytes) = ap (λ l. b ∷ l) (part_of_part n bytes)
-
 zeros_behind : (n : ℕ) (bytes : List ℕ)
     → take n (take n bytes ++ replicate (length bytes - length (take n bytes)) 0) ≡ take n bytes
 zeros_behind zero bytes = refl
@@ -198,7 +188,7 @@ long_zeroed file =
     let none : ℕ = 0 in
     omega (
       arith,
-      short_part file.synced file.bytes,
+      length-take file.synced file.bytes,
       length-append part (replicate (length file.bytes - length part) none),
       length-replicate (length file.bytes - length part) none,
     )
@@ -207,7 +197,10 @@ all_left : (file : Stored) → may_leave (Some file) (Some file.bytes)
 all_left file = (refl, omega arith)
 
 part_left : (file : Stored) → may_leave (Some file) (Some (lasting_part file))
-part_left file = (part_of_part file.synced file.bytes, short_part file.synced file.bytes)
+part_left file = (
+  take-take file.synced file.synced file.bytes (omega arith),
+  omega (arith, length-take file.synced file.bytes),
+)
 
 zeroed_left : (file : Stored) → may_leave (Some file) (Some (zeroed file))
 zeroed_left file = (zeros_behind file.synced file.bytes, long_zeroed file)

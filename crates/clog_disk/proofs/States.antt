@@ -50,6 +50,7 @@ use Rattle.clog_disk.proofs.Named.{
   put_there,
   same_files,
 }
+use Rattle.clog_base.proofs.Orderings.{both_hold}
 
 abbrev Entries : Type 0
 Entries = List (List ℕ × Stored)
@@ -124,16 +125,12 @@ pub absent : (es : Entries) (name : List ℕ) → state_of es name ≡ None
     → finmap.get (files_of es) name ≡ None
 absent es name none = get-files_of es name ∙ ap (option_map (λ (f : Stored). f.bytes)) none
 
-both : (a b : Bool) → T a → T b → T (a && b)
-both true b p q = q
-both false b p q = p
-
 below_rest : (name : List ℕ) (es : Entries)
     → AllByRecursion (λ other. slice_cmp nat_cmp name other ≡ Less) (keys_of es)
     → T (below_all (slice_cmp nat_cmp) name (map (λ (e : List ℕ × Stored). (e.0, e.1.bytes)) es))
 below_rest name [] below = tt
 below_rest name (e ∷ es) below =
-    both (is_lt (slice_cmp nat_cmp name e.0)) _ (
+    both_hold (is_lt (slice_cmp nat_cmp name e.0)) _ (
     subst (λ r. T (is_lt r)) (sym below.0) tt
     ) (below_rest name es below.1)
 
@@ -141,7 +138,7 @@ rises : (es : Entries) → IsStrictlySortedBy (slice_cmp nat_cmp) (keys_of es)
     → T (is_sorted (slice_cmp nat_cmp) (map (λ (e : List ℕ × Stored). (e.0, e.1.bytes)) es))
 unfolding IsStrictlySortedBy
 rises [] sorted = tt
-rises (e ∷ es) sorted = both _ _ (below_rest e.0 es sorted.0) (rises es sorted.1)
+rises (e ∷ es) sorted = both_hold _ _ (below_rest e.0 es sorted.0) (rises es sorted.1)
 
 keys_are : (es : Entries)
     → map (λ (e : List ℕ × List ℕ). e.0) (map (λ (e : List ℕ × Stored). (e.0, e.1.bytes)) es)

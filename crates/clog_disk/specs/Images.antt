@@ -46,11 +46,25 @@ abbrev pub Lasts : Option Files → (List ℕ → Option (List ℕ) → Type 0) 
 Lasts None new name = ⊤
 Lasts (Some files) new name = LastsAs new name (map.get files name)
 
+-- where the files are told, a crash leaves at the second name just what stands at the first
+abbrev pub LastsLike : Option Files → (List ℕ → Option (List ℕ) → Type 0) → List ℕ → List ℕ
+    → Type 0
+LastsLike None new name second = ⊤
+LastsLike (Some files) new name second = LastsAs new second (map.get files name)
+
 -- a crash leaves what it left before, or this at the name
 abbrev pub TurnsTo : (List ℕ → Option (List ℕ) → Type 0)
     → (List ℕ → Option (List ℕ) → Type 0) → List ℕ → Option (List ℕ) → Type 0
 TurnsTo old new name what = (other : List ℕ) (left : Option (List ℕ)) → new other left
     → old other left ⊎ ((other ≡ name) × (left ≡ what))
+
+-- A crash leaves what it left before, or at the second name what stands at the first; where the
+-- files are not told, no other name has changed.
+abbrev pub TurnsLike : Option Files → (List ℕ → Option (List ℕ) → Type 0)
+    → (List ℕ → Option (List ℕ) → Type 0) → List ℕ → List ℕ → Type 0
+TurnsLike None old new name second = (other : List ℕ) (left : Option (List ℕ)) → new other left
+    → old other left ⊎ (other ≡ second)
+TurnsLike (Some files) old new name second = TurnsTo old new second (map.get files name)
 
 -- After n bytes were written behind the end, all or some or others in their place: up to the old
 -- end there is what there was before.

@@ -45,8 +45,10 @@ ghost use Rattle.clog_disk.specs.Images.{
   Unchanged,
   Lasts,
   LastsAs,
+  LastsLike,
   Tears,
   TurnsTo,
+  TurnsLike,
   Elapses,
 };
 ghost use Rattle.clog_disk.specs.Changes.{Adds, count_of};
@@ -237,10 +239,10 @@ pub trait Disk {
             (at_name (files self.old) name.now)) }
         ensures adds { Adds (change.Link name.now second.now) (changes self.old)
             (changes self.new) result }
-        ensures lasts { OnOk result (LastsAs (leaves self.new) second.now
-            (at_name (files self.old) name.now)) }
-        ensures crash { TurnsTo (leaves self.old) (leaves self.new) second.now
-            (at_name (files self.old) name.now) }
+        ensures lasts { OnOk result (LastsLike (files self.old) (leaves self.new) name.now
+            second.now) }
+        ensures crash { TurnsLike (files self.old) (leaves self.old) (leaves self.new) name.now
+            second.now }
         ensures refused { result ≢ Err failed → OnErr result (Unchanged (files self.old)
             (files self.new) (leaves self.old) (leaves self.new)) }
         ensures time { Elapses moment since leaves read_at self.old self.new }

@@ -59,6 +59,20 @@ fn first_look<R: Files<File = File>>(rt: &R) -> io::Result<Hold> {
     }
 }
 
+// Locks the folder that this disk has made.
+fn hold_made<R: Files<File = File> + AllocGlobal + Clone + Drop>(
+    rt: &R,
+    above: File,
+) -> io::Result<Hold> {
+    let hold = locked(open_folder(rt)?, Some(above))?;
+    // Another program may have come and gone before the lock.
+    if names_in_folder(rt)?.is_empty() {
+        Ok(hold)
+    } else {
+        Ok(made_meanwhile())
+    }
+}
+
 // Makes the folder that was absent. The one above is opened before, so that nothing is made where
 // its name could not be made to last.
 fn first_write<R: Files<File = File> + AllocGlobal + Clone + Drop>(rt: &R) -> io::Result<Hold> {
@@ -68,12 +82,11 @@ fn first_write<R: Files<File = File> + AllocGlobal + Clone + Drop>(rt: &R) -> io
         Err(e) if e.kind() == ErrorKind::AlreadyExists => return Ok(made_meanwhile()),
         Err(e) => return Err(e),
     }
-    let hold = locked(open_folder(rt)?, Some(above))?;
-    // Another program may have come and gone before the lock.
-    if names_in_folder(rt)?.is_empty() {
-        Ok(hold)
-    } else {
-        Ok(made_meanwhile())
+    match hold_made(rt, above) {
+        Ok(hold) => Ok(hold),
+        // A second try would find the folder there, and take another program for its maker: what
+        // the system refused here is told again.
+        Err(error) => Ok(Hold::Refused(error)),
     }
 }
 

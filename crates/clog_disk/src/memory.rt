@@ -2,6 +2,7 @@
 //! file is undone, so that each past moment can be told.
 ghost use Rattle.std.specs.Prelude.{◌≡◌, ℕ, List, [], length, Some, None, option_map};
 ghost use Rattle.std.specs.FinMap as map;
+ghost use Rattle.clog_io.specs.Calls.{first_of};
 ghost use Rattle.clog_disk.specs.Changes.{change_at};
 ghost use Rattle.clog_disk.specs.Files.{at_name, no_files};
 ghost use Rattle.clog_disk.specs.Images.{LastsAs};
@@ -37,6 +38,7 @@ impl MemDisk {
         ensures changes { ⟦<MemDisk as Disk>⟧.changes result ≡ Some [] }
         ensures faults { ⟦<MemDisk as Disk>⟧.faults result ≡ 0 }
         ensures reliable { ⟦<MemDisk as Disk>⟧.reliable result }
+        ensures calls { result.calls ≡ first_of [] }
     {
         MemDisk::failing(alloc, Vec::new(alloc))
     }
@@ -52,6 +54,7 @@ impl MemDisk {
         ensures changes { ⟦<MemDisk as Disk>⟧.changes result ≡ Some [] }
         ensures faults { ⟦<MemDisk as Disk>⟧.faults result ≡ 0 }
         ensures reliable { calls.items ≡ [] → ⟦<MemDisk as Disk>⟧.reliable result }
+        ensures calls { result.calls ≡ first_of calls.items }
     {
         MemDisk {
             alloc,

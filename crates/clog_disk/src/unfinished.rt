@@ -12,17 +12,19 @@ pub(crate) const UNFINISHED: &str =
     "commitlog/being-published-by-pinsilver-and-may-be-removed-where-no-program-runs.tmp";
 
 /// Makes it, empty and open to be written, for a name where nothing stands but a regular file. It
-/// must not be there.
+/// must not be there. The handle's number is above those of the standard streams: what goes to a
+/// closed stream never lands in the file.
 pub(crate) fn new_unfinished<R: Files<File = File> + AllocGlobal>(
     rt: &R,
     name: &Name,
 ) -> io::Result<File> {
     let path = path_of(rt.alloc(), name)?;
     refuse_others(rt, path.as_str())?;
-    OpenOptions::new()
+    let opened = OpenOptions::new()
         .write(true)
         .create_new(true)
-        .open(rt, UNFINISHED)
+        .open(rt, UNFINISHED)?;
+    opened.try_clone()
 }
 
 /// Gives it its name, in place of what stands there.
