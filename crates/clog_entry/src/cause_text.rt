@@ -17,7 +17,8 @@ impl Cause {
     /// `MarkerCheck`, `MarkerTarget 61`, `Payload Short 2`.
     #[tactic(auto, unfolding(crate::specs::CauseText::cause_text))]
     pub fn text(&self) -> TextRow
-        ensures { result ≡ cause_text self.now }
+        ensures text { result ≡ cause_text self.now }
+        ensures short { length result ≤ 41 }
     {
         text_of(name_of(*self), number_of(*self))
     }
@@ -25,7 +26,8 @@ impl Cause {
 
 fn text_of(name: &str, number: Option<u64>) -> TextRow
     requires { length name.now ≤ 20 }
-    ensures { result ≡ with_number name.now number }
+    ensures text { result ≡ with_number name.now number }
+    ensures short { length result ≤ 41 }
 {
     let mut text = TextRow::new();
     text.put(name.as_bytes());
