@@ -12,10 +12,6 @@ pub bytes_of : (o : Option (List ℕ)) → IsSome o → (bytes : List ℕ) × (o
 bytes_of None there = cc
 bytes_of (Some bytes) there = (bytes, refl)
 
-pub is_there : (files : Files) (name bytes : List ℕ)
-    → finmap.get (finmap.insert files name bytes) name ≡ Some bytes
-is_there = put_here
-
 pub stays : (files : Files) (name bytes other there : List ℕ) → (other ≡ name → ⊥)
     → finmap.get files other ≡ Some there
     → finmap.get (finmap.insert files name bytes) other ≡ Some there

@@ -1,15 +1,14 @@
 -- The table files of a folder: each is read as one thing, and their cells are those of the list.
-use Rattle.std.proofs.Common.{◌≡◌, ℕ, List, Some, Ok as ok, inl, inr, sym, ap, subst, ◌∙◌}
+use Rattle.std.proofs.Common.{◌≡◌, ℕ, List, Some, sym, ap, subst, ◌∙◌}
 use Rattle.std.specs.Prelude.{Contains, is_some}
 use Rattle.std.specs.FinMap as finmap
 use Rattle.std.proofs.lemmas.List.Elements.{All-contains}
 use Rattle.clog_base.specs.declared.cell.Cell.{Cell}
 use Rattle.clog_base.specs.declared.cell.CellKey.{CellKey}
-use Rattle.clog_base.specs.declared.cell.Table.{Table}
 use Rattle.clog_disk.specs.Files.{Files}
 use Rattle.clog_table.specs.declared.table_file.TableFile.{TableFile}
 use Rattle.clog_table.specs.Refusals.{IsFileOf}
-use Rattle.clog_table.proofs.Again.{decodes_to_it}
+use Rattle.clog_table.proofs.Again.{one_table_file}
 use Rattle.clog_crash.specs.Folder.{
   TableRead,
   Place,
@@ -25,15 +24,6 @@ use Rattle.clog_crash.specs.Folder.{
 use Rattle.clog_crash.specs.Restore.{IsTableCell}
 use Rattle.clog_base.proofs.Members.{from_map, in_flat, from_flat}
 use Rattle.clog_crash.proofs.OneMore.{bytes_of}
-
--- a good table file is read as one thing
-pub one_table_file : (table : Table) (bytes : List ℕ) (file file' : TableFile)
-    → IsFileOf table bytes file → IsFileOf table bytes file' → file' ≡ file
-one_table_file table bytes file file' a b =
-    elim (decodes_to_it table bytes file a (ok file') b) [
-      | inl same ↦ cc
-      | inr none ↦ cc
-    ]
 
 -- the place of a table file's name has one name
 one_name : (place : Place) (name other : List ℕ) → IsNameOf place name → IsNameOf place other

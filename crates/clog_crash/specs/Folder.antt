@@ -51,6 +51,10 @@ HoldsName files P = (name : List ℕ) × IsHeld files name × P name
 abbrev pub HasSegmentFile : Files → Type 0
 HasSegmentFile files = HoldsName files IsNameOfSegment
 
+-- a segment of this id is there, of any version
+abbrev pub HasSegmentOf : Files → ℕ → Type 0
+HasSegmentOf files id = HoldsName files (λ name. (version : ℕ) × IsSegmentName name version id)
+
 -- an archived segment of this id is there
 abbrev pub HasArchive : Files → ℕ → Type 0
 HasArchive files id = HoldsName files (λ name. IsArchiveName name id)
@@ -117,9 +121,9 @@ pub record HasUpper (reads : List TableRead) (id : ℕ) : Type 0 where
   pub listed : Contains reads read
   pub is : id ≡ read.file.upper.id
 
--- the folder names this id
+-- the folder names this id: in a name of a segment or of an archive, or in a table file
 abbrev pub NamesId : Files → List TableRead → ℕ → Type 0
-NamesId files reads id = HasArchive files id ⊎ HasUpper reads id
+NamesId files reads id = (HasSegmentOf files id ⊎ HasArchive files id) ⊎ HasUpper reads id
 
 -- the greatest number that has P, and none exactly where none has it
 abbrev pub IsGreatest : (ℕ → Type 0) → Option ℕ → Type 0

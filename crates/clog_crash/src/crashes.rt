@@ -1,13 +1,15 @@
 //! What a crash leaves of a folder to which a segment is written.
 ghost use Rattle.std.specs.Prelude.{◌≡◌, ◌↔◌, ◌⊎◌, ◌++◌, ◌∷◌, [], ℕ, List, length, Contains};
 ghost use Rattle.std.specs.FinMap as finmap;
-ghost use Rattle.clog_spec.specs.Names.{IsArchiveName, segment_name_of};
+ghost use Rattle.clog_spec.specs.Names.{IsArchiveName, archive_name_of, segment_name_of};
+ghost use Rattle.clog_spec.specs.Sizes.{front_size};
 ghost use Rattle.clog_base.specs.declared.cell.Cell.{Cell};
 ghost use Rattle.clog_base.specs.declared.cell.CellKey.{CellKey};
 ghost use Rattle.clog_disk.specs.Files.{Files, bytes_at, no_files};
+ghost use Rattle.clog_mutation.specs.Payload.{payload_of};
 ghost use Rattle.clog_scan.specs.declared.answer.End.{End as segment_end};
 ghost use Rattle.clog_scan.specs.Cut.{Section};
-ghost use Rattle.clog_scan.specs.Segment.{Entry, IsSegment};
+ghost use Rattle.clog_scan.specs.Segment.{Entry, IsSegment, entry_from};
 ghost use Rattle.clog_crash.specs.Archive.{IsArchived};
 ghost use Rattle.clog_crash.specs.Chance.{NoChance};
 ghost use Rattle.clog_crash.specs.Covering.{Either, SameMerge};
@@ -17,7 +19,7 @@ ghost use Rattle.clog_crash.specs.Rest.{IsInFiles, Lasting, settled};
 ghost use Rattle.clog_crash.specs.Restore.{IsRestored, IsUndamaged};
 ghost use Rattle.clog_crash.specs.Sections.{IsStored};
 ghost use Rattle.clog_crash.specs.Showing.{Shows};
-ghost use Rattle.clog_crash.specs.Worked.{logged};
+ghost use Rattle.clog_crash.specs.Worked.{logged, the_mutation, the_segment};
 ghost use Rattle.clog_crash.specs.WorkedCrash.{one_section};
 
 /// While sections are written behind those that last, each image shows what lasts and the first of
@@ -49,12 +51,15 @@ pub fn shown_stays_shown()
 {}
 
 /// An archived segment holds the entries of the bytes that its name was given, whatever else is
-/// there; and the folder restores what it did without it.
+/// there; and the folder restores what it did without it. The worked segment under an archive name
+/// holds its entry.
 pub fn archives_are_not_read()
     ensures holds { (files : Files) (name bytes : List ℕ) (id : ℕ) (entries : List Entry)
         (end : segment_end) (entry : Entry) → IsArchiveName name id
         → IsSegment bytes id entries end → Contains entries entry
         → IsArchived (finmap.insert files name bytes) id entry }
+    ensures row { IsArchived (finmap.insert no_files (archive_name_of 1000) the_segment) 1000
+        (entry_from front_size (payload_of the_mutation)) }
     ensures restores { (files : Files) (name bytes : List ℕ) (id : ℕ) → IsArchiveName name id
         → (pair : CellKey × Cell)
         → RestoresIn (bytes_at (finmap.insert files name bytes)) pair

@@ -23,7 +23,7 @@ use Rattle.clog_crash.specs.Restore.{IsInInterval, end_position}
 use Rattle.clog_crash.proofs.changes.Covering.{under_itself}
 use Rattle.clog_crash.proofs.changes.Intervals.{inside_or_not, table_or_not}
 use Rattle.clog_crash.proofs.changes.Names.{not_segment}
-use Rattle.clog_crash.proofs.TableFiles.{one_table_file}
+use Rattle.clog_table.proofs.Again.{one_table_file}
 
 module _ (r q : Reading) (file : TableFile) (sequence : ℕ) (p : Puts r q file sequence) where
   abbrev name : List ℕ

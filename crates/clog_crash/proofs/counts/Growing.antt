@@ -22,6 +22,7 @@ use Rattle.std.proofs.Common.{
 }
 use Rattle.std.specs.Str.{bytes_eq}
 use Rattle.std.proofs.lemmas.Slice.Eq.{bytes_eq-Decides}
+use Rattle.clog_spec.specs.Sizes.{header_size}
 use Rattle.clog_spec.specs.Names.{segment_name_of}
 use Rattle.clog_scan.specs.declared.answer.End.TheVariants.{Clean}
 use Rattle.clog_scan.specs.Cut.{Section}
@@ -83,9 +84,9 @@ appends_of-append (Remove name ∷ changes) more = appends_of-append changes mor
 pub grown_holds : (appends : List Append) (id : ℕ) (sections : List Section)
     → IsStored id sections → 0 < length sections
     → grown appends (segment_name_of 6 id) ≡ segment_bytes id sections
-    → HoldsGrown appends id (entries_of 20 sections)
+    → HoldsGrown appends id (entries_of header_size sections)
 grown_holds appends id [] stored some is = absurd (omega (arith, some))
 grown_holds appends id (s ∷ ss) stored some is =
     let all = s ∷ ss in
-    subst (λ (b : List ℕ). IsSegment b id (entries_of 20 all) (Clean (length b))) (sym is)
+    subst (λ (b : List ℕ). IsSegment b id (entries_of header_size all) (Clean (length b))) (sym is)
     (stored_holds id s ss stored)

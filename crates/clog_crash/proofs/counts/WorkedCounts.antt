@@ -20,7 +20,7 @@ use Rattle.std.specs.Cmp.Lexicographic.{slice_cmp}
 use Rattle.std.specs.FinMap as finmap
 use Rattle.std.specs.List.Sorted.{IsStrictlySortedBy}
 use Rattle.std.specs.Ordering.{nat_cmp}
-use Rattle.clog_base.proofs.Members.{here}
+use Rattle.clog_base.proofs.Members.{here, only_one}
 use Rattle.clog_base.proofs.NameLaws.{segment_is_no_other}
 use Rattle.clog_disk.specs.Files.{no_files}
 use Rattle.clog_mutation.proofs.Decoding.{one_mutation}
@@ -44,8 +44,9 @@ use Rattle.clog_crash.specs.Worked.{
   the_mutation,
   the_segment,
 }
-use Rattle.clog_crash.proofs.OneMore.{bytes_of, is_there, stays}
-use Rattle.clog_crash.proofs.worked.Cells.{logged_is, only}
+use Rattle.clog_disk.proofs.Named.{put_here}
+use Rattle.clog_crash.proofs.OneMore.{bytes_of, stays}
+use Rattle.clog_crash.proofs.worked.Cells.{logged_is}
 use Rattle.clog_crash.proofs.worked.Files.{segment_name, stored, table_name, the_entry}
 use Rattle.clog_crash.proofs.worked.Folder.{named_segment, named_table, no_table, stands}
 use Rattle.clog_crash.proofs.worked.Skipping.{
@@ -75,7 +76,7 @@ segment_held : (upper : ℕ) → IsHeld (the_folder first_table upper) segment_n
 segment_held upper =
     ap is_some (stays (finmap.insert no_files segment_name the_segment) (table_name first_table)
     (table_file_bytes (the_file first_table upper)) segment_name the_segment
-    (apart first_table (omega arith)) (is_there no_files segment_name the_segment))
+    (apart first_table (omega arith)) (put_here no_files segment_name the_segment))
 
 segments : (upper : ℕ)
     → AreNames (the_folder first_table upper) IsNameOfSegment (segment_name ∷ [])
@@ -88,7 +89,7 @@ segments upper = record {
           (named_table first_table name (omega arith) same))
     ],
     λ h.
-        let same = only segment_name name h in
+        let same = only_one segment_name name h in
         subst (λ (n : List ℕ). IsHeld (the_folder first_table upper) n × IsNameOfSegment n) same
         (segment_held upper, (6, (1000, named_segment))),
   );
@@ -105,9 +106,9 @@ tables upper = record {
       | inr same ↦ absurd (no_table name h.1.0 h.1.1.0 same h.1.1.1)
     ],
     λ h.
-        let same = only (table_name first_table) name h in
+        let same = only_one (table_name first_table) name h in
         subst (λ (n : List ℕ). IsHeld (the_folder first_table upper) n × IsNameOfTable n) same (
-          ap is_some (is_there (finmap.insert no_files segment_name the_segment)
+          ap is_some (put_here (finmap.insert no_files segment_name the_segment)
               (table_name first_table) (table_file_bytes (the_file first_table upper))),
           (0, (1, named_table first_table (table_name first_table) (omega arith) refl)),
         ),
@@ -140,7 +141,7 @@ is_log upper = record {
   ordered = one_in_log;
   are = λ l. (
     λ m. subst (Contains (the_log ∷ [])) (is_the_log upper l m) (here the_log []),
-    λ h. subst (IsLoggedMutation (the_folder first_table upper)) (only the_log l h) (record {
+    λ h. subst (IsLoggedMutation (the_folder first_table upper)) (only_one the_log l h) (record {
       entry = the_entry;
       logged = is_logged_entry first_table upper (omega arith);
       place = refl;

@@ -26,7 +26,7 @@ use Rattle.clog_spec.specs.Names.{segment_name_of}
 use Rattle.clog_spec.specs.Segment.{header_bytes, marker_bytes, section_bytes}
 use Rattle.clog_spec.proofs.Bytes.{append-IsBytes}
 use Rattle.clog_spec.proofs.StoredBytes.{header-IsBytes, marker-IsBytes, entry-IsBytes}
-use Rattle.clog_base.proofs.Members.{here, further, first_or_further}
+use Rattle.clog_base.proofs.Members.{here, further, first_or_further, only_one}
 use Rattle.clog_mutation.specs.Payload.{payload_of}
 use Rattle.clog_scan.specs.declared.answer.End.TheVariants.{Clean}
 use Rattle.clog_scan.specs.Cut.{Section}
@@ -43,7 +43,6 @@ use Rattle.clog_crash.specs.Grown.{
 use Rattle.clog_crash.specs.Worked.{the_mutation}
 use Rattle.clog_crash.specs.WorkedGrown.{entry_at, one_entry, the_appends}
 use Rattle.clog_crash.proofs.Payloads.{of_payload}
-use Rattle.clog_crash.proofs.worked.Cells.{only}
 use Rattle.clog_crash.proofs.worked.Files.{stored}
 use Rattle.clog_crash.proofs.changes.Names.{one_id}
 use Rattle.clog_crash.proofs.counts.Growing.{grown_here, grown_elsewhere}
@@ -175,7 +174,7 @@ each s h =
         has_first,
         subst (Ends 1000 (entry_at 28 ∷ entry_at 68 ∷ [])) (sym first_grown) first_holds,
       )
-      | inr more ↦ subst Kept (only (1001, entry_at 28 ∷ []) s more) (
+      | inr more ↦ subst Kept (only_one (1001, entry_at 28 ∷ []) s more) (
         has_next,
         subst (Ends 1001 (entry_at 28 ∷ [])) (sym next_grown) next_holds,
       )
@@ -208,7 +207,7 @@ every id g =
       | inr more ↦ elim (first_or_further (s0, second_bytes) last_appends (name, g.bytes) more) [
         | inl same ↦ is_first (ap (λ (a : Append). a.0) same)
         | inr last ↦
-            let same = only (s1, first_bytes 1001) (name, g.bytes) last in
+            let same = only_one (s1, first_bytes 1001) (name, g.bytes) last in
             subst IsListed (one_id id 1001 g.fits (omega arith)
             (ap (λ (a : Append). a.0) same)) next_listed
       ]

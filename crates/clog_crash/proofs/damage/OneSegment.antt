@@ -12,6 +12,7 @@ use Rattle.clog_crash.specs.Folder.{AreGoodTables, IsHeld, IsNameOf, IsReadFrom,
 use Rattle.clog_crash.specs.Restore.{IsGoodSegment, IsLastId, IsUndamaged}
 use Rattle.clog_crash.proofs.OneMore.{new_or_old, some_is, bytes_of}
 use Rattle.clog_crash.proofs.changes.Names.{is_named}
+use Rattle.std.proofs.lemmas.Option.{none-some}
 
 abbrev pub this : List ℕ
 this = segment_name_of 6 1000
@@ -21,9 +22,6 @@ alone segment = finmap.insert no_files this segment
 
 pub this_named : IsSegmentName this 6 1000
 this_named = is_named 1000 (omega arith)
-
-no_some : (bytes : List ℕ) → ◌≡◌ {A = Option (List ℕ)} None (Some bytes) → ⊥
-no_some bytes e = cc
 
 pub this_is : (name : List ℕ) (version id : ℕ) → IsSegmentName name version id → name ≡ this
     → (version ≡ 6) × (id ≡ 1000)
@@ -36,7 +34,7 @@ module _ (segment : List ℕ) where
       → (name ≡ this) × (segment ≡ bytes)
   only_this name bytes there = elim (new_or_old no_files this segment name (Some bytes) there) [
     | inl new ↦ (new.0, some_is segment bytes new.1)
-    | inr old ↦ absurd (no_some bytes (sym (get-empty (slice_cmp nat_cmp) name) ∙ old))
+    | inr old ↦ absurd (none-some bytes (sym (get-empty (slice_cmp nat_cmp) name) ∙ old))
   ]
 
   pub held_is_this : (name : List ℕ) → IsHeld (alone segment) name → name ≡ this

@@ -28,7 +28,7 @@ use Rattle.clog_base.specs.declared.cell.CellKey.{CellKey}
 use Rattle.clog_base.specs.declared.cell.Table.{Table}
 use Rattle.clog_base.specs.declared.fault.PayloadFault.TheVariants.{BadTag}
 use Rattle.clog_base.specs.declared.position.Position.{Position}
-use Rattle.clog_base.proofs.Members.{first_or_further, here, further}
+use Rattle.clog_base.proofs.Members.{first_or_further, here, further, only_one}
 use Rattle.clog_cells.proofs.Merging.{of_itself, of_same}
 use Rattle.clog_disk.specs.Files.{no_files}
 use Rattle.clog_entry.specs.declared.cause.Cause.TheVariants.{Payload}
@@ -54,7 +54,7 @@ use Rattle.clog_crash.specs.Restore.{
 }
 use Rattle.clog_crash.specs.Worked.{logged, the_mutation}
 use Rattle.clog_crash.specs.WorkedTorn.{bad_alone, the_bad_payload, the_bad_segment}
-use Rattle.clog_crash.proofs.OneMore.{is_there}
+use Rattle.clog_disk.proofs.Named.{put_here}
 use Rattle.clog_crash.proofs.Payloads.{of_payload}
 use Rattle.clog_crash.proofs.damage.OneSegment.{
   this,
@@ -64,7 +64,7 @@ use Rattle.clog_crash.proofs.damage.OneSegment.{
   no_read,
   none_first,
 }
-use Rattle.clog_crash.proofs.worked.Cells.{only, the_update}
+use Rattle.clog_crash.proofs.worked.Cells.{the_update}
 use Rattle.clog_crash.proofs.worked.Files.{ab, cd, one_in_order, stored}
 
 -- ---- the payload
@@ -164,7 +164,7 @@ stands : HoldsSegment bad_alone this 1000 (the_bad_entry ∷ the_good_entry ∷ 
 stands = record {
   named = this_named;
   bytes = the_bad_segment;
-  there = is_there no_files this the_bad_segment;
+  there = put_here no_files this the_bad_segment;
   holds = holds;
 }
 
@@ -173,7 +173,7 @@ first_is_the_payload = record {
   version = 6;
   id = 1000;
   named = this_named;
-  held = ap is_some (is_there no_files this the_bad_segment);
+  held = ap is_some (put_here no_files this the_bad_segment);
   torn = inr (
     refl,
     record {
@@ -227,7 +227,7 @@ logged_is id entry l =
     elim (first_or_further the_bad_entry (the_good_entry ∷ []) entry
     (subst (λ (es : List Entry). Contains es entry) one.entries_are l.listed)) [
       | inl bad ↦ inl bad
-      | inr more ↦ inr (only the_good_entry entry more)
+      | inr more ↦ inr (only_one the_good_entry entry more)
     ]
 
 logged_cell_is : (pair : CellKey × Cell) → IsLoggedCell bad_alone pair → logged ≡ pair
@@ -238,7 +238,7 @@ logged_cell_is pair c = elim (logged_is c.id c.entry c.logged) [
       let same : the_mutation ≡ c.mutation =
       one_mutation the_mutation c.mutation stored c.said.stored
       (ap (λ (e : Entry). e.payload) good ∙ c.said.spelled) in
-      let update = only the_update c.update
+      let update = only_one the_update c.update
       (subst (λ (m : Mutation). Contains m.updates c.update) (sym same) c.listed) in
       sym (c.is ∙ ap (λ (m : Mutation). pair_of m.key c.update) (sym same)
       ∙ ap (λ (u : Update). pair_of (codes "ab") u) (sym update))
@@ -247,7 +247,7 @@ logged_cell_is pair c = elim (logged_is c.id c.entry c.logged) [
 pub restored_past_it : IsRestored bad_alone (logged ∷ [])
 restored_past_it =
     of_same (Contains (logged ∷ [])) (Restores bad_alone) (logged ∷ []) (λ pair. (
-      λ h. inr (subst (λ (p : CellKey × Cell). IsLoggedCell bad_alone p) (only logged pair h)
+      λ h. inr (subst (λ (p : CellKey × Cell). IsLoggedCell bad_alone p) (only_one logged pair h)
           is_logged),
       λ r. elim r [
         | inl cell ↦ absurd (no_read the_bad_segment cell.read cell.there)

@@ -47,7 +47,8 @@ use Rattle.clog_crash.specs.WorkedTorn.{
   torn_alone,
   torn_and_next,
 }
-use Rattle.clog_crash.proofs.OneMore.{new_or_old, is_there, stays, bytes_of}
+use Rattle.clog_disk.proofs.Named.{put_here}
+use Rattle.clog_crash.proofs.OneMore.{new_or_old, stays, bytes_of}
 use Rattle.clog_crash.proofs.Payloads.{of_payload}
 use Rattle.clog_crash.proofs.worked.Files.{stored}
 use Rattle.clog_crash.proofs.changes.Names.{is_named}
@@ -114,7 +115,7 @@ pub undamaged_alone : IsUndamaged torn_alone
 undamaged_alone = undamaged_where_good the_torn_segment (record {
   entries = [];
   end = Torn 20 MarkerCheck;
-  holds = stands torn_alone (is_there no_files this the_torn_segment);
+  holds = stands torn_alone (put_here no_files this the_torn_segment);
   may_end = (tt, last the_torn_segment);
   payloads = no_entries;
 })
@@ -137,14 +138,14 @@ apart same =
 this_there : finmap.get torn_and_next this ≡ Some the_torn_segment
 this_there =
     stays torn_alone next [] this the_torn_segment apart
-    (is_there no_files this the_torn_segment)
+    (put_here no_files this the_torn_segment)
 
 not_last : IsLastId torn_and_next 1000 → ⊥
 not_last last =
     omega (
       arith,
       last next 6 1001 (next_named)
-          (ap is_some (is_there torn_alone next [])),
+          (ap is_some (put_here torn_alone next [])),
     )
 
 none_before : (name : List ℕ) (version id : ℕ) → IsSegmentName name version id

@@ -26,7 +26,7 @@ use Rattle.clog_crash.specs.Changes.{DiffersAt, Puts}
 use Rattle.clog_crash.specs.Flush.{IsNewFile}
 use Rattle.clog_crash.specs.Folder.{AreGoodTables, IsGoodTable, IsNameOf, Place}
 use Rattle.clog_crash.specs.Readings.{Reading, IsTableIn}
-use Rattle.clog_crash.proofs.TableFiles.{one_table_file}
+use Rattle.clog_table.proofs.Again.{one_table_file}
 use Rattle.clog_crash.proofs.changes.Nothing.{no_table}
 use Rattle.clog_crash.proofs.rest.Standing.{held_before, table_stands, reads_same}
 

@@ -16,6 +16,7 @@ use Rattle.std.proofs.Common.{
   subst,
 }
 use Rattle.std.specs.FinMap as finmap
+use Rattle.clog_spec.specs.Sizes.{header_size}
 use Rattle.clog_spec.specs.Names.{segment_name_of}
 use Rattle.clog_disk.specs.Files.{Files}
 use Rattle.clog_disk.specs.Images.{IsImage, LastsAs, TurnsTo}
@@ -107,7 +108,7 @@ module _ (f g : Files) (name : List ℕ) (what : Option (List ℕ)) (id : ℕ) (
     from_after : Shows g id old kept image → Shows f id old kept image
     from_after shows later stored chance =
         first_over (settled g id old) (settled f id old) 0
-        (entries_of (last_until 20 old) (kept ++ later)) image turn.same
+        (entries_of (last_until header_size old) (kept ++ later)) image turn.same
         (shows later stored chance)
 
     pub turn_shows : Shows f id old kept image

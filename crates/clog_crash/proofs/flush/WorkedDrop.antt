@@ -17,7 +17,7 @@ use Rattle.std.proofs.Common.{
 }
 use Rattle.std.specs.Prelude.{Contains}
 use Rattle.clog_base.specs.declared.cell.Table.{Table}
-use Rattle.clog_base.proofs.Members.{first_or_further, here, further}
+use Rattle.clog_base.proofs.Members.{first_or_further, here, further, only_one}
 use Rattle.clog_mutation.specs.declared.mutation.Mutation.{Mutation}
 use Rattle.clog_mutation.specs.declared.mutation.Update.{Update}
 use Rattle.clog_mutation.specs.Payload.{payload_of}
@@ -35,7 +35,7 @@ use Rattle.clog_crash.specs.WorkedDrop.{
   the_other_update,
   the_second_entry,
 }
-use Rattle.clog_crash.proofs.worked.Cells.{only, the_update}
+use Rattle.clog_crash.proofs.worked.Cells.{the_update}
 use Rattle.clog_crash.proofs.worked.Files.{ab, cd, stored}
 
 other_stored : IsStored the_other_mutation
@@ -64,7 +64,7 @@ touched m u entry table is_stored one payload t =
     let listed : Contains (u ∷ []) t.update =
     subst (λ (us : List Update). Contains us t.update) one
     (subst (λ (x : Mutation). Contains x.updates t.update) same t.listed) in
-    ap (λ (x : Update). x.table) (only u t.update listed) ∙ t.same_table
+    ap (λ (x : Update). x.table) (only_one u t.update listed) ∙ t.same_table
 
 -- an entry is one of the two, and ends from 60 to 92; and its table is one of the two
 pub record IsOne (entry : Entry) (table : Table) : Type 0 where
@@ -83,7 +83,7 @@ is_one entry table h t =
             (ap (λ (e : Entry). e.payload) (sym first)) t);
       }
       | inr more ↦
-          let second = only the_second_entry entry more in
+          let second = only_one the_second_entry entry more in
           record {
             from = omega (arith, ap (λ (e : Entry). e.end) second);
             to = omega (arith, ap (λ (e : Entry). e.end) second);
@@ -109,7 +109,7 @@ one_is_not_enough d =
     (here the_second_entry []) in
     let filed = d.filed second_table the_second_entry the_second_entry second second
     second_touches second_touches 92 (omega arith) (omega arith) in
-    let file = only (file_over first_table) filed.file filed.listed in
+    let file = only_one (file_over first_table) filed.file filed.listed in
     let tables : 0 ≡ 1 =
     ap (λ (f : TableFile). f.table.0) file ∙ ap (λ (t : Table). t.0) filed.same_table in
     omega (arith, tables)

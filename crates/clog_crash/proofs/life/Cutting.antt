@@ -20,6 +20,7 @@ use Rattle.std.proofs.Common.{
 }
 use Rattle.std.specs.List.{AllByRecursion}
 use Rattle.std.proofs.lemmas.List.{append-nil, length-append}
+use Rattle.clog_spec.specs.Sizes.{frame_size}
 use Rattle.clog_spec.specs.Segment.{entry_bytes}
 use Rattle.clog_spec.proofs.Lengths.{length-entry_bytes}
 use Rattle.clog_scan.specs.Segment.{Entry, entry_from}
@@ -40,7 +41,7 @@ use Rattle.clog_crash.proofs.life.Runs.{
 
 is_entry : (e : Entry) (start : ℕ) → IsWhole e → e.start ≡ start → entry_from start e.payload ≡ e
 is_entry e start whole same =
-    let ends : start + 12 + length e.payload ≡ e.end = omega (arith, whole.end, same) in
+    let ends : start + frame_size + length e.payload ≡ e.end = omega (arith, whole.end, same) in
     λ i. record { start = sym same i; end = ends i; payload = e.payload }
 
 -- an entry that stands end to end behind a run makes it longer

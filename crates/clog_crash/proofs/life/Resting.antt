@@ -19,6 +19,7 @@ use Rattle.std.proofs.Common.{
 }
 use Rattle.std.specs.FinMap as finmap
 use Rattle.std.proofs.lemmas.List.{append-nil}
+use Rattle.clog_spec.specs.Sizes.{header_size}
 use Rattle.clog_spec.specs.Names.{segment_name_of}
 use Rattle.clog_disk.specs.Files.{Files, bytes_at}
 use Rattle.clog_disk.specs.Images.{IsImage, LastsAs, Tears, Within}
@@ -80,7 +81,7 @@ module _ (f : Files) (leaves : List ℕ → Option (List ℕ) → Type 0) (r : R
       → LastsAs now (segment_name_of 6 id) (finmap.get f (segment_name_of 6 id))
       → IsResting f now r past id (old ++ kept) []
   resting_settles now within lasts =
-      let more = entries_of (last_until 20 old) kept in
+      let more = entries_of (last_until header_size old) kept in
       let q = settled f id (old ++ kept) in
       record {
         rest = settles f id old kept leaves now resting.rest within lasts;

@@ -2,6 +2,7 @@
 use Rattle.std.proofs.Common.{◌≡◌, ℕ, ◌+◌, List, [], ◌∷◌, ◌++◌, sym, ◌∙◌, ap, append_assoc}
 use Rattle.std.specs.List.{flat_map}
 use Rattle.std.proofs.lemmas.List.{append-nil}
+use Rattle.clog_spec.specs.Sizes.{header_size, marker_size}
 use Rattle.clog_scan.specs.Cut.{Section, last_until}
 use Rattle.clog_scan.specs.Segment.{Entry, entries_from, entries_of}
 use Rattle.clog_scan.proofs.Appended.{entries_of-append}
@@ -16,17 +17,22 @@ pub log_more : (past : List Write) (id : ℕ) (sections : List Section)
     (payloads : List (List ℕ))
     → placed_log past id (sections ++ next_section sections payloads ∷ [])
     ≡ placed_log past id sections
-    ++ placed_in (record { id = id; start = last_until 20 sections + 8; payloads = payloads })
+    ++ placed_in (record {
+      id = id;
+      start = last_until header_size sections + marker_size;
+      payloads = payloads;
+    })
 log_more past id sections payloads =
     let before = flat_map placed_of past in
     let section = next_section sections payloads in
-    let new = entries_from (last_until 20 sections + 8) payloads in
-    let all : entries_of 20 (sections ++ section ∷ []) ≡ entries_of 20 sections ++ new =
-    entries_of-append 20 sections (section ∷ [])
-    ∙ ap (λ (l : List Entry). entries_of 20 sections ++ l) (append-nil new) in
+    let new = entries_from (last_until header_size sections + marker_size) payloads in
+    let all : entries_of header_size (sections ++ section ∷ [])
+    ≡ entries_of header_size sections ++ new =
+    entries_of-append header_size sections (section ∷ [])
+    ∙ ap (λ (l : List Entry). entries_of header_size sections ++ l) (append-nil new) in
     ap (λ (l : List Entry). before ++ placed id l) all
-    ∙ ap (λ (l : List Placed). before ++ l) (placed-append id (entries_of 20 sections) new)
-    ∙ sym (append_assoc before (placed id (entries_of 20 sections)) (placed id new))
+    ∙ ap (λ (l : List Placed). before ++ l) (placed-append id (entries_of header_size sections) new)
+    ∙ sym (append_assoc before (placed id (entries_of header_size sections)) (placed id new))
 
 -- the log is the same once it goes on in the next segment
 pub log_rolled : (past : List Write) (id next : ℕ) (sections : List Section)
@@ -35,4 +41,4 @@ log_rolled past id next sections =
     append-nil (flat_map placed_of (past ++ written id sections ∷ []))
     ∙ past-append past (written id sections ∷ [])
     ∙ ap (λ (l : List Placed). flat_map placed_of past ++ l)
-    (append-nil (placed id (entries_of 20 sections)))
+    (append-nil (placed id (entries_of header_size sections)))

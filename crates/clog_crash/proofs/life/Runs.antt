@@ -19,6 +19,7 @@ use Rattle.std.proofs.Common.{
 }
 use Rattle.std.specs.List.{flat_map}
 use Rattle.std.proofs.lemmas.List.{append-nil, length-append}
+use Rattle.clog_spec.specs.Sizes.{frame_size}
 use Rattle.clog_spec.specs.Segment.{entry_bytes}
 use Rattle.clog_spec.proofs.Lengths.{length-entry_bytes}
 use Rattle.clog_scan.specs.Cut.{AreLong, entries_bytes}
@@ -73,11 +74,11 @@ entries_from-append at [] more =
     let same : at ≡ at + 0 = omega arith in ap (λ k. entries_from k more) same
 entries_from-append at (p ∷ ps) more =
     let e = entry_from at p in
-    let behind : at + 12 + length p + length (entries_bytes ps)
+    let behind : at + frame_size + length p + length (entries_bytes ps)
     ≡ at + length (entries_bytes (p ∷ ps)) =
     omega (arith, length-append (entry_bytes p) (entries_bytes ps), length-entry_bytes p) in
-    ap (λ (l : List Entry). e ∷ l) (entries_from-append (at + 12 + length p) ps more
-    ∙ ap (λ k. entries_from (at + 12 + length p) ps ++ entries_from k more) behind)
+    ap (λ (l : List Entry). e ∷ l) (entries_from-append (at + frame_size + length p) ps more
+    ∙ ap (λ k. entries_from (at + frame_size + length p) ps ++ entries_from k more) behind)
 
 abbrev pub longer : Run → List ℕ → Run
 longer run payload = record {
@@ -95,7 +96,7 @@ longer_placed run payload =
     (entries_from (run_end run) (payload ∷ []))
 
 pub longer_end : (run : Run) (payload : List ℕ)
-    → run_end (longer run payload) ≡ run_end run + 12 + length payload
+    → run_end (longer run payload) ≡ run_end run + frame_size + length payload
 longer_end run payload = omega (
   arith,
   ap length (bytes-append run.payloads (payload ∷ [])),

@@ -18,6 +18,7 @@ use Rattle.std.proofs.Common.{
   append_assoc,
 }
 use Rattle.std.proofs.lemmas.List.{append-nil}
+use Rattle.clog_spec.specs.Sizes.{header_size}
 use Rattle.clog_spec.specs.Names.{segment_name_of}
 use Rattle.clog_disk.specs.Files.{Files, bytes_at}
 use Rattle.clog_scan.specs.Cut.{Section, last_until}
@@ -41,7 +42,7 @@ pub entries_in-append : (ws more : List Write)
     → entries_in (ws ++ more) ≡ entries_in ws ++ entries_in more
 entries_in-append [] more = refl
 entries_in-append (w ∷ ws) more =
-    let first = entries_of 20 w.sections in
+    let first = entries_of header_size w.sections in
     ap (λ (es : List Entry). first ++ es) (entries_in-append ws more)
     ∙ sym (append_assoc first (entries_in ws) (entries_in more))
 
@@ -53,11 +54,12 @@ chance_in (v ∷ past) w next image chances = chance_in past w next image chance
 
 -- the entries that last, and those of further sections
 pub logged_more : (past : List Write) (old more : List Section)
-    → logged_in past (old ++ more) ≡ logged_in past old ++ entries_of (last_until 20 old) more
+    → logged_in past (old ++ more) ≡ logged_in past old ++ entries_of
+    (last_until header_size old) more
 logged_more past old more =
-    ap (λ (es : List Entry). entries_in past ++ es) (entries_of-append 20 old more)
-    ∙ sym (append_assoc (entries_in past) (entries_of 20 old)
-    (entries_of (last_until 20 old) more))
+    ap (λ (es : List Entry). entries_in past ++ es) (entries_of-append header_size old more)
+    ∙ sym (append_assoc (entries_in past) (entries_of header_size old)
+    (entries_of (last_until header_size old) more))
 
 -- those of earlier segments, once this one is among them
 pub logged_rolled : (past : List Write) (id : ℕ) (sections : List Section)
@@ -65,7 +67,7 @@ pub logged_rolled : (past : List Write) (id : ℕ) (sections : List Section)
 logged_rolled past id sections =
     append-nil (entries_in (past ++ written id sections ∷ []))
     ∙ entries_in-append past (written id sections ∷ [])
-    ∙ ap (λ (es : List Entry). entries_in past ++ es) (append-nil (entries_of 20 sections))
+    ∙ ap (λ (es : List Entry). entries_in past ++ es) (append-nil (entries_of header_size sections))
 
 -- ---- however the log goes on
 
@@ -118,7 +120,7 @@ shown_by f r past id old more image restores shows log on chances =
     let q = settled f id old in
     let first = logged_in past old in
     let later = more ++ on.more in
-    let second = entries_of (last_until 20 old) later in
+    let second = entries_of (last_until header_size old) later in
     let behind = entries_in on.next in
     let all : (old ++ more) ++ on.more ≡ old ++ later = append_assoc old more on.more in
     let b = bytes_at image (segment_name_of 6 id) in
@@ -129,8 +131,8 @@ shown_by f r past id old more image restores shows log on chances =
     let here = shows on.more (subst (IsStored id) all on.stored) chance in
     let entries : entries_in log ≡ (first ++ second) ++ behind =
     ap entries_in on.is ∙ entries_in-append past (written id ((old ++ more) ++ on.more) ∷ on.next)
-    ∙ ap (λ (l : List Section). entries_in past ++ (entries_of 20 l ++ behind)) all
-    ∙ sym (append_assoc (entries_in past) (entries_of 20 (old ++ later)) behind)
+    ∙ ap (λ (l : List Section). entries_in past ++ (entries_of header_size l ++ behind)) all
+    ∙ sym (append_assoc (entries_in past) (entries_of header_size (old ++ later)) behind)
     ∙ ap (λ (es : List Entry). es ++ behind) (logged_more past old later) in
     subst (λ (es : List Entry). RestoresFirst r (length first) es image) (sym entries)
     (first_more r (length first) (first ++ second) behind image

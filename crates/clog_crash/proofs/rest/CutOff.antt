@@ -31,6 +31,7 @@ use Rattle.std.proofs.lemmas.List.{
 }
 use Rattle.std.proofs.Math.Seq.{drop-append_seam, take-append_seam}
 use Rattle.byteorder.specs.Endian.{big_number}
+use Rattle.clog_spec.specs.Sizes.{frame_size, header_size, marker_size}
 use Rattle.clog_spec.specs.Crc.{IsBytes}
 use Rattle.clog_spec.specs.Segment.{header_bytes, marker_bytes, entry_bytes}
 use Rattle.clog_spec.proofs.Bytes.{front-IsBytes}
@@ -45,6 +46,7 @@ use Rattle.clog_scan.specs.Cut.{
   AreSections,
 }
 use Rattle.clog_scan.specs.Laws.{Reaches}
+use Rattle.clog_scan.proofs.Appended.{section_longer}
 use Rattle.clog_scan.proofs.Sections.{items_of}
 use Rattle.clog_scan.proofs.Theorems.{front_way, front_header, header_long}
 use Rattle.clog_scan.proofs.Trace.{stays_within}
@@ -67,15 +69,6 @@ spelled_longer xs rest text at next le le' is =
     drop_longer at xs rest le ∙ ap (λ (l : List ℕ). l ++ rest) is
     ∙ append_assoc text (drop next xs) rest
     ∙ ap (λ (l : List ℕ). text ++ l) (sym (drop_longer next xs rest le'))
-
-section_longer : (len more at : ℕ) (s : Section) → len ≤ more → IsSection len at s
-    → IsSection more at s
-section_longer len more at s le is = record {
-  behind = is.behind;
-  within = omega (arith, is.within, le);
-  fits = is.fits;
-  least = is.least;
-}
 
 sections_longer : (len more at : ℕ) (ss : List Section) → len ≤ more → AreSections len at ss
     → AreSections more at ss
@@ -106,7 +99,8 @@ module _ (xs rest : List ℕ) (id : ℕ) where
           cut = whole ∙ ap (λ (l : List ℕ). front ++ l)
               (sym (drop-append_seam front (drop (length front) xs ++ rest))
               ∙ ap (drop (length front)) (sym whole));
-          sections = sections_longer (length xs) (length all) 20 r.sections grows r.front.sections;
+          sections = sections_longer (length xs) (length all) header_size r.sections grows
+              r.front.sections;
         };
         place = r.place;
         end = r.end;
@@ -114,7 +108,7 @@ module _ (xs rest : List ℕ) (id : ℕ) where
 
   marker_longer : (at until : ℕ) → IsMarkerAt xs id at until → IsMarkerAt all id at until
   marker_longer at until m = record {
-    spelled = spelled_longer xs rest (marker_bytes id at until) at (at + 8)
+    spelled = spelled_longer xs rest (marker_bytes id at until) at (at + marker_size)
         (omega (arith, m.behind, m.within)) (omega (arith, m.behind, m.within)) m.spelled;
     behind = m.behind;
     within = omega (arith, m.within, grows);
@@ -123,7 +117,7 @@ module _ (xs rest : List ℕ) (id : ℕ) where
   entry_longer : (at until : ℕ) (p : List ℕ) → until ≤ length xs → IsEntryAt xs at until p
       → IsEntryAt all at until p
   entry_longer at until p within e = record {
-    spelled = spelled_longer xs rest (entry_bytes p) at (at + 12 + length p)
+    spelled = spelled_longer xs rest (entry_bytes p) at (at + frame_size + length p)
         (omega (arith, e.fits, within)) (omega (arith, e.fits, within)) e.spelled;
     least = e.least;
     fits = e.fits;
@@ -132,8 +126,9 @@ module _ (xs rest : List ℕ) (id : ℕ) where
   until_within : (at until : ℕ) → Reaches xs id at until → until ≤ length xs
   until_within at until r =
       let way = front_way xs id r.sections r.front in
-      let in_it = (stays_within xs id 20 20 (items_of r.sections)
-      (length (front_bytes id (Some r.sections))) (last_until 20 r.sections) way (omega arith)
+      let in_it = (stays_within xs id header_size header_size (items_of r.sections)
+      (length (front_bytes id (Some r.sections))) (last_until header_size r.sections) way
+      (omega arith)
       (header_long xs id (front_header xs id r.sections r.front))).1 in
       omega (arith, in_it, r.end)
 
@@ -158,11 +153,11 @@ header_cut id xs rest more is passes =
     two_first (drop 12 xs) rest (drop 14 (header_bytes id ++ more))
     (sym (drop_longer 12 xs rest long) ∙ ap (drop 12) is)
     (omega (arith, passes.fits, size)) in
-    let enough : 20 ≤ length xs = omega (arith, passes.fits, two) in
-    let front : take 20 xs ≡ header_bytes id =
-    sym (take-append-le 20 xs rest enough) ∙ ap (take 20) is
+    let enough : header_size ≤ length xs = omega (arith, passes.fits, two) in
+    let front : take header_size xs ≡ header_bytes id =
+    sym (take-append-le header_size xs rest enough) ∙ ap (take header_size) is
     ∙ take-append_seam (header_bytes id) more in
-    sym (take-append-drop 20 xs) ∙ ap (λ (l : List ℕ). l ++ drop 20 xs) front
+    sym (take-append-drop header_size xs) ∙ ap (λ (l : List ℕ). l ++ drop header_size xs) front
 
 -- ---- all of it
 
@@ -178,7 +173,8 @@ cut_off id (s ∷ ss) xs rest stored is =
     let whole = subst (NoChance id (s ∷ ss)) is (untorn id (s ∷ ss) stored) in
     record {
       are_bytes = front-IsBytes xs rest (subst IsBytes is stored.bytes);
-      header = λ passes. header_cut id xs rest (sections_bytes id 20 (s ∷ ss)) (sym is) passes;
+      header = λ passes. header_cut id xs rest (sections_bytes id header_size (s ∷ ss))
+          (sym is) passes;
       marker = λ at until reached marked.
           whole.marker at until (reaches_longer xs rest id at at reached)
           (marker_longer xs rest id at until marked);

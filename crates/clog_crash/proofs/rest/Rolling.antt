@@ -26,6 +26,7 @@ use Rattle.std.proofs.Common.{
 use Rattle.std.specs.Prelude.{unwrap_or, IsSome}
 use Rattle.std.specs.FinMap as finmap
 use Rattle.std.proofs.lemmas.List.{append-nil, take_all}
+use Rattle.clog_spec.specs.Sizes.{header_size}
 use Rattle.clog_spec.specs.Names.{segment_name_of, IsSegmentName}
 use Rattle.clog_base.proofs.Members.{nothing_there}
 use Rattle.clog_base.proofs.NameLaws.{one_segment as one_name}
@@ -52,7 +53,7 @@ not_empty id s ss stored none =
       arith,
       none,
       ends_at id len s ss stored.whole,
-      until_grows len 20 (s ∷ ss) stored.whole,
+      until_grows len header_size (s ∷ ss) stored.whole,
     ))
 
 -- where all of a segment lasts, nothing else is left of it
@@ -119,14 +120,14 @@ module _ (f : Files) (leaves : List ℕ → Option (List ℕ) → Type 0) (id : 
       record {
         version_is = refl;
         below = above;
-        entries = entries_of 20 all;
+        entries = entries_of header_size all;
         at = length (segment_bytes id all);
         holds = record {
           named = is_named id stored.fits;
           bytes = there.0;
           there = there.1;
           holds = subst (λ (b : List ℕ).
-              IsSegment b id (entries_of 20 all) (Clean (length (segment_bytes id all))))
+              IsSegment b id (entries_of header_size all) (Clean (length (segment_bytes id all))))
               (sym same) (stored_holds id s ss stored);
         };
         payloads = stored.said;

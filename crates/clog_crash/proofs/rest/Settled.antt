@@ -17,6 +17,7 @@ use Rattle.std.proofs.Common.{
 }
 use Rattle.std.specs.Prelude.{Contains, ◌↔◌, unwrap_or}
 use Rattle.std.specs.FinMap as finmap
+use Rattle.clog_spec.specs.Sizes.{header_size}
 use Rattle.clog_spec.specs.Names.{segment_name_of}
 use Rattle.clog_base.specs.declared.cell.Table.{Table}
 use Rattle.clog_disk.specs.Files.{Files, bytes_at}
@@ -80,20 +81,22 @@ settled_same f g id old others = λ i n. point n i
 module _ (f : Files) (id : ℕ) (old kept more : List Section) (stored : IsStored id (old ++ more))
     (in_f : IsInFiles f id old kept) where
   abbrev entries : List Entry
-  entries = entries_of (last_until 20 old) more
+  entries = entries_of (last_until header_size old) more
 
   module _ (q : Reading) (extra : List Entry)
       (others : DiffersAt (segment_name_of 6 id) (settled f id old) q)
       (among : (entry : Entry) → Contains extra entry → Contains entries entry)
       (logged : (entry : Entry)
-      → IsLoggedIn q id entry ↔ Contains (entries_of 20 old ++ extra) entry) where
+      → IsLoggedIn q id entry ↔ Contains (entries_of header_size old ++ extra) entry) where
     live : (entry : Entry) → Contains extra entry → (table : Table)
         → IsSkippedIn (settled f id old) table (end_position id entry) → ⊥
     live entry h table skipped =
         in_f.live table (end_position id entry) (inl (
           refl,
-          end_above (length (segment_bytes id (old ++ more))) (last_until 20 old) more entry
-              (whole_back (length (segment_bytes id (old ++ more))) 20 old more stored.whole)
+          end_above (length (segment_bytes id (old ++ more)))
+              (last_until header_size old) more entry
+              (whole_back (length (segment_bytes id
+              (old ++ more))) header_size old more stored.whole)
               (among entry h),
         ))
         (skipped_now (settled f id old) (bytes_at f) id stored.fits
@@ -107,7 +110,7 @@ module _ (f : Files) (id : ℕ) (old kept more : List Section) (stored : IsStore
         record {
           fits = stored.fits;
           others = others;
-          old = entries_of 20 old;
+          old = entries_of header_size old;
           was = λ entry. (was entry).0;
           stays = λ entry. (was entry).1;
           now = λ entry. (logged entry).0;
@@ -128,6 +131,6 @@ module _ (f : Files) (id : ℕ) (old kept more : List Section) (stored : IsStore
       (λ entry h. h)
       (subst (λ (es : List Entry). (entry : Entry)
       → IsLoggedIn (settled f id (old ++ more)) id entry ↔ Contains es entry)
-      (entries_of-append 20 old more)
+      (entries_of-append header_size old more)
       (logged_of (settled f id (old ++ more)) id (old ++ more) stored
       (settled_here f id (old ++ more))))

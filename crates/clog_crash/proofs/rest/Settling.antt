@@ -24,6 +24,7 @@ use Rattle.std.proofs.Common.{
 use Rattle.std.specs.Prelude.{unwrap_or}
 use Rattle.std.specs.FinMap as finmap
 use Rattle.std.proofs.lemmas.List.{append-nil}
+use Rattle.clog_spec.specs.Sizes.{header_size}
 use Rattle.clog_spec.specs.Names.{segment_name_of}
 use Rattle.clog_disk.specs.Files.{Files}
 use Rattle.clog_disk.specs.Images.{LastsAs, Within}
@@ -53,12 +54,12 @@ module _ (f : Files) (id : ℕ) (old kept : List Section)
   none : all ++ [] ≡ all
   none = append-nil all
 
-  further : last_until 20 old ≤ last_until 20 all
+  further : last_until header_size old ≤ last_until header_size all
   further =
       let len = length (segment_bytes id all) in
-      let grows = until_grows len (last_until 20 old) kept
-      (whole_back len 20 old kept rest.stored.whole) in
-      omega (arith, grows, last_until-append 20 old kept)
+      let grows = until_grows len (last_until header_size old) kept
+      (whole_back len header_size old kept rest.stored.whole) in
+      omega (arith, grows, last_until-append header_size old kept)
 
   tail_of : (o : Option (List ℕ)) → finmap.get f s ≡ o
       → Tail (length (segment_bytes id all)) (segment_bytes id (all ++ [])) o

@@ -19,6 +19,7 @@ use Rattle.std.proofs.Common.{
 }
 use Rattle.std.specs.FinMap as finmap
 use Rattle.std.proofs.lemmas.List.{append-nil}
+use Rattle.clog_spec.specs.Sizes.{header_size}
 use Rattle.clog_spec.specs.Names.{segment_name_of}
 use Rattle.clog_disk.specs.Files.{Files, bytes_at}
 use Rattle.clog_disk.specs.Images.{IsImage}
@@ -47,7 +48,7 @@ module _ (f : Files) (id : ℕ) (old kept more : List Section) (stored : IsStore
   s = segment_name_of 6 id
 
   abbrev entries : List Entry
-  entries = entries_of (last_until 20 old) more
+  entries = entries_of (last_until header_size old) more
 
   restores_first : IsFile (bytes_at image s) → ReadsFirst id old more (bytes_at image s)
       → RestoresFirst (settled f id old) 0 entries image
@@ -60,7 +61,8 @@ module _ (f : Files) (id : ℕ) (old kept more : List Section) (stored : IsStore
         ∙ sym (settled_there f id old name apart))
         (among f id old kept more stored in_f image others read)
         (logged_are (bytes_at image) id (bytes_at image s)
-        (entries_of 20 old ++ take read.n entries) read.end stored.fits file refl read.holds);
+        (entries_of header_size old ++ take read.n entries) read.end stored.fits file refl
+        read.holds);
     undamaged = undamaged_image f id old kept more stored in_f image others read;
   }
 
@@ -76,7 +78,7 @@ pub shown_now : (f : Files) (id : ℕ) (old kept more : List Section) → IsStor
     → IsInFiles f id old kept → (leaves : List ℕ → Option (List ℕ) → Type 0)
     → Lasting f leaves id old (old ++ more) → (image : Files) → IsImage leaves image
     → NoChance id (old ++ more) (bytes_at image (segment_name_of 6 id))
-    → RestoresFirst (settled f id old) 0 (entries_of (last_until 20 old) more) image
+    → RestoresFirst (settled f id old) 0 (entries_of (last_until header_size old) more) image
 shown_now f id old kept more stored in_f leaves lasting image left chance =
     let s = segment_name_of 6 id in
     shown_left f id old kept more stored in_f image
@@ -110,12 +112,12 @@ shown f id old kept more in_f leaves lasting image left later stored chance =
 -- what is shown whatever is written later is so where nothing is
 pub shows_now : (f image : Files) (id : ℕ) (old more : List Section) → Shows f id old more image
     → IsStored id (old ++ more) → NoChance id (old ++ more) (bytes_at image (segment_name_of 6 id))
-    → RestoresFirst (settled f id old) 0 (entries_of (last_until 20 old) more) image
+    → RestoresFirst (settled f id old) 0 (entries_of (last_until header_size old) more) image
 shows_now f image id old more shows stored chance =
     let none : more ++ [] ≡ more = append-nil more in
     let b = bytes_at image (segment_name_of 6 id) in
     subst (λ (l : List Section).
-    RestoresFirst (settled f id old) 0 (entries_of (last_until 20 old) l) image) none
+    RestoresFirst (settled f id old) 0 (entries_of (last_until header_size old) l) image) none
     (shows [] (subst (λ (l : List Section). IsStored id (old ++ l)) (sym none) stored)
     (subst (λ (l : List Section). NoChance id (old ++ l) b) (sym none) chance))
 
@@ -126,6 +128,6 @@ shows_later f image id old more next shows later stored chance =
     let same : (more ++ next) ++ later ≡ more ++ (next ++ later) = append_assoc more next later in
     let b = bytes_at image (segment_name_of 6 id) in
     subst (λ (l : List Section).
-    RestoresFirst (settled f id old) 0 (entries_of (last_until 20 old) l) image) (sym same)
+    RestoresFirst (settled f id old) 0 (entries_of (last_until header_size old) l) image) (sym same)
     (shows (next ++ later) (subst (λ (l : List Section). IsStored id (old ++ l)) same stored)
     (subst (λ (l : List Section). NoChance id (old ++ l) b) same chance))

@@ -26,22 +26,10 @@ use Rattle.std.proofs.Common.{
 }
 use Rattle.std.specs.Prelude.{unwrap_or}
 use Rattle.std.specs.FinMap as finmap
-use Rattle.std.proofs.lemmas.List.{length-append, take-append-le}
+use Rattle.std.proofs.lemmas.List.{length-append, length-take, take-append-le, take-take}
 use Rattle.clog_disk.specs.Files.{Files, bytes_at}
 use Rattle.clog_disk.specs.Images.{Tears}
 use Rattle.clog_crash.specs.Rest.{Kept, Tail}
-
-take_of_take : (k m : ℕ) (l : List ℕ) → k ≤ m → take k (take m l) ≡ take k l
-take_of_take zero m l le = refl
-take_of_take (suc k) zero l le = absurd (omega (arith, le))
-take_of_take (suc k) (suc m) [] le = refl
-take_of_take (suc k) (suc m) (x ∷ l) le =
-    ap (λ (r : List ℕ). x ∷ r) (take_of_take k m l (omega (arith, le)))
-
-length-take_most : (m : ℕ) (l : List ℕ) → length (take m l) ≤ length l
-length-take_most zero l = omega arith
-length-take_most (suc m) [] = omega arith
-length-take_most (suc m) (x ∷ l) = omega (arith, length-take_most m l)
 
 -- what was left may be left where more is written
 pub longer : (k : ℕ) (written more : List ℕ) (left : Option (List ℕ)) → k ≤ length written
@@ -53,7 +41,8 @@ longer k written more (Some b) le t = record {
   no_longer = omega (arith, t.no_longer, length-append written more);
 }
 
-empty_at : (files : Files) (name : List ℕ) → finmap.get files name ≡ None
+-- where nothing stands there are no bytes
+pub empty_at : (files : Files) (name : List ℕ) → finmap.get files name ≡ None
     → bytes_at files name ≡ []
 empty_at files name none = ap (λ (o : Option (List ℕ)). unwrap_or o []) none
 
@@ -62,9 +51,9 @@ torn_front : (k : ℕ) (w more b : List ℕ) → k ≤ length w
     → length b ≤ length w + length more → Tail k w (Some (take (length w) b))
     → Kept k (w ++ more) b
 torn_front k w more b le size part = record {
-  front = sym (take_of_take k (length w) b le) ∙ part.front
+  front = sym (take-take k (length w) b le) ∙ part.front
       ∙ sym (take-append-le k w more le);
-  no_shorter = omega (arith, part.no_shorter, length-take_most (length w) b);
+  no_shorter = omega (arith, part.no_shorter, length-take (length w) b);
   no_longer = omega (arith, size, length-append w more);
 }
 

@@ -8,6 +8,7 @@ use Rattle.std.proofs.lemmas.List.Elements.{
   Contains-append_right,
   Contains-append_cases,
 }
+use Rattle.clog_spec.specs.Sizes.{header_size}
 use Rattle.clog_spec.specs.Names.{segment_name_of, IsSegmentName}
 use Rattle.clog_base.proofs.NameLaws.{one_segment as one_name}
 use Rattle.clog_disk.specs.Files.{Files, bytes_at}
@@ -36,7 +37,7 @@ module _ (f : Files) (id : ℕ) (old kept more : List Section) (stored : IsStore
   s = segment_name_of 6 id
 
   abbrev entries : List Entry
-  entries = entries_of (last_until 20 old) more
+  entries = entries_of (last_until header_size old) more
 
   abbrev extra : List Entry
   extra = take read.n entries
@@ -46,13 +47,14 @@ module _ (f : Files) (id : ℕ) (old kept more : List Section) (stored : IsStore
       subst (λ (l : List Entry). Contains l entry) (take-append-drop read.n entries)
       (Contains-append_left extra (drop read.n entries) entry h)
 
-  said : AreMutations (entries_of 20 old ++ extra)
+  said : AreMutations (entries_of header_size old ++ extra)
   said entry h =
       stored.said entry (subst (λ (es : List Entry). Contains es entry)
-      (sym (entries_of-append 20 old more))
-      (elim (Contains-append_cases (entries_of 20 old) extra entry h) [
-        | inl before ↦ Contains-append_left (entries_of 20 old) entries entry before
-        | inr new ↦ Contains-append_right (entries_of 20 old) entries entry (among entry new)
+      (sym (entries_of-append header_size old more))
+      (elim (Contains-append_cases (entries_of header_size old) extra entry h) [
+        | inl before ↦ Contains-append_left (entries_of header_size old) entries entry before
+        | inr new ↦ Contains-append_right (entries_of header_size old) entries entry
+            (among entry new)
       ]))
 
   -- the name of a segment is this one, or that of an older one
@@ -87,14 +89,14 @@ module _ (f : Files) (id : ℕ) (old kept more : List Section) (stored : IsStore
   this_is_good held =
       let there = bytes_of (finmap.get image s) held in
       record {
-        entries = entries_of 20 old ++ extra;
+        entries = entries_of header_size old ++ extra;
         end = read.end;
         holds = record {
           named = is_named id stored.fits;
           bytes = there.0;
           there = there.1;
           holds = subst
-              (λ (b : List ℕ). IsSegment b id (entries_of 20 old ++ extra) read.end)
+              (λ (b : List ℕ). IsSegment b id (entries_of header_size old ++ extra) read.end)
               (reads_as image s there.0 there.1) read.holds;
         };
         may_end = may_end read.end read.soft;

@@ -22,6 +22,7 @@ use Rattle.std.proofs.Common.{
 use Rattle.std.specs.Prelude.{Contains}
 use Rattle.std.proofs.lemmas.List.{append-nil, drop_all, length-append}
 use Rattle.std.proofs.lemmas.List.Elements.{Contains-append_right}
+use Rattle.clog_spec.specs.Sizes.{frame_size, header_size, marker_size}
 use Rattle.clog_spec.specs.Segment.{entry_bytes}
 use Rattle.clog_spec.proofs.Lengths.{length-entry_bytes}
 use Rattle.clog_base.proofs.Members.{here}
@@ -62,7 +63,7 @@ empty_entry at until p is =
       arith,
       long,
       length-entry_bytes p,
-      length-append (entry_bytes p) (drop (at + 12 + length p) []),
+      length-append (entry_bytes p) (drop (at + frame_size + length p) []),
     ))
 
 module _ (id : ℕ) (s : Section) (ss : List Section) (stored : IsStored id (s ∷ ss)) where
@@ -81,16 +82,17 @@ module _ (id : ℕ) (s : Section) (ss : List Section) (stored : IsStored id (s �
   front : IsFront bytes id (Some all)
   front = record {
     cut = sym (append-nil bytes) ∙ ap (λ (l : List ℕ). bytes ++ l) (sym none_behind);
-    sections = whole_sections (length bytes) 20 all stored.whole;
+    sections = whole_sections (length bytes) header_size all stored.whole;
   }
 
   header : IsHeaderAt bytes id
   header = front_header bytes id all front
 
-  way : Trace bytes id 20 20 (items_of all) (length bytes) (last_until 20 all)
+  way : Trace bytes id header_size header_size (items_of all) (length bytes)
+      (last_until header_size all)
   way = front_way bytes id all front
 
-  stops : StopsAt bytes id (length bytes) (last_until 20 all) (Clean (length bytes))
+  stops : StopsAt bytes id (length bytes) (last_until header_size all) (Clean (length bytes))
   stops = (
     refl,
     ends_at id (length bytes) s ss stored.whole,
@@ -101,63 +103,68 @@ module _ (id : ℕ) (s : Section) (ss : List Section) (stored : IsStored id (s �
 
   abbrev Leaves : List Section → List Item → ℕ → ℕ → Type 0
   Leaves sections more at until = (items_of all ≡ items_of sections ++ more)
-      × Trace bytes id 20 20 (items_of sections) at until
-      × Trace bytes id at until more (length bytes) (last_until 20 all)
+      × Trace bytes id header_size header_size (items_of sections) at until
+      × Trace bytes id at until more (length bytes) (last_until header_size all)
 
   marker_among : (sections : List Section) (more : List Item) (at until next : ℕ)
       → Leaves sections more at until → at ≡ until → IsMarkerAt bytes id at next
-      → Contains (marks_of 20 all) at
+      → Contains (marks_of header_size all) at
   marker_among sections [] at until next l full marked =
       absurd (omega (arith, l.2.0, marked.behind, marked.within))
   marker_among sections (Held p ∷ more) at until next l full marked =
       absurd (omega (arith, l.2.0, full))
   marker_among sections (Marked m ∷ more) at until next l full marked =
-      let marks_are : marks_from 20 (items_of sections) ++ marks_from at (Marked m ∷ more)
-      ≡ marks_of 20 all =
-      sym (marks_from-append bytes id 20 20 (items_of sections) (Marked m ∷ more) at until l.1)
-      ∙ ap (marks_from 20) (sym l.0) ∙ marks_from-items_of (length bytes) 20 all stored.whole in
+      let marks_are : marks_from header_size (items_of sections) ++ marks_from at (Marked m ∷ more)
+      ≡ marks_of header_size all =
+      sym (marks_from-append bytes id header_size header_size (items_of sections)
+      (Marked m ∷ more) at until l.1)
+      ∙ ap (marks_from header_size) (sym l.0) ∙ marks_from-items_of
+      (length bytes) header_size all stored.whole in
       subst (λ (ms : List ℕ). Contains ms at) marks_are
-      (Contains-append_right (marks_from 20 (items_of sections))
-      (at ∷ marks_from (at + 8) more) at (here at (marks_from (at + 8) more)))
+      (Contains-append_right (marks_from header_size (items_of sections))
+      (at ∷ marks_from (at + marker_size) more) at (here at (marks_from (at + marker_size) more)))
 
   entry_among : (sections : List Section) (more : List Item) (at until : ℕ) (payload : List ℕ)
       → Leaves sections more at until → until ≤ length bytes → at < until
-      → IsEntryAt bytes at until payload → Contains (entries_of 20 all) (entry_from at payload)
+      → IsEntryAt bytes at until payload → Contains (entries_of header_size all)
+      (entry_from at payload)
   entry_among sections [] at until payload l within room held =
       absurd (omega (arith, l.2.0, within, room))
   entry_among sections (Marked m ∷ more) at until payload l within room held =
       absurd (omega (arith, l.2.0, room))
   entry_among sections (Held p ∷ more) at until payload l within room held =
       let same : p ≡ payload = same_entry bytes at until p payload file within l.2.1 held in
-      let tail = held_from (at + 12 + length p) more in
-      let entries_are : held_from 20 (items_of sections) ++ held_from at (Held p ∷ more)
-      ≡ entries_of 20 all =
-      sym (held_from-append bytes id 20 20 (items_of sections) (Held p ∷ more) at until l.1)
-      ∙ ap (held_from 20) (sym l.0)
-      ∙ held_from-items_of (length bytes) 20 all
-      (whole_sections (length bytes) 20 all stored.whole) in
-      subst (λ (q : List ℕ). Contains (entries_of 20 all) (entry_from at q)) same
+      let tail = held_from (at + frame_size + length p) more in
+      let entries_are : held_from header_size (items_of sections) ++ held_from at (Held p ∷ more)
+      ≡ entries_of header_size all =
+      sym (held_from-append bytes id header_size header_size (items_of sections)
+      (Held p ∷ more) at until l.1)
+      ∙ ap (held_from header_size) (sym l.0)
+      ∙ held_from-items_of (length bytes) header_size all
+      (whole_sections (length bytes) header_size all stored.whole) in
+      subst (λ (q : List ℕ). Contains (entries_of header_size all) (entry_from at q)) same
       (subst (λ (es : List Entry). Contains es (entry_from at p)) entries_are
-      (Contains-append_right (held_from 20 (items_of sections)) (entry_from at p ∷ tail)
+      (Contains-append_right (held_from header_size (items_of sections)) (entry_from at p ∷ tail)
       (entry_from at p) (here (entry_from at p) tail)))
 
   module _ (at until : ℕ) (reached : Reaches bytes id at until) where
     abbrev items : List Item
     items = items_of reached.sections
 
-    part : Trace bytes id 20 20 items at until
+    part : Trace bytes id header_size header_size items at until
     part =
-        let Goes : ℕ → ℕ → Type 0 = λ a u. Trace bytes id 20 20 items a u in
+        let Goes : ℕ → ℕ → Type 0 = λ a u. Trace bytes id header_size header_size items a u in
         subst (λ a. Goes a until) (sym reached.place)
         (subst (Goes (length (front_bytes id (Some reached.sections)))) (sym reached.end)
         (front_way bytes id reached.sections reached.front))
 
-    on : GoesOn bytes id (items_of all) items at until (length bytes) (last_until 20 all)
-    on = one_way bytes id 20 20 (items_of all) (length bytes) (last_until 20 all)
+    on : GoesOn bytes id (items_of all) items at until (length bytes) (last_until header_size all)
+    on = one_way bytes id header_size header_size (items_of all) (length bytes)
+        (last_until header_size all)
         (Clean (length bytes)) items at until file (header_long bytes id header) way stops part
 
     within : until ≤ length bytes
-    within = (stays_within bytes id 20 20 items at until part (omega arith)
+    within = (stays_within bytes id header_size header_size items at until part (omega arith)
         (header_long bytes id header)).1
 
     leaves : Leaves reached.sections on.more at until

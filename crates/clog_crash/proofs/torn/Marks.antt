@@ -20,6 +20,7 @@ use Rattle.std.proofs.Common.{
 use Rattle.std.specs.Prelude.{Contains}
 use Rattle.std.proofs.lemmas.List.{length-append}
 use Rattle.std.proofs.lemmas.List.Elements.{Contains-append_cases}
+use Rattle.clog_spec.specs.Sizes.{frame_size, marker_size}
 use Rattle.clog_spec.specs.Segment.{entry_bytes}
 use Rattle.clog_spec.proofs.Lengths.{length-entry_bytes}
 use Rattle.clog_base.proofs.Members.{nothing_there, first_or_further}
@@ -36,27 +37,27 @@ use Rattle.clog_crash.proofs.torn.Whole.{until_grows}
 -- where the markers among these items stand
 abbrev pub marks_from : ℕ → List Item → List ℕ
 marks_from at [] = []
-marks_from at (Marked next ∷ items) = at ∷ marks_from (at + 8) items
-marks_from at (Held p ∷ items) = marks_from (at + 12 + length p) items
+marks_from at (Marked next ∷ items) = at ∷ marks_from (at + marker_size) items
+marks_from at (Held p ∷ items) = marks_from (at + frame_size + length p) items
 
 pub marks_above : (at : ℕ) (items : List Item) (q : ℕ) → Contains (marks_from at items) q → at ≤ q
 marks_above at [] q h = absurd (nothing_there q h)
 marks_above at (Marked next ∷ items) q h =
-    elim (first_or_further at (marks_from (at + 8) items) q h) [
+    elim (first_or_further at (marks_from (at + marker_size) items) q h) [
       | inl here ↦ omega (arith, here)
-      | inr more ↦ omega (arith, marks_above (at + 8) items q more)
+      | inr more ↦ omega (arith, marks_above (at + marker_size) items q more)
     ]
 marks_above at (Held p ∷ items) q h =
-    omega (arith, marks_above (at + 12 + length p) items q h)
+    omega (arith, marks_above (at + frame_size + length p) items q h)
 
 pub held_above : (at : ℕ) (items : List Item) (e : Entry) → Contains (held_from at items) e
     → at ≤ e.start
 held_above at [] e h = absurd (nothing_there e h)
-held_above at (Marked next ∷ items) e h = omega (arith, held_above (at + 8) items e h)
+held_above at (Marked next ∷ items) e h = omega (arith, held_above (at + marker_size) items e h)
 held_above at (Held p ∷ items) e h =
-    elim (first_or_further (entry_from at p) (held_from (at + 12 + length p) items) e h) [
+    elim (first_or_further (entry_from at p) (held_from (at + frame_size + length p) items) e h) [
       | inl here ↦ omega (arith, ap (λ (x : Entry). x.start) here)
-      | inr more ↦ omega (arith, held_above (at + 12 + length p) items e more)
+      | inr more ↦ omega (arith, held_above (at + frame_size + length p) items e more)
     ]
 
 pub marks_from-append : (bytes : List ℕ) (id at until : ℕ) (items more : List Item)
@@ -64,15 +65,16 @@ pub marks_from-append : (bytes : List ℕ) (id at until : ℕ) (items more : Lis
     → marks_from at (items ++ more) ≡ marks_from at items ++ marks_from place more
 marks_from-append bytes id at until [] more place end way = ap (λ k. marks_from k more) way.0
 marks_from-append bytes id at until (Marked next ∷ items) more place end way =
-    ap (λ ms. at ∷ ms) (marks_from-append bytes id (at + 8) next items more place end way.2)
+    ap (λ ms. at ∷ ms) (marks_from-append bytes id
+    (at + marker_size) next items more place end way.2)
 marks_from-append bytes id at until (Held p ∷ items) more place end way =
-    marks_from-append bytes id (at + 12 + length p) until items more place end way.2
+    marks_from-append bytes id (at + frame_size + length p) until items more place end way.2
 
 -- ---- among sections
 
 -- how many bytes there are once one entry more is laid before others
 pub entries_longer : (at : ℕ) (p : List ℕ) (ps : List (List ℕ))
-    → at + 12 + length p + length (entries_bytes ps) ≡ at + length (entries_bytes (p ∷ ps))
+    → at + frame_size + length p + length (entries_bytes ps) ≡ at + length (entries_bytes (p ∷ ps))
 entries_longer at p ps =
     omega (arith, length-append (entry_bytes p) (entries_bytes ps), length-entry_bytes p)
 
@@ -82,7 +84,7 @@ unfolding helds
 marks_from-helds at [] tail =
     let same : at ≡ at + 0 = omega arith in ap (λ k. marks_from k tail) same
 marks_from-helds at (p ∷ ps) tail =
-    marks_from-helds (at + 12 + length p) ps tail
+    marks_from-helds (at + frame_size + length p) ps tail
     ∙ ap (λ k. marks_from k tail) (entries_longer at p ps)
 
 pub marks_from-items_of : (len at : ℕ) (ss : List Section) → AreWhole len at ss
@@ -91,7 +93,7 @@ unfolding items_of
 marks_from-items_of len at [] whole = refl
 marks_from-items_of len at (s ∷ ss) whole =
     ap (λ ms. at ∷ ms)
-    (marks_from-helds (at + 8) s.payloads (items_of ss)
+    (marks_from-helds (at + marker_size) s.payloads (items_of ss)
     ∙ ap (λ k. marks_from k (items_of ss)) whole.1
     ∙ marks_from-items_of len s.until ss whole.2)
 
@@ -114,7 +116,7 @@ entries_below : (at : ℕ) (ps : List (List ℕ)) (e : Entry) → Contains (entr
     → e.start < at + length (entries_bytes ps)
 entries_below at [] e h = absurd (nothing_there e h)
 entries_below at (p ∷ ps) e h =
-    let next = at + 12 + length p in
+    let next = at + frame_size + length p in
     elim (first_or_further (entry_from at p) (entries_from next ps) e h) [
       | inl here ↦
           omega (arith, ap (λ (x : Entry). x.start) here, entries_longer at p ps)
@@ -126,10 +128,11 @@ pub held_below : (len at : ℕ) (ss : List Section) (e : Entry) → AreWhole len
     → Contains (entries_of at ss) e → e.start < last_until at ss
 held_below len at [] e whole h = absurd (nothing_there e h)
 held_below len at (s ∷ ss) e whole h =
-    elim (Contains-append_cases (entries_from (at + 8) s.payloads) (entries_of s.until ss) e h) [
+    elim (Contains-append_cases (entries_from (at + marker_size) s.payloads)
+    (entries_of s.until ss) e h) [
       | inl here ↦ omega (
         arith,
-        entries_below (at + 8) s.payloads e here,
+        entries_below (at + marker_size) s.payloads e here,
         whole.1,
         until_grows len s.until ss whole.2,
       )

@@ -26,6 +26,7 @@ use Rattle.std.proofs.Common.{
 }
 use Rattle.std.specs.Prelude.{Contains}
 use Rattle.std.proofs.lemmas.Bool.{cases_lt}
+use Rattle.clog_spec.specs.Sizes.{frame_size, header_size, marker_size}
 use Rattle.clog_base.proofs.Members.{nothing_there, first_or_further}
 use Rattle.clog_entry.specs.declared.cause.Cause.{Cause}
 use Rattle.clog_entry.specs.declared.marker.Marker.{Marker}
@@ -117,7 +118,7 @@ by_marker bytes id at until rest file full more (Err cause) is =
 -- ---- a step that was written
 
 marker_next : (bytes : List ℕ) (id at until m next : ℕ) (rest : List Item) → at ≡ until
-    → IsMarkerAt bytes id at next → Reads bytes id (at + 8) next rest
+    → IsMarkerAt bytes id at next → Reads bytes id (at + marker_size) next rest
     → Reads bytes id at until (Marked m ∷ rest)
 marker_next bytes id at until m next rest full marked more = record {
   items = Marked next ∷ more.items;
@@ -133,7 +134,8 @@ marker_next bytes id at until m next rest full marked more = record {
 }
 
 entry_next : (bytes : List ℕ) (id at until : ℕ) (p : List ℕ) (rest : List Item)
-    → at < until → IsEntryAt bytes at until p → Reads bytes id (at + 12 + length p) until rest
+    → at < until → IsEntryAt bytes at until p → Reads bytes id
+    (at + frame_size + length p) until rest
     → Reads bytes id at until (Held p ∷ rest)
 entry_next bytes id at until p rest room held more = record {
   items = Held p ∷ more.items;
@@ -150,18 +152,19 @@ entry_next bytes id at until p rest room held more = record {
 
 -- what was written behind a marker, or behind an entry
 marks_behind_marker : (bytes : List ℕ) (id at m : ℕ) (rest : List Item)
-    → MarksAmong bytes id at (Marked m ∷ rest) → MarksAmong bytes id (at + 8) rest
+    → MarksAmong bytes id at (Marked m ∷ rest) → MarksAmong bytes id (at + marker_size) rest
 marks_behind_marker bytes id at m rest marks q next far reached is =
-    elim (first_or_further at (marks_from (at + 8) rest) q
+    elim (first_or_further at (marks_from (at + marker_size) rest) q
     (marks q next (omega (arith, far)) reached is)) [
       | inl same ↦ absurd (omega (arith, far, same))
       | inr more ↦ more
     ]
 
 entries_behind_entry : (bytes : List ℕ) (id at : ℕ) (p : List ℕ) (rest : List Item)
-    → EntriesAmong bytes id at (Held p ∷ rest) → EntriesAmong bytes id (at + 12 + length p) rest
+    → EntriesAmong bytes id at (Held p ∷ rest) → EntriesAmong bytes id
+    (at + frame_size + length p) rest
 entries_behind_entry bytes id at p rest entries k until l far less reached is =
-    elim (first_or_further (entry_from at p) (held_from (at + 12 + length p) rest)
+    elim (first_or_further (entry_from at p) (held_from (at + frame_size + length p) rest)
     (entry_from k l) (entries k until l (omega (arith, far)) less reached is)) [
       | inl same ↦ absurd (omega (arith, far, ap (λ (e : Entry). e.start) same))
       | inr more ↦ more
@@ -171,7 +174,7 @@ entries_behind_entry bytes id at p rest entries k until l far less reached is =
 
 pub reads : (bytes : List ℕ) (id at until : ℕ) (before rest : List Item) → IsFile bytes
     → IsHeaderAt bytes id → at ≤ until → until ≤ length bytes
-    → Trace bytes id 20 20 before at until → MarksAmong bytes id at rest
+    → Trace bytes id header_size header_size before at until → MarksAmong bytes id at rest
     → EntriesAmong bytes id at rest → Reads bytes id at until rest
 reads bytes id at until before [] file header order within way marks entries =
     let here = front_by_way bytes id before at until header way in
@@ -192,27 +195,27 @@ reads bytes id at until before (Marked m ∷ rest) file header order within way 
       | inl room ↦ by_entry bytes id at until (Marked m ∷ rest) file room within
           (λ p held. absurd (omega (
             arith,
-            held_above (at + 8) rest (entry_from at p)
+            held_above (at + marker_size) rest (entry_from at p)
                 (entries at until p (omega arith) room here held),
           ))) (entry_read bytes at until) refl
       | inr past ↦
           let full : at ≡ until = omega (arith, past, order) in
           by_marker bytes id at until (Marked m ∷ rest) file full
           (λ next marked. marker_next bytes id at until m next rest full marked
-          (reads bytes id (at + 8) next (before ++ Marked next ∷ []) rest file header
+          (reads bytes id (at + marker_size) next (before ++ Marked next ∷ []) rest file header
           marked.behind marked.within
-          (marked_last bytes id 20 20 before at until next way full marked)
+          (marked_last bytes id header_size header_size before at until next way full marked)
           (marks_behind_marker bytes id at m rest marks)
           (λ q u p far less reached is. entries q u p (omega (arith, far)) less reached is)))
           (marker_read bytes id at) refl
     ]
 reads bytes id at until before (Held q ∷ rest) file header order within way marks entries =
     let here = front_by_way bytes id before at until header way in
-    let next = at + 12 + length q in
+    let next = at + frame_size + length q in
     let goes_on : IsEntryAt bytes at until q → at < until → Reads bytes id at until (Held q ∷ rest)
     = λ held room. entry_next bytes id at until q rest room held
     (reads bytes id next until (before ++ Held q ∷ []) rest file header held.fits within
-    (held_last bytes id 20 20 before at until q way room held)
+    (held_last bytes id header_size header_size before at until q way room held)
     (λ k u far reached is. marks k u (omega (arith, far)) reached is)
     (entries_behind_entry bytes id at q rest entries)) in
     elim (cases_lt at until) [

@@ -30,6 +30,7 @@ use Rattle.std.specs.Prelude.{Contains}
 use Rattle.std.proofs.Math.Seq.{drop-append_seam}
 use Rattle.std.proofs.lemmas.List.{length-append}
 use Rattle.std.proofs.lemmas.List.Elements.{Contains-append_cases}
+use Rattle.clog_spec.specs.Sizes.{frame_size, header_size, marker_size}
 use Rattle.clog_entry.specs.declared.cause.Cause.{Cause}
 use Rattle.clog_entry.specs.Reading.{header_read}
 use Rattle.clog_entry.specs.Soft.{IsSoft, PassesAsHeader}
@@ -83,34 +84,41 @@ joined_way bytes id at until [] more mid mid_until place end one other =
 joined_way bytes id at until (Marked next ∷ items) more mid mid_until place end one other = (
   one.0,
   one.1,
-  joined_way bytes id (at + 8) next items more mid mid_until place end one.2 other,
+  joined_way bytes id (at + marker_size) next items more mid mid_until place end one.2 other,
 )
 joined_way bytes id at until (Held p ∷ items) more mid mid_until place end one other = (
   one.0,
   one.1,
-  joined_way bytes id (at + 12 + length p) until items more mid mid_until place end one.2 other,
+  joined_way bytes id (at + frame_size + length p) until items more mid mid_until place end one.2
+      other,
 )
 
 -- ---- behind old sections that stand
 
 module _ (id : ℕ) (old new : List Section) (image : List ℕ) (file : IsFile image) (end : ℕ)
-    (whole : AreWhole end 20 (old ++ new)) (no_chance : NoChance id (old ++ new) image) where
+    (whole : AreWhole end header_size (old ++ new)) (no_chance : NoChance id
+    (old ++ new) image) where
   abbrev at : ℕ
-  at = last_until 20 old
+  at = last_until header_size old
 
-  whole_old : AreWhole at 20 old
-  whole_old = whole_front end at 20 old new whole (omega arith)
+  whole_old : AreWhole at header_size old
+  whole_old = whole_front end at header_size old new whole (omega arith)
 
   whole_new : AreWhole end at new
-  whole_new = whole_back end 20 old new whole
+  whole_new = whole_back end header_size old new whole
 
   marks : MarksAmong image id at (items_of new)
   marks q next far reached is =
       let among = no_chance.marker q next reached is in
       subst (λ (ms : List ℕ). Contains ms q) (sym (marks_from-items_of end at new whole_new))
-      (elim (Contains-append_cases (marks_of 20 old) (marks_of at new) q
-      (subst (λ (ms : List ℕ). Contains ms q) (marks_of-append 20 old new) among)) [
-        | inl before ↦ absurd (omega (arith, far, marks_below at 20 old q whole_old before))
+      (elim (Contains-append_cases (marks_of header_size old) (marks_of at new) q
+      (subst (λ (ms : List ℕ). Contains ms q) (marks_of-append header_size old new) among)) [
+        | inl before ↦ absurd (omega (
+          arith,
+          far,
+          marks_below at header_size old q whole_old
+              before,
+        ))
         | inr here ↦ here
       ])
 
@@ -121,26 +129,34 @@ module _ (id : ℕ) (old new : List Section) (image : List ℕ) (file : IsFile i
   entries q until p far less reached is =
       let among = no_chance.entry q until p less reached is in
       subst (λ (es : List Entry). Contains es (entry_from q p)) (sym entries_are)
-      (elim (Contains-append_cases (entries_of 20 old) (entries_of at new) (entry_from q p)
-      (subst (λ (es : List Entry). Contains es (entry_from q p)) (entries_of-append 20 old new)
+      (elim (Contains-append_cases (entries_of header_size old) (entries_of at new) (entry_from q p)
+      (subst (λ (es : List Entry). Contains es (entry_from q p))
+      (entries_of-append header_size old new)
       among)) [
         | inl before ↦
-            absurd (omega (arith, far, held_below at 20 old (entry_from q p) whole_old before))
+            absurd (omega (
+              arith,
+              far,
+              held_below at header_size old
+                  (entry_from q p) whole_old before,
+            ))
         | inr here ↦ here
       ])
 
   from_there : IsHeaderAt image id → at ≤ length image
-      → Trace image id 20 20 (items_of old) at at → held_from 20 (items_of old) ≡ entries_of 20 old
+      → Trace image id header_size header_size (items_of old) at at
+      → held_from header_size (items_of old) ≡ entries_of header_size old
       → ReadsFirst id old new image
   from_there header long way old_are =
       let r = reads image id at at (items_of old) (items_of new) file header (omega arith) long way
       marks entries in
-      let all = joined_way image id 20 20 (items_of old) r.items at at r.place r.end way r.way in
-      let are : held_from 20 (items_of old ++ r.items)
-      ≡ entries_of 20 old ++ take r.n (entries_of at new) =
-      held_from-append image id 20 20 (items_of old) r.items at at way
+      let all = joined_way image id header_size header_size
+      (items_of old) r.items at at r.place r.end way r.way in
+      let are : held_from header_size (items_of old ++ r.items)
+      ≡ entries_of header_size old ++ take r.n (entries_of at new) =
+      held_from-append image id header_size header_size (items_of old) r.items at at way
       ∙ ap (λ (es : List Entry). es ++ held_from at r.items) old_are
-      ∙ ap (λ (es : List Entry). entries_of 20 old ++ es) (r.first
+      ∙ ap (λ (es : List Entry). entries_of header_size old ++ es) (r.first
       ∙ ap (take r.n) entries_are) in
       record {
         end = r.stop;
@@ -156,26 +172,26 @@ module _ (id : ℕ) (old new : List Section) (image : List ℕ) (file : IsFile i
       → ReadsFirst id old new image
   behind_old rest is =
       let front = front_bytes id (Some old) in
-      let size : length front ≡ at = omega (arith, whole_until id at 20 old whole_old) in
+      let size : length front ≡ at = omega (arith, whole_until id at header_size old whole_old) in
       let long : length front ≤ length image =
       omega (arith, ap length is, length-append front rest) in
       let cut : drop (length front) image ≡ rest =
       ap (drop (length front)) is ∙ drop-append_seam front rest in
-      let old_sections = whole_sections (length image) 20 old
-      (whole_front end (length image) 20 old new whole (omega (arith, size, long))) in
+      let old_sections = whole_sections (length image) header_size old
+      (whole_front end (length image) header_size old new whole (omega (arith, size, long))) in
       let front_is : IsFront image id (Some old) = record {
         cut = is ∙ ap (λ (l : List ℕ). front ++ l) (sym cut);
         sections = old_sections;
       } in
       from_there (front_header image id old front_is) (omega (arith, size, long))
-      (subst (λ (k : ℕ). Trace image id 20 20 (items_of old) k at) size
+      (subst (λ (k : ℕ). Trace image id header_size header_size (items_of old) k at) size
       (front_way image id old front_is))
-      (held_from-items_of (length image) 20 old old_sections)
+      (held_from-items_of (length image) header_size old old_sections)
 
 -- ---- where nothing lasts
 
 anew : (id : ℕ) (new : List Section) (image : List ℕ) (end : ℕ) → id < 2 ^ 64 → IsFile image
-    → AreWhole end 20 new → NoChance id new image
+    → AreWhole end header_size new → NoChance id new image
     → (read : Result Unit Cause) → header_read image id ≡ read → ReadsFirst id [] new image
 unfolding items_of
 anew id new image end fits file whole no_chance (Ok there) is =
@@ -196,7 +212,7 @@ pub torn : (id : ℕ) (old new : List Section) (image : List ℕ) → id < 2 ^ 6
 torn id old new image fits file w (inl begins) no_chance =
     behind_old id old new image file w.end w.whole no_chance begins.0 begins.1
 torn id old new image fits file w (inr none) no_chance =
-    let IsSo : List Section → Type 0 = λ ss. AreWhole w.end 20 (ss ++ new)
+    let IsSo : List Section → Type 0 = λ ss. AreWhole w.end header_size (ss ++ new)
     → NoChance id (ss ++ new) image → ReadsFirst id ss new image in
     subst IsSo (sym none) (λ whole chance. anew id new image w.end fits file whole chance
     (header_read image id) refl) w.whole no_chance

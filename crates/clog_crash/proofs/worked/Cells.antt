@@ -41,7 +41,7 @@ use Rattle.clog_crash.specs.Worked.{
   the_mutation,
   the_segment,
 }
-use Rattle.clog_base.proofs.Members.{here, first_or_further, nothing_there}
+use Rattle.clog_base.proofs.Members.{here, only_one}
 use Rattle.clog_crash.proofs.worked.Files.{held, is_segment_file, segment_name, stored, the_entry}
 use Rattle.clog_crash.proofs.worked.Folder.{
   is_read,
@@ -54,16 +54,10 @@ use Rattle.clog_crash.proofs.worked.Folder.{
 
 -- ---- its cells
 
-pub only : {A : Type 0} (x y : A) → Contains (x ∷ []) y → x ≡ y
-only x y h = elim (first_or_further x [] y h) [
-  | inl same ↦ same
-  | inr none ↦ absurd (nothing_there y none)
-]
-
 pub filed_is : (table : Table) (upper : ℕ) (pair : CellKey × Cell) → table.0 < most_tables
     → upper < 2 ^ 32 → IsTableCell (the_folder table upper) pair → filed table ≡ pair
 filed_is table upper pair few fits c =
-    only (filed table) pair
+    only_one (filed table) pair
     (subst (λ (f : TableFile). Contains f.cells pair)
     (sym (read_is table upper few fits c.read c.there)) c.listed)
 
@@ -93,7 +87,7 @@ logged_is table upper id entry few l =
           let one = one_reading the_segment 1000 l.entries l.end (the_entry ∷ []) (Clean 60)
           is_segment_file (omega arith) holds held in (
             ids.1,
-            only the_entry entry
+            only_one the_entry entry
                 (subst (λ (es : List Entry). Contains es entry) one.entries_are l.listed),
           )
     ]
@@ -113,7 +107,7 @@ update_is table upper pair few c =
       l.0,
       l.1,
       sym same,
-      only the_update c.update
+      only_one the_update c.update
           (subst (λ (m : Mutation). Contains m.updates c.update) same c.listed),
     )
 

@@ -32,7 +32,7 @@ use Rattle.std.specs.Ordering.{nat_cmp}
 use Rattle.clog_spec.specs.Names.{segment_name_of, table_name_of}
 use Rattle.clog_base.specs.declared.cell.Cell.{Cell}
 use Rattle.clog_base.specs.declared.cell.CellKey.{CellKey}
-use Rattle.clog_base.proofs.Members.{here, nothing_there}
+use Rattle.clog_base.proofs.Members.{here, nothing_there, only_one}
 use Rattle.clog_cells.specs.Merge.{IsMerge}
 use Rattle.clog_cells.proofs.Merging.{of_itself}
 use Rattle.clog_disk.specs.Files.{Files, bytes_at, no_files}
@@ -56,7 +56,6 @@ use Rattle.clog_crash.proofs.rest.Sectioned.{nothing_logged_in}
 use Rattle.clog_crash.proofs.rest.Settled.{settled_is}
 use Rattle.clog_crash.proofs.rest.Shown.{shown_now}
 use Rattle.clog_crash.proofs.worked.Files.{is_segment_file, one_in_order, stored, the_entry}
-use Rattle.clog_crash.proofs.worked.Cells.{only}
 
 -- ---- an empty folder
 
@@ -110,7 +109,7 @@ is_stored = record {
     the_mutation,
     record {
       stored = stored;
-      spelled = ap (λ (e : Entry). e.payload) (sym (only the_entry entry h));
+      spelled = ap (λ (e : Entry). e.payload) (sym (only_one the_entry entry h));
     },
   );
 }
@@ -118,7 +117,7 @@ is_stored = record {
 cell_is : (pair : CellKey × Cell) → IsCellAmong (the_entry ∷ []) pair ↔ Contains (logged ∷ []) pair
 cell_is pair = (
   λ c.
-      let entry = only the_entry c.entry c.listed in
+      let entry = only_one the_entry c.entry c.listed in
       let same : c.cell.mutation ≡ the_mutation =
       one_mutation c.cell.mutation the_mutation c.cell.said.stored stored
       (sym c.cell.said.spelled ∙ ap (λ (e : Entry). e.payload) (sym entry)) in

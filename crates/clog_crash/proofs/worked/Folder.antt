@@ -29,19 +29,18 @@ use Rattle.clog_disk.specs.Files.{no_files}
 use Rattle.clog_table.specs.Format.{table_file_bytes}
 use Rattle.clog_crash.specs.Folder.{TableRead, IsReadFrom}
 use Rattle.clog_crash.specs.Worked.{the_file, the_folder, the_segment}
-use Rattle.clog_crash.proofs.OneMore.{new_or_old, some_is, is_there}
-use Rattle.clog_crash.proofs.TableFiles.{one_table_file}
+use Rattle.clog_disk.proofs.Named.{put_here}
+use Rattle.clog_crash.proofs.OneMore.{new_or_old, some_is}
+use Rattle.clog_table.proofs.Again.{one_table_file}
 use Rattle.clog_crash.proofs.worked.Files.{
   is_file,
   segment_name,
   table_name,
 }
+use Rattle.std.proofs.lemmas.Option.{none-some}
 
 pub named_segment : IsSegmentName segment_name 6 1000
 named_segment = record { form = refl; version_fits = omega arith; id_fits = omega arith }
-
-pub no_some : (bytes : List ℕ) → ◌≡◌ {A = Option (List ℕ)} None (Some bytes) → ⊥
-no_some bytes e = cc
 
 -- what stands in the folder is one of the two files
 pub stands : (table : Table) (upper : ℕ) (name bytes : List ℕ)
@@ -54,7 +53,7 @@ stands table upper name bytes there =
       | inl new ↦ inl (new.0, some_is (table_file_bytes (the_file table upper)) bytes new.1)
       | inr old ↦ elim (new_or_old no_files segment_name the_segment name (Some bytes) old) [
         | inl new ↦ inr (new.0, some_is the_segment bytes new.1)
-        | inr none ↦ absurd (no_some bytes (sym (get-empty (slice_cmp nat_cmp) name) ∙ none))
+        | inr none ↦ absurd (none-some bytes (sym (get-empty (slice_cmp nat_cmp) name) ∙ none))
       ]
     ]
 
@@ -109,7 +108,7 @@ is_read table upper few fits = record {
   named = named_table table (table_name table) few refl;
   good = record {
     bytes = table_file_bytes (the_file table upper);
-    there = is_there (finmap.insert no_files segment_name the_segment) (table_name table)
+    there = put_here (finmap.insert no_files segment_name the_segment) (table_name table)
         (table_file_bytes (the_file table upper));
     spelled = record {
       is_file = is_file table upper few fits;

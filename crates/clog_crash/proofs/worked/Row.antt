@@ -8,18 +8,13 @@ use Rattle.clog_base.specs.declared.cell.Table.{Table}
 use Rattle.clog_cells.proofs.Merging.{of_itself, of_same}
 use Rattle.clog_crash.specs.Restore.{IsLoggedCell, IsRestored, IsSkipped, IsTableCell, Restores}
 use Rattle.clog_crash.specs.Worked.{filed, first_table, second_table, logged, the_folder}
-use Rattle.clog_base.proofs.Members.{here, further, first_or_further}
+use Rattle.clog_base.proofs.Members.{here, further, first_or_further, only_one}
 use Rattle.clog_crash.proofs.worked.Files.{
   filed_before_logged,
   logged_before_filed,
   one_in_order,
 }
-use Rattle.clog_crash.proofs.worked.Cells.{
-  filed_is,
-  is_filed,
-  logged_cell_is,
-  only,
-}
+use Rattle.clog_crash.proofs.worked.Cells.{filed_is, is_filed, logged_cell_is}
 use Rattle.clog_crash.proofs.worked.Skipping.{
   is_logged,
   its_end,
@@ -33,7 +28,7 @@ skipped =
     of_same (Contains (filed first_table ∷ [])) (Restores (the_folder first_table 60))
     (filed first_table ∷ []) (λ pair. (
       λ h. inl (subst (λ (p : CellKey × Cell). IsTableCell (the_folder first_table 60) p)
-          (only (filed first_table) pair h)
+          (only_one (filed first_table) pair h)
           (is_filed first_table 60 (omega arith) (omega arith))),
       λ r. elim r [
         | inl cell ↦ subst (λ (p : CellKey × Cell). Contains (filed first_table ∷ []) p)
@@ -66,7 +61,7 @@ of_two : (x y pair : CellKey × Cell)
 of_two x y pair = (
   λ h. elim (first_or_further x (y ∷ []) pair h) [
     | inl same ↦ inl same
-    | inr more ↦ inr (only y pair more)
+    | inr more ↦ inr (only_one y pair more)
   ],
   λ one. elim one [
     | inl same ↦ subst (λ (p : CellKey × Cell). Contains (x ∷ y ∷ []) p) same (here x (y ∷ []))

@@ -24,7 +24,8 @@ use Rattle.clog_crash.specs.Worked.{
   the_segment,
 }
 use Rattle.clog_base.proofs.Members.{here}
-use Rattle.clog_crash.proofs.OneMore.{stays, is_there}
+use Rattle.clog_disk.proofs.Named.{put_here}
+use Rattle.clog_crash.proofs.OneMore.{stays}
 use Rattle.clog_crash.proofs.worked.Files.{
   held,
   segment_name,
@@ -98,7 +99,7 @@ is_logged_entry table upper few = record {
     bytes = the_segment;
     there = stays (finmap.insert no_files segment_name the_segment) (table_name table)
         (table_file_bytes (the_file table upper)) segment_name the_segment (apart table few)
-        (is_there no_files segment_name the_segment);
+        (put_here no_files segment_name the_segment);
     holds = held;
   };
   listed = here the_entry [];
