@@ -35,13 +35,14 @@ use Rattle.std.specs.FinMap as finmap
 use Rattle.std.specs.List.{AllByRecursion}
 use Rattle.std.specs.List.Sorted.{IsStrictlySortedBy}
 use Rattle.std.specs.FinMap.Entries.{below_all, is_sorted}
-use Rattle.std.specs.Ordering.{is_lt, nat_cmp}
+use Rattle.std.specs.Ordering.{nat_cmp}
 use Rattle.std.specs.declared.cmp.Ordering.{Ordering}
-use Rattle.std.specs.declared.cmp.Ordering.TheVariants.{Less, Equal, Greater}
+use Rattle.std.specs.declared.cmp.Ordering.TheVariants.{Less}
 use Rattle.std.specs.Cmp.Lexicographic.{slice_cmp}
 use Rattle.std.proofs.lemmas.Bool.{true≢false}
 use Rattle.std.proofs.lemmas.List.{append-nil, length-take}
-use Rattle.clog_base.proofs.Members.{all_have, first_or_further, further, here}
+use Rattle.clog_base.proofs.Members.{all_from, all_have, first_or_further, further, here}
+use Rattle.clog_base.proofs.Orderings.{first_holds, is_less, second_holds}
 use Rattle.clog_disk.specs.Files.{Files, Lists}
 use Rattle.clog_crash.specs.Folder.{IsHeld}
 use Rattle.clog_folder.specs.Folder.{AreNamed}
@@ -109,12 +110,6 @@ picks_all P (y ∷ xs) picked x (inr is) there has = elim (first_or_further y xs
   | inr more ↦ picks_all P xs picked x is.1 more has
 ]
 
-all_from : {A : Type 0} (P : A → Type 0) (xs : List A) → ((x : A) → Contains xs x → P x)
-    → AllByRecursion P xs
-all_from P [] has = tt
-all_from P (x ∷ xs) has =
-    (has x (here x xs), all_from P xs (λ y there. has y (further x xs y there)))
-
 -- what is picked of what is in order is in order
 picks_ordered : {A : Type 0} (cmp : A → A → Ordering) (P : A → Type 0) (xs picked : List A)
     → IsStrictlySortedBy cmp xs → Picks P xs picked → IsStrictlySortedBy cmp picked
@@ -151,32 +146,19 @@ are_named held P names n sorted there all is = record {
 
 -- ---- the names of a disk
 
-is_less : (o : Ordering) → T (is_lt o) → o ≡ Less
-is_less Less it = refl
-is_less Equal it = absurd it
-is_less Greater it = absurd it
-
-first : (a b : Bool) → T (a && b) → T a
-first true b both = tt
-first false b both = absurd both
-
-second : (a b : Bool) → T (a && b) → T b
-second true b both = both
-second false b both = absurd both
-
 below_keys : (name : List ℕ) (es : List (List ℕ × List ℕ))
     → T (below_all (slice_cmp nat_cmp) name es)
     → AllByRecursion (λ y. slice_cmp nat_cmp name y ≡ Less) (map (λ (e : List ℕ × List ℕ). e.0) es)
 below_keys name [] below = tt
 below_keys name (e ∷ es) below =
-    (is_less _ (first _ _ below), below_keys name es (second _ _ below))
+    (is_less _ (first_holds _ _ below), below_keys name es (second_holds _ _ below))
 
 keys_rise : (es : List (List ℕ × List ℕ)) → T (is_sorted (slice_cmp nat_cmp) es)
     → IsStrictlySortedBy (slice_cmp nat_cmp) (map (λ (e : List ℕ × List ℕ). e.0) es)
 unfolding IsStrictlySortedBy
 keys_rise [] sorted = tt
 keys_rise (e ∷ es) sorted =
-    (below_keys e.0 es (first _ _ sorted), keys_rise es (second _ _ sorted))
+    (below_keys e.0 es (first_holds _ _ sorted), keys_rise es (second_holds _ _ sorted))
 
 -- where the files are told, so many of their names have P
 pub told_named : (files : Option Files) (P : List ℕ → Type 0) (names : List (List ℕ)) (n : ℕ)

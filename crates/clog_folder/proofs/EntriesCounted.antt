@@ -32,7 +32,7 @@ use Rattle.std.proofs.lemmas.Bool.{true≢false}
 use Rattle.std.proofs.lemmas.List.{append-nil, take_more, take-append-drop}
 use Rattle.std.proofs.Math.Seq.{drop-cons}
 use Rattle.clog_base.specs.declared.fault.PayloadFault.{PayloadFault}
-use Rattle.clog_base.proofs.Members.{first_or_further, further, here, nothing_there}
+use Rattle.clog_base.proofs.Members.{all_more, first_or_further, further, here, nothing_there}
 use Rattle.clog_mutation.specs.Refusals.{IsRefused}
 use Rattle.clog_scan.specs.declared.answer.Found.{Found}
 use Rattle.clog_folder.specs.declared.fault.OpenFault.{OpenFault}
@@ -78,11 +78,6 @@ picks_have P (y ∷ xs) picked x (inl has) there =
     ]
 picks_have P (y ∷ xs) picked x (inr has) there =
     let rest = picks_have P xs picked x has.1 there in (rest.0, further y xs x rest.1)
-
-all_more : {A : Type 0} (P : A → Type 0) (xs : List A) (x : A) → AllByRecursion P xs → P x
-    → AllByRecursion P (xs ++ x ∷ [])
-all_more P [] x all has = (has, tt)
-all_more P (y ∷ xs) x all has = (all.0, all_more P xs x all.1 has)
 
 -- ---- entry by entry
 

@@ -211,13 +211,16 @@ module _ (ignore : Bool) (held : Files) (rows : List Row) (helds : List SegmentH
         log = log_found.0;
         say = log_found.1.say;
         is_log = is_log;
-        short = λ name id named long.
-            (all_read name 6 id named (bytes_there held name long.bytes long.there)).short refl
-            long;
-        undamaged = λ strict. record {
+        readable = record {
           tables = tables_are_good held (map read_of tables) are;
-          segments = λ name version id named is_held.
-              (all_read name version id named is_held).good strict;
+          short = λ name id named long.
+              (all_read name 6 id named (bytes_there held name long.bytes long.there)).short refl
+              long;
+          undamaged = λ strict. record {
+            tables = tables_are_good held (map read_of tables) are;
+            segments = λ name version id named is_held.
+                (all_read name version id named is_held).good strict;
+          };
         };
       }
 

@@ -31,12 +31,12 @@ use Rattle.std.proofs.Common.{
 }
 use Rattle.std.specs.Prelude.{IfSome}
 use Rattle.std.specs.declared.cmp.Ordering.{Ordering}
-use Rattle.std.specs.declared.cmp.Ordering.TheVariants.{Less, Equal, Greater}
+use Rattle.std.specs.declared.cmp.Ordering.TheVariants.{Less}
 use Rattle.std.specs.List.{AllByRecursion}
 use Rattle.std.specs.List.Sorted.{IsStrictlySortedBy}
 use Rattle.std.specs.Map.{keys_of, lookup}
 use Rattle.std.specs.BTreeMap.{is_at}
-use Rattle.std.specs.Ordering.{eq_by_cmp, is_eq, nat_cmp, ordering_then}
+use Rattle.std.specs.Ordering.{eq_by_cmp, is_eq, nat_cmp}
 use Rattle.std.specs.Cmp.{IsTotalOrder, IsEquivalence, eq_by_cmp_equiv}
 use Rattle.std.proofs.lemmas.Cmp.{then_total, on_total, nat_cmp_total}
 use Rattle.std.proofs.lemmas.Bool.{true≢false}
@@ -49,8 +49,9 @@ use Rattle.std.proofs.lemmas.List.Elements.{
   Contains-push_cases,
 }
 use Rattle.std.proofs.lemmas.Map.Keys.{IsDistinct-from_sorted, sorted_head, sorted_tail}
-use Rattle.std.proofs.lemmas.Map.Lookups.{CmpEqualImpliesEq, exact_unsigned}
-use Rattle.std.proofs.lemmas.Map.Views.{Contains-from_lookup, lookup-from_Contains}
+use Rattle.std.proofs.lemmas.Map.Lookups.{CmpEqualImpliesEq, exact_pairs, exact_unsigned}
+use Rattle.std.proofs.lemmas.Map.Views.{Contains-from_lookup, lookup-from_Contains, tells_apart}
+use Rattle.clog_base.specs.declared.cell.Table.{Table}
 use Rattle.clog_base.proofs.Members.{first_or_further}
 use Rattle.clog_base.proofs.NameLaws.{one_segment, one_table}
 use Rattle.clog_disk.specs.Files.{Files, IsThere}
@@ -62,16 +63,6 @@ pub taken : (names : List (List ℕ)) (i : ℕ) (name : List ℕ) → i < length
     → name ≡ get_or names i name → take i names ++ name ∷ [] ≡ take (i + 1) names
 taken names i name inside is =
     ap (λ (x : List ℕ). take i names ++ x ∷ []) is ∙ sym (take_more names i name inside)
-
-is_equal : (r : Ordering) → is_eq r ≡ true → r ≡ Equal
-is_equal Less p = cc
-is_equal Equal p = refl
-is_equal Greater p = cc
-
-both_equal : (r s : Ordering) → ordering_then r s ≡ Equal → (r ≡ Equal) × (s ≡ Equal)
-both_equal Less s e = cc
-both_equal Equal s e = (refl, e)
-both_equal Greater s e = cc
 
 -- How names are those of places: each of one, and each place has one name. Places are ordered.
 pub record ArePlaced {K : Type 0} (cmp : K → K → Ordering) (IsNamed : K → List ℕ → Type 0)
@@ -90,7 +81,7 @@ module _ {K : Type 0} (cmp : K → K → Ordering) (IsNamed : K → List ℕ →
   equiv = eq_by_cmp_equiv laws.total
 
   same_place : (a b : K) → eq_by_cmp cmp a b ≡ true → a ≡ b
-  same_place a b e = laws.exact a b (is_equal (cmp a b) e)
+  same_place = tells_apart laws.exact
 
   row_found : (rows : List (K × List ℕ)) (q : K) (v : List ℕ)
       → IsStrictlySortedBy cmp (keys_of rows) → Contains rows (q, v)
@@ -245,10 +236,12 @@ module _ {K : Type 0} (cmp : K → K → Ordering) (IsNamed : K → List ℕ →
 same_table_place : (a b : Place) → a.0.0 ≡ b.0.0 → a.1 ≡ b.1 → a ≡ b
 same_table_place a b t s = λ i. (record { 0 = t i }, s i)
 
+exact_numbers : CmpEqualImpliesEq (λ (a b : Table). nat_cmp a.0 b.0)
+exact_numbers a b e = λ i. record { 0 = exact_unsigned a.0 b.0 e i }
+
 exact_tables : CmpEqualImpliesEq place_cmp
-exact_tables a b e =
-    let both = both_equal (nat_cmp a.0.0 b.0.0) (nat_cmp a.1 b.1) e in
-    same_table_place a b (exact_unsigned a.0.0 b.0.0 both.0) (exact_unsigned a.1 b.1 both.1)
+exact_tables =
+    exact_pairs (λ (a b : Table). nat_cmp a.0 b.0) nat_cmp exact_numbers exact_unsigned
 
 pub table_places : ArePlaced place_cmp IsNameOf
 table_places = record {
@@ -265,9 +258,7 @@ same_segment_place : (a b : SegmentPlace) → a.0 ≡ b.0 → a.1 ≡ b.1 → a 
 same_segment_place a b t s = λ i. (t i, s i)
 
 exact_segments : CmpEqualImpliesEq segment_cmp
-exact_segments a b e =
-    let both = both_equal (nat_cmp a.0 b.0) (nat_cmp a.1 b.1) e in
-    same_segment_place a b (exact_unsigned a.0 b.0 both.0) (exact_unsigned a.1 b.1 both.1)
+exact_segments = exact_pairs nat_cmp nat_cmp exact_unsigned exact_unsigned
 
 pub segment_places : ArePlaced segment_cmp IsSegmentAt
 segment_places = record {

@@ -38,7 +38,7 @@ use Rattle.std.proofs.lemmas.List.Elements.{
 use Rattle.clog_spec.specs.Names.{IsSegmentName}
 use Rattle.clog_spec.specs.Sizes.{file_limit}
 use Rattle.clog_base.specs.declared.position.Position.{Position}
-use Rattle.clog_base.proofs.Members.{first_or_further, further, here, nothing_there}
+use Rattle.clog_base.proofs.Members.{all_from, first_or_further, further, here, nothing_there}
 use Rattle.clog_disk.specs.Files.{Files}
 use Rattle.clog_mutation.specs.declared.mutation.Mutation.{Mutation}
 use Rattle.clog_mutation.specs.Stored.{IsPayload}
@@ -75,12 +75,6 @@ use Rattle.clog_folder.proofs.Rows.{is_above_first, segment_places}
 use Rattle.clog_folder.proofs.SegmentsHeld.{IsLogOf, all_mutations, at, log_of}
 
 -- ---- lists
-
-all_from : {A : Type 0} (P : A → Type 0) (xs : List A) → ((x : A) → Contains xs x → P x)
-    → AllByRecursion P xs
-all_from P [] has = tt
-all_from P (x ∷ xs) has =
-    (has x (here x xs), all_from P xs (λ y there. has y (further x xs y there)))
 
 say_both : (ps qs : List PlacedPayload) (log more : List LoggedMutation) → Say ps log
     → Say qs more → Say (ps ++ qs) (log ++ more)

@@ -24,16 +24,14 @@ use Rattle.std.proofs.Common.{
   length-append,
 }
 use Rattle.std.specs.FinMap as finmap
-use Rattle.std.proofs.lemmas.List.{append-nil, take-append-drop, length-take}
+use Rattle.std.proofs.lemmas.List.{append-nil, nil_from_length, take-append-drop, length-take}
 use Rattle.std.proofs.Math.Seq.{drop-append_seam}
 use Rattle.clog_disk.specs.Files.{Files, IsLength, Reads}
-use Rattle.clog_folder.specs.Whole.{IsFront, HasFront, IsWhole}
-
-one_answer : (a b : List ℕ) → Some a ≡ Some b → a ≡ b
-one_answer a b e = cc
+use Rattle.clog_crash.proofs.OneMore.{some_is}
+use Rattle.clog_folder.specs.Whole.{IsFirstPart, HasFirstPart, IsWhole}
 
 pub front_none : (files : Option Files) (name : List ℕ) (size : ℕ) → IsLength files name size
-    → HasFront files name size []
+    → HasFirstPart files name size []
 front_none None name size is = tt
 front_none (Some files) name size is = record {
   whole = is.0;
@@ -53,17 +51,17 @@ read_before files now name place at count piece same is read =
 
 -- what a piece is of the rest
 piece_of_rest : (files : Files) (name bytes piece : List ℕ) (size count : ℕ)
-    (f : IsFront files name size bytes) → Reads (Some files) name (length bytes) count piece
+    (f : IsFirstPart files name size bytes) → Reads (Some files) name (length bytes) count piece
     → piece ≡ take count f.rest
 piece_of_rest files name bytes piece size count f read =
-    let held : read.0 ≡ f.whole = one_answer read.0 f.whole (sym read.1 ∙ f.there) in
+    let held : read.0 ≡ f.whole = some_is read.0 f.whole (sym read.1 ∙ f.there) in
     read.2
     ∙ ap (λ (l : List ℕ). take count (drop (length bytes) l)) (held ∙ f.parts)
     ∙ ap (take count) (drop-append_seam bytes f.rest)
 
 pub front_more : (files : Option Files) (name bytes piece : List ℕ) (size count : ℕ)
-    → HasFront files name size bytes → Reads files name (length bytes) count piece
-    → HasFront files name size (bytes ++ piece)
+    → HasFirstPart files name size bytes → Reads files name (length bytes) count piece
+    → HasFirstPart files name size (bytes ++ piece)
 front_more None name bytes piece size count f read = tt
 front_more (Some files) name bytes piece size count f read = record {
   whole = f.whole;
@@ -77,26 +75,22 @@ front_more (Some files) name bytes piece size count f read = record {
       ∙ sym (append_assoc bytes piece (drop count f.rest));
 }
 
-no_rest : (files : Files) (name bytes : List ℕ) (size : ℕ) (f : IsFront files name size bytes)
+no_rest : (files : Files) (name bytes : List ℕ) (size : ℕ) (f : IsFirstPart files name size bytes)
     → f.rest ≡ [] → finmap.get files name ≡ Some bytes
 no_rest files name bytes size f none =
     f.there ∙ ap Some (f.parts ∙ ap (λ (l : List ℕ). bytes ++ l) none ∙ append-nil bytes)
 
-pub none_left : (rest : List ℕ) → length rest ≡ 0 → rest ≡ []
-none_left [] none = refl
-none_left (x ∷ rest) none = absurd (omega arith)
-
 nothing_taken : (count : ℕ) (rest : List ℕ) → 0 < count → take count rest ≡ [] → rest ≡ []
 nothing_taken count rest some none =
-    none_left rest (omega (arith, some, ap length none, length-take count rest))
+    nil_from_length rest (omega (arith, some, ap length none, length-take count rest))
 
 -- as many bytes as the file has are the file
 pub whole_by_size : (files : Option Files) (name bytes : List ℕ) (size : ℕ) → size ≤ length bytes
-    → HasFront files name size bytes → IsWhole files name bytes
+    → HasFirstPart files name size bytes → IsWhole files name bytes
 whole_by_size None name bytes size all f = tt
 whole_by_size (Some files) name bytes size all f =
     no_rest files name bytes size f
-    (none_left f.rest (omega (
+    (nil_from_length f.rest (omega (
       arith,
       all,
       f.size_is,
@@ -106,7 +100,7 @@ whole_by_size (Some files) name bytes size all f =
 
 -- where no byte comes, the file has ended
 pub whole_by_end : (files : Option Files) (name bytes piece : List ℕ) (size count : ℕ) → 0 < count
-    → piece ≡ [] → HasFront files name size bytes → Reads files name (length bytes) count piece
+    → piece ≡ [] → HasFirstPart files name size bytes → Reads files name (length bytes) count piece
     → IsWhole files name bytes
 whole_by_end None name bytes piece size count some none f read = tt
 whole_by_end (Some files) name bytes piece size count some none f read =

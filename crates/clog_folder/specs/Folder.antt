@@ -71,16 +71,21 @@ Say (p ∷ ps) log =
     (l : LoggedMutation) × ((rest : List LoggedMutation) × (log ≡ l ∷ rest) × (l.at ≡ p.0)
     × IsPayload p.1 l.mutation × Say ps rest)
 
--- The folder's table files are these, and its log is what the payloads say. No segment is too long,
--- and where damage is not passed over, there is none.
+-- All table files are good and no segment is too long; where damage is not passed over, there is
+-- none.
+pub record CanBeRead (ignore : Bool) (files : Files) : Type 0 where
+  pub tables : AreGoodTables files
+  pub short : (name : List ℕ) (id : ℕ) → IsSegmentName name 6 id → ¬ IsTooLong files name
+  pub undamaged : ignore ≡ false → IsUndamaged files
+
+-- The folder can be read; its table files are these, and its log is what the payloads say.
 pub record IsReadAs (ignore : Bool) (files : Files) (tables : List TableRead)
     (segments : List SegmentHeld) : Type 0 where
   pub are_tables : AreTables files tables
   pub log : List LoggedMutation
   pub say : Say (flat_map payloads_of segments) log
   pub is_log : IsLog files log
-  pub short : (name : List ℕ) (id : ℕ) → IsSegmentName name 6 id → ¬ IsTooLong files name
-  pub undamaged : ignore ≡ false → IsUndamaged files
+  pub readable : CanBeRead ignore files
 
 -- So many names that are there have P.
 pub record AreNamed (files : Files) (P : List ℕ → Type 0) (n : ℕ) : Type 0 where

@@ -22,7 +22,7 @@ GivesWhole files name faults now (result.Ok bytes) = IsWhole files name bytes.it
 GivesWhole files name faults now (result.Err refusal) = WholeRefused files name faults now refusal
 
 -- The file is there and has so many bytes, of which these are the first.
-pub record IsFront (files : Files) (name : List ℕ) (size : ℕ) (bytes : List ℕ) : Type 0 where
+pub record IsFirstPart (files : Files) (name : List ℕ) (size : ℕ) (bytes : List ℕ) : Type 0 where
   pub whole : List ℕ
   pub rest : List ℕ
   pub there : finmap.get files name ≡ Some whole
@@ -30,5 +30,5 @@ pub record IsFront (files : Files) (name : List ℕ) (size : ℕ) (bytes : List 
   pub parts : whole ≡ bytes ++ rest
 
 -- where the files are told
-abbrev pub HasFront : Option Files → List ℕ → ℕ → List ℕ → Type 0
-HasFront files name size bytes = IfSome files (λ held. IsFront held name size bytes)
+abbrev pub HasFirstPart : Option Files → List ℕ → ℕ → List ℕ → Type 0
+HasFirstPart files name size bytes = IfSome files (λ held. IsFirstPart held name size bytes)

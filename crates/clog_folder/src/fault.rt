@@ -68,7 +68,7 @@ impl<T: Drop> From<AllocFailed<T>> for OpenFault {
 }
 
 /// Why a folder is not read whose disk refuses a call.
-pub(crate) fn fault_of(fault: DiskFault) -> OpenFault
+pub fn fault_of(fault: DiskFault) -> OpenFault
     ensures { result ≡ fault_of fault }
 {
     match fault {

@@ -17,7 +17,9 @@ mod tables;
 mod tests;
 mod whole;
 
-pub use fault::OpenFault;
+pub use fault::{OpenFault, fault_of};
 pub use folder::{Folder, read_folder};
-pub use segment::SegmentHeld;
+pub use listing::{TableNames, table_names};
+pub use segment::{SegmentHeld, segment_bytes};
 pub use tables::TableHeld;
+pub use whole::read_whole;

@@ -9,7 +9,7 @@ use std::alloc::Global;
 use std::collections::BTreeMap;
 
 /// The names of table files, by table and sequence.
-pub(crate) type TableNames = BTreeMap<(Table, u64), Name>;
+pub type TableNames = BTreeMap<(Table, u64), Name>;
 
 /// The names of segments of any version, by id and version.
 pub(crate) type SegmentNames = BTreeMap<(u64, u32), Name>;
@@ -52,8 +52,8 @@ pub(crate) fn count_tables(names: &[Name]) -> usize
     count
 }
 
-/// The names that are those of table files.
-pub(crate) fn table_names(alloc: Global, names: &[Name]) -> Result<TableNames, OutOfMemory>
+/// The names that are those of table files; `OutOfMemory` where memory was refused.
+pub fn table_names(alloc: Global, names: &[Name]) -> Result<TableNames, OutOfMemory>
     ensures { IfOk result (λ tables.
         AreRows place_cmp IsNameOf (Contains names.now) tables.entries) }
 {

@@ -22,8 +22,12 @@ pub struct SegmentHeld {
     pub entries: Founds,
 }
 
-/// The bytes of a file that is there, if they are not too many.
-fn bytes_of<D: Disk>(disk: &mut D, name: &Name) -> Result<Vec<u8>, OpenFault>
+/// All bytes of the file of a segment, which is there: at most 67,108,864 of them.
+///
+/// - `Disk`: the disk's count of faults has risen in this call.
+/// - `Limit(SegmentBytes, ..)`: the file has more bytes; none of them is read.
+/// - `OutOfMemory`: memory was refused.
+pub fn segment_bytes<D: Disk>(disk: &mut D, name: &Name) -> Result<Vec<u8>, OpenFault>
     requires { IsThere (D.files disk.old) name.now }
     ensures gives { GivesBytes (D.files disk.old) (D.faults disk.old) (D.faults disk.new) name.now
         result }
@@ -83,7 +87,7 @@ pub(crate) fn read_place<D: Disk>(
     if place.1 != 6 {
         return other_version(alloc, place, name, ignore);
     }
-    let bytes = match bytes_of(disk, name) {
+    let bytes = match segment_bytes(disk, name) {
         Ok(bytes) => bytes,
         Err(fault) => return Err(fault),
     };

@@ -11,8 +11,12 @@ use std::alloc::Global;
 /// How many bytes are asked for at once.
 const PIECE: u32 = 1 << 20;
 
-/// All bytes of a file.
-pub(crate) fn read_whole<D: Disk>(
+/// All bytes of a file, however many they are. It is read in pieces of 1 MiB.
+///
+/// - `Failed`: the disk's count of faults has risen in this call.
+/// - `NoSuchFile`: the disk tells its files, and has none of this name.
+/// - `OutOfMemory`: memory was refused.
+pub fn read_whole<D: Disk>(
     alloc: Global,
     disk: &mut D,
     name: &Name,

@@ -292,11 +292,12 @@ replay_of : (ignore : Bool) (files : Files) (folder : Folder) (restored : Restor
     → IsReadAs ignore files (map read_of folder.tables) folder.segments
     → AreNamed files IsNameOfTable folder.table_names
     → AreNamed files IsNameOfSegment folder.segment_names → IsRestoredOf folder restored
-    → IsReplayOf files restored
+    → IsReplayOf ignore files restored
 replay_of ignore files folder restored read tables segments is =
     let same = one_log (flat_map payloads_of folder.segments) is.log read.log is.say read.say in
     let is_log : IsLog files is.log = subst (IsLog files) (sym same) read.is_log in
     record {
+      readable = read.readable;
       cells = restores files folder.tables read.are_tables is.log is_log is.merged is.taken
           restored.cells is.cells;
       counts = record {
@@ -321,7 +322,7 @@ replay_of ignore files folder restored read tables segments is =
 
 pub replays : (ignore : Bool) (files : Option Files) (folder : Folder) (restored : Restored)
     → IsHeldOf ignore files folder → IsRestoredOf folder restored
-    → IfSome files (λ held. IsReplayOf held restored)
+    → IfSome files (λ held. IsReplayOf ignore held restored)
 replays ignore None folder restored held is = tt
 replays ignore (Some files) folder restored held is =
     replay_of ignore files folder restored held.told held.tables held.segments is

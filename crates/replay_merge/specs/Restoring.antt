@@ -9,7 +9,7 @@ use Rattle.clog_crash.specs.Folder.{cells_of_tables}
 use Rattle.clog_crash.specs.Restore.{IsRestored}
 use Rattle.clog_folder.specs.declared.fault.OpenFault.{OpenFault}
 use Rattle.clog_folder.specs.declared.folder.Folder.{Folder}
-use Rattle.clog_folder.specs.Folder.{FolderRefused, Say, payloads_of}
+use Rattle.clog_folder.specs.Folder.{CanBeRead, FolderRefused, Say, payloads_of}
 use Rattle.clog_folder.specs.Tables.{read_of}
 use Rattle.replay_merge.specs.declared.merged.Merged.{Merged}
 use Rattle.replay_merge.specs.declared.restoring.Counts.{Counts}
@@ -29,8 +29,9 @@ pub record IsRestoredOf (folder : Folder) (restored : Restored) : Type 0 where
   pub updates : restored.counts.updates ≡ merged.updates
   pub skipped : restored.counts.skipped ≡ merged.skipped
 
--- the cells are what the files restore to, and the counts are theirs
-pub record IsReplayOf (files : Files) (restored : Restored) : Type 0 where
+-- The files could be read, the cells are what they restore to, and the counts are theirs.
+pub record IsReplayOf (ignore : Bool) (files : Files) (restored : Restored) : Type 0 where
+  pub readable : CanBeRead ignore files
   pub cells : IsRestored files restored.cells
   pub counts :
       AreCounts files restored.counts.segments restored.counts.tables restored.counts.entries
@@ -39,5 +40,5 @@ pub record IsReplayOf (files : Files) (restored : Restored) : Type 0 where
 -- what a folder restores to, or why it is not read
 abbrev pub Replays : Bool → Option Files → ℕ → ℕ → Result Restored OpenFault → Type 0
 Replays ignore files faults now (result.Ok restored) =
-    IfSome files (λ held. IsReplayOf held restored)
+    IfSome files (λ held. IsReplayOf ignore held restored)
 Replays ignore files faults now (result.Err refusal) = FolderRefused ignore files faults now refusal

@@ -1,9 +1,9 @@
 use Rattle.std.proofs.Common.{◌≡◌, List, ℕ, ◌++◌, ◌∙◌, length, sym, subst, ap, arith}
+use Rattle.std.proofs.lemmas.List.{nil_from_length}
 use Rattle.std.proofs.lemmas.Map.Views.{exact_unsigned_eq}
-use Rattle.clog_folder.specs.Whole.{HasFront}
+use Rattle.clog_folder.specs.Whole.{HasFirstPart}
 use Rattle.clog_folder.proofs.Passing.{both, one_call}
 use Rattle.clog_folder.proofs.WholeFiles.{
-  none_left,
   front_none,
   front_more,
   read_before,
@@ -25,7 +25,7 @@ loop-disk-init g c = record {
       c.in_ok-len.ensures.time c.in_ok-len.ensures.cause.later;
   quiet = c.in_ok-len.ensures.cause.quiet (λ e. cc);
   front = subst
-      (HasFront (g.D.Disk.files c.args.disk.now) c.args.name.now c.in_ok-len.len)
+      (HasFirstPart (g.D.Disk.files c.args.disk.now) c.args.name.now c.in_ok-len.len)
       (sym c.new-bytes.ensures.items)
       (front_none (g.D.Disk.files c.args.disk.now) c.args.name.now c.in_ok-len.len
       c.in_ok-len.ensures.length);
@@ -47,7 +47,7 @@ loop-disk-preserved g c =
           c.in-Ok.ensures.same c.in-Ok.ensures.quiet
           c.in-Ok.ensures.time c.in-Ok.ensures.cause.later);
       quiet = c.in-Ok.ensures.cause.quiet (λ e. cc) ∙ l.invariant.quiet;
-      front = subst (HasFront files c.args.name.now c.in_ok-len.len)
+      front = subst (HasFirstPart files c.args.name.now c.in_ok-len.len)
           (sym (c.in_ok-extend_from_slice.ensures.items
           ∙ ap (λ (p : List ℕ). l.bytes.items ++ p) c.deref.ensures.value))
           (front_more files c.args.name.now l.bytes.items piece c.in_ok-len.len 1048576
@@ -93,7 +93,7 @@ returns-clause-whole g c =
           let at : w.len-in-loop-disk-2.result ≡ length l.bytes.items =
           omega (arith, w.len-in-loop-disk-2.ensures, l.bytes.ok) in
           whole_by_end files c.args.name.now l.bytes.items piece c.in_ok-len.len 1048576
-          (omega arith) (none_left piece none) l.invariant.front
+          (omega arith) (nil_from_length piece none) l.invariant.front
           (read_before files (g.D.Disk.files l.disk) c.args.name.now
           w.len-in-loop-disk-2.result (length l.bytes.items) 1048576 piece
           l.invariant.keeps.same.files at w.in-Ok.ensures.bytes)
