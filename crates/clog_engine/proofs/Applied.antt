@@ -47,7 +47,8 @@ use Rattle.clog_disk.specs.Files.{Files, MayAppend}
 use Rattle.clog_engine.specs.Apply.{Gains}
 use Rattle.clog_engine.specs.Landing.{LeftBehind}
 use Rattle.clog_engine.proofs.Landed.{gained}
-use Rattle.clog_engine.specs.Landing.{LandingRefused, status_of}
+use Rattle.clog_engine.specs.Landing.{LandingRefused}
+use Rattle.clog_engine.specs.Refusal.{status_of}
 use Rattle.clog_engine.specs.Outside.{Outside, IsUntouched}
 use Rattle.clog_engine.specs.Apply.{
   segment_of,

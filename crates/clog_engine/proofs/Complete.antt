@@ -42,6 +42,7 @@ use Rattle.clog_engine.specs.declared.status.Status.TheVariants.{
   ReadFault,
   WriteFault,
   DiskFault,
+  Damaged,
   BadTable,
   OutOfMemory,
   Limit,
@@ -64,7 +65,8 @@ use Rattle.clog_engine.specs.Completes.{
 use Rattle.clog_engine.specs.Input.{IsGood}
 use Rattle.clog_engine.specs.Outside.{Outside, Sinks}
 use Rattle.clog_engine.specs.Request.{Asks}
-use Rattle.clog_engine.specs.Scanning.{ReadRefused, IsTooLong}
+use Rattle.clog_folder.specs.Segments.{IsTooLong}
+use Rattle.clog_engine.specs.Scanning.{ReadRefused}
 use Rattle.clog_engine.proofs.WordsAsked.{one_request}
 use Rattle.clog_engine.proofs.GoodInput.{
   taken_good,
@@ -95,6 +97,7 @@ apply_completes n (TooLarge number size most) o s good plain quiet refused =
 apply_completes n ReadFault o s good plain quiet refused = absurd (quiet.source refused.0)
 apply_completes n WriteFault o s good plain quiet refused = absurd refused
 apply_completes n DiskFault o s good plain quiet refused = absurd (quiet.disk refused.1)
+apply_completes n (Damaged name at cause) o s good plain quiet refused = absurd refused
 apply_completes n (BadTable name fault) o s good plain quiet refused =
     absurd (told_plain o.files _ plain refused.1 (plain_has_no_bad_table name fault))
 apply_completes n OutOfMemory o s good plain quiet refused = inr refl
@@ -142,6 +145,7 @@ scan_completes (TooLarge number size most) o s name there quiet refused = absurd
 scan_completes ReadFault o s name there quiet refused = absurd refused
 scan_completes WriteFault o s name there quiet refused = absurd refused
 scan_completes DiskFault o s name there quiet refused = absurd (quiet.disk refused)
+scan_completes (Damaged other at cause) o s name there quiet refused = absurd refused
 scan_completes (BadTable other fault) o s name there quiet refused = absurd refused
 scan_completes OutOfMemory o s name there quiet refused = inr refl
 scan_completes (Limit FileBytes most) o s name there quiet refused = absurd refused
@@ -171,6 +175,7 @@ reports_complete report (TooLarge number size most) o s quiet reports = absurd r
 reports_complete report ReadFault o s quiet reports = absurd reports
 reports_complete report WriteFault o s quiet reports = absurd (quiet.sink reports.cause)
 reports_complete report DiskFault o s quiet reports = absurd reports
+reports_complete report (Damaged name at cause) o s quiet reports = absurd reports
 reports_complete report (BadTable name fault) o s quiet reports = absurd reports
 reports_complete report OutOfMemory o s quiet reports = absurd reports
 reports_complete report (Limit what most) o s quiet reports = absurd reports

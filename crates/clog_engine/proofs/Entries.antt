@@ -29,6 +29,7 @@ use Rattle.std.proofs.Common.{
 use Rattle.std.specs.List.{flat_map, AllByRecursion}
 use Rattle.std.specs.Int.{w32, w64, w16, to_be_bytes, cast_unsigned}
 use Rattle.std.proofs.lemmas.List.{take-append-drop, length-take, take_more}
+use Rattle.clog_base.proofs.Members.{all_more}
 use Rattle.clog_spec.specs.Crc.{crc32_of}
 use Rattle.clog_spec.specs.Segment.{entry_bytes, size_bytes}
 use Rattle.clog_spec.specs.Sizes.{frame_size, least_payload}
@@ -110,18 +111,13 @@ large_at n most ms i m number size inside is fitting number_is over size_is most
 }
 
 -- one mutation more
-all_push : {A : Type 0} (P : A → Type 0) (xs : List A) (x : A) → AllByRecursion P xs → P x
-    → AllByRecursion P (xs ++ x ∷ [])
-all_push P [] x all one = (one, tt)
-all_push P (y ∷ xs) x all one = (all.0, all_push P xs x all.1 one)
-
 pub fitting_more : (capacity : ℕ) (ms : List Mutation) (i : ℕ) (m : Mutation) → i < length ms
     → m ≡ get_or ms i m → AllByRecursion (HasFittingEntry capacity) (take i ms)
     → HasFittingEntry capacity m → AllByRecursion (HasFittingEntry capacity) (take (i + 1) ms)
 fitting_more capacity ms i m inside is fitting fits =
     subst (λ (l : List Mutation). AllByRecursion (HasFittingEntry capacity) l)
     (sym (take_more ms i m inside ∙ ap (λ (x : Mutation). take i ms ++ x ∷ []) (sym is)))
-    (all_push (HasFittingEntry capacity) (take i ms) m fitting fits)
+    (all_more (HasFittingEntry capacity) (take i ms) m fitting fits)
 
 pub sum_more : (ms : List Mutation) (i : ℕ) (m : Mutation) (total size : ℕ) → i < length ms
     → m ≡ get_or ms i m → size ≡ entry_size m

@@ -7,7 +7,6 @@ use Rattle.std.proofs.Common.{
   [],
   ◌++◌,
   length,
-  cond,
   Option,
   Some,
   None,
@@ -20,16 +19,16 @@ use Rattle.std.proofs.Common.{
   ◌∙◌,
   arith,
 }
-use Rattle.std.specs.Prelude.{unwrap_or, IfSome, IsSome, ◌^◌, ◌<◌}
+use Rattle.std.specs.Prelude.{IfSome, IsSome, ◌^◌, ◌<◌}
 use Rattle.std.specs.FinMap as finmap
-use Rattle.std.specs.FinMap.{get-insert}
-use Rattle.std.specs.Cmp.{eq_by_cmp_equiv}
-use Rattle.std.specs.Cmp.Lexicographic.{nat_list_cmp_total}
 use Rattle.clog_spec.specs.Names.{segment_name_of}
 use Rattle.std.specs.Prelude.{◌≢◌}
 use Rattle.clog_io.specs.Causes.{Rose}
 use Rattle.clog_disk.specs.Files.{Files, bytes_at, IsEnd, AppendsTo, MayAppend, IsAbsent}
 use Rattle.clog_disk.specs.Images.{Within, SameImages, Tears}
+use Rattle.clog_disk.proofs.Named.{put_here}
+use Rattle.clog_crash.proofs.changes.Names.{is_named}
+use Rattle.clog_crash.proofs.rest.Tails.{empty_at}
 use Rattle.clog_disk.specs.declared.disk.DiskFault.{DiskFault as Fault}
 use Rattle.clog_disk.specs.declared.disk.DiskFault.TheVariants.{Failed, NoSuchFile, OutOfMemory}
 use Rattle.clog_engine.specs.Apply.{Gains}
@@ -51,18 +50,14 @@ is_free (Some held) reads id fits plain =
     plain.few.readable.no_segment (
       segment_name_of 6 id,
       there,
-      (6, (id, record { form = refl; version_fits = omega arith; id_fits = fits })),
+      (6, (id, is_named id fits)),
     ))
-
-no_bytes : (files : Files) (name : List ℕ) → finmap.get files name ≡ None
-    → bytes_at files name ≡ []
-no_bytes files name free = ap (λ (o : Option (List ℕ)). unwrap_or o []) free
 
 -- a file that is not there begins at 0
 pub free_end : (files : Option Files) (name : List ℕ)
     → IfSome files (λ held. finmap.get held name ≡ None) → IsEnd files name 0
 free_end None name free = tt
-free_end (Some files) name free = sym (ap length (no_bytes files name free))
+free_end (Some files) name free = sym (ap length (empty_at files name free))
 
 -- what is appended to no bytes is the file
 pub gained : (before after : Option Files) (name bytes : List ℕ)
@@ -71,20 +66,13 @@ pub gained : (before after : Option Files) (name bytes : List ℕ)
 gained None after name bytes free a = a
 gained (Some before) after name bytes free a =
     a ∙ ap (λ (bs : List ℕ). Some (finmap.insert before name (bs ++ bytes)))
-    (no_bytes before name free)
+    (empty_at before name free)
 
 -- what was appended may have been
 pub appended_part : (files files_now : Option Files) (name bytes : List ℕ)
     → AppendsTo files files_now name bytes → MayAppend files files_now name (length bytes)
 appended_part None files_now name bytes is = is
 appended_part (Some f) files_now name bytes is = inr (bytes, omega arith, is)
-
-is_there : (files : Files) (name bytes : List ℕ)
-    → finmap.get (finmap.insert files name bytes) name ≡ Some bytes
-is_there files name bytes =
-    get-insert nat_list_cmp_total files name bytes name
-    ∙ ap (λ b. cond b (Some bytes) (finmap.get files name))
-    ((eq_by_cmp_equiv nat_list_cmp_total).refl name)
 
 -- a file that was appended to is there
 appended_there : (before after : Option Files) (name bytes : List ℕ)
@@ -95,7 +83,7 @@ appended_there (Some before) None name bytes a h = h
 appended_there (Some before) (Some files) name bytes a h =
     let same : files ≡ finmap.insert before name (bytes_at before name ++ bytes) = cc in
     let there : Some (bytes_at before name ++ bytes) ≡ None =
-    sym (is_there before name (bytes_at before name ++ bytes))
+    sym (put_here before name (bytes_at before name ++ bytes))
     ∙ ap (λ (m : Files). finmap.get m name) (sym same) ∙ h in
     cc
 

@@ -18,6 +18,5 @@ pub mod SegmentHeld
 pub mod StoredBytes
 pub mod TablesRead
 pub mod Told
-pub mod Whole
 pub mod WordLists
 pub mod WordsAsked

@@ -10,6 +10,7 @@ use Rattle.std.proofs.Common.{
   List,
   [],
   ◌∷◌,
+  map,
   Bool,
   true,
   false,
@@ -26,46 +27,37 @@ use Rattle.std.proofs.Common.{
   inr,
   arith,
 }
-use Rattle.std.specs.Prelude.{◌↔◌, IfSome, IsSome, IsTrue}
+use Rattle.std.specs.Prelude.{◌↔◌, IfSome, IsTrue}
 use Rattle.std.specs.FinMap as finmap
-use Rattle.std.specs.FinMap.{contains_key-keys}
 use Rattle.std.specs.List.{Any}
-use Rattle.std.specs.List.Sorted.{IsStrictlySortedBy}
-use Rattle.std.specs.Ordering.{nat_cmp, eq_by_cmp}
-use Rattle.std.specs.Cmp.{IsEquivalence, eq_by_cmp_equiv}
-use Rattle.std.specs.Cmp.Lexicographic.{slice_cmp, nat_list_cmp_total}
-use Rattle.std.proofs.lemmas.Map.Lookups.{exact_bytes}
-use Rattle.std.proofs.lemmas.Map.Views.{
-  Contains-from_any,
-  list_any-from_Contains,
-  Contains-keys_from_lookup,
-  tells_apart,
-}
 use Rattle.std.proofs.lemmas.Bool.{leb-true, leb-false, true≢false}
+use Rattle.clog_base.proofs.Members.{first_or_further}
 use Rattle.clog_disk.specs.Files.{Files, Lists}
 use Rattle.clog_table.specs.declared.fault.TableFault.{TableFault}
-use Rattle.clog_engine.specs.declared.standing.Standing.{Standing}
-use Rattle.clog_engine.specs.declared.status.Status.{Status}
-use Rattle.clog_engine.specs.declared.status.Status.TheVariants.{
-  DiskFault as HasDiskFault,
-  BadTable,
-  OutOfMemory,
-}
-use Rattle.clog_engine.specs.Limits.{id_limit}
 use Rattle.clog_crash.specs.Folder.{
   Place,
   place_cmp,
   TableRead,
-  IsHeld,
+  IsNameOf,
   IsNameOfSegment,
   HoldsName,
   HasArchive,
+  HasSegmentOf,
   HasUpper,
   NamesId,
   IsGreatest,
-  AreTables,
   IsFirstBad,
 }
+use Rattle.clog_folder.specs.declared.fault.OpenFault.{OpenFault}
+use Rattle.clog_folder.specs.declared.fault.OpenFault.TheVariants.{Disk, BadTable, OutOfMemory}
+use Rattle.clog_folder.specs.Listing.{AreRows}
+use Rattle.clog_folder.specs.Tables.{AreReadOf, HaveRead, TablesRefused, read_of}
+use Rattle.clog_folder.proofs.FolderRead.{told_rows}
+use Rattle.clog_folder.proofs.Listed.{held_of, listed_of}
+use Rattle.clog_folder.proofs.TablesRead.{are_tables}
+use Rattle.clog_engine.specs.declared.standing.Standing.{Standing}
+use Rattle.clog_engine.specs.declared.status.Status.{Status}
+use Rattle.clog_engine.specs.Limits.{id_limit}
 use Rattle.clog_engine.specs.Directory.{
   IsLateTable,
   IsReadable,
@@ -75,42 +67,12 @@ use Rattle.clog_engine.specs.Directory.{
   HasManyTables,
   HasGreatId,
 }
-use Rattle.clog_engine.specs.Listing.{greater, is_last, ListsArchive, IsGreatestArchive, ArePlaces}
-use Rattle.clog_engine.specs.Looking.{
-  AreReadOf,
-  HasRead,
-  Stands,
-  greatest_with,
-  TablesRefused,
-  LookRefused,
-}
-use Rattle.clog_engine.proofs.Listed.{one_place, row_found, later_greatest, same_greatest}
-use Rattle.clog_engine.proofs.TablesRead.{cons_cases}
+use Rattle.clog_engine.specs.Listing.{greater, is_last, ListsArchive, IsGreatestArchive}
+use Rattle.clog_engine.specs.Looking.{HasJoined, Stands, greatest_with, LookRefused}
+use Rattle.clog_engine.specs.Refusal.{folder_status}
+use Rattle.clog_engine.proofs.Listed.{later_greatest, same_greatest}
 
 -- ---- what is listed is there
-
-abbrev name_cmp_eq : List ℕ → List ℕ → Bool
-name_cmp_eq = eq_by_cmp (slice_cmp nat_cmp)
-
-name_equiv : IsEquivalence name_cmp_eq
-name_equiv = eq_by_cmp_equiv nat_list_cmp_total
-
-one_name : (a b : List ℕ) → name_cmp_eq a b ≡ true → a ≡ b
-one_name = tells_apart exact_bytes
-
-pub held_of : (files : Files) (names : List (List ℕ)) → names ≡ finmap.keys files
-    → (name : List ℕ) → Contains names name → IsHeld files name
-held_of files names lists name there =
-    contains_key-keys files name
-    ∙ list_any-from_Contains name_equiv name (finmap.keys files)
-    (subst (λ (l : List (List ℕ)). Contains l name) lists there)
-
-pub listed_of : (files : Files) (names : List (List ℕ)) → names ≡ finmap.keys files
-    → (name : List ℕ) → IsHeld files name → Contains names name
-listed_of files names lists name held =
-    subst (λ (l : List (List ℕ)). Contains l name) (sym lists)
-    (Contains-from_any one_name name (finmap.keys files)
-    (sym (contains_key-keys files name) ∙ held))
 
 any_held : (files : Files) (names : List (List ℕ)) → names ≡ finmap.keys files
     → (P : List ℕ → Type 0) → Any P names → HoldsName files P
@@ -129,36 +91,6 @@ pub told_holds : (files : Option Files) (names : List (List ℕ)) (P : List ℕ 
 told_holds None names P lists any = tt
 told_holds (Some held) names P lists any = any_held held names lists P any
 
-places_held : (files : Files) (names : List (List ℕ)) (rows : List (Place × List ℕ))
-    → names ≡ finmap.keys files → ArePlaces (Contains names) rows → ArePlaces (IsHeld files) rows
-places_held files names rows lists places = record {
-  ordered = places.ordered;
-  each = λ place name there. let old = places.each place name there in
-      (held_of files names lists name old.0, old.1);
-  every = λ place name held named.
-      places.every place name (listed_of files names lists name held) named;
-}
-
-pub told_places : (files : Option Files) (names : List (List ℕ)) (rows : List (Place × List ℕ))
-    → Lists files names → ArePlaces (Contains names) rows
-    → IfSome files (λ held. ArePlaces (IsHeld held) rows)
-told_places None names rows lists places = tt
-told_places (Some held) names rows lists places = places_held held names rows lists places
-
--- ---- all tables
-
-are_tables : (files : Files) (rows : List (Place × List ℕ)) (reads : List TableRead)
-    → ArePlaces (IsHeld files) rows → AreReadOf files rows reads → AreTables files reads
-are_tables files rows reads places read = record {
-  ordered = subst (IsStrictlySortedBy place_cmp) (sym read.places) places.ordered;
-  each = read.each;
-  every = λ place name named held.
-      subst (λ (l : List Place). Contains l place) (sym read.places)
-      (Contains-keys_from_lookup one_place place rows
-      (subst IsSome (sym (row_found rows place name places.ordered
-      (places.every place name held named))) refl));
-}
-
 -- ---- the greatest id
 
 upper_more : (P : ℕ → Type 0) (read : TableRead) (reads : List TableRead) (n : ℕ)
@@ -176,7 +108,7 @@ upper_less : (P : ℕ → Type 0) (read : TableRead) (reads : List TableRead) (n
     → P n ⊎ HasUpper (read ∷ reads) n → (P n ⊎ (n ≡ read.file.upper.id)) ⊎ HasUpper reads n
 upper_less P read reads n (inl p) = inl (inl p)
 upper_less P read reads n (inr upper) =
-    elim (cons_cases read reads upper.read upper.listed) [
+    elim (first_or_further read reads upper.read upper.listed) [
       | inl same ↦ inl (inr (upper.is ∙ ap (λ (r : TableRead). r.file.upper.id) (sym same)))
       | inr there ↦ inr (record { read = upper.read; listed = there; is = upper.is })
     ]
@@ -196,12 +128,18 @@ greatest_upper P g (read ∷ reads) top =
     (greatest_upper (λ n. P n ⊎ (n ≡ read.file.upper.id)) (greater g read.file.upper.id) reads
     (later_greatest P g read.file.upper.id top))
 
-greatest_archive_held : (files : Files) (names : List (List ℕ)) (g : Option ℕ)
-    → names ≡ finmap.keys files → IsGreatestArchive names g → IsGreatest (HasArchive files) g
-greatest_archive_held files names g lists top =
-    same_greatest (ListsArchive names) (HasArchive files) g
-    (λ n l. (l.0, held_of files names lists l.0 l.1, l.2))
-    (λ n h. (h.0, listed_of files names lists h.0 h.1, h.2)) top
+-- where no segment is there
+greatest_named_held : (files : Files) (names : List (List ℕ)) (g : Option ℕ)
+    → names ≡ finmap.keys files → (Any IsNameOfSegment names → ⊥) → IsGreatestArchive names g
+    → IsGreatest (λ n. HasSegmentOf files n ⊎ HasArchive files n) g
+greatest_named_held files names g lists none top =
+    same_greatest (ListsArchive names) (λ n. HasSegmentOf files n ⊎ HasArchive files n) g
+    (λ n l. inr (l.0, held_of files names lists l.0 l.1, l.2))
+    (λ n h. elim h [
+      | inl s ↦ absurd (none (held_any files names lists IsNameOfSegment
+          (s.0, s.1, (s.2.0, (n, s.2.1)))))
+      | inr a ↦ (a.0, listed_of files names lists a.0 a.1, a.2)
+    ]) top
 
 -- ---- what was seen of the directory
 
@@ -211,7 +149,7 @@ pub record Seen (files : Option Files) (names : List (List ℕ)) (rows : List (P
     (archive : Option ℕ) (reads : List TableRead) : Type 0 where
   pub lists : Lists files names
   pub no_segment : Any IsNameOfSegment names → ⊥
-  pub places : ArePlaces (Contains names) rows
+  pub places : AreRows place_cmp IsNameOf (Contains names) rows
   pub top : IsGreatestArchive names archive
   pub read : IfSome files (λ held. AreReadOf held rows reads)
 
@@ -224,16 +162,16 @@ none_has P names has tells is any = true≢false (sym (tells.1 any) ∙ is)
 pub seen_now : (files now : Option Files) (names listed : List (List ℕ))
     (rows : List (Place × List ℕ)) (archive : Option ℕ) (dump : Bool) (standing : Standing)
     (has : Bool) → now ≡ files → Lists files listed → names ≡ listed
-    → (IsTrue has ↔ Any IsNameOfSegment names) → has ≡ false → ArePlaces (Contains names) rows
+    → (IsTrue has ↔ Any IsNameOfSegment names) → has ≡ false → AreRows place_cmp IsNameOf (Contains names) rows
     → IsGreatestArchive names archive
-    → (read : HasRead dump now rows archive standing) → Seen files names rows archive read.reads
+    → (read : HasJoined dump now rows archive standing)
+    → Seen files names rows archive (map read_of read.tables)
 seen_now fs now names listed rows archive dump s has same lists is tells e places top r = record {
   lists = subst (Lists fs) (sym is) lists;
   no_segment = none_has IsNameOfSegment names has tells e;
   places = places;
   top = top;
-  read = subst (λ (f : Option Files). IfSome f (λ held. AreReadOf held rows r.reads)) same
-      r.read;
+  read = subst (λ (f : Option Files). HaveRead f rows r.tables) same r.read;
 }
 
 is_readable : (held : Files) (names : List (List ℕ)) (rows : List (Place × List ℕ))
@@ -241,7 +179,8 @@ is_readable : (held : Files) (names : List (List ℕ)) (rows : List (Place × Li
     → IsReadable held reads
 is_readable held names rows archive reads seen = record {
   no_segment = λ has. seen.no_segment (held_any held names seen.lists IsNameOfSegment has);
-  tables = are_tables held rows reads (places_held held names rows seen.lists seen.places)
+  tables = are_tables held rows reads
+      (told_rows place_cmp IsNameOf (Some held) (Some held) names rows refl seen.lists seen.places)
       seen.read;
 }
 
@@ -259,8 +198,8 @@ names_ids : (held : Files) (names : List (List ℕ)) (rows : List (Place × List
     → IsGreatest (NamesId held reads) g
 names_ids held names rows archive reads g seen is =
     subst (IsGreatest (NamesId held reads)) (sym is)
-    (greatest_upper (HasArchive held) archive reads
-    (greatest_archive_held held names archive seen.lists seen.top))
+    (greatest_upper (λ n. HasSegmentOf held n ⊎ HasArchive held n) archive reads
+    (greatest_named_held held names archive seen.lists seen.no_segment seen.top))
 
 -- ---- the rows
 
@@ -274,16 +213,24 @@ first_bad (Some held) names name fault lists none bad = record {
   bad = bad;
 }
 
-pub tables_refused : (files now : Option Files) (f g k : ℕ) (names : List (List ℕ))
-    (status : Status) → now ≡ files → Lists files names → (Any IsNameOfSegment names → ⊥) → f ≤ g
-    → TablesRefused now g k status → LookRefused files f k status
-tables_refused files now f g k names HasDiskFault same lists none later refused =
+tables_refused : (files now : Option Files) (f g k : ℕ) (names : List (List ℕ))
+    (refusal : OpenFault) → now ≡ files → Lists files names → (Any IsNameOfSegment names → ⊥)
+    → f ≤ g → TablesRefused now g k refusal → LookRefused files f k (folder_status refusal)
+tables_refused files now f g k names Disk same lists none later refused =
     omega (arith, later, refused)
 tables_refused files now f g k names OutOfMemory same lists none later refused = tt
 tables_refused files now f g k names (BadTable name fault) same lists none later refused =
     first_bad files names name fault lists none
     (subst (λ (o : Option Files). IfSome o (λ held. IsFirstBad held name fault)) same refused)
 tables_refused files now f g k names other same lists none later refused = absurd refused
+
+pub look_refused : (files now : Option Files) (f g k : ℕ) (names : List (List ℕ))
+    (refusal : OpenFault) (status : Status) → status ≡ folder_status refusal → now ≡ files
+    → Lists files names → (Any IsNameOfSegment names → ⊥) → f ≤ g
+    → TablesRefused now g k refusal → LookRefused files f k status
+look_refused files now f g k names refusal status is same lists none later refused =
+    subst (LookRefused files f k) (sym is)
+    (tables_refused files now f g k names refusal same lists none later refused)
 
 pub many_tables : (files : Option Files) (names : List (List ℕ)) (rows : List (Place × List ℕ))
     (archive : Option ℕ) (reads : List TableRead) → Seen files names rows archive reads
@@ -347,13 +294,16 @@ told_ids (Some held) names rows archive reads g seen is =
 
 pub stands : (files now : Option Files) (names : List (List ℕ)) (rows : List (Place × List ℕ))
     (archive : Option ℕ) (dump : Bool) (standing : Standing)
-    (read : HasRead dump now rows archive standing) → Seen files names rows archive read.reads
-    → (Any IsLateTable names → ⊥) → is_last standing.greatest ≡ false → Stands dump files standing
-stands files now names rows archive dump standing read seen none last = record {
-  reads = read.reads;
-  plain = is_plain files names rows archive read.reads standing.greatest seen none read.greatest
-      last;
-  merged = read.merged;
-  greatest = told_ids files names rows archive read.reads standing.greatest seen read.greatest;
-  low = low_greatest standing.greatest last;
-}
+    (read : HasJoined dump now rows archive standing)
+    → Seen files names rows archive (map read_of read.tables) → (Any IsLateTable names → ⊥)
+    → is_last standing.greatest ≡ false → Stands dump files standing
+stands files now names rows archive dump standing read seen none last =
+    let reads : List TableRead = map read_of read.tables in
+    record {
+      reads = reads;
+      plain = is_plain files names rows archive reads standing.greatest seen none read.greatest
+          last;
+      merged = read.merged;
+      greatest = told_ids files names rows archive reads standing.greatest seen read.greatest;
+      low = low_greatest standing.greatest last;
+    }

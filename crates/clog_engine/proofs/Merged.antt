@@ -7,14 +7,11 @@ use Rattle.std.proofs.Common.{
   ◌∷◌,
   ◌++◌,
   map,
-  length,
   sym,
   ap,
   subst,
   ◌∙◌,
   append_assoc,
-  refl,
-  arith,
 }
 use Rattle.std.specs.List.{flat_map}
 use Rattle.std.proofs.lemmas.List.{map-append, append-nil}
@@ -51,17 +48,7 @@ mutation_more before merged new front last so_far step =
     ∙ sym (flat_map-append cells_of front (last ∷ []))))
     (continues (before ++ flat_map cells_of front) merged (cells_of last) new so_far step)
 
--- what was taken and what is left are the whole
-pub part_more : {A : Type 0} (whole part left rest : List A) (x : A) → whole ≡ part ++ left
-    → left ≡ x ∷ rest → whole ≡ (part ++ x ∷ []) ++ rest
-part_more whole part left rest x so_far e =
-    so_far ∙ ap (λ l. part ++ l) e ∙ sym (append_assoc part (x ∷ []) rest)
-
 pub all_parts : {A : Type 0} (whole part left : List A) → whole ≡ part ++ left → left ≡ []
     → part ≡ whole
 all_parts whole part left so_far e =
     sym (append-nil part) ∙ ap (λ l. part ++ l) (sym e) ∙ sym so_far
-
-pub nothing_left : {A : Type 0} (xs : List A) → length xs ≡ 0 → xs ≡ []
-nothing_left [] none = refl
-nothing_left (x ∷ xs) none = absurd (omega arith)

@@ -17,8 +17,8 @@ use Rattle.clog_table.specs.declared.fault.TableFault.{TableFault}
 use Rattle.clog_table.specs.declared.fault.TableFault.TheVariants.{OutOfMemory as no_memory}
 use Rattle.clog_table.specs.declared.table_file.TableFile.{TableFile}
 use Rattle.clog_table.specs.Refusals.{IsFileOf, Refuses}
-use Rattle.clog_table.proofs.Again.{decodes_to_it}
-use Rattle.clog_crash.proofs.TableFiles.{one_table_file, read_of}
+use Rattle.clog_table.proofs.Again.{decodes_to_it, one_table_file}
+use Rattle.clog_crash.proofs.TableFiles.{read_of}
 use Rattle.clog_engine.specs.Completes.{IsPlain}
 use Rattle.clog_engine.specs.Limits.{id_limit}
 
@@ -75,7 +75,7 @@ upper_is_low files plain reads tables id upper great =
 pub plain_has_low_ids : (files : Files) → IsPlain files → HasGreatId files → ⊥
 plain_has_low_ids files plain great =
     elim great.named [
-      | inl archive ↦ omega (arith, plain.1.low great.id (inl archive), great.great)
+      | inl name ↦ omega (arith, plain.1.low great.id (inl name), great.great)
       | inr upper ↦ upper_is_low files plain great.reads great.few.readable.tables great.id upper
           great.great
     ]

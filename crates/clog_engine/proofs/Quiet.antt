@@ -15,6 +15,10 @@ use Rattle.clog_disk.specs.declared.disk.DiskFault.TheVariants.{
   NoSuchFile,
   OutOfMemory as NoMemory,
 }
+use Rattle.clog_folder.specs.declared.fault.OpenFault.{OpenFault}
+use Rattle.clog_folder.specs.declared.fault.OpenFault.TheVariants as folder
+use Rattle.clog_folder.specs.declared.fault.OpenFault.TheVariants.{Disk}
+use Rattle.clog_folder.specs.Passing.{TellsFault}
 use Rattle.clog_engine.specs.declared.status.Unbuilt.TheVariants.{Segment, Directory}
 use Rattle.clog_engine.specs.declared.status.Status.{Status}
 use Rattle.clog_engine.specs.declared.status.Status.TheVariants.{
@@ -25,13 +29,14 @@ use Rattle.clog_engine.specs.declared.status.Status.TheVariants.{
   ReadFault,
   WriteFault,
   DiskFault,
+  Damaged,
   BadTable,
   OutOfMemory,
   Limit,
   Absent,
   NotBuilt,
 }
-use Rattle.clog_engine.specs.Landing.{status_of}
+use Rattle.clog_engine.specs.Refusal.{folder_status, status_of}
 use Rattle.clog_engine.specs.Looking.{LookRefused}
 use Rattle.clog_engine.specs.Outside.{Sinks}
 use Rattle.clog_engine.specs.Quiet.{TellsFaults, TellsEach, IsBeforeDisk, IsRefusedBefore}
@@ -46,6 +51,15 @@ pub told_of : (fault : Fault) (f g : ℕ) → (fault ≢ Failed → g ≡ f)
 told_of Failed f g quiet = λ other. absurd (other cc)
 told_of NoSuchFile f g quiet = λ other. absurd (other cc)
 told_of NoMemory f g quiet = λ other. quiet (λ is. cc)
+
+-- a folder that is not read
+pub told_folder : (refusal : OpenFault) (status : Status) (f g : ℕ) → status ≡ folder_status refusal
+    → TellsFault refusal f g → TellsFaults status f g
+told_folder Disk status f g is told = λ other. absurd (other is)
+told_folder (folder.Damaged name at cause) status f g is told = λ other. told (λ e. cc)
+told_folder (folder.BadTable name fault) status f g is told = λ other. told (λ e. cc)
+told_folder (folder.Limit what most) status f g is told = λ other. told (λ e. cc)
+told_folder folder.OutOfMemory status f g is told = λ other. told (λ e. cc)
 
 -- one that comes behind others that counted none
 pub told_on : (status : Status) (f g k : ℕ) → g ≡ f → TellsFaults status g k
@@ -75,6 +89,7 @@ reports_call report (TooLarge number size most) s printed before = printed
 reports_call report ReadFault s printed before = printed
 reports_call report WriteFault s printed before = before
 reports_call report DiskFault s printed before = printed
+reports_call report (Damaged name at cause) s printed before = printed
 reports_call report (BadTable name fault) s printed before = printed
 reports_call report OutOfMemory s printed before = printed
 reports_call report (Limit what most) s printed before = printed
@@ -104,6 +119,7 @@ looked_at files f g (TooLarge number size most) refused before = refused
 looked_at files f g ReadFault refused before = refused
 looked_at files f g WriteFault refused before = before
 looked_at files f g DiskFault refused before = before
+looked_at files f g (Damaged name at cause) refused before = refused
 looked_at files f g (BadTable name fault) refused before = before
 looked_at files f g OutOfMemory refused before = before
 looked_at files f g (Limit FileBytes most) refused before = refused
@@ -125,6 +141,7 @@ read_at files f g name (TooLarge number size most) refused before = refused
 read_at files f g name ReadFault refused before = refused
 read_at files f g name WriteFault refused before = before
 read_at files f g name DiskFault refused before = before
+read_at files f g name (Damaged other at cause) refused before = before
 read_at files f g name (BadTable other fault) refused before = before
 read_at files f g name OutOfMemory refused before = before
 read_at files f g name (Limit FileBytes most) refused before = refused

@@ -81,7 +81,9 @@ use Rattle.clog_crash.proofs.Folders.{
 }
 use Rattle.clog_base.proofs.Members.{all_have, in_map, from_map, in_flat, from_flat}
 use Rattle.clog_scan.proofs.EntryMembers.{payload_in, entry_in}
-use Rattle.clog_crash.proofs.OneMore.{some_is, new_or_old, stays, is_there, bytes_of}
+use Rattle.clog_disk.proofs.Named.{put_here}
+use Rattle.clog_crash.proofs.changes.Names.{is_named}
+use Rattle.clog_crash.proofs.OneMore.{some_is, new_or_old, stays, bytes_of}
 use Rattle.clog_crash.proofs.TableFiles.{
   known_read,
   table_cell_in,
@@ -108,9 +110,6 @@ with_segment before id ms = finmap.insert before (segment_name_of 6 id) (segment
 
 abbrev logged_entries : List Mutation → List Entry
 logged_entries ms = entries_from front_size (map payload_of ms)
-
-is_named : (id : ℕ) → id < 2 ^ 63 → IsSegmentName (segment_name_of 6 id) 6 id
-is_named id fits = record { form = refl; version_fits = omega arith; id_fits = fits }
 
 -- ---- table files
 
@@ -178,7 +177,7 @@ new_holds : (before : Files) (reads : List TableRead) (id : ℕ) (ms : List Muta
 new_holds before reads id ms new = record {
   named = is_named id new.fits;
   bytes = segment_of id ms;
-  there = is_there before (segment_name_of 6 id) (segment_of id ms);
+  there = put_here before (segment_name_of 6 id) (segment_of id ms);
   holds = held id ms new.stored new.room;
 }
 

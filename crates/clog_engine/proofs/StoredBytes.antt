@@ -3,6 +3,7 @@ use Rattle.std.proofs.Common.{ℕ, ◌+◌, List, [], ◌∷◌, ◌++◌, lengt
 use Rattle.std.specs.List.{AllByRecursion}
 use Rattle.clog_spec.specs.Crc.{IsBytes}
 use Rattle.clog_spec.specs.Segment.{header_bytes, marker_bytes, entry_bytes}
+use Rattle.clog_spec.specs.Sizes.{front_size, header_size}
 use Rattle.clog_spec.proofs.Bytes.{bytes-nil, append-IsBytes}
 use Rattle.clog_spec.proofs.StoredBytes.{header-IsBytes, marker-IsBytes, entry-IsBytes}
 use Rattle.clog_crash.proofs.Payloads.{of_payload}
@@ -23,7 +24,7 @@ pub of_segment : (id : ℕ) (ms : List Mutation) → AllByRecursion IsStored ms
     → IsBytes (segment_of id ms)
 unfolding segment_of
 of_segment id ms stored =
-    let end = 28 + length (entries_of ms) in
-    append-IsBytes (header_bytes id) (marker_bytes id 20 end ++ entries_of ms) (header-IsBytes id)
-    (append-IsBytes (marker_bytes id 20 end) (entries_of ms) (marker-IsBytes id 20 end)
+    let end = front_size + length (entries_of ms) in
+    append-IsBytes (header_bytes id) (marker_bytes id header_size end ++ entries_of ms) (header-IsBytes id)
+    (append-IsBytes (marker_bytes id header_size end) (entries_of ms) (marker-IsBytes id header_size end)
     (of_entries ms stored))

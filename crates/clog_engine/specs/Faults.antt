@@ -8,6 +8,7 @@ use Rattle.clog_base.specs.declared.fault.Quantity.TheVariants.{
   Ids,
   TableFiles,
 }
+use Rattle.clog_entry.specs.CauseText.{cause_text}
 use Rattle.clog_table.specs.FaultTexts.{fault_text}
 use Rattle.clog_text.specs.Refusals.{refusal_text}
 use Rattle.clog_engine.specs.declared.status.Unbuilt.{Unbuilt}
@@ -21,6 +22,7 @@ use Rattle.clog_engine.specs.declared.status.Status.TheVariants.{
   ReadFault,
   WriteFault,
   DiskFault,
+  Damaged,
   BadTable,
   OutOfMemory,
   Limit,
@@ -51,6 +53,8 @@ fault_line (TooLarge number size most) =
 fault_line ReadFault = line (codes "error 4: read fault")
 fault_line WriteFault = []
 fault_line DiskFault = line (codes "error 6: disk fault")
+fault_line (Damaged name at cause) =
+    line (codes "error 7: " ++ name ++ codes " at " ++ decimal at ++ codes ": " ++ cause_text cause)
 fault_line (BadTable name fault) =
     line (codes "error 8: " ++ name ++ codes ": " ++ fault_text fault)
 fault_line OutOfMemory = line (codes "error 9: out of memory")
@@ -67,6 +71,7 @@ number_of (TooLarge number size most) = 3
 number_of ReadFault = 4
 number_of WriteFault = 5
 number_of DiskFault = 6
+number_of (Damaged name at cause) = 7
 number_of (BadTable name fault) = 8
 number_of OutOfMemory = 9
 number_of (Limit what number) = 10

@@ -6,16 +6,6 @@ use Rattle.clog_disk.specs.Files.{Files, AppendsTo, MayAppend}
 use Rattle.clog_disk.specs.Images.{Lasts, Tears}
 use Rattle.clog_disk.specs.declared.disk.DiskFault.{DiskFault}
 use Rattle.clog_disk.specs.declared.disk.DiskFault.TheVariants as fault
-use Rattle.clog_engine.specs.declared.status.Status.{Status}
-use Rattle.clog_engine.specs.declared.status.Status.TheVariants.{
-  DiskFault as HasDiskFault,
-  OutOfMemory,
-}
-
-abbrev pub status_of : DiskFault → Status
-status_of fault.Failed = HasDiskFault
-status_of fault.NoSuchFile = HasDiskFault
-status_of fault.OutOfMemory = OutOfMemory
 
 -- ---- a file comes onto the disk
 

@@ -12,6 +12,7 @@ pub mod Looking
 pub mod Outside
 pub mod Quiet
 pub mod Reading
+pub mod Refusal
 pub mod Report
 pub mod Request
 pub mod Run

@@ -1,10 +1,8 @@
 -- What the names of a listing say: for private clauses.
 use Rattle.std.specs.Prelude.{ℕ, ◌+◌, max, List, Bool, false, nat_le, Option, Some, None, Contains}
-use Rattle.std.specs.List.Sorted.{IsStrictlySortedBy}
-use Rattle.std.specs.Map.{keys_of}
 use Rattle.clog_spec.specs.Names.{IsArchiveName}
 use Rattle.clog_engine.specs.Limits.{id_limit}
-use Rattle.clog_crash.specs.Folder.{Place, place_cmp, IsNameOf, IsGreatest}
+use Rattle.clog_crash.specs.Folder.{IsGreatest}
 
 -- the greater of two ids, of which the first may be none
 abbrev pub greater : Option ℕ → ℕ → Option ℕ
@@ -27,11 +25,3 @@ ListsArchive names id = (name : List ℕ) × Contains names name × IsArchiveNam
 
 abbrev pub IsGreatestArchive : List (List ℕ) → Option ℕ → Type 0
 IsGreatestArchive names = IsGreatest (ListsArchive names)
-
--- Of the names that have P, those of table files, by table and sequence.
-pub record ArePlaces (P : List ℕ → Type 0) (rows : List (Place × List ℕ)) : Type 0 where
-  pub ordered : IsStrictlySortedBy place_cmp (keys_of rows)
-  pub each : (place : Place) (name : List ℕ) → Contains rows (place, name)
-      → P name × IsNameOf place name
-  pub every : (place : Place) (name : List ℕ) → P name → IsNameOf place name
-      → Contains rows (place, name)

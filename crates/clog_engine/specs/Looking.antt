@@ -1,45 +1,44 @@
 -- What the steps of looking at the directory answer: for private clauses.
 use Rattle.std.specs.Prelude.{
   ◌≡◌,
-  ◌≢◌,
-  ◌≤◌,
   ◌<◌,
   ℕ,
   List,
   [],
   ◌∷◌,
   ◌++◌,
-  length,
   map,
   Bool,
   true,
   false,
   Option,
-  Some,
   IfSome,
   ⊤,
-  All,
   Result,
-  Vec,
 }
-use Rattle.std.specs.declared.alloc.Global.{Global}
 use Rattle.std.specs.declared.result.Result.TheVariants as result
-use Rattle.std.specs.FinMap as finmap
-use Rattle.std.specs.Map.{keys_of}
 use Rattle.clog_base.specs.declared.cell.Cell.{Cell}
 use Rattle.clog_base.specs.declared.cell.CellKey.{CellKey}
 use Rattle.clog_base.specs.declared.cell.Table.{Table}
 use Rattle.clog_base.specs.declared.fault.Quantity.TheVariants.{Ids, TableFiles}
 use Rattle.clog_cells.specs.Merge.{IsMerge}
 use Rattle.clog_io.specs.Causes.{Rose}
-use Rattle.clog_disk.specs.Files.{Files, IsAbsent}
-use Rattle.clog_disk.specs.Images.{SameImages}
-use Rattle.clog_disk.specs.declared.disk.DiskFault.{DiskFault}
-use Rattle.clog_disk.specs.declared.disk.DiskFault.TheVariants as fault
+use Rattle.clog_disk.specs.Files.{Files}
 use Rattle.clog_table.specs.declared.fault.TableFault.{TableFault}
-use Rattle.clog_table.specs.declared.fault.TableFault.TheVariants.{OutOfMemory as no_memory}
 use Rattle.clog_table.specs.declared.table_file.TableFile.{TableFile}
 use Rattle.clog_table.specs.Refusals.{IsFileOf, Refuses}
+use Rattle.clog_crash.specs.Folder.{
+  Place,
+  TableRead,
+  cells_of_tables,
+  NamesId,
+  IsGreatest,
+  IsGoodTable,
+  HasSegmentFile,
+}
+use Rattle.clog_folder.specs.declared.fault.OpenFault.{OpenFault}
+use Rattle.clog_folder.specs.declared.tables.TableHeld.{TableHeld}
+use Rattle.clog_folder.specs.Tables.{HaveRead, TableRefused, TablesRefused, read_of}
 use Rattle.clog_engine.specs.declared.status.Unbuilt.TheVariants.{Directory}
 use Rattle.clog_engine.specs.declared.status.Status.{Status}
 use Rattle.clog_engine.specs.declared.status.Status.TheVariants.{
@@ -53,51 +52,9 @@ use Rattle.clog_engine.specs.declared.standing.Standing.{Standing}
 use Rattle.clog_engine.specs.declared.tables.Addition.{Addition}
 use Rattle.clog_engine.specs.Limits.{sequence_limit, id_limit}
 use Rattle.clog_engine.specs.Listing.{greater}
-use Rattle.clog_crash.specs.Folder.{
-  Place,
-  TableRead,
-  place_of,
-  cells_of_tables,
-  NamesId,
-  IsGreatest,
-  IsReadFrom,
-  IsGoodTable,
-  HasSegmentFile,
-  IsFirstBad,
-}
 use Rattle.clog_engine.specs.Directory.{HasBadTable, HasManyTables, HasGreatId, IsPlainDirectory}
-use Rattle.clog_engine.specs.Scanning.{Holds}
-
--- Nothing on the disk has changed, and its count of faults has not fallen.
-pub record Keeps (files files_now : Option Files)
-    (leaves leaves_now : List ℕ → Option (List ℕ) → Type 0) (faults now : ℕ) : Type 0 where
-  pub same : files_now ≡ files
-  pub images : SameImages leaves leaves_now
-  pub later : faults ≤ now
 
 -- ---- one file
-
-abbrev pub WholeRefused : Option Files → List ℕ → ℕ → ℕ → DiskFault → Type 0
-WholeRefused files name faults now fault.Failed = Rose faults now
-WholeRefused files name faults now fault.NoSuchFile = IsAbsent files name
-WholeRefused files name faults now fault.OutOfMemory = ⊤
-
-abbrev pub GivesWhole : Option Files → List ℕ → ℕ → ℕ → Result (Vec ℕ Global) DiskFault → Type 0
-GivesWhole files name faults now (result.Ok bytes) = Holds files name bytes.items
-GivesWhole files name faults now (result.Err refusal) = WholeRefused files name faults now refusal
-
--- The file is there and has so many bytes, of which these are the first.
-pub record IsFront (files : Files) (name : List ℕ) (size : ℕ) (bytes : List ℕ) : Type 0 where
-  pub whole : List ℕ
-  pub rest : List ℕ
-  pub there : finmap.get files name ≡ Some whole
-  pub size_is : size ≡ length whole
-  pub parts : whole ≡ bytes ++ rest
-
--- where the files are told
-abbrev pub HasFront : Option Files → List ℕ → ℕ → List ℕ → Type 0
-HasFront files name size bytes =
-    IfSome files (λ held. IsFront held name size bytes)
 
 -- the cells, where they are asked for
 abbrev pub dumped : Bool → List (CellKey × Cell) → List (CellKey × Cell)
@@ -115,21 +72,6 @@ GivesAddition dump table bytes (result.Ok addition) =
     (file : TableFile) × IsFileOf table bytes file × IsAdditionOf dump file addition
 GivesAddition dump table bytes (result.Err fault) = Refuses table bytes fault
 
--- the file is there, and its bytes are none of the table, for this cause
-pub record IsBadFile (files : Files) (table : Table) (name : List ℕ) (fault : TableFault) : Type 0
-  where
-    pub bytes : List ℕ
-    pub there : finmap.get files name ≡ Some bytes
-    pub refused : Refuses table bytes fault
-
-abbrev pub TableRefused : Option Files → ℕ → ℕ → Place → List ℕ → Status → Type 0
-TableRefused files faults now place name HasDiskFault = Rose faults now
-TableRefused files faults now place name OutOfMemory = ⊤
-TableRefused files faults now place name (BadTable other fault) =
-    (other ≡ name) × (fault ≢ no_memory)
-    × IfSome files (λ held. IsBadFile held place.0 name fault)
-TableRefused files faults now place name other = ⊥
-
 -- The file of the place, where the files are told, adds this.
 pub record AddsTable (dump : Bool) (files : Option Files) (place : Place) (name : List ℕ)
     (addition : Addition) : Type 0 where
@@ -138,12 +80,12 @@ pub record AddsTable (dump : Bool) (files : Option Files) (place : Place) (name 
   pub adds : IsAdditionOf dump file addition
 
 -- what the file of a place adds, or why it is not read
-abbrev pub ReadsTable : Bool → Option Files → ℕ → ℕ → Place → List ℕ → Result Addition Status
+abbrev pub ReadsTable : Bool → Option Files → ℕ → ℕ → Place → List ℕ → Result Addition OpenFault
     → Type 0
 ReadsTable dump files faults now place name (result.Ok addition) =
     AddsTable dump files place name addition
-ReadsTable dump files faults now place name (result.Err status) =
-    TableRefused files faults now place name status
+ReadsTable dump files faults now place name (result.Err refusal) =
+    TableRefused files faults now place name refusal
 
 -- ---- all table files
 
@@ -157,33 +99,20 @@ pub record Joins (old : Standing) (addition : Addition) (new : Standing) : Type 
   pub merged : IsMerge (old.cells ++ addition.cells) new.cells
   pub greatest : new.greatest ≡ greater old.greatest addition.upper.id
 
--- the files of these places, in their order, say this
-pub record AreReadOf (files : Files) (rows : List (Place × List ℕ)) (reads : List TableRead) : Type
-    0 where
-  pub places : map place_of reads ≡ keys_of rows
-  pub each : All (IsReadFrom files) reads
-
 -- What stands when the files of these places were read behind an id.
-pub record HasRead (dump : Bool) (files : Option Files) (rows : List (Place × List ℕ))
+pub record HasJoined (dump : Bool) (files : Option Files) (rows : List (Place × List ℕ))
     (before : Option ℕ) (standing : Standing) : Type 0 where
-  pub reads : List TableRead
-  pub read : IfSome files (λ held. AreReadOf held rows reads)
-  pub merged : IsMerge (dumped dump (cells_of_tables reads)) standing.cells
-  pub greatest : standing.greatest ≡ greatest_with before reads
-
-abbrev pub TablesRefused : Option Files → ℕ → ℕ → Status → Type 0
-TablesRefused files faults now HasDiskFault = Rose faults now
-TablesRefused files faults now OutOfMemory = ⊤
-TablesRefused files faults now (BadTable name fault) =
-    IfSome files (λ held. IsFirstBad held name fault)
-TablesRefused files faults now other = ⊥
+  pub tables : List TableHeld
+  pub read : HaveRead files rows tables
+  pub merged : IsMerge (dumped dump (cells_of_tables (map read_of tables))) standing.cells
+  pub greatest : standing.greatest ≡ greatest_with before (map read_of tables)
 
 abbrev pub ReadsTables : Bool → Option Files → ℕ → ℕ → List (Place × List ℕ) → Option ℕ
-    → Result Standing Status → Type 0
+    → Result Standing OpenFault → Type 0
 ReadsTables dump files faults now rows before (result.Ok standing) =
-    HasRead dump files rows before standing
-ReadsTables dump files faults now rows before (result.Err status) =
-    TablesRefused files faults now status
+    HasJoined dump files rows before standing
+ReadsTables dump files faults now rows before (result.Err refusal) =
+    TablesRefused files faults now refusal
 
 -- ---- the whole directory
 

@@ -1,5 +1,5 @@
 -- The outside of a run, before it and after it.
-use Rattle.std.specs.Prelude.{◌≡◌, ℕ, List, Option}
+use Rattle.std.specs.Prelude.{ℕ, List, Option}
 use Rattle.std.specs.Io.KnownBytes.{Appends}
 use Rattle.clog_io.specs.declared.clock.Clock.{Ghosts as ClockTells}
 use Rattle.clog_io.specs.declared.sink.Sink.{Ghosts as SinkTells}
@@ -8,7 +8,7 @@ use Rattle.clog_io.specs.Causes.{Rose}
 use Rattle.clog_io.specs.Bytes.{AppendsPrefix}
 use Rattle.clog_disk.specs.declared.disk.Disk.{Ghosts as DiskTells}
 use Rattle.clog_disk.specs.Files.{Files}
-use Rattle.clog_disk.specs.Images.{SameImages}
+use Rattle.clog_disk.specs.Images.{Unchanged}
 
 -- the source, the disk and the clock
 pub record Outside : Type 1 where
@@ -45,9 +45,8 @@ outside_of source disk clock s s_now d d_now c = record {
 }
 
 -- No file has changed, and a crash leaves just what it left before.
-pub record IsUntouched (o : Outside) : Type 0 where
-  pub files : o.files_now ≡ o.files
-  pub images : SameImages o.leaves o.leaves_now
+abbrev pub IsUntouched : Outside → Type 0
+IsUntouched o = Unchanged o.files o.files_now o.leaves o.leaves_now
 
 -- the sink: what it holds, where it tells it, and its faults
 pub record Sinks : Type 0 where

@@ -2,12 +2,10 @@
 use Rattle.std.specs.Prelude.{
   ◌≡◌,
   ℕ,
-  ◌<◌,
   ◌≤◌,
   List,
   length,
   Option,
-  Some,
   None,
   IfSome,
   ⊤,
@@ -28,29 +26,20 @@ use Rattle.clog_engine.specs.declared.status.Status.TheVariants.{
   Limit,
   Absent,
 }
+use Rattle.clog_folder.specs.Segments.{IsTooLong}
+use Rattle.clog_folder.specs.Whole.{IsWhole}
 use Rattle.clog_engine.specs.Limits.{scan_limit}
 use Rattle.clog_engine.specs.ScanReport.{scan_report}
-
--- where the files are told, this one is there with these bytes
-abbrev pub Holds : Option Files → List ℕ → List ℕ → Type 0
-Holds None name bytes = ⊤
-Holds (Some files) name bytes = map.get files name ≡ Some bytes
 
 -- The file is there, and not too long; the report tells what it holds.
 pub record IsScanned (files : Option Files) (id : ℕ) (report : List ℕ) : Type 0 where
   pub bytes : List ℕ
-  pub file : Holds files (segment_name_of 6 id) bytes
+  pub file : IsWhole files (segment_name_of 6 id) bytes
   pub few : length bytes ≤ scan_limit
   pub entries : List Entry
   pub end : End
   pub segment : IsSegment bytes id entries end
   pub text : report ≡ scan_report id entries end
-
--- the file is there, and too long
-pub record IsTooLong (files : Files) (name : List ℕ) : Type 0 where
-  pub bytes : List ℕ
-  pub there : map.get files name ≡ Some bytes
-  pub long : scan_limit < length bytes
 
 -- Why the file of this name is not read: each row with what comes before it.
 abbrev pub ReadRefused : Option Files → ℕ → ℕ → List ℕ → Status → Type 0

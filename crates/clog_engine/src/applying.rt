@@ -6,7 +6,8 @@ ghost use Rattle.clog_engine.specs.Outside.{outside_of};
 ghost use Rattle.clog_engine.specs.Quiet.{TellsEach, IsRefusedBefore};
 
 use crate::input::{bytes_of, mutations_of};
-use crate::landing::{land, status_of};
+use crate::landing::land;
+use crate::refusal::status_of;
 use crate::report::report;
 use crate::segment::segment;
 use crate::sizes::entries_size;

@@ -1,21 +1,12 @@
 //! What the names of a directory's files say.
-ghost use Rattle.std.specs.Prelude.{◌≡◌, ◌↔◌, IsTrue, IfOk, Contains};
+ghost use Rattle.std.specs.Prelude.{◌≡◌, ◌↔◌, IsTrue};
 ghost use Rattle.std.specs.List.{Any};
 ghost use Rattle.clog_crash.specs.Folder.{IsNameOfSegment};
 ghost use Rattle.clog_engine.specs.Directory.{IsLateTable};
-ghost use Rattle.clog_engine.specs.Listing.{ArePlaces, IsGreatestArchive, greater};
+ghost use Rattle.clog_engine.specs.Listing.{IsGreatestArchive, greater};
 
-use clog_base::{
-    Name, OutOfMemory, Table, parse_archive_name, parse_segment_name, parse_table_name,
-};
-use std::alloc::Global;
-use std::collections::BTreeMap;
-
-/// The greatest sequence that a table's file may have where the program starts.
-pub(crate) const SEQUENCE_LIMIT: u64 = 4_611_686_018_427_387_904;
-
-/// The names of table files, by table and sequence.
-pub(crate) type TableNames = BTreeMap<(Table, u64), Name>;
+use crate::limits::SEQUENCE_LIMIT;
+use clog_base::{Name, parse_archive_name, parse_segment_name, parse_table_name};
 
 fn is_segment(name: &Name) -> bool
     ensures { IsTrue result ↔ IsNameOfSegment name.now }
@@ -67,17 +58,4 @@ pub(crate) fn greatest_archive(names: &[Name]) -> Option<u64>
         }
     }
     greatest
-}
-
-/// The names that are those of table files.
-pub(crate) fn table_names(alloc: Global, names: &[Name]) -> Result<TableNames, OutOfMemory>
-    ensures { IfOk result (λ tables. ArePlaces (Contains names.now) tables.entries) }
-{
-    let mut tables = BTreeMap::new(alloc);
-    for name in names {
-        if let Some(place) = parse_table_name(name) {
-            tables.insert(place, *name)?;
-        }
-    }
-    Ok(tables)
 }

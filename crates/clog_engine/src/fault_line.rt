@@ -5,6 +5,7 @@ ghost use Rattle.clog_engine.specs.Faults.{fault_line, quantity_name, unbuilt_na
 
 use crate::status::{Status, Unbuilt};
 use clog_base::{Name, Quantity, TextRow};
+use clog_scan::Cause;
 use clog_table::{FaultText, TableFault};
 use clog_text::{BadLine, Part};
 use std::marker::Model;
@@ -115,6 +116,20 @@ fn put_bad_table(row: &mut TextRow, name: &Name, fault: &TableFault)
     row.put(b"\n");
 }
 
+fn put_damaged(row: &mut TextRow, name: &Name, at: u32, cause: Cause)
+    requires { row.old ≡ [] }
+    ensures { row.new ≡ fault_line (Status.Damaged name.now at cause) }
+{
+    let text = cause.text();
+    row.put(b"error 7: ");
+    row.put(name.as_bytes());
+    row.put(b" at ");
+    row.put_number(u64::from(at));
+    row.put(b": ");
+    row.put(text.as_bytes());
+    row.put(b"\n");
+}
+
 fn put_absent(row: &mut TextRow, name: &Name)
     requires { row.old ≡ [] }
     ensures { row.new ≡ fault_line (Status.Absent name.now) }
@@ -136,6 +151,7 @@ fn put_fault(row: &mut TextRow, status: &Status)
         Status::TooLarge(number, size, most) => put_too_large(row, *number, *size, *most),
         Status::ReadFault => row.put(b"error 4: read fault\n"),
         Status::DiskFault => row.put(b"error 6: disk fault\n"),
+        Status::Damaged(name, at, cause) => put_damaged(row, name, *at, *cause),
         Status::BadTable(name, fault) => put_bad_table(row, name, fault),
         Status::OutOfMemory => row.put(b"error 9: out of memory\n"),
         Status::Limit(what, number) => put_limit(row, *what, *number),

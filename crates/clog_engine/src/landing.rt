@@ -2,21 +2,10 @@
 ghost use Rattle.std.specs.Prelude.{◌≡◌, ◌≢◌, ◌≤◌, Err};
 ghost use Rattle.clog_disk.specs.Files.{IsEnd};
 ghost use Rattle.clog_disk.specs.declared.disk.DiskFault.TheVariants.{Failed};
-ghost use Rattle.clog_engine.specs.Landing.{LandsFile, status_of};
+ghost use Rattle.clog_engine.specs.Landing.{LandsFile};
 
-use crate::status::Status;
 use clog_base::Name;
 use clog_disk::{Disk, DiskFault};
-
-/// How a run ends that the disk refuses.
-pub(crate) fn status_of(fault: DiskFault) -> Status
-    ensures { result ≡ status_of fault }
-{
-    match fault {
-        DiskFault::OutOfMemory => Status::OutOfMemory,
-        DiskFault::Failed | DiskFault::NoSuchFile => Status::DiskFault,
-    }
-}
 
 /// Writes a file that is not there yet, and makes it lasting.
 pub(crate) fn land<D: Disk>(disk: &mut D, name: &Name, bytes: &[u8]) -> Result<(), DiskFault>

@@ -10,6 +10,8 @@ mod fault_line;
 mod input;
 mod landing;
 mod laws;
+mod limits;
+mod refusal;
 mod report;
 mod running;
 mod scan_report;

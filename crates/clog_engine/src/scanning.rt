@@ -2,17 +2,17 @@
 //! (Cassandra's `CommitLogReader`, which also decodes the payloads).
 ghost use Rattle.std.specs.Prelude.{◌≤◌};
 ghost use Rattle.clog_spec.specs.Names.{segment_name_of};
-ghost use Rattle.clog_disk.specs.Files.{IsThere};
 ghost use Rattle.clog_disk.specs.Images.{Unchanged};
 ghost use Rattle.clog_engine.specs.Quiet.{TellsEach};
 ghost use Rattle.clog_engine.specs.Scanning.{Scans};
-ghost use Rattle.clog_engine.specs.SegmentFile.{FindsFile, GivesFile};
+ghost use Rattle.clog_engine.specs.SegmentFile.{FindsFile, GivesSegmentFile};
 
-use crate::landing::status_of;
+use crate::refusal::{folder_status, status_of};
 use crate::scan_report::scan_report;
 use crate::status::Status;
-use clog_base::{Bytes, FILE_LIMIT, Name, Quantity, segment_name};
+use clog_base::{Bytes, Name, segment_name};
 use clog_disk::Disk;
+use clog_folder::segment_bytes;
 use clog_scan::scan;
 use std::alloc::Global;
 
@@ -32,31 +32,9 @@ fn find_file<D: Disk>(disk: &mut D, name: &Name) -> Result<(), Status>
     }
 }
 
-// The bytes of a file that is there.
-fn bytes_of_file<D: Disk>(disk: &mut D, name: &Name) -> Result<Vec<u8>, Status>
-    requires { IsThere (D.files disk.old) name.now }
-    ensures gives { GivesFile (D.files disk.old) (D.faults disk.old) (D.faults disk.new) name.now
-        result }
-    ensures same { Unchanged (D.files disk.old) (D.files disk.new) (D.leaves disk.old)
-        (D.leaves disk.new) }
-    ensures quiet { TellsEach (D.faults disk.old) (D.faults disk.new) result }
-{
-    let len = match disk.len(name) {
-        Ok(len) => len,
-        Err(fault) => return Err(status_of(fault)),
-    };
-    if len > FILE_LIMIT {
-        return Err(Status::Limit(Quantity::SegmentBytes, FILE_LIMIT));
-    }
-    match disk.read(name, 0, len as u32) {
-        Ok(bytes) => Ok(bytes),
-        Err(fault) => Err(status_of(fault)),
-    }
-}
-
 // The bytes of a segment's file.
 fn segment_file<D: Disk>(disk: &mut D, id: u64) -> Result<Vec<u8>, Status>
-    ensures gives { GivesFile (D.files disk.old) (D.faults disk.old) (D.faults disk.new)
+    ensures gives { GivesSegmentFile (D.files disk.old) (D.faults disk.old) (D.faults disk.new)
         (segment_name_of 6 id) result }
     ensures same { Unchanged (D.files disk.old) (D.files disk.new) (D.leaves disk.old)
         (D.leaves disk.new) }
@@ -64,10 +42,9 @@ fn segment_file<D: Disk>(disk: &mut D, id: u64) -> Result<Vec<u8>, Status>
 {
     let name = segment_name(id);
     find_file(disk, &name)?;
-    // A match, since the exit speaks of what was read.
-    match bytes_of_file(disk, &name) {
+    match segment_bytes(disk, &name) {
         Ok(bytes) => Ok(bytes),
-        Err(status) => Err(status),
+        Err(refusal) => Err(folder_status(refusal)),
     }
 }
 

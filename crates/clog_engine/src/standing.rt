@@ -1,23 +1,21 @@
 //! What a directory holds before anything is applied.
 ghost use Rattle.std.specs.Prelude.{◌≡◌, ◌<◌, IfSome};
+ghost use Rattle.clog_folder.specs.Passing.{IsUntouched};
 ghost use Rattle.clog_engine.specs.Limits.{id_limit};
 ghost use Rattle.clog_engine.specs.Listing.{base_of, is_last};
-ghost use Rattle.clog_engine.specs.Looking.{Keeps, Looks};
+ghost use Rattle.clog_engine.specs.Looking.{Looks};
 ghost use Rattle.clog_engine.specs.Quiet.{TellsEach};
 
-use crate::directory::{
-    SEQUENCE_LIMIT, greatest_archive, has_late_table, has_segment, table_names,
-};
-use crate::landing::status_of;
+use crate::directory::{greatest_archive, has_late_table, has_segment};
+use crate::limits::{ID_LIMIT, SEQUENCE_LIMIT};
+use crate::refusal::{folder_status, status_of};
 use crate::status::{Status, Unbuilt};
 use crate::tables::read_tables;
 use clog_base::Quantity;
 use clog_cells::CellMap;
 use clog_disk::Disk;
+use clog_folder::table_names;
 use std::alloc::Global;
-
-/// Ids that a directory names are less than this.
-const ID_LIMIT: u64 = 4_611_686_018_427_387_903;
 
 /// What a directory holds.
 #[derive(Drop)]
@@ -51,8 +49,8 @@ fn is_last(greatest: Option<u64>) -> bool
 /// Looks at the directory, in which there is to be no segment.
 pub(crate) fn look<D: Disk>(alloc: Global, disk: &mut D, dump: bool) -> Result<Standing, Status>
     ensures looks { Looks dump (D.files disk.old) (D.faults disk.old) (D.faults disk.new) result }
-    ensures keeps { Keeps (D.files disk.old) (D.files disk.new) (D.leaves disk.old)
-        (D.leaves disk.new) (D.faults disk.old) (D.faults disk.new) }
+    ensures keeps { IsUntouched D.files D.changes D.leaves D.moment D.since D.read_at
+        D.faults disk.old disk.new }
     ensures quiet { TellsEach (D.faults disk.old) (D.faults disk.new) result }
 {
     let names = match disk.list() {
@@ -67,7 +65,7 @@ pub(crate) fn look<D: Disk>(alloc: Global, disk: &mut D, dump: bool) -> Result<S
     // A match in place of `?`, since the exit speaks of what was read.
     let standing = match read_tables(alloc, disk, tables, greatest_archive(names), dump) {
         Ok(standing) => standing,
-        Err(status) => return Err(status),
+        Err(refusal) => return Err(folder_status(refusal)),
     };
     if has_late_table(names) {
         return Err(Status::Limit(Quantity::TableFiles, SEQUENCE_LIMIT));

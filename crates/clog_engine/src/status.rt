@@ -2,6 +2,7 @@
 ghost use Rattle.std.specs.Prelude.{◌≡◌};
 
 use clog_base::{Name, Quantity};
+use clog_scan::Cause;
 use clog_table::TableFault;
 use clog_text::BadLine;
 
@@ -34,6 +35,9 @@ pub enum Status {
     WriteFault,
     /// The disk has failed.
     DiskFault,
+    /// The segment of this name is the first, by id, that is damaged: it is torn at this offset, in
+    /// bytes, for this cause, and no crash leaves it so.
+    Damaged(Name, u32, Cause),
     /// The file of this name is the first, by table and sequence, that is no table file, for this
     /// cause.
     BadTable(Name, TableFault),
@@ -62,6 +66,7 @@ impl Status {
             Status::ReadFault => 4,
             Status::WriteFault => 5,
             Status::DiskFault => 6,
+            Status::Damaged(_, _, _) => 7,
             Status::BadTable(_, _) => 8,
             Status::OutOfMemory => 9,
             Status::Limit(_, _) => 10,

@@ -1,56 +1,19 @@
 //! Table files are read from the disk, in their order.
-ghost use Rattle.std.specs.Prelude.{◌≡◌, ◌≢◌, [], ◌++◌, OnOk, IfSome, Err};
+ghost use Rattle.std.specs.Prelude.{◌≡◌, [], ◌++◌, OnOk, IfSome};
 ghost use Rattle.clog_cells.specs.Merge.{AreInOrder};
 ghost use Rattle.clog_disk.specs.Files.{IsThere};
-ghost use Rattle.clog_disk.specs.declared.disk.DiskFault.TheVariants.{Failed};
-ghost use Rattle.clog_crash.specs.Folder.{IsHeld};
-ghost use Rattle.clog_engine.specs.Listing.{ArePlaces};
-ghost use Rattle.clog_engine.specs.Looking.{
-  Keeps,
-  GivesWhole,
-  GivesAddition,
-  ReadsTable,
-  Joins,
-  ReadsTables,
-};
-ghost use Rattle.clog_engine.specs.Quiet.{TellsEach};
+ghost use Rattle.clog_crash.specs.Folder.{IsHeld, IsNameOf, place_cmp};
+ghost use Rattle.clog_folder.specs.Listing.{AreRows};
+ghost use Rattle.clog_folder.specs.Passing.{IsUntouched, TellsEach};
+ghost use Rattle.clog_engine.specs.Looking.{GivesAddition, ReadsTable, Joins, ReadsTables};
 
-use crate::directory::{TableNames, greater};
-use crate::landing::status_of;
+use crate::directory::greater;
 use crate::standing::Standing;
-use crate::status::Status;
 use clog_base::{Name, OutOfMemory, Position, Table};
-use clog_disk::{Disk, DiskFault};
+use clog_disk::Disk;
+use clog_folder::{OpenFault, TableNames, fault_of, read_whole};
 use clog_table::{CellMap, TableFault, TableFile, check_file, decode};
 use std::alloc::Global;
-
-/// How many bytes are asked for at once.
-const PIECE: u32 = 1 << 20;
-
-/// All bytes of a file.
-fn read_whole<D: Disk>(alloc: Global, disk: &mut D, name: &Name) -> Result<Vec<u8>, DiskFault>
-    ensures whole { GivesWhole (D.files disk.old) name.now (D.faults disk.old)
-        (D.faults disk.new) result }
-    ensures keeps { Keeps (D.files disk.old) (D.files disk.new) (D.leaves disk.old)
-        (D.leaves disk.new) (D.faults disk.old) (D.faults disk.new) }
-    ensures quiet { result ≢ Err Failed → D.faults disk.new ≡ D.faults disk.old }
-{
-    let len = disk.len(name)?;
-    let mut bytes = Vec::new(alloc);
-    while (bytes.len() as u64) < len {
-        // A match in place of `?`, since the exit speaks of what was read.
-        let piece = match disk.read(name, bytes.len() as u64, PIECE) {
-            Ok(piece) => piece,
-            Err(fault) => return Err(fault),
-        };
-        // A disk that does not tell its files may have fewer bytes than it said.
-        if piece.is_empty() {
-            break;
-        }
-        bytes.extend_from_slice(&piece)?;
-    }
-    Ok(bytes)
-}
 
 /// What a table file adds.
 #[derive(Drop)]
@@ -89,22 +52,22 @@ fn read_table<D: Disk>(
     place: (Table, u64),
     name: &Name,
     dump: bool,
-) -> Result<Addition, Status>
+) -> Result<Addition, OpenFault>
     requires { IsThere (D.files disk.old) name.now }
     ensures reads { ReadsTable dump (D.files disk.old) (D.faults disk.old) (D.faults disk.new)
         place name.now result }
-    ensures keeps { Keeps (D.files disk.old) (D.files disk.new) (D.leaves disk.old)
-        (D.leaves disk.new) (D.faults disk.old) (D.faults disk.new) }
+    ensures keeps { IsUntouched D.files D.changes D.leaves D.moment D.since D.read_at
+        D.faults disk.old disk.new }
     ensures quiet { TellsEach (D.faults disk.old) (D.faults disk.new) result }
 {
     let bytes = match read_whole(alloc, disk, name) {
         Ok(bytes) => bytes,
-        Err(fault) => return Err(status_of(fault)),
+        Err(fault) => return Err(fault_of(fault)),
     };
     match addition_of(alloc, &bytes, place.0, dump) {
         Ok(addition) => Ok(addition),
-        Err(TableFault::OutOfMemory) => Err(Status::OutOfMemory),
-        Err(fault) => Err(Status::BadTable(*name, fault)),
+        Err(TableFault::OutOfMemory) => Err(OpenFault::OutOfMemory),
+        Err(fault) => Err(OpenFault::BadTable(*name, fault)),
     }
 }
 
@@ -125,12 +88,13 @@ pub(crate) fn read_tables<D: Disk>(
     names: TableNames,
     greatest: Option<u64>,
     dump: bool,
-) -> Result<Standing, Status>
-    requires { IfSome (D.files disk.old) (λ held. ArePlaces (IsHeld held) names.entries) }
+) -> Result<Standing, OpenFault>
+    requires { IfSome (D.files disk.old) (λ held.
+        AreRows place_cmp IsNameOf (IsHeld held) names.entries) }
     ensures reads { ReadsTables dump (D.files disk.old) (D.faults disk.old) (D.faults disk.new)
         names.entries greatest result }
-    ensures keeps { Keeps (D.files disk.old) (D.files disk.new) (D.leaves disk.old)
-        (D.leaves disk.new) (D.faults disk.old) (D.faults disk.new) }
+    ensures keeps { IsUntouched D.files D.changes D.leaves D.moment D.since D.read_at
+        D.faults disk.old disk.new }
     ensures quiet { TellsEach (D.faults disk.old) (D.faults disk.new) result }
 {
     let mut standing = Standing {
@@ -141,7 +105,7 @@ pub(crate) fn read_tables<D: Disk>(
         // A match in place of `?`, since the exit speaks of what was read.
         match read_table(alloc, disk, place, &name, dump) {
             Ok(addition) => join(&mut standing, addition)?,
-            Err(status) => return Err(status),
+            Err(refusal) => return Err(refusal),
         }
     }
     Ok(standing)

@@ -48,8 +48,8 @@ returns-then-lines-eq0-clause-applies g c =
         fits = fits_name standing c.base-id.result c.now_ms.result s.low c.now_ms.ensures.bound
             c.base-id.ensures;
         landed = lands_none _ c.base-id.result mutations none (record {
-          files = keeps.same;
-          images = keeps.images;
+          files = keeps.same.files;
+          images = keeps.same.images;
         });
         reported = report_over c.args.options.dump (cells_of_tables s.reads) standing.cells
             mutations c.in_ok-report.report s.merged c.in_ok-report.ensures;
@@ -68,7 +68,7 @@ pub land-requires : goal.land-requires
 land-requires g c =
     let before = g.D.Disk.files c.args.disk.now in
     subst (λ (f : Option Files). IsEnd f c.segment_name.result 0)
-    (sym c.in_ok-standing.ensures.keeps.same)
+    (sym c.in_ok-standing.ensures.keeps.same.files)
     (free_end before c.segment_name.result
     (name_is_free before c.args.options.dump c.in_ok-standing.standing c.now_ms.result
     c.base-id.result c.segment_name.result c.in_ok-standing.ensures.looks c.now_ms.ensures.bound
@@ -94,7 +94,7 @@ returns-in-Ok-clause-applies g c =
     ∙ ap (segment_of id) c.as_slice-2.ensures in
     let landed : AppendsTo before after c.segment_name.result c.deref-2.result.now =
     subst (λ (f : Option Files). AppendsTo f after c.segment_name.result c.deref-2.result.now)
-    keeps.same c.in-Ok.ensures.lands.0 in (
+    keeps.same.files c.in-Ok.ensures.lands.0 in (
       c.in_ok-bytes.bytes.items,
       c.in_ok-bytes.ensures.taken,
       record {
@@ -120,8 +120,9 @@ returns-in-Ok-clause-applies g c =
           images = torn_from before (g.D.Disk.files c.look.new.disk)
               (g.D.Disk.leaves c.args.disk.now) (g.D.Disk.leaves c.look.new.disk)
               (g.D.Disk.leaves c.land.new.disk) (segment_name_of 6 id) c.segment_name.result
-              (length c.deref-2.result.now) (length (segment_of id mutations)) keeps.same
-              keeps.images name (let size = ap length bytes in omega (arith, size))
+              (length c.deref-2.result.now) (length (segment_of id mutations))
+              keeps.same.files
+              keeps.same.images name (let size = ap length bytes in omega (arith, size))
               c.in-Ok.ensures.lands.2;
         });
         reported = report_over c.args.options.dump (cells_of_tables s.reads) standing.cells
@@ -152,7 +153,7 @@ returns-clause-applies g c =
     let taken = c.in_ok-bytes.ensures.taken in
     let left : LeftBehind before after c.segment_name.result c.deref-2.result.now fault =
     subst (λ (f : Option Files).
-    LeftBehind f after c.segment_name.result c.deref-2.result.now fault) keeps.same
+    LeftBehind f after c.segment_name.result c.deref-2.result.now fault) keeps.same.files
     c.in-Err.ensures.lands.1 in
     landing_refuses c.args.options.capacity fault c.status_of.result _ c.status_of.ensures (
       c.in_ok-bytes.bytes.items,
@@ -181,7 +182,8 @@ returns-clause-applies g c =
       images = torn_from before (g.D.Disk.files c.look.new.disk)
           (g.D.Disk.leaves c.args.disk.now) (g.D.Disk.leaves c.look.new.disk)
           (g.D.Disk.leaves c.land.new.disk) (segment_name_of 6 id) c.segment_name.result
-          (length c.deref-2.result.now) (length (segment_of id mutations)) keeps.same
-          keeps.images name (let size = ap length bytes in omega (arith, size))
+          (length c.deref-2.result.now) (length (segment_of id mutations))
+          keeps.same.files
+          keeps.same.images name (let size = ap length bytes in omega (arith, size))
           c.in-Err.ensures.lands.2;
     })

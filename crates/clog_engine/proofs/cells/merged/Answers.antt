@@ -4,12 +4,9 @@ use Rattle.clog_cells.specs.Merge.{IsMerge}
 use Rattle.clog_cells.proofs.Merging.{none_yet}
 use Rattle.clog_mutation.specs.declared.mutation.Mutation.{Mutation}
 use Rattle.clog_mutation.specs.Payload.{cells_of}
-use Rattle.clog_engine.proofs.Merged.{
-  mutation_more,
-  part_more,
-  all_parts,
-  nothing_left,
-}
+use Rattle.clog_folder.proofs.TablesRead.{part_more}
+use Rattle.std.proofs.lemmas.List.{nil_from_length}
+use Rattle.clog_engine.proofs.Merged.{mutation_more, all_parts}
 use Rattle.clog_engine.proofs.cells.merged.Goals as goal
 
 pub loop-mutation-init : goal.loop-mutation-init
@@ -37,7 +34,7 @@ loop-mutation-preserved c =
 pub returns : goal.returns
 returns c =
     let l = c.loop-mutation in
-    let empty = nothing_left l.mutation-iterator.rest.items
+    let empty = nil_from_length l.mutation-iterator.rest.items
     (sym l.invariant.count ∙ c.in-None.ensures.steps.0) in
     subst (λ (ms : List Mutation). IsMerge (c.args.before ++ flat_map cells_of ms) l.cells)
     (all_parts c.args.mutations l.yielded l.mutation-iterator.rest.items l.invariant.parts empty)

@@ -3,12 +3,13 @@ use Rattle.clog_mutation.specs.declared.mutation.Update.{Update}
 use Rattle.clog_cells.specs.Merge.{IsMerge}
 use Rattle.clog_cells.proofs.Merging.{none_yet}
 use Rattle.clog_mutation.specs.Payload.{pair_of}
-use Rattle.clog_engine.proofs.Merged.{update_more, nothing_left}
+use Rattle.std.proofs.lemmas.List.{nil_from_length}
+use Rattle.clog_engine.proofs.Merged.{update_more}
 use Rattle.clog_engine.proofs.cells.put_mutation.Goals as goal
 
 pub returns-in_default : goal.returns-in_default
 returns-in_default c =
-    let none = nothing_left c.into_vec-updates.result.items
+    let none = nil_from_length c.into_vec-updates.result.items
     (omega (arith, c.into_vec-updates.result.ok, c.in_default.ensures.cases.0)) in
     subst (λ (us : List Update).
     IsMerge (c.args.cells.now ++ map (pair_of c.args.mutation.key) us) c.args.cells.now)

@@ -3,7 +3,9 @@ use Rattle.clog_mutation.specs.declared.mutation.Update.{Update}
 use Rattle.clog_cells.specs.Merge.{IsMerge}
 use Rattle.clog_cells.proofs.Merging.{none_yet}
 use Rattle.clog_mutation.specs.Payload.{pair_of}
-use Rattle.clog_engine.proofs.Merged.{update_more, part_more, all_parts, nothing_left}
+use Rattle.clog_folder.proofs.TablesRead.{part_more}
+use Rattle.std.proofs.lemmas.List.{nil_from_length}
+use Rattle.clog_engine.proofs.Merged.{update_more, all_parts}
 use Rattle.clog_engine.proofs.cells.put_updates.Goals as goal
 
 pub loop-update-init : goal.loop-update-init
@@ -33,7 +35,7 @@ loop-update-preserved c =
 pub returns : goal.returns
 returns c =
     let l = c.loop-update in
-    let empty = nothing_left l.update-iterator.rest.items
+    let empty = nil_from_length l.update-iterator.rest.items
     (sym l.invariant.count ∙ c.in-None.ensures.steps.0) in
     subst (λ (us : List Update). IsMerge (c.args.cells.now ++ map
     (pair_of c.args.key.now) us) l.cells)

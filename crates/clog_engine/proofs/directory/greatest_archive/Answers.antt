@@ -1,7 +1,8 @@
 use Rattle.std.proofs.Common.{List, ℕ, Option, ◌∷◌, [], ◌++◌, ◌∙◌, take, sym, subst}
 use Rattle.std.proofs.lemmas.List.{take_all}
 use Rattle.clog_engine.specs.Listing.{IsGreatestArchive}
-use Rattle.clog_engine.proofs.Listed.{taken, archive_more, archive_same}
+use Rattle.clog_folder.proofs.Rows.{taken}
+use Rattle.clog_engine.proofs.Listed.{archive_more, archive_same}
 use Rattle.clog_engine.proofs.directory.greatest_archive.Goals.{in-Some, in_default}
 use Rattle.clog_engine.proofs.directory.greatest_archive.Goals as goal
 

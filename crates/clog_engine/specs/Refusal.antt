@@ -1,0 +1,25 @@
+-- How a run ends whose disk or folder is refused.
+use Rattle.clog_disk.specs.declared.disk.DiskFault.{DiskFault}
+use Rattle.clog_disk.specs.declared.disk.DiskFault.TheVariants as fault
+use Rattle.clog_folder.specs.declared.fault.OpenFault.{OpenFault}
+use Rattle.clog_folder.specs.declared.fault.OpenFault.TheVariants as refusal
+use Rattle.clog_engine.specs.declared.status.Status.{Status}
+use Rattle.clog_engine.specs.declared.status.Status.TheVariants.{
+  DiskFault as HasDiskFault,
+  Damaged,
+  BadTable,
+  OutOfMemory,
+  Limit,
+}
+
+abbrev pub status_of : DiskFault → Status
+status_of fault.Failed = HasDiskFault
+status_of fault.NoSuchFile = HasDiskFault
+status_of fault.OutOfMemory = OutOfMemory
+
+abbrev pub folder_status : OpenFault → Status
+folder_status refusal.Disk = HasDiskFault
+folder_status (refusal.Damaged name at cause) = Damaged name at cause
+folder_status (refusal.BadTable name fault) = BadTable name fault
+folder_status (refusal.Limit what number) = Limit what number
+folder_status refusal.OutOfMemory = OutOfMemory
