@@ -1,2 +1,4 @@
+pub mod Interleaved
+pub mod Joined
 pub mod Replayed
 pub mod Taken

@@ -1,7 +1,6 @@
 -- What was merged is what the folder restores to, and what was counted is its counts.
 use Rattle.std.proofs.Common.{
   ◌≡◌,
-  ◌⊎◌,
   ℕ,
   ◌+◌,
   suc,
@@ -12,8 +11,10 @@ use Rattle.std.proofs.Common.{
   length,
   map,
   take,
+  drop,
   get_or,
   ◌<◌,
+  ◌≤◌,
   All,
   append_assoc,
   length-append,
@@ -30,10 +31,10 @@ use Rattle.std.proofs.Common.{
   inr,
   arith,
 }
-use Rattle.std.specs.Prelude.{Bool, IfSome, ◌↔◌}
+use Rattle.std.specs.Prelude.{Bool, IfSome}
 use Rattle.std.specs.List.{AllByRecursion, flat_map}
 use Rattle.std.specs.List.Sorted.{IsStrictlySortedBy}
-use Rattle.std.proofs.lemmas.List.{append-nil, length-map, map-append}
+use Rattle.std.proofs.lemmas.List.{append-nil, length-map, map-append, take-append-drop}
 use Rattle.std.proofs.lemmas.Grind.{flat_map-append}
 use Rattle.std.proofs.lemmas.List.Elements.{
   All-contains,
@@ -44,21 +45,18 @@ use Rattle.std.proofs.lemmas.List.Elements.{
 }
 use Rattle.clog_base.specs.declared.cell.Cell.{Cell}
 use Rattle.clog_base.specs.declared.cell.CellKey.{CellKey}
-use Rattle.clog_base.specs.declared.cell.Table.{Table}
 use Rattle.clog_base.specs.declared.position.Position.{Position}
 use Rattle.clog_base.proofs.Members.{from_flat, from_map, further, here, in_flat, in_map}
 use Rattle.clog_cells.specs.Merge.{IsMerge}
 use Rattle.clog_cells.proofs.Merging.{continues, of_itself, of_same}
 use Rattle.clog_disk.specs.Files.{Files}
 use Rattle.clog_mutation.specs.declared.mutation.Update.{Update}
-use Rattle.clog_mutation.specs.Payload.{pair_of}
 use Rattle.clog_mutation.proofs.Decoding.{one_mutation}
 use Rattle.clog_scan.specs.Laws.{IsRange}
 use Rattle.clog_table.specs.declared.table_file.TableFile.{TableFile}
 use Rattle.clog_crash.specs.Counts.{
   HaveIt,
   IsLog,
-  IsLoggedMutation,
   IsNameOfTable,
   IsStoodFor,
   LoggedMutation,
@@ -109,7 +107,7 @@ use Rattle.replay_merge.specs.Merged.{
   updates_of,
 }
 use Rattle.replay_merge.specs.Restoring.{IsReplayOf, IsRestoredOf}
-use Rattle.replay_merge.specs.Taking.{AreRanges, TakesLog}
+use Rattle.replay_merge.specs.Taking.{AreRanges, IsTakenOf}
 use Rattle.replay_merge.proofs.Taken.{seen}
 
 abbrev Pairs : Type 0
@@ -348,7 +346,7 @@ no_cells : IsMerge [] []
 unfolding IsStrictlySortedBy
 no_cells = of_itself [] tt
 
-pub none_merged : (tables : List TableHeld) (m : Merged) → m.cells ≡ [] → m.updates ≡ 0
+none_merged : (tables : List TableHeld) (m : Merged) → m.cells ≡ [] → m.updates ≡ 0
     → m.skipped ≡ 0 → IsMergedOf tables [] m
 none_merged tables m cells updates skipped = record {
   kept = [];
@@ -391,9 +389,25 @@ entries_more segments i n held inside is so_far =
     ∙ ap (λ (hs : List SegmentHeld). length (flat_map payloads_of hs))
     (seen segments i held inside is)
 
-pub all_taken : (folder : Folder) (start m : Merged) → start.cells ≡ [] → start.updates ≡ 0
-    → start.skipped ≡ 0
-    → (is : TakesLog folder.tables (flat_map payloads_of folder.segments) start m)
-    → IsMergedOf folder.tables (flat_map updates_of is.log) m
-all_taken folder start m cells updates skipped is =
-    is.takes [] (none_merged folder.tables start cells updates skipped)
+-- no more than all
+pub segments_fit : (segments : List SegmentHeld) (i : ℕ)
+    → length (flat_map payloads_of (take i segments)) ≤ length (flat_map payloads_of segments)
+segments_fit segments i =
+    let parts : length (flat_map payloads_of segments)
+    ≡ length (flat_map payloads_of (take i segments))
+    + length (flat_map payloads_of (drop i segments)) =
+    ap (λ (hs : List SegmentHeld). length (flat_map payloads_of hs))
+    (sym (take-append-drop i segments))
+    ∙ ap length (flat_map-append payloads_of (take i segments) (drop i segments))
+    ∙ length-append (flat_map payloads_of (take i segments))
+    (flat_map payloads_of (drop i segments)) in
+    omega (arith, parts)
+
+-- of no entries
+pub none_taken : (tables : List TableHeld) (m : Merged) → m.cells ≡ [] → m.updates ≡ 0
+    → m.skipped ≡ 0 → IsTakenOf tables [] m
+none_taken tables m cells updates skipped = record {
+  log = [];
+  say = refl;
+  taken = none_merged tables m cells updates skipped;
+}

@@ -1,7 +1,6 @@
 -- Updates are taken in one after another.
 use Rattle.std.proofs.Common.{
   ◌≡◌,
-  ◌⊎◌,
   ℕ,
   ◌+◌,
   ◌<◌,
@@ -18,6 +17,7 @@ use Rattle.std.proofs.Common.{
   ap,
   subst,
   ◌∙◌,
+  Bool,
   append_assoc,
   length-append,
   inl,
@@ -25,13 +25,12 @@ use Rattle.std.proofs.Common.{
   arith,
 }
 use Rattle.std.specs.List.{flat_map}
-use Rattle.std.proofs.lemmas.List.{append-nil, map-append, take_more}
+use Rattle.std.proofs.lemmas.List.{append-nil, length-map, map-append, take_more}
 use Rattle.std.proofs.lemmas.Grind.{flat_map-append}
 use Rattle.clog_base.specs.declared.cell.Cell.{Cell}
 use Rattle.clog_base.specs.declared.cell.CellKey.{CellKey}
 use Rattle.clog_cells.specs.Merge.{IsMerge}
 use Rattle.clog_cells.proofs.Merging.{continues}
-use Rattle.clog_mutation.specs.declared.mutation.Mutation.{Mutation}
 use Rattle.clog_mutation.specs.declared.mutation.Update.{Update}
 use Rattle.clog_scan.specs.declared.answer.Found.{Found}
 use Rattle.clog_base.specs.declared.position.Position.{Position}
@@ -54,7 +53,9 @@ use Rattle.replay_merge.specs.Merged.{
   pair_at,
   updates_of,
 }
-use Rattle.replay_merge.specs.Taking.{TakesEntry, TakesLog}
+use Rattle.replay_merge.specs.Dealt.{numbered}
+use Rattle.replay_merge.specs.Taking.{IsTakenOf, TakesEntry, TakesLog}
+use Rattle.replay_merge.proofs.Interleaved.{numbered_both}
 
 -- what is seen up to an index, and what stands there
 pub seen : {A : Type 0} (xs : List A) (i : ℕ) (x : A) → i < length xs → x ≡ get_or xs i x
@@ -176,25 +177,50 @@ module _ (tables : List TableHeld) where
         (sym (append-nil _)) is.takes;
   }
 
+  -- what is taken behind what a worker has
+  pub taken_more : (ps qs : List PlacedPayload) (old new : Merged) → IsTakenOf tables ps old
+      → TakesLog tables qs old new → IsTakenOf tables (ps ++ qs) new
+  taken_more ps qs old new has more = record {
+    log = has.log ++ more.log;
+    say = say_both ps qs has.log more.log has.say more.say;
+    taken = subst (λ (us : List KeyedUpdate). IsMergedOf tables us new)
+        (sym (flat_map-append updates_of has.log more.log))
+        (more.takes (flat_map updates_of has.log) has.taken);
+  }
+
   -- one entry more of a segment
-  pub entry_more : (held : SegmentHeld) (front : List Found) (found : Found)
-      (old mid new : Merged) → TakesLog tables (map (placed held) front) old mid
-      → TakesEntry tables held.id held.bytes found mid new
-      → TakesLog tables (map (placed held) (front ++ found ∷ [])) old new
-  entry_more held front found old mid new so_far step =
-      subst (λ (ps : List PlacedPayload). TakesLog tables ps old new)
-      (sym (map-append (placed held) front (found ∷ [])))
-      (log_both (map (placed held) front) (placed held found ∷ []) old mid new so_far
-      (entry_log held found mid new step))
+  pub entry_more : (P : ℕ → Bool) (held : SegmentHeld) (first number : ℕ) (front : List Found)
+      (found : Found) (old mid new : Merged) → number ≡ first + length front
+      → TakesLog tables (numbered P first (map (placed held) front)) old mid
+      → TakesLog tables (numbered P number (placed held found ∷ [])) mid new
+      → TakesLog tables (numbered P first (map (placed held) (front ++ found ∷ []))) old new
+  entry_more P held first number front found old mid new is so_far step =
+      let ps = map (placed held) front in
+      let at : number ≡ first + length ps =
+      is ∙ ap (λ k. first + k) (sym (length-map front (placed held))) in
+      subst (λ (qs : List PlacedPayload). TakesLog tables qs old new)
+      (sym (ap (λ (qs : List PlacedPayload). numbered P first qs)
+      (map-append (placed held) front (found ∷ []))
+      ∙ numbered_both P first ps (placed held found ∷ [])))
+      (log_both (numbered P first ps)
+      (numbered P (first + length ps) (placed held found ∷ [])) old mid new so_far
+      (subst (λ k. TakesLog tables (numbered P k (placed held found ∷ [])) mid new) at step))
 
   -- one segment more
-  pub segment_more : (front : List SegmentHeld) (held : SegmentHeld) (old mid new : Merged)
-      → TakesLog tables (flat_map payloads_of front) old mid
-      → TakesLog tables (payloads_of held) mid new
-      → TakesLog tables (flat_map payloads_of (front ++ held ∷ [])) old new
-  segment_more front held old mid new so_far step =
-      subst (λ (ps : List PlacedPayload). TakesLog tables ps old new)
-      (ap (λ (l : List PlacedPayload). flat_map payloads_of front ++ l)
-      (sym (append-nil (payloads_of held)))
-      ∙ sym (flat_map-append payloads_of front (held ∷ [])))
-      (log_both (flat_map payloads_of front) (payloads_of held) old mid new so_far step)
+  pub segment_more : (P : ℕ → Bool) (front : List SegmentHeld) (held : SegmentHeld) (number : ℕ)
+      (old new : Merged) → number ≡ length (flat_map payloads_of front)
+      → IsTakenOf tables (numbered P 0 (flat_map payloads_of front)) old
+      → TakesLog tables (numbered P number (payloads_of held)) old new
+      → IsTakenOf tables (numbered P 0 (flat_map payloads_of (front ++ held ∷ []))) new
+  segment_more P front held number old new is so_far step =
+      let ps = flat_map payloads_of front in
+      let all : ps ++ payloads_of held ≡ flat_map payloads_of (front ++ held ∷ []) =
+      ap (λ (l : List PlacedPayload). ps ++ l) (sym (append-nil (payloads_of held)))
+      ∙ sym (flat_map-append payloads_of front (held ∷ [])) in
+      subst (λ (qs : List PlacedPayload). IsTakenOf tables qs new)
+      (ap (λ k. numbered P 0 ps ++ numbered P k (payloads_of held))
+      (let e : length ps ≡ 0 + length ps = omega arith in e)
+      ∙ sym (numbered_both P 0 ps (payloads_of held))
+      ∙ ap (λ (qs : List PlacedPayload). numbered P 0 qs) all)
+      (taken_more (numbered P 0 ps) (numbered P (length ps) (payloads_of held)) old new so_far
+      (subst (λ k. TakesLog tables (numbered P k (payloads_of held)) old new) is step))

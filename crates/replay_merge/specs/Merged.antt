@@ -55,6 +55,12 @@ pub record IsKept (pair : CellKey × Cell) (old new : Merged) : Type 0 where
   pub updates : new.updates ≡ old.updates + 1
   pub skipped : new.skipped ≡ old.skipped
 
+-- what one worker has is merged with what another has
+pub record IsJoin (mine other joined : Merged) : Type 0 where
+  pub cells : IsMerge (mine.cells ++ other.cells) joined.cells
+  pub updates : joined.updates ≡ mine.updates + other.updates
+  pub skipped : joined.skipped ≡ mine.skipped + other.skipped
+
 -- an update is counted as skipped, or merged
 abbrev pub TakesOne : List TableHeld → KeyedUpdate → Merged → Merged → Type 0
 TakesOne tables u old new =

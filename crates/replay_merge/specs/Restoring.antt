@@ -12,7 +12,6 @@ use Rattle.clog_folder.specs.declared.folder.Folder.{Folder}
 use Rattle.clog_folder.specs.Folder.{CanBeRead, FolderRefused, Say, payloads_of}
 use Rattle.clog_folder.specs.Tables.{read_of}
 use Rattle.replay_merge.specs.declared.merged.Merged.{Merged}
-use Rattle.replay_merge.specs.declared.restoring.Counts.{Counts}
 use Rattle.replay_merge.specs.declared.restoring.Restored.{Restored}
 use Rattle.replay_merge.specs.Merged.{IsMergedOf, updates_of}
 

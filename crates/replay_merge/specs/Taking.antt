@@ -1,5 +1,5 @@
 -- What the steps of merging a log answer: for private clauses.
-use Rattle.std.specs.Prelude.{◌≡◌, ℕ, List, length, map, All}
+use Rattle.std.specs.Prelude.{ℕ, List, length, map, All}
 use Rattle.std.specs.List.{flat_map}
 use Rattle.clog_mutation.specs.declared.mutation.Mutation.{Mutation}
 use Rattle.clog_mutation.specs.Stored.{IsPayload}
@@ -11,7 +11,7 @@ use Rattle.clog_folder.specs.declared.tables.TableHeld.{TableHeld}
 use Rattle.clog_folder.specs.Entries.{payload_in}
 use Rattle.clog_folder.specs.Folder.{PlacedPayload, Say}
 use Rattle.replay_merge.specs.declared.merged.Merged.{Merged}
-use Rattle.replay_merge.specs.Merged.{Takes, keyed, updates_of}
+use Rattle.replay_merge.specs.Merged.{IsMergedOf, Takes, keyed, updates_of}
 
 -- the entries lie in the segment's bytes
 abbrev pub AreRanges : SegmentHeld → Type 0
@@ -32,3 +32,10 @@ pub record TakesLog (tables : List TableHeld) (ps : List PlacedPayload) (old new
     pub log : List LoggedMutation
     pub say : Say ps log
     pub takes : Takes tables (flat_map updates_of log) old new
+
+-- The mutations of these payloads are merged, and nothing else is.
+pub record IsTakenOf (tables : List TableHeld) (ps : List PlacedPayload) (merged : Merged) : Type 0
+  where
+    pub log : List LoggedMutation
+    pub say : Say ps log
+    pub taken : IsMergedOf tables (flat_map updates_of log) merged

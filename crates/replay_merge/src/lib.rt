@@ -5,9 +5,12 @@
 mod merged;
 mod replaying;
 mod restoring;
+mod share;
 mod skipping;
 mod taking;
+#[cfg(test)]
+mod tests;
 
 pub use merged::Merged;
 pub use replaying::replay;
-pub use restoring::{Counts, Restored, replay_alone};
+pub use restoring::{Counts, Restored};

@@ -2,7 +2,7 @@
 ghost use Rattle.std.specs.Prelude.{◌≡◌, [], ◌∷◌, ◌++◌, OnOk};
 ghost use Rattle.clog_cells.specs.Merge.{IsMerge};
 ghost use Rattle.clog_mutation.specs.Payload.{pair_of};
-ghost use Rattle.replay_merge.specs.Merged.{IsKept, IsSkip, TakesOne, keyed};
+ghost use Rattle.replay_merge.specs.Merged.{IsJoin, IsKept, IsSkip, TakesOne, keyed};
 
 use crate::skipping::is_filed;
 use clog_base::{CellKey, OutOfMemory, Position, Text};
@@ -10,6 +10,7 @@ use clog_cells::CellMap;
 use clog_folder::TableHeld;
 use clog_mutation::Update;
 use std::alloc::Global;
+use std::mem;
 
 /// What updates merge to, and how many they were.
 #[derive(Drop)]
@@ -78,6 +79,18 @@ pub(crate) fn take_update(
     keep(merged, key, update)
 }
 
+/// Merges cells with others, by moving the fewer of them.
+fn join_cells(cells: &mut CellMap, others: CellMap) -> Result<(), OutOfMemory>
+    ensures { OnOk result (IsMerge (cells.old ++ others) cells.new) }
+{
+    if cells.len() < others.len() {
+        let fewer = mem::replace(cells, others);
+        cells.merge(fewer)?;
+        return Ok(());
+    }
+    cells.merge(others)
+}
+
 impl Merged {
     /// Nothing yet.
     pub(crate) fn new(alloc: Global) -> Merged
@@ -90,5 +103,21 @@ impl Merged {
             updates: 0,
             skipped: 0,
         }
+    }
+
+    /// Takes in what another worker has.
+    pub(crate) fn join(&mut self, other: Merged) -> Result<(), OutOfMemory>
+        ensures { OnOk result (IsJoin self.old other self.new) }
+    {
+        let (Some(updates), Some(skipped)) = (
+            self.updates.checked_add(other.updates),
+            self.skipped.checked_add(other.skipped),
+        ) else {
+            return Err(OutOfMemory);
+        };
+        join_cells(&mut self.cells, other.cells)?;
+        self.updates = updates;
+        self.skipped = skipped;
+        Ok(())
     }
 }

@@ -1,21 +1,17 @@
 //! What a folder restores to, and its counts.
-ghost use Rattle.std.specs.Prelude.{◌≡◌, ◌++◌, All, IfOk, OnOk, length, map};
+ghost use Rattle.std.specs.Prelude.{◌≡◌, ◌++◌, IfOk, OnOk, length, map};
 ghost use Rattle.std.specs.List.{flat_map};
 ghost use Rattle.clog_cells.specs.Merge.{AreInOrder, IsMerge};
 ghost use Rattle.clog_crash.specs.Folder.{cells_of_tables};
 ghost use Rattle.clog_folder.specs.Folder.{payloads_of};
-ghost use Rattle.clog_folder.specs.Passing.{IsUntouched, TellsEach};
 ghost use Rattle.clog_folder.specs.Tables.{read_of};
-ghost use Rattle.replay_merge.specs.Restoring.{IsRestoredOf, Replays};
-ghost use Rattle.replay_merge.specs.Taking.{AreRanges};
+ghost use Rattle.replay_merge.specs.Restoring.{IsRestoredOf};
+ghost use Rattle.replay_merge.specs.Taking.{IsTakenOf};
 
 use crate::merged::Merged;
-use crate::taking::take_segments;
 use clog_base::OutOfMemory;
 use clog_cells::CellMap;
-use clog_disk::Disk;
-use clog_folder::{Folder, OpenFault, SegmentHeld, TableHeld, read_folder};
-use std::alloc::Global;
+use clog_folder::{Folder, SegmentHeld, TableHeld};
 
 /// How much was read of a folder.
 #[derive(Clone, Copy, Debug, PartialEq, Eq)]
@@ -54,7 +50,7 @@ fn add_tables(cells: &mut CellMap, tables: Vec<TableHeld>) -> Result<(), OutOfMe
 }
 
 /// How many entries of segments count.
-fn count_entries(segments: &[SegmentHeld]) -> Result<u64, OutOfMemory>
+pub(crate) fn count_entries(segments: &[SegmentHeld]) -> Result<u64, OutOfMemory>
     ensures { IfOk result (λ n. n ≡ length (flat_map payloads_of segments.now)) }
 {
     let mut count: u64 = 0;
@@ -67,19 +63,16 @@ fn count_entries(segments: &[SegmentHeld]) -> Result<u64, OutOfMemory>
     Ok(count)
 }
 
-/// What a folder that was read restores to.
-fn restore(alloc: Global, folder: Folder) -> Result<Restored, OutOfMemory>
-    requires { All AreRanges folder.segments }
+/// What a folder that was read restores to, whose entries are so many and merge to this.
+pub(crate) fn restored_of(
+    folder: Folder,
+    entries: u64,
+    merged: Merged,
+) -> Result<Restored, OutOfMemory>
+    requires entries { entries ≡ length (flat_map payloads_of folder.segments) }
+    requires merged { IsTakenOf folder.tables (flat_map payloads_of folder.segments) merged }
     ensures { IfOk result (IsRestoredOf folder) }
 {
-    let mut merged = Merged::new(alloc);
-    take_segments(
-        alloc,
-        folder.tables.as_slice(),
-        &mut merged,
-        folder.segments.as_slice(),
-    )?;
-    let entries = count_entries(folder.segments.as_slice())?;
     let (Ok(segments), Ok(tables)) = (
         u32::try_from(folder.segment_names),
         u32::try_from(folder.table_names),
@@ -96,27 +89,4 @@ fn restore(alloc: Global, folder: Folder) -> Result<Restored, OutOfMemory>
     let mut cells = merged.cells;
     add_tables(&mut cells, folder.tables.into_vec())?;
     Ok(Restored { cells, counts })
-}
-
-/// What a folder restores to, past damage where it is to be ignored. It writes nothing.
-///
-/// Each refusal comes exactly where the reading of the folder gives it; want of memory may come
-/// anywhere.
-pub fn replay_alone<D: Disk>(
-    alloc: Global,
-    disk: &mut D,
-    ignore: bool,
-) -> Result<Restored, OpenFault>
-    ensures replays { Replays ignore (D.files disk.old) (D.faults disk.old) (D.faults disk.new)
-        result }
-    ensures keeps { IsUntouched D.files D.changes D.leaves D.moment D.since D.read_at
-        D.faults disk.old disk.new }
-    // What is answered for another reason than the disk's has counted no fault of it.
-    ensures quiet { TellsEach (D.faults disk.old) (D.faults disk.new) result }
-{
-    let folder = match read_folder(alloc, disk, ignore) {
-        Ok(folder) => folder,
-        Err(fault) => return Err(fault),
-    };
-    Ok(restore(alloc, folder)?)
 }

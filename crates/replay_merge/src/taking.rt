@@ -1,16 +1,18 @@
-//! The entries of segments are decoded, and their mutations merged.
-ghost use Rattle.std.specs.Prelude.{OnOk, length, map, All};
+//! A worker decodes its share of the segments' entries, and merges their mutations.
+ghost use Rattle.std.specs.Prelude.{◌≡◌, ◌+◌, ◌^◌, ◌<◌, OnOk, IfOk, [], ◌∷◌, length, map, All};
 ghost use Rattle.std.specs.List.{flat_map};
 ghost use Rattle.clog_scan.specs.Laws.{IsRange};
-ghost use Rattle.clog_folder.specs.Entries.{payload_in};
-ghost use Rattle.clog_folder.specs.Folder.{payloads_of};
+ghost use Rattle.clog_folder.specs.Folder.{payloads_of, placed};
+ghost use Rattle.replay_merge.specs.Dealt.{is_dealt_to, numbered, share_of};
 ghost use Rattle.replay_merge.specs.Merged.{Takes, keyed};
-ghost use Rattle.replay_merge.specs.Taking.{TakesEntry, TakesLog, AreRanges};
+ghost use Rattle.replay_merge.specs.Taking.{AreRanges, IsTakenOf, TakesEntry, TakesLog};
 
 use crate::merged::{Merged, take_update};
-use clog_base::{OutOfMemory, Position};
+use crate::share::Share;
+use clog_base::{OutOfMemory, Position, Writer};
 use clog_entry::ENTRY_FRONT_SIZE;
 use clog_folder::{SegmentHeld, TableHeld};
+use clog_io::{Gate, Point};
 use clog_mutation::{Mutation, decode};
 use clog_scan::Found;
 use std::alloc::Global;
@@ -57,36 +59,76 @@ fn take_entry(
     take_mutation(alloc, tables, merged, at, mutation)
 }
 
-/// Takes in the entries of a segment that count.
-fn take_segment(
+/// Takes in an entry if it is the worker's, and tells the gate that it is merged.
+fn take_own<G: Gate>(
     alloc: Global,
     tables: &[TableHeld],
     merged: &mut Merged,
     held: &SegmentHeld,
+    found: Found,
+    number: u64,
+    share: Share,
+    gate: &G,
 ) -> Result<(), OutOfMemory>
-    requires { AreRanges held.now }
-    ensures { OnOk result (TakesLog tables.now (payloads_of held.now) merged.old merged.new) }
+    requires range { IsRange (length held.now.bytes) found }
+    requires some { 0 < share.workers }
+    ensures { OnOk result (TakesLog tables.now
+        (numbered (is_dealt_to share.workers share.worker) number (placed held.now found ∷ []))
+        merged.old merged.new) }
 {
-    let bytes = held.bytes.as_slice();
+    if !share.takes(number) {
+        return Ok(());
+    }
+    take_entry(alloc, tables, merged, held.id, held.bytes.as_slice(), found)?;
+    gate.reached(Writer(share.worker), Point::Deposited);
+    Ok(())
+}
+
+/// Takes in those entries of a segment that are the worker's. The segment's first entry has this
+/// number.
+fn take_segment<G: Gate>(
+    alloc: Global,
+    tables: &[TableHeld],
+    merged: &mut Merged,
+    held: &SegmentHeld,
+    first: u64,
+    share: Share,
+    gate: &G,
+) -> Result<(), OutOfMemory>
+    requires ranges { AreRanges held.now }
+    requires some { 0 < share.workers }
+    requires few { first + length held.now.entries < 2 ^ 64 }
+    ensures { OnOk result (TakesLog tables.now
+        (numbered (is_dealt_to share.workers share.worker) first (payloads_of held.now))
+        merged.old merged.new) }
+{
+    let mut number = first;
     for found in held.entries.as_slice() {
-        take_entry(alloc, tables, merged, held.id, bytes, *found)?;
+        take_own(alloc, tables, merged, held, *found, number, share, gate)?;
+        number += 1;
     }
     Ok(())
 }
 
-/// Takes in the entries of all segments.
-pub(crate) fn take_segments(
+/// What a worker has of all segments.
+pub(crate) fn take_share<G: Gate>(
     alloc: Global,
     tables: &[TableHeld],
-    merged: &mut Merged,
     segments: &[SegmentHeld],
-) -> Result<(), OutOfMemory>
-    requires { All AreRanges segments.now }
-    ensures { OnOk result (TakesLog tables.now (flat_map payloads_of segments.now) merged.old
-        merged.new) }
+    share: Share,
+    gate: &G,
+) -> Result<Merged, OutOfMemory>
+    requires ranges { All AreRanges segments.now }
+    requires some { 0 < share.workers }
+    requires few { length (flat_map payloads_of segments.now) < 2 ^ 64 }
+    ensures { IfOk result (IsTakenOf tables.now
+        (share_of share.workers share.worker (flat_map payloads_of segments.now))) }
 {
+    let mut merged = Merged::new(alloc);
+    let mut number = 0;
     for held in segments {
-        take_segment(alloc, tables, merged, held)?;
+        take_segment(alloc, tables, &mut merged, held, number, share, gate)?;
+        number += held.entries.len() as u64;
     }
-    Ok(())
+    Ok(merged)
 }

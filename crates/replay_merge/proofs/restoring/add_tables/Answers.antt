@@ -1,5 +1,4 @@
-use Rattle.std.proofs.Common.{List, ◌++◌, map, sym, subst, ap, length, arith, ◌∙◌}
-use Rattle.clog_cells.specs.Merge.{IsMerge}
+use Rattle.std.proofs.Common.{sym, ap, length, arith}
 use Rattle.clog_cells.proofs.Merging.{none_yet}
 use Rattle.clog_folder.proofs.TablesRead.{part_more}
 use Rattle.replay_merge.proofs.Replayed.{cells_more}

@@ -1,0 +1,222 @@
+-- What two workers have of interleaved entries is what one would have of all of them.
+use Rattle.std.proofs.Common.{
+  ◌≡◌,
+  ℕ,
+  ◌+◌,
+  List,
+  [],
+  ◌∷◌,
+  ◌++◌,
+  length,
+  map,
+  get_or,
+  length-append,
+  ◌<◌,
+  Ok as ok,
+  refl,
+  sym,
+  ap,
+  subst,
+  ◌∙◌,
+  inl,
+  inr,
+  arith,
+}
+use Rattle.std.specs.List.{flat_map}
+use Rattle.std.proofs.lemmas.List.Elements.{
+  Contains-append_cases,
+  Contains-append_left,
+  Contains-append_right,
+}
+use Rattle.std.proofs.Math.Seq.{get_or-append_seam}
+use Rattle.clog_base.specs.declared.cell.Cell.{Cell}
+use Rattle.clog_base.specs.declared.cell.CellKey.{CellKey}
+use Rattle.clog_cells.specs.Merge.{IsMerge}
+use Rattle.clog_cells.proofs.Merging.{joins, of_members}
+use Rattle.clog_crash.specs.Counts.{LoggedMutation}
+use Rattle.clog_folder.specs.declared.tables.TableHeld.{TableHeld}
+use Rattle.clog_folder.specs.declared.segment.SegmentHeld.{SegmentHeld}
+use Rattle.clog_folder.specs.Folder.{PlacedPayload, Say, payloads_of}
+use Rattle.clog_folder.specs.Listing.{Picks}
+use Rattle.replay_merge.specs.declared.merged.Merged.{Merged}
+use Rattle.replay_merge.specs.Merged.{
+  IsJoin,
+  IsMergedOf,
+  IsSkippedBy,
+  KeyedUpdate,
+  pair_at,
+  updates_of,
+}
+use Rattle.replay_merge.specs.Dealt.{is_dealt_below, numbered, share_of}
+use Rattle.replay_merge.specs.Taking.{IsTakenOf}
+use Rattle.replay_merge.specs.Working.{AreParts, IsPart, Part}
+use Rattle.replay_merge.proofs.Interleaved.{
+  Interleaves,
+  dealt_more,
+  from_interleaved,
+  interleaved_flat,
+  interleaved_length,
+  interleaved_map,
+  left_interleaved,
+  right_interleaved,
+}
+
+abbrev Pairs : Type 0
+Pairs = List (CellKey × Cell)
+
+-- what is picked of interleaved lists
+picks_parts : {A : Type 0} (P : A → Type 0) (us vs ws left right : List A) → Picks P us left
+    → Picks P vs right → Interleaves us vs ws
+    → (picked : List A) × Picks P ws picked × Interleaves left right picked
+picks_parts P us vs [] left right first second is = (
+  [],
+  refl,
+  (subst (λ l. Picks P l left) is.0 first, subst (λ l. Picks P l right) is.1 second),
+)
+picks_parts P us vs (w ∷ ws) left right first second (inl is) =
+    elim (subst (λ l. Picks P l left) is.1 first) [
+      | inl has ↦
+          let more = picks_parts P is.0 vs ws has.1.0 right has.1.2 second is.2 in (
+            w ∷ more.0,
+            inl (has.0, (more.0, refl, more.1)),
+            inl (has.1.0, has.1.1, more.2),
+          )
+      | inr lacks ↦
+          let more = picks_parts P is.0 vs ws left right lacks.1 second is.2 in (
+            more.0,
+            inr (lacks.0, more.1),
+            more.2,
+          )
+    ]
+picks_parts P us vs (w ∷ ws) left right first second (inr is) =
+    elim (subst (λ l. Picks P l right) is.1 second) [
+      | inl has ↦
+          let more = picks_parts P us is.0 ws left has.1.0 first has.1.2 is.2 in (
+            w ∷ more.0,
+            inl (has.0, (more.0, refl, more.1)),
+            inr (has.1.0, has.1.1, more.2),
+          )
+      | inr lacks ↦
+          let more = picks_parts P us is.0 ws left right first lacks.1 is.2 in (
+            more.0,
+            inr (lacks.0, more.1),
+            more.2,
+          )
+    ]
+
+-- what interleaved payloads say
+say_parts : (ps qs rs : List PlacedPayload) (log more : List LoggedMutation) → Say ps log
+    → Say qs more → Interleaves ps qs rs
+    → (all : List LoggedMutation) × Say rs all × Interleaves log more all
+say_parts ps qs [] log more first second is = (
+  [],
+  refl,
+  (subst (λ l. Say l log) is.0 first, subst (λ l. Say l more) is.1 second),
+)
+say_parts ps qs (r ∷ rs) log more first second (inl is) =
+    let said = subst (λ l. Say l log) is.1 first in
+    let rest = say_parts is.0 qs rs said.1.0 more said.1.4 second is.2 in (
+      said.0 ∷ rest.0,
+      (said.0, (rest.0, refl, said.1.2, said.1.3, rest.1)),
+      inl (said.1.0, said.1.1, rest.2),
+    )
+say_parts ps qs (r ∷ rs) log more first second (inr is) =
+    let said = subst (λ l. Say l more) is.1 second in
+    let rest = say_parts ps is.0 rs log said.1.0 first said.1.4 is.2 in (
+      said.0 ∷ rest.0,
+      (said.0, (rest.0, refl, said.1.2, said.1.3, rest.1)),
+      inr (said.1.0, said.1.1, rest.2),
+    )
+
+-- cells of interleaved lists have one merge
+merged_parts : (left right both rows : Pairs) → Interleaves left right both
+    → IsMerge (left ++ right) rows → IsMerge both rows
+merged_parts left right both rows is merged =
+    of_members (left ++ right) both rows (λ pair. (
+      λ there. elim (Contains-append_cases left right pair there) [
+        | inl mine ↦ left_interleaved left right both pair is mine
+        | inr other ↦ right_interleaved left right both pair is other
+      ],
+      λ there. elim (from_interleaved left right both pair is there) [
+        | inl mine ↦ Contains-append_left left right pair mine
+        | inr other ↦ Contains-append_right left right pair other
+      ],
+    )) merged
+
+module _ (tables : List TableHeld) where
+  merged_both : (us vs ws : List KeyedUpdate) (a b c : Merged) → IsMergedOf tables us a
+      → IsMergedOf tables vs b → Interleaves us vs ws → IsJoin a b c → IsMergedOf tables ws c
+  merged_both us vs ws a b c first second is join =
+      let kept = picks_parts (λ u. ¬ IsSkippedBy tables u) us vs ws first.kept second.kept
+      first.picks_kept second.picks_kept is in
+      let gone = picks_parts (IsSkippedBy tables) us vs ws first.gone second.gone first.picks_gone
+      second.picks_gone is in
+      let kept_length = interleaved_length first.kept second.kept kept.0 kept.2 in
+      let gone_length = interleaved_length first.gone second.gone gone.0 gone.2 in
+      record {
+        kept = kept.0;
+        picks_kept = kept.1;
+        cells = merged_parts (map pair_at first.kept) (map pair_at second.kept)
+            (map pair_at kept.0) c.cells
+            (interleaved_map pair_at first.kept second.kept kept.0 kept.2)
+            (joins (map pair_at first.kept) (map pair_at second.kept) a.cells b.cells c.cells
+            first.cells second.cells join.cells);
+        updates = omega (arith, join.updates, first.updates, second.updates, kept_length);
+        gone = gone.0;
+        picks_gone = gone.1;
+        skipped = omega (arith, join.skipped, first.skipped, second.skipped, gone_length);
+      }
+
+  -- what two have of their payloads is joined
+  pub taken_both : (ps qs rs : List PlacedPayload) (a b c : Merged) → IsTakenOf tables ps a
+      → IsTakenOf tables qs b → Interleaves ps qs rs → IsJoin a b c → IsTakenOf tables rs c
+  taken_both ps qs rs a b c first second is join =
+      let all = say_parts ps qs rs first.log second.log first.say second.say is in
+      record {
+        log = all.0;
+        say = all.1;
+        taken = merged_both (flat_map updates_of first.log) (flat_map updates_of second.log)
+            (flat_map updates_of all.0) a b c first.taken second.taken
+            (interleaved_flat updates_of first.log second.log all.0 all.2) join;
+      }
+
+-- ---- the workers' parts, one after another
+
+-- the part that comes next is its worker's
+next_is_part : (tables : List TableHeld) (segments : List SegmentHeld) (workers : ℕ)
+    (parts yielded rest : List Part) (next : Part) → AreParts tables segments workers parts
+    → parts ≡ yielded ++ next ∷ rest → IsPart tables segments workers (length yielded) next
+next_is_part tables segments workers parts yielded rest next are is =
+    let long : length yielded < length (yielded ++ next ∷ rest) =
+    omega (arith, length-append yielded (next ∷ rest)) in
+    let below : length yielded < workers =
+    subst (λ k. length yielded < k) are.count
+    (subst (λ (l : List Part). length yielded < length l) (sym is) long) in
+    let here = are.each (length yielded) next below in
+    let same : get_or parts (length yielded) next ≡ next =
+    ap (λ (l : List Part). get_or l (length yielded) next) is
+    ∙ get_or-append_seam yielded next rest next in
+    subst (λ (part : Part). IsPart tables segments workers (length yielded) part) same here
+
+-- one worker's part more is joined
+pub part_joined : (tables : List TableHeld) (segments : List SegmentHeld) (workers : ℕ)
+    (parts yielded rest : List Part) (next : Part) (mine other joined : Merged)
+    → AreParts tables segments workers parts → parts ≡ yielded ++ next ∷ rest → next ≡ ok other
+    → IsTakenOf tables
+    (numbered (is_dealt_below workers (length yielded)) 0 (flat_map payloads_of segments)) mine
+    → IsJoin mine other joined
+    → IsTakenOf tables
+    (numbered (is_dealt_below workers (length (yielded ++ next ∷ []))) 0
+    (flat_map payloads_of segments)) joined
+part_joined tables segments workers parts yielded rest next mine other joined are is good so_far
+    join =
+    let ps = flat_map payloads_of segments in
+    let k = length yielded in
+    let has : IsTakenOf tables (share_of workers k ps) other =
+    subst (λ (part : Part). IsPart tables segments workers k part) good
+    (next_is_part tables segments workers parts yielded rest next are is) in
+    subst (λ n. IsTakenOf tables (numbered (is_dealt_below workers n) 0 ps) joined)
+    (sym (length-append yielded (next ∷ [])))
+    (taken_both tables (numbered (is_dealt_below workers k) 0 ps) (share_of workers k ps)
+    (numbered (is_dealt_below workers (k + 1)) 0 ps) mine other joined so_far has
+    (dealt_more workers k ps) join)
