@@ -10,3 +10,5 @@ pub mod AtHome
 pub mod HandsStay
 pub mod SameBoxes
 pub mod PutAt
+pub mod FewNotes
+pub mod DeskLent

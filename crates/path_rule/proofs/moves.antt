@@ -15,6 +15,7 @@ pub mod WriteBarriers
 pub mod MarkerSteps
 pub mod SyncFacts
 pub mod SyncSteps
-pub mod LogStops
+pub mod LentLooks
+pub mod RefusedSyncs
 pub mod DepositSteps
 pub mod AppendMoved

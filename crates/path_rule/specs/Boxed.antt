@@ -33,6 +33,7 @@ use Rattle.path_core.specs.Parts.{issue_of, is_marker}
 use Rattle.path_rule.specs.declared.lasting.Lasting.{Lasting}
 use Rattle.path_rule.specs.declared.slot.Slot.{Slot}
 use Rattle.path_rule.specs.declared.view.Hands.{Hands}
+use Rattle.path_rule.specs.declared.view.PathSize.{PathSize}
 use Rattle.path_rule.specs.declared.view.Progress.{Progress}
 use Rattle.path_rule.specs.declared.view.Role.{Role}
 use Rattle.path_rule.specs.declared.view.Role.TheVariants.{Opener, Steps, Spent}
@@ -148,7 +149,8 @@ pub record Boxed {K : Type 0} (shows : K → Lasting) (seats : ℕ) (notes : Lis
   -- and it is not lasting
   pub unlogged : (n : EntryNote) → IsKept pending contents n → ¬ Contains lasting.logged n.end.0
 
--- what the boxes of a new table hold
-pub record AreFirst {K : Type 0} (shows : K → Lasting) (xs : List (Slot K)) : Type 0 where
+-- what the boxes of a new table of these sizes hold
+pub record AreFirst {K : Type 0} (shows : K → Lasting) (size : PathSize) (xs : List (Slot K)) :
+    Type 0 where
   pub each : (b : ℕ) (y : Slot K) → get_elem? xs b ≡ some y
-      → (b ≡ 0 → DeskIs shows y none_lasting [] first_progress) × (0 < b → NotesAre y [])
+      → (b ≡ 0 → DeskIs shows y (none_lasting size) [] first_progress) × (0 < b → NotesAre y [])

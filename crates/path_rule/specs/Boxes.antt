@@ -12,6 +12,7 @@ use Rattle.std.specs.Prelude.{
   Bool,
   true,
   List,
+  ◌++◌,
   if◌then◌else◌,
   Option,
   Some,
@@ -98,7 +99,8 @@ module _ {K : Type 0} (shows : K → Lasting) where
   abbrev pub DeskIs : Slot K → Lasting → List EntryNote → Progress → Type 0
   DeskIs (Notes kept) lasting pending progress = ⊥
   DeskIs (Turn desk) lasting pending progress =
-      (shows desk.keeper ≡ lasting) × (desk.pending ≡ pending) × (desk.progress ≡ progress)
+      (shows desk.keeper ≡ lasting) × (desk.lent.items ++ desk.gathered ≡ pending)
+      × (desk.progress ≡ progress)
 
   -- what is in box b, where it is at home
   pub record Fits (contents : ℕ → List EntryNote) (lasting : Lasting) (pending : List EntryNote)

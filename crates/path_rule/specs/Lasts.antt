@@ -1,19 +1,70 @@
 -- What the keeper shows of the machine.
-use Rattle.std.specs.Prelude.{ℕ, List, [], ◌++◌, map}
+use Rattle.std.specs.Prelude.{◌≡◌, ℕ, nat_lt, Bool, false, List, [], ◌++◌, map}
+use Rattle.std.specs.List.{filter}
+use Rattle.clog_base.specs.declared.sizes.Sizes.{Sizes}
 use Rattle.path_core.specs.declared.note.EntryNote.{EntryNote}
 use Rattle.path_core.specs.declared.state.PathState.{PathState}
+use Rattle.path_core.specs.Keeper.{Holding, IsFresh}
+use Rattle.path_core.specs.Next.{is_between}
 use Rattle.path_rule.specs.declared.lasting.Lasting.{Lasting}
-
-abbrev pub shown : PathState → Lasting
-shown x = record { logged = x.logged; synced = x.synced; dropped = x.dropped }
-
-abbrev pub none_lasting : Lasting
-none_lasting = record { logged = []; synced = 0; dropped = [] }
-
--- more entries are lasting, up to a key
-abbrev pub more_lasting : List ℕ → ℕ → Lasting → Lasting
-more_lasting more upto l = record l { logged = l.logged ++ more; synced = upto }
+use Rattle.path_rule.specs.declared.view.PathSize.{PathSize}
 
 -- where entries end
 abbrev pub ends : List EntryNote → List ℕ
 ends l = map (λ (n : EntryNote). n.end.0) l
+
+-- what a keeper shows by what it holds
+abbrev pub lasting_of : Holding → Lasting
+lasting_of h = record {
+  logged = ends h.logged;
+  synced = h.synced;
+  dropped = h.dropped;
+  kept = h.kept;
+  stopped = h.stopped;
+  capacity = h.sizes.capacity;
+  ordinals = h.sizes.ordinals;
+  base = h.base;
+}
+
+abbrev pub shows_of : {K : Type 0} → (K → Holding) → K → Lasting
+shows_of holds k = lasting_of (holds k)
+
+-- What it is to show of a state. It may have kept the entries of a sync up to a key, which was
+-- refused.
+abbrev pub shown : ℕ → PathState → Lasting
+shown key x = record {
+  logged = x.logged;
+  synced = x.synced;
+  dropped = x.dropped;
+  kept = filter (is_between x.synced key) x.notes;
+  stopped = nat_lt 0 x.stopped;
+  capacity = x.capacity;
+  ordinals = x.ordinals;
+  base = x.base;
+}
+
+-- at the opening
+abbrev pub none_lasting : PathSize → Lasting
+none_lasting size = record {
+  logged = [];
+  synced = 0;
+  dropped = [];
+  kept = [];
+  stopped = false;
+  capacity = size.capacity;
+  ordinals = size.ordinals;
+  base = size.base;
+}
+
+-- a keeper that was just opened, of the table's sizes
+abbrev pub IsNew : PathSize → Holding → Type 0
+IsNew size h = (sizes : Sizes) × IsFresh size.base sizes h × (sizes.capacity ≡ size.capacity)
+    × (sizes.ordinals ≡ size.ordinals)
+
+-- More entries are lasting, up to a key, and none is kept.
+abbrev pub more_lasting : List ℕ → ℕ → Lasting → Lasting
+more_lasting more upto l = record l { logged = l.logged ++ more; synced = upto; kept = [] }
+
+-- A sync was refused: these entries are kept, and the keeper has stopped or not.
+abbrev pub refused_lasting : List EntryNote → Bool → Lasting → Lasting
+refused_lasting kept stopped l = record l { kept = kept; stopped = stopped }

@@ -1,5 +1,6 @@
 pub mod Layout
 pub mod Lasts
+pub mod Kept
 pub mod Boxes
 pub mod Boxed
 pub mod Rule
@@ -7,6 +8,7 @@ pub mod HandsAfter
 pub mod Turns
 pub mod Told
 pub mod TurnTold
+pub mod Desks
 pub mod Calls
 pub mod Members
 pub mod Passes

@@ -3,7 +3,9 @@ use Rattle.std.specs.Prelude.{◌≡◌, ℕ, List}
 use Rattle.atomic_table.specs.Seated.{TableId}
 use Rattle.atomic_table.specs.Table.{rest}
 use Rattle.path_core.specs.declared.event.Event.{Event}
+use Rattle.path_core.specs.declared.note.EntryNote.{EntryNote}
 use Rattle.path_core.specs.declared.seat.Seat.{Seat}
+use Rattle.path_rule.specs.declared.lasting.Lasting.{Lasting}
 use Rattle.path_rule.specs.declared.slot.Slot.{Slot}
 use Rattle.path_rule.specs.declared.table.Member.{Member}
 use Rattle.path_rule.specs.declared.view.Hands.{Hands}
@@ -11,6 +13,8 @@ use Rattle.path_rule.specs.declared.view.PathSize.{PathSize}
 use Rattle.path_rule.specs.declared.view.Returned.{Returned}
 use Rattle.path_rule.specs.declared.view.View.{View}
 use Rattle.path_rule.specs.Calls.{Did, DidAs}
+use Rattle.path_rule.specs.HandsAfter.{with_desk}
+use Rattle.path_rule.specs.TurnTold.{CarriesAs}
 
 module _ {K : Type 0} where
   -- what a member knows, and the boxes that it has, the one that it took last in front
@@ -56,6 +60,12 @@ module _ {K : Type 0} where
   -- It made that step, and knows h of its boxes since.
   abbrev pub SteppedAs : Member K → Event → ℕ → Hands → Member K → Type 0
   SteppedAs m e n h m' = DidAs m.seat.me.0 m.number e n h m'.seat.me.0
+
+  -- It made that step, and knows since what lies on the desk, which it took last.
+  abbrev pub SteppedWith : (K → Lasting) → Member K → Event → ℕ → Member K → Type 0
+  SteppedWith shows m e n m' = (lasting : Lasting) × (pending : List EntryNote)
+      × SteppedAs m e n (with_desk lasting pending m.seat.me.0.hands.progress m.seat.me.0.hands) m'
+      × CarriesAs shows lasting pending m.seat.me.0.hands.progress m.seat.me
 
   -- what it knows, for the seat that takes it in
   abbrev pub returned_of : Member K → Returned

@@ -45,6 +45,7 @@ use Rattle.path_rule.specs.declared.view.Role.TheVariants.{Opener, Steps, Spent}
 use Rattle.path_rule.specs.declared.view.View.{View}
 use Rattle.path_rule.specs.Boxed.{Boxed}
 use Rattle.path_rule.specs.Boxes.{boxes}
+use Rattle.path_rule.specs.Kept.{MayBeKept}
 use Rattle.path_rule.specs.Lasts.{shown, none_lasting}
 use Rattle.path_rule.specs.Layout.{
   word_at,
@@ -81,7 +82,13 @@ no_hands = record {
   box_taken = None;
   taken = [];
   pending = [];
-  lasting = none_lasting;
+  lasting = none_lasting (record {
+    tables = 0;
+    seats = 0;
+    capacity = 0;
+    ordinals = 0;
+    base = 0;
+  });
   swept = 0;
   progress = record { gathered = false; marker = None };
 }
@@ -168,8 +175,12 @@ pub record Ruled {K : Type 0} (shows : K → Lasting) (size : PathSize)
   -- seats that were not handed out have made no step
   pub fresh : (w : ℕ) → made ≤ w → (steps_by w events ≡ []) × (seat_of core w ≡ fresh_seat)
   pub deep : length s.homes ≡ boxes size.seats
+  -- up to which key a refused sync may have kept entries
+  pub kept_to : ℕ
+  pub may_be_kept : MayBeKept core kept_to
   -- the boxes show the notes that are not yet lasting, and the keeper what is
-  pub boxed : Boxed shows size.seats core.notes (shown core) core.claims core.append s.homes s.views
+  pub boxed : Boxed shows size.seats core.notes (shown kept_to core) core.claims core.append s.homes
+      s.views
   -- each view shows its seat's part and steps
   pub each_seat : (j : ℕ) (v : View) → get_elem? s.views j ≡ some v
       → IsSized size v × Knows core events owner made boss j v.role v.part v.trail v.returned

@@ -5,6 +5,7 @@ use lib.ListN.{get_elem?}
 use Rattle.path_core.specs.declared.event.Event.{Event}
 use Rattle.path_core.specs.declared.seat.Seat.{Seat}
 use Rattle.path_core.specs.declared.state.PathState.{PathState}
+use Rattle.path_core.specs.Keeper.{Holding}
 use Rattle.path_core.specs.Lawful.{IsLawfulPath}
 use Rattle.path_core.specs.Parts.{seat_of}
 use Rattle.path_core.specs.Runs.{Past}
@@ -14,6 +15,8 @@ use Rattle.path_rule.specs.declared.view.Returned.{Returned}
 use Rattle.path_rule.specs.declared.view.Role.{Role}
 use Rattle.path_rule.specs.declared.view.Role.TheVariants.{Opener, Steps, Spent}
 use Rattle.path_rule.specs.declared.view.View.{View}
+use Rattle.path_rule.specs.Kept.{MayBeKept}
+use Rattle.path_rule.specs.Lasts.{lasting_of, shown}
 use Rattle.path_rule.specs.Rule.{start_of, event_of, steps_by, fresh_view, new_seat}
 
 -- the view of the opener once it has handed out a seat, and that of the seat
@@ -55,15 +58,19 @@ abbrev pub HasAll : ℕ → ℕ → List Returned → Type 0
 HasAll seats w returned = (z : ℕ) → z < seats
     → (z ≡ w) ⊎ ((n : ℕ) × (b : Returned) × (get_elem? returned n ≡ some b) × (b.number ≡ z))
 
--- There is one run of the machine, which ends in a lawful state with this log key and these entries
--- lasting, and in which each seat's steps are those that it made.
-pub record Ended (size : PathSize) (returned : List Returned) (log : ℕ)
-    (lasting : List ℕ) : Type 0 where
+-- There is one run of the machine, which ends in a lawful state with this log key, and in which each
+-- seat's steps are those that it made. The keeper holds what is lasting in that state: the entries,
+-- the synced key, what is dropped, and whether the log is stopped; and it may have kept the entries
+-- of a sync that was refused.
+pub record Ended (size : PathSize) (returned : List Returned) (log : ℕ) (keeper : Holding) :
+    Type 0 where
   pub core : PathState
   pub events : List Event
   pub run : Past (start_of size) events core
   pub lawful : IsLawfulPath core
   pub log_is : log ≡ core.log
-  pub lasting_is : lasting ≡ core.logged
+  pub kept_to : ℕ
+  pub may_be_kept : MayBeKept core kept_to
+  pub lasting_is : lasting_of keeper ≡ shown kept_to core
   pub each : (n : ℕ) (b : Returned) → get_elem? returned n ≡ some b
       → (b.part ≡ seat_of core b.number) × (map event_of b.trail ≡ steps_by b.number events)

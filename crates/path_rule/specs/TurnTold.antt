@@ -1,5 +1,21 @@
 -- What the steps of the holder of the Sync turn tell of it, before and after.
-use Rattle.std.specs.Prelude.{◌≡◌, ◌≢◌, ℕ, suc, ◌+◌, ◌*◌, ◌<◌, List, ◌∷◌, Some}
+use Rattle.std.specs.Prelude.{
+  ◌≡◌,
+  ◌≢◌,
+  ◌⊎◌,
+  ℕ,
+  suc,
+  ◌+◌,
+  ◌*◌,
+  ◌^◌,
+  ◌<◌,
+  Bool,
+  List,
+  ◌∷◌,
+  length,
+  Some,
+}
+use Rattle.std.specs.List.Sorted.{IsPermutation}
 use Rattle.atomic_table.specs.Table.{Me, Step, rest}
 use Rattle.op_core.specs.declared.count.Order.TheVariants.{Write, Append}
 use Rattle.path_core.specs.declared.event.ClaimKind.TheVariants.{Marker}
@@ -17,13 +33,15 @@ use Rattle.path_core.specs.declared.event.Event.TheVariants.{
 }
 use Rattle.path_core.specs.declared.event.Place.TheVariants.{Oldest, Log, TurnWord, CursorWord}
 use Rattle.path_core.specs.declared.event.Turn.TheVariants.{Sync}
+use Rattle.path_core.specs.declared.event.Event.{Event}
 use Rattle.path_core.specs.declared.note.EntryNote.{EntryNote}
 use Rattle.path_core.specs.Allowed.{IsAllowed}
-use Rattle.path_core.specs.Keeper.{IsParted}
+use Rattle.path_core.specs.Keeper.{Holding, IsParted, MayWrite}
 use Rattle.path_core.specs.Lent.{run_to}
 use Rattle.path_core.specs.Next.{next_of}
 use Rattle.path_rule.specs.declared.lasting.Lasting.{Lasting}
 use Rattle.path_rule.specs.declared.slot.Slot.{Slot}
+use Rattle.path_rule.specs.declared.view.Hands.{Hands}
 use Rattle.path_rule.specs.declared.view.Progress.{Progress}
 use Rattle.path_rule.specs.declared.view.Role.TheVariants.{Steps}
 use Rattle.path_rule.specs.declared.view.View.{View}
@@ -36,23 +54,34 @@ use Rattle.path_rule.specs.HandsAfter.{
   barred,
   with_marker,
 }
-use Rattle.path_rule.specs.Lasts.{shown, more_lasting, ends}
+use Rattle.path_rule.specs.Lasts.{lasting_of, shown, more_lasting, refused_lasting, ends}
 use Rattle.path_rule.specs.Rule.{Was}
 use Rattle.path_rule.specs.Told.{MadeAs, Made}
 use Rattle.path_rule.specs.Turns.{TurnSaw, IsBarred}
 
+-- A keeper that shows this may write such entries up to a key.
+abbrev pub MayLend : Lasting → ℕ → List EntryNote → Type 0
+MayLend lasting upto run = (h : Holding) → lasting_of h ≡ lasting → MayWrite h upto run
+
 -- In the state that the look at the synced key found, what was pending up to a key is exactly what
--- the machine would make lasting up to it, and the synced key may be put there. So a keeper that
--- agrees with the path may be lent it (`what_a_path_syncs_may_be_written`).
+-- the machine would make lasting up to it, and the synced key may be put there. So the keeper on the
+-- desk may be lent it.
 abbrev pub IsLent : View → ℕ → ℕ → ℕ → List EntryNote → Type 0
 IsLent v w synced upto run = (was : Was v w (Look w (CursorWord Synced)))
-    × (shown was.core ≡ v.hands.lasting) × (was.core.synced ≡ synced)
-    × (run_to was.core upto ≡ run) × IsAllowed was.core (Put w Synced upto)
+    × (was.core.synced ≡ synced) × (run_to was.core upto ≡ run)
+    × IsAllowed was.core (Put w Synced upto) × MayLend v.hands.lasting upto run
+
+-- What is kept of a refused sync up to a key: what was, or the pending entries up to it.
+abbrev pub IsKeptNow : ℕ → Hands → List EntryNote → Type 0
+IsKeptNow upto h kept = (kept ≡ h.lasting.kept)
+    ⊎ ((left : List EntryNote) × IsParted upto h.pending kept left)
 
 module _ {K : Type 0} where
-  -- the box of another seat came, with what the seat knows
+  -- The box of another seat came, with what the seat knows. What lies in it and on the desk is less
+  -- than the log has bytes.
   abbrev pub TookBox : ℕ → Me (Slot K) View → Me (Slot K) View → Type 0
   TookBox b m m' = (y : Slot K) × (m'.1 ≡ (b, y) ∷ m.1) × NotesAre y m'.0.hands.taken
+      × (length m'.0.hands.pending + length m'.0.hands.taken < 2 ^ 63)
 
   -- where the oldest group was found to be the current one, c, the next box of the other parity
   -- came
@@ -125,10 +154,6 @@ module _ {K : Type 0} where
       × ((value : ℕ) (run left : List EntryNote) → n < value → IsBarred m.0.hands value
       → IsParted value m.0.hands.pending run left → IsLent m.0 w n value run)
 
-  -- the log is stopped
-  abbrev pub StoppedPut : Step (Slot K) → Me (Slot K) View → ℕ → Me (Slot K) View → Type 0
-  StoppedPut st m n m' = (w : ℕ) → m.0.role ≡ Steps w → Made w (Put w StoppedCursor st.first) n m m'
-
 module _ {K : Type 0} (shows : K → Lasting) where
   -- the desk came, with what the seat knows
   abbrev pub TookDesk : Me (Slot K) View → Me (Slot K) View → Type 0
@@ -166,4 +191,27 @@ module _ {K : Type 0} (shows : K → Lasting) where
       → MadeAs w (Put w Synced st.first) n
       (with_desk lasting pending m.0.hands.progress m.0.hands) m.0 m'.0 × (m'.1 ≡ m.1)
       × ((was : Was m.0 w (Put w Synced st.first))
-      × (shown (next_of was.core (Put w Synced st.first)) ≡ lasting))
+      × (shown st.first (next_of was.core (Put w Synced st.first)) ≡ lasting))
+
+  -- A sync up to a key was refused: on the desk lies what was pending, in some order, and the keeper
+  -- shows what it did, but for what it has kept and whether it has stopped.
+  abbrev pub CarriesRefused : ℕ → Bool → Me (Slot K) View → Type 0
+  CarriesRefused upto stopped m = (kept : List EntryNote) × (pending : List EntryNote)
+      × IsPermutation m.0.hands.pending pending × IsKeptNow upto m.0.hands kept
+      × CarriesAs (refused_lasting kept stopped m.0.hands.lasting) pending m.0.hands.progress m
+
+  -- the seat made a step, and knows what lies on the desk since
+  abbrev pub MadeWith : ℕ → Event → ℕ → Me (Slot K) View → Me (Slot K) View → Type 0
+  MadeWith w e n m m' = ((lasting : Lasting) × (pending : List EntryNote)
+      × MadeAs w e n (with_desk lasting pending m.0.hands.progress m.0.hands) m.0 m'.0
+      × CarriesAs lasting pending m.0.hands.progress m) × (m'.1 ≡ m.1)
+
+  -- a look, after a sync that was refused
+  abbrev pub RefusedKept : Step (Slot K) → Me (Slot K) View → ℕ → Me (Slot K) View → Type 0
+  RefusedKept st m n m' = (w : ℕ) → m.0.role ≡ Steps w
+      → MadeWith w (Look w (CursorWord StoppedCursor)) n m m'
+
+  -- the log is stopped, as the keeper is
+  abbrev pub StoppedPut : Step (Slot K) → Me (Slot K) View → ℕ → Me (Slot K) View → Type 0
+  StoppedPut st m n m' = (w : ℕ) → m.0.role ≡ Steps w
+      → MadeWith w (Put w StoppedCursor st.first) n m m'

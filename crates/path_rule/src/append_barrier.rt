@@ -26,10 +26,10 @@ ghost use Rattle.path_rule.specs.Members.{
 ghost use Rattle.path_rule.specs.Rule.{Was};
 ghost use Rattle.path_rule.specs.Turns.{MarkerWaits, TurnSaw, TurnOld, TurnGone, KeepsCurrent};
 
-use crate::slot::Keeper;
 use crate::table::{Member, PathTable};
 use crate::turn_plays::{AdvanceAppend, ExpireAppend, MoveAppend, OpenAppend};
 use crate::words::{APPEND_COUNTS, CURRENT_APPEND, EXPIRED, OLDEST_APPEND};
+use path_core::Keeper;
 use std::alloc::Allocator;
 
 impl<K: Keeper, A: Allocator> PathTable<K, A> {

@@ -41,10 +41,10 @@ ghost use Rattle.path_rule.specs.Told.{Took, CarriesNotes};
 ghost use Rattle.path_rule.specs.Turns.{Sighted};
 
 use crate::plays::{DepositIn, JoinIn, LookAt, WithdrawFrom};
-use crate::slot::{Keeper, Slot};
+use crate::slot::Slot;
 use crate::table::{Member, PathTable};
 use crate::words::{APPEND_COUNTS, CURRENT_APPEND};
-use path_core::EntryNote;
+use path_core::{EntryNote, Keeper};
 use std::alloc::{AllocError, Allocator};
 use std::collections::LinkedList;
 

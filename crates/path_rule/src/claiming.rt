@@ -17,10 +17,10 @@ ghost use Rattle.path_rule.specs.Members.{
 ghost use Rattle.path_rule.specs.Turns.{behind_last};
 
 use crate::plays::{ClaimAt, LookAt};
-use crate::slot::Keeper;
 use crate::table::{Member, PathTable};
 use crate::turn_plays::ClaimMarker;
 use crate::words::LOG;
+use path_core::Keeper;
 use std::alloc::Allocator;
 
 impl<K: Keeper, A: Allocator> PathTable<K, A> {

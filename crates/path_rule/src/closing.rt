@@ -11,9 +11,10 @@ ghost use Rattle.path_rule.specs.Members.{
 ghost use Rattle.path_rule.specs.Sharing.{Ended, HasAll};
 
 use crate::plays::Merge;
-use crate::slot::{Desk, Keeper, Slot};
+use crate::slot::{Desk, Slot};
 use crate::table::{Member, PathTable};
 use crate::words::LOG;
+use path_core::Keeper;
 use std::alloc::{Allocator, Global};
 
 impl<K: Keeper, A: Allocator> PathTable<K, A> {
@@ -42,7 +43,8 @@ fn let_go<S: Drop>(value: S) {
 impl<K: Keeper + Drop> PathTable<K, Global> {
     /// Closes the table by a seat that took in all others. It answers the keeper and the log key,
     /// and what the path was: one run of the machine, in which each seat's steps are its own, and
-    /// which ends in a lawful state with that log key and exactly the keeper's entries lasting.
+    /// which ends in a lawful state with that log key, of which the keeper holds exactly what is
+    /// lasting.
     pub fn finish(self, member: Member<K>) -> (K, u64)
         requires table { (member.seat.table_id ≡ self.table.shared.table_id)
             × (boxes_of member ≡ []) }
@@ -50,7 +52,7 @@ impl<K: Keeper + Drop> PathTable<K, Global> {
         requires idle { ((part_of member).append ≡ None) × ((part_of member).sync ≡ None)
             × ((hands_of member).box_taken ≡ None) }
         ensures { Ended self.size (returned_of member ∷ (view_of member).returned) result.1
-            (K.shown result.0).logged }
+            (K.holds result.0) }
     {
         let PathTable { table, size: _ } = self;
         let Member { seat, number: _ } = member;
@@ -65,7 +67,8 @@ impl<K: Keeper + Drop> PathTable<K, Global> {
             Slot::Turn(desk) => {
                 let Desk {
                     keeper,
-                    pending: _,
+                    lent: _,
+                    gathered: _,
                     progress: _,
                 } = desk;
                 (keeper, log)

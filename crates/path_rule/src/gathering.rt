@@ -24,10 +24,10 @@ ghost use Rattle.path_rule.specs.Told.{CarriesNotes};
 ghost use Rattle.path_rule.specs.TurnTold.{TookBox};
 ghost use Rattle.path_rule.specs.Turns.{TurnSaw};
 
-use crate::slot::Keeper;
 use crate::table::{Member, PathTable};
 use crate::turn_plays::{GatherBox, GiveBack};
 use crate::words::OLDEST_APPEND;
+use path_core::Keeper;
 use std::alloc::Allocator;
 
 impl<K: Keeper, A: Allocator> PathTable<K, A> {

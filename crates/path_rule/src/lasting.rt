@@ -1,4 +1,5 @@
 //! What a keeper shows of the machine.
+use path_core::EntryNote;
 use std::collections::LinkedList;
 
 /// What a keeper has made of the log.
@@ -10,4 +11,14 @@ pub struct Lasting {
     pub synced: u64,
     /// The ordinals of the segments that it dropped.
     pub dropped: LinkedList<u64>,
+    /// The entries of a sync that was refused, until one ends well.
+    pub kept: LinkedList<EntryNote>,
+    /// Whether it has stopped.
+    pub stopped: bool,
+    /// The bytes of a segment.
+    pub capacity: u64,
+    /// How many segments its log may have.
+    pub ordinals: u64,
+    /// The id of the first one.
+    pub base: u64,
 }

@@ -14,29 +14,30 @@ ghost use Rattle.path_rule.specs.declared.slot.Slot.{Slot};
 ghost use Rattle.path_rule.specs.declared.view.PathSize.{PathSize};
 ghost use Rattle.path_rule.specs.declared.view.View.{View};
 ghost use Rattle.path_rule.specs.Boxes.{desk_box, DeskIs, HoldsBox};
-ghost use Rattle.path_rule.specs.Lasts.{shown};
+ghost use Rattle.path_rule.specs.Lasts.{shown, shows_of};
 ghost use Rattle.path_rule.specs.Rule.{Ruled};
 
-use crate::slot::Keeper;
+use path_core::Keeper;
 
 /// The state of the machine that the table shows is lawful.
 pub fn the_table_shows_a_lawful_state<K: Keeper>()
-    ensures { (size : PathSize) (s : State (Slot K) View) (r : Ruled K.shown size s)
+    ensures { (size : PathSize) (s : State (Slot K) View) (r : Ruled (shows_of K.holds) size s)
         → IsLawfulPath r.core }
 {}
 
 /// While nobody holds the Sync turn, the desk is at home, and the keeper on it shows exactly what
 /// the machine has lasting.
 pub fn the_keeper_at_home_shows_what_is_lasting<K: Keeper>()
-    ensures { (size : PathSize) (s : State (Slot K) View) (r : Ruled K.shown size s)
+    ensures { (size : PathSize) (s : State (Slot K) View) (r : Ruled (shows_of K.holds) size s)
         → ((w : ℕ) → holds_turn (seat_of r.core w) Turn.Sync ≡ false)
         → (y : Slot K) × (get_elem? s.homes desk_box ≡ some (some y))
-        × DeskIs K.shown y (shown r.core) r.boxed.pending r.boxed.progress }
+        × DeskIs (shows_of K.holds) y (shown r.kept_to r.core) r.boxed.pending
+        r.boxed.progress }
 {}
 
 /// No two seats have one box.
 pub fn each_box_has_one_holder<K: Keeper>()
-    ensures { (size : PathSize) (s : State (Slot K) View) → Ruled K.shown size s
+    ensures { (size : PathSize) (s : State (Slot K) View) → Ruled (shows_of K.holds) size s
         → (j i b : ℕ) (u v : View) → get_elem? s.views j ≡ some u → get_elem? s.views i ≡ some v
         → HoldsBox u b → HoldsBox v b → j ≡ i }
 {}
@@ -44,7 +45,7 @@ pub fn each_box_has_one_holder<K: Keeper>()
 /// Once all boxes behind the barrier of the last marker are gathered, each note up to that marker
 /// is lasting or lies on the desk: none is left in a box.
 pub fn gathering_reaches_the_last_marker<K: Keeper>()
-    ensures { (size : PathSize) (s : State (Slot K) View) (r : Ruled K.shown size s)
+    ensures { (size : PathSize) (s : State (Slot K) View) (r : Ruled (shows_of K.holds) size s)
         → r.boxed.progress.gathered ≡ true → (c : Claim) (g : ℕ) → last_marker r.core ≡ Some c
         → c.barrier ≡ Some g → (n : EntryNote) → Contains r.core.notes n → n.end.0 ≤ c.start
         → Contains r.core.logged n.end.0 ⊎ Contains r.boxed.pending n }

@@ -13,6 +13,7 @@ mod closing;
 mod gathering;
 mod lasting;
 mod laws;
+mod lending;
 mod opening;
 mod plays;
 mod rule;
@@ -36,7 +37,7 @@ pub use laws::{
 };
 pub use opening::open;
 pub use rule::PathRule;
-pub use slot::{Desk, Keeper, Slot};
+pub use slot::{Desk, Slot};
 pub use table::{Member, Opener, PathTable};
 pub use trying::{Begun, PathSeat, Seen};
 pub use view::{Hands, OwnStep, PathSize, Progress, Returned, Role, View};

@@ -2,17 +2,18 @@
 ghost use Rattle.std.specs.Prelude.{◌≡◌, ◌+◌, ◌<◌, ◌≤◌, [], length, IfOk};
 ghost use Rattle.path_rule.specs.Boxed.{AreFirst};
 ghost use Rattle.path_rule.specs.Boxes.{boxes};
-ghost use Rattle.path_rule.specs.Lasts.{none_lasting};
+ghost use Rattle.path_rule.specs.Lasts.{shows_of, IsNew};
 ghost use Rattle.path_rule.specs.Layout.{first_words};
 ghost use Rattle.path_rule.specs.Members.{view_of, boxes_of};
 ghost use Rattle.path_rule.specs.Rule.{opener, new_seat, IsFit};
 
 use crate::plays::Deal;
-use crate::slot::{Desk, Keeper, Slot};
+use crate::slot::{Desk, Slot};
 use crate::table::{Member, Opener, PathTable};
 use crate::view::{PathSize, Progress};
 use crate::words::{FIRST_KEY, LOG, WORDS};
 use atomic_table::Table;
+use path_core::Keeper;
 use std::alloc::{AllocError, Allocator, Global};
 use std::collections::LinkedList;
 
@@ -20,11 +21,12 @@ use std::collections::LinkedList;
 fn first_boxes<K: Keeper + Drop>(
     alloc: Global,
     keeper: K,
-    seats: usize,
+    size: &PathSize,
 ) -> Result<Vec<Slot<K>>, AllocError>
-    requires few { seats ≤ 64 }
-    requires keeper { K.shown keeper ≡ none_lasting }
-    ensures { IfOk result (λ v. (length v.items ≡ boxes seats) × AreFirst K.shown v.items) }
+    requires few { size.now.seats ≤ 64 }
+    requires keeper { IsNew size.now (K.holds keeper) }
+    ensures { IfOk result (λ v. (length v.items ≡ boxes size.now.seats)
+        × AreFirst (shows_of K.holds) size.now v.items) }
 {
     let mut boxes = Vec::new(alloc);
     let progress = Progress {
@@ -33,11 +35,12 @@ fn first_boxes<K: Keeper + Drop>(
     };
     let desk = Desk {
         keeper,
-        pending: LinkedList::new(alloc),
+        lent: Vec::new(alloc),
+        gathered: LinkedList::new(alloc),
         progress,
     };
     boxes.push(Slot::Turn(desk))?;
-    for _ in 0..2 * seats {
+    for _ in 0..2 * size.seats {
         boxes.push(Slot::Notes(LinkedList::new(alloc)))?;
     }
     Ok(boxes)
@@ -52,7 +55,7 @@ fn first_words(alloc: Global) -> Result<Vec<u64>, AllocError>
     Ok(words)
 }
 
-/// Opens a table for a machine of these sizes, over a keeper that has made nothing lasting. It
+/// Opens a table for a machine of these sizes, over a keeper that was just opened for them. It
 /// answers the table and the seat that hands out the others. It takes 135,240 words.
 pub fn open<K: Keeper + Drop>(
     alloc: Global,
@@ -60,13 +63,13 @@ pub fn open<K: Keeper + Drop>(
     size: PathSize,
 ) -> Result<(PathTable<K, Global>, Opener<K>), AllocError>
     requires fit { IsFit size }
-    requires keeper { K.shown keeper ≡ none_lasting }
+    requires keeper { IsNew size (K.holds keeper) }
     ensures { IfOk result (λ r. (r.0.size ≡ size)
         × (r.1.seat.table_id ≡ r.0.table.shared.table_id) × (r.1.made ≡ 0)
         × (r.1.seat.me.0 ≡ opener 0 size)) }
 {
     let words = first_words(alloc)?;
-    let boxes = first_boxes(alloc, keeper, size.seats as usize)?;
+    let boxes = first_boxes(alloc, keeper, &size)?;
     let Ok((table, seat)) = Table::new(alloc, words.as_slice(), boxes, &size) else {
         return Err(AllocError);
     };

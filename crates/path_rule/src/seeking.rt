@@ -12,12 +12,12 @@ ghost use Rattle.path_rule.specs.Members.{view_of, part_of, hands_of, IsOf, Keep
 ghost use Rattle.path_rule.specs.Turns.{TurnSaw, TurnOld, TurnGone, KeepsCurrent, KeepsOldest};
 
 use crate::plays::LookAt;
-use crate::slot::Keeper;
 use crate::table::{Member, PathTable};
 use crate::words::{
     APPEND_COUNTS, CURRENT_APPEND, CURRENT_WRITE, OLDEST_APPEND, OLDEST_WRITE, WRITE_COUNTS,
 };
 use op_core::Order;
+use path_core::Keeper;
 use std::alloc::Allocator;
 
 // Where the words of an order stand.

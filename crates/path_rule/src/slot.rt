@@ -1,24 +1,19 @@
 //! What the boxes of the table hold: each has notes, but for the first, which is the desk of the
 //! Sync turn.
-ghost use Rattle.path_rule.specs.declared.lasting.Lasting.{Lasting};
-
 use crate::view::Progress;
 use path_core::EntryNote;
 use std::collections::LinkedList;
 
-/// What makes entries lasting.
-pub trait Keeper {
-    /// What it has made lasting.
-    ghost shown: { Self → Lasting };
-}
-
-/// The desk of the Sync turn, which its holder has in hand.
+/// The desk of the Sync turn, which its holder has in hand. The notes on it were gathered and are
+/// not yet lasting: those that a keeper was lent and left, and behind them those that came since.
 #[derive(Drop)]
 pub struct Desk<K> {
     /// What makes entries lasting.
     pub keeper: K,
-    /// Notes that were gathered and are not yet lasting.
-    pub pending: LinkedList<EntryNote>,
+    /// Notes that a keeper was lent and did not make lasting.
+    pub lent: Vec<EntryNote>,
+    /// Notes that were gathered since.
+    pub gathered: LinkedList<EntryNote>,
     /// How far the last barrier of the append order has got.
     pub progress: Progress,
 }

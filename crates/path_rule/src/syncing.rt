@@ -10,7 +10,7 @@ ghost use Rattle.path_core.specs.Keeper.{IsParted};
 ghost use Rattle.path_core.specs.Next.{next_of};
 ghost use Rattle.path_rule.specs.declared.lasting.Lasting.{Lasting};
 ghost use Rattle.path_rule.specs.HandsAfter.{with_desk};
-ghost use Rattle.path_rule.specs.Lasts.{shown};
+ghost use Rattle.path_rule.specs.Lasts.{shown, shows_of};
 ghost use Rattle.path_rule.specs.Members.{
   view_of,
   part_of,
@@ -19,16 +19,17 @@ ghost use Rattle.path_rule.specs.Members.{
   KeepsBoxes,
   Stepped,
   SteppedAs,
+  SteppedWith,
 };
 ghost use Rattle.path_rule.specs.Rule.{Was};
-ghost use Rattle.path_rule.specs.TurnTold.{CarriesAs, CarriesSynced, IsLent};
+ghost use Rattle.path_rule.specs.TurnTold.{CarriesAs, CarriesSynced, CarriesRefused, IsLent};
 ghost use Rattle.path_rule.specs.Turns.{IsBarred, TurnRuns};
 
 use crate::plays::LookAt;
-use crate::slot::Keeper;
 use crate::table::{Member, PathTable};
-use crate::turn_plays::{LookLent, PutStopped, PutSynced};
+use crate::turn_plays::{KeepRefused, LookLent, PutStopped, PutSynced};
 use crate::words::{STOPPED, SYNCED};
+use path_core::Keeper;
 use std::alloc::Allocator;
 
 impl<K: Keeper, A: Allocator> PathTable<K, A> {
@@ -61,34 +62,60 @@ impl<K: Keeper, A: Allocator> PathTable<K, A> {
             × ((hands_of member.old).progress.gathered ≡ true)
             × ((hands_of member.old).box_taken ≡ None) }
         requires marker { IsBarred (hands_of member.old) value }
-        requires desk { CarriesSynced K.shown value member.old.seat.me }
+        requires desk { CarriesSynced (shows_of K.holds) value member.old.seat.me }
         ensures same { KeepsBoxes member.old member.new }
         ensures step { (lasting : Lasting) (pending : List EntryNote)
-            → CarriesAs K.shown lasting pending (hands_of member.old).progress member.old.seat.me
+            → CarriesAs (shows_of K.holds) lasting pending (hands_of member.old).progress
+            member.old.seat.me
             → SteppedAs member.old (Put member.old.number Synced value) value
             (with_desk lasting pending (hands_of member.old).progress (hands_of member.old))
             member.new
             × ((was : Was (view_of member.old) member.old.number
             (Put member.old.number Synced value))
-            × (shown (next_of was.core (Put member.old.number Synced value)) ≡ lasting)) }
+            × (shown value (next_of was.core (Put member.old.number Synced value))
+            ≡ lasting)) }
     {
         self.table
             .shared
             .store::<PutSynced<K>>(&mut member.seat, SYNCED, value);
     }
 
-    /// Stops the log, which the member found running, with a count of faults above 0. That it is
-    /// the keeper's is for the caller to see.
-    pub fn put_stopped(&self, member: &mut Member<K>, value: u64)
+    /// Stops the log, which the member found running, after a sync up to the last marker in which
+    /// the keeper on the desk has stopped. The value is its count of faults.
+    pub fn put_stopped(&self, member: &mut Member<K>, value: u64, upto: u64)
         requires table { IsOf self.now.table.shared.table_id self.now.size member.old }
-        requires turn { (t : SyncTurn) × ((part_of member.old).sync ≡ Some t)
-            × (t.stopped ≡ Some 0) }
-        requires value { (0 < value) × ((hands_of member.old).box_taken ≡ None) }
+        requires turn { TurnRuns (part_of member.old) upto
+            × ((hands_of member.old).progress.gathered ≡ true)
+            × ((hands_of member.old).box_taken ≡ None) }
+        requires marker { IsBarred (hands_of member.old) upto }
+        requires desk { CarriesRefused (shows_of K.holds) upto true member.old.seat.me }
+        requires value { 0 < value }
         ensures same { KeepsBoxes member.old member.new }
-        ensures step { Stepped member.old (Put member.old.number Stopped value) value member.new }
+        ensures step { SteppedWith (shows_of K.holds) member.old
+            (Put member.old.number Stopped value) value member.new }
     {
         self.table
             .shared
             .store::<PutStopped<K>>(&mut member.seat, STOPPED, value);
+    }
+
+    /// The keeper's count of faults as the path tells it, after a sync up to the last marker that
+    /// was refused for memory. The member knows then what lies on the desk.
+    pub fn keep_refused(&self, member: &mut Member<K>, upto: u64) -> u64
+        requires table { IsOf self.now.table.shared.table_id self.now.size member.old }
+        requires turn { TurnRuns (part_of member.old) upto
+            × ((hands_of member.old).progress.gathered ≡ true)
+            × ((hands_of member.old).box_taken ≡ None) }
+        requires marker { IsBarred (hands_of member.old) upto }
+        requires desk { CarriesRefused (shows_of K.holds) upto
+            (hands_of member.old).lasting.stopped member.old.seat.me }
+        ensures same { KeepsBoxes member.old member.new }
+        ensures step { SteppedWith (shows_of K.holds) member.old
+            (Look member.old.number (CursorWord Stopped)) result member.new }
+    {
+        let _ = upto;
+        self.table
+            .shared
+            .load::<KeepRefused<K>>(&mut member.seat, STOPPED)
     }
 }

@@ -5,9 +5,10 @@ ghost use Rattle.path_rule.specs.Boxes.{boxes};
 ghost use Rattle.path_rule.specs.Rule.{IsFit};
 
 use crate::rule::PathRule;
-use crate::slot::{Keeper, Slot};
+use crate::slot::Slot;
 use crate::view::{PathSize, View};
 use atomic_table::{Seat, Table};
+use path_core::Keeper;
 use std::alloc::Allocator;
 
 /// The words and the boxes. Threads share it.

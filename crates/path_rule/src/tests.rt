@@ -1,21 +1,13 @@
 //! Two seats and a barrier by hand, and that a table and its seats go between threads.
-ghost use Rattle.std.specs.Prelude.{◌≡◌, []};
-ghost use Rattle.path_rule.specs.Lasts.{none_lasting};
+ghost use Rattle.std.specs.Prelude.{◌≡◌};
 
 use crate::trying::PathSeat;
 use crate::waiting::{Holder, Passed};
-use crate::{Keeper, Member, PathSize, PathTable, open};
+use crate::{Member, PathSize, PathTable, open};
+use clog_base::Sizes;
+use path_core::{Keeper, ListKeeper};
 use std::alloc::Global;
 use std::test::*;
-
-#[derive(Drop)]
-struct Count {
-    made: u64,
-}
-
-impl Keeper for Count {
-    ghost shown = { λ _. none_lasting };
-}
 
 fn is_shared<T: Sync>(_value: &T) {}
 
@@ -35,14 +27,18 @@ fn crosses<K: Keeper + Send>(table: &PathTable<K, Global>, member: Member<K>) ->
 
 #[test]
 fn a_barrier_passes(rt: HostRuntime) -> Result<(), Fail> {
+    let Some(sizes) = Sizes::make(1, 2, 4096, 4) else {
+        return Ok(());
+    };
     let size = PathSize {
         tables: 1,
         seats: 2,
-        capacity: 4096,
-        ordinals: 4,
+        capacity: u64::from(sizes.capacity),
+        ordinals: u64::from(sizes.ordinals),
         base: 7,
     };
-    let (table, mut opener) = open(rt.alloc(), Count { made: 0 }, size)?;
+    let keeper = ListKeeper::new(rt.alloc(), sizes, 7);
+    let (table, mut opener) = open(rt.alloc(), keeper, size)?;
     let mut zero = table.seat(&mut opener);
     let one = crosses(&table, table.seat(&mut opener));
     let found = table.take_sync(&mut zero);

@@ -8,9 +8,9 @@ ghost use Rattle.path_core.specs.Parts.{HoldsNoTurn, IsIdle};
 ghost use Rattle.path_rule.specs.Calls.{Started, Refused, acts, FoundSince};
 ghost use Rattle.path_rule.specs.Members.{view_of, part_of, IsOf, IsSame, Stepped};
 
-use crate::slot::Keeper;
 use crate::table::{Member, PathTable};
 use crate::words::EXPIRED;
+use path_core::Keeper;
 use std::alloc::Allocator;
 
 /// Why a seat did not join a group: the count that it looked at was expired, or another one was

@@ -12,6 +12,7 @@ ghost use Rattle.path_core.specs.Parts.{IsIdle, issue_of};
 ghost use Rattle.path_rule.specs.declared.lasting.Lasting.{Lasting};
 ghost use Rattle.path_rule.specs.declared.view.Progress.{Progress};
 ghost use Rattle.path_rule.specs.HandsAfter.{unswept_hands, with_desk};
+ghost use Rattle.path_rule.specs.Lasts.{shows_of};
 ghost use Rattle.path_rule.specs.Members.{
   part_of,
   hands_of,
@@ -26,10 +27,10 @@ ghost use Rattle.path_rule.specs.Members.{
 ghost use Rattle.path_rule.specs.TurnTold.{CarriesDesk, TookDesk};
 
 use crate::plays::LookAt;
-use crate::slot::Keeper;
 use crate::table::{Member, PathTable};
 use crate::turn_plays::{GiveSync, TakeSync};
 use crate::words::{STOPPED, SYNC_TURN};
+use path_core::Keeper;
 use std::alloc::Allocator;
 
 impl<K: Keeper, A: Allocator> PathTable<K, A> {
@@ -43,7 +44,7 @@ impl<K: Keeper, A: Allocator> PathTable<K, A> {
             → ((lasting : Lasting) × (pending : List EntryNote) × (progress : Progress)
             × SteppedAs member.old (TakeTurn member.old.number Sync) 1
             (with_desk lasting pending progress (hands_of member.old)) member.new)
-            × TookDesk K.shown member.old.seat.me member.new.seat.me }
+            × TookDesk (shows_of K.holds) member.old.seat.me member.new.seat.me }
         ensures miss { result ≢ 0
             → Stepped member.old (Look member.old.number (TurnWord Sync)) result member.new
             × (boxes_of member.new ≡ boxes_of member.old) }
@@ -60,7 +61,7 @@ impl<K: Keeper, A: Allocator> PathTable<K, A> {
         requires rest { IsTrue (is_some (part_of member.old).sync)
             × (issue_of (part_of member.old) ≡ Rest) × ((hands_of member.old).box_taken ≡ None)
             × (has_filed (part_of member.old) ≡ false) }
-        requires desk { CarriesDesk K.shown member.old.seat.me }
+        requires desk { CarriesDesk (shows_of K.holds) member.old.seat.me }
         ensures same { PutsBack member.old member.new }
         ensures step { SteppedAs member.old (GiveTurn member.old.number Sync) 0
             (unswept_hands (hands_of member.old)) member.new }

@@ -1,7 +1,8 @@
 //! What the steps of the holder of the Sync turn tell (`specs/TurnTold.antt`).
-use crate::slot::{Keeper, Slot};
+use crate::slot::Slot;
 use crate::view::View;
 use atomic_table::Play;
+use path_core::Keeper;
 use std::marker::PhantomData;
 
 /// The Sync turn is given back.
@@ -76,9 +77,10 @@ pub(crate) struct TakeSync<K> {
 }
 
 impl<K: Keeper> Play<Slot<K>, View> for TakeSync<K> {
+    ghost use Rattle.path_rule.specs.Lasts.{shows_of};
     ghost use Rattle.path_rule.specs.TurnTold.{SyncTaken};
 
-    ghost then = { SyncTaken K.shown };
+    ghost then = { SyncTaken (shows_of K.holds) };
 }
 
 /// The next group of the write order is made.
@@ -164,9 +166,10 @@ pub(crate) struct PutSynced<K> {
 }
 
 impl<K: Keeper> Play<Slot<K>, View> for PutSynced<K> {
+    ghost use Rattle.path_rule.specs.Lasts.{shows_of};
     ghost use Rattle.path_rule.specs.TurnTold.{SyncedPut};
 
-    ghost then = { SyncedPut K.shown };
+    ghost then = { SyncedPut (shows_of K.holds) };
 }
 
 /// The log is stopped.
@@ -174,8 +177,21 @@ pub(crate) struct PutStopped<K> {
     keeper: PhantomData<K>,
 }
 
-impl<K> Play<Slot<K>, View> for PutStopped<K> {
+impl<K: Keeper> Play<Slot<K>, View> for PutStopped<K> {
+    ghost use Rattle.path_rule.specs.Lasts.{shows_of};
     ghost use Rattle.path_rule.specs.TurnTold.{StoppedPut};
 
-    ghost then = { StoppedPut };
+    ghost then = { StoppedPut (shows_of K.holds) };
+}
+
+/// A look, after a sync that was refused.
+pub(crate) struct KeepRefused<K> {
+    keeper: PhantomData<K>,
+}
+
+impl<K: Keeper> Play<Slot<K>, View> for KeepRefused<K> {
+    ghost use Rattle.path_rule.specs.Lasts.{shows_of};
+    ghost use Rattle.path_rule.specs.TurnTold.{RefusedKept};
+
+    ghost then = { RefusedKept (shows_of K.holds) };
 }

@@ -9,10 +9,10 @@ ghost use Rattle.path_rule.specs.Members.{view_of, part_of, hands_of, IsOf, Keep
 ghost use Rattle.path_rule.specs.Passes.{MatchPassed};
 ghost use Rattle.path_rule.specs.Turns.{MarkerWaits, TurnSaw, TurnOld, TurnGone, KeepsCurrent};
 
-use crate::slot::Keeper;
 use crate::table::{Member, PathTable};
 use crate::words::{EXPIRED, LAST_GROUP};
 use op_core::Order;
+use path_core::Keeper;
 use std::alloc::Allocator;
 use std::sync::Wait;
 use std::thread::yield_now;

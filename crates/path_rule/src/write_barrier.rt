@@ -13,10 +13,10 @@ ghost use Rattle.path_rule.specs.Calls.{Holds};
 ghost use Rattle.path_rule.specs.Members.{view_of, part_of, hands_of, IsOf, KeepsSizes, Stepped};
 ghost use Rattle.path_rule.specs.Turns.{TurnSaw, TurnOld, TurnGone, KeepsCurrent};
 
-use crate::slot::Keeper;
 use crate::table::{Member, PathTable};
 use crate::turn_plays::{AdvanceWrite, ExpireWrite, MoveWrite, OpenWrite};
 use crate::words::{CURRENT_WRITE, EXPIRED, OLDEST_WRITE, WRITE_COUNTS};
+use path_core::Keeper;
 use std::alloc::Allocator;
 
 impl<K: Keeper, A: Allocator> PathTable<K, A> {

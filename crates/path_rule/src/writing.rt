@@ -9,9 +9,9 @@ ghost use Rattle.path_rule.specs.Members.{view_of, part_of, IsOf, KeepsBoxes, St
 ghost use Rattle.path_rule.specs.Turns.{Sighted};
 
 use crate::plays::{LookAt, RegisterIn, StopIn};
-use crate::slot::Keeper;
 use crate::table::{Member, PathTable};
 use crate::words::{CURRENT_WRITE, WRITE_COUNTS};
+use path_core::Keeper;
 use std::alloc::Allocator;
 
 impl<K: Keeper, A: Allocator> PathTable<K, A> {

@@ -14,7 +14,8 @@ ghost use Rattle.path_rule.specs.Calls.{Started};
 ghost use Rattle.path_rule.specs.Members.{view_of, IsOf, Stepped};
 ghost use Rattle.write_path.specs.Tries.{Stays, Joined, OnlyLooked};
 
-use path_rule::{Begun, Keeper, Member, PathSeat, PathTable, Seen};
+use path_core::Keeper;
+use path_rule::{Begun, Member, PathSeat, PathTable, Seen};
 use std::alloc::Allocator;
 
 /// The highest bit of a count, which marks an expired group.

@@ -76,14 +76,14 @@ marker_at x L c last g issued =
     }
 
 -- So it is for the last marker, once its barrier is issued.
-pub gathered_up_to_last : {K : Type 0} (shows : K → Lasting) (size : PathSize)
+pub gathered_up_to_last : {K : Type 0} (shows : K → Lasting) (size : PathSize) (key : ℕ)
     (homes : List (maybe.Option (Slot K))) (views : List View) (x : PathState) → IsLawfulPath x
-    → (B : Boxed shows size.seats x.notes (shown x) x.claims x.append homes views)
+    → (B : Boxed shows size.seats x.notes (shown key x) x.claims x.append homes views)
     → B.progress.gathered ≡ true → (c : Claim) (g : ℕ) → last_marker x ≡ Some c
     → c.barrier ≡ Some g → (n : EntryNote) → Contains x.notes n → n.end.0 ≤ c.start
     → Contains x.logged n.end.0 ⊎ Contains B.pending n
-gathered_up_to_last shows size homes views x L B all c g last issued n h low =
+gathered_up_to_last shows size key homes views x L B all c g last issued n h low =
     let M = marker_at x L c last g issued in
     let start = ap (λ (d : Claim). d.start) M.is in
-    gathered_all shows size.seats x.notes (shown x) x.claims x.append homes views B all M.number g
+    gathered_all shows size.seats x.notes (shown key x) x.claims x.append homes views B all M.number g
     M.inside M.marker M.barrier M.below n h (omega arith)

@@ -99,7 +99,7 @@ module _ {K : Type 0} (shows : K → Lasting) (size : PathSize) (slots id : ℕ)
 
         by_role : (ρ : Role) → Knows r.core r.events r.owner r.made r.boss j ρ u.part u.trail
             u.returned → HandsAs r.boxed.contents
-            (shown r.core) r.boxed.pending r.boxed.progress r.core.append size.seats u.part u.hands
+            (shown r.kept_to r.core) r.boxed.pending r.boxed.progress r.core.append size.seats u.part u.hands
             ρ
             → HoldsAs u.part.append (is_some u.part.sync) u.hands.box_taken (box_of w g) ρ → ⊥
         by_role (Opener k) kn H h = h
@@ -168,7 +168,7 @@ module _ {K : Type 0} (shows : K → Lasting) (size : PathSize) (slots id : ℕ)
         home.1,
         plays shows size s r id w m.0 there mine e refl may tt fits rows (k + 1)
             (k + 1) false now refl h m.1 (takes box home.0)
-            (boxed_take shows size.seats x.notes (shown x) x.claims x.claims x.append
+            (boxed_take shows size.seats x.notes (shown r.kept_to x) x.claims x.claims x.append
             (next_of x e).append s.homes s.views r.boxed id w m.0 v' there mine refl refl refl
             (λ i g l _ _. (l, refl)) refl C.issue g outside C.append refl),
         (λ z q role _ word. each_name shows size slots id m w mine 73 g
@@ -225,9 +225,9 @@ module _ {K : Type 0} (shows : K → Lasting) (size : PathSize) (slots id : ℕ)
         tt,
         plays shows size s r id w m.0 there mine e refl may tt fits rows
             ((n + (2 ^ 64 - 1)) % 2 ^ 64) n false now refl m.0.hands m.1 gives
-            (subst (λ l. Boxed shows size.seats x.notes (shown x) x.claims (next_of x e).append
+            (subst (λ l. Boxed shows size.seats x.notes (shown r.kept_to x) x.claims (next_of x e).append
             (put_back s.homes l) (set s.views id v')) (sym holds)
-            (boxed_give shows size.seats x.notes (shown x) x.claims x.claims x.append
+            (boxed_give shows size.seats x.notes (shown r.kept_to x) x.claims x.claims x.append
             (next_of x e).append s.homes s.views r.boxed id w m.0 v' there mine refl refl refl
             (λ i g l _ _. (l, refl)) refl C.issue g y append C.append refl kept r.deep
             (low_seat s r there))),

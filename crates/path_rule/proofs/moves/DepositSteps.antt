@@ -67,6 +67,7 @@ use Rattle.path_rule.specs.Layout.{tally_word}
 use Rattle.path_rule.specs.Rule.{Knows, start_of, Ruled, view_after}
 use Rattle.path_rule.specs.Told.{Deposited, MadeAs}
 use Rattle.path_rule.proofs.boxes.NotePut.{boxed_put}
+use Rattle.path_rule.proofs.log.KeptStays.{kept_same}
 use Rattle.path_rule.proofs.moves.AppendSteps.{low_seat}
 use Rattle.path_rule.proofs.moves.Looks.{within, each_name, own_part}
 use Rattle.path_rule.proofs.moves.Moving.{core_lawful, known, was, plays, columns_now}
@@ -119,9 +120,10 @@ module _ {K : Type 0} (shows : K → Lasting) (size : PathSize) (slots id : ℕ)
         tt,
         plays shows size s r id w m.0 there mine e refl may whole fits rows
             ((n + (2 ^ 64 - 1)) % 2 ^ 64) n false now refl m.0.hands m.1 gives
-            (subst (λ l. Boxed shows size.seats (next_of x e).notes (shown x) x.claims
-            (next_of x e).append (put_back s.homes l) (set s.views id v')) (sym holds)
-            (boxed_put shows size.seats x.notes (next_of x e).notes (shown x) x.claims x.append
+            (subst (λ (q : Lasting × List (ℕ × Slot K)). Boxed shows size.seats (next_of x e).notes
+            q.0 x.claims (next_of x e).append (put_back s.homes q.1) (set s.views id v'))
+            (λ i. (kept_same x law w g note may r.kept_to r.may_be_kept i, sym holds i))
+            (boxed_put shows size.seats x.notes (next_of x e).notes (shown r.kept_to x) x.claims x.append
             (next_of x e).append s.homes s.views r.boxed id w m.0 v' there mine refl refl refl g
             note append C.append C.issue refl
             (no_turn s r there g append) r.deep

@@ -7,11 +7,13 @@ use Rattle.std.proofs.Common.{
   ◌+◌,
   ◌*◌,
   ◌%◌,
+  ◌^◌,
   ◌<◌,
   false,
   List,
   [],
   ◌∷◌,
+  length,
   set,
   Option,
   Some,
@@ -72,6 +74,7 @@ use Rattle.path_rule.specs.Rule.{Ruled, view_after, with_hands, Was}
 use Rattle.path_rule.specs.Told.{MadeAs, Made}
 use Rattle.path_rule.specs.TurnTold.{Gathered, GaveBack}
 use Rattle.path_rule.specs.Turns.{TurnSaw}
+use Rattle.path_rule.proofs.boxes.FewNotes.{few_kept}
 use Rattle.path_rule.proofs.boxes.HandsStay.{issue_known}
 use Rattle.path_rule.proofs.boxes.HolderBoxes.{boxed_gather, boxed_give_back}
 use Rattle.path_rule.proofs.moves.HolderFacts.{
@@ -80,6 +83,7 @@ use Rattle.path_rule.proofs.moves.HolderFacts.{
   others_free,
   others_near,
   current_is,
+  hands_now,
 }
 use Rattle.path_rule.proofs.moves.Looks.{within, look_owes, each_seat_name}
 use Rattle.path_rule.proofs.moves.Moving.{core_lawful, known, was, plays, columns_now}
@@ -132,14 +136,14 @@ module _ {K : Type 0} (shows : K → Lasting) (size : PathSize) (slots id : ℕ)
             (λ q. ⊎_elim (λ d. false≢true (sym bare ∙ d.0))
             (λ taken. false≢true (sym bare ∙
             ((subst (HandsAs r.boxed.contents
-            (shown r.core) r.boxed.pending r.boxed.progress r.core.append size.seats u.part
+            (shown r.kept_to r.core) r.boxed.pending r.boxed.progress r.core.append size.seats u.part
             u.hands) is (r.boxed.in_hands j u e)).other (box_of k (suc cur)) taken).holds)) q) h
 
     -- a look at the oldest group, with what a box tells
     looked : (n : ℕ) → n ≡ r.core.append.oldest → (h : Hands) (a : Act (Slot K)) → let e =
         Look w (Oldest Append) in let v' = with_hands h (view_after m.0 e n false) in
         (Columns e m.0.part v'.part → Boxed shows size.seats r.core.notes
-        (shown r.core) r.core.claims r.core.append (homes_after s.homes m.1 a)
+        (shown r.kept_to r.core) r.core.claims r.core.append (homes_after s.homes m.1 a)
         (set s.views id v'))
         → Ruled shows size (stepped s 3 n id m.1 v' a) × Was m.0 w e
     looked n found h a boxed = let x = r.core in let e = Look w (Oldest Append) in
@@ -172,9 +176,13 @@ module _ {K : Type 0} (shows : K → Lasting) (size : PathSize) (slots id : ℕ)
       let h = with_taken (Some box) ns m.0.hands in
       let v' = with_hands h (view_after m.0 e n false) in
       let home = r.boxed.at_home box (omega arith) (other_free s r there held k empty passed) in
+      let few = subst (λ (l : List EntryNote). length l + length ns < 2 ^ 63)
+      (sym ((hands_now shows size slots id m w mine s r there).desk held).1)
+      (few_kept shows size.seats x (core_lawful shows size s r) (shown r.kept_to x) x.claims
+      x.append s.homes s.views r.boxed box) in
       let did = looked s r there held n found h (takes box home.0)
       (λ C. boxed_gather shows size.seats x.notes
-      (shown x) x.claims x.claims x.append x.append s.homes s.views r.boxed id w m.0 v' there
+      (shown r.kept_to x) x.claims x.claims x.append x.append s.homes s.views r.boxed id w m.0 v' there
       mine refl out (C.append ∙ out) held
       (sym (is_some_held v'.part) ∙ (ap (λ (o : Option Issue). is_some o) C.issue
       ∙ (is_some_held m.0.part ∙ held))) (others_free shows size slots id m w mine s r there held)
@@ -188,15 +196,20 @@ module _ {K : Type 0} (shows : K → Lasting) (size : PathSize) (slots id : ℕ)
             × MadeAs z (Look z (Oldest Append)) n
             (with_taken (Some (box_of k (suc d))) taken m.0.hands) m.0 v')
             × ((y : Slot K) × ((box, home.0) ∷ m.1 ≡ (box_of k (suc d), y) ∷ m.1)
-            × NotesAre y v'.hands.taken))
+            × NotesAre y v'.hands.taken
+            × (length v'.hands.pending + length v'.hands.taken < 2 ^ 63)))
             × (n ≢ d → Made z (Look z (Oldest Append)) n m (v', (box, home.0) ∷ m.1)))
             (subst (λ q. (n ≡ q → ((taken : List EntryNote)
             × MadeAs w (Look w (Oldest Append)) n
             (with_taken (Some (box_of k (suc q))) taken m.0.hands) m.0 v')
             × ((y : Slot K) × ((box, home.0) ∷ m.1 ≡ (box_of k (suc q), y) ∷ m.1)
-            × NotesAre y v'.hands.taken))
+            × NotesAre y v'.hands.taken
+            × (length v'.hands.pending + length v'.hands.taken < 2 ^ 63)))
             × (n ≢ q → Made w (Look w (Oldest Append)) n m (v', (box, home.0) ∷ m.1))) (sym now) (
-              (λ _. ((ns, (refl, did.1)), (home.0, refl, home.2.notes (omega arith)))),
+              (λ _. (
+                (ns, (refl, did.1)),
+                (home.0, refl, home.2.notes (omega arith), few),
+              )),
               (λ miss. absurd (miss (hit ∙ now))),
             )),
       ))
@@ -206,7 +219,8 @@ module _ {K : Type 0} (shows : K → Lasting) (size : PathSize) (slots id : ℕ)
       each_pair c saw (λ z d. (n ≡ d → ((taken : List EntryNote)
       × MadeAs z (Look z (Oldest Append)) n
       (with_taken (Some (box_of k (suc d))) taken m.0.hands) m.0 v')
-      × ((y : Slot K) × (m.1 ≡ (box_of k (suc d), y) ∷ m.1) × NotesAre y v'.hands.taken))
+      × ((y : Slot K) × (m.1 ≡ (box_of k (suc d), y) ∷ m.1) × NotesAre y v'.hands.taken
+      × (length v'.hands.pending + length v'.hands.taken < 2 ^ 63)))
       × (n ≢ d → Made z (Look z (Oldest Append)) n m (v', m.1)))
       ((λ hit. absurd (miss hit)), (λ _. made))))
     where
@@ -240,10 +254,10 @@ module _ {K : Type 0} (shows : K → Lasting) (size : PathSize) (slots id : ℕ)
       let sized = (known shows size s r id w m.0 there mine).0 in
       let box : ℕ → ℕ = λ d. box_of k (suc d) in
       let did = looked s r there held n found h gives
-      (λ C. subst (λ l. Boxed shows size.seats x.notes (shown x) x.claims x.append
+      (λ C. subst (λ l. Boxed shows size.seats x.notes (shown r.kept_to x) x.claims x.append
       (put_back s.homes l) (set s.views id v')) (sym (holds ∙ (λ i. (box (now i), y) ∷ cs)))
       (boxed_give_back shows size.seats x.notes
-      (shown x) x.claims x.claims x.append x.append s.homes s.views r.boxed id w m.0 v' there
+      (shown r.kept_to x) x.claims x.claims x.append x.append s.homes s.views r.boxed id w m.0 v' there
       mine refl out (C.append ∙ out) held
       (sym (is_some_held v'.part) ∙ (ap (λ (o : Option Issue). is_some o) C.issue
       ∙ (is_some_held m.0.part ∙ held))) (others_free shows size slots id m w mine s r there held)

@@ -155,7 +155,7 @@ module _ {K : Type 0} (shows : K → Lasting) (size : PathSize) (slots id : ℕ)
         → seat_after m.0.part e (reading_at (place_of e) found) false
         ≡ seat_after m.0.part e (reading x (place_of e)) (gives_file x e)
         → (Columns e m.0.part (view_after m.0 e found false).part
-        → Boxed shows size.seats (next_of x e).notes (shown (next_of x e)) (next_of x e).claims
+        → Boxed shows size.seats (next_of x e).notes (shown r.kept_to (next_of x e)) (next_of x e).claims
         (next_of x e).append s.homes (set s.views id (view_after m.0 e found false)))
         → (then : Me (Slot K) View → Type 0)
         → (Was m.0 w e → then (view_after m.0 e found false, m.1))
@@ -188,7 +188,7 @@ module _ {K : Type 0} (shows : K → Lasting) (size : PathSize) (slots id : ℕ)
         (ap (λ k. seat_after m.0.part (Look w at) k false)
         (ap (reading_at at) found ∙ read_back x L at))
         (λ C. boxed_stay shows size.seats x.notes
-        (shown x) x.claims x.claims x.append x.append s.homes s.views r.boxed id w m.0
+        (shown r.kept_to x) x.claims x.claims x.append x.append s.homes s.views r.boxed id w m.0
         (view_after m.0 (Look w at) n false) there mine refl refl refl
         (λ i g l _ _. (l, refl)) refl C.append C.issue refl)
         then (λ u. give ((refl, u), refl)

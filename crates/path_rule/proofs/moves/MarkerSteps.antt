@@ -97,7 +97,7 @@ module _ {K : Type 0} (shows : K → Lasting) (size : PathSize) (slots id : ℕ)
         tt,
         plays shows size s r id w m.0 there mine e refl may tt tt
             (rows_stay x e may (λ q. q) r.rows) to to false refl refl h m.1 keeps
-            (boxed_goes shows size.seats x.notes (shown x) x.claims
+            (boxed_goes shows size.seats x.notes (shown r.kept_to x) x.claims
             (next_of x e).claims x.append x.append s.homes s.views B id w m.0 v' there mine refl
             out out held (still _ m.0.part.sync held)
             (others_free shows size slots id m w mine s r there held)

@@ -69,6 +69,7 @@ use Rattle.path_rule.specs.declared.view.Role.{Role}
 use Rattle.path_rule.specs.declared.view.Role.TheVariants.{Opener, Steps, Spent}
 use Rattle.path_rule.specs.declared.view.View.{View}
 use Rattle.path_rule.specs.Boxed.{Boxed}
+use Rattle.path_rule.specs.Kept.{MayBeKept}
 use Rattle.path_rule.specs.Lasts.{shown}
 use Rattle.path_rule.specs.Layout.{word_at, IsWord, word_of, reading_at}
 use Rattle.path_rule.specs.Rule.{
@@ -86,6 +87,7 @@ use Rattle.path_rule.specs.Rule.{
   with_hands,
   Was,
 }
+use Rattle.path_rule.proofs.log.KeptStays.{kept_stays}
 use Rattle.path_rule.proofs.places.SamePlace.{same_place, in_rows}
 
 steps_own : (w : ℕ) (es : List Event) (e : Event) → by_of e ≡ w
@@ -212,11 +214,12 @@ module _ {K : Type 0} (shows : K → Lasting) (size : PathSize) (s : State (Slot
                 (other_is j b.number b.part b.trail n q.0, q.1),
           )
 
-      pub plays : (cs : List (ℕ × Slot K)) (a : Act (Slot K))
-          → Boxed shows size.seats x'.notes (shown x') x'.claims x'.append
+      -- with what the keeper may have kept up to a key
+      pub plays_to : (key : ℕ) → MayBeKept x' key → (cs : List (ℕ × Slot K)) (a : Act (Slot K))
+          → Boxed shows size.seats x'.notes (shown key x') x'.claims x'.append
           (homes_after s.homes cs a) (set s.views id v')
           → Ruled shows size (stepped s (word_at (place_of e)) n id cs v' a)
-      plays cs a boxed = record {
+      plays_to key may_be cs a boxed = record {
         core = x';
         events = es';
         owner = r.owner;
@@ -243,6 +246,8 @@ module _ {K : Type 0} (shows : K → Lasting) (size : PathSize) (s : State (Slot
           other_seat r.core e z (λ q. absurd (omega arith)) ∙ f.1,
         );
         deep = homes_length s.homes cs a ∙ r.deep;
+        kept_to = key;
+        may_be_kept = may_be;
         boxed = boxed;
         each_seat = λ j u p. ⊎_elim
             (λ (t : (j ≡ id) × (v' ≡ u)). let P : ℕ × View
@@ -263,3 +268,11 @@ module _ {K : Type 0} (shows : K → Lasting) (size : PathSize) (s : State (Slot
             (k.0, others_know j u t.0 k.1))
             (at_set s.views id j v' u p);
       }
+
+      -- with what it may have kept before
+      pub plays : (cs : List (ℕ × Slot K)) (a : Act (Slot K))
+          → Boxed shows size.seats x'.notes (shown r.kept_to x') x'.claims x'.append
+          (homes_after s.homes cs a) (set s.views id v')
+          → Ruled shows size (stepped s (word_at (place_of e)) n id cs v' a)
+      plays cs a boxed = plays_to r.kept_to
+          (kept_stays r.core core_lawful e may r.kept_to r.may_be_kept) cs a boxed

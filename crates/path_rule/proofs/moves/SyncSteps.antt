@@ -58,10 +58,11 @@ use Rattle.path_rule.specs.Told.{MadeAs}
 use Rattle.path_rule.specs.TurnTold.{SyncedPut}
 use Rattle.path_rule.specs.Turns.{IsBarred, TurnRuns}
 use Rattle.path_rule.proofs.boxes.DeskChanged.{boxed_desk_turns}
+use Rattle.path_rule.proofs.log.KeptStays.{none_kept}
 use Rattle.path_rule.proofs.log.Lending.{parts_of, left_pending, counts}
 use Rattle.path_rule.proofs.moves.HolderFacts.{outside, others_free, is_held, hands_now}
 use Rattle.path_rule.proofs.moves.Looks.{each_seat_name}
-use Rattle.path_rule.proofs.moves.Moving.{core_lawful, was, plays}
+use Rattle.path_rule.proofs.moves.Moving.{core_lawful, was, plays_to}
 use Rattle.path_rule.proofs.moves.SyncFacts.{turn_exact, settled}
 use Rattle.path_rule.proofs.places.ReadBack.{rows_stay}
 
@@ -70,10 +71,12 @@ desk_same : {K : Type 0} (shows : K → Lasting) (y z : Slot K) (l k : Lasting) 
     (f : Progress) → y ≡ z → DeskIs shows y l p f → DeskIs shows z k q f → (l ≡ k) × (p ≡ q)
 desk_same shows (Notes n) z l k p q f e a b = absurd a
 desk_same shows (Turn d) (Notes n) l k p q f e a b = absurd b
-desk_same shows (Turn d) (Turn c) l k p q f e a b = let same : d ≡ c = cc in
-    (sym a.0 ∙ (ap (λ t. shows t.keeper) same ∙ b.0), sym a.1 ∙ (ap (λ t. t.pending) same ∙ b.1))
+desk_same shows (Turn d) (Turn c) l k p q f e a b = let same : d ≡ c = cc in (
+  sym a.0 ∙ (ap (λ t. shows t.keeper) same ∙ b.0),
+  sym a.1 ∙ (ap (λ t. t.lent.items ++ t.gathered) same ∙ b.1),
+)
 
-abbrev top_box : {K : Type 0} → Slot K → List (ℕ × Slot K) → Slot K
+abbrev pub top_box : {K : Type 0} → Slot K → List (ℕ × Slot K) → Slot K
 top_box d [] = d
 top_box d (c ∷ cs) = c.1
 
@@ -104,8 +107,12 @@ module _ {K : Type 0} (shows : K → Lasting) (size : PathSize) (slots id : ℕ)
       λ n h. B.unlogged n (inl h) in
       let once : (k : ℕ) → ends_at k B.pending ≤ 1 = λ k. let a =
       B.alone k 0 1 (λ q. absurd (omega arith)) in omega arith in
-      let now : shown (next_of x e) ≡ more_lasting (ends run) value m.0.hands.lasting =
-      (λ j. more_lasting (ends (is j)) value (sym D.0 j)) in
+      let now_is : more_lasting (ends run) value (shown r.kept_to x) ≡ shown value (next_of x e) =
+      (λ j. record (more_lasting (ends (sym is j)) value (shown r.kept_to x)) {
+        kept = sym (none_kept value value x.notes (omega arith)) j;
+      }) in
+      let now : shown value (next_of x e) ≡ more_lasting (ends run) value m.0.hands.lasting =
+      sym now_is ∙ (λ j. more_lasting (ends run) value (sym D.0 j)) in
       let h = with_desk (more_lasting (ends run) value m.0.hands.lasting) left m.0.hands.progress
       m.0.hands in let v' = with_hands h (view_after m.0 e value false) in
       let out = outside shows size slots id m w mine s r there held in
@@ -114,10 +121,8 @@ module _ {K : Type 0} (shows : K → Lasting) (size : PathSize) (slots id : ℕ)
       (λ b. let o = map_from (λ (n : EntryNote). n.end.0) run q.end.0 b in
       inr (let k = P.low o.0 o.1 in let z = o.2 in omega arith))
       (Contains-append_cases x.logged (ends run) q.end.0 h) in
-      let now_is : more_lasting (ends run) value (shown x) ≡ shown (next_of x e) =
-      (λ j. more_lasting (ends (sym is j)) value (shown x)) in
-      let boxed = boxed_desk_turns shows size.seats x.notes (shown x)
-      (more_lasting (ends run) value (shown x)) x.claims x.append s.homes s.views B id w m.0 v'
+      let boxed = boxed_desk_turns shows size.seats x.notes (shown r.kept_to x)
+      (more_lasting (ends run) value (shown r.kept_to x)) x.claims x.append s.homes s.views B id w m.0 v'
       there mine refl out out held (still_some m.0.part.sync held) empty empty
       (others_free shows size slots id m w mine s r there held) left
       ((λ j. more_lasting (ends run) value (D.0 j)), refl, D.2) refl
@@ -137,8 +142,9 @@ module _ {K : Type 0} (shows : K → Lasting) (size : PathSize) (slots id : ℕ)
         v',
         keeps,
         tt,
-        plays shows size s r id w m.0 there mine e refl may tt tt
-            (rows_stay x e may (λ q. q) r.rows) value value false refl refl h m.1 keeps
+        plays_to shows size s r id w m.0 there mine e refl may tt tt
+            (rows_stay x e may (λ q. q) r.rows) value value false refl refl h value
+            (inl (omega arith)) m.1 keeps
             (subst (λ q. Boxed shows size.seats x.notes q x.claims x.append s.homes
             (set s.views id v')) now_is boxed),
         (λ z lasting pending role C. let d = desk_same shows y C.0
@@ -148,7 +154,7 @@ module _ {K : Type 0} (shows : K → Lasting) (size : PathSize) (slots id : ℕ)
             λ z lasting pending. MadeAs z (Put z Synced value) value
             (with_desk lasting pending m.0.hands.progress m.0.hands) m.0 v' × (m.1 ≡ m.1)
             × ((was : Was m.0 z (Put z Synced value))
-            × (shown (next_of was.core (Put z Synced value)) ≡ lasting)) in
+            × (shown value (next_of was.core (Put z Synced value)) ≡ lasting)) in
             each_seat_name shows size slots id m w mine (λ z. Q z lasting pending)
             (subst (λ (q : Lasting × List EntryNote). Q w q.0 q.1) (λ j. (d.0 j, d.1 j)) (
               (refl, was shows size s r id w m.0 there mine e may tt),

@@ -66,7 +66,7 @@ module _ {K : Type 0} (shows : K → Lasting) (size : PathSize) (slots id : ℕ)
       let then = SyncTaken shows (step slots 7 0 1 none) m n in
       exchanged n 0 1 (λ z. Owes shows size slots id m w mine s 7 z then)
       (λ hit. let e = TakeTurn w Sync in let is = as_part shows size slots id m w mine s r there in
-      let h = with_desk (shown x) r.boxed.pending r.boxed.progress m.0.hands in
+      let h = with_desk (shown r.kept_to x) r.boxed.pending r.boxed.progress m.0.hands in
       let v' = with_hands h (view_after m.0 e 1 false) in
       let free = unheld x Sync (ap Number (sym (r.words (TurnWord Sync) tt) ∙ hit)) in
       let in_it = within shows size slots id m w mine s r there in
@@ -83,7 +83,7 @@ module _ {K : Type 0} (shows : K → Lasting) (size : PathSize) (slots id : ℕ)
         plays shows size s r id w m.0 there mine e refl may tt tt
             (rows_stay x e may (λ q. q) r.rows) 1 1 false refl refl h m.1 (takes desk_box home.0)
             (boxed_desk_take shows size.seats x.notes
-            (shown x) x.claims x.append s.homes s.views r.boxed id w m.0 v' there mine refl
+            (shown r.kept_to x) x.claims x.append s.homes s.views r.boxed id w m.0 v' there mine refl
             idle.append idle.append empty empty refl refl (refl, refl, refl)),
         each_seat_name shows size slots id m w mine
             (λ z. (n ≡ 0 → ((lasting : Lasting) × (pending : List EntryNote) × (marks : Progress)
@@ -92,7 +92,7 @@ module _ {K : Type 0} (shows : K → Lasting) (size : PathSize) (slots id : ℕ)
             × (n ≢ 0 → Made z (Look z (TurnWord Sync)) n m (v', (desk_box, home.0) ∷ m.1))) (
               (λ _. (
                 (
-                  shown x,
+                  shown r.kept_to x,
                   r.boxed.pending,
                   r.boxed.progress,
                   (refl, was shows size s r id w m.0 there mine e may tt),
@@ -128,10 +128,8 @@ module _ {K : Type 0} (shows : K → Lasting) (size : PathSize) (slots id : ℕ)
         row =
             (has, own_part shows size slots id m w mine s r there issue_of Rest rest_now);
       } in
-      let same : shown x ≡ shown (next_of x e) =
-      ap (λ (b : Bool). record {
-        logged = x.logged;
-        synced = x.synced;
+      let same : shown r.kept_to x ≡ shown r.kept_to (next_of x e) =
+      ap (λ (b : Bool). record (shown r.kept_to x) {
         dropped = cond b
             (x.dropped ++ newly_dropped x) x.dropped;
       })
@@ -145,10 +143,10 @@ module _ {K : Type 0} (shows : K → Lasting) (size : PathSize) (slots id : ℕ)
             (rows_stay x e may (λ q. q) r.rows) 0 0 false refl refl h m.1 gives
             (subst (λ q. Boxed shows size.seats x.notes q x.claims x.append (put_back s.homes m.1)
             (set s.views id v')) same (subst
-            (λ l. Boxed shows size.seats x.notes (shown x) x.claims x.append
+            (λ l. Boxed shows size.seats x.notes (shown r.kept_to x) x.claims x.append
             (put_back s.homes l) (set s.views id v')) (sym holds)
             (boxed_desk_give shows size.seats x.notes
-            (shown x) x.claims x.append s.homes s.views r.boxed id w m.0 v' there mine refl out
+            (shown r.kept_to x) x.claims x.append s.homes s.views r.boxed id w m.0 v' there mine refl out
             out empty empty refl y refl held fits r.deep))),
         each_seat_name shows size slots id m w mine
             (λ z. MadeAs z (GiveTurn z Sync) 0 h m.0 v' × (rest m.1 ≡ rest m.1))

@@ -22,6 +22,7 @@ use Rattle.std.proofs.Common.{
 }
 use Rattle.std.proofs.lemmas.List.{length-replicate, length-map}
 use Rattle.std.specs.List.{Contains}
+use mathlib.Core.Logic.{inl}
 use mathlib.Core.Option.{some, some-injective, some-ne-none}
 use lib.ListN.{get_elem?}
 use Rattle.atomic_table.proofs.Lists.{at_map}
@@ -51,7 +52,7 @@ module _ {K : Type 0} (shows : K → Lasting) where
   some_at (y ∷ ys) (suc b) l = some_at ys b (omega arith)
 
   pub begins : (size : PathSize) (xs : List (Slot K)) → IsFit size → length xs ≡ boxes size.seats
-      → AreFirst shows xs → Ruled shows size (opening first_words xs (opener 0 size))
+      → AreFirst shows size xs → Ruled shows size (opening first_words xs (opener 0 size))
   begins size xs fit long first = record {
     core = start_of size;
     events = [];
@@ -70,6 +71,8 @@ module _ {K : Type 0} (shows : K → Lasting) where
     long = length-replicate size.seats fresh_seat;
     enough = omega arith;
     deep = length-map xs some ∙ long;
+    kept_to = 0;
+    may_be_kept = inl (omega arith);
     boxed = record {
       contents = λ _. [];
       stamp = λ _. 0;
@@ -99,10 +102,10 @@ module _ {K : Type 0} (shows : K → Lasting) where
       few Append = omega arith
 
       first_hands : (j : ℕ) (u : View) → get_elem? (opener 0 size ∷ []) j ≡ some u
-          → HandsAs (λ _. []) none_lasting [] first_progress
+          → HandsAs (λ _. []) (none_lasting size) [] first_progress
           (start_of size).append size.seats u.part u.hands u.role
       first_hands zero u e = let P : View → Type 0 =
-          λ y. HandsAs (λ _. []) none_lasting [] first_progress
+          λ y. HandsAs (λ _. []) (none_lasting size) [] first_progress
           (start_of size).append size.seats y.part y.hands y.role in
           subst P (some-injective (opener 0 size) u e) tt
       first_hands (suc j) u e = absurd (some-ne-none u (sym e))
@@ -117,12 +120,12 @@ module _ {K : Type 0} (shows : K → Lasting) where
           (refl, (refl, refl, λ n b e'. absurd (some-ne-none b (sym e'))))
       first_view (suc j) u e = absurd (some-ne-none u (sym e))
 
-  pub first_more : (xs : List (Slot K)) (l : List EntryNote) → l ≡ [] → 0 < length xs
-      → AreFirst shows xs → AreFirst shows (xs ++ Notes l ∷ [])
-  first_more xs l none_yet more F = record {
+  pub first_more : (size : PathSize) (xs : List (Slot K)) (l : List EntryNote) → l ≡ []
+      → 0 < length xs → AreFirst shows size xs → AreFirst shows size (xs ++ Notes l ∷ [])
+  first_more size xs l none_yet more F = record {
     each = λ b y e. ⊎_elim (λ old. F.each b y old)
         (λ (t : (Notes l ≡ y) × (b ≡ length xs)). subst
-        (λ z. (b ≡ 0 → DeskIs shows z none_lasting [] first_progress) × (0 < b → NotesAre z []))
+        (λ z. (b ≡ 0 → DeskIs shows z (none_lasting size) [] first_progress) × (0 < b → NotesAre z []))
         t.0 ((λ zero_b. absurd (let q = t.1 in omega arith)), (λ _. none_yet)))
         (at_end xs (Notes l) y b e);
   }

@@ -81,7 +81,7 @@ module _ {K : Type 0} (shows : K → Lasting) (size : PathSize) (id : ℕ) (v : 
     sized = subst (λ ρ. SizedAs size ρ v.size) role (r.each_seat id v at).0
 
     abbrev Hand : View → Type 0
-    Hand y = HandsAs r.boxed.contents (shown r.core) r.boxed.pending r.boxed.progress r.core.append
+    Hand y = HandsAs r.boxed.contents (shown r.kept_to r.core) r.boxed.pending r.boxed.progress r.core.append
         size.seats y.part y.hands y.role
 
     new_hands : (w : ℕ) (z : PathSize) → Hand (new_seat w z)
@@ -116,8 +116,10 @@ module _ {K : Type 0} (shows : K → Lasting) (size : PathSize) (id : ℕ) (v : 
           enough = omega arith;
           words = r.words;
           deep = r.deep;
+          kept_to = r.kept_to;
+          may_be_kept = r.may_be_kept;
           boxed = reboxed shows size.seats r.core.notes
-              (shown r.core) r.core.claims r.core.append s.homes s.views
+              (shown r.kept_to r.core) r.core.claims r.core.append s.homes s.views
               (set s.views id (handing v) ++ handed v ∷ []) r.boxed
               (λ b free j u e h. dite (ℕ_discrete j id)
               (λ same. let u_is : u ≡ v = some-injective u v
@@ -130,7 +132,7 @@ module _ {K : Type 0} (shows : K → Lasting) (size : PathSize) (id : ℕ) (v : 
               (λ old. ⊎_elim
               (λ (t : (j ≡ id) × (handing v ≡ u)). subst Hand t.1
               (subst (HandsAs r.boxed.contents
-              (shown r.core) r.boxed.pending r.boxed.progress r.core.append size.seats v.part
+              (shown r.kept_to r.core) r.boxed.pending r.boxed.progress r.core.append size.seats v.part
               v.hands) (sym (ap one_on role)) tt))
               (λ (t : (j ≢ id) × (get_elem? s.views j ≡ some u)). r.boxed.in_hands j u t.1)
               (at_set s.views id j (handing v) u old))

@@ -23,6 +23,7 @@ use lib.ListN.{get_elem?}
 use Rattle.atomic_table.specs.Table.{State, Final, Seen}
 use Rattle.path_core.specs.declared.event.Place.TheVariants.{Log}
 use Rattle.path_core.specs.declared.note.EntryNote.{EntryNote}
+use Rattle.path_core.specs.Keeper.{Holding}
 use Rattle.path_core.specs.Parts.{seat_of}
 use Rattle.path_core.specs.Runs.{Past}
 use Rattle.path_rule.specs.declared.lasting.Lasting.{Lasting}
@@ -34,7 +35,7 @@ use Rattle.path_rule.specs.declared.view.Role.{Role}
 use Rattle.path_rule.specs.declared.view.Role.TheVariants.{Opener, Steps, Spent}
 use Rattle.path_rule.specs.declared.view.View.{View}
 use Rattle.path_rule.specs.Boxes.{HoldsAs, HoldsBox, IsFree, DeskIs}
-use Rattle.path_rule.specs.Lasts.{shown}
+use Rattle.path_rule.specs.Lasts.{lasting_of, shown}
 use Rattle.path_rule.specs.Rule.{start_of, Knows, Ruled, event_of, steps_by}
 use Rattle.path_rule.specs.Sharing.{Ended, HasAll}
 use Rattle.path_rule.proofs.moves.Moving.{core_lawful}
@@ -74,17 +75,17 @@ module _ {K : Type 0} (shows : K → Lasting) where
         → (y : Slot K) × (get_elem? xs 0 ≡ some y)
         × ((pending : List EntryNote) × (gathered : Progress)
         × (f : Final (Seen (Ruled shows key) id v) ws xs)
-        × DeskIs shows y (shown f.1.0.core) pending gathered)
+        × DeskIs shows y (shown f.1.0.kept_to f.1.0.core) pending gathered)
     desk_home ws xs f = let r : Ruled shows key f.0 = f.1.0 in
         let y = r.boxed.at_home 0 (omega arith) (free_all f.0 r f.1.1 0) in
         (y.0, f.4 0 y.0 y.1, (r.boxed.pending, r.boxed.progress, f, y.2.desk refl))
 
-  pub ends_by : (size key : PathSize) (id w log : ℕ) (lasting : List ℕ) (v : View) (ws : List ℕ)
+  pub ends_by : (size key : PathSize) (id w log : ℕ) (keeper : Holding) (v : View) (ws : List ℕ)
       (xs : List (Slot K)) → key ≡ size → v.role ≡ Steps w
       → (f : Final (Seen (Ruled shows key) id v) ws xs) → get_elem? ws 4 ≡ some log
-      → lasting ≡ f.1.0.core.logged
-      → Ended size (record { number = w; part = v.part; trail = v.trail } ∷ v.returned) log lasting
-  ends_by size key id w log lasting v ws xs same role f e kept = let s = f.0 in
+      → lasting_of keeper ≡ shown f.1.0.kept_to f.1.0.core
+      → Ended size (record { number = w; part = v.part; trail = v.trail } ∷ v.returned) log keeper
+  ends_by size key id w log keeper v ws xs same role f e kept = let s = f.0 in
       let r : Ruled shows key s = f.1.0 in
       let k = subst (λ ρ. Knows r.core r.events r.owner r.made r.boss id ρ v.part v.trail
       v.returned) role (r.each_seat id v f.1.1).1 in record {
@@ -94,6 +95,8 @@ module _ {K : Type 0} (shows : K → Lasting) where
         lawful = core_lawful shows key s r;
         log_is = sym (at_four ws 4 log e) ∙
             (ap (λ (l : List ℕ). slice_index l 4) (sym f.2) ∙ r.words Log tt);
+        kept_to = r.kept_to;
+        may_be_kept = r.may_be_kept;
         lasting_is = kept;
         each = one s r k;
       }

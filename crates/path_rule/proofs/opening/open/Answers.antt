@@ -2,11 +2,12 @@ use Rattle.std.proofs.Common.{ℕ, List, sym, ◌∙◌, subst}
 use Rattle.atomic_table.specs.Table.{opening}
 use Rattle.path_rule.specs.Rule.{opener, Ruled}
 use Rattle.path_rule.proofs.seats.Begins.{begins}
+use Rattle.path_rule.specs.Lasts.{shows_of}
 use Rattle.path_rule.proofs.opening.open.Goals as goal
 
 pub new-requires : goal.new-requires
 new-requires g c = let size = c.args.size in let ys = c.in_ok-boxes.boxes.items in
     let b = c.in_ok-boxes.ensures in
-    subst (λ (ws : List ℕ). Ruled g.K.Keeper.shown size (opening ws ys (opener 0 size)))
+    subst (λ (ws : List ℕ). Ruled (shows_of g.K.Keeper.holds) size (opening ws ys (opener 0 size)))
     (sym (c.as_slice.ensures.value ∙ c.in_ok-words.ensures))
-    (begins g.K.Keeper.shown size ys c.requires.fit b.0 b.1)
+    (begins (shows_of g.K.Keeper.holds) size ys c.requires.fit b.0 b.1)

@@ -3,6 +3,7 @@ use Rattle.op_core.specs.declared.count.Order.TheVariants.{Append}
 use Rattle.path_core.specs.declared.event.Place.TheVariants.{Count}
 use Rattle.path_rule.specs.declared.view.View.{View}
 use Rattle.path_rule.proofs.moves.Looks.{looks}
+use Rattle.path_rule.specs.Lasts.{shows_of}
 use Rattle.path_rule.proofs.table.PathTable.look_appenders.Goals as goal
 
 pub load-requires : goal.load-requires
@@ -11,7 +12,7 @@ load-requires g c = let t = c.args.self.now in let m = c.args.member.now in
       c.requires.table.0,
       let f = c.requires.group.0 in
           omega arith,
-      looks g.K.Keeper.shown k t.table.shared.table_id.slots m.seat.id m.seat.me m.number
+      looks (shows_of g.K.Keeper.holds) k t.table.shared.table_id.slots m.seat.id m.seat.me m.number
           m.role (Count Append c.args.group) c.requires.group.0 c.requires.group.1,
     )
 

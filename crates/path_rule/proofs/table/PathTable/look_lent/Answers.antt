@@ -1,8 +1,9 @@
 use Rattle.std.proofs.Common.{refl, sym, ap, ◌∙◌, subst, arith}
 use Rattle.path_rule.specs.declared.view.View.{View}
 use Rattle.path_rule.specs.Turns.{TurnRuns}
-use Rattle.path_rule.proofs.moves.LogStops.{looks_lent}
+use Rattle.path_rule.proofs.moves.LentLooks.{looks_lent}
 use Rattle.path_rule.proofs.seats.CursorKnows.{synced_seen}
+use Rattle.path_rule.specs.Lasts.{shows_of}
 use Rattle.path_rule.proofs.table.PathTable.look_lent.Goals as goal
 
 pub load-requires : goal.load-requires
@@ -10,7 +11,7 @@ load-requires g c = let t = c.args.self.now in let m = c.args.member.now in
     let k = t.table.shared.key in let wide = t.wide in (
       c.requires.table.0,
       omega arith,
-      looks_lent g.K.Keeper.shown k t.table.shared.table_id.slots
+      looks_lent (shows_of g.K.Keeper.holds) k t.table.shared.table_id.slots
           m.seat.id m.seat.me m.number m.role c.requires.turn.0.0 c.requires.turn.0.1
           c.requires.turn.0.2
           c.requires.turn.1,

@@ -4,6 +4,7 @@ use Rattle.path_core.specs.declared.event.Place.TheVariants.{CursorWord}
 use Rattle.path_rule.specs.declared.view.View.{View}
 use Rattle.path_rule.proofs.moves.Looks.{looks}
 use Rattle.path_rule.proofs.seats.CursorKnows.{StoppedSeen, stopped_seen}
+use Rattle.path_rule.specs.Lasts.{shows_of}
 use Rattle.path_rule.proofs.table.PathTable.look_stopped.Goals as goal
 
 pub load-requires : goal.load-requires
@@ -11,7 +12,7 @@ load-requires g c = let t = c.args.self.now in let m = c.args.member.now in
     let k = t.table.shared.key in let wide = t.wide in (
       c.requires.table.0,
       omega arith,
-      looks g.K.Keeper.shown k t.table.shared.table_id.slots
+      looks (shows_of g.K.Keeper.holds) k t.table.shared.table_id.slots
           m.seat.id m.seat.me m.number m.role (CursorWord Stopped) tt tt,
     )
 

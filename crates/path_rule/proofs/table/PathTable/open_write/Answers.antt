@@ -6,6 +6,7 @@ use Rattle.path_rule.specs.Calls.{Holds}
 use Rattle.path_rule.specs.Turns.{TurnSaw}
 use Rattle.path_rule.proofs.moves.WriteBarriers.{opens_write}
 use Rattle.path_rule.proofs.seats.HolderIssues as know
+use Rattle.path_rule.specs.Lasts.{shows_of}
 use Rattle.path_rule.proofs.table.PathTable.open_write.Goals as goal
 
 pub store-requires : goal.store-requires
@@ -14,7 +15,7 @@ store-requires g c = let t = c.args.self.now in let m = c.args.member.now in
       c.requires.table.0,
       let f = c.requires.turn.3 in
           omega arith,
-      opens_write g.K.Keeper.shown k t.table.shared.table_id.slots m.seat.id m.seat.me
+      opens_write (shows_of g.K.Keeper.holds) k t.table.shared.table_id.slots m.seat.id m.seat.me
           m.number m.role c.args.group c.args.current c.requires.turn.0.held c.requires.turn.0.issue
           c.requires.turn.1 c.requires.turn.2 c.requires.turn.0.empty c.requires.turn.3,
     )

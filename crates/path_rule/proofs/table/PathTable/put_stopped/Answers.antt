@@ -1,21 +1,22 @@
 use Rattle.std.proofs.Common.{refl, ap, ◌∙◌, arith}
 use Rattle.path_rule.specs.declared.view.View.{View}
-use Rattle.path_rule.proofs.moves.LogStops.{halts}
+use Rattle.path_rule.specs.Lasts.{shows_of}
+use Rattle.path_rule.proofs.moves.RefusedSyncs.{halts}
 use Rattle.path_rule.proofs.table.PathTable.put_stopped.Goals as goal
 
 pub store-requires : goal.store-requires
 store-requires g c = let t = c.args.self.now in let m = c.args.member.now in
-    let k = t.table.shared.key in let wide = t.wide in (
+    let k = t.table.shared.key in let wide = t.wide in let d = c.requires.desk in (
       c.requires.table.0,
       omega arith,
-      halts g.K.Keeper.shown k t.table.shared.table_id.slots
-          m.seat.id m.seat.me m.number m.role c.args.value c.requires.turn.0 c.requires.turn.1
-          c.requires.turn.2 c.requires.value.0 c.requires.value.1,
+      halts (shows_of g.K.Keeper.holds) k t.table.shared.table_id.slots
+          m.seat.id m.seat.me m.number m.role c.args.upto c.requires.turn.0 c.requires.turn.1
+          c.requires.turn.2 c.requires.marker d.0 d.1 d.2 d.3 c.args.value c.requires.value d.4,
     )
 
 pub invariant_of-member : goal.invariant_of-member
 invariant_of-member g c = let m = c.args.member.now in let d = c.store.ensures.2 m.number m.role in
-    record { role = ap (λ (v : View). v.role) d.0.0 ∙ m.role }
+    record { role = ap (λ (v : View). v.role) d.0.2.0 ∙ m.role }
 
 pub returns-clause-same : goal.returns-clause-same
 returns-clause-same g c = let m = c.args.member.now in let d = c.store.ensures.2 m.number m.role in
@@ -23,4 +24,4 @@ returns-clause-same g c = let m = c.args.member.now in let d = c.store.ensures.2
 
 pub returns-clause-step : goal.returns-clause-step
 returns-clause-step g c = let m = c.args.member.now in let d = c.store.ensures.2 m.number m.role in
-    record { view = d.0.0; was = d.0.1 }
+    (d.0.0, d.0.1, record { view = d.0.2.0; was = d.0.2.1 }, d.0.3)

@@ -1,7 +1,7 @@
 use Rattle.std.proofs.Common.{refl, ap, ◌∙◌, arith}
 use Rattle.atomic_table.specs.Table.{rest}
 use Rattle.path_rule.specs.declared.view.View.{View}
-use Rattle.path_rule.specs.Lasts.{more_lasting, ends}
+use Rattle.path_rule.specs.Lasts.{more_lasting, ends, shows_of}
 use Rattle.path_rule.proofs.moves.SyncSteps.{syncs}
 use Rattle.path_rule.proofs.table.PathTable.put_synced.Goals as goal
 
@@ -10,7 +10,7 @@ store-requires g c = let t = c.args.self.now in let m = c.args.member.now in
     let k = t.table.shared.key in let wide = t.wide in let d = c.requires.desk in (
       c.requires.table.0,
       omega arith,
-      syncs g.K.Keeper.shown k t.table.shared.table_id.slots
+      syncs (shows_of g.K.Keeper.holds) k t.table.shared.table_id.slots
           m.seat.id m.seat.me m.number m.role c.args.value d.0 d.1 d.3.0
           (rest m.seat.me.1) c.requires.turn.0 c.requires.turn.1 c.requires.turn.2 c.requires.marker
           d.2

@@ -1,6 +1,7 @@
 use Rattle.std.proofs.Common.{◌≡◌, ap, arith}
 use Rattle.path_rule.specs.declared.view.PathSize.{PathSize}
 use Rattle.path_rule.proofs.seats.Dealing.{deals}
+use Rattle.path_rule.specs.Lasts.{shows_of}
 use Rattle.path_rule.proofs.table.PathTable.seat.Goals as goal
 
 pub split_seat-seat-requires : goal.split_seat-seat-requires
@@ -9,6 +10,6 @@ split_seat-seat-requires g c = let t = c.args.self.now in let m = c.args.opener.
     ap (λ (z : PathSize). z.seats) t.keyed in let wide = t.wide in let left = c.requires.left in (
       c.requires.table.0,
       omega arith,
-      deals g.K.Keeper.shown k m.seat.id m.seat.me.0 m.made m.role
+      deals (shows_of g.K.Keeper.holds) k m.seat.id m.seat.me.0 m.made m.role
           (omega arith),
     )

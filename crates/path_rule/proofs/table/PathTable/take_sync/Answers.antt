@@ -3,6 +3,7 @@ use mathlib.Core.Logic.{dite}
 use native.Mathlib.Decide.{ℕ_discrete}
 use Rattle.path_rule.specs.declared.view.View.{View}
 use Rattle.path_rule.proofs.moves.TurnSteps.{takes_sync}
+use Rattle.path_rule.specs.Lasts.{shows_of}
 use Rattle.path_rule.proofs.table.PathTable.take_sync.Goals as goal
 
 pub compare_exchange-requires : goal.compare_exchange-requires
@@ -10,7 +11,7 @@ compare_exchange-requires g c = let t = c.args.self.now in let m = c.args.member
     let k = t.table.shared.key in let wide = t.wide in (
       c.requires.table.0,
       omega arith,
-      takes_sync g.K.Keeper.shown k t.table.shared.table_id.slots
+      takes_sync (shows_of g.K.Keeper.holds) k t.table.shared.table_id.slots
           m.seat.id m.seat.me m.number m.role c.requires.idle.0 c.requires.idle.1,
     )
 

@@ -1,0 +1,30 @@
+use Rattle.std.proofs.Common.{◌∷◌, refl, ap, ◌∙◌}
+use Rattle.atomic_table.specs.Table.{rest}
+use Rattle.path_core.specs.Keeper.{is_stopped}
+use Rattle.path_rule.specs.declared.slot.Slot.{Slot}
+use Rattle.path_rule.specs.Boxes.{desk_box}
+use Rattle.path_rule.proofs.boxes.DeskLent.{lent_synced, lent_refused, on_ok, on_err}
+use Rattle.path_rule.proofs.table.PathTable.lend.Goals as goal
+
+pub returns-clause-synced : goal.returns-clause-synced
+returns-clause-synced g c = let m = c.args.member in
+    on_ok c.lend_pending-done.result _ _ (λ S. (
+      lent_synced g.K.Keeper.holds c.in-Turn.desk c.lend_pending-done.new.desk m.seat.me
+          c.args.upto c.requires.desk
+          (c.slot_mut.ensures.value
+          ∙ ap (λ (y : Slot _). (desk_box, y) ∷ rest m.seat.me.1) c.in-Turn.is)
+          c.lend_pending-done.ensures.progress S,
+      refl,
+    )) c.lend_pending-done.ensures.syncs
+
+pub returns-clause-refused : goal.returns-clause-refused
+returns-clause-refused g c = let m = c.args.member in
+    on_err c.lend_pending-done.result _ _ (λ S. (
+      lent_refused g.K.Keeper.holds c.in-Turn.desk c.lend_pending-done.new.desk m.seat.me
+          c.args.upto c.requires.desk
+          (c.slot_mut.ensures.value
+          ∙ ap (λ (y : Slot _). (desk_box, y) ∷ rest m.seat.me.1) c.in-Turn.is)
+          c.lend_pending-done.ensures.progress (is_stopped c.lend_pending-done.result)
+          c.lend_pending-done.ensures.stopped S,
+      refl,
+    )) c.lend_pending-done.ensures.refused
