@@ -10,3 +10,4 @@ pub mod FirstWords
 pub mod Ends
 pub mod HolderLooks
 pub mod HolderIssues
+pub mod MayGives

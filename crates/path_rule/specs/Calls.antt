@@ -17,6 +17,7 @@ use Rattle.std.specs.Prelude.{
   [],
   ◌∷◌,
   length,
+  Some,
   None,
   is_some,
   IsTrue,
@@ -27,6 +28,9 @@ use Rattle.path_core.specs.declared.event.Event.TheVariants.{Look, Register}
 use Rattle.path_core.specs.declared.event.Place.{Place}
 use Rattle.path_core.specs.declared.event.Place.TheVariants.{Count, Current}
 use Rattle.path_core.specs.declared.seat.Issue.{Issue}
+use Rattle.path_core.specs.declared.seat.Issue.TheVariants.{Rest}
+use Rattle.path_core.specs.declared.seat.SyncTurn.{SyncTurn}
+use Rattle.path_core.specs.Next.{has_filed}
 use Rattle.path_core.specs.Parts.{issue_of}
 use Rattle.path_core.specs.Words.{place_of}
 use Rattle.path_rule.specs.declared.view.Hands.{Hands}
@@ -83,6 +87,17 @@ pub record Holds (i : Issue) (v : View) : Type 0 where
   pub held : IsTrue (is_some v.part.sync)
   pub issue : issue_of v.part ≡ i
   pub empty : v.hands.box_taken ≡ None
+
+-- The seat holds the Sync turn, with no barrier under way and no box of another seat, and filed
+-- nothing while it held it: with the desk it may give the turn back.
+pub record MayGive (v : View) : Type 0 where
+  pub holds : Holds Rest v
+  pub unfiled : has_filed v.part ≡ false
+
+-- the synced key, which the holder of the turn put or found, is at or above this one
+abbrev pub IsSyncedTo : View → ℕ → Type 0
+IsSyncedTo v upto = (t : SyncTurn) × (k : ℕ) × (v.part.sync ≡ Some t) × (t.synced ≡ Some k)
+    × (upto ≤ k)
 
 -- The barrier of a group is passed: the seat found, or put, a later one as the oldest.
 abbrev pub IsPast : Order → View → ℕ → Type 0

@@ -58,7 +58,8 @@ abbrev pub HasAll : ℕ → ℕ → List Returned → Type 0
 HasAll seats w returned = (z : ℕ) → z < seats
     → (z ≡ w) ⊎ ((n : ℕ) × (b : Returned) × (get_elem? returned n ≡ some b) × (b.number ≡ z))
 
--- There is one run of the machine, which ends in a lawful state with this log key, and in which each
+-- There is one run of the machine, which ends in a lawful state with this log key, and in which
+-- each
 -- seat's steps are those that it made. The keeper holds what is lasting in that state: the entries,
 -- the synced key, what is dropped, and whether the log is stopped; and it may have kept the entries
 -- of a sync that was refused.

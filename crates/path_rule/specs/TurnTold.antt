@@ -64,7 +64,8 @@ abbrev pub MayLend : Lasting → ℕ → List EntryNote → Type 0
 MayLend lasting upto run = (h : Holding) → lasting_of h ≡ lasting → MayWrite h upto run
 
 -- In the state that the look at the synced key found, what was pending up to a key is exactly what
--- the machine would make lasting up to it, and the synced key may be put there. So the keeper on the
+-- the machine would make lasting up to it, and the synced key may be put there. So the keeper on
+-- the
 -- desk may be lent it.
 abbrev pub IsLent : View → ℕ → ℕ → ℕ → List EntryNote → Type 0
 IsLent v w synced upto run = (was : Was v w (Look w (CursorWord Synced)))
@@ -193,7 +194,8 @@ module _ {K : Type 0} (shows : K → Lasting) where
       × ((was : Was m.0 w (Put w Synced st.first))
       × (shown st.first (next_of was.core (Put w Synced st.first)) ≡ lasting))
 
-  -- A sync up to a key was refused: on the desk lies what was pending, in some order, and the keeper
+  -- A sync up to a key was refused: on the desk lies what was pending, in some order, and the
+  -- keeper
   -- shows what it did, but for what it has kept and whether it has stopped.
   abbrev pub CarriesRefused : ℕ → Bool → Me (Slot K) View → Type 0
   CarriesRefused upto stopped m = (kept : List EntryNote) × (pending : List EntryNote)

@@ -18,8 +18,9 @@ ghost use Rattle.std.specs.Prelude.{
 ghost use Rattle.atomic_table.specs.Table.{rest, turned};
 ghost use Rattle.path_core.specs.declared.note.EntryNote.{EntryNote};
 ghost use Rattle.path_core.specs.Keeper.{
+  Holding,
   IsParted,
-  MaySync,
+  MayWrite,
   Syncs,
   SyncRefused,
   TellsCounts,
@@ -66,9 +67,10 @@ fn move_all(
     Ok(())
 }
 
-// Lends the keeper of a desk all that is pending on it.
+// Lends the keeper of a desk all that is pending on it, in the order of the log.
 fn lend_pending<K: Keeper>(desk: &mut Desk<K>, upto: u64) -> Result<(), KeeperFault>
-    requires { MaySync (K.holds desk.old.keeper) upto (pending_on desk.old) }
+    requires { (run left : List EntryNote) → IsParted upto (pending_on desk.old) run left
+        → MayWrite (K.holds desk.old.keeper) upto run }
     ensures progress { desk.new.progress ≡ desk.old.progress }
     ensures syncs { OnOk result (Syncs (K.holds desk.old.keeper) (K.holds desk.new.keeper) upto
         (pending_on desk.old) (pending_on desk.new)) }
@@ -79,18 +81,19 @@ fn lend_pending<K: Keeper>(desk: &mut Desk<K>, upto: u64) -> Result<(), KeeperFa
         ≡ ((K.holds desk.old.keeper).stopped || is_stopped result) }
 {
     move_all(&mut desk.lent, &mut desk.gathered)?;
+    desk.lent.sort_unstable_by_key(|note| note.end.0);
     desk.keeper.sync(&mut desk.lent, Key(upto))
 }
 
 impl<K: Keeper, A: Allocator> PathTable<K, A> {
-    /// Lends the keeper on the desk what is pending, so that it makes lasting what ends at or below
-    /// a key. After a refusal all is pending, in whatever order.
+    /// Lends the keeper on the desk what is pending, in the order of the log, so that it makes
+    /// lasting what ends at or below a key. After a refusal all is pending, in whatever order.
     pub fn lend(&self, member: Member<K>, upto: u64) -> (Member<K>, Result<(), KeeperFault>)
         requires table { member.seat.table_id ≡ self.now.table.shared.table_id }
         requires desk { CarriesDesk (shows_of K.holds) member.seat.me }
-        requires lent { (run : List EntryNote) × (left : List EntryNote)
-            × IsParted upto (hands_of member).pending run left
-            × MayLend (hands_of member).lasting upto run }
+        requires lent { (run left : List EntryNote)
+            → IsParted upto (hands_of member).pending run left
+            → MayLend (hands_of member).lasting upto run }
         ensures same { IsSame member result.0 × (view_of result.0 ≡ view_of member) }
         ensures synced { OnOk result.1
             (CarriesSynced (shows_of K.holds) upto result.0.seat.me
@@ -99,6 +102,7 @@ impl<K: Keeper, A: Allocator> PathTable<K, A> {
             (CarriesRefused (shows_of K.holds) upto
             ((hands_of member).lasting.stopped || is_stopped result.1) result.0.seat.me
             × (rest (boxes_of result.0) ≡ rest (boxes_of member))) }
+        ensures counts { (h : Holding) × TellsCounts h result.1 }
     {
         let Member { mut seat, number } = member;
         let shared = &self.table.shared;

@@ -10,6 +10,7 @@ mod append_barrier;
 mod appending;
 mod claiming;
 mod closing;
+mod ending;
 mod gathering;
 mod lasting;
 mod laws;

@@ -9,6 +9,7 @@ ghost use Rattle.path_core.specs.declared.seat.SyncTurn.{SyncTurn};
 ghost use Rattle.path_core.specs.Keeper.{IsParted};
 ghost use Rattle.path_core.specs.Next.{next_of};
 ghost use Rattle.path_rule.specs.declared.lasting.Lasting.{Lasting};
+ghost use Rattle.path_rule.specs.Calls.{MayGive, IsSyncedTo};
 ghost use Rattle.path_rule.specs.HandsAfter.{with_desk};
 ghost use Rattle.path_rule.specs.Lasts.{shown, shows_of};
 ghost use Rattle.path_rule.specs.Members.{
@@ -22,7 +23,13 @@ ghost use Rattle.path_rule.specs.Members.{
   SteppedWith,
 };
 ghost use Rattle.path_rule.specs.Rule.{Was};
-ghost use Rattle.path_rule.specs.TurnTold.{CarriesAs, CarriesSynced, CarriesRefused, IsLent};
+ghost use Rattle.path_rule.specs.TurnTold.{
+  CarriesAs,
+  CarriesDesk,
+  CarriesSynced,
+  CarriesRefused,
+  IsLent,
+};
 ghost use Rattle.path_rule.specs.Turns.{IsBarred, TurnRuns};
 
 use crate::plays::LookAt;
@@ -43,6 +50,9 @@ impl<K: Keeper, A: Allocator> PathTable<K, A> {
         ensures same { KeepsBoxes member.old member.new }
         ensures step { Stepped member.old (Look member.old.number (CursorWord Synced)) result
             member.new }
+        ensures hands { hands_of member.new ≡ hands_of member.old }
+        ensures give { MayGive (view_of member.old) → MayGive (view_of member.new) }
+        ensures found { IsSyncedTo (view_of member.new) result }
         ensures runs { (value : ℕ) → result < value → TurnRuns (part_of member.new) value }
         ensures lent { (value : ℕ) (run left : List EntryNote) → result < value
             → IsBarred (hands_of member.old) value
@@ -74,6 +84,9 @@ impl<K: Keeper, A: Allocator> PathTable<K, A> {
             (Put member.old.number Synced value))
             × (shown value (next_of was.core (Put member.old.number Synced value))
             ≡ lasting)) }
+        ensures give { MayGive (view_of member.old) → MayGive (view_of member.new) }
+        ensures desk { CarriesDesk (shows_of K.holds) member.new.seat.me }
+        ensures synced { IsSyncedTo (view_of member.new) value }
     {
         self.table
             .shared
@@ -93,6 +106,8 @@ impl<K: Keeper, A: Allocator> PathTable<K, A> {
         ensures same { KeepsBoxes member.old member.new }
         ensures step { SteppedWith (shows_of K.holds) member.old
             (Put member.old.number Stopped value) value member.new }
+        ensures give { MayGive (view_of member.old) → MayGive (view_of member.new) }
+        ensures desk { CarriesDesk (shows_of K.holds) member.new.seat.me }
     {
         self.table
             .shared
@@ -112,6 +127,8 @@ impl<K: Keeper, A: Allocator> PathTable<K, A> {
         ensures same { KeepsBoxes member.old member.new }
         ensures step { SteppedWith (shows_of K.holds) member.old
             (Look member.old.number (CursorWord Stopped)) result member.new }
+        ensures give { MayGive (view_of member.old) → MayGive (view_of member.new) }
+        ensures desk { CarriesDesk (shows_of K.holds) member.new.seat.me }
     {
         let _ = upto;
         self.table

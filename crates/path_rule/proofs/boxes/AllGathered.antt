@@ -85,5 +85,6 @@ pub gathered_up_to_last : {K : Type 0} (shows : K → Lasting) (size : PathSize)
 gathered_up_to_last shows size key homes views x L B all c g last issued n h low =
     let M = marker_at x L c last g issued in
     let start = ap (λ (d : Claim). d.start) M.is in
-    gathered_all shows size.seats x.notes (shown key x) x.claims x.append homes views B all M.number g
+    gathered_all shows size.seats x.notes (shown key x) x.claims x.append homes views B all M.number
+    g
     M.inside M.marker M.barrier M.below n h (omega arith)

@@ -1,12 +1,42 @@
 -- What lies on the desk once its keeper was lent what is pending.
-use Rattle.std.proofs.Common.{◌≡◌, ℕ, ◌||◌, Bool, List, [], ◌∷◌, Result, Ok, Err, refl, sym, ap, ◌∙◌, subst, ⊎_elim}
-use Rattle.std.proofs.lemmas.List.{map-append}
-use Rattle.std.specs.List.Sorted.{IsPermutation}
+use Rattle.std.proofs.Common.{
+  ◌≡◌,
+  ℕ,
+  zero,
+  suc,
+  ◌<◌,
+  ◌≤◌,
+  ◌||◌,
+  Bool,
+  List,
+  [],
+  ◌∷◌,
+  ◌++◌,
+  length,
+  take,
+  drop,
+  get_or,
+  Result,
+  Ok,
+  Err,
+  refl,
+  sym,
+  ap,
+  ◌∙◌,
+  subst,
+  ⊎_elim,
+  arith,
+}
+use Rattle.std.proofs.lemmas.List.{append-nil, map-append}
+use Rattle.std.proofs.lemmas.List.Sorted.{IsPermutation-refl, IsPermutation-trans}
+use Rattle.std.specs.List.Sorted.{IsPermutation, IsNonDecreasingBy}
 use Rattle.std.specs.Prelude.{OnOk, OnErr}
-use mathlib.Core.Logic.{inl, inr}
+use mathlib.Core.Logic.{dite, inl, inr}
+use native.Mathlib.Decide.{dec_le}
 use Rattle.atomic_table.specs.Table.{Me, rest}
 use Rattle.path_core.specs.declared.note.EntryNote.{EntryNote}
-use Rattle.path_core.specs.Keeper.{Holding, IsParted, Syncs, SyncRefused}
+use Rattle.path_core.specs.Keeper.{Holding, IsParted, MayWrite, MaySync, Syncs, SyncRefused}
+use Rattle.path_core.proofs.lists.PartedNotes.{parted}
 use Rattle.path_rule.specs.declared.lasting.Lasting.{Lasting}
 use Rattle.path_rule.specs.declared.slot.Desk.{Desk}
 use Rattle.path_rule.specs.declared.slot.Slot.{Slot}
@@ -18,19 +48,22 @@ use Rattle.path_rule.specs.Lasts.{lasting_of, shows_of, ends, more_lasting, refu
 use Rattle.path_rule.specs.TurnTold.{CarriesDesk, CarriesSynced, CarriesRefused}
 use Rattle.path_rule.proofs.moves.SyncSteps.{top_box}
 
+pub on_desk : {K : Type 0} (holds : K → Holding) (before : Desk K) (m : Me (Slot K) View)
+    (carries : CarriesDesk (shows_of holds) m) → m.1 ≡ (desk_box, Turn before) ∷ rest m.1
+    → DeskIs (shows_of holds) (Turn before) m.0.hands.lasting m.0.hands.pending
+    m.0.hands.progress
+on_desk holds before m carries top = subst (λ (y : Slot _). DeskIs (shows_of holds) y
+    m.0.hands.lasting m.0.hands.pending m.0.hands.progress)
+    (ap (top_box carries.0) (sym carries.1 ∙ top)) carries.2
+
 module _ {K : Type 0} (holds : K → Holding) (before after : Desk K) (m : Me (Slot K) View)
     (upto : ℕ) (carries : CarriesDesk (shows_of holds) m)
     (top : m.1 ≡ (desk_box, Turn before) ∷ rest m.1)
     (progress : after.progress ≡ before.progress) where
-  on_desk : DeskIs (shows_of holds) (Turn before) m.0.hands.lasting m.0.hands.pending
-      m.0.hands.progress
-  on_desk = subst (λ (y : Slot K). DeskIs (shows_of holds) y m.0.hands.lasting m.0.hands.pending
-      m.0.hands.progress) (ap (top_box carries.0) (sym carries.1 ∙ top)) carries.2
-
   pub lent_synced : Syncs (holds before.keeper) (holds after.keeper) upto (pending_on before)
       (pending_on after)
       → CarriesSynced (shows_of holds) upto (m.0, (desk_box, Turn after) ∷ rest m.1)
-  lent_synced S = let D = on_desk in (
+  lent_synced S = let D = on_desk holds before m carries top in (
     S.run,
     pending_on after,
     subst (λ (l : List EntryNote). IsParted upto l S.run (pending_on after)) D.1 S.parted,
@@ -57,7 +90,7 @@ module _ {K : Type 0} (holds : K → Holding) (before after : Desk K) (m : Me (S
       (pending_on after)
       → CarriesRefused (shows_of holds) upto (m.0.hands.lasting.stopped || stopped)
       (m.0, (desk_box, Turn after) ∷ rest m.1)
-  lent_refused stopped stops S = let D = on_desk in (
+  lent_refused stopped stops S = let D = on_desk holds before m carries top in (
     (holds after.keeper).kept,
     pending_on after,
     subst (λ (l : List EntryNote). IsPermutation l (pending_on after)) D.1 S.pends,
@@ -82,6 +115,95 @@ module _ {K : Type 0} (holds : K → Holding) (before after : Desk K) (m : Me (S
       ),
     ),
   )
+
+-- What is pending is lent in the order of the log.
+
+pub none_behind : (l more : List EntryNote) → more ≡ [] → l ++ more ≡ l
+none_behind l more none = ap (λ (r : List EntryNote). l ++ r) none ∙ append-nil l
+
+pub all_lent : (lent more pending : List EntryNote) → more ≡ [] → lent ++ more ≡ pending
+    → lent ≡ pending
+all_lent lent more pending none all = sym (none_behind lent more none) ∙ all
+
+-- so many of them, in the order of their ends, end at or below a key
+cut : (upto : ℕ) (l : List EntryNote) → IsNonDecreasingBy (λ (n : EntryNote). n.end.0) l
+    → (count : ℕ) × (count ≤ length l)
+    × ((k : ℕ) (d : EntryNote) → k < count → (get_or l k d).end.0 ≤ upto)
+    × ((k : ℕ) (d : EntryNote) → count ≤ k → k < length l → upto < (get_or l k d).end.0)
+cut upto [] order = (
+  0,
+  omega arith,
+  (λ k d l. absurd (omega arith)),
+  (λ k d l h. absurd (omega arith)),
+)
+cut upto (n ∷ ns) order = dite (dec_le n.end.0 upto)
+    (λ low. let c = cut upto ns (λ i j d l h. order (suc i) (suc j) d (omega arith) (omega arith))
+    in (
+      suc c.0,
+      (let b = c.1 in omega arith),
+      (λ k d l. low_at low c.0 c.2 k d l),
+      (λ k d l h. high_at c.0 c.3 k d l h),
+    ))
+    (λ high. (
+      0,
+      omega arith,
+      (λ k d l. absurd (omega arith)),
+      (λ k d l h. let o = order 0 k d (omega arith) h in omega arith),
+    ))
+  where
+    low_at : n.end.0 ≤ upto → (count : ℕ)
+        → ((k : ℕ) (d : EntryNote) → k < count → (get_or ns k d).end.0 ≤ upto)
+        → (k : ℕ) (d : EntryNote) → k < suc count → (get_or (n ∷ ns) k d).end.0 ≤ upto
+    low_at low count rest zero d l = low
+    low_at low count rest (suc k) d l = rest k d (omega arith)
+
+    high_at : (count : ℕ)
+        → ((k : ℕ) (d : EntryNote) → count ≤ k → k < length ns → upto < (get_or ns k d).end.0)
+        → (k : ℕ) (d : EntryNote) → suc count ≤ k → k < length (n ∷ ns)
+        → upto < (get_or (n ∷ ns) k d).end.0
+    high_at count rest zero d l h = absurd (omega arith)
+    high_at count rest (suc k) d l h = rest k d (omega arith) (omega arith)
+
+module _ (h : Holding) (upto : ℕ) (pending sorted : List EntryNote)
+    (same : IsPermutation pending sorted) where
+  parted_of : (run left : List EntryNote) → IsParted upto sorted run left
+      → IsParted upto pending run left
+  parted_of run left P = record {
+    all = IsPermutation-trans pending sorted (run ++ left) same P.all;
+    low = P.low;
+    high = P.high;
+    in_order = P.in_order;
+  }
+
+  pub may_sync : IsNonDecreasingBy (λ (n : EntryNote). n.end.0) sorted
+      → ((run left : List EntryNote) → IsParted upto pending run left → MayWrite h upto run)
+      → MaySync h upto sorted
+  may_sync order may = let c = cut upto sorted order in
+      let P = parted upto c.0 sorted sorted (IsPermutation-refl sorted) order c.1 c.2 c.3 in
+      record {
+        run = take c.0 sorted;
+        left = drop c.0 sorted;
+        parted = P;
+        may = may (take c.0 sorted) (drop c.0 sorted)
+            (parted_of (take c.0 sorted) (drop c.0 sorted) P);
+      }
+
+  pub synced_of : (now : Holding) (left : List EntryNote) → Syncs h now upto sorted left
+      → Syncs h now upto pending left
+  synced_of now left S = record {
+    run = S.run;
+    parted = parted_of S.run left S.parted;
+    holds = S.holds;
+  }
+
+  pub refused_of : (now : Holding) (left : List EntryNote) → SyncRefused h now upto sorted left
+      → SyncRefused h now upto pending left
+  refused_of now left S = record {
+    pends = IsPermutation-trans pending sorted left same S.pends;
+    keeps = ⊎_elim (λ k. inl k) (λ (P : (others : List EntryNote) × IsParted upto sorted now.kept
+        others). inr (P.0, parted_of now.kept P.0 P.1)) S.keeps;
+    holds = S.holds;
+  }
 
 -- from one clause on an answer to another
 

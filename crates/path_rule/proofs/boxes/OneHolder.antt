@@ -66,7 +66,8 @@ module _ {K : Type 0} (shows : K → Lasting) (size : PathSize) (s : State (Slot
   law = core_lawful shows size s r
 
   abbrev KnowsHands : ℕ → Seat → Hands → Type 0
-  KnowsHands z p h = HandsAre r.boxed.contents (shown r.kept_to x) r.boxed.pending r.boxed.progress x.append
+  KnowsHands z p h = HandsAre r.boxed.contents (shown r.kept_to x) r.boxed.pending r.boxed.progress
+      x.append
       size.seats z p h
 
   turns_same : (z y : ℕ) (p q : Seat) → p ≡ seat_of x z → q ≡ seat_of x y

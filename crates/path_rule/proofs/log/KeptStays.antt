@@ -1,5 +1,30 @@
 -- What a keeper may have kept of a sync that was refused stays so at each step.
-use Rattle.std.proofs.Common.{◌≡◌, ℕ, ◌<◌, ◌≤◌, nat_lt, nat_le, ◌&&◌, Bool, true, false, cond, List, [], ◌∷◌, Option, Some, None, IsTrue, refl, sym, ap, ◌∙◌, ⊎_elim, arith}
+use Rattle.std.proofs.Common.{
+  ◌≡◌,
+  ℕ,
+  ◌<◌,
+  ◌≤◌,
+  nat_lt,
+  nat_le,
+  ◌&&◌,
+  Bool,
+  true,
+  false,
+  cond,
+  List,
+  [],
+  ◌∷◌,
+  Option,
+  Some,
+  None,
+  IsTrue,
+  refl,
+  sym,
+  ap,
+  ◌∙◌,
+  ⊎_elim,
+  arith,
+}
 use Rattle.std.specs.List.{Contains, count_by, filter, position_or_len}
 use Rattle.std.specs.Option.{option_map}
 use Rattle.std.proofs.lemmas.Bool.{eqb-true, lt-leb, leb-true, ltb-true}

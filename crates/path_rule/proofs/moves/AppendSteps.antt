@@ -99,7 +99,8 @@ module _ {K : Type 0} (shows : K → Lasting) (size : PathSize) (slots id : ℕ)
 
         by_role : (ρ : Role) → Knows r.core r.events r.owner r.made r.boss j ρ u.part u.trail
             u.returned → HandsAs r.boxed.contents
-            (shown r.kept_to r.core) r.boxed.pending r.boxed.progress r.core.append size.seats u.part u.hands
+            (shown r.kept_to r.core) r.boxed.pending r.boxed.progress r.core.append size.seats
+            u.part u.hands
             ρ
             → HoldsAs u.part.append (is_some u.part.sync) u.hands.box_taken (box_of w g) ρ → ⊥
         by_role (Opener k) kn H h = h
@@ -225,7 +226,8 @@ module _ {K : Type 0} (shows : K → Lasting) (size : PathSize) (slots id : ℕ)
         tt,
         plays shows size s r id w m.0 there mine e refl may tt fits rows
             ((n + (2 ^ 64 - 1)) % 2 ^ 64) n false now refl m.0.hands m.1 gives
-            (subst (λ l. Boxed shows size.seats x.notes (shown r.kept_to x) x.claims (next_of x e).append
+            (subst (λ l. Boxed shows size.seats x.notes (shown r.kept_to x) x.claims (next_of x
+            e).append
             (put_back s.homes l) (set s.views id v')) (sym holds)
             (boxed_give shows size.seats x.notes (shown r.kept_to x) x.claims x.claims x.append
             (next_of x e).append s.homes s.views r.boxed id w m.0 v' there mine refl refl refl

@@ -136,7 +136,8 @@ module _ {K : Type 0} (shows : K → Lasting) (size : PathSize) (slots id : ℕ)
             (λ q. ⊎_elim (λ d. false≢true (sym bare ∙ d.0))
             (λ taken. false≢true (sym bare ∙
             ((subst (HandsAs r.boxed.contents
-            (shown r.kept_to r.core) r.boxed.pending r.boxed.progress r.core.append size.seats u.part
+            (shown r.kept_to r.core) r.boxed.pending r.boxed.progress r.core.append size.seats
+            u.part
             u.hands) is (r.boxed.in_hands j u e)).other (box_of k (suc cur)) taken).holds)) q) h
 
     -- a look at the oldest group, with what a box tells
@@ -182,7 +183,8 @@ module _ {K : Type 0} (shows : K → Lasting) (size : PathSize) (slots id : ℕ)
       x.append s.homes s.views r.boxed box) in
       let did = looked s r there held n found h (takes box home.0)
       (λ C. boxed_gather shows size.seats x.notes
-      (shown r.kept_to x) x.claims x.claims x.append x.append s.homes s.views r.boxed id w m.0 v' there
+      (shown r.kept_to x) x.claims x.claims x.append x.append s.homes s.views r.boxed id w m.0 v'
+      there
       mine refl out (C.append ∙ out) held
       (sym (is_some_held v'.part) ∙ (ap (λ (o : Option Issue). is_some o) C.issue
       ∙ (is_some_held m.0.part ∙ held))) (others_free shows size slots id m w mine s r there held)
@@ -257,7 +259,8 @@ module _ {K : Type 0} (shows : K → Lasting) (size : PathSize) (slots id : ℕ)
       (λ C. subst (λ l. Boxed shows size.seats x.notes (shown r.kept_to x) x.claims x.append
       (put_back s.homes l) (set s.views id v')) (sym (holds ∙ (λ i. (box (now i), y) ∷ cs)))
       (boxed_give_back shows size.seats x.notes
-      (shown r.kept_to x) x.claims x.claims x.append x.append s.homes s.views r.boxed id w m.0 v' there
+      (shown r.kept_to x) x.claims x.claims x.append x.append s.homes s.views r.boxed id w m.0 v'
+      there
       mine refl out (C.append ∙ out) held
       (sym (is_some_held v'.part) ∙ (ap (λ (o : Option Issue). is_some o) C.issue
       ∙ (is_some_held m.0.part ∙ held))) (others_free shows size slots id m w mine s r there held)

@@ -1,6 +1,21 @@
 -- The holder of the Sync turn looks at the synced key before it lends notes: what is pending up to
 -- the last marker may be written by the keeper on the desk.
-use Rattle.std.proofs.Common.{◌≡◌, ℕ, ◌<◌, ◌≤◌, true, false, List, Some, sym, ap, ◌∙◌, subst, ⊎_elim, arith}
+use Rattle.std.proofs.Common.{
+  ◌≡◌,
+  ℕ,
+  ◌<◌,
+  ◌≤◌,
+  true,
+  false,
+  List,
+  Some,
+  sym,
+  ap,
+  ◌∙◌,
+  subst,
+  ⊎_elim,
+  arith,
+}
 use Rattle.std.specs.List.{Contains, filter}
 use Rattle.std.specs.Prelude.{slice_index}
 use mathlib.Core.Logic.{dite, inl, inr}

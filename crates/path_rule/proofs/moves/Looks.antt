@@ -155,7 +155,8 @@ module _ {K : Type 0} (shows : K → Lasting) (size : PathSize) (slots id : ℕ)
         → seat_after m.0.part e (reading_at (place_of e) found) false
         ≡ seat_after m.0.part e (reading x (place_of e)) (gives_file x e)
         → (Columns e m.0.part (view_after m.0 e found false).part
-        → Boxed shows size.seats (next_of x e).notes (shown r.kept_to (next_of x e)) (next_of x e).claims
+        → Boxed shows size.seats (next_of x e).notes (shown r.kept_to (next_of x e)) (next_of x
+        e).claims
         (next_of x e).append s.homes (set s.views id (view_after m.0 e found false)))
         → (then : Me (Slot K) View → Type 0)
         → (Was m.0 w e → then (view_after m.0 e found false, m.1))

@@ -1,6 +1,28 @@
--- After a sync that was refused the holder of the Sync turn learns what lies on the desk: at a look,
+-- After a sync that was refused the holder of the Sync turn learns what lies on the desk: at a
+-- look,
 -- or where it stops the log because the keeper has stopped.
-use Rattle.std.proofs.Common.{◌≡◌, ℕ, ◌<◌, Bool, true, false, cond, List, set, Some, None, is_some, IsTrue, refl, sym, ap, ◌∙◌, subst, ⊎_elim, arith}
+use Rattle.std.proofs.Common.{
+  ◌≡◌,
+  ℕ,
+  ◌<◌,
+  Bool,
+  true,
+  false,
+  cond,
+  List,
+  set,
+  Some,
+  None,
+  is_some,
+  IsTrue,
+  refl,
+  sym,
+  ap,
+  ◌∙◌,
+  subst,
+  ⊎_elim,
+  arith,
+}
 use Rattle.std.proofs.lemmas.Bool.{lt-ltb}
 use Rattle.std.proofs.lemmas.List.Sorted.{
   Contains-permutation,

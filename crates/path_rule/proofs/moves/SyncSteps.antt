@@ -122,7 +122,8 @@ module _ {K : Type 0} (shows : K → Lasting) (size : PathSize) (slots id : ℕ)
       inr (let k = P.low o.0 o.1 in let z = o.2 in omega arith))
       (Contains-append_cases x.logged (ends run) q.end.0 h) in
       let boxed = boxed_desk_turns shows size.seats x.notes (shown r.kept_to x)
-      (more_lasting (ends run) value (shown r.kept_to x)) x.claims x.append s.homes s.views B id w m.0 v'
+      (more_lasting (ends run) value (shown r.kept_to x)) x.claims x.append s.homes s.views B id w
+      m.0 v'
       there mine refl out out held (still_some m.0.part.sync held) empty empty
       (others_free shows size slots id m w mine s r there held) left
       ((λ j. more_lasting (ends run) value (D.0 j)), refl, D.2) refl

@@ -66,7 +66,8 @@ module _ {K : Type 0} (shows : K → Lasting) (size : PathSize) (slots id : ℕ)
     unseen groups v' current oldest role out still same empty = let H =
         hands_now shows size slots id m w mine s r there in
         boxed_goes shows size.seats r.core.notes
-        (shown r.kept_to r.core) r.core.claims r.core.claims r.core.append groups s.homes s.views r.boxed
+        (shown r.kept_to r.core) r.core.claims r.core.claims r.core.append groups s.homes s.views
+        r.boxed
         id w m.0 v' there mine role (outside shows size slots id m w mine s r there held) out
         held still
         (others_free shows size slots id m w mine s r there held)

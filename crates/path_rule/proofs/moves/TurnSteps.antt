@@ -83,7 +83,8 @@ module _ {K : Type 0} (shows : K → Lasting) (size : PathSize) (slots id : ℕ)
         plays shows size s r id w m.0 there mine e refl may tt tt
             (rows_stay x e may (λ q. q) r.rows) 1 1 false refl refl h m.1 (takes desk_box home.0)
             (boxed_desk_take shows size.seats x.notes
-            (shown r.kept_to x) x.claims x.append s.homes s.views r.boxed id w m.0 v' there mine refl
+            (shown r.kept_to x) x.claims x.append s.homes s.views r.boxed id w m.0 v' there mine
+            refl
             idle.append idle.append empty empty refl refl (refl, refl, refl)),
         each_seat_name shows size slots id m w mine
             (λ z. (n ≡ 0 → ((lasting : Lasting) × (pending : List EntryNote) × (marks : Progress)
@@ -146,7 +147,8 @@ module _ {K : Type 0} (shows : K → Lasting) (size : PathSize) (slots id : ℕ)
             (λ l. Boxed shows size.seats x.notes (shown r.kept_to x) x.claims x.append
             (put_back s.homes l) (set s.views id v')) (sym holds)
             (boxed_desk_give shows size.seats x.notes
-            (shown r.kept_to x) x.claims x.append s.homes s.views r.boxed id w m.0 v' there mine refl out
+            (shown r.kept_to x) x.claims x.append s.homes s.views r.boxed id w m.0 v' there mine
+            refl out
             out empty empty refl y refl held fits r.deep))),
         each_seat_name shows size slots id m w mine
             (λ z. MadeAs z (GiveTurn z Sync) 0 h m.0 v' × (rest m.1 ≡ rest m.1))

@@ -125,7 +125,8 @@ module _ {K : Type 0} (shows : K → Lasting) where
   first_more size xs l none_yet more F = record {
     each = λ b y e. ⊎_elim (λ old. F.each b y old)
         (λ (t : (Notes l ≡ y) × (b ≡ length xs)). subst
-        (λ z. (b ≡ 0 → DeskIs shows z (none_lasting size) [] first_progress) × (0 < b → NotesAre z []))
+        (λ z. (b ≡ 0 → DeskIs shows z (none_lasting size) [] first_progress) × (0 < b → NotesAre z
+        []))
         t.0 ((λ zero_b. absurd (let q = t.1 in omega arith)), (λ _. none_yet)))
         (at_end xs (Notes l) y b e);
   }

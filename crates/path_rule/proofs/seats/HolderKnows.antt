@@ -37,7 +37,8 @@ module _ (f : SyncTurn → SyncTurn) (o : Option SyncTurn) where
       by None h = h
       by (Some t) h = refl
 
-  becomes : (i j : Issue) → ((t : SyncTurn) → t.issue ≡ i → (f t).issue ≡ j) → IsTrue (is_some o)
+  pub becomes : (i j : Issue) → ((t : SyncTurn) → t.issue ≡ i → (f t).issue ≡ j) → IsTrue (is_some
+      o)
       → option_map_or (λ (t : SyncTurn). t.issue) o Rest ≡ i
       → option_map_or (λ (t : SyncTurn). t.issue) (option_map f o) Rest ≡ j
   becomes i j g h e = by o h e

@@ -25,6 +25,7 @@ loop-preserved g c = let i = c.loop.invariant in let m = i.many in let l = c.new
       many = ap length items ∙ (length-append c.loop.boxes.items (Notes l ∷ [])
           ∙ ap (λ n. n + 1) i.many);
       first = subst (AreFirst (shows_of g.K.Keeper.holds) c.args.size.now) (sym items)
-          (first_more (shows_of g.K.Keeper.holds) c.args.size.now c.loop.boxes.items l c.new-in-loop.ensures
+          (first_more (shows_of g.K.Keeper.holds) c.args.size.now c.loop.boxes.items l
+          c.new-in-loop.ensures
           (omega arith) i.first);
     }

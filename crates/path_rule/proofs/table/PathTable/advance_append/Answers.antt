@@ -14,7 +14,8 @@ store-requires g c = let t = c.args.self.now in let m = c.args.member.now in
     let k = t.table.shared.key in let wide = t.wide in (
       c.requires.table.0,
       omega arith,
-      advances_at (shows_of g.K.Keeper.holds) k t.table.shared.table_id.slots m.seat.id m.seat.me m.number
+      advances_at (shows_of g.K.Keeper.holds) k t.table.shared.table_id.slots m.seat.id m.seat.me
+          m.number
           m.role c.args.group c.args.oldest c.args.current c.requires.turn.1 c.requires.turn.2
           c.requires.turn.3 c.requires.group.0 c.requires.group.1 c.requires.turn.0.empty,
     )

@@ -15,7 +15,8 @@ fetch_add-requires g c = let t = c.args.self.now in let m = c.args.member.now in
       c.requires.table.0,
       let f = c.requires.turn.3 in
           omega arith,
-      expires (shows_of g.K.Keeper.holds) k t.table.shared.table_id.slots m.seat.id m.seat.me m.number m.role
+      expires (shows_of g.K.Keeper.holds) k t.table.shared.table_id.slots m.seat.id m.seat.me
+          m.number m.role
           c.args.group c.args.current c.requires.turn.0.issue c.requires.turn.1 c.requires.turn.2
           c.requires.turn.0.empty c.requires.turn.3,
     )

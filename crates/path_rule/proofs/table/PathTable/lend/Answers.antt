@@ -1,10 +1,27 @@
-use Rattle.std.proofs.Common.{◌∷◌, refl, ap, ◌∙◌}
+use Rattle.std.proofs.Common.{List, ◌∷◌, refl, ap, ◌∙◌, subst}
 use Rattle.atomic_table.specs.Table.{rest}
-use Rattle.path_core.specs.Keeper.{is_stopped}
+use Rattle.path_core.specs.declared.note.EntryNote.{EntryNote}
+use Rattle.path_core.specs.Keeper.{IsParted, is_stopped}
 use Rattle.path_rule.specs.declared.slot.Slot.{Slot}
 use Rattle.path_rule.specs.Boxes.{desk_box}
-use Rattle.path_rule.proofs.boxes.DeskLent.{lent_synced, lent_refused, on_ok, on_err}
+use Rattle.path_rule.proofs.boxes.DeskLent.{
+  on_desk,
+  lent_synced,
+  lent_refused,
+  on_ok,
+  on_err,
+}
 use Rattle.path_rule.proofs.table.PathTable.lend.Goals as goal
+
+pub lend_pending-done-requires : goal.lend_pending-done-requires
+lend_pending-done-requires g c =
+    let m = c.args.member in
+    let D = on_desk g.K.Keeper.holds c.in-Turn.desk m.seat.me c.requires.desk
+    (c.slot_mut.ensures.value
+    ∙ ap (λ (y : Slot _). (desk_box, y) ∷ rest m.seat.me.1) c.in-Turn.is) in
+    λ run left P. c.requires.lent run left
+    (subst (λ (l : List EntryNote). IsParted c.args.upto l run left) D.1 P)
+    (g.K.Keeper.holds c.in-Turn.desk.keeper) D.0
 
 pub returns-clause-synced : goal.returns-clause-synced
 returns-clause-synced g c = let m = c.args.member in

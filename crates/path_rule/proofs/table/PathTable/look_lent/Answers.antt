@@ -1,9 +1,13 @@
-use Rattle.std.proofs.Common.{refl, sym, ap, ◌∙◌, subst, arith}
+use Rattle.std.proofs.Common.{Some, refl, sym, ap, ◌∙◌, subst, arith}
+use Rattle.std.specs.Option.{option_map}
+use Rattle.path_core.specs.declared.seat.SyncTurn.{SyncTurn}
 use Rattle.path_rule.specs.declared.view.View.{View}
+use Rattle.path_rule.specs.Calls.{MayGive, IsSyncedTo}
 use Rattle.path_rule.specs.Turns.{TurnRuns}
 use Rattle.path_rule.proofs.moves.LentLooks.{looks_lent}
 use Rattle.path_rule.proofs.seats.CursorKnows.{synced_seen}
 use Rattle.path_rule.specs.Lasts.{shows_of}
+use Rattle.path_rule.proofs.seats.MayGives.{gives_still}
 use Rattle.path_rule.proofs.table.PathTable.look_lent.Goals as goal
 
 pub load-requires : goal.load-requires
@@ -37,3 +41,24 @@ returns-clause-runs g c = let m = c.args.member.now in let d = c.load.ensures.2 
     λ value low. subst (λ (v : View). TurnRuns v.part value) (sym d.0.0.0)
     (synced_seen m.seat.me.0 m.number c.load.result value c.requires.turn.0.0 c.requires.turn.0.1
     c.requires.turn.0.2 low)
+
+pub returns-clause-hands : goal.returns-clause-hands
+returns-clause-hands g c = let m = c.args.member.now in let d = c.load.ensures.2 m.number m.role in
+    ap (λ (v : View). v.hands) d.0.0.0
+
+pub returns-clause-give : goal.returns-clause-give
+returns-clause-give g c = let m = c.args.member.now in let d = c.load.ensures.2 m.number m.role in
+    λ may. subst MayGive (sym d.0.0.0) (gives_still (λ (t : SyncTurn).
+    record t { synced = Some c.load.result }) (λ t. refl) (λ t. refl) m.seat.me.0 _ refl refl may)
+
+pub returns-clause-found : goal.returns-clause-found
+returns-clause-found g c = let m = c.args.member.now in let d = c.load.ensures.2 m.number m.role in
+    let t = c.requires.turn.0.0 in
+    subst (λ (v : View). IsSyncedTo v c.load.result) (sym d.0.0.0) (
+      record t { synced = Some c.load.result },
+      c.load.result,
+      ap (option_map (λ (t : SyncTurn). record t { synced = Some c.load.result }))
+          c.requires.turn.0.1,
+      refl,
+      omega arith,
+    )

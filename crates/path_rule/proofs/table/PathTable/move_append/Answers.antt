@@ -15,7 +15,8 @@ store-requires g c = let t = c.args.self.now in let m = c.args.member.now in
     let k = t.table.shared.key in let wide = t.wide in (
       c.requires.table.0,
       omega arith,
-      moves (shows_of g.K.Keeper.holds) k t.table.shared.table_id.slots m.seat.id m.seat.me m.number m.role
+      moves (shows_of g.K.Keeper.holds) k t.table.shared.table_id.slots m.seat.id m.seat.me m.number
+          m.role
           c.args.group c.args.current c.requires.marker.0 c.requires.marker.1
           c.requires.turn.0.issue c.requires.turn.1 c.requires.turn.2 c.requires.gathered
           c.requires.turn.0.empty,

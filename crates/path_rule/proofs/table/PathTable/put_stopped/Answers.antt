@@ -1,7 +1,10 @@
-use Rattle.std.proofs.Common.{refl, ap, ◌∙◌, arith}
+use Rattle.std.proofs.Common.{Some, refl, sym, ap, ◌∙◌, subst, arith}
+use Rattle.path_core.specs.declared.seat.SyncTurn.{SyncTurn}
 use Rattle.path_rule.specs.declared.view.View.{View}
+use Rattle.path_rule.specs.Calls.{MayGive}
 use Rattle.path_rule.specs.Lasts.{shows_of}
 use Rattle.path_rule.proofs.moves.RefusedSyncs.{halts}
+use Rattle.path_rule.proofs.seats.MayGives.{gives_still, carries_on}
 use Rattle.path_rule.proofs.table.PathTable.put_stopped.Goals as goal
 
 pub store-requires : goal.store-requires
@@ -25,3 +28,14 @@ returns-clause-same g c = let m = c.args.member.now in let d = c.store.ensures.2
 pub returns-clause-step : goal.returns-clause-step
 returns-clause-step g c = let m = c.args.member.now in let d = c.store.ensures.2 m.number m.role in
     (d.0.0, d.0.1, record { view = d.0.2.0; was = d.0.2.1 }, d.0.3)
+
+pub returns-clause-give : goal.returns-clause-give
+returns-clause-give g c = let m = c.args.member.now in let d = c.store.ensures.2 m.number m.role in
+    λ may. subst MayGive (sym d.0.2.0) (gives_still (λ (t : SyncTurn).
+    record t { stopped = Some c.args.value }) (λ t. refl) (λ t. refl) m.seat.me.0 _ refl refl may)
+
+pub returns-clause-desk : goal.returns-clause-desk
+returns-clause-desk g c = let m = c.args.member.now in let d = c.store.ensures.2 m.number m.role in
+    carries_on (shows_of g.K.Keeper.holds) m.seat.me c.store.new.seat.me d.0.0 d.0.1
+    m.seat.me.0.hands.progress
+    m.seat.me.0.hands (ap (λ (v : View). v.hands) d.0.2.0) d.1 d.0.3

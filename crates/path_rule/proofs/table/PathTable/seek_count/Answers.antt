@@ -19,7 +19,8 @@ load-requires g c = let t = c.args.self.now in let m = c.args.member.now in
     let word = c.count_word.ensures in (
       c.requires.table.0,
       omega arith,
-      looks_at (shows_of g.K.Keeper.holds) k t.table.shared.table_id.slots m.seat.id m.seat.me m.number m.role
+      looks_at (shows_of g.K.Keeper.holds) k t.table.shared.table_id.slots m.seat.id m.seat.me
+          m.number m.role
           (Count c.args.order c.args.group) c.requires.turn.2
           (inr (inr c.requires.turn.1)) c.count_word.result word,
     )

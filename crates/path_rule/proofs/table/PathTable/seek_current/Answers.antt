@@ -20,7 +20,8 @@ load-requires g c = let t = c.args.self.now in let m = c.args.member.now in
     let word = c.current_word.ensures in (
       c.requires.table.0,
       omega arith,
-      looks_at (shows_of g.K.Keeper.holds) k t.table.shared.table_id.slots m.seat.id m.seat.me m.number m.role
+      looks_at (shows_of g.K.Keeper.holds) k t.table.shared.table_id.slots m.seat.id m.seat.me
+          m.number m.role
           (Current c.args.order) tt tt c.current_word.result word,
     )
 

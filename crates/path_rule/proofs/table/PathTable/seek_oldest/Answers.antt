@@ -19,7 +19,8 @@ load-requires g c = let t = c.args.self.now in let m = c.args.member.now in
     let word = c.oldest_word.ensures in (
       c.requires.table.0,
       omega arith,
-      looks_at (shows_of g.K.Keeper.holds) k t.table.shared.table_id.slots m.seat.id m.seat.me m.number m.role
+      looks_at (shows_of g.K.Keeper.holds) k t.table.shared.table_id.slots m.seat.id m.seat.me
+          m.number m.role
           (Oldest c.args.order) tt tt c.oldest_word.result word,
     )
 

@@ -1,0 +1,51 @@
+//! A sync is brought to its end, in the hand of the holder of the Sync turn.
+ghost use Rattle.std.specs.Prelude.{◌≡◌, true, Some, OnOk};
+ghost use Rattle.path_core.specs.declared.seat.SyncTurn.{SyncTurn};
+ghost use Rattle.path_rule.specs.Calls.{MayGive, IsSyncedTo};
+ghost use Rattle.path_rule.specs.Lasts.{shows_of};
+ghost use Rattle.path_rule.specs.Members.{view_of, part_of, hands_of, IsOf, IsSame};
+ghost use Rattle.path_rule.specs.TurnTold.{CarriesDesk};
+ghost use Rattle.path_rule.specs.Turns.{IsBarred};
+
+use crate::table::{Member, PathTable};
+use path_core::{Keeper, KeeperFault};
+use std::alloc::Allocator;
+
+impl<K: Keeper, A: Allocator> PathTable<K, A> {
+    /// Ends a sync up to the last marker, once all boxes behind its barrier are gathered and the log
+    /// was found running. The keeper is lent what is pending, and the synced key is put at the
+    /// marker; where the keeper has stopped, the log is. After each answer the turn may be given
+    /// back.
+    pub fn end_sync(&self, member: Member<K>, upto: u64) -> (Member<K>, Result<(), KeeperFault>)
+        requires table { IsOf self.now.table.shared.table_id self.now.size member }
+        requires turn { MayGive (view_of member) × ((hands_of member).progress.gathered ≡ true)
+            × ((t : SyncTurn) × ((part_of member).sync ≡ Some t) × (t.stopped ≡ Some 0)) }
+        requires marker { IsBarred (hands_of member) upto }
+        requires desk { CarriesDesk (shows_of K.holds) member.seat.me }
+        ensures same { IsSame member result.0 }
+        ensures give { MayGive (view_of result.0) }
+        ensures desk { CarriesDesk (shows_of K.holds) result.0.seat.me }
+        ensures synced { OnOk result.1 (IsSyncedTo (view_of result.0) upto) }
+    {
+        let mut member = member;
+        let synced = self.look_lent(&mut member);
+        if upto <= synced {
+            return (member, Ok(()));
+        }
+        let (mut member, done) = self.lend(member, upto);
+        match done {
+            Ok(()) => {
+                self.put_synced(&mut member, upto);
+                (member, Ok(()))
+            }
+            Err(KeeperFault::Stopped { at_open, now }) => {
+                self.put_stopped(&mut member, now, upto);
+                (member, Err(KeeperFault::Stopped { at_open, now }))
+            }
+            Err(KeeperFault::OutOfMemory) => {
+                let _found = self.keep_refused(&mut member, upto);
+                (member, Err(KeeperFault::OutOfMemory))
+            }
+        }
+    }
+}
