@@ -1,4 +1,12 @@
-mod FirstSettings
+mod Levels
+mod LongWords
 mod OneRequest
 mod Refusals
+mod Rows
 mod SettingLists
+mod Taken
+mod Tidy
+mod Told
+mod Turns
+mod Uses
+mod Walks

@@ -90,16 +90,13 @@ batch_is_not_periodic setting e f =
       ap (λ l. get_or l 0 0) (one_mode setting (codes "batch") (codes "periodic") e f),
     )
 
-one_sync : (settings : List Setting) (x y : SyncCore) → IsSync settings x → IsSync settings y
-    → x ≡ y
-one_sync settings Batch Batch e f = refl
-one_sync settings Batch (Periodic q) e f =
-    absurd (batch_is_not_periodic (said (codes "sync") settings) e.0 f.0)
-one_sync settings (Periodic p) Batch e f =
-    absurd (batch_is_not_periodic (said (codes "sync") settings) f.0 e.0)
-one_sync settings (Periodic p) (Periodic q) e f =
-    ap (λ (n : ℕ). Periodic n)
-    (one_number 10000 1 3600000 (said (codes "period") settings) p q e.1 f.1)
+one_sync : (mode period : Option Setting) (x y : SyncCore) → IsSync mode period x
+    → IsSync mode period y → x ≡ y
+one_sync mode period Batch Batch e f = refl
+one_sync mode period Batch (Periodic q) e f = absurd (batch_is_not_periodic mode e.0 f.0)
+one_sync mode period (Periodic p) Batch e f = absurd (batch_is_not_periodic mode f.0 e.0)
+one_sync mode period (Periodic p) (Periodic q) e f =
+    ap (λ (n : ℕ). Periodic n) (one_number 10000 1 3600000 period p q e.1 f.1)
 
 -- ---- so do all of a command
 
@@ -120,7 +117,7 @@ one_apply : (settings : List Setting) (x y : ApplyOptions) → SaysApply setting
 one_apply settings x y e f =
     let writers =
     one_number 1 1 64 (said (codes "writers") settings) x.writers y.writers e.writers f.writers in
-    let sync = one_sync settings x.sync y.sync e.sync f.sync in
+    let sync = one_sync (said (codes "sync") settings) (said (codes "period") settings) x.sync y.sync e.sync f.sync in
     let kib =
     one_number 32768 4 32768 (said (codes "segment-kib") settings) x.segment_kib y.segment_kib
     e.segment_kib f.segment_kib in

@@ -1,39 +1,11 @@
 -- The options that words give are determined by the words.
-use Rattle.std.proofs.Common.{
-  ◌≡◌,
-  ℕ,
-  ◌<◌,
-  List,
-  [],
-  ◌∷◌,
-  ◌++◌,
-  length,
-  get_or,
-  drop,
-  Option,
-  Some,
-  None,
-  refl,
-  ap,
-  ap₂,
-  subst,
-  sym,
-  ◌∙◌,
-  inl,
-  inr,
-  arith,
-  append_assoc,
-  append-nil,
-  length-append,
-}
+use Rattle.std.proofs.Common.{◌≡◌, ℕ, ◌<◌, List, [], ◌∷◌, ◌++◌, length, get_or, drop, Option, Some, None, refl, ap, ap₂, subst, sym, ◌∙◌, inl, inr, arith, length-append}
 use Rattle.clog_words.specs.Given.{
   Setting,
   HasNoEquals,
   Gives,
   GivesAll,
-  AreTheSettings,
   BeginsWithDash,
-  BeginsWithNone,
   IsAlone,
   IsFirst,
   IsFresh,
@@ -50,7 +22,7 @@ first : List (List ℕ) → List ℕ
 first words = get_or words 0 []
 
 -- a text is cut at its first `=` alone
-cut_once : (front other back rest : List ℕ) → HasNoEquals front → HasNoEquals other
+pub cut_once : (front other back rest : List ℕ) → HasNoEquals front → HasNoEquals other
     → front ++ 61 ∷ back ≡ other ++ 61 ∷ rest → (front ≡ other) × (back ≡ rest)
 cut_once [] [] back rest none free e = (refl, ap (drop 1) e)
 cut_once [] (b ∷ other) back rest none free e =
@@ -61,7 +33,7 @@ cut_once (b ∷ front) (d ∷ other) back rest none free e =
     (ap₂ (λ (x : ℕ) (xs : List ℕ). x ∷ xs) (ap (λ l. get_or l 0 0) e) behind.0, behind.1)
 
 -- and one without `=` nowhere
-uncut : (name front back : List ℕ) → HasNoEquals name → name ≡ front ++ 61 ∷ back → ⊥
+pub uncut : (name front back : List ℕ) → HasNoEquals name → name ≡ front ++ 61 ∷ back → ⊥
 uncut [] front back none e = omega (arith, ap length e, length-append front (61 ∷ back))
 uncut (b ∷ name) [] back none e = none.0 (ap (λ l. get_or l 0 0) e)
 uncut (b ∷ name) (d ∷ front) back none e = uncut name front back none.1 (ap (drop 1) e)
@@ -176,66 +148,3 @@ same_settings (setting ∷ settings) (other ∷ others) words (rest, gives, more
     same_settings settings others rest more
     (subst (λ (l : List (List ℕ)). GivesAll others l) (sym same.1) most) in
     ap₂ (λ (s : Setting) (ss : List Setting). s ∷ ss) same.0 tails
-
--- What is read and what is left are the whole, and the only whole.
-pub record HasRead (read : List Setting) (words rest : List (List ℕ)) : Type 0 where
-  pub on : (more : List Setting) → GivesAll more rest → GivesAll (read ++ more) words
-  pub back : (all : List Setting) → GivesAll all words
-      → (more : List Setting) × (all ≡ read ++ more) × GivesAll more rest
-
-pub nothing_read : (words : List (List ℕ)) → HasRead [] words words
-nothing_read words = record { on = λ more g. g; back = λ all g. (all, refl, g) }
-
-next : (setting : Setting) (words rest : List (List ℕ)) → IsFirst setting words rest
-    → (all : List Setting) → GivesAll all words
-    → (more : List Setting) × (all ≡ setting ∷ more) × GivesAll more rest
-next setting words rest f [] e =
-    absurd (omega (arith, fewer_behind setting words rest f, ap length e))
-next setting words rest f (other ∷ more) (behind, gives, g) =
-    let same =
-    same_first other setting words behind rest (as_first other more words behind gives g) f in
-    (more, ap (λ (s : Setting). s ∷ more) same.0, subst (GivesAll more) same.1 g)
-
-pub one_more_read : (read : List Setting) (setting : Setting) (words rest behind : List (List ℕ))
-    → HasRead read words rest → IsFirst setting rest behind
-    → HasRead (read ++ setting ∷ []) words behind
-one_more_read read setting words rest behind h f = record {
-  on = λ more g.
-      subst (λ (l : List Setting). GivesAll l words) (sym (append_assoc read (setting ∷ []) more))
-      (h.on (setting ∷ more) (behind, f.gives, g));
-  back = λ all g.
-      let found = h.back all g in
-      let split = next setting rest behind f found.0 found.2 in (
-        split.0,
-        found.1 ∙ ap (λ (l : List Setting). read ++ l) split.1
-            ∙ sym (append_assoc read (setting ∷ []) split.0),
-        split.2,
-      );
-}
-
--- where no words are left, these are all
-pub all_read : (read : List Setting) (words : List (List ℕ)) → HasRead read words []
-    → AreTheSettings read words
-all_read read words h = record {
-  given = subst (λ (l : List Setting). GivesAll l words) (append-nil read) (h.on [] refl);
-  only = λ others g.
-      let found = h.back others g in
-      found.1 ∙ ap (λ (l : List Setting). read ++ l) (none_left found.0 found.2) ∙ append-nil read;
-}
-  where
-    none_left : (more : List Setting) → GivesAll more [] → more ≡ []
-    none_left [] e = refl
-    none_left (setting ∷ more) (rest, gives, g) =
-        let fewer =
-        written_some setting.name setting.value [] rest gives.written in
-        absurd (omega (arith, fewer))
-
--- where words are left that begin no option, there are none
-pub none_read : (read : List Setting) (words rest : List (List ℕ)) → HasRead read words rest
-    → BeginsWithNone rest → 0 < length rest → (all : List Setting) → GivesAll all words → ⊥
-none_read read words rest h none some all g =
-    let found = h.back all g in absurd_more found.0 found.2
-  where
-    absurd_more : (more : List Setting) → GivesAll more rest → ⊥
-    absurd_more [] e = omega (arith, some, ap length e)
-    absurd_more (setting ∷ more) (behind, gives, _) = none setting behind gives

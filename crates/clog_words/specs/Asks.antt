@@ -60,16 +60,15 @@ IsMode None mode = mode ≡ codes "periodic"
 IsMode (Some setting) mode = setting.value ≡ Some mode
 
 -- a period is from 1 to 3600000 ms, and 10000 ms where none is given
-abbrev pub IsPeriod : List Setting → ℕ → Type 0
-IsPeriod settings period = IsNumberOr 10000 1 3600000 (said (codes "period") settings) period
+abbrev pub IsPeriod : Option Setting → ℕ → Type 0
+IsPeriod said_period period = IsNumberOr 10000 1 3600000 said_period period
 
 -- the mode and the period; a period is allowed in batch mode, which has none
-abbrev pub IsSync : List Setting → SyncCore → Type 0
-IsSync settings Batch =
-    IsMode (said (codes "sync") settings) (codes "batch")
-    × ((period : ℕ) × IsPeriod settings period)
-IsSync settings (Periodic period) =
-    IsMode (said (codes "sync") settings) (codes "periodic") × IsPeriod settings period
+abbrev pub IsSync : Option Setting → Option Setting → SyncCore → Type 0
+IsSync said_mode said_period Batch =
+    IsMode said_mode (codes "batch") × ((period : ℕ) × IsPeriod said_period period)
+IsSync said_mode said_period (Periodic period) =
+    IsMode said_mode (codes "periodic") × IsPeriod said_period period
 
 -- ---- the commands, by the words behind the command's own
 
@@ -80,7 +79,8 @@ apply_names =
 
 pub record SaysApply (settings : List Setting) (options : ApplyOptions) : Type 0 where
   pub writers : IsNumberOr 1 1 64 (said (codes "writers") settings) options.writers
-  pub sync : IsSync settings options.sync
+  pub sync :
+      IsSync (said (codes "sync") settings) (said (codes "period") settings) options.sync
   pub segment_kib :
       IsNumberOr 32768 4 32768 (said (codes "segment-kib") settings) options.segment_kib
   pub flush_at : IsNumberIfSaid 1 1000000 (said (codes "flush-at") settings) options.flush_at

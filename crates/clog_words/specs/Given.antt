@@ -20,12 +20,9 @@ use Rattle.std.specs.Prelude.{
   string_bytes,
   slice_index,
 }
-use Rattle.std.specs.Borrow.{Bor}
 use Rattle.std.specs.List.{AllByRecursion, find, list_all, list_any}
-use Rattle.std.specs.Option.{option_map}
 use Rattle.std.specs.Str.{bytes_eq}
 use Rattle.std.specs.declared.alloc.Global.{Global}
-use Rattle.clog_words.specs.declared.settings.Setting.{Setting as Read}
 
 -- the words as their letters
 abbrev pub texts : List (String Global) → List (List ℕ)
@@ -87,20 +84,7 @@ pub record GivesOf (names : List (List ℕ)) (settings : List Setting) (words : 
 abbrev pub said : List ℕ → List Setting → Option Setting
 said name settings = find (is_named name) settings
 
--- an option as the program keeps it
-abbrev pub setting_of : Read → Setting
-setting_of read = record {
-  name = read.name.now;
-  value = option_map (λ value. value.now) read.value;
-}
-
-abbrev pub settings_of : List Read → List Setting
-settings_of reads = map setting_of reads
-
 -- ---- for private clauses
-
-abbrev pub letters : List (Bor (List ℕ)) → List (List ℕ)
-letters names = map (λ (name : Bor (List ℕ)). name.now) names
 
 -- the words behind a mark do not begin with a value
 abbrev pub IsFresh : List (List ℕ) → Type 0
@@ -115,19 +99,6 @@ IsAlone (Some value) rest = Unit {0}
 pub record IsFirst (setting : Setting) (words rest : List (List ℕ)) : Type 0 where
   pub gives : Gives setting words rest
   pub alone : IsAlone setting.value rest
-
-abbrev pub BeginsWithNone : List (List ℕ) → Type 0
-BeginsWithNone words = (setting : Setting) (rest : List (List ℕ)) → ¬ Gives setting words rest
-
--- These options are given, and no others.
-pub record AreTheSettings (settings : List Setting) (words : List (List ℕ)) : Type 0 where
-  pub given : GivesAll settings words
-  pub only : (others : List Setting) → GivesAll others words → others ≡ settings
-
--- the words behind a name without `=`, cut behind what that name's option takes of them
-abbrev pub IsCutBehind : Option (List ℕ) → List (List ℕ) → List (List ℕ) → Type 0
-IsCutBehind None words rest = (words ≡ rest) × IsFresh rest
-IsCutBehind (Some value) words rest = (words ≡ value ∷ rest) × ¬ BeginsWithDash value
 
 -- These options of a command are given, and no others.
 pub record AreTheOptions (names : List (List ℕ)) (settings : List Setting) (words : List (List ℕ))

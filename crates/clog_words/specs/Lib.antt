@@ -2,3 +2,4 @@ pub mod Asks
 pub mod Built
 pub mod Given
 pub mod Numbers
+pub mod Options

@@ -1,5 +1,6 @@
 //! The commands, each with the options or the words that it has.
 ghost use Rattle.std.specs.Prelude.{◌≡◌, ◌∷◌, ℕ, List, codes, MatchOption, MatchResult};
+ghost use Rattle.clap.specs.Matches.{found_of};
 ghost use Rattle.clog_spec.specs.Names.{IsSegmentName};
 ghost use Rattle.clog_words.specs.declared.request.ApplyOptions.{ApplyOptions as AskedApply};
 ghost use Rattle.clog_words.specs.declared.request.ReplayOptions.{ReplayOptions as AskedReplay};
@@ -16,54 +17,48 @@ ghost use Rattle.clog_words.specs.Asks.{
   apply_names,
   replay_names,
 };
-ghost use Rattle.clog_words.specs.Given.{letters, settings_of, texts};
+ghost use Rattle.clog_words.specs.Given.{Setting, texts};
+ghost use Rattle.clog_words.specs.Options.{
+  Tells,
+  apply_options as options_of_apply,
+  replay_options as options_of_replay,
+};
 
-use crate::choices::{mark, number_if_said, number_or, sync_of};
+use crate::choices::{number_if_said, number_or, sync_of};
 use crate::number::number_within;
+use crate::options::{apply_command, matches_of, replay_command};
 use crate::request::{ApplyOptions, ReplayOptions, Request, WordsFault};
-use crate::settings::{Setting, settings_given};
+use clap::ArgMatches;
 use clog_base::{Name, parse_segment_name};
 use std::alloc::Global;
 
-const APPLY_NAMES: [&str; 9] = [
-    "writers",
-    "sync",
-    "period",
-    "segment-kib",
-    "flush-at",
-    "archive",
-    "receipts",
-    "drain",
-    "dump",
-];
-
-const REPLAY_NAMES: [&str; 2] = ["workers", "ignore-errors"];
-
-fn apply_options(settings: &[Setting<'_>]) -> Option<ApplyOptions>
-    ensures { MatchOption result
-        ((options : AskedApply) → ¬ SaysApply (settings_of settings.now) options)
-        (SaysApply (settings_of settings.now)) }
+fn apply_options(matches: &ArgMatches<'_>) -> Option<ApplyOptions>
+    ensures { (settings : List Setting)
+        → Tells options_of_apply settings (found_of matches.now)
+        → MatchOption result ((options : AskedApply) → ¬ SaysApply settings options)
+        (SaysApply settings) }
 {
     Some(ApplyOptions {
-        writers: number_or(settings, "writers", 1, 64, 1)? as u8,
-        sync: sync_of(settings)?,
-        segment_kib: number_or(settings, "segment-kib", 4, 32_768, 32_768)? as u16,
-        flush_at: number_if_said(settings, "flush-at", 1, 1_000_000)?,
-        archive: mark(settings, "archive")?,
-        receipts: mark(settings, "receipts")?,
-        drain: mark(settings, "drain")?,
-        dump: mark(settings, "dump")?,
+        writers: number_or(matches, "writers", 1, 64, 1)? as u8,
+        sync: sync_of(matches)?,
+        segment_kib: number_or(matches, "segment-kib", 4, 32_768, 32_768)? as u16,
+        flush_at: number_if_said(matches, "flush-at", 1, 1_000_000)?,
+        archive: matches.get_flag("archive"),
+        receipts: matches.get_flag("receipts"),
+        drain: matches.get_flag("drain"),
+        dump: matches.get_flag("dump"),
     })
 }
 
-fn replay_options(settings: &[Setting<'_>]) -> Option<ReplayOptions>
-    ensures { MatchOption result
-        ((options : AskedReplay) → ¬ SaysReplay (settings_of settings.now) options)
-        (SaysReplay (settings_of settings.now)) }
+fn replay_options(matches: &ArgMatches<'_>) -> Option<ReplayOptions>
+    ensures { (settings : List Setting)
+        → Tells options_of_replay settings (found_of matches.now)
+        → MatchOption result ((options : AskedReplay) → ¬ SaysReplay settings options)
+        (SaysReplay settings) }
 {
     Some(ReplayOptions {
-        workers: number_or(settings, "workers", 1, 64, 1)? as u8,
-        ignore_errors: mark(settings, "ignore-errors")?,
+        workers: number_or(matches, "workers", 1, 64, 1)? as u8,
+        ignore_errors: matches.get_flag("ignore-errors"),
     })
 }
 
@@ -71,8 +66,11 @@ fn apply(alloc: Global, words: &[String]) -> Result<ApplyOptions, WordsFault>
     ensures { MatchResult result (AsksApply (texts words.now))
         (λ fault. OnUsage fault ((options : AskedApply) → ¬ AsksApply (texts words.now) options)) }
 {
-    let settings = settings_given(alloc, words, &APPLY_NAMES)?;
-    match apply_options(&settings) {
+    let Ok(command) = apply_command(alloc) else {
+        return Err(WordsFault::OutOfMemory);
+    };
+    let matches = matches_of(command, words)?;
+    match apply_options(&matches) {
         Some(options) => Ok(options),
         None => Err(WordsFault::Usage),
     }
@@ -83,8 +81,11 @@ fn replay(alloc: Global, words: &[String]) -> Result<ReplayOptions, WordsFault>
         (λ fault. OnUsage fault
         ((options : AskedReplay) → ¬ AsksReplay (texts words.now) options)) }
 {
-    let settings = settings_given(alloc, words, &REPLAY_NAMES)?;
-    match replay_options(&settings) {
+    let Ok(command) = replay_command(alloc) else {
+        return Err(WordsFault::OutOfMemory);
+    };
+    let matches = matches_of(command, words)?;
+    match replay_options(&matches) {
         Some(options) => Ok(options),
         None => Err(WordsFault::Usage),
     }

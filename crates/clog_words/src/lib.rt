@@ -1,7 +1,7 @@
 //! The words after the program's name, read into what they ask for. Words are accepted exactly
 //! where they ask for something, and then for one thing alone: the first word is the command, its
 //! options follow in any order, each once at most, as `--name value` or `--name=value`, and no name
-//! is shortened.
+//! is shortened. Options are read by `clap`; what is accepted is said without it.
 #![tactic(auto)]
 
 mod built;
@@ -9,8 +9,8 @@ mod choices;
 mod commands;
 mod laws;
 mod number;
+mod options;
 mod request;
-mod settings;
 #[cfg(test)]
 mod tests;
 
