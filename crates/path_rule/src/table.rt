@@ -39,3 +39,12 @@ pub struct Opener<K> {
     pub ghost role: { seat.me.0.role ≡ roles.Opener made },
     pub ghost bare: { seat.me.1 ≡ [] },
 }
+
+impl<K: Keeper, A: Allocator> PathTable<K, A> {
+    /// The sizes of the path.
+    pub fn size(&self) -> PathSize
+        ensures { result ≡ self.now.size }
+    {
+        self.size
+    }
+}

@@ -4,3 +4,4 @@ pub mod NoteLaws
 pub mod LeastEntry
 pub mod BoxKept
 pub mod Answered
+pub mod LogAfter

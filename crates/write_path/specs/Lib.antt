@@ -1,2 +1,3 @@
+pub mod Claims
 pub mod Tries
 pub mod Writes

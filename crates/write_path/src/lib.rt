@@ -2,12 +2,17 @@
 //! takes no memory, and the seats that begin a write.
 #![tactic(auto)]
 
+mod allocating;
+mod claimed;
+mod claiming;
 mod entry;
 mod fault;
 mod laws;
 mod prepared;
 mod seats;
 
+pub use claimed::Claimed;
+pub use claiming::TryClaim;
 pub use fault::PrepareFault;
 pub use laws::note_laws;
 pub use path_rule::{Begun, PathSeat, Seen};
