@@ -34,7 +34,8 @@ use Rattle.clog_words.specs.Options.{
 use Rattle.clog_words.proofs.Rows.{all_defaults, found_row, row_at_end, row_or, unset_of}
 use Rattle.clog_words.proofs.SettingLists.{same_settings}
 use Rattle.clog_words.proofs.Taken.{all_own, takes_all}
-use Rattle.clog_words.proofs.Tidy.{and_both, given_of, said_fit, tidy_of}
+use Rattle.clog_words.proofs.Follows.{and_both, given_of, tidy_of}
+use Rattle.clog_words.proofs.Tidy.{said_fit}
 use Rattle.clog_words.proofs.Turns.{
   both_none,
   cons_not_nil,
@@ -46,7 +47,8 @@ use Rattle.clog_words.proofs.Turns.{
   shape_for,
 }
 use Rattle.clog_words.proofs.Uses.{row_of}
-use Rattle.clog_words.proofs.Walks.{IsOwn, IsTidy, Passes, after, between, known_is, reads}
+use Rattle.clog_words.proofs.TidyOptions.{IsOwn, IsTidy, between, known_is}
+use Rattle.clog_words.proofs.Walks.{Passes, after, reads}
 
 -- ---- behind the walk nothing fails
 

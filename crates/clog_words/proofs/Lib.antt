@@ -1,3 +1,4 @@
+mod Follows
 mod Levels
 mod LongWords
 mod OneRequest
@@ -6,6 +7,7 @@ mod Rows
 mod SettingLists
 mod Taken
 mod Tidy
+mod TidyOptions
 mod Told
 mod Turns
 mod Uses

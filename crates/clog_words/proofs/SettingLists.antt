@@ -15,12 +15,6 @@ use Rattle.clog_words.specs.Given.{
 
 -- ---- one option
 
-head : List ℕ → ℕ
-head bytes = get_or bytes 0 0
-
-first : List (List ℕ) → List ℕ
-first words = get_or words 0 []
-
 -- a text is cut at its first `=` alone
 pub cut_once : (front other back rest : List ℕ) → HasNoEquals front → HasNoEquals other
     → front ++ 61 ∷ back ≡ other ++ 61 ∷ rest → (front ≡ other) × (back ≡ rest)
@@ -117,11 +111,6 @@ written_some : (name : List ℕ) (value : Option (List ℕ)) (words rest : List 
 written_some name None words rest e = omega (arith, ap length e)
 written_some name (Some value) words rest (inl e) = omega (arith, ap length e)
 written_some name (Some value) words rest (inr e) = omega (arith, ap length e.words_are)
-
-pub fewer_behind : (setting : Setting) (words rest : List (List ℕ)) → IsFirst setting words rest
-    → length rest < length words
-fewer_behind setting words rest f =
-    written_some setting.name setting.value words rest f.gives.written
 
 -- ---- lists of options
 

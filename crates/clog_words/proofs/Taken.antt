@@ -36,7 +36,8 @@ use Rattle.clog_words.proofs.Uses.{
   value_fits,
   value_used,
 }
-use Rattle.clog_words.proofs.Walks.{IsFit, IsOwn, IsTidy, Passes, pending_used, rules, settled_at, settles, shape}
+use Rattle.clog_words.proofs.TidyOptions.{IsFit, IsOwn, IsTidy}
+use Rattle.clog_words.proofs.Walks.{Passes, pending_used, rules, settled_at, settles, shape}
 
 -- an option of a command has a name
 name_has_letters : (options : List Known) (name : Text) (known : Known)

@@ -1,27 +1,15 @@
 -- What a walk of `clap` without a fault has read: the options that the words give.
-use Rattle.std.proofs.Common.{◌≡◌, ℕ, List, [], ◌∷◌, ◌++◌, map, fold, Bool, true, false, is_some, Option, Some, None, option_map, unwrap_or, if◌then◌else◌, refl, ap, ap₂, subst, sym, ◌∙◌, inl, inr, append_assoc, append-nil}
+use Rattle.std.proofs.Common.{◌≡◌, ℕ, List, [], ◌∷◌, ◌++◌, fold, Bool, true, false, is_some, Option, Some, None, option_map, refl, ap, subst, sym, ◌∙◌, inl, inr, append-nil}
 use Rattle.std.proofs.lemmas.Slice.Eq.{bytes_eq-Decides}
 use Rattle.std.specs.List.{AllByRecursion}
 use Rattle.std.specs.Str.{bytes_eq}
 use Rattle.clap.specs.Faults.{settle_fault, turn_fault, use_fault, walk_fault}
 use Rattle.clap.specs.Kinds.{Kinds, or_else}
-use Rattle.clap.specs.Lexer.{is_long_word, long_of}
+use Rattle.clap.specs.Lexer.{long_of}
 use Rattle.clap.specs.Simple.{Shape}
-use Rattle.clap.specs.Walk.{
-  Names,
-  Row,
-  Rule,
-  Text,
-  Walk,
-  arg_by_id,
-  arg_by_long,
-  has_row,
-  settled,
-  used,
-  walked,
-}
+use Rattle.clap.specs.Walk.{Row, Rule, Text, Walk, arg_by_id, arg_by_long, has_row, settled, used, walked}
 use Rattle.clap.specs.declared.error.kind.ErrorKind.TheVariants as kind
-use Rattle.clog_words.specs.Given.{BeginsWithDash, Gives, GivesAll, Setting, dashed}
+use Rattle.clog_words.specs.Given.{BeginsWithDash, dashed}
 use Rattle.clog_words.specs.Options.{Known, known_as, mark_named, value_named}
 use Rattle.clog_words.proofs.LongWords.{from_long, long_is_other, plain_word}
 use Rattle.clog_words.proofs.Turns as turns
@@ -38,98 +26,20 @@ use Rattle.clog_words.proofs.Turns.{
   shape_for,
   waits_at,
 }
-use Rattle.clog_words.proofs.Uses.{
-  mark_is_new,
-  mark_used,
-  row_given,
-  row_of,
-  value_is_new,
-  value_used,
+use Rattle.clog_words.proofs.Uses.{mark_is_new, mark_used, row_given, value_is_new, value_used}
+use Rattle.clog_words.proofs.TidyOptions.{
+  HasRead,
+  IsFit,
+  IsOwn,
+  State,
+  apart_words,
+  between,
+  known_is,
+  one_more,
+  waiting,
+  walk_at,
+  walk_next,
 }
-
--- the option is one of the command's, and has a value where it should
-abbrev pub IsFit : List Known → Setting → Type 0
-IsFit options setting =
-    known_as setting.name options
-    ≡ Some (record { name = setting.name; has_value = is_some setting.value })
-
--- The options are fit, and none was there before.
-abbrev pub IsTidy : List Known → List Row → List Setting → Type 0
-IsTidy options rows [] = Unit {0}
-IsTidy options rows (setting ∷ settings) =
-    (has_row setting.name rows ≡ false) × IsFit options setting
-    × IsTidy options (rows ++ row_of setting ∷ []) settings
-
--- A word of ours: where it begins with a dash it is that of an option.
-abbrev pub IsOwn : Text → Type 0
-IsOwn word = BeginsWithDash word → is_long_word word ≡ true
-
--- The words give options that are tidy, with the rows that are told of them.
-pub record HasRead (options : List Known) (before after : List Row) (words : List Text)
-    : Type 0 where
-  pub settings : List Setting
-  pub given : GivesAll settings words
-  pub tidy : IsTidy options before settings
-  pub rows : after ≡ before ++ map row_of settings
-
-one_more : (options : List Known) (before after : List Row) (setting : Setting)
-    (words rest : List Text) → has_row setting.name before ≡ false → IsFit options setting
-    → Gives setting words rest → HasRead options (before ++ row_of setting ∷ []) after rest
-    → HasRead options before after words
-one_more options before after setting words rest none fit gives read = record {
-  settings = setting ∷ read.settings;
-  given = (rest, gives, read.given);
-  tidy = (none, fit, read.tidy);
-  rows = read.rows ∙ append_assoc before (row_of setting ∷ []) (map row_of read.settings);
-}
-
-apart_words : (name text value word : Text) (rest behind : List Text) → word ≡ dashed text
-    → text ≡ name → rest ≡ value ∷ behind → word ∷ rest ≡ dashed name ∷ value ∷ behind
-apart_words name text value word rest behind begins named more =
-    ap₂ (λ (w : Text) (ws : List Text). w ∷ ws) (begins ∙ ap dashed named) more
-
--- ---- the option that a name names
-
-known_name : (options : List Known) (name : Text) (known : Known)
-    → known_as name options ≡ Some known → known.name ≡ name
-known_name [] name known e = absurd (cc)
-known_name (first ∷ options) name known e =
-    go (bytes_eq first.name name) refl (known_name options name known) e
-  where
-    go : (b : Bool) → bytes_eq first.name name ≡ b
-        → (known_as name options ≡ Some known → known.name ≡ name)
-        → (if b then Some first else known_as name options) ≡ Some known → known.name ≡ name
-    go true is more e =
-        ap (λ (o : Option Known). (unwrap_or o known).name) (sym e)
-        ∙ (bytes_eq-Decides first.name name).0 is
-    go false is more e = more e
-
-pub known_is : (options : List Known) (name : Text) (known : Known)
-    → known_as name options ≡ Some known
-    → known_as name options ≡ Some (record { name = name; has_value = known.has_value })
-known_is options name known e =
-    e ∙ ap (λ (n : Text). Some (record { name = n; has_value = known.has_value }))
-    (known_name options name known e)
-
--- ---- the words one by one
-
-walk_next : (shape : Shape) (names : Names) (w : Walk) (word : Text) (rest : List Text)
-    → walk_fault shape names w (word ∷ rest) ≡ []
-    → (turn_fault shape names w word ≡ [])
-    × (walk_fault shape names (walked shape.rules names w word) rest ≡ [])
-unfolding walk_fault
-walk_next shape names w word rest e =
-    both_none (turn_fault shape names w word)
-    (walk_fault shape names (walked shape.rules names w word) rest) e
-
--- where the walk stands: between two options, or behind one that waits for its value
-pub data State : Type 0 where
-  between : List Row → Pending → State
-  waiting : List Row → Text → State
-
-abbrev pub walk_at : State → Walk
-walk_at (between rows pending) = idle_at rows pending
-walk_at (waiting rows name) = waits_at rows name
 
 module _ (command : List ℕ) (options : List Known) where
   abbrev pub rules : List Rule
