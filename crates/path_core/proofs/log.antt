@@ -19,5 +19,6 @@ pub mod KeepsLogged
 pub mod MarkerSteps
 pub mod KeptMarker
 pub mod KeepsMarkers
-pub mod MarkerTells
+pub mod MarkerWaits
 pub mod EntrySinceMarker
+pub mod MarkerTells

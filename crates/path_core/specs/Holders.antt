@@ -1,11 +1,12 @@
 -- What the part of a turn's holder tells of its next steps, in each lawful state.
-use Rattle.std.specs.Prelude.{◌≡◌, ℕ, suc, List, Some}
+use Rattle.std.specs.Prelude.{◌≡◌, ℕ, suc, List, Option, Some, None}
 use Rattle.op_core.specs.declared.count.Tally.{Tally}
 use Rattle.op_core.specs.Tallies.{IsPassed}
 use Rattle.op_core.specs.declared.count.Order.TheVariants.{Append}
 use Rattle.path_core.specs.declared.event.ClaimKind.TheVariants.{Marker}
 use Rattle.path_core.specs.declared.event.Event.{Event}
 use Rattle.path_core.specs.declared.event.Event.TheVariants.{MoveCurrent, Claim}
+use Rattle.path_core.specs.declared.seat.LastMarker.{LastMarker}
 use Rattle.path_core.specs.declared.seat.Seat.{Seat}
 use Rattle.path_core.specs.declared.seat.Switching.{Switching}
 use Rattle.path_core.specs.declared.seat.Switching.TheVariants.{
@@ -16,6 +17,7 @@ use Rattle.path_core.specs.declared.seat.Switching.TheVariants.{
   WithBarrier,
 }
 use Rattle.path_core.specs.declared.state.TableState.{TableState}
+use Rattle.path_core.specs.Keys.{first_offset, behind_marker}
 use Rattle.path_core.specs.Parts.{stage_of}
 
 -- The newest switch is through: at rest it is, between its steps it is not, and with its barrier
@@ -38,6 +40,16 @@ pub record HasWaiting (s : Seat) : Type 0 where
   pub table : ℕ
   pub memtable : ℕ
   pub waits : stage_of s table ≡ Some (Waiting memtable)
+
+-- A marker's barrier is issued and passed. The counts are those of the append order.
+abbrev pub IsPassedBarrier : List Tally → Option ℕ → Type 0
+IsPassedBarrier tallies None = ⊥
+IsPassedBarrier tallies (Some group) = IsPassed tallies group
+
+-- where the log stood behind the last marker, or at first
+abbrev pub behind_last : ℕ → Option LastMarker → ℕ
+behind_last capacity None = first_offset
+behind_last capacity (Some kept) = behind_marker capacity kept.start
 
 -- Steps that change the last marker: the claim of one, and the move of the append order's current
 -- group, which issues its barrier.

@@ -1,5 +1,5 @@
 -- What a seat found or put still stands, as far as a running seat relies on it.
-use Rattle.std.specs.Prelude.{◌≡◌, ℕ, suc, ◌<◌, ◌≤◌, false, length, Some, None}
+use Rattle.std.specs.Prelude.{◌≡◌, ℕ, suc, ◌<◌, ◌≤◌, length, Some, None}
 use Rattle.std.specs.List.{list_any}
 use Rattle.op_core.specs.declared.count.Order.{Order}
 use Rattle.op_core.specs.declared.count.Order.TheVariants.{Write, Append}
@@ -8,7 +8,6 @@ use Rattle.path_core.specs.declared.seat.FlushTurn.{FlushTurn}
 use Rattle.path_core.specs.declared.seat.Found.{Found}
 use Rattle.path_core.specs.declared.seat.FoundBound.{FoundBound}
 use Rattle.path_core.specs.declared.seat.FoundGroups.{FoundGroups}
-use Rattle.path_core.specs.declared.seat.LastMarker.{LastMarker}
 use Rattle.path_core.specs.declared.seat.Switching.{Switching}
 use Rattle.path_core.specs.declared.seat.Switching.TheVariants.{
   Settled,
@@ -20,7 +19,6 @@ use Rattle.path_core.specs.declared.seat.Switching.TheVariants.{
 use Rattle.path_core.specs.declared.seat.SyncTurn.{SyncTurn}
 use Rattle.path_core.specs.declared.state.Bound.{Bound}
 use Rattle.path_core.specs.declared.state.Bound.TheVariants.{Live, Raising, Final}
-use Rattle.path_core.specs.declared.state.Claim.{Claim}
 use Rattle.path_core.specs.declared.state.PathState.{PathState}
 use Rattle.path_core.specs.declared.state.TableState.{TableState}
 use Rattle.path_core.specs.Parts.{
@@ -31,7 +29,7 @@ use Rattle.path_core.specs.Parts.{
   table_of,
   memtable_at,
   memtable_of,
-  last_marker,
+  last_kept,
   IsFinal,
 }
 use Rattle.path_core.specs.Allowed.{is_unbarred_marker, IsSettled}
@@ -58,25 +56,14 @@ pub record WordsKnown (x : PathState) (found : Found) : Type 0 where
   pub synced : (key : ℕ) → found.synced ≡ Some key → key ≤ x.synced
   pub stopped : (n : ℕ) → found.stopped ≡ Some n → 0 < n → n ≡ x.stopped
 
--- The last marker of the log is this seat's, and is what it keeps of it. Once its barrier is
--- issued, no marker of the seat waits for one.
-pub record IsLastMarker (x : PathState) (by : ℕ) (kept : LastMarker) : Type 0 where
-  pub claim : Claim
-  pub last : last_marker x ≡ Some claim
-  pub writer : claim.by ≡ by
-  pub start : claim.start ≡ kept.start
-  pub barrier : claim.barrier ≡ kept.barrier
-  pub none_waits : (g : ℕ) → kept.barrier ≡ Some g
-      → list_any (is_unbarred_marker by) x.claims ≡ false
-
 -- What the holder of the Sync turn found or put while it held it is exact, and so is what it keeps
--- of the marker that it claimed.
-pub record SyncExact (x : PathState) (by : ℕ) (turn : SyncTurn) : Type 0 where
+-- of the last marker, whoever claimed it.
+pub record SyncExact (x : PathState) (turn : SyncTurn) : Type 0 where
   pub write : GroupsExact x Write turn.write
   pub append : GroupsExact x Append turn.append
   pub synced : (key : ℕ) → turn.synced ≡ Some key → key ≡ x.synced
   pub stopped : (n : ℕ) → turn.stopped ≡ Some n → n ≡ x.stopped
-  pub marker : (kept : LastMarker) → turn.marker ≡ Some kept → IsLastMarker x by kept
+  pub marker : turn.marker ≡ last_kept x.claims
 
 -- A bound never goes back: from live to raising, up, to final.
 abbrev pub IsAtLeast : ℕ → Bound → Type 0
@@ -144,8 +131,10 @@ pub record FlushExact (x : PathState) (t : ℕ) (turn : FlushTurn) : Type 0 wher
 -- What a seat knows.
 pub record SeatKnows (x : PathState) (w : ℕ) : Type 0 where
   pub words : WordsKnown x (seat_of x w).found
-  pub sync : (turn : SyncTurn) → (seat_of x w).sync ≡ Some turn → SyncExact x w turn
+  pub sync : (turn : SyncTurn) → (seat_of x w).sync ≡ Some turn → SyncExact x turn
   pub bounds : (t : ℕ) (found : FoundBound) → (seat_table (seat_of x w) t).bound ≡ Some found
       → BoundKnown x t found
   pub flush : (t : ℕ) (turn : FlushTurn) → (seat_table (seat_of x w) t).flush ≡ Some turn
       → FlushExact x t turn
+  -- whether one of its markers has no barrier
+  pub marker_waits : (seat_of x w).marker_waits ≡ list_any (is_unbarred_marker w) x.claims

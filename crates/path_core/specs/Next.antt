@@ -71,12 +71,13 @@ use Rattle.path_core.specs.Parts.{
   is_empty,
   key_of_bound,
   last_upper,
+  last_kept,
 }
 use Rattle.path_core.specs.Words.{reading, by_of, place_of}
 use Rattle.path_core.specs.Droppable.{is_logged, is_droppable}
 use Rattle.path_core.specs.Allowed.{is_unbarred, is_unbarred_marker}
 use Rattle.path_core.specs.SeatParts.{raised_to, made_final}
-use Rattle.path_core.specs.SeatAfter.{seat_after}
+use Rattle.path_core.specs.SeatAfter.{Told, seat_after}
 
 -- The log key and the claims.
 
@@ -245,11 +246,15 @@ abbrev pub stopped_after : ℕ → Event → ℕ
 stopped_after stopped (Put by Stopped value) = value
 stopped_after stopped _ = stopped
 
+-- what the step tells its seat
+abbrev pub told_of : PathState → Event → Told
+told_of x e = record { files = gives_file x e; marker = last_kept x.claims }
+
 -- The acting seat's part; the others stay.
 abbrev pub seats_after : PathState → Event → List Seat
 seats_after x e =
     set x.seats (by_of e)
-    (seat_after (seat_of x (by_of e)) e (reading x (place_of e)) (gives_file x e))
+    (seat_after (seat_of x (by_of e)) e (reading x (place_of e)) (told_of x e))
 
 -- the state after the step
 abbrev pub next_of : PathState → Event → PathState

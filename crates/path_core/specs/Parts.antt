@@ -84,6 +84,7 @@ fresh_seat = record {
   claim = None;
   note = None;
   tables = replicate 16 untouched;
+  marker_waits = false;
   sync = None;
   found = found_at_first;
 }
@@ -138,7 +139,7 @@ found_of Append s = s.found.append
 abbrev pub issue_of : Seat → Issue
 issue_of s = option_map_or (λ (turn : SyncTurn). turn.issue) s.sync Rest
 
--- what the holder of the Sync turn keeps of the last marker, where it claimed it
+-- the last marker of the log, as the holder of the Sync turn keeps it
 abbrev pub marker_of : Seat → Option LastMarker
 marker_of s = option_and_then (λ (turn : SyncTurn). turn.marker) s.sync
 
@@ -178,10 +179,21 @@ is_entry c = not (is_marker c)
 abbrev pub is_entry_in : ℕ → Claim → Bool
 is_entry_in o c = is_entry c && (ordinal_of c.start == o)
 
--- the last marker of the log, if there is one
+-- the last marker among claims, if there is one
+abbrev pub last_among : List Claim → Option Claim
+last_among claims =
+    fold (λ (o : Option Claim) (c : Claim). if is_marker c then Some c else o) None claims
+
+-- the last marker of the log
 abbrev pub last_marker : PathState → Option Claim
-last_marker x =
-    fold (λ (o : Option Claim) (c : Claim). if is_marker c then Some c else o) None x.claims
+last_marker x = last_among x.claims
+
+-- the last marker among claims, as it is kept
+abbrev pub kept_of : Claim → LastMarker
+kept_of c = record { by = c.by; start = c.start; barrier = c.barrier }
+
+abbrev pub last_kept : List Claim → Option LastMarker
+last_kept claims = option_map kept_of (last_among claims)
 
 -- whether a set of tables, bit t for table t, holds a table
 abbrev pub touches : ℕ → ℕ → Bool

@@ -1,12 +1,13 @@
 -- A seat's part after its own step.
 --
--- It is told what stood at the step's place, and whether the step gives a file. A seat keeps what
--- it found there, and what it put there itself. While it holds a turn it keeps these apart from
--- what it found before: taking a turn begins with nothing.
+-- It is told what stood at the step's place, and what else a step tells. A seat keeps what it found
+-- at its place, and what it put there itself. While it holds a turn it keeps these apart from what
+-- it found before: taking a turn begins with nothing but the last marker, which the turn hands on.
 use Rattle.std.specs.Prelude.{
   ℕ,
   ◌==◌,
   Bool,
+  true,
   false,
   ◌&&◌,
   ◌||◌,
@@ -16,6 +17,7 @@ use Rattle.std.specs.Prelude.{
   Some,
   None,
   is_some,
+  is_none,
   if◌then◌else◌,
 }
 use Rattle.std.specs.Option.{option_map}
@@ -99,6 +101,13 @@ use Rattle.path_core.specs.SeatParts.{
   has_note_of,
 }
 
+-- What a step tells its seat besides what stood at its place.
+pub record Told : Type 0 where
+  -- whether it gives a file
+  pub files : Bool
+  -- the last marker of the log
+  pub marker : Option LastMarker
+
 -- After a Look that found this.
 abbrev pub looked : Seat → Place → Reading → Seat
 looked s (Count order group) (Operations k) =
@@ -158,17 +167,24 @@ raised_as_holder m to st =
 
 -- The last marker, as the holder of the Sync turn claims it and issues its barrier.
 
-abbrev pub marker_claimed : ℕ → SyncTurn → SyncTurn
-marker_claimed start turn =
-    let marker : LastMarker = record { start = start; barrier = None } in
+abbrev pub marker_claimed : ℕ → ℕ → SyncTurn → SyncTurn
+marker_claimed by start turn =
+    let marker : LastMarker = record { by = by; start = start; barrier = None } in
     record turn { marker = Some marker }
 
-abbrev pub marker_barrier : ℕ → LastMarker → LastMarker
-marker_barrier group k = if is_some k.barrier then k else record k { barrier = Some group }
+-- A barrier is for the seat's own markers.
+abbrev pub marker_barrier : ℕ → ℕ → LastMarker → LastMarker
+marker_barrier by group k =
+    if (k.by == by) && is_none k.barrier then record k { barrier = Some group } else k
 
-abbrev pub marker_after : Order → ℕ → Option LastMarker → Option LastMarker
-marker_after Write group marker = marker
-marker_after Append group marker = option_map (marker_barrier group) marker
+abbrev pub marker_after : Order → ℕ → ℕ → Option LastMarker → Option LastMarker
+marker_after Write by group marker = marker
+marker_after Append by group marker = option_map (marker_barrier by group) marker
+
+-- All of the seat's markers have their barrier then.
+abbrev pub waits_after : Order → Bool → Bool
+waits_after Write waits = waits
+waits_after Append waits = false
 
 -- The tables' switches after a barrier of an order was issued.
 abbrev pub stages_after : Order → ℕ → List SeatTable → List SeatTable
@@ -176,26 +192,27 @@ stages_after Write group tables = map (barrier_issued group) tables
 stages_after Append group tables = tables
 
 -- A new group is current: the one before it is the barrier of what waited for one.
-abbrev pub moved_turn : Order → ℕ → ℕ → SyncTurn → SyncTurn
-moved_turn order before group turn =
+abbrev pub moved_turn : Order → ℕ → ℕ → ℕ → SyncTurn → SyncTurn
+moved_turn order by before group turn =
     record (in_turn_groups order (current_found group) turn) {
       issue = Moved order;
-      marker = marker_after order before turn.marker;
+      marker = marker_after order by before turn.marker;
     }
 
-abbrev pub moved : Order → ℕ → ℕ → Seat → Seat
-moved order before group s = record s {
-  sync = option_map (moved_turn order before group) s.sync;
+abbrev pub moved : Order → ℕ → ℕ → ℕ → Seat → Seat
+moved order by before group s = record s {
+  sync = option_map (moved_turn order by before group) s.sync;
   tables = stages_after order before s.tables;
+  marker_waits = waits_after order s.marker_waits;
 }
 
 -- A turn that was just taken.
 
-abbrev pub new_sync : SyncTurn
-new_sync = record {
+abbrev pub new_sync : Option LastMarker → SyncTurn
+new_sync marker = record {
   issue = Rest;
   filed = false;
-  marker = None;
+  marker = marker;
   write = nothing_found;
   append = nothing_found;
   synced = None;
@@ -211,27 +228,27 @@ number_read (Operations k) = 0
 number_read (Number n) = n
 number_read (Limit b) = 0
 
--- The seat after its step, at whose place `found` stood, and which gives a file or not.
-abbrev pub seat_after : Seat → Event → Reading → Bool → Seat
-seat_after s (Look by at) found files = looked s at found
-seat_after s (Register by order group) found files = registered order group s
-seat_after s (Close by order group carried) found files = closed order carried s
-seat_after s (OpenGroup by order group) found files = in_sync (with_issue (Opened order)) s
-seat_after s (MoveCurrent by order group) found files = moved order (number_read found) group s
-seat_after s (Expire by order group) found files = in_sync (with_issue Rest) s
-seat_after s (Advance by order group) found files = keeps order (oldest_found group) s
-seat_after s (Claim by from to Entry) found files =
+-- The seat after its step, at whose place `found` stood.
+abbrev pub seat_after : Seat → Event → Reading → Told → Seat
+seat_after s (Look by at) found told = looked s at found
+seat_after s (Register by order group) found told = registered order group s
+seat_after s (Close by order group carried) found told = closed order carried s
+seat_after s (OpenGroup by order group) found told = in_sync (with_issue (Opened order)) s
+seat_after s (MoveCurrent by order group) found told = moved order by (number_read found) group s
+seat_after s (Expire by order group) found told = in_sync (with_issue Rest) s
+seat_after s (Advance by order group) found told = keeps order (oldest_found group) s
+seat_after s (Claim by from to Entry) found told =
     record s {
       claim = Some (record { start = claim_start Entry from.0 to.0; end = to.0 });
       found = record s.found { log = Some to.0 };
     }
-seat_after s (Claim by from to Marker) found files =
-    in_sync (marker_claimed (claim_start Marker from.0 to.0))
-    (record s { found = record s.found { log = Some to.0 } })
-seat_after s (Switch by table memtable OpenPart) found files =
+seat_after s (Claim by from to Marker) found told =
+    in_sync (marker_claimed by (claim_start Marker from.0 to.0))
+    (record s { found = record s.found { log = Some to.0 }; marker_waits = true })
+seat_after s (Switch by table memtable OpenPart) found told =
     at_table table.0 (λ (st : SeatTable). reaches (Begun memtable)
     (in_flush (λ (turn : FlushTurn). record turn { newest = Some memtable }) st)) s
-seat_after s (Switch by table memtable Mark) found files =
+seat_after s (Switch by table memtable Mark) found told =
     at_table table.0 (λ (st : SeatTable).
     reaches (MarkedStage (record { memtable = memtable; key = None; raised = false }))
     (bound_found memtable (Raising (record { 0 = 0 })) st)) s
@@ -242,20 +259,20 @@ seat_after s (Raise by table memtable to) (Limit b) files =
 seat_after s (Finalise by table memtable) (Limit b) files =
     at_table table.0 (λ (st : SeatTable).
     reaches (Waiting memtable) (bound_found memtable (made_final b) st)) s
-seat_after s (TakeTurn by Sync) found files = record s { sync = Some new_sync }
-seat_after s (TakeTurn by (Flush table)) found files =
+seat_after s (TakeTurn by Sync) found told = record s { sync = Some (new_sync told.marker) }
+seat_after s (TakeTurn by (Flush table)) found told =
     at_table table.0 (λ (st : SeatTable). record st { flush = Some new_flush }) s
-seat_after s (GiveTurn by Sync) found files = record s { sync = None }
-seat_after s (GiveTurn by (Flush table)) found files =
+seat_after s (GiveTurn by Sync) found told = record s { sync = None }
+seat_after s (GiveTurn by (Flush table)) found told =
     at_table table.0 (λ (st : SeatTable). record st { flush = None }) s
-seat_after s (Put by Synced value) found files =
+seat_after s (Put by Synced value) found told =
     in_sync (λ (turn : SyncTurn). record turn { synced = Some value })
     (record s { found = record s.found { synced = Some value } })
-seat_after s (Put by (OldestLive table) value) found files =
-    in_sync (λ (turn : SyncTurn). record turn { filed = turn.filed || files })
+seat_after s (Put by (OldestLive table) value) found told =
+    in_sync (λ (turn : SyncTurn). record turn { filed = turn.filed || told.files })
     (at_table table.0 (in_flush (λ (turn : FlushTurn).
     record turn { oldest_live = Some value })) s)
-seat_after s (Put by Stopped value) found files =
+seat_after s (Put by Stopped value) found told =
     in_sync (λ (turn : SyncTurn). record turn { stopped = Some value })
     (record s { found = record s.found { stopped = Some value } })
 seat_after s _ _ _ = s

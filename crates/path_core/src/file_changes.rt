@@ -1,5 +1,5 @@
 //! The steps that retire memtables and let segments go.
-ghost use Rattle.std.specs.Prelude.{◌≡◌, ◌↔◌, ◌≤◌, ◌<◌, length, set, IfOk, OnErr, IsTrue};
+ghost use Rattle.std.specs.Prelude.{◌≡◌, ◌↔◌, ◌≤◌, ◌<◌, length, set, None, IfOk, OnErr, IsTrue};
 ghost use Rattle.std.specs.List.{list_any, filter};
 ghost use Rattle.path_core.specs.declared.event.Event.{Event};
 ghost use Rattle.path_core.specs.declared.state.PathState.{PathState};
@@ -99,7 +99,8 @@ pub(crate) fn oldest_bound(state: &PathState, table: Table, memtable: u64) -> Bo
 fn retire(seat: &mut Seat, table: Table, oldest: u64, files: bool)
     requires { table.0 < 16 }
     ensures { seat.new ≡ seat_after seat.old
-        (Event.Put 0 (Cursor.OldestLive table) oldest) (Reading.Number 0) files }
+        (Event.Put 0 (Cursor.OldestLive table) oldest) (Reading.Number 0)
+        (record { files = files; marker = None }) }
 {
     let i = table.0 as usize;
     seat.tables[i] = oldest_live_found(seat.tables[i], oldest);

@@ -7,6 +7,7 @@ ghost use Rattle.path_core.specs.declared.event.Event.{Event};
 ghost use Rattle.path_core.specs.declared.event.Turn.{Turn};
 ghost use Rattle.path_core.specs.declared.seat.LastMarker.{LastMarker};
 ghost use Rattle.path_core.specs.declared.seat.Switching.{Switching};
+ghost use Rattle.path_core.specs.declared.seat.SyncTurn.{SyncTurn};
 ghost use Rattle.path_core.specs.declared.state.Claim.{Claim};
 ghost use Rattle.path_core.specs.declared.state.PathState.{PathState};
 ghost use Rattle.path_core.specs.Keys.{first_offset, behind_marker};
@@ -17,6 +18,7 @@ ghost use Rattle.path_core.specs.Parts.{
   stage_of,
   marker_of,
   last_marker,
+  last_kept,
   HoldsTurn,
   HasPassedBarrier,
 };
@@ -29,7 +31,13 @@ ghost use Rattle.path_core.specs.Allowed.{
   is_entry_last,
 };
 ghost use Rattle.path_core.specs.Lawful.{IsLawfulPath};
-ghost use Rattle.path_core.specs.Holders.{IsThrough, MayRetire, HasWaiting, ChangesLastMarker};
+ghost use Rattle.path_core.specs.Holders.{
+  IsThrough,
+  MayRetire,
+  HasWaiting,
+  IsPassedBarrier,
+  ChangesLastMarker,
+};
 ghost use Rattle.path_core.specs.Next.{next_of};
 
 /// The part of a table's holder says when the table's newest switch is through, and with it when
@@ -83,19 +91,42 @@ pub fn only_the_holder_changes_the_last_marker()
         ⊎ (ChangesLastMarker e × HoldsTurn (seat_of x (by_of e)) Turn.Sync) }
 {}
 
-/// What the holder of the Sync turn keeps of the marker that it claimed says when something waits
-/// for a barrier of the append order: that marker, while it has none.
-pub fn the_last_marker_tells_when_a_barrier_is_wanted()
-    ensures { (x : PathState) (w : ℕ) (kept : LastMarker) → IsLawfulPath x
-        → marker_of (seat_of x w) ≡ Some kept
-        → WantsBarrier Order.Append x w ↔ (kept.barrier ≡ None) }
+/// Each holder of the Sync turn keeps the last marker of the state, whoever claimed it.
+pub fn each_holder_keeps_the_last_marker()
+    ensures { (x : PathState) (w : ℕ) (turn : SyncTurn) → IsLawfulPath x
+        → (seat_of x w).sync ≡ Some turn → turn.marker ≡ last_kept x.claims }
 {}
 
-/// Once the barrier of that marker is passed, the log may be synced up to it.
-pub fn a_passed_marker_may_be_synced()
-    ensures { (x : PathState) (w g : ℕ) (kept : LastMarker) → IsLawfulPath x
-        → marker_of (seat_of x w) ≡ Some kept → kept.barrier ≡ Some g
-        → IsPassed x.append.tallies g → IsSyncPoint x kept.start }
+/// A seat's part says when something waits for a barrier of the append order: a marker that the
+/// seat claimed, in this holding of the turn or an earlier one, and that has none.
+pub fn a_part_tells_when_a_marker_waits()
+    ensures { (x : PathState) (w : ℕ) → IsLawfulPath x
+        → WantsBarrier Order.Append x w ↔ IsTrue (seat_of x w).marker_waits }
+{}
+
+/// The log may be synced up to the last marker exactly once the barrier of it is passed.
+pub fn the_last_marker_tells_when_it_may_be_synced()
+    ensures { (x : PathState) (w : ℕ) (kept : LastMarker) → IsLawfulPath x
+        → marker_of (seat_of x w) ≡ Some kept
+        → IsSyncPoint x kept.start ↔ IsPassedBarrier x.append.tallies kept.barrier }
+{}
+
+/// So seats with equal parts, in whatever lawful states, get the same answers of markers: whether a
+/// barrier of the append order is wanted, and for holders of the Sync turn, where the words that are
+/// read are the same, whether the log may be synced up to the last marker, and whether an entry was
+/// claimed since it, as the next one wants it.
+pub fn equal_parts_get_equal_answers_of_markers()
+    ensures wanted { (x y : PathState) (v w : ℕ) → IsLawfulPath x → IsLawfulPath y
+        → seat_of x v ≡ seat_of y w
+        → WantsBarrier Order.Append x v ↔ WantsBarrier Order.Append y w }
+    ensures synced { (x y : PathState) (v w : ℕ) (kept : LastMarker) → IsLawfulPath x
+        → IsLawfulPath y → seat_of x v ≡ seat_of y w → x.append.tallies ≡ y.append.tallies
+        → marker_of (seat_of x v) ≡ Some kept
+        → IsSyncPoint x kept.start ↔ IsSyncPoint y kept.start }
+    ensures claimed { (x y : PathState) (v w : ℕ) (turn : SyncTurn) → IsLawfulPath x
+        → IsLawfulPath y → seat_of x v ≡ seat_of y w → x.capacity ≡ y.capacity → x.log ≡ y.log
+        → (seat_of x v).sync ≡ Some turn
+        → IsTrue (is_entry_last x) ↔ IsTrue (is_entry_last y) }
 {}
 
 /// The last marker of the state, whoever claimed it, tells the same of itself to each holder that

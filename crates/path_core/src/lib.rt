@@ -45,9 +45,10 @@ mod turn_changes;
 pub use bound::accepts;
 pub use event::{Carried, ClaimKind, Cursor, Event, Place, Reading, SwitchPart, Turn};
 pub use holder_law::{
-    a_passed_marker_may_be_synced, equal_parts_get_equal_answers,
+    a_part_tells_when_a_marker_waits, each_holder_keeps_the_last_marker,
+    equal_parts_get_equal_answers, equal_parts_get_equal_answers_of_markers,
     only_the_holder_changes_the_last_marker, the_last_marker_tells_later_holders,
-    the_last_marker_tells_when_a_barrier_is_wanted, the_log_key_tells_of_entries_since_a_marker,
+    the_last_marker_tells_when_it_may_be_synced, the_log_key_tells_of_entries_since_a_marker,
     the_stage_tells_when_a_memtable_may_be_retired, the_stage_tells_when_a_switch_is_through,
     the_stages_tell_when_a_barrier_is_wanted,
 };

@@ -1,5 +1,5 @@
 //! The steps on the log: claiming, and making it lasting.
-ghost use Rattle.std.specs.Prelude.{◌≡◌, ◌<◌, map, IfOk};
+ghost use Rattle.std.specs.Prelude.{◌≡◌, ◌<◌, map, true, IfOk};
 ghost use Rattle.std.specs.List.{filter};
 ghost use Rattle.path_core.specs.declared.event.Event.{Event};
 ghost use Rattle.path_core.specs.declared.note.EntryNote.{EntryNote};
@@ -19,12 +19,15 @@ use clog_base::{Key, OutOfMemory};
 use std::alloc::Global;
 
 // The holder of the Sync turn has claimed a marker.
-fn claim_marker(seat: &mut Seat, start: u64)
-    ensures { seat.new ≡ in_sync (marker_claimed start) seat.old }
+fn claim_marker(seat: &mut Seat, by: u8, start: u64)
+    ensures { seat.new
+        ≡ in_sync (marker_claimed by start) (record seat.old { marker_waits = true }) }
 {
+    seat.marker_waits = true;
     if let Some(turn) = seat.sync {
         seat.sync = Some(SyncTurn {
             marker: Some(LastMarker {
+                by,
                 start,
                 barrier: None,
             }),
@@ -60,7 +63,7 @@ pub(crate) fn make_claim(
     seat.found.log = Some(to.0);
     match what {
         ClaimKind::Entry => seat.claim = Some(Range { start, end: to.0 }),
-        ClaimKind::Marker => claim_marker(seat, start),
+        ClaimKind::Marker => claim_marker(seat, by, start),
     }
     Ok(())
 }

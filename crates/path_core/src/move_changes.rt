@@ -89,24 +89,25 @@ fn bar_tables(tables: &mut [TableState], seat: &[SeatTable; 16], group: u64)
     }
 }
 
-fn barrier_of(marker: LastMarker, group: u64) -> LastMarker
-    ensures { result ≡ marker_barrier group marker }
+fn barrier_of(marker: LastMarker, by: u8, group: u64) -> LastMarker
+    ensures { result ≡ marker_barrier by group marker }
 {
-    match marker.barrier {
-        Some(_) => marker,
-        None => LastMarker {
+    if marker.by == by && marker.barrier.is_none() {
+        LastMarker {
             barrier: Some(group),
             ..marker
-        },
+        }
+    } else {
+        marker
     }
 }
 
 // The last marker after an issue of an order's barrier of a group.
-fn issued(marker: Option<LastMarker>, order: Order, group: u64) -> Option<LastMarker>
-    ensures { result ≡ marker_after order group marker }
+fn issued(marker: Option<LastMarker>, order: Order, by: u8, group: u64) -> Option<LastMarker>
+    ensures { result ≡ marker_after order by group marker }
 {
     match (order, marker) {
-        (Order::Append, Some(marker)) => Some(barrier_of(marker, group)),
+        (Order::Append, Some(marker)) => Some(barrier_of(marker, by, group)),
         _ => marker,
     }
 }
@@ -119,10 +120,10 @@ fn issue_stages(tables: &mut [SeatTable], group: u64)
     }
 }
 
-fn moved_turn(turn: SyncTurn, order: Order, before: u64, group: u64) -> SyncTurn
-    ensures { result ≡ moved_turn order before group turn }
+fn moved_turn(turn: SyncTurn, order: Order, by: u8, before: u64, group: u64) -> SyncTurn
+    ensures { result ≡ moved_turn order by before group turn }
 {
-    let marker = issued(turn.marker, order, before);
+    let marker = issued(turn.marker, order, by, before);
     let turn = in_turn(turn, order, GroupWord::Current(group));
     SyncTurn {
         issue: Issue::Moved(order),
@@ -132,21 +133,29 @@ fn moved_turn(turn: SyncTurn, order: Order, before: u64, group: u64) -> SyncTurn
 }
 
 // The group before is the barrier of a marker that waited for one.
-fn move_turn(seat: &mut Seat, order: Order, before: u64, group: u64)
+fn move_turn(seat: &mut Seat, order: Order, by: u8, before: u64, group: u64)
     ensures { seat.new ≡ record seat.old {
-      sync = option_map (moved_turn order before group) seat.old.sync;
+      sync = option_map (moved_turn order by before group) seat.old.sync;
     } }
 {
     if let Some(turn) = seat.sync {
-        seat.sync = Some(moved_turn(turn, order, before, group));
+        seat.sync = Some(moved_turn(turn, order, by, before, group));
     }
 }
 
-// It is the barrier of the memtables that waited for one, too.
-fn move_write(seat: &mut Seat, before: u64, group: u64)
-    ensures { seat.new ≡ moved Order.Write before group seat.old }
+// All of the seat's markers have their barrier then.
+fn move_append(seat: &mut Seat, by: u8, before: u64, group: u64)
+    ensures { seat.new ≡ moved Order.Append by before group seat.old }
 {
-    move_turn(seat, Order::Write, before, group);
+    move_turn(seat, Order::Append, by, before, group);
+    seat.marker_waits = false;
+}
+
+// It is the barrier of the memtables that waited for one, too.
+fn move_write(seat: &mut Seat, by: u8, before: u64, group: u64)
+    ensures { seat.new ≡ moved Order.Write by before group seat.old }
+{
+    move_turn(seat, Order::Write, by, before, group);
     issue_stages(&mut seat.tables, before);
 }
 
@@ -159,7 +168,7 @@ pub(crate) fn make_move_append(state: &mut PathState, by: u8, group: u64)
     bar_markers(&mut claims.items, by, before);
     state.append.current = group;
     let seats = &mut state.seats;
-    move_turn(&mut seats.items[by as usize], Order::Append, before, group);
+    move_append(&mut seats.items[by as usize], by, before, group);
 }
 
 pub(crate) fn make_move_write(state: &mut PathState, by: u8, group: u64)
@@ -172,5 +181,5 @@ pub(crate) fn make_move_write(state: &mut PathState, by: u8, group: u64)
     bar_tables(&mut tables.items, &held, before);
     state.write.current = group;
     let seats = &mut state.seats;
-    move_write(&mut seats.items[by as usize], before, group);
+    move_write(&mut seats.items[by as usize], by, before, group);
 }

@@ -34,6 +34,7 @@ const FRESH_SEAT: Seat = Seat {
         flush: None,
     }; 16],
     sync: None,
+    marker_waits: false,
     found: Found {
         write: NOTHING_FOUND,
         append: NOTHING_FOUND,

@@ -50,9 +50,11 @@ pub struct Found {
     pub stopped: Option<u64>,
 }
 
-/// The last marker of the log, in the hand of the seat that claimed it while it held the Sync turn.
+/// The last marker of the log, as the holder of the Sync turn keeps it.
 #[derive(Clone, Copy, Debug, PartialEq, Eq)]
 pub struct LastMarker {
+    /// The seat that claimed it.
+    pub by: u8,
     /// The key at which it starts.
     pub start: u64,
     /// The group of the append order's barrier that was issued for it.
@@ -66,7 +68,7 @@ pub struct SyncTurn {
     pub issue: Issue,
     /// Whether it retired a memtable with a file.
     pub filed: bool,
-    /// The last marker, where it claimed it while it holds the turn.
+    /// The last marker of the log, whoever claimed it; none before the first.
     pub marker: Option<LastMarker>,
     /// What it found of the write order.
     pub write: FoundGroups,
@@ -157,6 +159,8 @@ pub struct Seat {
     pub note: Option<u16>,
     /// What it does at each table, by the table's number.
     pub tables: [SeatTable; 16],
+    /// Whether a marker that it claimed has no barrier yet.
+    pub marker_waits: bool,
     /// The Sync turn, while it holds it.
     pub sync: Option<SyncTurn>,
     /// What it last found.

@@ -1,13 +1,17 @@
 //! The steps on turns and cursors.
 ghost use Rattle.std.specs.Prelude.{◌≡◌, ◌<◌};
 ghost use Rattle.path_core.specs.declared.event.Event.{Event};
+ghost use Rattle.path_core.specs.Parts.{last_kept};
+ghost use Rattle.path_core.specs.SeatAfter.{new_sync};
 ghost use Rattle.path_core.specs.Next.{next_of};
 ghost use Rattle.path_core.specs.Steps.{Names, Makes};
 
-use crate::event::{Cursor, Turn};
-use crate::seat::{FlushTurn, FoundGroups, Issue, Seat, SeatTable, Switching, SyncTurn};
+use crate::event::{ClaimKind, Cursor, Turn};
+use crate::seat::{
+    FlushTurn, FoundGroups, Issue, LastMarker, Seat, SeatTable, Switching, SyncTurn,
+};
 use crate::seat_steps::find_stopped;
-use crate::state::PathState;
+use crate::state::{Claim, PathState};
 use clog_base::Table;
 
 const NOTHING_FOUND: FoundGroups = FoundGroups {
@@ -16,16 +20,21 @@ const NOTHING_FOUND: FoundGroups = FoundGroups {
     finished: None,
 };
 
-// A turn that was just taken.
-const NEW_SYNC: SyncTurn = SyncTurn {
-    issue: Issue::Rest,
-    filed: false,
-    marker: None,
-    write: NOTHING_FOUND,
-    append: NOTHING_FOUND,
-    synced: None,
-    stopped: None,
-};
+// Turns that were just taken.
+
+fn new_sync(marker: Option<LastMarker>) -> SyncTurn
+    ensures { result ≡ new_sync marker }
+{
+    SyncTurn {
+        issue: Issue::Rest,
+        filed: false,
+        marker,
+        write: NOTHING_FOUND,
+        append: NOTHING_FOUND,
+        synced: None,
+        stopped: None,
+    }
+}
 
 const NEW_FLUSH: FlushTurn = FlushTurn {
     stage: Switching::Settled,
@@ -40,14 +49,34 @@ fn with_flush(at: SeatTable, flush: Option<FlushTurn>) -> SeatTable
     SeatTable { flush, ..at }
 }
 
+// The last marker among claims. It mostly stands close to the end, so it is looked for from there.
+fn last_kept(claims: &[Claim]) -> Option<LastMarker>
+    ensures { result ≡ last_kept claims.now }
+{
+    let mut rest = claims.len();
+    while rest > 0 {
+        let claim = claims[rest - 1];
+        if claim.what == ClaimKind::Marker {
+            return Some(LastMarker {
+                by: claim.by,
+                start: claim.start,
+                barrier: claim.barrier,
+            });
+        }
+        rest -= 1;
+    }
+    None
+}
+
 pub(crate) fn make_take_turn(state: &mut PathState, by: u8, turn: Turn)
     requires { Names state.old (Event.TakeTurn by turn) }
     ensures { state.new ≡ next_of state.old (Event.TakeTurn by turn) }
 {
+    let marker = last_kept(state.claims.as_slice());
     let seats = &mut state.seats;
     let seat = &mut seats.items[by as usize];
     match turn {
-        Turn::Sync => seat.sync = Some(NEW_SYNC),
+        Turn::Sync => seat.sync = Some(new_sync(marker)),
         Turn::Flush(table) => {
             let i = table.0 as usize;
             seat.tables[i] = with_flush(seat.tables[i], Some(NEW_FLUSH));

@@ -23,6 +23,9 @@ fn show_seat<W: Write>(out: &mut W, seat: &Seat) -> io::Result<()> {
     show_entry(out, seat.claim, seat.note)?;
     show_option(out, "found-write", seat.found.write.current)?;
     show_option(out, "found-append", seat.found.append.current)?;
+    if seat.marker_waits {
+        write!(out, " marker-waits")?;
+    }
     if let Some(turn) = seat.sync {
         show_sync(out, turn)?;
     }
@@ -65,9 +68,9 @@ fn show_issue<W: Write>(out: &mut W, issue: Issue) -> io::Result<()> {
     }
 }
 
-// The last marker, which the holder claimed.
+// The last marker, with the seat that claimed it.
 fn show_marker<W: Write>(out: &mut W, marker: LastMarker) -> io::Result<()> {
-    write!(out, " marker {}", marker.start)?;
+    write!(out, " marker {} by {}", marker.start, marker.by)?;
     show_option(out, "barrier", marker.barrier)
 }
 

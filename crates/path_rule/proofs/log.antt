@@ -1,4 +1,3 @@
 -- The log: the last marker, and what is pending up to it.
 pub mod Lending
-pub mod LastMarkers
 pub mod KeptStays

@@ -29,7 +29,7 @@ use Rattle.path_core.specs.declared.seat.Seat.{Seat}
 use Rattle.path_core.specs.declared.state.Claim.{Claim}
 use Rattle.path_core.specs.declared.state.OrderGroups.{OrderGroups}
 use Rattle.path_core.specs.LawfulLog.{claim_in, is_note_at}
-use Rattle.path_core.specs.Parts.{issue_of, is_marker}
+use Rattle.path_core.specs.Parts.{issue_of, is_marker, last_kept}
 use Rattle.path_rule.specs.declared.lasting.Lasting.{Lasting}
 use Rattle.path_rule.specs.declared.slot.Slot.{Slot}
 use Rattle.path_rule.specs.declared.view.Hands.{Hands}
@@ -42,7 +42,6 @@ use Rattle.path_rule.specs.Boxes.{
   box_of,
   boxes,
   IsFree,
-  last_kept,
   first_progress,
   NotesAre,
   DeskIs,

@@ -13,7 +13,6 @@ use Rattle.std.specs.Prelude.{
   true,
   List,
   ◌++◌,
-  if◌then◌else◌,
   Option,
   Some,
   None,
@@ -21,14 +20,9 @@ use Rattle.std.specs.Prelude.{
   IsTrue,
   ◌⊎◌,
 }
-use Rattle.std.specs.List.{fold}
-use Rattle.std.specs.Option.{option_map}
 use mathlib.Core.Option.{some}
 use lib.ListN.{get_elem?}
 use Rattle.path_core.specs.declared.note.EntryNote.{EntryNote}
-use Rattle.path_core.specs.declared.seat.LastMarker.{LastMarker}
-use Rattle.path_core.specs.declared.state.Claim.{Claim}
-use Rattle.path_core.specs.Parts.{is_marker}
 use Rattle.path_rule.specs.declared.lasting.Lasting.{Lasting}
 use Rattle.path_rule.specs.declared.slot.Slot.{Slot}
 use Rattle.path_rule.specs.declared.slot.Slot.TheVariants.{Notes, Turn}
@@ -72,15 +66,6 @@ HoldsBox v b = HoldsAs v.part.append (is_some v.part.sync) v.hands.box_taken b v
 -- no seat has the box
 abbrev pub IsFree : List View → ℕ → Type 0
 IsFree views b = (j : ℕ) (v : View) → get_elem? views j ≡ some v → ¬ HoldsBox v b
-
--- what the desk tells of a marker
-abbrev pub kept_of : Claim → LastMarker
-kept_of c = record { start = c.start; barrier = c.barrier }
-
--- the last marker among these claims, as the desk tells it
-abbrev pub last_kept : List Claim → Option LastMarker
-last_kept claims = option_map kept_of
-    (fold (λ (o : Option Claim) (c : Claim). if is_marker c then Some c else o) None claims)
 
 -- on the desk of a new table
 abbrev pub first_progress : Progress

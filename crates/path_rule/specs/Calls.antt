@@ -41,7 +41,7 @@ use Rattle.path_rule.specs.Turns.{TurnOld}
 
 -- Seat w made the step e, at which n was found or stored; h is what it knows of its boxes then.
 pub record DidAs (v : View) (w : ℕ) (e : Event) (n : ℕ) (h : Hands) (after : View) : Type 0 where
-  pub view : after ≡ with_hands h (view_after v e n false)
+  pub view : after ≡ view_after (with_hands h v) e n false
   pub was : Was v w e
 
 -- the same where it knows of them what it knew

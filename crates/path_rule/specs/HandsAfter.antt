@@ -48,10 +48,12 @@ barred group k = record {
   marker = option_map (λ (m : LastMarker). record m { barrier = Some group }) k.marker;
 }
 
--- a marker that starts at the key is the last one
-abbrev pub with_marker : ℕ → Hands → Hands
-with_marker key h = record h {
-  progress = record h.progress { marker = Some (record { start = key; barrier = None }) };
+-- a marker of seat w that starts at the key is the last one
+abbrev pub with_marker : ℕ → ℕ → Hands → Hands
+with_marker w key h = record h {
+  progress = record h.progress {
+    marker = Some (record { by = w; start = key; barrier = None });
+  };
 }
 
 -- The desk tells that the barrier of the last marker is issued.

@@ -7,7 +7,7 @@ use Rattle.path_core.specs.declared.state.Claim.{Claim}
 use Rattle.path_core.specs.declared.state.PathState.{PathState}
 use Rattle.path_core.specs.LawfulLog.{is_note_at}
 use Rattle.path_core.specs.Parts.{is_entry, is_marker}
-use Rattle.path_rule.specs.Boxes.{last_kept}
+use Rattle.path_core.specs.Parts.{last_kept}
 
 -- A marker starts at the key, which is not above the last one, and each entry up to there is noted.
 pub record IsDepositedTo (x : PathState) (key : ℕ) : Type 0 where

@@ -31,7 +31,7 @@ use Rattle.path_core.specs.Allowed.{IsStep}
 use Rattle.path_core.specs.Lawful.{IsLawfulPath}
 use Rattle.path_core.specs.Parts.{fresh_seat, seat_of, groups_of, table_of}
 use Rattle.path_core.specs.Runs.{opening, Past}
-use Rattle.path_core.specs.SeatAfter.{seat_after}
+use Rattle.path_core.specs.SeatAfter.{Told, seat_after}
 use Rattle.path_core.specs.Whole.{CarriesWhole}
 use Rattle.path_core.specs.Words.{reading, by_of, place_of}
 use Rattle.path_rule.specs.declared.lasting.Lasting.{Lasting}
@@ -112,10 +112,14 @@ opener made size = fresh_view (Opener made) size
 abbrev pub new_seat : ℕ → PathSize → View
 new_seat w size = fresh_view (Steps w) size
 
+-- what a step tells the seat: whether a file was given, and the last marker as the desk tells it
+abbrev pub told_by : Bool → Hands → Told
+told_by filed h = record { files = filed; marker = h.progress.marker }
+
 -- The view after the step e, at which n was found or stored, and a file was given or not.
 abbrev pub view_after : View → Event → ℕ → Bool → View
 view_after v e n filed = record v {
-  part = seat_after v.part e (reading_at (place_of e) n) filed;
+  part = seat_after v.part e (reading_at (place_of e) n) (told_by filed v.hands);
   trail = record { event = e; found = n; filed = filed } ∷ v.trail;
 }
 

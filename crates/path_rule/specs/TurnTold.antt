@@ -145,7 +145,7 @@ module _ {K : Type 0} where
   abbrev pub MarkerClaimed : Step (Slot K) → Me (Slot K) View → ℕ → Me (Slot K) View → Type 0
   MarkerClaimed st m n m' = (w : ℕ) → m.0.role ≡ Steps w
       → (n ≡ st.first → MadeAs w (Claim w (record { 0 = st.first })
-      (record { 0 = st.second }) Marker) st.second (with_marker st.first m.0.hands) m.0 m'.0
+      (record { 0 = st.second }) Marker) st.second (with_marker w st.first m.0.hands) m.0 m'.0
       × (m'.1 ≡ m.1)) × (n ≢ st.first → Made w (Look w Log) n m m')
 
   -- The synced key was found, and what is pending up to the last marker, behind whose barrier all

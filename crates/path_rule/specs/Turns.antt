@@ -1,5 +1,5 @@
 -- What the holder of the Sync turn knows: it is exact while it holds it.
-use Rattle.std.specs.Prelude.{◌≡◌, ◌⊎◌, ℕ, ◌<◌, Option, Some, None}
+use Rattle.std.specs.Prelude.{◌≡◌, ◌⊎◌, ℕ, ◌<◌, Some, None}
 use Rattle.op_core.specs.declared.count.Order.{Order}
 use Rattle.op_core.specs.declared.count.Order.TheVariants.{Write, Append}
 use Rattle.path_core.specs.declared.event.Cursor.TheVariants.{OldestLive}
@@ -13,10 +13,8 @@ use Rattle.path_core.specs.declared.event.Place.TheVariants.{
 }
 use Rattle.path_core.specs.declared.event.Turn.TheVariants.{Flush}
 use Rattle.path_core.specs.declared.seat.FoundGroups.{FoundGroups}
-use Rattle.path_core.specs.declared.seat.LastMarker.{LastMarker}
 use Rattle.path_core.specs.declared.seat.Seat.{Seat}
 use Rattle.path_core.specs.declared.seat.SyncTurn.{SyncTurn}
-use Rattle.path_core.specs.Keys.{first_offset, behind_marker}
 use Rattle.path_core.specs.Parts.{found_of, marker_of}
 use Rattle.path_rule.specs.declared.view.Hands.{Hands}
 use Rattle.path_rule.specs.declared.view.View.{View}
@@ -61,16 +59,13 @@ KeepsCurrent o p q = (c : ℕ) → TurnSaw o p c → TurnSaw o q c
 abbrev pub KeepsOldest : Order → Seat → Seat → Type 0
 KeepsOldest o p q = (c : ℕ) → TurnOld o p c → TurnOld o q c
 
--- the holder of the Sync turn claimed the last marker, which starts at the key and has no barrier
-abbrev pub MarkerWaits : Seat → ℕ → Type 0
-MarkerWaits p start = marker_of p ≡ Some (record { start = start; barrier = None })
+-- the last marker is that of seat w, which holds the Sync turn; it starts at the key and has no
+-- barrier
+abbrev pub MarkerWaits : ℕ → Seat → ℕ → Type 0
+MarkerWaits w p start = marker_of p ≡ Some (record { by = w; start = start; barrier = None })
 
 -- the last marker starts at the key, and has a barrier
 abbrev pub IsBarred : Hands → ℕ → Type 0
 IsBarred h start =
-    (group : ℕ) × (h.progress.marker ≡ Some (record { start = start; barrier = Some group }))
-
--- where the log stood behind the last marker, or at first
-abbrev pub behind_last : ℕ → Option LastMarker → ℕ
-behind_last capacity None = first_offset
-behind_last capacity (Some m) = behind_marker capacity m.start
+    (by group : ℕ)
+    × (h.progress.marker ≡ Some (record { by = by; start = start; barrier = Some group }))

@@ -39,7 +39,7 @@ impl<K: Keeper, A: Allocator> PathTable<K, A> {
         requires turn { Holds Rest (view_of member.old)
             × TurnSaw Append (part_of member.old) current × (group ≡ suc current)
             × (group < 65536) }
-        requires marker { (start : ℕ) × MarkerWaits (part_of member.old) start }
+        requires marker { (start : ℕ) × MarkerWaits member.old.number (part_of member.old) start }
         ensures same { KeepsSizes member.old member.new }
         ensures step { Stepped member.old (OpenGroup member.old.number Append group) 0 member.new }
         ensures allowed { (was : Was (view_of member.old) member.old.number
@@ -61,7 +61,7 @@ impl<K: Keeper, A: Allocator> PathTable<K, A> {
         requires table { IsOf self.now.table.shared.table_id self.now.size member.old }
         requires turn { Holds (Opened Append) (view_of member.old)
             × TurnSaw Append (part_of member.old) current × (group ≡ suc current) }
-        requires marker { (start : ℕ) × MarkerWaits (part_of member.old) start }
+        requires marker { (start : ℕ) × MarkerWaits member.old.number (part_of member.old) start }
         requires gathered { (hands_of member.old).progress.gathered ≡ true }
         ensures same { KeepsSizes member.old member.new }
         ensures step { SteppedAs member.old (MoveCurrent member.old.number Append group) current

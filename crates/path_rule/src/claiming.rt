@@ -14,7 +14,7 @@ ghost use Rattle.path_rule.specs.Members.{
   Stepped,
   SteppedAs,
 };
-ghost use Rattle.path_rule.specs.Turns.{behind_last};
+ghost use Rattle.path_core.specs.Holders.{behind_last};
 
 use crate::plays::{ClaimAt, LookAt};
 use crate::table::{Member, PathTable};
@@ -66,7 +66,7 @@ impl<K: Keeper, A: Allocator> PathTable<K, A> {
         ensures same { KeepsBoxes member.old member.new }
         ensures hit { result ≡ from → SteppedAs member.old (Claim member.old.number
             (record { 0 = from }) (record { 0 = to }) Marker) to
-            (with_marker from (hands_of member.old)) member.new }
+            (with_marker member.old.number from (hands_of member.old)) member.new }
         ensures miss { result ≢ from
             → Stepped member.old (Look member.old.number Log) result member.new }
     {

@@ -112,7 +112,8 @@ impl<K: Keeper, A: Allocator> PathTable<K, A> {
     /// The boxes of the barrier before it have to be.
     pub fn marker_barrier<R: Wait>(&self, rt: &R, holder: Holder<K>) -> (Holder<K>, Passed)
         requires table { IsOf self.now.table.shared.table_id self.now.size holder.member }
-        requires marker { (start : ℕ) × MarkerWaits (part_of holder.member) start }
+        requires marker { (start : ℕ)
+            × MarkerWaits holder.member.number (part_of holder.member) start }
         requires gathered { (hands_of holder.member).progress.gathered ≡ true }
         ensures same { KeepsSizes holder.member result.0.member }
         ensures passed { MatchPassed result.1

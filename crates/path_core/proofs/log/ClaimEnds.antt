@@ -28,7 +28,7 @@ use Rattle.path_core.specs.Parts.{no_claim, is_entry, is_marker_kind}
 
 module _ (capacity ordinals log : ℕ) (claims : List ClaimOf)
     (T : TileTo capacity ordinals log claims) where
-  entry_long : (i : ℕ) → i < length claims → IsTrue (is_entry (claim_in claims i))
+  pub entry_long : (i : ℕ) → i < length claims → IsTrue (is_entry (claim_in claims i))
       → (claim_in claims i).start < (claim_in claims i).end
   entry_long i inside entry = by (claim_in claims i).what entry (T.stands i inside)
     where
@@ -39,7 +39,7 @@ module _ (capacity ordinals log : ℕ) (claims : List ClaimOf)
       by Entry entry s = let l = s.least in omega arith
       by Marker entry s = absurd (false≢true entry)
 
-  read_claim : (c : ClaimOf) (h : Contains claims c) → claim_in claims h.0 ≡ c
+  pub read_claim : (c : ClaimOf) (h : Contains claims c) → claim_in claims h.0 ≡ c
   read_claim c h = get_or_default claims h.0 no_claim c h.1 ∙ h.2
 
   pub entry_is_long : (c : ClaimOf) → Contains claims c → IsTrue (is_entry c) → c.start < c.end

@@ -1,5 +1,5 @@
 -- Whether an entry was claimed since the last marker, or before the first one, is told by the log
--- key.
+-- key; and no other marker starts at the last one or above it.
 use Rattle.std.proofs.Common.{
   ◌≡◌,
   ℕ,
@@ -29,12 +29,12 @@ use Rattle.std.proofs.Common.{
   arith,
 }
 use Rattle.std.specs.Prelude.{◌↔◌, IsTrue}
-use Rattle.std.specs.List.{fold}
+use Rattle.std.specs.List.{Contains, fold}
 use Rattle.std.proofs.lemmas.Bool.{false≢true}
 use Rattle.std.proofs.lemmas.Option.{none-some, same_Some}
 use Rattle.std.proofs.lemmas.List.{get_or_past}
 use mathlib.Core.Logic.{dite, inl, inr}
-use native.Mathlib.Decide.{dec_lt}
+use native.Mathlib.Decide.{ℕ_discrete, dec_lt}
 use Rattle.path_core.specs.declared.event.ClaimKind.{ClaimKind}
 use Rattle.path_core.specs.declared.event.ClaimKind.TheVariants.{Entry, Marker}
 use Rattle.path_core.specs.declared.state.Claim.{Claim as ClaimOf}
@@ -50,6 +50,7 @@ use Rattle.path_core.specs.Keys.{
 use Rattle.path_core.specs.Allowed.{is_entry_last}
 use Rattle.path_core.specs.Lawful.{IsLawfulPath}
 use Rattle.path_core.specs.LawfulLog.{ClaimsTile, StandsAt, claim_in, key_behind, key_before}
+use Rattle.path_core.proofs.log.ClaimEnds.{entry_long, read_claim}
 use Rattle.path_core.proofs.log.MarkerSteps.{later_marker, last_is_marker}
 
 -- none of the claims behind a first one is a marker
@@ -192,6 +193,45 @@ module _ (x : PathState) (L : IsLawfulPath x) where
           let long : length x.claims ≡ suc r.number = omega arith in
           let log = T.log_is_behind ∙ ap (key_before x.capacity x.claims) long ∙ behind r in
           omega arith))
+
+  -- A marker that starts at the last one or above it is the last one.
+  pub at_last : (c d : ClaimOf) → last_marker x ≡ Some c → Contains x.claims d
+      → is_marker d ≡ true → c.start ≤ d.start → c ≡ d
+  at_last c d h among is above = elim (last_at x.claims None c h) [
+    | inl q ↦ absurd (none-some c q.0)
+    | inr r ↦ here r
+  ]
+    where
+      read : claim_in x.claims among.0 ≡ d
+      read = read_claim x.capacity x.ordinals x.log x.claims T d among
+
+      marks : is_marker (claim_in x.claims among.0) ≡ true
+      marks = ap (λ (d : ClaimOf). is_marker d) read ∙ is
+
+      -- one before it ends before an entry that stands before it
+      before : (r : IsLastAt x.claims c) → among.0 < r.number → ⊥
+      before r less =
+          let E = T.entry_before r.number r.inside
+          (ap (λ (d : ClaimOf). is_marker d) r.is ∙ last_is_marker x.claims c h) in
+          let next : r.number ≡ suc E.0 = E.1 in
+          dite (ℕ_discrete among.0 E.0)
+          (λ same. false≢true (sym (ap not (sym (ap (λ i. is_marker (claim_in x.claims i)) same)
+          ∙ marks)) ∙ E.2))
+          (λ other. let inside = r.inside in
+          let long = entry_long x.capacity x.ordinals x.log x.claims T E.0 (omega arith) E.2 in
+          let first = T.apart among.0 E.0 (omega arith) (omega arith) in
+          let second = T.apart E.0 r.number (omega arith) r.inside in
+          let forward = T.forward among.0 among.1 in
+          let starts = ap (λ (d : ClaimOf). d.start) read in
+          let ends = ap (λ (d : ClaimOf). d.start) r.is in omega arith)
+
+      here : IsLastAt x.claims c → c ≡ d
+      here r = dite (dec_lt among.0 r.number)
+          (λ less. absurd (before r less))
+          (λ past. dite (ℕ_discrete among.0 r.number)
+          (λ same. sym r.is ∙ (sym (ap (claim_in x.claims) same) ∙ read))
+          (λ other. absurd (false≢true (sym (r.entries_behind among.0 (omega arith) among.1)
+          ∙ marks))))
 
   -- Before the first marker the log key tells of entries since the log began.
   pub entry_before_markers : last_marker x ≡ None

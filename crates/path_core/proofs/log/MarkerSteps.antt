@@ -25,7 +25,6 @@ use Rattle.std.proofs.Common.{
 use Rattle.std.specs.List.{list_any, fold}
 use Rattle.std.specs.Option.{option_map}
 use Rattle.std.proofs.lemmas.Bool.{and_right}
-use Rattle.std.proofs.lemmas.List.Folds.{list_any-append}
 use Rattle.std.proofs.lemmas.List.Sums.{fold-append}
 use Rattle.std.proofs.lemmas.Option.{none-some, same_Some}
 use mathlib.Core.Logic.{inl, inr}
@@ -162,15 +161,3 @@ module _ (x : PathState) where
       inr (tt, changer_holds_sync (MoveCurrent by Append group) a tt)
   changes_by_holder (MoveCurrent by Write group) a = inl refl
   changes_by_holder e a = inl refl
-
-  -- none of a seat's markers waits for a barrier, where no marker is claimed and none is barred
-  pub none_waits_stays : (by : ℕ) (e : Event) → (ChangesLastMarker e → ⊥)
-      → list_any (is_unbarred_marker by) x.claims ≡ false
-      → list_any (is_unbarred_marker by) (next_of x e).claims ≡ false
-  none_waits_stays w (Claim by from to Entry) other h = list_any-append (is_unbarred_marker w)
-      x.claims (claim_of x.capacity by from.0 to.0 Entry ∷ [])
-      ∙ ap (λ (b : Bool). b || false) h
-  none_waits_stays w (Claim by from to Marker) other h = absurd (other tt)
-  none_waits_stays w (MoveCurrent by Append group) other h = absurd (other tt)
-  none_waits_stays w (MoveCurrent by Write group) other h = h
-  none_waits_stays w e other h = h

@@ -41,7 +41,7 @@ use Rattle.path_core.specs.declared.seat.Seat.{Seat}
 use Rattle.path_core.specs.declared.state.PathState.{PathState}
 use Rattle.path_core.specs.Parts.{groups_of, found_of}
 use Rattle.path_core.specs.Words.{reading}
-use Rattle.path_core.specs.SeatAfter.{seat_after, looked}
+use Rattle.path_core.specs.SeatAfter.{Told, seat_after, looked}
 use Rattle.path_core.specs.SeatParts.{keeps, finished_found}
 use Rattle.op_core.specs.Tallies.{is_finished}
 
@@ -103,33 +103,33 @@ looks_find s (CursorWord Stopped) (Number n) Append g h = inl h
 looks_find s at found Write g h = inl h
 looks_find s at found Append g h = inl h
 
-pub finds_same : (e : Event) (s : Seat) (found : Reading) (files : Bool)
-    → ((by : ℕ) (at : Place) → e ≢ Look by at) → FindsSame s (seat_after s e found files)
-finds_same (Look by at) s found files other = absurd (other by at refl)
-finds_same (Register by Write group) s found files other = same refl refl
-finds_same (Register by Append group) s found files other = same refl refl
-finds_same (Close by Append group (Deposit note)) s found files other = same refl refl
-finds_same (Close by Append group Nothing) s found files other = same refl refl
-finds_same (Close by Append group (Applied places)) s found files other = same refl refl
-finds_same (Close by Write group carried) s found files other = same refl refl
-finds_same (MoveCurrent by Write group) s found files other = same refl refl
-finds_same (MoveCurrent by Append group) s found files other = same refl refl
-finds_same (Advance by Write group) s found files other = same refl refl
-finds_same (Advance by Append group) s found files other = same refl refl
-finds_same (Claim by from to Entry) s found files other = same refl refl
-finds_same (Claim by from to Marker) s found files other = same refl refl
-finds_same (Switch by table memtable Open) s found files other = same refl refl
-finds_same (Switch by table memtable Mark) s found files other = same refl refl
-finds_same (Raise by table memtable to) s (Limit b) files other = same refl refl
-finds_same (Finalise by table memtable) s (Limit b) files other = same refl refl
-finds_same (TakeTurn by Sync) s found files other = same refl refl
-finds_same (TakeTurn by (Flush table)) s found files other = same refl refl
-finds_same (GiveTurn by Sync) s found files other = same refl refl
-finds_same (GiveTurn by (Flush table)) s found files other = same refl refl
-finds_same (Put by Synced value) s found files other = same refl refl
-finds_same (Put by (OldestLive table) value) s found files other = same refl refl
-finds_same (Put by Stopped value) s found files other = same refl refl
-finds_same e s found files other = same refl refl
+pub finds_same : (e : Event) (s : Seat) (found : Reading) (told : Told)
+    → ((by : ℕ) (at : Place) → e ≢ Look by at) → FindsSame s (seat_after s e found told)
+finds_same (Look by at) s found told other = absurd (other by at refl)
+finds_same (Register by Write group) s found told other = same refl refl
+finds_same (Register by Append group) s found told other = same refl refl
+finds_same (Close by Append group (Deposit note)) s found told other = same refl refl
+finds_same (Close by Append group Nothing) s found told other = same refl refl
+finds_same (Close by Append group (Applied places)) s found told other = same refl refl
+finds_same (Close by Write group carried) s found told other = same refl refl
+finds_same (MoveCurrent by Write group) s found told other = same refl refl
+finds_same (MoveCurrent by Append group) s found told other = same refl refl
+finds_same (Advance by Write group) s found told other = same refl refl
+finds_same (Advance by Append group) s found told other = same refl refl
+finds_same (Claim by from to Entry) s found told other = same refl refl
+finds_same (Claim by from to Marker) s found told other = same refl refl
+finds_same (Switch by table memtable Open) s found told other = same refl refl
+finds_same (Switch by table memtable Mark) s found told other = same refl refl
+finds_same (Raise by table memtable to) s (Limit b) told other = same refl refl
+finds_same (Finalise by table memtable) s (Limit b) told other = same refl refl
+finds_same (TakeTurn by Sync) s found told other = same refl refl
+finds_same (TakeTurn by (Flush table)) s found told other = same refl refl
+finds_same (GiveTurn by Sync) s found told other = same refl refl
+finds_same (GiveTurn by (Flush table)) s found told other = same refl refl
+finds_same (Put by Synced value) s found told other = same refl refl
+finds_same (Put by (OldestLive table) value) s found told other = same refl refl
+finds_same (Put by Stopped value) s found told other = same refl refl
+finds_same e s found told other = same refl refl
 
 -- a number that is found at an order's current group
 pub current_read : (x : PathState) (o : Order) (g : ℕ) → reading x (Current o) ≡ Number g

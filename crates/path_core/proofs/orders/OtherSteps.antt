@@ -33,7 +33,7 @@ use Rattle.path_core.specs.declared.state.PathState.{PathState}
 use Rattle.path_core.specs.Parts.{groups_of, seat_of, group_in, found_of, HoldsTurn}
 use Rattle.path_core.specs.Words.{reading, by_of, place_of}
 use Rattle.path_core.specs.Allowed.{IsStep, IsThere}
-use Rattle.path_core.specs.Next.{next_of, gives_file}
+use Rattle.path_core.specs.Next.{next_of, told_of}
 use Rattle.path_core.specs.Lawful.{IsSized}
 use Rattle.path_core.specs.LawfulOrders.{
   CountsOf,
@@ -93,7 +93,7 @@ module _ (x : PathState) (sized : IsSized x) (O : IsOrderly x) where
             omega arith
       ]
       own e g h = by_order e o g (finds_same e (seat_of x (by_of e))
-          (reading x (place_of e)) (gives_file x e) (λ by at is. absurd
+          (reading x (place_of e)) (told_of x e) (λ by at is. absurd
           (let q : e ≡ Look by at = is in
           cc))) h
 
@@ -209,7 +209,7 @@ module _ (x : PathState) (sized : IsSized x) (O : IsOrderly x) where
   fits_seat e there = tt
 
   pub columns_of : (e : Event) → IsThere x e → Columns e (seat_of x (by_of e)) (own_after x e)
-  columns_of e there = columns e (seat_of x (by_of e)) (reading x (place_of e)) (gives_file x e)
+  columns_of e there = columns e (seat_of x (by_of e)) (reading x (place_of e)) (told_of x e)
       (fits_seat e there)
 
   -- a step that takes and gives no turn and leaves the orders

@@ -45,7 +45,7 @@ use Rattle.path_core.specs.declared.seat.Switching.TheVariants.{
 }
 use Rattle.path_core.specs.Parts.{untouched, seat_table}
 use Rattle.path_core.specs.declared.state.Bound.TheVariants.{Raising}
-use Rattle.path_core.specs.SeatAfter.{seat_after, looked, number_read, new_flush}
+use Rattle.path_core.specs.SeatAfter.{Told, seat_after, looked, number_read, new_flush}
 use Rattle.path_core.specs.SeatParts.{
   at_table,
   in_flush,
@@ -112,41 +112,41 @@ looks_try s (Oldest order) (Limit b) u by other = refl
 looks_try s at found u by other = refl
 
 -- what is tried stays
-pub tries_same : (e : Event) (s : Seat) (found : Reading) (files : Bool) (u : ℕ)
+pub tries_same : (e : Event) (s : Seat) (found : Reading) (told : Told) (u : ℕ)
     → (ChangesTry e → ⊥)
-    → tried_in (seat_table (seat_after s e found files) u) ≡ tried_in (seat_table s u)
-tries_same (Look by at) s found files u other = looks_try s at found u by other
-tries_same (Register by Write group) s found files u other = refl
-tries_same (Register by Append group) s found files u other = refl
-tries_same (Close by Append group (Deposit note)) s found files u other = refl
-tries_same (Close by Append group Nothing) s found files u other = refl
-tries_same (Close by Append group (Applied places)) s found files u other = refl
-tries_same (Close by Write group carried) s found files u other = absurd (other tt)
-tries_same (MoveCurrent by Write group) s found files u other =
+    → tried_in (seat_table (seat_after s e found told) u) ≡ tried_in (seat_table s u)
+tries_same (Look by at) s found told u other = looks_try s at found u by other
+tries_same (Register by Write group) s found told u other = refl
+tries_same (Register by Append group) s found told u other = refl
+tries_same (Close by Append group (Deposit note)) s found told u other = refl
+tries_same (Close by Append group Nothing) s found told u other = refl
+tries_same (Close by Append group (Applied places)) s found told u other = refl
+tries_same (Close by Write group carried) s found told u other = absurd (other tt)
+tries_same (MoveCurrent by Write group) s found told u other =
     ap tried_in (get_or-map_default (barrier_issued (number_read found)) s.tables u untouched)
-tries_same (MoveCurrent by Append group) s found files u other = refl
-tries_same (Advance by Write group) s found files u other = refl
-tries_same (Advance by Append group) s found files u other = refl
-tries_same (Claim by from to Entry) s found files u other = refl
-tries_same (Claim by from to Marker) s found files u other = refl
-tries_same (Switch by table memtable Open) s found files u other = at_table_keeps table.0 u
+tries_same (MoveCurrent by Append group) s found told u other = refl
+tries_same (Advance by Write group) s found told u other = refl
+tries_same (Advance by Append group) s found told u other = refl
+tries_same (Claim by from to Entry) s found told u other = refl
+tries_same (Claim by from to Marker) s found told u other = refl
+tries_same (Switch by table memtable Open) s found told u other = at_table_keeps table.0 u
     (λ (st : SeatTable). reaches (Begun memtable)
     (in_flush (λ (turn : FlushTurn). record turn { newest = Some memtable }) st)) s tried_in refl
-tries_same (Switch by table memtable Mark) s found files u other = at_table_keeps table.0 u
+tries_same (Switch by table memtable Mark) s found told u other = at_table_keeps table.0 u
     (λ (st : SeatTable). reaches
     (MarkedStage (record { memtable = memtable; key = None; raised = false }))
     (bound_found memtable (Raising (record { 0 = 0 })) st)) s tried_in refl
-tries_same (Raise by table memtable to) s found files u other = absurd (other tt)
-tries_same (Finalise by table memtable) s (Limit b) files u other = at_table_keeps table.0 u
+tries_same (Raise by table memtable to) s found told u other = absurd (other tt)
+tries_same (Finalise by table memtable) s (Limit b) told u other = at_table_keeps table.0 u
     (λ (st : SeatTable). reaches (Waiting memtable) (bound_found memtable (made_final b) st)) s
     tried_in refl
-tries_same (TakeTurn by Sync) s found files u other = refl
-tries_same (TakeTurn by (Flush table)) s found files u other = at_table_keeps table.0 u
+tries_same (TakeTurn by Sync) s found told u other = refl
+tries_same (TakeTurn by (Flush table)) s found told u other = at_table_keeps table.0 u
     (λ (st : SeatTable). record st { flush = Some new_flush }) s tried_in refl
-tries_same (GiveTurn by Sync) s found files u other = refl
-tries_same (GiveTurn by (Flush table)) s found files u other = at_table_keeps table.0 u
+tries_same (GiveTurn by Sync) s found told u other = refl
+tries_same (GiveTurn by (Flush table)) s found told u other = at_table_keeps table.0 u
     (λ (st : SeatTable). record st { flush = None }) s tried_in refl
-tries_same (Put by Synced value) s found files u other = refl
-tries_same (Put by (OldestLive table) value) s found files u other = flush_tries table.0 u _ s
-tries_same (Put by Stopped value) s found files u other = refl
-tries_same e s found files u other = refl
+tries_same (Put by Synced value) s found told u other = refl
+tries_same (Put by (OldestLive table) value) s found told u other = flush_tries table.0 u _ s
+tries_same (Put by Stopped value) s found told u other = refl
+tries_same e s found told u other = refl

@@ -21,7 +21,7 @@ use Rattle.path_core.specs.declared.seat.Seat.{Seat}
 use Rattle.path_core.specs.declared.state.PathState.{PathState}
 use Rattle.path_core.specs.Parts.{seat_of, seat_table, table_of}
 use Rattle.path_core.specs.Words.{reading, by_of, place_of}
-use Rattle.path_core.specs.Next.{next_of, gives_file}
+use Rattle.path_core.specs.Next.{next_of, told_of}
 use Rattle.path_core.specs.declared.state.TableState.{TableState}
 use Rattle.path_core.specs.Allowed.{IsStep}
 use Rattle.path_core.proofs.seats.Columns.{own_after, claim_after, note_after}
@@ -112,7 +112,7 @@ module _ (x : PathState) (C : IsLawfulCore x) (P : PlacesAre x) where
   own_same e a other t c n = tries_at _ t _ _ _ _ _ _ _
       ((columns_of x L.sized L.orders e a.is_there).claim ∙ c)
       ((columns_of x L.sized L.orders e a.is_there).note ∙ n)
-      (tries_same e (own x e) (reading x (place_of e)) (gives_file x e) t other) (moved e a
+      (tries_same e (own x e) (reading x (place_of e)) (told_of x e) t other) (moved e a
       (by_of e) t)
 
   -- where nothing was tried
@@ -120,7 +120,7 @@ module _ (x : PathState) (C : IsLawfulCore x) (P : PlacesAre x) where
       → Tries x e t (own_after x e).claim (own_after x e).note (tried_in (seat_table
       (own_after x e) t))
   own_none e a other t none =
-      let same = tries_same e (own x e) (reading x (place_of e)) (gives_file x e) t other
+      let same = tries_same e (own x e) (reading x (place_of e)) (told_of x e) t other
       ∙ no_try (by_of e) t none in
       none_tried _ t _ _ _ _ _ (ap (λ (p : Option ℕ × Option ℕ). p.0) same)
       (ap (λ (p : Option ℕ × Option ℕ). p.1) same)

@@ -15,7 +15,6 @@ use Rattle.path_core.specs.Parts.{
   untouched,
   table_of,
   seat_table,
-  marker_of,
   fresh_table,
 }
 use Rattle.path_core.specs.Allowed.{IsStep}
@@ -35,7 +34,9 @@ use Rattle.path_core.proofs.tables.KeepsBarriers.{keeps_barriers}
 use Rattle.path_core.proofs.orders.GroupsMove.{groups_move}
 use Rattle.path_core.proofs.orders.KeepsSwitchHolders.{keeps_switches_held}
 use Rattle.path_core.proofs.log.KeepsSynced.{keeps_later_groups, keeps_synced}
+use Rattle.path_core.proofs.log.KeptMarker.{kept_under}
 use Rattle.path_core.proofs.log.KeepsMarkers.{KeptIs}
+use Rattle.path_core.proofs.log.MarkerWaits.{WaitsAre}
 use Rattle.path_core.proofs.log.KeepsLogged.{keeps_logged_synced}
 use Rattle.path_core.proofs.seats.KnownWords.{KnowsWords}
 use Rattle.path_core.proofs.seats.KnownTables.{KnowsTable}
@@ -128,7 +129,9 @@ module _ (tables seats capacity ordinals base : ℕ) where
       (at_first seats (λ s. (t : ℕ) → KnowsTable (table_of first t) (seat_table s t))
       (λ t. subst (KnowsTable (table_of first t)) (sym (untouched_there t))
       (untouched_known (table_of first t))) w)
-      (at_first seats (λ s. KeptIs first w (marker_of s)) (λ kept h. absurd (none-some kept h)) w)
+      (at_first seats (λ s. KeptIs first (kept_under s.sync))
+      (λ kept h. absurd (none-some kept h)) w)
+      (at_first seats (λ s. WaitsAre first w s) refl w)
       (at_first seats (λ s. (t : ℕ) (turn : FlushTurn) → (seat_table s t).flush ≡ Some turn
       → StageIs first t turn.stage)
       (λ t turn h. absurd (none-some turn (sym (ap (λ (st : SeatTable). st.flush)

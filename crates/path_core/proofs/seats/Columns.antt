@@ -57,13 +57,13 @@ use Rattle.path_core.specs.Parts.{fresh_seat, untouched, seat_of, seat_table, ho
 use Rattle.path_core.specs.Words.{reading, by_of, place_of}
 use Rattle.path_core.specs.SeatAfter.{seat_after}
 use Rattle.path_core.specs.SeatParts.{at_table}
-use Rattle.path_core.specs.Next.{next_of, gives_file}
+use Rattle.path_core.specs.Next.{next_of, told_of}
 use Rattle.path_core.specs.Lawful.{IsSized}
 use Rattle.path_core.proofs.lists.Replaced.{put_at, replicated}
 
 -- the acting seat's part after its step
 abbrev pub own_after : PathState → Event → Seat
-own_after x e = seat_after (seat_of x (by_of e)) e (reading x (place_of e)) (gives_file x e)
+own_after x e = seat_after (seat_of x (by_of e)) e (reading x (place_of e)) (told_of x e)
 
 -- what holds of each seat after a step
 pub each_seat : (x : PathState) (e : Event) → by_of e < length x.seats → (P : ℕ → Seat → Type 0)

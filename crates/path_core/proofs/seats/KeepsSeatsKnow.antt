@@ -1,12 +1,10 @@
 -- What seats found or put still stands: each allowed step keeps it.
-use Rattle.std.proofs.Common.{◌≡◌, ℕ, Some, ap, ◌∙◌}
-use Rattle.std.specs.Option.{option_and_then}
+use Rattle.std.proofs.Common.{◌≡◌, ℕ, Some, sym, ap, ◌∙◌}
 use Rattle.path_core.specs.declared.event.Event.{Event}
 use Rattle.path_core.specs.declared.seat.FlushTurn.{FlushTurn}
 use Rattle.path_core.specs.declared.seat.Seat.{Seat}
-use Rattle.path_core.specs.declared.seat.SyncTurn.{SyncTurn}
 use Rattle.path_core.specs.declared.state.PathState.{PathState}
-use Rattle.path_core.specs.Parts.{seat_of, seat_table, table_of, marker_of}
+use Rattle.path_core.specs.Parts.{seat_of, seat_table, table_of}
 use Rattle.path_core.specs.Words.{by_of}
 use Rattle.path_core.specs.Allowed.{IsStep}
 use Rattle.path_core.specs.Next.{next_of}
@@ -15,7 +13,9 @@ use Rattle.path_core.specs.LawfulOrders.{SwitchesHeld}
 use Rattle.path_core.specs.LawfulTables.{SwitchesAre}
 use Rattle.path_core.specs.LawfulSeats.{SeatKnows, StageIs}
 use Rattle.path_core.proofs.seats.Columns.{each_seat}
-use Rattle.path_core.proofs.log.KeepsMarkers.{KeptIs, keeps_markers, kept_from}
+use Rattle.path_core.proofs.log.KeptMarker.{kept_under, kept_turn}
+use Rattle.path_core.proofs.log.KeepsMarkers.{KeptIs, keeps_markers}
+use Rattle.path_core.proofs.log.MarkerWaits.{WaitsAre, keeps_waiting}
 use Rattle.path_core.proofs.tables.KeepsStages.{keeps_stages, staged_from, stage_is}
 use Rattle.path_core.proofs.seats.KnownWords.{KnowsWords}
 use Rattle.path_core.proofs.seats.WordsStay.{others_know}
@@ -53,18 +53,17 @@ all_known x w K = record {
 -- and back
 pub seat_knows : (x : PathState) (w : ℕ) → KnowsWords x (seat_of x w)
     → ((t : ℕ) → KnowsTable (table_of x t) (seat_table (seat_of x w) t))
-    → KeptIs x w (marker_of (seat_of x w))
+    → KeptIs x (kept_under (seat_of x w).sync) → WaitsAre x w (seat_of x w)
     → ((t : ℕ) (turn : FlushTurn) → (seat_table (seat_of x w) t).flush ≡ Some turn
     → StageIs x t turn.stage) → SeatKnows x w
-seat_knows x w W K kept stages = record {
+seat_knows x w W K kept waits stages = record {
   words = W.words;
   sync = λ turn h. let E = W.sync turn h in record {
     write = E.write;
     append = E.append;
     synced = E.synced;
     stopped = E.stopped;
-    marker = λ marker q. kept marker
-        (ap (option_and_then (λ (turn : SyncTurn). turn.marker)) h ∙ q);
+    marker = kept turn.marker (ap kept_under h);
   };
   bounds = λ t found h. let B = (K t).bounds found h in
       record { made = B.made; stays = B.stays };
@@ -74,6 +73,7 @@ seat_knows x w W K kept stages = record {
     bound = F.bound;
     stage = stages t turn h;
   };
+  marker_waits = waits;
 }
 
 -- Each allowed step keeps that what each seat found or put still stands.
@@ -92,8 +92,9 @@ keeps_seats_know x C S K e a now w =
       tables = other_tables x L e a v apart other.tables;
     }) w in
     seat_knows (next_of x e) w A.words A.tables
-    (keeps_markers x L.orders (λ v. kept_from x v (seat_of x v).sync
-    (λ turn h. ((K v).sync turn h).marker)) e a w)
+    (keeps_markers x L.orders (λ v kept h. let held = kept_turn (seat_of x v).sync kept h in
+    sym held.2 ∙ ((K v).sync held.0 held.1).marker) e a w)
+    (keeps_waiting x (λ v. (K v).marker_waits) e a w)
     (λ t. stage_is (next_of x e) now w t (keeps_stages x C S
     (λ v u. staged_from x u (seat_table (seat_of x v) u).flush
     (λ turn h. ((K v).flush u turn h).stage)) e a w t))

@@ -1,8 +1,9 @@
 -- Changes of a seat that concern no word: an issue, a marker, a log key that is found, a turn that
 -- was just taken.
-use Rattle.std.proofs.Common.{ℕ, ◌≤◌, Some, arith}
+use Rattle.std.proofs.Common.{ℕ, ◌≤◌, Option, Some, arith}
 use Rattle.std.proofs.lemmas.Option.{none-some, same_Some}
 use Rattle.path_core.specs.declared.seat.Issue.{Issue}
+use Rattle.path_core.specs.declared.seat.LastMarker.{LastMarker}
 use Rattle.path_core.specs.declared.seat.Seat.{Seat}
 use Rattle.path_core.specs.declared.state.PathState.{PathState}
 use Rattle.path_core.specs.SeatParts.{in_sync, with_issue}
@@ -19,11 +20,12 @@ issued x issue s K = record {
 }
 
 -- a marker is no word
-pub claimed : (x : PathState) (start : ℕ) (s : Seat) → KnowsWords x s
-    → KnowsWords x (in_sync (marker_claimed start) s)
-claimed x start s K = record {
+pub claimed : (x : PathState) (by start : ℕ) (s : Seat) → KnowsWords x s
+    → KnowsWords x (in_sync (marker_claimed by start) s)
+claimed x by start s K = record {
   words = K.words;
-  sync = turn_mapped (SyncIs x) s.sync (marker_claimed start) (λ turn h. let E = K.sync turn h in
+  sync = turn_mapped (SyncIs x) s.sync (marker_claimed by start) (λ turn h.
+      let E = K.sync turn h in
       record { write = E.write; append = E.append; synced = E.synced; stopped = E.stopped });
 }
 
@@ -41,9 +43,9 @@ log_known x key s low K = record {
   sync = K.sync;
 }
 
--- a Sync turn that was just taken knows nothing
-pub new_turn_known : (x : PathState) → SyncIs x new_sync
-new_turn_known x = record {
+-- a Sync turn that was just taken knows of no word
+pub new_turn_known : (x : PathState) (marker : Option LastMarker) → SyncIs x (new_sync marker)
+new_turn_known x marker = record {
   write = record {
     current = λ g h. absurd (none-some g h);
     oldest = λ g h. absurd (none-some g h);

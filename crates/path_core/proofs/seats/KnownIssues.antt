@@ -24,7 +24,7 @@ module _ (x : PathState) (L : IsLawfulLog x) where
   moves_know by Write group a K = let e = MoveCurrent by Write group in record {
     words = words_stay x L e a (seat_of x by).found K.words;
     sync = turn_mapped (SyncIs (next_of x e)) (seat_of x by).sync
-        (moved_turn Write x.write.current group)
+        (moved_turn Write by x.write.current group)
         (λ turn h. let E = K.sync turn h in record {
           write = let G = E.write in record {
             current = λ g h. sym (same_Some group g h);
@@ -43,7 +43,7 @@ module _ (x : PathState) (L : IsLawfulLog x) where
   moves_know by Append group a K = let e = MoveCurrent by Append group in record {
     words = words_stay x L e a (seat_of x by).found K.words;
     sync = turn_mapped (SyncIs (next_of x e)) (seat_of x by).sync
-        (moved_turn Append x.append.current group)
+        (moved_turn Append by x.append.current group)
         (λ turn h. let E = K.sync turn h in record {
           write = let G = E.write in record {
             current = G.current;

@@ -1,5 +1,5 @@
 -- What a seat knows of the words of no table after its own step.
-use Rattle.std.proofs.Common.{ℕ, ◌||◌, Some, refl, sym, subst, arith}
+use Rattle.std.proofs.Common.{ℕ, ◌||◌, true, Some, refl, sym, subst, arith}
 use Rattle.std.proofs.lemmas.Option.{none-some, same_Some}
 use Rattle.op_core.specs.declared.count.Order.TheVariants.{Write, Append}
 use Rattle.path_core.specs.declared.event.Carried.TheVariants.{Nothing, Deposit, Applied}
@@ -29,7 +29,7 @@ use Rattle.path_core.specs.declared.seat.Issue.TheVariants.{Rest, Opened}
 use Rattle.path_core.specs.declared.seat.SyncTurn.{SyncTurn}
 use Rattle.path_core.specs.declared.state.PathState.{PathState}
 use Rattle.path_core.specs.Keys.{claim_start}
-use Rattle.path_core.specs.Parts.{seat_of}
+use Rattle.path_core.specs.Parts.{seat_of, last_kept}
 use Rattle.path_core.specs.Words.{by_of}
 use Rattle.path_core.specs.Allowed.{IsStep}
 use Rattle.path_core.specs.SeatAfter.{new_sync}
@@ -146,9 +146,12 @@ module _ (x : PathState) (L : IsLawfulLog x) where
   own_knows (Claim by from to Marker) a K =
       let e = Claim by from to Marker in
       let now = known_left x L e a (λ b. b) (seat_of x by) K in
-      claimed (next_of x e) (claim_start Marker from.0 to.0) (record (seat_of x by) {
-        found = record (seat_of x by).found { log = Some to.0 };
-      }) (log_known (next_of x e) to.0 (seat_of x by) (omega arith) now)
+      let found = record (seat_of x by).found { log = Some to.0 } in
+      claimed (next_of x e) by (claim_start Marker from.0 to.0) (record (seat_of x by) {
+        found = found;
+        marker_waits = true;
+      }) (same_known (next_of x e) (record (seat_of x by) { found = found }) _ refl refl
+      (log_known (next_of x e) to.0 (seat_of x by) (omega arith) now))
   own_knows (Switch by table memtable Open) a K = let e = Switch by table memtable Open in
       same_known _ (seat_of x by) _ refl refl (known_left x L e a (λ b. b) (seat_of x by) K)
   own_knows (Switch by table memtable Mark) a K = let e = Switch by table memtable Mark in
@@ -161,8 +164,9 @@ module _ (x : PathState) (L : IsLawfulLog x) where
       let e = TakeTurn by Sync in
       let now = known_left x L e a (λ b. b) (seat_of x by) K in record {
         words = now.words;
-        sync = λ turn h. subst (SyncIs (next_of x e)) (same_Some new_sync turn h)
-            (new_turn_known (next_of x e));
+        sync = λ turn h. subst (SyncIs (next_of x e))
+            (same_Some (new_sync (last_kept x.claims)) turn h)
+            (new_turn_known (next_of x e) (last_kept x.claims));
       }
   own_knows (TakeTurn by (Flush table)) a K = let e = TakeTurn by (Flush table) in
       same_known _ (seat_of x by) _ refl refl (known_left x L e a (λ b. b) (seat_of x by) K)

@@ -53,9 +53,11 @@ use Rattle.path_core.proofs.seats.TriesApart.{tries_apart, begins_apart}
 
 pub leaves_groups : (order : Order) (f : FoundGroups → FoundGroups) (s : Seat)
     → Leaves s (keeps order f s)
-leaves_groups Write f s = finds_in_sync (in_turn_groups Write f) (in_found Write f s).found s
+leaves_groups Write f s = finds_in_sync (in_turn_groups Write f) (in_found Write f s).found
+    s.marker_waits s
     (λ turn. refl)
-leaves_groups Append f s = finds_in_sync (in_turn_groups Append f) (in_found Append f s).found s
+leaves_groups Append f s = finds_in_sync (in_turn_groups Append f) (in_found Append f s).found
+    s.marker_waits s
     (λ turn. refl)
 
 pub looks_leave : (s : Seat) (at : Place) (found : Reading) → Leaves s (looked s at found)
@@ -85,12 +87,12 @@ looks_leave s (Bound t m) (Limit b) = leaves_at_table t.0
 looks_leave s (TurnWord turn) (Operations k) = leaves_itself s
 looks_leave s (TurnWord turn) (Number n) = leaves_itself s
 looks_leave s (TurnWord turn) (Limit b) = leaves_itself s
-looks_leave s (CursorWord Synced) (Number n) = finds_in_sync _ _ s (λ turn. refl)
+looks_leave s (CursorWord Synced) (Number n) = finds_in_sync _ _ _ s (λ turn. refl)
 looks_leave s (CursorWord (OldestLive t)) (Number n) = leaves_at_table t.0
     (λ (st : SeatTable). begins_at (has_note_of s t.0) n
     (in_flush (λ (turn : FlushTurn). record turn { oldest_live = Some n }) st)) s
     (ap (λ (o : Option FlushTurn). is_some o) (begins_apart (has_note_of s t.0) n
     (in_flush (λ (turn : FlushTurn). record turn { oldest_live = Some n }) (seat_table s t.0))).1
     ∙ still_some (seat_table s t.0).flush _)
-looks_leave s (CursorWord Stopped) (Number n) = finds_in_sync _ _ s (λ turn. refl)
+looks_leave s (CursorWord Stopped) (Number n) = finds_in_sync _ _ _ s (λ turn. refl)
 looks_leave s _ _ = leaves_itself s

@@ -122,11 +122,11 @@ leaves_in_sync g s same = record {
   tables = refl;
 }
 
--- what it found changes as well
-pub finds_in_sync : (g : SyncTurn → SyncTurn) (found : Found) (s : Seat)
+-- what it found, and whether a marker waits, change as well
+pub finds_in_sync : (g : SyncTurn → SyncTurn) (found : Found) (waits : Bool) (s : Seat)
     → ((turn : SyncTurn) → (g turn).issue ≡ turn.issue)
-    → Leaves s (in_sync g (record s { found = found }))
-finds_in_sync g found s same = record {
+    → Leaves s (in_sync g (record s { found = found; marker_waits = waits }))
+finds_in_sync g found waits s same = record {
   write = refl;
   append = refl;
   claim = refl;

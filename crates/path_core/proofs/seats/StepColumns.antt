@@ -2,7 +2,6 @@
 -- for each field.
 use Rattle.std.proofs.Common.{
   ◌<◌,
-  Bool,
   true,
   false,
   length,
@@ -53,6 +52,7 @@ use Rattle.path_core.specs.declared.seat.Switching.TheVariants.{
 use Rattle.path_core.specs.Parts.{untouched, seat_table}
 use Rattle.path_core.specs.declared.state.Bound.TheVariants.{Raising}
 use Rattle.path_core.specs.SeatAfter.{
+  Told,
   seat_after,
   looked,
   raised_as_writer,
@@ -94,89 +94,89 @@ FitsSeat (TakeTurn by (Flush table)) s = table.0 < length s.tables
 FitsSeat (GiveTurn by (Flush table)) s = table.0 < length s.tables
 FitsSeat _ s = Unit {0}
 
-pub columns : (e : Event) (s : Seat) (found : Reading) (files : Bool) → FitsSeat e s
-    → Columns e s (seat_after s e found files)
-columns (Look by at) s found files fits =
+pub columns : (e : Event) (s : Seat) (found : Reading) (told : Told) → FitsSeat e s
+    → Columns e s (seat_after s e found told)
+columns (Look by at) s found told fits =
     columns_left (Look by at) s (looked s at found)
     (looks_leave s at found) refl refl refl refl refl
     (λ t. refl)
-columns (Register by Write group) s found files fits = columns_are _ s _
+columns (Register by Write group) s found told fits = columns_are _ s _
     refl refl refl refl refl (λ t. refl) refl
-columns (Register by Append group) s found files fits = columns_are _ s _
+columns (Register by Append group) s found told fits = columns_are _ s _
     refl refl refl refl refl (λ t. refl) refl
-columns (Close by Append group (Deposit note)) s found files fits = columns_are _ s _
+columns (Close by Append group (Deposit note)) s found told fits = columns_are _ s _
     refl refl refl refl refl (λ t. refl) refl
-columns (Close by Append group Nothing) s found files fits = columns_are _ s _
+columns (Close by Append group Nothing) s found told fits = columns_are _ s _
     refl refl refl refl refl (λ t. refl) refl
-columns (Close by Append group (Applied places)) s found files fits = columns_are _ s _
+columns (Close by Append group (Applied places)) s found told fits = columns_are _ s _
     refl refl refl refl refl (λ t. refl) refl
-columns (Close by Write group carried) s found files fits = columns_are _ s _
+columns (Close by Write group carried) s found told fits = columns_are _ s _
     refl refl refl refl refl
     (λ t. ap holds_flush (get_or-map_default left_table s.tables t untouched))
     (length-map s.tables left_table)
-columns (OpenGroup by order group) s found files fits = columns_are _ s _
+columns (OpenGroup by order group) s found told fits = columns_are _ s _
     refl refl refl refl (issue_kept s.sync _ (λ i. Opened order) (λ turn. refl)) (λ t. refl) refl
-columns (MoveCurrent by Write group) s found files fits = columns_are _ s _
+columns (MoveCurrent by Write group) s found told fits = columns_are _ s _
     refl refl refl refl (issue_kept s.sync _ (λ i. Moved Write) (λ turn. refl))
     (λ t. ap holds_flush
     (get_or-map_default (barrier_issued (number_read found)) s.tables t untouched)
     ∙ still_some (seat_table s t).flush _)
     (length-map s.tables (barrier_issued (number_read found)))
-columns (MoveCurrent by Append group) s found files fits = columns_are _ s _
+columns (MoveCurrent by Append group) s found told fits = columns_are _ s _
     refl refl refl refl (issue_kept s.sync _ (λ i. Moved Append) (λ turn. refl)) (λ t. refl) refl
-columns (Expire by order group) s found files fits = columns_are _ s _
+columns (Expire by order group) s found told fits = columns_are _ s _
     refl refl refl refl (issue_kept s.sync _ (λ i. Rest) (λ turn. refl)) (λ t. refl) refl
-columns (Advance by order group) s found files fits = columns_left (Advance by order group) s _
+columns (Advance by order group) s found told fits = columns_left (Advance by order group) s _
     (leaves_groups order (oldest_found group) s) refl refl refl refl refl (λ t. refl)
-columns (Claim by from to Entry) s found files fits = columns_are _ s _
+columns (Claim by from to Entry) s found told fits = columns_are _ s _
     refl refl refl refl refl (λ t. refl) refl
-columns (Claim by from to Marker) s found files fits = columns_left (Claim by from to Marker) s _
-    (finds_in_sync _ _ s (λ turn. refl)) refl refl refl refl refl (λ t. refl)
-columns (Switch by table memtable Open) s found files fits =
+columns (Claim by from to Marker) s found told fits = columns_left (Claim by from to Marker) s _
+    (finds_in_sync _ _ _ s (λ turn. refl)) refl refl refl refl refl (λ t. refl)
+columns (Switch by table memtable Open) s found told fits =
     columns_left (Switch by table memtable Open) s _ (leaves_at_table table.0
     (λ (st : SeatTable). reaches (Begun memtable)
     (in_flush (λ (turn : FlushTurn). record turn { newest = Some memtable }) st)) s
     (still_some _ _ ∙ still_some (seat_table s table.0).flush _))
     refl refl refl refl refl (λ t. refl)
-columns (Switch by table memtable Mark) s found files fits =
+columns (Switch by table memtable Mark) s found told fits =
     columns_left (Switch by table memtable Mark) s _ (leaves_at_table table.0
     (λ (st : SeatTable). reaches
     (MarkedStage (record { memtable = memtable; key = None; raised = false }))
     (bound_found memtable (Raising (record { 0 = 0 })) st)) s
     (still_some _ _ ∙ still_some (seat_table s table.0).flush _))
     refl refl refl refl refl (λ t. refl)
-columns (Raise by table memtable to) s (Limit b) files fits =
+columns (Raise by table memtable to) s (Limit b) told fits =
     columns_left (Raise by table memtable to) s _ (leaves_at_table table.0
     (λ (st : SeatTable). raised_as_holder memtable to.0
     (raised_as_writer (is_some s.note) memtable b
     (bound_found memtable (raised_to to.0 b) st))) s
     (raises_keep (is_some s.note) memtable to.0 b (seat_table s table.0)))
     refl refl refl refl refl (λ t. refl)
-columns (Finalise by table memtable) s (Limit b) files fits =
+columns (Finalise by table memtable) s (Limit b) told fits =
     columns_left (Finalise by table memtable) s _ (leaves_at_table table.0
     (λ (st : SeatTable). reaches (Waiting memtable) (bound_found memtable (made_final b) st)) s
     (still_some _ _ ∙ still_some (seat_table s table.0).flush _))
     refl refl refl refl refl (λ t. refl)
-columns (TakeTurn by Sync) s found files fits = columns_are _ s _
+columns (TakeTurn by Sync) s found told fits = columns_are _ s _
     refl refl refl refl refl (λ t. refl) refl
-columns (TakeTurn by (Flush table)) s found files fits = columns_are _ s _
+columns (TakeTurn by (Flush table)) s found told fits = columns_are _ s _
     refl refl refl refl refl
     (λ t. turned table.0 t (λ (st : SeatTable). record st { flush = Some new_flush }) s true
     fits refl)
     (length-set s.tables table.0 _)
-columns (GiveTurn by Sync) s found files fits = columns_are _ s _
+columns (GiveTurn by Sync) s found told fits = columns_are _ s _
     refl refl refl refl refl (λ t. refl) refl
-columns (GiveTurn by (Flush table)) s found files fits = columns_are _ s _
+columns (GiveTurn by (Flush table)) s found told fits = columns_are _ s _
     refl refl refl refl refl
     (λ t. turned table.0 t (λ (st : SeatTable). record st { flush = None }) s false fits refl)
     (length-set s.tables table.0 _)
-columns (Put by Synced value) s found files fits = columns_left (Put by Synced value) s _
-    (finds_in_sync _ _ s (λ turn. refl)) refl refl refl refl refl (λ t. refl)
-columns (Put by (OldestLive table) value) s found files fits =
+columns (Put by Synced value) s found told fits = columns_left (Put by Synced value) s _
+    (finds_in_sync _ _ _ s (λ turn. refl)) refl refl refl refl refl (λ t. refl)
+columns (Put by (OldestLive table) value) s found told fits =
     columns_left (Put by (OldestLive table) value) s _
     (leaves_twice s _ _ (leaves_flush table.0 _ s) (leaves_in_sync _ _ (λ turn. refl)))
     refl refl refl refl refl (λ t. refl)
-columns (Put by Stopped value) s found files fits = columns_left (Put by Stopped value) s _
-    (finds_in_sync _ _ s (λ turn. refl)) refl refl refl refl refl (λ t. refl)
-columns e s found files fits =
+columns (Put by Stopped value) s found told fits = columns_left (Put by Stopped value) s _
+    (finds_in_sync _ _ _ s (λ turn. refl)) refl refl refl refl refl (λ t. refl)
+columns e s found told fits =
     columns_left e s s (leaves_itself s) refl refl refl refl refl (λ t. refl)

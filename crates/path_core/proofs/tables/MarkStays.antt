@@ -46,7 +46,7 @@ use Rattle.path_core.specs.Parts.{
 use Rattle.path_core.specs.Words.{reading, by_of, place_of}
 use Rattle.path_core.specs.declared.state.Bound.TheVariants.{Raising}
 use Rattle.path_core.specs.SeatParts.{at_table, reaches}
-use Rattle.path_core.specs.Next.{next_of, gives_file, with_memtable}
+use Rattle.path_core.specs.Next.{next_of, told_of, with_memtable}
 use Rattle.path_core.specs.declared.seat.Marked.{Marked}
 use Rattle.path_core.specs.declared.state.Memtable.{Memtable}
 use Rattle.path_core.specs.declared.state.TableState.{TableState}
@@ -119,7 +119,7 @@ module _ (x : PathState) (W : SwitchesAre x) where
       → (w : ℕ) → Marks x e t (seat_of (next_of x e) w)
   marks_stay e a other t stays = each_seat x e a.seat (λ _ s. Marks x e t s)
       (λ k h. let before = sym (marks_left e (seat_of x (by_of e)) (reading x (place_of e))
-      (gives_file x e) t other) ∙ h in
+      (told_of x e) t other) ∙ h in
       stays (by_of e) k before (W.marked (by_of e) t k before))
       (λ w _ k h. stays w k h (W.marked w t k h))
 

@@ -1,20 +1,6 @@
 -- How far the holder of a table's turn has got with a switch, and what it has marked: which steps
 -- change them.
-use Rattle.std.proofs.Common.{
-  ◌≡◌,
-  ℕ,
-  ◌==◌,
-  ◌&&◌,
-  ◌||◌,
-  Bool,
-  Option,
-  Some,
-  None,
-  refl,
-  sym,
-  ap,
-  ◌∙◌,
-}
+use Rattle.std.proofs.Common.{◌≡◌, ℕ, ◌==◌, ◌&&◌, ◌||◌, Option, Some, None, refl, sym, ap, ◌∙◌}
 use Rattle.std.specs.Option.{option_map, option_and_then}
 use Rattle.std.proofs.lemmas.Option.{none-some, same_Some}
 use Rattle.std.proofs.Math.ListN.{get_or-map as get_or-map_default}
@@ -44,7 +30,7 @@ use Rattle.path_core.specs.declared.seat.Switching.TheVariants.{
   WithBarrier,
 }
 use Rattle.path_core.specs.Parts.{untouched, seat_table, is_at, marked_in, marked_of, stage_of}
-use Rattle.path_core.specs.SeatAfter.{seat_after, number_read, raised_stage}
+use Rattle.path_core.specs.SeatAfter.{Told, seat_after, number_read, raised_stage}
 use Rattle.path_core.specs.SeatParts.{key_found, with_barrier, barrier_issued}
 use Rattle.path_core.specs.declared.seat.Marked.{Marked}
 use Rattle.path_core.proofs.tables.StageLeft.{ChangesStage, stages_left}
@@ -121,17 +107,17 @@ ChangesMark (GiveTurn by (Flush table)) = Unit {0}
 ChangesMark _ = ⊥
 
 -- where the stage stays, so does what is marked
-kept : (e : Event) (s : Seat) (found : Reading) (files : Bool) (u : ℕ) → (ChangesStage e → ⊥)
-    → marked_of (seat_after s e found files) u ≡ marked_of s u
-kept e s found files u other = mark_of_stage (seat_after s e found files) u
-    ∙ (ap (option_and_then marked_in) (stages_left e s found files u other)
+kept : (e : Event) (s : Seat) (found : Reading) (told : Told) (u : ℕ) → (ChangesStage e → ⊥)
+    → marked_of (seat_after s e found told) u ≡ marked_of s u
+kept e s found told u other = mark_of_stage (seat_after s e found told) u
+    ∙ (ap (option_and_then marked_in) (stages_left e s found told u other)
     ∙ sym (mark_of_stage s u))
 
 -- what is marked stays
-pub marks_left : (e : Event) (s : Seat) (found : Reading) (files : Bool) (u : ℕ)
-    → (ChangesMark e → ⊥) → marked_of (seat_after s e found files) u ≡ marked_of s u
-marks_left (MoveCurrent by Write group) s found files u other =
+pub marks_left : (e : Event) (s : Seat) (found : Reading) (told : Told) (u : ℕ)
+    → (ChangesMark e → ⊥) → marked_of (seat_after s e found told) u ≡ marked_of s u
+marks_left (MoveCurrent by Write group) s found told u other =
     ap marked_at (get_or-map_default (barrier_issued (number_read found)) s.tables u untouched)
     ∙ marked_same (seat_table s u).flush _ (λ turn. barrier_marked (number_read found) turn.stage)
-marks_left (Look by Log) s found files u other = absurd (other tt)
-marks_left e s found files u other = kept e s found files u other
+marks_left (Look by Log) s found told u other = absurd (other tt)
+marks_left e s found told u other = kept e s found told u other

@@ -55,7 +55,7 @@ use Rattle.path_core.specs.declared.seat.Seat.{Seat}
 use Rattle.path_core.specs.declared.seat.SeatTable.{SeatTable}
 use Rattle.path_core.specs.declared.seat.Switching.{Switching}
 use Rattle.path_core.specs.Parts.{untouched, seat_table, stage_of}
-use Rattle.path_core.specs.SeatAfter.{seat_after, looked, left_table}
+use Rattle.path_core.specs.SeatAfter.{Told, seat_after, looked, left_table}
 use Rattle.path_core.specs.SeatParts.{
   at_table,
   in_flush,
@@ -145,33 +145,33 @@ looks_left s (Oldest order) (Limit b) u other = refl
 looks_left s at found u other = refl
 
 -- the stage stays
-pub stages_left : (e : Event) (s : Seat) (found : Reading) (files : Bool) (u : ℕ)
-    → (ChangesStage e → ⊥) → stage_of (seat_after s e found files) u ≡ stage_of s u
-stages_left (Look by Log) s found files u other = absurd (other tt)
-stages_left (Look by at) s found files u other =
+pub stages_left : (e : Event) (s : Seat) (found : Reading) (told : Told) (u : ℕ)
+    → (ChangesStage e → ⊥) → stage_of (seat_after s e found told) u ≡ stage_of s u
+stages_left (Look by Log) s found told u other = absurd (other tt)
+stages_left (Look by at) s found told u other =
     looks_left s at found u (λ e. other (subst (λ p. ChangesStage (Look by p)) (sym e) tt))
-stages_left (Register by Write group) s found files u other = refl
-stages_left (Register by Append group) s found files u other = refl
-stages_left (Close by Append group (Deposit note)) s found files u other = refl
-stages_left (Close by Append group Nothing) s found files u other = refl
-stages_left (Close by Append group (Applied places)) s found files u other = refl
-stages_left (Close by Write group carried) s found files u other =
+stages_left (Register by Write group) s found told u other = refl
+stages_left (Register by Append group) s found told u other = refl
+stages_left (Close by Append group (Deposit note)) s found told u other = refl
+stages_left (Close by Append group Nothing) s found told u other = refl
+stages_left (Close by Append group (Applied places)) s found told u other = refl
+stages_left (Close by Write group carried) s found told u other =
     ap stage_at (get_or-map_default left_table s.tables u untouched)
-stages_left (MoveCurrent by Write group) s found files u other = absurd (other tt)
-stages_left (MoveCurrent by Append group) s found files u other = refl
-stages_left (Advance by Write group) s found files u other = refl
-stages_left (Advance by Append group) s found files u other = refl
-stages_left (Claim by from to Entry) s found files u other = refl
-stages_left (Claim by from to Marker) s found files u other = refl
-stages_left (Switch by table memtable part) s found files u other = absurd (other tt)
-stages_left (Raise by table memtable to) s found files u other = absurd (other tt)
-stages_left (Finalise by table memtable) s found files u other = absurd (other tt)
-stages_left (TakeTurn by Sync) s found files u other = refl
-stages_left (TakeTurn by (Flush table)) s found files u other = absurd (other tt)
-stages_left (GiveTurn by Sync) s found files u other = refl
-stages_left (GiveTurn by (Flush table)) s found files u other = absurd (other tt)
-stages_left (Put by Synced value) s found files u other = refl
-stages_left (Put by (OldestLive table) value) s found files u other =
+stages_left (MoveCurrent by Write group) s found told u other = absurd (other tt)
+stages_left (MoveCurrent by Append group) s found told u other = refl
+stages_left (Advance by Write group) s found told u other = refl
+stages_left (Advance by Append group) s found told u other = refl
+stages_left (Claim by from to Entry) s found told u other = refl
+stages_left (Claim by from to Marker) s found told u other = refl
+stages_left (Switch by table memtable part) s found told u other = absurd (other tt)
+stages_left (Raise by table memtable to) s found told u other = absurd (other tt)
+stages_left (Finalise by table memtable) s found told u other = absurd (other tt)
+stages_left (TakeTurn by Sync) s found told u other = refl
+stages_left (TakeTurn by (Flush table)) s found told u other = absurd (other tt)
+stages_left (GiveTurn by Sync) s found told u other = refl
+stages_left (GiveTurn by (Flush table)) s found told u other = absurd (other tt)
+stages_left (Put by Synced value) s found told u other = refl
+stages_left (Put by (OldestLive table) value) s found told u other =
     flush_left table.0 u _ s (λ turn. refl)
-stages_left (Put by Stopped value) s found files u other = refl
-stages_left e s found files u other = refl
+stages_left (Put by Stopped value) s found told u other = refl
+stages_left e s found told u other = refl

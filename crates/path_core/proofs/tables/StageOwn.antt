@@ -24,7 +24,7 @@ use Rattle.path_core.specs.Parts.{untouched, seat_of, seat_table, table_of, memt
 use Rattle.path_core.specs.Words.{by_of, reading, place_of}
 use Rattle.path_core.specs.Allowed.{IsStep}
 use Rattle.path_core.specs.SeatParts.{at_table, log_found, key_found, with_barrier, barrier_issued}
-use Rattle.path_core.specs.Next.{next_of, gives_file}
+use Rattle.path_core.specs.Next.{next_of, told_of}
 use Rattle.path_core.specs.Lawful.{IsLawfulCore}
 use Rattle.path_core.specs.LawfulSeats.{IsBegun, HasBarrier}
 use Rattle.path_core.proofs.seats.Columns.{own_after, at_table_same, at_table_other, seat_fits}
@@ -82,7 +82,7 @@ module _ (x : PathState) (C : IsLawfulCore x) where
       → Staged (next_of x e) t (stage_of (own_after x e) t)
   quiet_own e a other K t stage h = stage_stands x C e a t (quiet_stands x C e a other t) stage
       (K t stage (sym (stages_left e (seat_of x (by_of e)) (reading x (place_of e))
-      (gives_file x e) t other) ∙ h))
+      (told_of x e) t other) ∙ h))
 
   -- The log key is found.
   pub looks_at_log : (by : ℕ) (a : IsStep x (Look by Log)) → Own (Look by Log) → (t : ℕ)

@@ -42,7 +42,8 @@ use Rattle.path_rule.specs.declared.view.Role.{Role}
 use Rattle.path_rule.specs.declared.view.Role.TheVariants.{Steps}
 use Rattle.path_rule.specs.declared.view.View.{View}
 use Rattle.path_rule.specs.Boxed.{Gathers, Swept, HandsAre, HandsAs, Boxed}
-use Rattle.path_rule.specs.Boxes.{last_kept, box_of, boxes, HoldsAs, HoldsBox, Fits, NotesAre}
+use Rattle.path_rule.specs.Boxes.{box_of, boxes, HoldsAs, HoldsBox, Fits, NotesAre}
+use Rattle.path_core.specs.Parts.{last_kept}
 use Rattle.path_rule.specs.HandsAfter.{with_notes}
 use Rattle.path_rule.proofs.boxes.AtHome.{same_homes, take_homes, give_homes}
 use Rattle.path_rule.proofs.boxes.HandsStay.{

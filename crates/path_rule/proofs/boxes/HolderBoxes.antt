@@ -62,16 +62,8 @@ use Rattle.path_rule.specs.declared.view.Role.{Role}
 use Rattle.path_rule.specs.declared.view.Role.TheVariants.{Opener, Steps, Spent}
 use Rattle.path_rule.specs.declared.view.View.{View}
 use Rattle.path_rule.specs.Boxed.{Gathers, Swept, HandsAre, HandsAs, Stamped, ends_at, Boxed}
-use Rattle.path_rule.specs.Boxes.{
-  box_of,
-  boxes,
-  HoldsAs,
-  HoldsBox,
-  last_kept,
-  Fits,
-  IsFree,
-  NotesAre,
-}
+use Rattle.path_rule.specs.Boxes.{box_of, boxes, HoldsAs, HoldsBox, Fits, IsFree, NotesAre}
+use Rattle.path_core.specs.Parts.{last_kept}
 use Rattle.path_rule.specs.HandsAfter.{with_taken, with_swept}
 use Rattle.path_rule.proofs.boxes.AtHome.{inside_list, same_homes, take_homes, give_homes}
 use Rattle.path_rule.proofs.boxes.PutAt.{put, put_here, put_else}

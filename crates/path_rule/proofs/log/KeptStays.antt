@@ -63,7 +63,7 @@ use Rattle.path_core.proofs.log.MarkerSteps.{
   last_marker_barred,
 }
 use Rattle.path_core.proofs.log.OwnNotes.{notes_stay}
-use Rattle.path_rule.specs.Boxes.{kept_of, last_kept}
+use Rattle.path_core.specs.Parts.{kept_of, last_kept}
 use Rattle.path_rule.specs.Kept.{IsDepositedTo, MayBeKept}
 use Rattle.path_rule.specs.Lasts.{shown}
 

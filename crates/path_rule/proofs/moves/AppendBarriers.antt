@@ -107,7 +107,7 @@ module _ {K : Type 0} (shows : K → Lasting) (size : PathSize) (slots id : ℕ)
         keeps,
         tt,
         plays shows size s r id w m.0 there mine e refl may tt fits rows
-            ((n + 2 ^ 63) % 2 ^ 64) n false told refl m.0.hands m.1 keeps
+            ((n + 2 ^ 63) % 2 ^ 64) n false m.0.hands told refl m.1 keeps
             (boxed_goes shows size.seats x.notes (shown r.kept_to x) x.claims x.claims x.append
             (next_of x e).append s.homes s.views r.boxed id w m.0 v' there mine refl out out
             held (still_held m.0.part held)
@@ -169,7 +169,7 @@ module _ {K : Type 0} (shows : K → Lasting) (size : PathSize) (slots id : ℕ)
         keeps,
         tt,
         plays shows size s r id w m.0 there mine e refl may tt tt
-            (rows_stay x e may (λ q. q) r.rows) g g false refl refl m.0.hands m.1 keeps
+            (rows_stay x e may (λ q. q) r.rows) g g false m.0.hands refl refl m.1 keeps
             (boxed_goes shows size.seats x.notes (shown r.kept_to x) x.claims x.claims x.append
             (next_of x e).append s.homes s.views r.boxed id w m.0 v' there mine refl out out
             held (still _ m.0.part.sync held)

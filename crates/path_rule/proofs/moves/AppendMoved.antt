@@ -14,7 +14,6 @@ use Rattle.std.proofs.Common.{
   ◌∷◌,
   length,
   map,
-  Option,
   Some,
   None,
   refl,
@@ -63,10 +62,10 @@ use Rattle.path_rule.specs.declared.view.Progress.{Progress}
 use Rattle.path_rule.specs.declared.view.Role.TheVariants.{Steps}
 use Rattle.path_rule.specs.declared.view.View.{View}
 use Rattle.path_rule.specs.Boxed.{Stamped}
-use Rattle.path_rule.specs.Boxes.{kept_of, last_kept}
+use Rattle.path_core.specs.Parts.{kept_of, last_kept}
 use Rattle.path_rule.specs.HandsAfter.{barred, with_desk}
 use Rattle.path_rule.specs.Lasts.{shown}
-use Rattle.path_rule.specs.Rule.{Ruled, view_after, with_hands}
+use Rattle.path_rule.specs.Rule.{Ruled, told_by, view_after, with_hands}
 use Rattle.path_rule.specs.Told.{MadeAs}
 use Rattle.path_rule.specs.TurnTold.{AppendMoved}
 use Rattle.path_rule.specs.Turns.{TurnSaw, MarkerWaits}
@@ -107,25 +106,26 @@ module _ {K : Type 0} (shows : K → Lasting) (size : PathSize) (slots id : ℕ)
 
   -- the marker that waited has its barrier
   now_barred : (x : PathState) → IsLawfulPath x → (start group : ℕ) (h : Hands)
-      → MarkerWaits (seat_of x w) start
+      → MarkerWaits w (seat_of x w) start
       → last_kept x.claims ≡ h.progress.marker
       → last_kept (next_of x (MoveCurrent w Append group)).claims
       ≡ (barred x.append.current h.progress).marker
   now_barred x L start group h waits told =
-      let K = marker_exact x L w (record { start = start; barrier = None }) waits in
-      let c = K.claim in
+      let K = marker_exact x L w (record { by = w; start = start; barrier = None }) waits in
+      let c = K.0 in
       let own : is_unbarred_marker w c ≡ true =
       and_from (is_marker c && (c.by == w)) (is_none c.barrier)
-      (and_from (is_marker c) (c.by == w) (last_is_marker x.claims c K.last)
-      (eq-eqb c.by w K.writer)) (ap (λ (o : Option ℕ). is_none o) K.barrier) in
+      (and_from (is_marker c) (c.by == w) (last_is_marker x.claims c K.1)
+      (eq-eqb c.by w (ap (λ (k : LastMarker). k.by) K.2)))
+      (ap (λ (k : LastMarker). is_none k.barrier) K.2) in
       ap (option_map kept_of) (last_marker_barred x w group
-      ∙ ap (option_map (barred_marker w x.append.current)) K.last)
+      ∙ ap (option_map (barred_marker w x.append.current)) K.1)
       ∙ (ap (λ (b : Bool). Some (kept_of
       (if b then record c { barrier = Some x.append.current } else c))) own
       ∙ ap (option_map (λ (m : LastMarker). record m { barrier = Some x.append.current }))
-      (sym (ap (option_map kept_of) K.last) ∙ told))
+      (sym (ap (option_map kept_of) K.1) ∙ told))
 
-  pub moves : (g c start : ℕ) → MarkerWaits m.0.part start → issue_of m.0.part ≡ Opened Append
+  pub moves : (g c start : ℕ) → MarkerWaits w m.0.part start → issue_of m.0.part ≡ Opened Append
       → TurnSaw Append m.0.part c → g ≡ suc c → m.0.hands.progress.gathered ≡ true
       → m.0.hands.box_taken ≡ None
       → Allows (Ruled shows size) slots id m 1 (λ _. g)
@@ -133,7 +133,7 @@ module _ {K : Type 0} (shows : K → Lasting) (size : PathSize) (slots id : ℕ)
   moves g c start waits doing saw up all empty s r _ there _ = let x = r.core in
       let e = MoveCurrent w Append g in
       let h = with_desk m.0.hands.lasting m.0.hands.pending
-      (barred c m.0.hands.progress) m.0.hands in let v' = with_hands h (view_after m.0 e c false) in
+      (barred c m.0.hands.progress) m.0.hands in let v' = view_after (with_hands h m.0) e c false in
       let law = core_lawful shows size s r in
       let t = at_issue m.0.part (Opened Append) (λ q. cc) doing in
       let held = is_held m.0.part.sync t.0 t.1 in
@@ -160,13 +160,13 @@ module _ {K : Type 0} (shows : K → Lasting) (size : PathSize) (slots id : ℕ)
       ≡ (barred k m.0.hands.progress).marker) (sym now)
       (now_barred x law start g m.0.hands
       (own_part shows size slots id m w mine s r there marker_of
-      (Some (record { start = start; barrier = None })) waits) kept) in (
+      (Some (record { by = w; start = start; barrier = None })) waits) kept) in (
         v',
         keeps,
         tt,
         plays shows size s r id w m.0 there mine e refl may tt tt
-            (rows_stay x e may (λ q. q) r.rows) g c false refl
-            (ap (λ k. seat_after m.0.part e (Number k) false) now) h m.1 keeps
+            (rows_stay x e may (λ q. q) r.rows) g c false h refl
+            (ap (λ k. seat_after m.0.part e (Number k) (told_by false h)) now) m.1 keeps
             (boxed_goes shows size.seats x.notes (shown r.kept_to x) x.claims (next_of x e).claims
             x.append
             (next_of x e).append s.homes s.views r.boxed id w m.0 v' there mine refl out out

@@ -33,7 +33,7 @@ use Rattle.path_core.specs.LawfulOrders.{made_at}
 use Rattle.path_core.specs.Next.{next_of}
 use Rattle.path_core.specs.Parts.{groups_of, issue_of, marker_of}
 use Rattle.path_core.proofs.frame.Seats.{at_rest}
-use Rattle.path_core.proofs.log.MarkerTells.{wanted_by_marker}
+use Rattle.path_core.proofs.log.MarkerTells.{own_wants}
 use Rattle.path_rule.specs.declared.lasting.Lasting.{Lasting}
 use Rattle.path_rule.specs.declared.slot.Slot.{Slot}
 use Rattle.path_rule.specs.declared.view.PathSize.{PathSize}
@@ -51,7 +51,7 @@ use Rattle.path_rule.proofs.seats.HolderKnows.{still}
 
 module _ {K : Type 0} (shows : K → Lasting) (size : PathSize) (slots id : ℕ)
     (m : Me (Slot K) View) (w : ℕ) (mine : m.0.role ≡ Steps w) where
-  pub opens_append : (g c start : ℕ) → MarkerWaits m.0.part start → IsTrue (is_some m.0.part.sync)
+  pub opens_append : (g c start : ℕ) → MarkerWaits w m.0.part start → IsTrue (is_some m.0.part.sync)
       → issue_of m.0.part ≡ Rest → TurnSaw Append m.0.part c → g ≡ suc c
       → m.0.hands.box_taken ≡ None → g < 65536
       → Allows (Ruled shows size) slots id m (73 + 2 * g) (λ _. 0)
@@ -80,7 +80,7 @@ module _ {K : Type 0} (shows : K → Lasting) (size : PathSize) (slots id : ℕ)
         keeps,
         tt,
         plays shows size s r id w m.0 there mine e refl may tt fits
-            (rows s r g (let q = up ∙ ap suc now in omega arith)) 0 0 false told refl m.0.hands m.1
+            (rows s r g (let q = up ∙ ap suc now in omega arith)) 0 0 false m.0.hands told refl m.1
             keeps
             (unseen shows size slots id m w mine s r there held
             (next_of x e).append v' refl refl refl out
@@ -97,9 +97,9 @@ module _ {K : Type 0} (shows : K → Lasting) (size : PathSize) (slots id : ℕ)
                   is_there = tt;
                   row = (
                     may.row,
-                    (wanted_by_marker x law w (record { start = start; barrier = None })
+                    (own_wants x law w (record { by = w; start = start; barrier = None })
                         (own_part shows size slots id m w mine s r there marker_of
-                        (Some (record { start = start; barrier = None })) waits)).1 refl,
+                        (Some (record { by = w; start = start; barrier = None })) waits) refl refl),
                   );
                 },
               ),

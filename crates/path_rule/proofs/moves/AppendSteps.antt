@@ -136,7 +136,7 @@ module _ {K : Type 0} (shows : K → Lasting) (size : PathSize) (slots id : ℕ)
       let is = as_part shows size slots id m w mine s r there in
       let more = more_word c (omega arith) in let box = box_of w g in
       let ns = r.boxed.contents box in let h = with_notes ns m.0.hands in
-      let v' = with_hands h (view_after m.0 e (k + 1) false) in
+      let v' = view_after (with_hands h m.0) e (k + 1) false in
       let made = below shows size slots id m w mine s r there (Count Append g) (inl saw) in
       let under = (known_groups x (core_lawful shows size s r) Append w).current g
       (own_part shows size slots id m w mine s r there (λ (p : SeatOf). (found_of Append p).current)
@@ -163,12 +163,12 @@ module _ {K : Type 0} (shows : K → Lasting) (size : PathSize) (slots id : ℕ)
       let home = r.boxed.at_home box (own_low s r there g)
       (own_free s r there g outside under more.0) in
       let C = columns_now shows size s r id w m.0 there mine e refl may tt fits rows (k + 1)
-      (k + 1) false now refl h in (
+      (k + 1) false h now refl in (
         v',
         takes box home.0,
         home.1,
         plays shows size s r id w m.0 there mine e refl may tt fits rows (k + 1)
-            (k + 1) false now refl h m.1 (takes box home.0)
+            (k + 1) false h now refl m.1 (takes box home.0)
             (boxed_take shows size.seats x.notes (shown r.kept_to x) x.claims x.claims x.append
             (next_of x e).append s.homes s.views r.boxed id w m.0 v' there mine refl refl refl
             (λ i g l _ _. (l, refl)) refl C.issue g outside C.append refl),
@@ -220,12 +220,12 @@ module _ {K : Type 0} (shows : K → Lasting) (size : PathSize) (slots id : ℕ)
       (subst (λ z. z < 2 ^ 64) found low) in
       let rows = rows_stay x e may (λ q. q) r.rows in
       let C = columns_now shows size s r id w m.0 there mine e refl may tt fits rows
-      ((n + (2 ^ 64 - 1)) % 2 ^ 64) n false now refl m.0.hands in (
+      ((n + (2 ^ 64 - 1)) % 2 ^ 64) n false m.0.hands now refl in (
         v',
         gives,
         tt,
         plays shows size s r id w m.0 there mine e refl may tt fits rows
-            ((n + (2 ^ 64 - 1)) % 2 ^ 64) n false now refl m.0.hands m.1 gives
+            ((n + (2 ^ 64 - 1)) % 2 ^ 64) n false m.0.hands now refl m.1 gives
             (subst (λ l. Boxed shows size.seats x.notes (shown r.kept_to x) x.claims (next_of x
             e).append
             (put_back s.homes l) (set s.views id v')) (sym holds)

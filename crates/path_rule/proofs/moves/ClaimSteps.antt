@@ -21,7 +21,7 @@ use Rattle.path_rule.specs.declared.slot.Slot.{Slot}
 use Rattle.path_rule.specs.declared.view.PathSize.{PathSize}
 use Rattle.path_rule.specs.declared.view.Role.TheVariants.{Steps}
 use Rattle.path_rule.specs.declared.view.View.{View}
-use Rattle.path_rule.specs.Boxes.{kept_of}
+use Rattle.path_core.specs.Parts.{kept_of}
 use Rattle.path_rule.specs.Lasts.{shown}
 use Rattle.path_rule.specs.Rule.{start_of, Ruled, view_after}
 use Rattle.path_rule.specs.Told.{Claimed, Made}

@@ -114,12 +114,12 @@ module _ {K : Type 0} (shows : K → Lasting) (size : PathSize) (slots id : ℕ)
       ∙ less_word c (some_left x law Append w g here) (subst (λ z. z < 2 ^ 64) found low) in
       let rows = rows_stay x e may (λ q. q) r.rows in
       let C = columns_now shows size s r id w m.0 there mine e refl may whole fits rows
-      ((n + (2 ^ 64 - 1)) % 2 ^ 64) n false now refl m.0.hands in (
+      ((n + (2 ^ 64 - 1)) % 2 ^ 64) n false m.0.hands now refl in (
         v',
         gives,
         tt,
         plays shows size s r id w m.0 there mine e refl may whole fits rows
-            ((n + (2 ^ 64 - 1)) % 2 ^ 64) n false now refl m.0.hands m.1 gives
+            ((n + (2 ^ 64 - 1)) % 2 ^ 64) n false m.0.hands now refl m.1 gives
             (subst (λ (q : Lasting × List (ℕ × Slot K)). Boxed shows size.seats (next_of x e).notes
             q.0 x.claims (next_of x e).append (put_back s.homes q.1) (set s.views id v'))
             (λ i. (kept_same x law w g note may r.kept_to r.may_be_kept i, sym holds i))

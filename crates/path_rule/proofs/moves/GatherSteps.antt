@@ -70,7 +70,7 @@ use Rattle.path_rule.specs.Boxed.{HandsAs, Boxed}
 use Rattle.path_rule.specs.Boxes.{box_of, HasOwn, HoldsAs, IsFree, NotesAre}
 use Rattle.path_rule.specs.HandsAfter.{with_taken, with_swept}
 use Rattle.path_rule.specs.Lasts.{shown}
-use Rattle.path_rule.specs.Rule.{Ruled, view_after, with_hands, Was}
+use Rattle.path_rule.specs.Rule.{Ruled, told_by, view_after, with_hands, Was}
 use Rattle.path_rule.specs.Told.{MadeAs, Made}
 use Rattle.path_rule.specs.TurnTold.{Gathered, GaveBack}
 use Rattle.path_rule.specs.Turns.{TurnSaw}
@@ -142,7 +142,7 @@ module _ {K : Type 0} (shows : K → Lasting) (size : PathSize) (slots id : ℕ)
 
     -- a look at the oldest group, with what a box tells
     looked : (n : ℕ) → n ≡ r.core.append.oldest → (h : Hands) (a : Act (Slot K)) → let e =
-        Look w (Oldest Append) in let v' = with_hands h (view_after m.0 e n false) in
+        Look w (Oldest Append) in let v' = view_after (with_hands h m.0) e n false in
         (Columns e m.0.part v'.part → Boxed shows size.seats r.core.notes
         (shown r.kept_to r.core) r.core.claims r.core.append (homes_after s.homes m.1 a)
         (set s.views id v'))
@@ -154,10 +154,10 @@ module _ {K : Type 0} (shows : K → Lasting) (size : PathSize) (slots id : ℕ)
           is_there = tt;
           row = tt;
         } in let rows = rows_stay x e may (λ q. q) r.rows in (
-          plays shows size s r id w m.0 there mine e refl may tt tt rows n n false found
-              (ap (λ k. seat_after m.0.part e (Number k) false) found) h m.1 a
+          plays shows size s r id w m.0 there mine e refl may tt tt rows n n false h found
+              (ap (λ k. seat_after m.0.part e (Number k) (told_by false h)) found) m.1 a
               (boxed (columns_now shows size s r id w m.0 there mine e refl may tt tt rows n n false
-              found (ap (λ k. seat_after m.0.part e (Number k) false) found) h)),
+              h found (ap (λ k. seat_after m.0.part e (Number k) (told_by false h)) found))),
           was shows size s r id w m.0 there mine e may tt,
         )
 
@@ -175,7 +175,7 @@ module _ {K : Type 0} (shows : K → Lasting) (size : PathSize) (slots id : ℕ)
       (λ hit. let passed : x.append.oldest ≡ x.append.current = sym found ∙ (hit ∙ now) in
       let box = box_of k (suc x.append.current) in let ns = r.boxed.contents box in
       let h = with_taken (Some box) ns m.0.hands in
-      let v' = with_hands h (view_after m.0 e n false) in
+      let v' = view_after (with_hands h m.0) e n false in
       let home = r.boxed.at_home box (omega arith) (other_free s r there held k empty passed) in
       let few = subst (λ (l : List EntryNote). length l + length ns < 2 ^ 63)
       (sym ((hands_now shows size slots id m w mine s r there).desk held).1)
@@ -252,7 +252,7 @@ module _ {K : Type 0} (shows : K → Lasting) (size : PathSize) (slots id : ℕ)
       let out = outside shows size slots id m w mine s r there held in
       let k = m.0.hands.swept in
       let h = with_swept m.0.size.seats m.0.hands in
-      let v' = with_hands h (view_after m.0 e n false) in
+      let v' = view_after (with_hands h m.0) e n false in
       let sized = (known shows size s r id w m.0 there mine).0 in
       let box : ℕ → ℕ = λ d. box_of k (suc d) in
       let did = looked s r there held n found h gives

@@ -41,7 +41,7 @@ use Rattle.path_rule.specs.declared.view.PathSize.{PathSize}
 use Rattle.path_rule.specs.declared.view.Progress.{Progress}
 use Rattle.path_rule.specs.declared.view.Role.TheVariants.{Steps}
 use Rattle.path_rule.specs.declared.view.View.{View}
-use Rattle.path_rule.specs.Boxes.{last_kept}
+use Rattle.path_core.specs.Parts.{last_kept}
 use Rattle.path_rule.specs.Kept.{MayBeKept}
 use Rattle.path_rule.specs.Lasts.{lasting_of, shown}
 use Rattle.path_rule.specs.Rule.{Ruled, view_after}
@@ -75,12 +75,12 @@ kept_below x key value kept may last m marked is = ⊎_elim (λ low. nothing low
     nothing low = inl (is ∙ none_kept x.synced key x.notes low)
 
 -- so a keeper that shows what it has made of the state may write what the machine would
-may_be_lent : (x : PathState) → IsLawfulPath x → (w key value group : ℕ) → MayBeKept x key
-    → last_kept x.claims ≡ Some (record { start = value; barrier = Some group })
+may_be_lent : (x : PathState) → IsLawfulPath x → (w key value by group : ℕ) → MayBeKept x key
+    → last_kept x.claims ≡ Some (record { by = by; start = value; barrier = Some group })
     → IsStep x (Put w Synced value) → (lasting : Lasting) (run : List EntryNote)
     → lasting ≡ shown key x → filter (is_between x.synced value) x.notes ≡ run
     → MayLend lasting value run
-may_be_lent x L w key value group may marked step lasting run shows is h holds =
+may_be_lent x L w key value by group may marked step lasting run shows is h holds =
     let E : lasting_of h ≡ shown key x = holds ∙ shows in
     subst (λ (l : List EntryNote). MayWrite h value l) is
     (may_write x L w value step h (record {
@@ -91,7 +91,7 @@ may_be_lent x L w key value group may marked step lasting run shows is h holds =
     })
     (kept_below x key value h.kept may
     (λ k q. ap (λ (m : LastMarker). m.start) (same_marker (sym q ∙ marked)))
-    (record { start = value; barrier = Some group }) marked (ap (λ (l : Lasting). l.kept) E)))
+    (record { by = by; start = value; barrier = Some group }) marked (ap (λ (l : Lasting). l.kept) E)))
   where
     same_marker : {a b : LastMarker} → Some a ≡ Some b → a ≡ b
     same_marker e = cc
@@ -123,12 +123,12 @@ module _ {K : Type 0} (shows : K → Lasting) (size : PathSize) (slots id : ℕ)
             let D = (hands_now shows size slots id m w mine s r there).desk
             (is_held m.0.part.sync t sync) in
             let marked = r.boxed.marked
-            ∙ (ap (λ (k : Progress). k.marker) (sym D.2) ∙ barred.1) in (
+            ∙ (ap (λ (k : Progress). k.marker) (sym D.2) ∙ barred.2) in (
               was shows size s r id w m.0 there mine e may tt,
               sym found,
               S.1,
               record { seat = S.0.seat; is_there = S.0.is_there; row = S.0.row },
-              may_be_lent x (core_lawful shows size s r) w r.kept_to value barred.0 r.may_be_kept
-                  marked S.0 m.0.hands.lasting run D.0 S.1,
+              may_be_lent x (core_lawful shows size s r) w r.kept_to value barred.0
+                  barred.1 r.may_be_kept marked S.0 m.0.hands.lasting run D.0 S.1,
             )),
       ))

@@ -57,7 +57,7 @@ use Rattle.path_core.specs.Allowed.{IsStep}
 use Rattle.path_core.specs.Frame.{left_by}
 use Rattle.path_core.specs.Lawful.{IsLawfulPath}
 use Rattle.path_core.specs.LawfulSeats.{GroupsExact}
-use Rattle.path_core.specs.Next.{next_of, gives_file}
+use Rattle.path_core.specs.Next.{next_of, told_of}
 use Rattle.path_core.specs.Parts.{seat_of, found_of, fresh_table}
 use Rattle.path_core.specs.SeatAfter.{seat_after}
 use Rattle.path_core.specs.Whole.{CarriesWhole}
@@ -73,7 +73,7 @@ use Rattle.path_rule.specs.declared.view.View.{View}
 use Rattle.path_rule.specs.Boxed.{Boxed}
 use Rattle.path_rule.specs.Lasts.{shown}
 use Rattle.path_rule.specs.Layout.{word_at, IsWord, word_of, reading_at}
-use Rattle.path_rule.specs.Rule.{start_of, Ruled, HasRows, view_after, Was}
+use Rattle.path_rule.specs.Rule.{start_of, Ruled, HasRows, told_by, view_after, Was}
 use Rattle.path_rule.specs.Told.{Made, Looked}
 use Rattle.path_rule.specs.Turns.{TurnOld, turn_groups, Sighted}
 use Rattle.path_rule.proofs.boxes.HeldBoxes.{boxed_stay}
@@ -152,8 +152,8 @@ module _ {K : Type 0} (shows : K → Lasting) (size : PathSize) (slots id : ℕ)
     pub acts : (e : Event) → by_of e ≡ w → IsStep x e → CarriesWhole e → IsWord (place_of e)
         → HasRows (next_of x e) → (n found : ℕ)
         → n ≡ word_of (left_by e (reading x (place_of e)))
-        → seat_after m.0.part e (reading_at (place_of e) found) false
-        ≡ seat_after m.0.part e (reading x (place_of e)) (gives_file x e)
+        → seat_after m.0.part e (reading_at (place_of e) found) (told_by false m.0.hands)
+        ≡ seat_after m.0.part e (reading x (place_of e)) (told_of x e)
         → (Columns e m.0.part (view_after m.0 e found false).part
         → Boxed shows size.seats (next_of x e).notes (shown r.kept_to (next_of x e)) (next_of x
         e).claims
@@ -165,9 +165,9 @@ module _ {K : Type 0} (shows : K → Lasting) (size : PathSize) (slots id : ℕ)
       view_after m.0 e found false,
       keeps,
       tt,
-      plays shows size s r id w m.0 there mine e by may whole spot rows n found false now told
-          m.0.hands m.1 keeps (boxed (columns_now shows size s r id w m.0 there mine e by may whole
-          spot rows n found false now told m.0.hands)),
+      plays shows size s r id w m.0 there mine e by may whole spot rows n found false m.0.hands now
+          told m.1 keeps (boxed (columns_now shows size s r id w m.0 there mine e by may whole
+          spot rows n found false m.0.hands now told)),
       ok (was shows size s r id w m.0 there mine e may whole),
     )
 
@@ -186,7 +186,7 @@ module _ {K : Type 0} (shows : K → Lasting) (size : PathSize) (slots id : ℕ)
           row = tt;
         } in
         acts (Look w at) refl may tt spot (rows_stay x (Look w at) may (λ q. q) r.rows) n n found
-        (ap (λ k. seat_after m.0.part (Look w at) k false)
+        (ap (λ k. seat_after m.0.part (Look w at) k (told_by false m.0.hands))
         (ap (reading_at at) found ∙ read_back x L at))
         (λ C. boxed_stay shows size.seats x.notes
         (shown r.kept_to x) x.claims x.claims x.append x.append s.homes s.views r.boxed id w m.0

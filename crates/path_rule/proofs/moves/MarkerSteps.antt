@@ -32,22 +32,22 @@ use Rattle.path_core.specs.Keys.{MovesLog}
 use Rattle.path_core.specs.Next.{next_of, claim_of}
 use Rattle.path_core.proofs.frame.Runs.{past_sizes}
 use Rattle.path_core.proofs.log.MarkerSteps.{last_marker_claimed}
+use Rattle.path_core.proofs.log.MarkerTells.{entry_since}
 use Rattle.path_rule.specs.declared.lasting.Lasting.{Lasting}
 use Rattle.path_rule.specs.declared.slot.Slot.{Slot}
 use Rattle.path_rule.specs.declared.view.PathSize.{PathSize}
 use Rattle.path_rule.specs.declared.view.Progress.{Progress}
 use Rattle.path_rule.specs.declared.view.Role.TheVariants.{Steps}
 use Rattle.path_rule.specs.declared.view.View.{View}
-use Rattle.path_rule.specs.Boxes.{kept_of, last_kept}
+use Rattle.path_core.specs.Parts.{kept_of, last_kept}
 use Rattle.path_rule.specs.HandsAfter.{with_marker}
 use Rattle.path_rule.specs.Lasts.{shown}
 use Rattle.path_rule.specs.Rule.{Ruled, start_of, view_after, with_hands}
 use Rattle.path_rule.specs.Told.{MadeAs, Made}
 use Rattle.path_rule.specs.TurnTold.{MarkerClaimed}
-use Rattle.path_rule.specs.Turns.{behind_last}
+use Rattle.path_core.specs.Holders.{behind_last}
 use Rattle.path_rule.proofs.boxes.HandsStay.{stamp_stays}
 use Rattle.path_rule.proofs.boxes.HolderBoxes.{boxed_goes}
-use Rattle.path_rule.proofs.log.LastMarkers.{entry_since}
 use Rattle.path_rule.proofs.moves.HolderFacts.{has, outside, others_free, others_near, hands_now}
 use Rattle.path_rule.proofs.moves.Looks.{Owes, look_owes, within, each_seat_name}
 use Rattle.path_rule.proofs.moves.Moving.{core_lawful, known, was, plays}
@@ -68,7 +68,7 @@ module _ {K : Type 0} (shows : K → Lasting) (size : PathSize) (slots id : ℕ)
       exchanged n from to (λ z. Owes shows size slots id m w mine s 4 z then)
       (λ hit. let e = Claim w (record { 0 = from }) (record { 0 = to }) Marker in
       let c = claim_of x.capacity w from to Marker in let law = core_lawful shows size s r in
-      let h = with_marker from m.0.hands in let v' = with_hands h (view_after m.0 e to false) in
+      let h = with_marker w from m.0.hands in let v' = view_after (with_hands h m.0) e to false in
       let H = hands_now shows size slots id m w mine s r there in let D = H.desk held in
       let out = outside shows size slots id m w mine s r there held in
       let z = past_sizes r.events (start_of size) x r.run in
@@ -79,7 +79,7 @@ module _ {K : Type 0} (shows : K → Lasting) (size : PathSize) (slots id : ℕ)
       let kept : last_kept x.claims ≡ m.0.hands.progress.marker =
       B.marked ∙ ap (λ (f : Progress). f.marker) (sym D.2) in
       let since : IsTrue (is_entry_last x) =
-      entry_since x law (subst (λ (q : (ℕ × Option LastMarker) × ℕ). behind_last q.0.0
+      (entry_since x law).1 (subst (λ (q : (ℕ × Option LastMarker) × ℕ). behind_last q.0.0
       q.0.1 < q.1) (λ i. ((wide i, sym kept i), stands i)) moved) in
       let may : IsStep x e = record {
         seat = within shows size slots id m w mine s r there;
@@ -96,7 +96,7 @@ module _ {K : Type 0} (shows : K → Lasting) (size : PathSize) (slots id : ℕ)
         keeps,
         tt,
         plays shows size s r id w m.0 there mine e refl may tt tt
-            (rows_stay x e may (λ q. q) r.rows) to to false refl refl h m.1 keeps
+            (rows_stay x e may (λ q. q) r.rows) to to false h refl refl m.1 keeps
             (boxed_goes shows size.seats x.notes (shown r.kept_to x) x.claims
             (next_of x e).claims x.append x.append s.homes s.views B id w m.0 v' there mine refl
             out out held (still _ m.0.part.sync held)
@@ -105,7 +105,7 @@ module _ {K : Type 0} (shows : K → Lasting) (size : PathSize) (slots id : ℕ)
             (record {
               gathered = B.progress.gathered;
               marker = Some
-                  (record { start = from; barrier = None });
+                  (record { by = w; start = from; barrier = None });
             }) empty empty (
               D.0,
               D.1,
@@ -113,7 +113,7 @@ module _ {K : Type 0} (shows : K → Lasting) (size : PathSize) (slots id : ℕ)
                   record {
                     gathered = f.gathered;
                     marker = Some
-                        (record { start = from; barrier = None });
+                        (record { by = w; start = from; barrier = None });
                   }) D.2,
             ) B.near B.all
             (ap (option_map kept_of) (last_marker_claimed x w (record { 0 = from })
@@ -128,7 +128,8 @@ module _ {K : Type 0} (shows : K → Lasting) (size : PathSize) (slots id : ℕ)
             })),
         each_seat_name shows size slots id m w mine
             (λ z. (n ≡ from → MadeAs z (Claim z (record { 0 = from }) (record { 0 = to }) Marker) to
-            h m.0 v' × (m.1 ≡ m.1)) × (n ≢ from → Made z (Look z Log) n m (v', m.1))) (
+            (with_marker z from m.0.hands) m.0 v' × (m.1 ≡ m.1))
+            × (n ≢ from → Made z (Look z Log) n m (v', m.1))) (
               (λ _. ((refl, was shows size s r id w m.0 there mine e may tt), refl)),
               (λ miss. absurd (miss hit)),
             ),
@@ -137,6 +138,6 @@ module _ {K : Type 0} (shows : K → Lasting) (size : PathSize) (slots id : ℕ)
       look_owes shows size slots id m w mine s r there Log tt tt then (λ made _.
       each_seat_name shows size slots id m w mine
       (λ z. (n ≡ from → MadeAs z (Claim z (record { 0 = from }) (record { 0 = to }) Marker) to
-      (with_marker from m.0.hands) m.0 v' × (m.1 ≡ m.1))
+      (with_marker z from m.0.hands) m.0 v' × (m.1 ≡ m.1))
       × (n ≢ from → Made z (Look z Log) n m (v', m.1)))
       ((λ hit. absurd (miss hit)), (λ _. made))))

@@ -49,7 +49,7 @@ use Rattle.path_core.specs.declared.state.PathState.{PathState}
 use Rattle.path_core.specs.Allowed.{IsStep}
 use Rattle.path_core.specs.Frame.{left_by}
 use Rattle.path_core.specs.Lawful.{IsLawfulPath}
-use Rattle.path_core.specs.Next.{next_of, gives_file}
+use Rattle.path_core.specs.Next.{next_of, told_of}
 use Rattle.path_core.specs.Parts.{fresh_seat, seat_of}
 use Rattle.path_core.specs.Runs.{Past}
 use Rattle.path_core.specs.SeatAfter.{seat_after}
@@ -83,6 +83,7 @@ use Rattle.path_rule.specs.Rule.{
   IsSized,
   HasRows,
   Ruled,
+  told_by,
   view_after,
   with_hands,
   Was,
@@ -149,22 +150,21 @@ module _ {K : Type 0} (shows : K → Lasting) (size : PathSize) (s : State (Slot
 
     module _ (e : Event) (by : by_of e ≡ w) (may : IsStep r.core e) (whole : CarriesWhole e)
         (spot : IsWord (place_of e)) (rows : HasRows (next_of r.core e)) (n found : ℕ)
-        (filed : Bool)
+        (filed : Bool) (h : Hands)
         (now : n ≡ word_of (left_by e (reading r.core (place_of e))))
-        (told : seat_after v.part e (reading_at (place_of e) found) filed
-        ≡ seat_after v.part e (reading r.core (place_of e)) (gives_file r.core e))
-        (h : Hands) where
+        (told : seat_after v.part e (reading_at (place_of e) found) (told_by filed h)
+        ≡ seat_after v.part e (reading r.core (place_of e)) (told_of r.core e)) where
       abbrev x' : PathState
       x' = next_of r.core e
 
       abbrev v' : View
-      v' = with_hands h (view_after v e found filed)
+      v' = view_after (with_hands h v) e found filed
 
       abbrev es' : List Event
       es' = e ∷ r.events
 
       pub own_is : v'.part ≡ own_after r.core e
-      own_is = told ∙ ap (λ p. seat_after p e (reading r.core (place_of e)) (gives_file r.core e))
+      own_is = told ∙ ap (λ p. seat_after p e (reading r.core (place_of e)) (told_of r.core e))
           (part_is ∙ ap (seat_of r.core) (sym by))
 
       part_now : v'.part ≡ seat_of x' w

@@ -59,11 +59,11 @@ use Rattle.path_rule.specs.declared.view.Progress.{Progress}
 use Rattle.path_rule.specs.declared.view.Role.TheVariants.{Steps}
 use Rattle.path_rule.specs.declared.view.View.{View}
 use Rattle.path_rule.specs.Boxed.{Boxed}
-use Rattle.path_rule.specs.Boxes.{last_kept}
+use Rattle.path_core.specs.Parts.{last_kept}
 use Rattle.path_rule.specs.HandsAfter.{with_desk}
 use Rattle.path_rule.specs.Kept.{IsDepositedTo, MayBeKept}
 use Rattle.path_rule.specs.Lasts.{shown, refused_lasting}
-use Rattle.path_rule.specs.Rule.{Ruled, view_after, with_hands}
+use Rattle.path_rule.specs.Rule.{Ruled, told_by, view_after, with_hands}
 use Rattle.path_rule.specs.TurnTold.{
   IsKeptNow,
   CarriesAs,
@@ -82,10 +82,10 @@ use Rattle.path_rule.proofs.places.ReadBack.{rows_stay}
 use Rattle.path_rule.proofs.seats.HolderKnows.{still}
 
 -- Up to the last marker, once its barrier is passed, each entry is noted.
-deposited_to : (x : PathState) → IsLawfulPath x → (value group : ℕ) → IsSyncPoint x value
-    → last_kept x.claims ≡ Some (record { start = value; barrier = Some group })
+deposited_to : (x : PathState) → IsLawfulPath x → (value by group : ℕ) → IsSyncPoint x value
+    → last_kept x.claims ≡ Some (record { by = by; start = value; barrier = Some group })
     → IsDepositedTo x value
-deposited_to x L value group P marked = record {
+deposited_to x L value by group P marked = record {
   marker = P.marker;
   claimed = P.claimed;
   is = P.is;
@@ -143,8 +143,8 @@ module _ {K : Type 0} (shows : K → Lasting) (size : PathSize) (slots id : ℕ)
         (λ (P : (left : List EntryNote) × _). let S = settled shows size slots id m w mine s r there
         turn.0 turn.2 turn.3 all upto kept P.0 low barred P.1 in (
           upto,
-          inr (deposited_to r.core (core_lawful shows size s r) upto barred.0 S.0.row.3
-              (r.boxed.marked ∙ (ap (λ (k : Progress). k.marker) (sym D.2) ∙ barred.1))),
+          inr (deposited_to r.core (core_lawful shows size s r) upto barred.0 barred.1 S.0.row.3
+              (r.boxed.marked ∙ (ap (λ (k : Progress). k.marker) (sym D.2) ∙ barred.2))),
           sym S.1,
         )) now
 
@@ -188,7 +188,7 @@ module _ {K : Type 0} (shows : K → Lasting) (size : PathSize) (slots id : ℕ)
       let e = Look w (CursorWord Stopped) in
       let stopped = m.0.hands.lasting.stopped in
       let h = hands_with stopped in
-      let v' = with_hands h (view_after m.0 e n false) in
+      let v' = view_after (with_hands h m.0) e n false in
       let found : n ≡ x.stopped = r.words (CursorWord Stopped) tt in
       let D = (hands_now shows size slots id m w mine s r there).desk held in
       let k = kept_key s r there in
@@ -203,8 +203,8 @@ module _ {K : Type 0} (shows : K → Lasting) (size : PathSize) (slots id : ℕ)
         keeps,
         tt,
         plays_to shows size s r id w m.0 there mine e refl may tt tt
-            (rows_stay x e may (λ q. q) r.rows) n n false found
-            (ap (λ q. seat_after m.0.part e (Number q) false) found) h k.0
+            (rows_stay x e may (λ q. q) r.rows) n n false h found
+            (ap (λ q. seat_after m.0.part e (Number q) (told_by false h)) found) k.0
             (kept_stays x (core_lawful shows size s r) e may k.0 k.1) m.1 keeps
             (boxed_now s r there stopped (shown k.0 x) v' refl
             (outside shows size slots id m w mine s r there held)
@@ -228,7 +228,7 @@ module _ {K : Type 0} (shows : K → Lasting) (size : PathSize) (slots id : ℕ)
       (λ _. StoppedPut shows (step slots 6 value 0 none) m value)
   halts value above C s r _ there _ = let x = r.core in let e = Put w Stopped value in
       let h = hands_with true in
-      let v' = with_hands h (view_after m.0 e value false) in
+      let v' = view_after (with_hands h m.0) e value false in
       let D = (hands_now shows size slots id m w mine s r there).desk held in
       let k = kept_key s r there in
       let may : IsStep x e = record {
@@ -246,7 +246,7 @@ module _ {K : Type 0} (shows : K → Lasting) (size : PathSize) (slots id : ℕ)
         keeps,
         tt,
         plays_to shows size s r id w m.0 there mine e refl may tt tt
-            (rows_stay x e may (λ q. q) r.rows) value value false refl refl h k.0
+            (rows_stay x e may (λ q. q) r.rows) value value false h refl refl k.0
             (kept_stays x (core_lawful shows size s r) e may k.0 k.1) m.1 keeps
             (boxed_now s r there true (shown k.0 (next_of x e)) v' refl
             (outside shows size slots id m w mine s r there held)

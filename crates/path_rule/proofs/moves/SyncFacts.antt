@@ -22,7 +22,7 @@ use Rattle.path_core.specs.LawfulSeats.{SyncExact}
 use Rattle.path_core.specs.Next.{is_between}
 use Rattle.path_core.specs.Parts.{last_marker}
 use Rattle.path_core.proofs.frame.Seats.{current_is_made}
-use Rattle.path_core.proofs.log.MarkerTells.{last_synced}
+use Rattle.path_core.proofs.log.MarkerTells.{last_synced, claim_of_kept}
 use Rattle.path_rule.specs.declared.lasting.Lasting.{Lasting}
 use Rattle.path_rule.specs.declared.slot.Slot.{Slot}
 use Rattle.path_rule.specs.declared.view.PathSize.{PathSize}
@@ -33,7 +33,6 @@ use Rattle.path_rule.specs.Lasts.{shown}
 use Rattle.path_rule.specs.Rule.{Ruled}
 use Rattle.path_rule.specs.Turns.{IsBarred}
 use Rattle.path_rule.proofs.boxes.AllGathered.{gathered_all, marker_at}
-use Rattle.path_rule.proofs.log.LastMarkers.{claim_of_kept}
 use Rattle.path_rule.proofs.log.Lending.{run_is}
 use Rattle.path_rule.proofs.moves.HolderFacts.{has, is_held, hands_now}
 use Rattle.path_rule.proofs.moves.Looks.{within, own_part}
@@ -44,7 +43,7 @@ module _ {K : Type 0} (shows : K → Lasting) (size : PathSize) (slots id : ℕ)
   module _ (s : State (Slot K) View) (r : Ruled shows size s)
       (there : get_elem? s.views id ≡ some m.0) where
     -- what the holder found of the cursors while it holds the turn is exact
-    pub turn_exact : (t : SyncTurn) → m.0.part.sync ≡ Some t → SyncExact r.core w t
+    pub turn_exact : (t : SyncTurn) → m.0.part.sync ≡ Some t → SyncExact r.core t
     turn_exact t e = ((core_lawful shows size s r).seats_know w).sync t
         (own_part shows size slots id m w mine s r there (λ (p : Seat). p.sync) (Some t) e)
 
@@ -64,9 +63,10 @@ module _ {K : Type 0} (shows : K → Lasting) (size : PathSize) (slots id : ℕ)
         let H = hands_now shows size slots id m w mine s r there in let D = H.desk held in
         let whole : B.progress.gathered ≡ true =
         ap (λ (k : Progress). k.gathered) (sym D.2) ∙ all in
-        let group : ℕ = barred.0 in
-        let C = claim_of_kept (last_marker x) (record { start = value; barrier = Some group })
-        (B.marked ∙ (ap (λ (k : Progress). k.marker) (sym D.2) ∙ barred.1)) in
+        let by : ℕ = barred.0 in let group : ℕ = barred.1 in
+        let C = claim_of_kept (last_marker x)
+        (record { by = by; start = value; barrier = Some group })
+        (B.marked ∙ (ap (λ (k : Progress). k.marker) (sym D.2) ∙ barred.2)) in
         let c : Claim = C.0 in let start = ap (λ (k : LastMarker). k.start) C.2 in
         let issued = ap (λ (k : LastMarker). k.barrier) C.2 in
         let M = marker_at x law c C.1 group issued in

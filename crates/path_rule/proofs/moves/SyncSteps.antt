@@ -114,7 +114,7 @@ module _ {K : Type 0} (shows : K → Lasting) (size : PathSize) (slots id : ℕ)
       let now : shown value (next_of x e) ≡ more_lasting (ends run) value m.0.hands.lasting =
       sym now_is ∙ (λ j. more_lasting (ends run) value (sym D.0 j)) in
       let h = with_desk (more_lasting (ends run) value m.0.hands.lasting) left m.0.hands.progress
-      m.0.hands in let v' = with_hands h (view_after m.0 e value false) in
+      m.0.hands in let v' = view_after (with_hands h m.0) e value false in
       let out = outside shows size slots id m w mine s r there held in
       let grown : (q : EntryNote) → Contains (x.logged ++ ends run) q.end.0
       → Contains x.logged q.end.0 ⊎ (q.end.0 ≤ value) = λ q h. ⊎_elim (λ a. inl a)
@@ -144,7 +144,7 @@ module _ {K : Type 0} (shows : K → Lasting) (size : PathSize) (slots id : ℕ)
         keeps,
         tt,
         plays_to shows size s r id w m.0 there mine e refl may tt tt
-            (rows_stay x e may (λ q. q) r.rows) value value false refl refl h value
+            (rows_stay x e may (λ q. q) r.rows) value value false h refl refl value
             (inl (omega arith)) m.1 keeps
             (subst (λ q. Boxed shows size.seats x.notes q x.claims x.append s.homes
             (set s.views id v')) now_is boxed),

@@ -37,6 +37,7 @@ use Rattle.path_core.specs.declared.seat.Seat.{Seat}
 use Rattle.path_core.specs.Allowed.{IsStep}
 use Rattle.path_core.specs.Next.{next_of, has_filed, newly_dropped}
 use Rattle.path_core.specs.Parts.{issue_of, IsIdle}
+use Rattle.path_core.specs.SeatAfter.{seat_after}
 use Rattle.path_core.proofs.frame.Turns.{unheld}
 use Rattle.path_rule.specs.declared.lasting.Lasting.{Lasting}
 use Rattle.path_rule.specs.declared.slot.Slot.{Slot}
@@ -67,7 +68,7 @@ module _ {K : Type 0} (shows : K → Lasting) (size : PathSize) (slots id : ℕ)
       exchanged n 0 1 (λ z. Owes shows size slots id m w mine s 7 z then)
       (λ hit. let e = TakeTurn w Sync in let is = as_part shows size slots id m w mine s r there in
       let h = with_desk (shown r.kept_to x) r.boxed.pending r.boxed.progress m.0.hands in
-      let v' = with_hands h (view_after m.0 e 1 false) in
+      let v' = view_after (with_hands h m.0) e 1 false in
       let free = unheld x Sync (ap Number (sym (r.words (TurnWord Sync) tt) ∙ hit)) in
       let in_it = within shows size slots id m w mine s r there in
       let may : IsStep x e = record {
@@ -81,7 +82,9 @@ module _ {K : Type 0} (shows : K → Lasting) (size : PathSize) (slots id : ℕ)
         takes desk_box home.0,
         home.1,
         plays shows size s r id w m.0 there mine e refl may tt tt
-            (rows_stay x e may (λ q. q) r.rows) 1 1 false refl refl h m.1 (takes desk_box home.0)
+            (rows_stay x e may (λ q. q) r.rows) 1 1 false h refl
+            (ap (λ k. seat_after m.0.part e (Number 1) (record { files = false; marker = k }))
+            (sym r.boxed.marked)) m.1 (takes desk_box home.0)
             (boxed_desk_take shows size.seats x.notes
             (shown r.kept_to x) x.claims x.append s.homes s.views r.boxed id w m.0 v' there mine
             refl
@@ -119,7 +122,7 @@ module _ {K : Type 0} (shows : K → Lasting) (size : PathSize) (slots id : ℕ)
       → Allows (Ruled shows size) slots id m 7 (λ _. 0) (λ _. SyncGiven (step slots 7 0 0 none) m 0)
   gives_sync y cs held rest_now empty unfiled holds fits s r _ there _ = let x = r.core in
       let law = core_lawful shows size s r in let e = GiveTurn w Sync in
-      let h = unswept_hands m.0.hands in let v' = with_hands h (view_after m.0 e 0 false) in
+      let h = unswept_hands m.0.hands in let v' = view_after (with_hands h m.0) e 0 false in
       let in_it = within shows size slots id m w mine s r there in
       let has = own_part shows size slots id m w mine s r there
       (λ (p : Seat). is_some p.sync) true held in
@@ -141,7 +144,7 @@ module _ {K : Type 0} (shows : K → Lasting) (size : PathSize) (slots id : ℕ)
         gives,
         tt,
         plays shows size s r id w m.0 there mine e refl may tt tt
-            (rows_stay x e may (λ q. q) r.rows) 0 0 false refl refl h m.1 gives
+            (rows_stay x e may (λ q. q) r.rows) 0 0 false h refl refl m.1 gives
             (subst (λ q. Boxed shows size.seats x.notes q x.claims x.append (put_back s.homes m.1)
             (set s.views id v')) same (subst
             (λ l. Boxed shows size.seats x.notes (shown r.kept_to x) x.claims x.append

@@ -53,7 +53,7 @@ use Rattle.path_rule.specs.declared.view.PathSize.{PathSize}
 use Rattle.path_rule.specs.declared.view.Role.TheVariants.{Steps}
 use Rattle.path_rule.specs.declared.view.View.{View}
 use Rattle.path_rule.specs.Layout.{tally_word}
-use Rattle.path_rule.specs.Rule.{Ruled, view_after, HasRows}
+use Rattle.path_rule.specs.Rule.{Ruled, told_by, view_after, HasRows}
 use Rattle.path_rule.specs.Told.{Made}
 use Rattle.path_rule.specs.TurnTold.{WriteOpened, WriteMoved, WriteExpired, WriteAdvanced}
 use Rattle.path_rule.specs.Turns.{TurnSaw, TurnOld, TurnGone}
@@ -101,7 +101,7 @@ module _ {K : Type 0} (shows : K → Lasting) (size : PathSize) (slots id : ℕ)
         keeps,
         tt,
         plays shows size s r id w m.0 there mine e refl may tt fits
-            (rows s r g (let q = up ∙ ap suc now in omega arith)) 0 0 false told refl m.0.hands m.1
+            (rows s r g (let q = up ∙ ap suc now in omega arith)) 0 0 false m.0.hands told refl m.1
             keeps
             (unseen shows size slots id m w mine s r there held
             (next_of x e).append v' refl refl refl out
@@ -148,8 +148,8 @@ module _ {K : Type 0} (shows : K → Lasting) (size : PathSize) (slots id : ℕ)
         keeps,
         tt,
         plays shows size s r id w m.0 there mine e refl may tt tt
-            (rows_stay x e may (λ q. q) r.rows) g c false refl
-            (ap (λ k. seat_after m.0.part e (Number k) false) now) m.0.hands m.1 keeps
+            (rows_stay x e may (λ q. q) r.rows) g c false m.0.hands refl
+            (ap (λ k. seat_after m.0.part e (Number k) (told_by false m.0.hands)) now) m.1 keeps
             (unseen shows size slots id m w mine s r there held x.append v' refl refl refl out
             (still _ m.0.part.sync held) refl empty),
         (λ z c' role saw'. let same : c ≡ c' = now
@@ -194,7 +194,7 @@ module _ {K : Type 0} (shows : K → Lasting) (size : PathSize) (slots id : ℕ)
         tt,
         plays shows size s r id w m.0 there mine e refl may tt fits
             (rows_stay x e may (λ q. q) r.rows)
-            ((n + 2 ^ 63) % 2 ^ 64) n false told refl m.0.hands m.1 keeps
+            ((n + 2 ^ 63) % 2 ^ 64) n false m.0.hands told refl m.1 keeps
             (unseen shows size slots id m w mine s r there held x.append v' refl refl refl out
             (still _ m.0.part.sync held) refl empty),
         (λ z q role _ word. each_name shows size slots id m w mine 72 g
@@ -230,7 +230,7 @@ module _ {K : Type 0} (shows : K → Lasting) (size : PathSize) (slots id : ℕ)
         keeps,
         tt,
         plays shows size s r id w m.0 there mine e refl may tt tt
-            (rows_stay x e may (λ q. q) r.rows) g g false refl refl m.0.hands m.1 keeps
+            (rows_stay x e may (λ q. q) r.rows) g g false m.0.hands refl refl m.1 keeps
             (unseen shows size slots id m w mine s r there held x.append v' refl refl refl out
             (still _ m.0.part.sync held) refl empty),
         each_seat_name shows size slots id m w mine (λ z. Made z (Advance z Write g) g m (v', m.1))

@@ -10,12 +10,12 @@ use Rattle.path_core.proofs.seats.Columns.{Columns, issue_held, issue_after, flu
 use Rattle.path_core.proofs.seats.StepColumns.{columns, FitsSeat}
 use Rattle.path_rule.specs.declared.view.View.{View}
 use Rattle.path_rule.specs.Layout.{reading_at}
-use Rattle.path_rule.specs.Rule.{view_after}
+use Rattle.path_rule.specs.Rule.{told_by, view_after}
 use Rattle.path_rule.proofs.places.ReadBack.{is_some_held}
 
 pub view_columns : (v : View) (e : Event) (n : ℕ) → FitsSeat e v.part
     → Columns e v.part (view_after v e n false).part
-view_columns v e n fits = columns e v.part (reading_at (place_of e) n) false fits
+view_columns v e n fits = columns e v.part (reading_at (place_of e) n) (told_by false v.hands) fits
 
 none_is : {A : Type 0} (o : Option A) → is_some o ≡ false → o ≡ None
 none_is None e = refl

@@ -20,6 +20,18 @@ put_stopped-requires-clause-marker g c =
     (sym (ap (λ (v : View). v.hands) c.lend-member.ensures.same.1
     ∙ c.look_lent-synced.ensures.hands)) c.requires.marker
 
+pub put_synced-requires-clause-marker : goal.put_synced-requires-clause-marker
+put_synced-requires-clause-marker g c =
+    subst (λ (k : Hands). IsBarred k c.args.upto)
+    (sym (ap (λ (v : View). v.hands) c.lend-member.ensures.same.1
+    ∙ c.look_lent-synced.ensures.hands)) c.requires.marker
+
+pub keep_refused-found-requires-clause-marker : goal.keep_refused-found-requires-clause-marker
+keep_refused-found-requires-clause-marker g c =
+    subst (λ (k : Hands). IsBarred k c.args.upto)
+    (sym (ap (λ (v : View). v.hands) c.lend-member.ensures.same.1
+    ∙ c.look_lent-synced.ensures.hands)) c.requires.marker
+
 pub returns-in-Ok-clause-give : goal.returns-in-Ok-clause-give
 returns-in-Ok-clause-give g c =
     c.put_synced.ensures.give (subst MayGive (sym c.lend-member.ensures.same.1)
