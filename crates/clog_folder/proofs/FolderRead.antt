@@ -18,6 +18,7 @@ use Rattle.std.proofs.Common.{
   sym,
   ap,
   subst,
+  ◌∙◌,
   inl,
   inr,
   arith,
@@ -31,11 +32,12 @@ use Rattle.clog_base.specs.declared.fault.Quantity.TheVariants.{SegmentBytes}
 use Rattle.clog_spec.specs.Names.{IsSegmentName}
 use Rattle.clog_disk.specs.Files.{Files, Lists}
 use Rattle.clog_scan.specs.declared.answer.Found.{Found}
-use Rattle.clog_scan.specs.Laws.{IsRange}
+use Rattle.clog_scan.specs.Laws.{IsFile, IsRange}
 use Rattle.clog_scan.specs.Segment.{found_of}
 use Rattle.clog_scan.proofs.Order.{ranges}
 use Rattle.clog_base.proofs.Members.{first_or_further, nothing_there}
 use Rattle.clog_crash.specs.Counts.{IsLog, IsLoggedMutation, IsNameOfTable, LoggedMutation}
+use Rattle.clog_crash.specs.Damage.{AreSegmentFiles}
 use Rattle.clog_crash.specs.Folder.{
   AreGoodTables,
   IsFirstBad,
@@ -44,6 +46,7 @@ use Rattle.clog_crash.specs.Folder.{
   IsNameOfSegment,
   place_cmp,
 }
+use Rattle.clog_crash.proofs.OneMore.{some_is}
 use Rattle.clog_crash.proofs.TableFiles.{tables_are_good}
 use Rattle.clog_folder.specs.declared.fault.OpenFault.{OpenFault}
 use Rattle.clog_folder.specs.declared.fault.OpenFault.TheVariants.{
@@ -224,6 +227,29 @@ module _ (ignore : Bool) (held : Files) (rows : List Row) (helds : List SegmentH
         };
       }
 
+  file_of : (row : Row) (last : Bool) (s : SegmentHeld) (bytes : List ℕ) → row.0.1 ≡ 6
+      → finmap.get held row.1 ≡ Some bytes → IsHeldAt ignore last (Some held) row s
+      → IsFile bytes
+  file_of row last s bytes six there (inl other) = absurd (other.0 six)
+  file_of row last s bytes six there (inr this) =
+      let whole : finmap.get held row.1 ≡ Some s.bytes = this.2 in
+      subst IsFile (some_is s.bytes bytes (sym whole ∙ there)) this.4.file
+
+  pub segment_files : AreSegmentFiles held
+  segment_files name bytes id named there =
+      let row : Row = ((id, 6), name) in
+      let inside = places.every (id, 6) name (bytes_there held name bytes there) named in
+      let found = find_held held ignore have.greatest rows helds have.held row inside in
+      file_of row (id == have.greatest) found.0 bytes refl there found.1
+
+-- where the files are told, each segment is a file of bytes
+told_files : (ignore : Bool) (files : Option Files) (rows : List Row) (helds : List SegmentHeld)
+    → IfSome files (λ held. AreRows segment_cmp IsSegmentAt (IsHeld held) rows)
+    → HaveHeld ignore files rows helds → IfSome files AreSegmentFiles
+told_files ignore None rows helds places have = tt
+told_files ignore (Some held) rows helds places have =
+    segment_files ignore held rows helds places have
+
 -- where the files are told, by the disk as it was
 told_as : (ignore : Bool) (files : Option Files) (rows : List Row) (helds : List SegmentHeld)
     (tables : List TableHeld) (table_rows : List ((Table × ℕ) × List ℕ))
@@ -290,4 +316,5 @@ is_held_of ignore files now later rows table_rows folder same same' places table
           (subst (λ (f : Option Files). HaveRead f table_rows folder.tables) same read);
       tables = tables;
       segments = segments;
+      are_files = told_files ignore files rows folder.segments places have_old;
     }

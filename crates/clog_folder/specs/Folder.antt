@@ -28,6 +28,7 @@ use Rattle.clog_mutation.specs.Stored.{IsPayload}
 use Rattle.clog_scan.specs.declared.answer.Found.{Found}
 use Rattle.clog_scan.specs.Laws.{IsRange}
 use Rattle.clog_crash.specs.Counts.{AreNames, IsLog, IsNameOfTable, LoggedMutation}
+use Rattle.clog_crash.specs.Damage.{AreSegmentFiles}
 use Rattle.clog_crash.specs.Folder.{
   TableRead,
   AreTables,
@@ -107,6 +108,7 @@ pub record IsHeldOf (ignore : Bool) (files : Option Files) (folder : Folder) : T
       IsReadAs ignore held (map read_of folder.tables) folder.segments)
   pub tables : IfSome files (λ held. AreNamed held IsNameOfTable folder.table_names)
   pub segments : IfSome files (λ held. AreNamed held IsNameOfSegment folder.segment_names)
+  pub are_files : IfSome files AreSegmentFiles
 
 -- ---- why it is refused
 

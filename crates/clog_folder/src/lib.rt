@@ -19,7 +19,7 @@ mod whole;
 
 pub use fault::{OpenFault, fault_of};
 pub use folder::{Folder, read_folder};
-pub use listing::{TableNames, table_names};
+pub use listing::{SegmentNames, TableNames, segment_names, table_names};
 pub use segment::{SegmentHeld, segment_bytes};
 pub use tables::TableHeld;
 pub use whole::read_whole;

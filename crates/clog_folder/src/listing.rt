@@ -12,7 +12,7 @@ use std::collections::BTreeMap;
 pub type TableNames = BTreeMap<(Table, u64), Name>;
 
 /// The names of segments of any version, by id and version.
-pub(crate) type SegmentNames = BTreeMap<(u64, u32), Name>;
+pub type SegmentNames = BTreeMap<(u64, u32), Name>;
 
 fn is_segment(name: &Name) -> bool
     ensures { IsTrue result ↔ IsNameOfSegment name.now }
@@ -67,7 +67,7 @@ pub fn table_names(alloc: Global, names: &[Name]) -> Result<TableNames, OutOfMem
 }
 
 /// The names that are those of segments.
-pub(crate) fn segment_names(alloc: Global, names: &[Name]) -> Result<SegmentNames, OutOfMemory>
+pub fn segment_names(alloc: Global, names: &[Name]) -> Result<SegmentNames, OutOfMemory>
     ensures { IfOk result (λ segments.
         AreRows segment_cmp IsSegmentAt (Contains names.now) segments.entries) }
 {

@@ -1,6 +1,14 @@
 mod Beside
+mod Ended
+mod Filed
 mod Going
+mod Ids
 mod Kept
+mod Live
 mod Lived
+mod Looking
+mod OpenedWhole
 mod Outcomes
+mod Ready
 mod Recovered
+mod Recovery

@@ -11,18 +11,29 @@ use Rattle.std.proofs.Common.{
   None,
   refl,
   sym,
+  ap,
   subst,
+  ◌∙◌,
+  ◌⊎◌,
+  inl,
+  inr,
+  ◌++◌,
+  map,
+  append_assoc,
   arith,
 }
-use Rattle.std.specs.Prelude.{Contains}
+use Rattle.std.specs.Prelude.{Contains, IfSome, IsSome, Result, Ok, Err, OnOk, OnErr, option_map}
+use Rattle.std.proofs.lemmas.List.{append-nil, map-append}
 use Rattle.std.specs.FinMap as finmap
 use Rattle.clog_base.proofs.Members.{nothing_there}
 use Rattle.clog_spec.specs.Names.{segment_name_of, table_name_of}
-use Rattle.clog_disk.specs.Files.{Files, PutsAt, bytes_at}
+use Rattle.clog_disk.specs.declared.change.Change.{Change}
+use Rattle.clog_disk.specs.Files.{Files, IsAbsent, MayPutAt, PutsAt, Told, bytes_at}
 use Rattle.clog_disk.specs.Images.{IsImage, LastsAs, TurnsTo}
 use Rattle.clog_disk.proofs.Named.{put_here, gone_here, gone_there}
 use Rattle.clog_table.specs.declared.table_file.TableFile.{TableFile}
 use Rattle.clog_crash.specs.Flush.{IsSameFolder, AllCovered, IsCoveredHere}
+use Rattle.clog_crash.specs.Folder.{IsHeld}
 use Rattle.clog_crash.proofs.flush.NewFile.{beside}
 use Rattle.clog_crash.proofs.flush.Recovered.{
   same_then,
@@ -33,7 +44,22 @@ use Rattle.clog_crash.proofs.flush.Recovered.{
   segment_goes,
   still_covered,
 }
-use Rattle.clog_store.specs.Coming.{IsRecovering, MayComeHere, AreGone}
+use Rattle.clog_store.specs.Coming.{
+  IsRecovering,
+  MayComeHere,
+  MayComeTo,
+  Recovers,
+  AreGone,
+  AreThere,
+  HaveRemoved,
+  removal,
+}
+
+-- what was done, or may have been
+which : {A E : Type 0} (result : Result A E) (P Q : Type 0) → OnOk result Q
+    → OnErr result (P ⊎ Q) → P ⊎ Q
+which (Ok x) P Q puts maybe = inr puts
+which (Err e) P Q puts maybe = maybe
 
 none_covered : (f : Files) → AllCovered f []
 none_covered f id h = absurd (nothing_there id h)
@@ -140,7 +166,103 @@ module _ (first : Files) (leaves later : List ℕ → Option (List ℕ) → Type
               (may.2 other (later_listed id other others listed)),
         )
 
+-- ---- what becomes of the files, whether or not they last
+
+module _ (first : Files) (name : List ℕ) {A E : Type 0} (result : Result A E) where
+  module _ (file : TableFile) (sequence : ℕ) (bytes : List ℕ)
+      (is : name ≡ table_name_of file.table.0 sequence) where
+    put_stands : (f : Files) → MayComeTo first (Some f) file sequence bytes
+        → IsSameFolder first (finmap.insert f name bytes)
+    put_stands f may =
+        subst (λ (n : List ℕ). IsSameFolder first (finmap.insert f n bytes)) (sym is)
+        (same_then first f (finmap.insert f (table_name_of file.table.0 sequence) bytes) may.0
+        (file_comes f file sequence bytes may.0.undamaged may.1))
+
+    pub file_stands : (told now : Option Files) → OnOk result (PutsAt told now name (Some bytes))
+        → OnErr result (MayPutAt told now name (Some bytes))
+        → MayComeTo first told file sequence bytes → Told now (IsSameFolder first)
+    file_stands None now puts maybe may = absurd may
+    file_stands (Some f) now puts maybe may =
+        elim (which result (now ≡ Some f) (now ≡ Some (finmap.insert f name bytes)) puts maybe) [
+          | inl same ↦ subst (λ (o : Option Files). Told o (IsSameFolder first)) (sym same) may.0
+          | inr new ↦ subst (λ (o : Option Files). Told o (IsSameFolder first)) (sym new)
+              (put_stands f may)
+        ]
+
+  module _ (id : ℕ) (others : List ℕ) (is : name ≡ segment_name_of 6 id) where
+    gone_stands : (f : Files) → Recovers first (Some f) (id ∷ others)
+        → Recovers first (Some (finmap.remove f name)) others
+    gone_stands f may =
+        let u = segment_name_of 6 id in
+        let gone = segment_goes f id may.0.undamaged (may.1 id (first_listed id others)) in
+        subst (λ (n : List ℕ). Recovers first (Some (finmap.remove f n)) others) (sym is) (
+          same_then first f (finmap.remove f u) may.0 gone,
+          λ other listed. still_covered f id may.0.undamaged (may.1 id (first_listed id others))
+              other (may.1 other (later_listed id other others listed)),
+        )
+
+    pub segment_stands : (told now : Option Files) → OnOk result (PutsAt told now name None)
+        → OnErr result (MayPutAt told now name None) → Recovers first told (id ∷ others)
+        → Recovers first now others
+    segment_stands None now puts maybe may = absurd may
+    segment_stands (Some f) now puts maybe may =
+        elim (which result (now ≡ Some f) (now ≡ Some (finmap.remove f name)) puts maybe) [
+          | inl same ↦ subst (λ (o : Option Files). Recovers first o others) (sym same) (
+            may.0,
+            λ other listed. may.1 other (later_listed id other others listed),
+          )
+          | inr new ↦ subst (λ (o : Option Files). Recovers first o others) (sym new)
+              (gone_stands f may)
+        ]
+
+-- the same folder, whatever is left to go
+pub same_of : (first : Files) (now : Option Files) (segments : List ℕ)
+    → Recovers first now segments → Told now (IsSameFolder first)
+same_of first None segments is = absurd is
+same_of first (Some f) segments is = is.0
+
 -- ---- several segments go
+
+-- the first of them is there, and the others once it is gone
+pub is_there : (told : Option Files) (id : ℕ) (ids : List ℕ)
+    → IfSome told (λ f. AreThere f (id ∷ ids))
+    → IfSome told (λ f. IsHeld f (segment_name_of 6 id))
+is_there None id ids there = tt
+is_there (Some f) id ids there = there.0
+
+pub others_there : (told now : Option Files) (id : ℕ) (ids : List ℕ)
+    → IfSome told (λ f. AreThere f (id ∷ ids)) → PutsAt told now (segment_name_of 6 id) None
+    → IfSome now (λ f. AreThere f ids)
+others_there None now id ids there puts =
+    subst (λ (o : Option Files). IfSome o (λ f. AreThere f ids)) (sym puts) tt
+others_there (Some f) now id ids there puts =
+    subst (λ (o : Option Files). IfSome o (λ g. AreThere g ids)) (sym puts) there.1
+
+-- a segment that is there is found
+pub found_there : (told : Option Files) (name : List ℕ) → IfSome told (λ f. IsHeld f name)
+    → IsAbsent told name → ⊥
+found_there None name there absent = absent
+found_there (Some f) name there absent =
+    let nothing : Option (List ℕ) = None in
+    let clash : IsSome nothing = subst (λ (o : Option (List ℕ)). IsSome o) absent there in
+    cc
+
+-- no removal yet
+pub removed_none : (before : Option (List Change)) → HaveRemoved [] before before
+removed_none None = refl
+removed_none (Some changes) = ap Some (sym (append-nil changes))
+
+-- and one more
+pub removed_more : (before mid now : Option (List Change)) (front : List ℕ) (id : ℕ)
+    → HaveRemoved front before mid
+    → now ≡ option_map (λ changes. changes ++ removal id ∷ []) mid
+    → HaveRemoved (front ++ id ∷ []) before now
+removed_more None mid now front id first one =
+    one ∙ ap (option_map (λ (cs : List Change). cs ++ removal id ∷ [])) first
+removed_more (Some changes) mid now front id first one =
+    one ∙ ap (option_map (λ (cs : List Change). cs ++ removal id ∷ [])) first
+    ∙ ap Some (append_assoc changes (map removal front) (removal id ∷ [])
+    ∙ ap (λ (cs : List Change). changes ++ cs) (sym (map-append removal front (id ∷ []))))
 
 -- one has gone, and then the others
 pub gone_then : (told mid now : Option Files) (id : ℕ) (ids : List ℕ)

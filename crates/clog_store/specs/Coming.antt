@@ -1,7 +1,26 @@
 -- What may be done to a folder beside the log: a table file comes, and a segment goes.
-use Rattle.std.specs.Prelude.{◌≡◌, ℕ, List, [], ◌∷◌, Option, Some, None}
+use Rattle.std.specs.Prelude.{
+  ◌≡◌,
+  ℕ,
+  List,
+  [],
+  ◌∷◌,
+  ◌++◌,
+  map,
+  take,
+  Option,
+  Some,
+  None,
+  option_map,
+  ⊤,
+  Result,
+  Ok,
+  Err,
+}
 use Rattle.std.specs.FinMap as finmap
 use Rattle.clog_spec.specs.Names.{segment_name_of}
+use Rattle.clog_disk.specs.declared.change.Change.{Change}
+use Rattle.clog_disk.specs.declared.change.Change.TheVariants as change
 use Rattle.clog_disk.specs.Files.{Files, Told, bytes_at}
 use Rattle.clog_scan.specs.Cut.{Section}
 use Rattle.clog_table.specs.declared.table_file.TableFile.{TableFile}
@@ -13,6 +32,7 @@ use Rattle.clog_crash.specs.Flush.{
   IsNewFile,
   AllCovered,
 }
+use Rattle.clog_crash.specs.Folder.{IsHeld}
 use Rattle.clog_crash.specs.Log.{Write, IsResting}
 use Rattle.clog_crash.specs.Readings.{Reading}
 
@@ -42,6 +62,10 @@ abbrev pub IsRecovering : Files → Option Files → (List ℕ → Option (List 
 IsRecovering first told leaves segments =
     Told told (λ f. IsSettled f leaves × IsSameFolder first f × AllCovered f segments)
 
+-- The same of the files alone, whether or not they last.
+abbrev pub Recovers : Files → Option Files → List ℕ → Type 0
+Recovers first told segments = Told told (λ f. IsSameFolder first f × AllCovered f segments)
+
 -- The disk tells its files, all of which last, and nothing is damaged; they restore what these
 -- files do, and the bytes are a new table file that is true of them.
 abbrev pub MayComeHere : Files → Option Files → (List ℕ → Option (List ℕ) → Type 0) → TableFile → ℕ
@@ -50,10 +74,36 @@ MayComeHere first told leaves file sequence bytes =
     Told told (λ f. IsSettled f leaves × IsSameFolder first f
     × IsNewFile f (bytes_at f) file sequence bytes)
 
+-- The same of the files alone, whether or not they last.
+abbrev pub MayComeTo : Files → Option Files → TableFile → ℕ → List ℕ → Type 0
+MayComeTo first told file sequence bytes =
+    Told told (λ f. IsSameFolder first f × IsNewFile f (bytes_at f) file sequence bytes)
+
 -- these files without these segments
 abbrev pub without : Files → List ℕ → Files
 without files [] = files
 without files (id ∷ ids) = without (finmap.remove files (segment_name_of 6 id)) ids
+
+-- each of these segments is there when its turn comes to be removed
+abbrev pub AreThere : Files → List ℕ → Type 0
+AreThere files [] = ⊤
+AreThere files (id ∷ ids) =
+    IsHeld files (segment_name_of 6 id) × AreThere (finmap.remove files (segment_name_of 6 id)) ids
+
+-- the removal of a segment, as a change of a disk
+abbrev pub removal : ℕ → Change
+removal id = change.Remove (segment_name_of 6 id)
+
+-- these removals are behind the changes that there were
+abbrev pub HaveRemoved : List ℕ → Option (List Change) → Option (List Change) → Type 0
+HaveRemoved segments before now =
+    now ≡ option_map (λ changes. changes ++ map removal segments) before
+
+-- all were removed, or the first of them
+abbrev pub RemovesFirst : {T E : Type 0} → List ℕ → Option (List Change) → Option (List Change)
+    → Result T E → Type 0
+RemovesFirst segments before now (Ok x) = HaveRemoved segments before now
+RemovesFirst segments before now (Err e) = (n : ℕ) × HaveRemoved (take n segments) before now
 
 -- the segments are gone, and all other files stay
 abbrev pub AreGone : Option Files → Option Files → List ℕ → Type 0

@@ -1,17 +1,22 @@
-//! The calls by which a store changes a folder: sections are written and made to last, table files
-//! come, and segments go. Each says what stands when it has ended, and what a crash at any moment
-//! within it may leave.
+//! The calls by which a store changes a folder: a folder that a crash left is recovered, sections
+//! are written and made to last, table files come, and segments go. Each says what stands when it
+//! has ended, and what a crash at any moment within it may leave.
 #![tactic(auto)]
 
 mod changing;
+mod log_cells;
+mod naming;
 mod next;
+mod opening;
 mod recovering;
+mod recovery_files;
 mod sections;
 mod segments;
 mod store;
 
 pub use changing::{put_table, take_away};
 pub use next::write_section;
+pub use opening::recover;
 pub use recovering::{put_recovered, take_all_recovered, take_recovered};
 pub use sections::{keep_sections, put_sections, settle_sections};
 pub use segments::{Part, put_all, put_segments};

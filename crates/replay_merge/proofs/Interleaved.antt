@@ -29,6 +29,7 @@ use Rattle.std.proofs.Common.{
   inr,
   arith,
 }
+use Rattle.std.proofs.Common.{eq-eqb}
 use Rattle.std.specs.List.{flat_map}
 use Rattle.std.proofs.lemmas.Bool.{ltb-true, ltb-false, lt-ltb, le-ltb, eqb-true, eqb-false}
 use Rattle.clog_base.proofs.Members.{first_or_further, further, here, nothing_there}
@@ -222,3 +223,12 @@ interleaved_flat f us vs (w ∷ ws) (inr is) =
     (sym (ap (flat_map f) is.1))
     (led_right (f w) (flat_map f us) (flat_map f is.0) (flat_map f ws)
     (interleaved_flat f us is.0 ws is.2))
+
+-- ---- one worker takes all
+
+pub one_share : {A : Type 0} (n : ℕ) (xs : List A) → numbered (is_dealt_to 1 0) n xs ≡ xs
+one_share n [] = refl
+one_share n (x ∷ xs) =
+    ap (λ (b : Bool). cond b (x ∷ numbered (is_dealt_to 1 0) (n + 1) xs)
+    (numbered (is_dealt_to 1 0) (n + 1) xs)) (eq-eqb (n % 1) 0 (omega arith))
+    ∙ ap (λ l. x ∷ l) (one_share (n + 1) xs)

@@ -116,7 +116,7 @@ Pairs = List (CellKey × Cell)
 -- ---- one log
 
 -- payloads say one log at most
-one_log : (ps : List PlacedPayload) (log other : List LoggedMutation) → Say ps log
+pub one_log : (ps : List PlacedPayload) (log other : List LoggedMutation) → Say ps log
     → Say ps other → log ≡ other
 one_log [] log other first second = first ∙ sym second
 one_log (p ∷ ps) log other first second =
@@ -199,7 +199,7 @@ module _ (files : Files) (tables : List TableHeld)
       (taken : IsMergedOf tables (flat_map updates_of log) m) where
     -- ---- cells
 
-    logged_cell : (u : KeyedUpdate) → Contains taken.kept u → IsLoggedCell files (pair_at u)
+    pub logged_cell : (u : KeyedUpdate) → Contains taken.kept u → IsLoggedCell files (pair_at u)
     logged_cell u listed =
         let has = picks_have (λ v. ¬ IsSkippedBy tables v) (flat_map updates_of log) taken.kept u
         taken.picks_kept listed in
@@ -222,7 +222,7 @@ module _ (files : Files) (tables : List TableHeld)
           is = refl;
         })
 
-    kept_cell : (pair : CellKey × Cell) → IsLoggedCell files pair
+    pub kept_cell : (pair : CellKey × Cell) → IsLoggedCell files pair
         → Contains (map pair_at taken.kept) pair
     kept_cell pair c =
         let l : LoggedMutation =

@@ -2,6 +2,7 @@
 //! update is left out where a table file of its table stands for its position.
 #![tactic(auto)]
 
+mod alone;
 mod merged;
 mod replaying;
 mod restoring;
@@ -11,6 +12,7 @@ mod taking;
 #[cfg(test)]
 mod tests;
 
+pub use alone::merge_alone;
 pub use merged::Merged;
 pub use replaying::replay;
 pub use restoring::{Counts, Restored};

@@ -129,7 +129,7 @@ skipped files at_table at s =
 
 -- ---- cells
 
-cell_in : (files : Files) (pair : CellKey × Cell) → IsLoggedCell files pair
+pub cell_in : (files : Files) (pair : CellKey × Cell) → IsLoggedCell files pair
     → IsLoggedCellIn (bytes_at files) pair
 cell_in files pair c = record {
   id = c.id;
@@ -146,7 +146,7 @@ cell_in files pair c = record {
       IsSkippedIn (bytes_at files) p.0.table (end_position c.id c.entry)) c.is s));
 }
 
-cell : (files : Files) (pair : CellKey × Cell) → IsLoggedCellIn (bytes_at files) pair
+pub cell : (files : Files) (pair : CellKey × Cell) → IsLoggedCellIn (bytes_at files) pair
     → IsLoggedCell files pair
 cell files pair c =
     let m = c.cell.mutation in

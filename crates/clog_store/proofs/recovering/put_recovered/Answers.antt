@@ -2,7 +2,13 @@ use Rattle.std.proofs.Common.{◌∙◌, [], sym, ap}
 use Rattle.clog_spec.specs.Names.{table_name_of}
 use Rattle.clog_base.specs.declared.cell.Table.{Table}
 use Rattle.clog_crash.specs.Flush.{IsSameFolder}
-use Rattle.clog_store.proofs.Recovered.{here_show, here_for_file, file_shows, file_settles}
+use Rattle.clog_store.proofs.Recovered.{
+  here_show,
+  here_for_file,
+  file_shows,
+  file_settles,
+  file_stands,
+}
 use Rattle.clog_store.proofs.Outcomes.{ok_both, one_call}
 use Rattle.clog_store.proofs.recovering.put_recovered.Goals as goal
 
@@ -32,3 +38,12 @@ returns-clause-any_moment g c first file table_is may =
     c.publish.ensures.time
     (file_shows first (D.leaves before) (D.leaves after) _ file c.args.sequence c.args.bytes.now
     name_is c.publish.ensures.crash (D.files before) may)
+
+pub returns-clause-files : goal.returns-clause-files
+returns-clause-files g c first file table_is may =
+    let D = g.D.Disk in
+    let name_is = c.table_name.ensures
+    ∙ ap (λ (t : Table). table_name_of t.0 c.args.sequence) (sym table_is) in
+    file_stands first _ c.publish.result file c.args.sequence c.args.bytes.now name_is
+    (D.files c.args.disk.now) (D.files c.publish.new.self) c.publish.ensures.puts
+    c.publish.ensures.maybe may

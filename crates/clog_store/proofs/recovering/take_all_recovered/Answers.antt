@@ -1,10 +1,19 @@
-use Rattle.std.proofs.Common.{◌≡◌, ℕ, ◌+◌, List, ◌∷◌, drop, get_or, refl, sym, subst, arith}
-use Rattle.std.proofs.lemmas.List.{drop_more, drop_all}
+use Rattle.std.proofs.Common.{◌≡◌, ℕ, IfSome, ◌+◌, List, ◌∷◌, drop, get_or, take, refl, sym, subst, ◌∙◌, arith}
+use Rattle.std.proofs.lemmas.List.{drop_more, drop_all, take_all, take_more}
 use Rattle.clog_disk.proofs.Moments.{started, goes_on_by, later_still}
 use Rattle.clog_disk.proofs.Telling.{same_told_self, same_told_then}
 use Rattle.clog_crash.specs.Flush.{IsSameFolder}
-use Rattle.clog_store.specs.Coming.{IsRecovering, AreGone}
-use Rattle.clog_store.proofs.Recovered.{here_show, gone_then, gone_none}
+use Rattle.clog_store.specs.Coming.{IsRecovering, Recovers, AreGone, AreThere, HaveRemoved}
+use Rattle.clog_store.proofs.Recovered.{
+  here_show,
+  gone_then,
+  gone_none,
+  removed_none,
+  removed_more,
+  same_of,
+  is_there,
+  others_there,
+}
 use Rattle.clog_store.proofs.recovering.take_all_recovered.Goals as goal
 
 pub loop-segment-init : goal.loop-segment-init
@@ -14,6 +23,10 @@ loop-segment-init g c =
     record {
       told = same_told_self (D.files old);
       later = record { no_sooner = omega arith; remembers = λ t le. refl };
+      faults = refl;
+      there = c.requires.there;
+      removed = removed_none (D.changes old);
+      files = λ first may. may;
       may = λ first may. may;
       gone = λ now gone. gone;
       only = λ first may. started D.moment D.since old (IsSameFolder first) (λ image left.
@@ -51,6 +64,17 @@ loop-segment-preserved g c =
           c.loop-segment.invariant.told c.take_recovered.ensures.told;
       later = later_still D.moment D.read_at old before after c.loop-segment.invariant.later
           c.take_recovered.ensures.later;
+      faults = c.in_ok-take_recovered.ensures.cause.quiet (λ e. cc) ∙ c.loop-segment.invariant.faults;
+      there = others_there (D.files before) (D.files after) (get_or xs i 0) (drop (i + 1) xs)
+          (subst (λ (l : List ℕ). IfSome (D.files before) (λ f. AreThere f l)) split
+          c.loop-segment.invariant.there) c.in_ok-take_recovered.ensures.puts;
+      removed = subst (λ (ids : List ℕ). HaveRemoved ids (D.changes old) (D.changes after))
+          (sym (take_more xs i 0 c.loop-segment-test.true))
+          (removed_more (D.changes old) (D.changes before) (D.changes after) (take i xs)
+          (get_or xs i 0) c.loop-segment.invariant.removed c.in_ok-take_recovered.ensures.adds);
+      files = λ first may. c.take_recovered.ensures.files first (drop (i + 1) xs)
+          (subst (λ (l : List ℕ). Recovers first (D.files before) l) split
+          (c.loop-segment.invariant.files first may));
       may = λ first may. c.in_ok-take_recovered.ensures.goes first (drop (i + 1) xs)
           (subst (λ (l : List ℕ). IsRecovering first (D.files before) (D.leaves before) l) split
           (c.loop-segment.invariant.may first may));
@@ -83,3 +107,40 @@ returns-clause-gone g c =
     (subst (λ (l : List ℕ). AreGone now now l)
     (sym (drop_all c.loop-segment.segment-index xs (omega (arith, c.loop-segment-test.false))))
     (gone_none now))
+
+pub take_recovered-requires : goal.take_recovered-requires
+take_recovered-requires g c =
+    let D = g.D.Disk in
+    let i = c.loop-segment.segment-index in
+    let xs = c.args.segments.now in
+    record {
+      there = is_there (D.files c.loop-segment.disk) (get_or xs i 0) (drop (i + 1) xs)
+          (subst (λ (l : List ℕ). IfSome (D.files c.loop-segment.disk) (λ f. AreThere f l))
+          (drop_more xs i 0 c.loop-segment-test.true) c.loop-segment.invariant.there);
+    }
+
+pub returns-in_err-take_recovered-clause-files : goal.returns-in_err-take_recovered-clause-files
+returns-in_err-take_recovered-clause-files g c first may =
+    let D = g.D.Disk in
+    let i = c.loop-segment.segment-index in
+    let xs = c.args.segments.now in
+    let split : drop i xs ≡ get_or xs i 0 ∷ drop (i + 1) xs =
+    drop_more xs i 0 c.loop-segment-test.true in
+    same_of first (D.files c.take_recovered.new.disk) (drop (i + 1) xs)
+    (c.take_recovered.ensures.files first (drop (i + 1) xs)
+    (subst (λ (l : List ℕ). Recovers first (D.files c.loop-segment.disk) l) split
+    (c.loop-segment.invariant.files first may)))
+
+pub returns-clause-removes : goal.returns-clause-removes
+returns-clause-removes g c =
+    let D = g.D.Disk in
+    let xs = c.args.segments.now in
+    subst (λ (ids : List ℕ). HaveRemoved ids (D.changes c.args.disk.now) (D.changes c.loop-segment.disk))
+    (take_all c.loop-segment.segment-index xs (omega (arith, c.loop-segment-test.false)))
+    c.loop-segment.invariant.removed
+
+pub returns-clause-files : goal.returns-clause-files
+returns-clause-files g c first may =
+    let D = g.D.Disk in
+    same_of first (D.files c.loop-segment.disk) (drop c.loop-segment.segment-index c.args.segments.now)
+    (c.loop-segment.invariant.files first may)

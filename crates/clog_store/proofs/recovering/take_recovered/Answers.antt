@@ -1,6 +1,11 @@
 use Rattle.std.proofs.Common.{◌∷◌}
 use Rattle.clog_crash.specs.Flush.{IsSameFolder}
-use Rattle.clog_store.proofs.Recovered.{here_show, segment_shows, segment_settles}
+use Rattle.clog_store.proofs.Recovered.{
+  here_show,
+  segment_shows,
+  segment_settles,
+  segment_stands,
+}
 use Rattle.clog_store.proofs.Outcomes.{ok_both, one_call}
 use Rattle.clog_store.proofs.recovering.take_recovered.Goals as goal
 
@@ -24,3 +29,10 @@ returns-clause-any_moment g c first others may =
     c.remove.ensures.time
     (segment_shows first (D.leaves before) (D.leaves after) _ c.args.segment others
     c.segment_name.ensures c.remove.ensures.crash (D.files before) may)
+
+pub returns-clause-files : goal.returns-clause-files
+returns-clause-files g c first others may =
+    let D = g.D.Disk in
+    segment_stands first _ c.remove.result c.args.segment others c.segment_name.ensures
+    (D.files c.args.disk.now) (D.files c.remove.new.self) c.remove.ensures.puts
+    c.remove.ensures.maybe may

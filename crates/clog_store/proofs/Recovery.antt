@@ -1,0 +1,137 @@
+-- The steps of a recovery joined, where the disk tells its files.
+use Rattle.std.proofs.Common.{
+  ◌≡◌,
+  ℕ,
+  ◌<◌,
+  List,
+  [],
+  Option,
+  Some,
+  None,
+  Contains,
+  IfSome,
+  refl,
+  sym,
+  subst,
+  ◌∙◌,
+}
+use Rattle.std.specs.Prelude.{IsSome, false}
+use Rattle.std.specs.List.{flat_map}
+use Rattle.clog_spec.specs.Names.{IsSegmentName}
+use Rattle.clog_spec.specs.Sizes.{most_tables}
+use Rattle.clog_base.specs.declared.cell.Cell.{Cell}
+use Rattle.clog_base.specs.declared.cell.CellKey.{CellKey}
+use Rattle.clog_base.specs.declared.position.Position.{Position}
+use Rattle.clog_disk.specs.Files.{Files, Lists, SameTold, Told}
+use Rattle.clog_crash.specs.Flush.{IsSameFolder, IsSettled}
+use Rattle.clog_crash.specs.Folder.{IsHeld}
+use Rattle.clog_crash.specs.Recovery.{NamesAny}
+use Rattle.clog_crash.specs.Restore.{IsUndamaged}
+use Rattle.clog_crash.proofs.flush.Recovered.{same_itself}
+use Rattle.clog_folder.specs.declared.folder.Folder.{Folder}
+use Rattle.clog_folder.specs.Folder.{IsHeldOf, payloads_of}
+use Rattle.clog_folder.proofs.Listed.{held_of, listed_of}
+use Rattle.clog_store.specs.Coming.{AreGone, AreThere, IsRecovering, Recovers, without}
+use Rattle.clog_store.specs.Filing.{FiledNow, IsReady, SettledTo}
+use Rattle.clog_store.specs.Live.{AreLive, IsTop}
+use Rattle.clog_store.specs.Named.{AreSegmentIds}
+use Rattle.clog_store.specs.Opened.{IsRecovered}
+use Rattle.clog_store.proofs.Ended.{all_ids_covered, are_there, is_recovered}
+use Rattle.clog_store.proofs.Filed.{filed_none}
+use Rattle.clog_store.proofs.Ready.{ready_of}
+
+abbrev Pairs : Type 0
+Pairs = List (CellKey × Cell)
+
+-- ---- at the beginning
+
+module _ (first : Files) (told : Option Files) (is : told ≡ Some first) (folder : Folder)
+    (held : IsHeldOf false told folder) where
+  held_first : IsHeldOf false (Some first) folder
+  held_first = subst (λ (o : Option Files). IsHeldOf false o folder) is held
+
+  pub undamaged_first : IsUndamaged first
+  undamaged_first = held_first.told.readable.undamaged refl
+
+  pub same_told : Told told (IsSameFolder first)
+  same_told =
+      subst (λ (o : Option Files). Told o (IsSameFolder first)) (sym is)
+      (same_itself first undamaged_first)
+
+  pub begins : (cells : Pairs) → FiledNow first cells 0 told
+  begins cells =
+      subst (λ (o : Option Files). FiledNow first cells 0 o) (sym is)
+      (filed_none first cells undamaged_first)
+
+  pub begins_settled : (cells : Pairs) (leaves : List ℕ → Option (List ℕ) → Type 0)
+      → IsSettled first leaves → SettledTo first cells 0 told leaves
+  begins_settled cells leaves settled =
+      subst (λ (o : Option Files). SettledTo first cells 0 o leaves) (sym is)
+      (filed_none first cells undamaged_first, settled)
+
+  pub ready_told : (names : List (List ℕ)) (cells : Pairs) (top : Position) → Lists told names
+      → AreLive folder.tables folder.segments cells
+      → IsTop (flat_map payloads_of folder.segments) top → IsReady first names cells top
+  ready_told names cells top lists live is_top =
+      ready_of first folder held_first cells live top is_top names
+      (subst (λ (o : Option Files). Lists o names) is lists)
+
+-- ---- once the files have come
+
+module _ (first : Files) (names : List (List ℕ)) (cells : Pairs) (top : Position)
+    (ready : IsReady first names cells top) (ids : List ℕ)
+    (are : AreSegmentIds (Contains names) ids) where
+  held_name : (name : List ℕ) → Contains names name → IsHeld first name
+  held_name = held_of first names ready.lists
+
+  listed_name : (name : List ℕ) → IsHeld first name → Contains names name
+  listed_name = listed_of first names ready.lists
+
+  pub there_told : (told : Option Files) → FiledNow first cells most_tables told
+      → IfSome told (λ now. AreThere now ids)
+  there_told None filed = tt
+  there_told (Some now) filed =
+      are_there first now (Contains names) ids are (λ name version id listed named.
+      let held = held_name name listed in (
+        (ready.undamaged.segments name version id named held).0,
+        subst (λ (o : Option (List ℕ)). IsSome o) (sym (filed.segments name version id named))
+            held,
+      ))
+
+  pub recovers_told : (told : Option Files) → FiledNow first cells most_tables told
+      → Recovers first told ids
+  recovers_told None filed = absurd filed
+  recovers_told (Some now) filed = (
+    filed.same,
+    all_ids_covered first names cells top ready now filed ids are held_name listed_name,
+  )
+
+  pub recovering_told : (told : Option Files) (leaves : List ℕ → Option (List ℕ) → Type 0)
+      → SettledTo first cells most_tables told leaves → IsRecovering first told leaves ids
+  recovering_told None leaves settled = absurd settled
+  recovering_told (Some now) leaves settled = (
+    settled.1,
+    settled.0.same,
+    all_ids_covered first names cells top ready now settled.0 ids are held_name listed_name,
+  )
+
+  pub recovered_told : (told now : Option Files) → FiledNow first cells most_tables told
+      → AreGone told now ids → (base : ℕ) → ((n : ℕ) → NamesAny first n → n < base)
+      → Told now (IsRecovered first base)
+  recovered_told None now filed gone base above = absurd filed
+  recovered_told (Some f) now filed gone base above =
+      subst (λ (o : Option Files). Told o (IsRecovered first base)) (sym gone)
+      (is_recovered first names cells top ready f filed ids are held_name listed_name base above)
+
+-- where the disk tells no files there is nothing to show
+pub if_told_first : (old told : Option Files) (P : Files → Type 0) → SameTold old told
+    → ((first : Files) → old ≡ Some first → IfSome told P) → IfSome told P
+if_told_first None told P same has =
+    subst (λ (o : Option Files). IfSome o P) (sym same) tt
+if_told_first (Some first) told P same has = has first refl
+
+pub settled_end : (first : Files) (told : Option Files)
+    (leaves : List ℕ → Option (List ℕ) → Type 0) → IsRecovering first told leaves []
+    → Told told (λ now. IsSettled now leaves)
+settled_end first None leaves is = absurd is
+settled_end first (Some now) leaves is = is.0

@@ -1,0 +1,177 @@
+use Rattle.std.proofs.Common.{◌≡◌, ℕ, Option, Some, refl, sym, subst, ◌∙◌, arith}
+use Rattle.clog_disk.specs.Files.{Files, SameTold}
+use Rattle.clog_disk.proofs.Moments.{goes_on_by, later_still, weakened}
+use Rattle.clog_disk.proofs.Telling.{same_told_self, same_told_then}
+use Rattle.clog_crash.specs.Flush.{IsSameFolder}
+use Rattle.clog_store.specs.Opened.{KeepsFolder}
+use Rattle.clog_store.proofs.Kept.{if_told}
+use Rattle.clog_store.proofs.OpenedWhole.{
+  alone_of,
+  at_rest,
+  image_keeps,
+  is_opened,
+  keeps_same,
+  known_above,
+  known_settled,
+  lasts_on,
+  step_alone,
+  step_refused,
+  still_keeps,
+  told_keeps,
+}
+use Rattle.clog_store.proofs.Outcomes.{one_call}
+use Rattle.clog_store.proofs.opening.recover.Goals as goal
+
+-- ---- it is not opened
+
+pub returns-in-Err-clause-told : goal.returns-in-Err-clause-told
+returns-in-Err-clause-told g c =
+    subst (λ (o : Option Files). SameTold (g.D.Disk.files c.args.disk.now) o)
+    (sym c.look.ensures.keeps.same.files) (same_told_self (g.D.Disk.files c.args.disk.now))
+
+pub returns-in-Err-clause-alone : goal.returns-in-Err-clause-alone
+returns-in-Err-clause-alone g c = alone_of c.in-Err.fault _ c.look.ensures.keeps
+
+pub returns-in-Err-clause-keeps : goal.returns-in-Err-clause-keeps
+returns-in-Err-clause-keeps g c first is =
+    still_keeps first (g.D.Disk.files c.args.disk.now) (g.D.Disk.files c.look.new.disk) is
+    c.look.ensures.keeps.same.files
+
+pub returns-in-Err-clause-any_moment : goal.returns-in-Err-clause-any_moment
+returns-in-Err-clause-any_moment g c first is lasts =
+    let D = g.D.Disk in
+    let old = c.args.disk.now in
+    let mid = c.look.new.disk in
+    one_call D.moment D.since D.leaves D.read_at old mid (KeepsFolder first)
+    (g.met.D.Disk.only_now old) (image_keeps first (D.leaves old) lasts)
+    c.look.ensures.keeps.time
+    (image_keeps first (D.leaves mid) (lasts_on first (D.leaves old) (D.leaves mid) lasts
+    c.look.ensures.keeps.same.images.fewer))
+
+-- ---- it is
+
+pub returns-in-Ok-recover_folder-clause-told : goal.returns-in-Ok-recover_folder-clause-told
+returns-in-Ok-recover_folder-clause-told g c =
+    let D = g.D.Disk in
+    same_told_then (D.files c.args.disk.now) (D.files c.look.new.disk)
+    (D.files c.recover_folder.new.disk)
+    (subst (λ (o : Option Files). SameTold (D.files c.args.disk.now) o)
+    (sym c.look.ensures.keeps.same.files) (same_told_self (D.files c.args.disk.now)))
+    c.recover_folder.ensures.told
+
+pub returns-in-Ok-recover_folder-clause-later : goal.returns-in-Ok-recover_folder-clause-later
+returns-in-Ok-recover_folder-clause-later g c =
+    let D = g.D.Disk in
+    later_still D.moment D.read_at c.args.disk.now c.look.new.disk c.recover_folder.new.disk
+    c.look.ensures.keeps.time.later c.recover_folder.ensures.later
+
+pub returns-in-Ok-recover_folder-clause-no_fewer : goal.returns-in-Ok-recover_folder-clause-no_fewer
+returns-in-Ok-recover_folder-clause-no_fewer g c =
+    omega (arith, c.look.ensures.keeps.later, c.recover_folder.ensures.no_fewer)
+
+pub returns-in-Ok-recover_folder-clause-keeps : goal.returns-in-Ok-recover_folder-clause-keeps
+returns-in-Ok-recover_folder-clause-keeps g c first is =
+    told_keeps first (g.D.Disk.files c.recover_folder.new.disk)
+    (c.recover_folder.ensures.same first (c.look.ensures.keeps.same.files ∙ is))
+
+pub returns-in-Ok-recover_folder-clause-any_moment : goal.returns-in-Ok-recover_folder-clause-any_moment
+returns-in-Ok-recover_folder-clause-any_moment g c first is lasts =
+    let D = g.D.Disk in
+    let old = c.args.disk.now in
+    let mid = c.look.new.disk in
+    let new = c.recover_folder.new.disk in
+    goes_on_by D.moment D.since old mid new (KeepsFolder first)
+    (one_call D.moment D.since D.leaves D.read_at old mid (KeepsFolder first)
+    (g.met.D.Disk.only_now old) (image_keeps first (D.leaves old) lasts)
+    c.look.ensures.keeps.time
+    (image_keeps first (D.leaves mid) (lasts_on first (D.leaves old) (D.leaves mid) lasts
+    c.look.ensures.keeps.same.images.fewer)))
+    (weakened D.moment D.since mid new (IsSameFolder first) (KeepsFolder first)
+    (c.recover_folder.ensures.any_moment first (c.look.ensures.keeps.same.files ∙ is)
+    (known_settled first (D.files old) is c.args.moment c.in-Ok.known c.in-Ok.ensures.looks
+    (D.leaves mid) (lasts_on first (D.leaves old) (D.leaves mid) lasts
+    c.look.ensures.keeps.same.images.fewer)))
+    (λ image same. keeps_same first image same))
+
+-- ---- its recovery is refused
+
+pub returns-clause-told : goal.returns-clause-told
+returns-clause-told g c =
+    let D = g.D.Disk in
+    same_told_then (D.files c.args.disk.now) (D.files c.look.new.disk)
+    (D.files c.recover_folder.new.disk)
+    (subst (λ (o : Option Files). SameTold (D.files c.args.disk.now) o)
+    (sym c.look.ensures.keeps.same.files) (same_told_self (D.files c.args.disk.now)))
+    c.recover_folder.ensures.told
+
+pub returns-clause-later : goal.returns-clause-later
+returns-clause-later g c =
+    let D = g.D.Disk in
+    later_still D.moment D.read_at c.args.disk.now c.look.new.disk c.recover_folder.new.disk
+    c.look.ensures.keeps.time.later c.recover_folder.ensures.later
+
+pub returns-clause-no_fewer : goal.returns-clause-no_fewer
+returns-clause-no_fewer g c =
+    omega (arith, c.look.ensures.keeps.later, c.recover_folder.ensures.no_fewer)
+
+pub returns-clause-keeps : goal.returns-clause-keeps
+returns-clause-keeps g c first is =
+    told_keeps first (g.D.Disk.files c.recover_folder.new.disk)
+    (c.recover_folder.ensures.same first (c.look.ensures.keeps.same.files ∙ is))
+
+pub returns-clause-any_moment : goal.returns-clause-any_moment
+returns-clause-any_moment g c first is lasts =
+    let D = g.D.Disk in
+    let old = c.args.disk.now in
+    let mid = c.look.new.disk in
+    let new = c.recover_folder.new.disk in
+    goes_on_by D.moment D.since old mid new (KeepsFolder first)
+    (one_call D.moment D.since D.leaves D.read_at old mid (KeepsFolder first)
+    (g.met.D.Disk.only_now old) (image_keeps first (D.leaves old) lasts)
+    c.look.ensures.keeps.time
+    (image_keeps first (D.leaves mid) (lasts_on first (D.leaves old) (D.leaves mid) lasts
+    c.look.ensures.keeps.same.images.fewer)))
+    (weakened D.moment D.since mid new (IsSameFolder first) (KeepsFolder first)
+    (c.recover_folder.ensures.any_moment first (c.look.ensures.keeps.same.files ∙ is)
+    (known_settled first (D.files old) is c.args.moment c.in-Ok.known c.in-Ok.ensures.looks
+    (D.leaves mid) (lasts_on first (D.leaves old) (D.leaves mid) lasts
+    c.look.ensures.keeps.same.images.fewer)))
+    (λ image same. keeps_same first image same))
+
+pub returns-in-Ok-recover_folder-clause-opens : goal.returns-in-Ok-recover_folder-clause-opens
+returns-in-Ok-recover_folder-clause-opens g c =
+    let D = g.D.Disk in
+    let old = c.args.disk.now in
+    if_told (D.files old) _ (λ first is.
+    is_opened first (D.files old) is c.args.moment c.in-Ok.known c.in-Ok.ensures.looks
+    (D.files c.recover_folder.new.disk)
+    (c.in-Ok-recover_folder.ensures.files first (c.look.ensures.keeps.same.files ∙ is)
+    c.in-Ok.known.base
+    (known_above first (D.files old) is c.args.moment c.in-Ok.known c.in-Ok.ensures.looks)))
+
+pub returns-in-Ok-recover_folder-clause-rests : goal.returns-in-Ok-recover_folder-clause-rests
+returns-in-Ok-recover_folder-clause-rests g c first is lasts =
+    let D = g.D.Disk in
+    let old = c.args.disk.now in
+    let mid = c.look.new.disk in
+    let is_mid = c.look.ensures.keeps.same.files ∙ is in
+    at_rest first (D.files old) c.args.moment c.in-Ok.known c.in-Ok.ensures.looks
+    c.requires.moment (D.files c.recover_folder.new.disk) (D.leaves c.recover_folder.new.disk)
+    (c.in-Ok-recover_folder.ensures.files first is_mid c.in-Ok.known.base
+    (known_above first (D.files old) is c.args.moment c.in-Ok.known c.in-Ok.ensures.looks))
+    (c.in-Ok-recover_folder.ensures.settles first is_mid
+    (known_settled first (D.files old) is c.args.moment c.in-Ok.known c.in-Ok.ensures.looks
+    (D.leaves mid) (lasts_on first (D.leaves old) (D.leaves mid) lasts
+    c.look.ensures.keeps.same.images.fewer)))
+
+pub returns-clause-opens : goal.returns-clause-opens
+returns-clause-opens g c =
+    let D = g.D.Disk in
+    step_refused (D.files c.args.disk.now) (D.faults c.args.disk.now) (D.faults c.look.new.disk)
+    (D.faults c.recover_folder.new.disk) c.in-Err-recover_folder.fault
+    c.look.ensures.keeps.later c.in-Err-recover_folder.ensures.cause
+
+pub returns-clause-alone : goal.returns-clause-alone
+returns-clause-alone g c =
+    step_alone (g.D.Disk.faults c.look.new.disk) (g.D.Disk.faults c.recover_folder.new.disk)
+    c.in-Err-recover_folder.fault _ c.in-Err-recover_folder.ensures.cause

@@ -1,0 +1,252 @@
+use Rattle.std.proofs.Common.{◌≡◌, ℕ, List, [], Option, Some, Contains, sym, subst, ◌∙◌}
+use Rattle.std.specs.Prelude.{false}
+use Rattle.std.specs.List.{flat_map}
+use Rattle.clog_spec.specs.Sizes.{most_tables}
+use Rattle.clog_disk.proofs.Moments.{started, goes_on_by}
+use Rattle.clog_crash.specs.Flush.{IsSameFolder}
+use Rattle.clog_folder.specs.declared.segment.SegmentHeld.{SegmentHeld}
+use Rattle.clog_folder.specs.Folder.{payloads_of}
+use Rattle.replay_merge.proofs.Replayed.{ranges_of}
+use Rattle.clog_store.specs.Coming.{AreThere}
+use Rattle.clog_store.specs.Live.{IsTop}
+use Rattle.clog_store.specs.Named.{AreSegmentIds}
+use Rattle.clog_store.proofs.Filed.{settled_show}
+use Rattle.clog_store.proofs.Live.{sized}
+use Rattle.clog_store.proofs.Recovery.{
+  begins,
+  begins_settled,
+  if_told_first,
+  ready_told,
+  recovered_told,
+  recovering_told,
+  recovers_told,
+  same_told,
+  settled_end,
+  there_told,
+}
+use Rattle.clog_store.proofs.opening.recover_folder.Goals as goal
+
+pub live_cells-requires : goal.live_cells-requires
+live_cells-requires g c =
+    ranges_of false (g.D.Disk.files c.args.disk.now) c.args.folder.now c.requires.held
+
+pub put_tables-requires-clause-sized : goal.put_tables-requires-clause-sized
+put_tables-requires-clause-sized g c =
+    sized c.args.folder.now.tables c.args.folder.now.segments c.in_ok-cells.cells
+    c.in_ok-cells.ensures
+
+pub returns-in_err-ids-clause-same : goal.returns-in_err-ids-clause-same
+returns-in_err-ids-clause-same g c first is =
+    same_told first (g.D.Disk.files c.args.disk.now) is c.args.folder.now c.requires.held
+
+pub returns-in_err-ids-clause-any_moment : goal.returns-in_err-ids-clause-any_moment
+returns-in_err-ids-clause-any_moment g c first is settled =
+    let D = g.D.Disk in
+    let old = c.args.disk.now in
+    let folder = c.args.folder.now in
+    started D.moment D.since old (IsSameFolder first) (λ image left.
+    settled_show first [] 0 (D.files old) (D.leaves old)
+    (begins_settled first (D.files old) is folder c.requires.held [] (D.leaves old) settled)
+    image (g.met.D.Disk.only_now old image left))
+
+pub returns-in_err-cells-clause-same : goal.returns-in_err-cells-clause-same
+returns-in_err-cells-clause-same g c first is =
+    same_told first (g.D.Disk.files c.args.disk.now) is c.args.folder.now c.requires.held
+
+pub returns-in_err-cells-clause-any_moment : goal.returns-in_err-cells-clause-any_moment
+returns-in_err-cells-clause-any_moment g c first is settled =
+    let D = g.D.Disk in
+    let old = c.args.disk.now in
+    let folder = c.args.folder.now in
+    started D.moment D.since old (IsSameFolder first) (λ image left.
+    settled_show first [] 0 (D.files old) (D.leaves old)
+    (begins_settled first (D.files old) is folder c.requires.held [] (D.leaves old) settled)
+    image (g.met.D.Disk.only_now old image left))
+
+pub returns-in-Err-clause-same : goal.returns-in-Err-clause-same
+returns-in-Err-clause-same g c first is =
+    let D = g.D.Disk in
+    let old = c.args.disk.now in
+    let folder = c.args.folder.now in
+    let names = c.args.names.now in
+    let cells = c.in_ok-cells.cells in
+    let top = c.top_of-top.result in
+    let is_top = subst (λ (hs : List SegmentHeld). IsTop (flat_map payloads_of hs) top)
+    c.as_slice.ensures c.top_of-top.ensures in
+    let ready = ready_told first (D.files old) is folder c.requires.held names cells top
+    c.requires.lists c.in_ok-cells.ensures is_top in
+    let mid = c.put_tables.new.disk in
+    c.in-Err.ensures.files first ready
+    (begins first (D.files old) is folder c.requires.held cells)
+
+pub returns-in-Err-clause-any_moment : goal.returns-in-Err-clause-any_moment
+returns-in-Err-clause-any_moment g c first is settled =
+    let D = g.D.Disk in
+    let old = c.args.disk.now in
+    let folder = c.args.folder.now in
+    let names = c.args.names.now in
+    let cells = c.in_ok-cells.cells in
+    let top = c.top_of-top.result in
+    let is_top = subst (λ (hs : List SegmentHeld). IsTop (flat_map payloads_of hs) top)
+    c.as_slice.ensures c.top_of-top.ensures in
+    let ready = ready_told first (D.files old) is folder c.requires.held names cells top
+    c.requires.lists c.in_ok-cells.ensures is_top in
+    let mid = c.put_tables.new.disk in
+    c.put_tables.ensures.any_moment first ready
+    (begins_settled first (D.files old) is folder c.requires.held cells (D.leaves old) settled)
+
+pub take_all_recovered-requires : goal.take_all_recovered-requires
+take_all_recovered-requires g c = record {
+  there =
+      let D = g.D.Disk in
+      let old = c.args.disk.now in
+      let folder = c.args.folder.now in
+      let names = c.args.names.now in
+      let cells = c.in_ok-cells.cells in
+      let top = c.top_of-top.result in
+      let are = subst (AreSegmentIds (Contains names)) (sym c.deref.ensures.value)
+      c.in_ok-ids.ensures in
+      if_told_first (D.files old) (D.files c.put_tables.new.disk)
+      (λ f. AreThere f c.deref.result.now) c.put_tables.ensures.told (λ first is.
+      let is_top = subst (λ (hs : List SegmentHeld). IsTop (flat_map payloads_of hs) top)
+      c.as_slice.ensures c.top_of-top.ensures in
+      let ready = ready_told first (D.files old) is folder c.requires.held names cells top
+      c.requires.lists c.in_ok-cells.ensures is_top in
+      there_told first names cells top ready c.deref.result.now are
+      (D.files c.put_tables.new.disk)
+      (c.in-Ok.ensures.files first ready
+      (begins first (D.files old) is folder c.requires.held cells)));
+}
+
+pub returns-in-Ok-take_all_recovered-clause-files : goal.returns-in-Ok-take_all_recovered-clause-files
+returns-in-Ok-take_all_recovered-clause-files g c first is base above =
+    let D = g.D.Disk in
+    let old = c.args.disk.now in
+    let folder = c.args.folder.now in
+    let names = c.args.names.now in
+    let cells = c.in_ok-cells.cells in
+    let top = c.top_of-top.result in
+    let is_top = subst (λ (hs : List SegmentHeld). IsTop (flat_map payloads_of hs) top)
+    c.as_slice.ensures c.top_of-top.ensures in
+    let ready = ready_told first (D.files old) is folder c.requires.held names cells top
+    c.requires.lists c.in_ok-cells.ensures is_top in
+    let mid = c.put_tables.new.disk in
+    let are = subst (AreSegmentIds (Contains names)) (sym c.deref.ensures.value) c.in_ok-ids.ensures in
+    let ids = c.deref.result.now in
+    let new = c.take_all_recovered.new.disk in
+    recovered_told first names cells top ready ids are (D.files mid) (D.files new)
+    (c.in-Ok.ensures.files first ready
+    (begins first (D.files old) is folder c.requires.held cells))
+    c.in-Ok-take_all_recovered.ensures.gone base above
+
+pub returns-in-Ok-take_all_recovered-clause-settles : goal.returns-in-Ok-take_all_recovered-clause-settles
+returns-in-Ok-take_all_recovered-clause-settles g c first is settled =
+    let D = g.D.Disk in
+    let old = c.args.disk.now in
+    let folder = c.args.folder.now in
+    let names = c.args.names.now in
+    let cells = c.in_ok-cells.cells in
+    let top = c.top_of-top.result in
+    let is_top = subst (λ (hs : List SegmentHeld). IsTop (flat_map payloads_of hs) top)
+    c.as_slice.ensures c.top_of-top.ensures in
+    let ready = ready_told first (D.files old) is folder c.requires.held names cells top
+    c.requires.lists c.in_ok-cells.ensures is_top in
+    let mid = c.put_tables.new.disk in
+    let are = subst (AreSegmentIds (Contains names)) (sym c.deref.ensures.value) c.in_ok-ids.ensures in
+    let ids = c.deref.result.now in
+    let new = c.take_all_recovered.new.disk in
+    settled_end first (D.files new) (D.leaves new)
+    (c.in-Ok-take_all_recovered.ensures.go first
+    (recovering_told first names cells top ready ids are (D.files mid) (D.leaves mid)
+    (c.in-Ok.ensures.settles first ready
+    (begins_settled first (D.files old) is folder c.requires.held cells (D.leaves old) settled))))
+
+pub returns-in-Ok-take_all_recovered-clause-any_moment : goal.returns-in-Ok-take_all_recovered-clause-any_moment
+returns-in-Ok-take_all_recovered-clause-any_moment g c first is settled =
+    let D = g.D.Disk in
+    let old = c.args.disk.now in
+    let folder = c.args.folder.now in
+    let names = c.args.names.now in
+    let cells = c.in_ok-cells.cells in
+    let top = c.top_of-top.result in
+    let is_top = subst (λ (hs : List SegmentHeld). IsTop (flat_map payloads_of hs) top)
+    c.as_slice.ensures c.top_of-top.ensures in
+    let ready = ready_told first (D.files old) is folder c.requires.held names cells top
+    c.requires.lists c.in_ok-cells.ensures is_top in
+    let mid = c.put_tables.new.disk in
+    let are = subst (AreSegmentIds (Contains names)) (sym c.deref.ensures.value) c.in_ok-ids.ensures in
+    let ids = c.deref.result.now in
+    let new = c.take_all_recovered.new.disk in
+    let here = begins_settled first (D.files old) is folder c.requires.held cells (D.leaves old)
+    settled in
+    goes_on_by D.moment D.since old mid new (IsSameFolder first)
+    (c.put_tables.ensures.any_moment first ready here)
+    (c.take_all_recovered.ensures.any_moment first
+    (recovering_told first names cells top ready ids are (D.files mid) (D.leaves mid)
+    (c.in-Ok.ensures.settles first ready here)))
+
+pub returns-clause-any_moment : goal.returns-clause-any_moment
+returns-clause-any_moment g c first is settled =
+    let D = g.D.Disk in
+    let old = c.args.disk.now in
+    let folder = c.args.folder.now in
+    let names = c.args.names.now in
+    let cells = c.in_ok-cells.cells in
+    let top = c.top_of-top.result in
+    let is_top = subst (λ (hs : List SegmentHeld). IsTop (flat_map payloads_of hs) top)
+    c.as_slice.ensures c.top_of-top.ensures in
+    let ready = ready_told first (D.files old) is folder c.requires.held names cells top
+    c.requires.lists c.in_ok-cells.ensures is_top in
+    let mid = c.put_tables.new.disk in
+    let are = subst (AreSegmentIds (Contains names)) (sym c.deref.ensures.value) c.in_ok-ids.ensures in
+    let ids = c.deref.result.now in
+    let new = c.take_all_recovered.new.disk in
+    let here = begins_settled first (D.files old) is folder c.requires.held cells (D.leaves old)
+    settled in
+    goes_on_by D.moment D.since old mid new (IsSameFolder first)
+    (c.put_tables.ensures.any_moment first ready here)
+    (c.take_all_recovered.ensures.any_moment first
+    (recovering_told first names cells top ready ids are (D.files mid) (D.leaves mid)
+    (c.in-Ok.ensures.settles first ready here)))
+
+pub returns-clause-same : goal.returns-clause-same
+returns-clause-same g c first is =
+    let D = g.D.Disk in
+    let old = c.args.disk.now in
+    let folder = c.args.folder.now in
+    let names = c.args.names.now in
+    let cells = c.in_ok-cells.cells in
+    let top = c.top_of-top.result in
+    let is_top = subst (λ (hs : List SegmentHeld). IsTop (flat_map payloads_of hs) top)
+    c.as_slice.ensures c.top_of-top.ensures in
+    let ready = ready_told first (D.files old) is folder c.requires.held names cells top
+    c.requires.lists c.in_ok-cells.ensures is_top in
+    let mid = c.put_tables.new.disk in
+    let are = subst (AreSegmentIds (Contains names)) (sym c.deref.ensures.value) c.in_ok-ids.ensures in
+    let ids = c.deref.result.now in
+    let new = c.take_all_recovered.new.disk in
+    c.take_all_recovered.ensures.files first
+    (recovers_told first names cells top ready ids are (D.files mid)
+    (c.in-Ok.ensures.files first ready
+    (begins first (D.files old) is folder c.requires.held cells)))
+
+pub returns-in-Ok-take_all_recovered-clause-same : goal.returns-in-Ok-take_all_recovered-clause-same
+returns-in-Ok-take_all_recovered-clause-same g c first is =
+    let D = g.D.Disk in
+    let old = c.args.disk.now in
+    let folder = c.args.folder.now in
+    let names = c.args.names.now in
+    let cells = c.in_ok-cells.cells in
+    let top = c.top_of-top.result in
+    let is_top = subst (λ (hs : List SegmentHeld). IsTop (flat_map payloads_of hs) top)
+    c.as_slice.ensures c.top_of-top.ensures in
+    let ready = ready_told first (D.files old) is folder c.requires.held names cells top
+    c.requires.lists c.in_ok-cells.ensures is_top in
+    let mid = c.put_tables.new.disk in
+    let are = subst (AreSegmentIds (Contains names)) (sym c.deref.ensures.value) c.in_ok-ids.ensures in
+    let ids = c.deref.result.now in
+    let new = c.take_all_recovered.new.disk in
+    c.take_all_recovered.ensures.files first
+    (recovers_told first names cells top ready ids are (D.files mid)
+    (c.in-Ok.ensures.files first ready
+    (begins first (D.files old) is folder c.requires.held cells)))

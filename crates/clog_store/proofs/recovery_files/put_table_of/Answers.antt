@@ -1,0 +1,162 @@
+use Rattle.std.proofs.Common.{List, ◌+◌, refl, subst, sym, arith}
+use Rattle.std.specs.List.{AllByRecursion}
+use Rattle.clog_base.specs.declared.cell.Cell.{Cell}
+use Rattle.clog_base.specs.declared.cell.CellKey.{CellKey}
+use Rattle.clog_cells.specs.Merge.{part_on}
+use Rattle.clog_disk.proofs.Moments.{started}
+use Rattle.clog_table.specs.Format.{file_of}
+use Rattle.clog_table.specs.Limits.{IsWithinLimits}
+use Rattle.clog_crash.specs.Flush.{IsSameFolder}
+use Rattle.clog_store.specs.Live.{start}
+use Rattle.clog_store.proofs.Filed.{
+  filed_told,
+  may_come_here,
+  may_come_to,
+  none_filed_now,
+  none_of,
+  none_settled_now,
+  put_filed,
+  settled_show,
+  settled_with,
+  some_of,
+  spelled_of,
+}
+use Rattle.clog_store.proofs.Live.{from_start, within_limits}
+use Rattle.clog_store.proofs.recovery_files.put_table_of.Goals as goal
+
+pub encode_parts-requires : goal.encode_parts-requires
+encode_parts-requires g c = record {
+  table = c.requires.table;
+  interval = from_start c.args.top;
+  cells = subst (λ (l : List (CellKey × Cell)). AllByRecursion (IsWithinLimits c.args.table) l)
+      (sym c.in_ok-part.ensures)
+      (within_limits c.args.table c.args.cells.now c.requires.sized);
+}
+
+pub returns-in_err-part-clause-any_moment : goal.returns-in_err-part-clause-any_moment
+returns-in_err-part-clause-any_moment g c first ready settled =
+    let D = g.D.Disk in
+    let old = c.args.disk.now in
+    started D.moment D.since old (IsSameFolder first) (λ image left.
+    settled_show first c.args.cells.now c.args.table.0 (D.files old) (D.leaves old) settled image
+    (g.met.D.Disk.only_now old image left))
+
+pub returns-then-len-eq0-clause-any_moment : goal.returns-then-len-eq0-clause-any_moment
+returns-then-len-eq0-clause-any_moment g c first ready settled =
+    let D = g.D.Disk in
+    let old = c.args.disk.now in
+    started D.moment D.since old (IsSameFolder first) (λ image left.
+    settled_show first c.args.cells.now c.args.table.0 (D.files old) (D.leaves old) settled image
+    (g.met.D.Disk.only_now old image left))
+
+pub returns-in_err-bytes-clause-any_moment : goal.returns-in_err-bytes-clause-any_moment
+returns-in_err-bytes-clause-any_moment g c first ready settled =
+    let D = g.D.Disk in
+    let old = c.args.disk.now in
+    started D.moment D.since old (IsSameFolder first) (λ image left.
+    settled_show first c.args.cells.now c.args.table.0 (D.files old) (D.leaves old) settled image
+    (g.met.D.Disk.only_now old image left))
+
+pub returns-then-len-eq0-clause-files : goal.returns-then-len-eq0-clause-files
+returns-then-len-eq0-clause-files g c first ready filed =
+    none_filed_now first c.args.names.now c.args.cells.now c.args.top ready c.args.table
+    (g.D.Disk.files c.args.disk.now)
+    (none_of c.args.table c.args.cells.now c.in_ok-part.part c.len.result c.in_ok-part.ensures
+    c.len.ensures.len (omega (arith, c.if-len-eq0.true))) filed
+
+pub returns-then-len-eq0-clause-settles : goal.returns-then-len-eq0-clause-settles
+returns-then-len-eq0-clause-settles g c first ready settled =
+    none_settled_now first c.args.names.now c.args.cells.now c.args.top ready c.args.table
+    (g.D.Disk.files c.args.disk.now) (g.D.Disk.leaves c.args.disk.now)
+    (none_of c.args.table c.args.cells.now c.in_ok-part.part c.len.result c.in_ok-part.ensures
+    c.len.ensures.len (omega (arith, c.if-len-eq0.true))) settled
+
+pub returns-in-Ok-clause-files : goal.returns-in-Ok-clause-files
+returns-in-Ok-clause-files g c first ready filed =
+    let D = g.D.Disk in
+    let before = c.args.disk.now in
+    let after = c.put_recovered.new.disk in
+    let table = c.args.table in
+    let cells = c.args.cells.now in
+    let some = some_of table cells c.in_ok-part.part c.len.result c.in_ok-part.ensures
+    c.len.ensures.len (λ e. omega (arith, c.if-len-eq0.false, e)) in
+    let spelled = spelled_of table cells c.in_ok-part.part c.args.top c.in_ok-bytes.bytes.items
+    c.deref.result.now c.in_ok-part.ensures c.deref.ensures.value c.in_ok-bytes.ensures in
+    let file = file_of table start c.args.top (part_on table cells) in
+    put_filed first c.args.names.now cells c.args.top ready table some
+    c.next_sequence.result c.deref.result.now spelled c.next_sequence.ensures.next
+    c.next_sequence.ensures.fits (D.files before) (D.files after) filed c.in-Ok.ensures.puts
+
+pub returns-in-Ok-clause-settles : goal.returns-in-Ok-clause-settles
+returns-in-Ok-clause-settles g c first ready settled =
+    let D = g.D.Disk in
+    let before = c.args.disk.now in
+    let after = c.put_recovered.new.disk in
+    let table = c.args.table in
+    let cells = c.args.cells.now in
+    let some = some_of table cells c.in_ok-part.part c.len.result c.in_ok-part.ensures
+    c.len.ensures.len (λ e. omega (arith, c.if-len-eq0.false, e)) in
+    let spelled = spelled_of table cells c.in_ok-part.part c.args.top c.in_ok-bytes.bytes.items
+    c.deref.result.now c.in_ok-part.ensures c.deref.ensures.value c.in_ok-bytes.ensures in
+    let file = file_of table start c.args.top (part_on table cells) in
+    settled_with first cells (table.0 + 1) (D.files after) (D.leaves after)
+    (put_filed first c.args.names.now cells c.args.top ready table some
+    c.next_sequence.result c.deref.result.now spelled c.next_sequence.ensures.next
+    c.next_sequence.ensures.fits (D.files before) (D.files after)
+    (filed_told first cells table.0 (D.files before) (D.leaves before) settled)
+    c.in-Ok.ensures.puts)
+    (c.in-Ok.ensures.comes first file refl
+    (may_come_here first c.args.names.now cells c.args.top ready table some
+    c.next_sequence.result c.deref.result.now spelled c.next_sequence.ensures.next
+    c.next_sequence.ensures.fits (D.files before) (D.leaves before) settled))
+
+pub returns-in-Ok-clause-any_moment : goal.returns-in-Ok-clause-any_moment
+returns-in-Ok-clause-any_moment g c first ready settled =
+    let D = g.D.Disk in
+    let before = c.args.disk.now in
+    let after = c.put_recovered.new.disk in
+    let table = c.args.table in
+    let cells = c.args.cells.now in
+    let some = some_of table cells c.in_ok-part.part c.len.result c.in_ok-part.ensures
+    c.len.ensures.len (λ e. omega (arith, c.if-len-eq0.false, e)) in
+    let spelled = spelled_of table cells c.in_ok-part.part c.args.top c.in_ok-bytes.bytes.items
+    c.deref.result.now c.in_ok-part.ensures c.deref.ensures.value c.in_ok-bytes.ensures in
+    let file = file_of table start c.args.top (part_on table cells) in
+    c.put_recovered.ensures.any_moment first file refl
+    (may_come_here first c.args.names.now cells c.args.top ready table some
+    c.next_sequence.result c.deref.result.now spelled c.next_sequence.ensures.next
+    c.next_sequence.ensures.fits (D.files before) (D.leaves before) settled)
+
+pub returns-clause-files : goal.returns-clause-files
+returns-clause-files g c first ready filed =
+    let D = g.D.Disk in
+    let before = c.args.disk.now in
+    let after = c.put_recovered.new.disk in
+    let table = c.args.table in
+    let cells = c.args.cells.now in
+    let some = some_of table cells c.in_ok-part.part c.len.result c.in_ok-part.ensures
+    c.len.ensures.len (λ e. omega (arith, c.if-len-eq0.false, e)) in
+    let spelled = spelled_of table cells c.in_ok-part.part c.args.top c.in_ok-bytes.bytes.items
+    c.deref.result.now c.in_ok-part.ensures c.deref.ensures.value c.in_ok-bytes.ensures in
+    let file = file_of table start c.args.top (part_on table cells) in
+    c.put_recovered.ensures.files first file refl
+    (may_come_to first c.args.names.now cells c.args.top ready table some
+    c.next_sequence.result c.deref.result.now spelled c.next_sequence.ensures.next
+    c.next_sequence.ensures.fits (D.files before) filed)
+
+pub returns-clause-any_moment : goal.returns-clause-any_moment
+returns-clause-any_moment g c first ready settled =
+    let D = g.D.Disk in
+    let before = c.args.disk.now in
+    let after = c.put_recovered.new.disk in
+    let table = c.args.table in
+    let cells = c.args.cells.now in
+    let some = some_of table cells c.in_ok-part.part c.len.result c.in_ok-part.ensures
+    c.len.ensures.len (λ e. omega (arith, c.if-len-eq0.false, e)) in
+    let spelled = spelled_of table cells c.in_ok-part.part c.args.top c.in_ok-bytes.bytes.items
+    c.deref.result.now c.in_ok-part.ensures c.deref.ensures.value c.in_ok-bytes.ensures in
+    let file = file_of table start c.args.top (part_on table cells) in
+    c.put_recovered.ensures.any_moment first file refl
+    (may_come_here first c.args.names.now cells c.args.top ready table some
+    c.next_sequence.result c.deref.result.now spelled c.next_sequence.ensures.next
+    c.next_sequence.ensures.fits (D.files before) (D.leaves before) settled)

@@ -1,0 +1,23 @@
+use Rattle.std.proofs.Common.{◌≡◌}
+use Rattle.clog_disk.specs.Files.{Files, SameTold}
+use Rattle.clog_disk.specs.Images.{IsLater, LeavesOnly}
+use Rattle.clog_crash.specs.Flush.{IsSameFolder}
+use Rattle.clog_store.specs.Filing.{FiledNow, IsReady, SettledTo}
+use Rattle.clog_store.proofs.recovery_files.put_tables.Given as goal
+
+-- the tables seen have their files
+abbrev pub invariant-loop-number : goal.invariant-loop-number
+invariant-loop-number g l = record {
+  told : SameTold (g.D.Disk.files l.fn.disk) (g.D.Disk.files l.disk);
+  later : IsLater g.D.Disk.moment g.D.Disk.read_at l.fn.disk l.disk;
+  faults : g.D.Disk.faults l.disk ≡ g.D.Disk.faults l.fn.disk;
+  files : (first : Files) → IsReady first l.names l.cells l.top
+      → FiledNow first l.cells 0 (g.D.Disk.files l.fn.disk)
+      → FiledNow first l.cells l.number (g.D.Disk.files l.disk);
+  settled : (first : Files) → IsReady first l.names l.cells l.top
+      → SettledTo first l.cells 0 (g.D.Disk.files l.fn.disk) (g.D.Disk.leaves l.fn.disk)
+      → SettledTo first l.cells l.number (g.D.Disk.files l.disk) (g.D.Disk.leaves l.disk);
+  only : (first : Files) → IsReady first l.names l.cells l.top
+      → SettledTo first l.cells 0 (g.D.Disk.files l.fn.disk) (g.D.Disk.leaves l.fn.disk)
+      → LeavesOnly g.D.Disk.moment g.D.Disk.since l.fn.disk l.disk (IsSameFolder first);
+}

@@ -1,0 +1,81 @@
+-- A folder on the way of its recovery: of the tables below one, those that the log has cells of
+-- have got their files.
+use Rattle.std.specs.Prelude.{
+  ◌≡◌,
+  ◌⊎◌,
+  ℕ,
+  ◌<◌,
+  ◌≤◌,
+  List,
+  Option,
+  Contains,
+  Result,
+  ⊤,
+}
+use Rattle.std.specs.declared.result.Result.TheVariants as result
+use Rattle.std.specs.FinMap as finmap
+use Rattle.clog_spec.specs.Names.{IsSegmentName, IsTableName, table_name_of}
+use Rattle.clog_base.specs.declared.cell.Cell.{Cell}
+use Rattle.clog_base.specs.declared.cell.CellKey.{CellKey}
+use Rattle.clog_base.specs.declared.cell.Table.{Table}
+use Rattle.clog_base.specs.declared.position.Position.{Position}
+use Rattle.clog_io.specs.Causes.{Rose}
+use Rattle.clog_cells.specs.Merge.{IsMergeOf}
+use Rattle.clog_disk.specs.Files.{Files, Told, bytes_at}
+use Rattle.clog_crash.specs.Flush.{IsSameFolder, IsSettled}
+use Rattle.clog_crash.specs.Readings.{IsLoggedCellIn, IsSkippedIn}
+use Rattle.clog_crash.specs.Recovery.{AreFiled, IsGreatestPosition}
+use Rattle.clog_crash.specs.Restore.{IsUndamaged}
+use Rattle.clog_folder.specs.declared.fault.OpenFault.{OpenFault}
+use Rattle.clog_folder.specs.declared.fault.OpenFault.TheVariants.{Disk, OutOfMemory}
+
+-- What is known of a folder that is to be recovered: its names, the cells that its log restores,
+-- and where its log ends if it restores any.
+pub record IsReady (first : Files) (names : List (List ℕ)) (cells : List (CellKey × Cell))
+    (top : Position) : Type 0 where
+  pub lists : names ≡ finmap.keys first
+  pub undamaged : IsUndamaged first
+  pub live : IsMergeOf (IsLoggedCellIn (bytes_at first)) cells
+  pub greatest : (pair : CellKey × Cell) → IsLoggedCellIn (bytes_at first) pair
+      → IsGreatestPosition (bytes_at first) top
+  pub decides : (table : Table) (at : Position)
+      → IsSkippedIn (bytes_at first) table at ⊎ (¬ IsSkippedIn (bytes_at first) table at)
+
+-- The tables below n that the log has cells of have their files. Nothing else has changed.
+pub record IsFiledTo (first : Files) (cells : List (CellKey × Cell)) (n : ℕ) (now : Files) : Type 0
+  where
+    pub done : List Table
+    pub filed : AreFiled (bytes_at first) (bytes_at now) done
+    pub below : (table : Table) → Contains done table → table.0 < n
+    pub all : (pair : CellKey × Cell) → Contains cells pair → pair.0.table.0 < n
+        → Contains done pair.0.table
+    pub same : IsSameFolder first now
+    pub free : (table : Table) (sequence : ℕ) → n ≤ table.0
+        → IsTableName (table_name_of table.0 sequence) table.0 sequence
+        → finmap.get now (table_name_of table.0 sequence)
+        ≡ finmap.get first (table_name_of table.0 sequence)
+    pub segments : (name : List ℕ) (version id : ℕ) → IsSegmentName name version id
+        → finmap.get now name ≡ finmap.get first name
+
+-- where the disk tells its files, they are such
+abbrev pub FiledNow : Files → List (CellKey × Cell) → ℕ → Option Files → Type 0
+FiledNow first cells n told = Told told (IsFiledTo first cells n)
+
+-- and all of them last
+abbrev pub SettledTo : Files → List (CellKey × Cell) → ℕ → Option Files
+    → (List ℕ → Option (List ℕ) → Type 0) → Type 0
+SettledTo first cells n told leaves =
+    Told told (λ now. IsFiledTo first cells n now × IsSettled now leaves)
+
+-- the files after a step: a refused one leaves the same folder
+abbrev pub FiledBy : {T : Type 0} → Files → List (CellKey × Cell) → ℕ → Option Files
+    → Result T OpenFault → Type 0
+FiledBy first cells n told (result.Ok x) = FiledNow first cells n told
+FiledBy first cells n told (result.Err refusal) = Told told (IsSameFolder first)
+
+-- what becomes of the count of faults in a step, and why it is refused
+abbrev pub StepCause : {T : Type 0} → ℕ → ℕ → Result T OpenFault → Type 0
+StepCause before now (result.Ok x) = now ≡ before
+StepCause before now (result.Err Disk) = Rose before now
+StepCause before now (result.Err OutOfMemory) = now ≡ before
+StepCause before now (result.Err other) = ⊥

@@ -1,0 +1,123 @@
+-- What an opening makes of a folder, and why it refuses one.
+use Rattle.std.specs.Prelude.{◌≡◌, ℕ, ◌<◌, ◌≤◌, List, Option, false, IfSome, ⊤, Result}
+use Rattle.std.specs.List.{Any}
+use Rattle.std.specs.declared.result.Result.TheVariants as result
+use Rattle.std.specs.FinMap as finmap
+use Rattle.clog_spec.specs.Sizes.{file_limit}
+use Rattle.clog_base.specs.declared.fault.Quantity.TheVariants.{Ids, SegmentBytes, TableFiles}
+use Rattle.clog_io.specs.Causes.{Rose}
+use Rattle.clog_disk.specs.Files.{Files, Lists, Told, bytes_at}
+use Rattle.clog_table.specs.declared.table_file.TableFile.{TableFile}
+use Rattle.clog_crash.specs.Covering.{SameMerge}
+use Rattle.clog_crash.specs.Flush.{IsSameFolder}
+use Rattle.clog_crash.specs.Folder.{HasSegmentFile, HoldsName, IsBase, IsFirstBad}
+use Rattle.clog_crash.specs.Readings.{IsTableIn, RestoresIn}
+use Rattle.clog_crash.specs.Recovery.{NamesAny}
+use Rattle.clog_crash.specs.Restore.{IsUndamaged}
+use Rattle.clog_folder.specs.declared.fault.OpenFault.{OpenFault}
+use Rattle.clog_folder.specs.declared.fault.OpenFault.TheVariants.{
+  Disk,
+  Damaged,
+  BadTable,
+  Limit,
+  OutOfMemory,
+}
+use Rattle.clog_folder.specs.Folder.{CanBeRead, HasDamage, HasLongSegment, IsHeldOf}
+use Rattle.clog_store.specs.declared.opening.Known.{Known}
+use Rattle.clog_store.specs.Named.{
+  IsIdBase,
+  IsLateTable,
+  NamesOne,
+  id_limit,
+  sequence_limit,
+}
+
+-- ---- what is opened
+
+-- The folder can be read, no sequence is above its limit, and no id at its limit or above it.
+pub record IsWithinLimits (files : Files) : Type 0 where
+  pub readable : CanBeRead false files
+  pub few : ¬ HoldsName files IsLateTable
+  pub low : (id : ℕ) → NamesAny files id → id < id_limit
+
+-- A recovered folder has the same newest cells, no damage, and no segment. No table file reaches
+-- into a segment from the base on.
+pub record IsRecovered (first : Files) (base : ℕ) (now : Files) : Type 0 where
+  pub same : IsSameFolder first now
+  pub no_segment : ¬ HasSegmentFile now
+  pub below : (file : TableFile) → IsTableIn (bytes_at now) file → file.upper.id < base
+
+-- The folder could be opened, was recovered, and the base is the greater of the moment and one more
+-- than each id that the folder named.
+pub record IsOpened (first : Files) (moment base : ℕ) (now : Files) : Type 0 where
+  pub within : IsWithinLimits first
+  pub is_base : IsBase (NamesAny first) moment base
+  pub recovered : IsRecovered first base now
+
+-- ---- why it is refused
+
+-- a table file's sequence is above its limit
+pub record HasManyTables (files : Files) : Type 0 where
+  pub readable : CanBeRead false files
+  pub late : HoldsName files IsLateTable
+
+-- no sequence is above its limit, but an id is at its limit, or above it
+pub record HasGreatId (files : Files) : Type 0 where
+  pub readable : CanBeRead false files
+  pub few : ¬ HoldsName files IsLateTable
+  pub id : ℕ
+  pub named : NamesAny files id
+  pub great : id_limit ≤ id
+
+-- each row with what comes before it
+abbrev pub OpenRefused : Option Files → ℕ → ℕ → OpenFault → Type 0
+OpenRefused files faults now Disk = Rose faults now
+OpenRefused files faults now OutOfMemory = ⊤
+OpenRefused files faults now (BadTable name fault) =
+    IfSome files (λ held. IsFirstBad held name fault)
+OpenRefused files faults now (Damaged name at cause) =
+    IfSome files (λ held. HasDamage held name at cause)
+OpenRefused files faults now (Limit SegmentBytes most) =
+    (most ≡ file_limit) × IfSome files (HasLongSegment false)
+OpenRefused files faults now (Limit TableFiles most) =
+    (most ≡ sequence_limit) × IfSome files HasManyTables
+OpenRefused files faults now (Limit Ids most) = (most ≡ id_limit) × IfSome files HasGreatId
+OpenRefused files faults now other = ⊥
+
+-- the base, from a moment, or why the folder is not opened
+abbrev pub Opens : Option Files → Option Files → ℕ → ℕ → ℕ → Result ℕ OpenFault → Type 0
+Opens files told faults now moment (result.Ok base) =
+    IfSome files (λ first. Told told (IsOpened first moment base))
+Opens files told faults now moment (result.Err refusal) = OpenRefused files faults now refusal
+
+-- ---- what stays
+
+-- The files have the same newest cells, and where the folder was undamaged, no damage.
+pub record KeepsFolder (first now : Files) : Type 0 where
+  pub same : SameMerge (RestoresIn (bytes_at now)) (RestoresIn (bytes_at first))
+  pub undamaged : IsUndamaged first → IsUndamaged now
+
+-- a folder that is refused for what it holds is left alone
+abbrev pub LeavesAlone : {T : Type 0} → Type 0 → Result T OpenFault → Type 0
+LeavesAlone alone (result.Ok x) = ⊤
+LeavesAlone alone (result.Err Disk) = ⊤
+LeavesAlone alone (result.Err OutOfMemory) = ⊤
+LeavesAlone alone (result.Err other) = alone
+
+-- a crash leaves each name as it is
+abbrev pub LastsAll : Files → (List ℕ → Option (List ℕ) → Type 0) → Type 0
+LastsAll files leaves =
+    (name : List ℕ) (left : Option (List ℕ)) → leaves name left → left ≡ finmap.get files name
+
+-- ---- for private clauses
+
+-- What is known of a folder that can be opened, from a moment.
+pub record IsKnown (files : Option Files) (moment : ℕ) (known : Known) : Type 0 where
+  pub held : IsHeldOf false files known.folder
+  pub lists : Lists files known.names
+  pub few : ¬ Any IsLateTable known.names
+  pub base_is : IsIdBase (NamesOne known.names known.folder.tables) moment known.base
+
+abbrev pub Looks : Option Files → ℕ → ℕ → ℕ → Result Known OpenFault → Type 0
+Looks files faults now moment (result.Ok known) = IsKnown files moment known
+Looks files faults now moment (result.Err refusal) = OpenRefused files faults now refusal
