@@ -16,11 +16,7 @@ const PIECE: u32 = 1 << 20;
 /// - `Failed`: the disk's count of faults has risen in this call.
 /// - `NoSuchFile`: the disk tells its files, and has none of this name.
 /// - `OutOfMemory`: memory was refused.
-pub fn read_whole<D: Disk>(
-    alloc: Global,
-    disk: &mut D,
-    name: &Name,
-) -> Result<Vec<u8>, DiskFault>
+pub fn read_whole<D: Disk>(alloc: Global, disk: &mut D, name: &Name) -> Result<Vec<u8>, DiskFault>
     ensures whole { GivesWhole (D.files disk.old) name.now (D.faults disk.old)
         (D.faults disk.new) result }
     ensures keeps { IsUntouched D.files D.changes D.leaves D.moment D.since D.read_at

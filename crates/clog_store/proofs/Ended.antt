@@ -1,27 +1,6 @@
 -- The segments of a folder go, once table files stand for all of its log.
-use Rattle.std.proofs.Common.{
-  ◌≡◌,
-  ◌⊎◌,
-  ℕ,
-  ◌<◌,
-  List,
-  [],
-  ◌∷◌,
-  map,
-  Option,
-  Some,
-  None,
-  Contains,
-  refl,
-  sym,
-  ap,
-  subst,
-  ◌∙◌,
-  inl,
-  inr,
-  arith,
-}
-use Rattle.std.specs.Prelude.{IfSome, IsSome, ◌^◌}
+use Rattle.std.proofs.Common.{◌≡◌, ℕ, ◌<◌, List, [], ◌∷◌, map, Option, Some, None, Contains, refl, sym, ap, subst, ◌∙◌, inl, inr}
+use Rattle.std.specs.Prelude.{IsSome, ◌^◌}
 use Rattle.std.specs.FinMap as finmap
 use Rattle.std.specs.Cmp.{eq_by_cmp_equiv}
 use Rattle.std.specs.declared.cmp.Ordering.TheVariants.{Less}
@@ -36,7 +15,6 @@ use Rattle.clog_spec.specs.Names.{IsSegmentName, IsTableName, segment_name_of, t
 use Rattle.clog_spec.specs.Sizes.{most_tables}
 use Rattle.clog_base.specs.declared.cell.Cell.{Cell}
 use Rattle.clog_base.specs.declared.cell.CellKey.{CellKey}
-use Rattle.clog_base.specs.declared.cell.Table.{Table}
 use Rattle.clog_base.specs.declared.position.Position.{Position}
 use Rattle.clog_base.proofs.Members.{
   all_have,
@@ -48,17 +26,16 @@ use Rattle.clog_base.proofs.Members.{
   nothing_there,
 }
 use Rattle.clog_base.proofs.NameLaws.{one_segment, segment_is_no_other}
-use Rattle.clog_cells.specs.Merge.{IsMergeOf, IsNewestAmong, found_at}
+use Rattle.clog_cells.specs.Merge.{IsNewestAmong, found_at}
 use Rattle.clog_cells.proofs.Orders.{one_key}
 use Rattle.clog_disk.specs.Files.{Files, bytes_at}
-use Rattle.clog_disk.proofs.Named.{gone_here, gone_there, same_or_other}
-use Rattle.clog_mutation.specs.declared.mutation.Update.{Update}
+use Rattle.clog_disk.proofs.Named.{gone_there}
 use Rattle.clog_mutation.specs.Payload.{pair_of}
 use Rattle.clog_mutation.specs.Stored.{IsStoredUpdate}
 use Rattle.clog_table.specs.declared.table_file.TableFile.{TableFile}
 use Rattle.clog_table.specs.Refusals.{IsFileOf}
 use Rattle.clog_crash.specs.Flush.{AllCovered, IsCoveredHere, IsSameFolder}
-use Rattle.clog_crash.specs.Folder.{HasSegmentFile, IsBase, IsHeld}
+use Rattle.clog_crash.specs.Folder.{HasSegmentFile, IsHeld}
 use Rattle.clog_crash.specs.Readings.{IsLoggedCellIn, IsTableIn}
 use Rattle.clog_crash.specs.Recovery.{AreAllLive, NamesAny}
 use Rattle.clog_crash.proofs.changes.Names.{is_named}
@@ -72,7 +49,7 @@ use Rattle.clog_crash.proofs.flush.Recovered.{
 use Rattle.clog_crash.proofs.recovery.Below.{recovered_is_below}
 use Rattle.clog_crash.proofs.recovery.Filed.{all_covered}
 use Rattle.clog_crash.proofs.rest.Standing.{reads_same}
-use Rattle.clog_folder.specs.Listing.{AreRows, IsSegmentAt, SegmentPlace, segment_cmp}
+use Rattle.clog_folder.specs.Listing.{SegmentPlace, segment_cmp}
 use Rattle.clog_folder.proofs.Rows.{segment_places}
 use Rattle.clog_store.specs.Coming.{AreThere, without}
 use Rattle.clog_store.specs.Filing.{IsFiledTo, IsReady}

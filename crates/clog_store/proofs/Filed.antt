@@ -1,54 +1,28 @@
 -- A folder gets the file of one table after another, each true; then table files stand for all of
 -- its log.
-use Rattle.std.proofs.Common.{
-  ◌≡◌,
-  ◌⊎◌,
-  ℕ,
-  ◌+◌,
-  ◌<◌,
-  ◌≤◌,
-  ◌^◌,
-  List,
-  [],
-  ◌∷◌,
-  Option,
-  Some,
-  None,
-  Contains,
-  length,
-  refl,
-  sym,
-  ap,
-  subst,
-  ◌∙◌,
-  inl,
-  inr,
-  arith,
-}
+use Rattle.std.proofs.Common.{◌≡◌, ℕ, ◌+◌, ◌<◌, ◌^◌, List, [], ◌∷◌, Option, Some, None, Contains, length, refl, sym, ap, subst, ◌∙◌, inl, inr, arith}
 use Rattle.std.specs.Prelude.{IsSome, Err}
 use Rattle.std.specs.FinMap as finmap
 use Rattle.std.proofs.lemmas.Bool.{cases_lt}
-use Rattle.clog_spec.specs.Names.{IsSegmentName, IsTableName, segment_name_of, table_name_of}
+use Rattle.clog_spec.specs.Names.{IsTableName, table_name_of}
 use Rattle.clog_base.specs.declared.cell.Cell.{Cell}
 use Rattle.clog_base.specs.declared.cell.CellKey.{CellKey}
 use Rattle.clog_base.specs.declared.cell.Table.{Table}
 use Rattle.clog_base.specs.declared.position.Position.{Position}
 use Rattle.clog_base.proofs.Members.{first_or_further, further, here, nothing_there}
 use Rattle.clog_base.proofs.NameLaws.{one_table}
-use Rattle.clog_cells.specs.Merge.{IsMergeOf, part_on}
+use Rattle.clog_cells.specs.Merge.{part_on}
 use Rattle.clog_cells.proofs.Parts.{members_of_part}
 use Rattle.clog_disk.specs.Files.{Files, PutsAt, Told, bytes_at}
 use Rattle.clog_disk.specs.Images.{IsImage}
-use Rattle.clog_disk.proofs.Named.{put_there, same_or_other}
 use Rattle.clog_table.specs.declared.table_file.TableFile.{TableFile}
 use Rattle.clog_table.specs.Format.{file_of}
 use Rattle.clog_table.specs.Refusals.{IsFileOf}
-use Rattle.clog_crash.specs.Flush.{IsNewFile, IsSameFolder, IsSettled}
+use Rattle.clog_crash.specs.Flush.{IsNewFile, IsSameFolder}
 use Rattle.clog_crash.specs.Folder.{IsBase, IsHeld}
 use Rattle.clog_crash.specs.Readings.{IsLoggedCellIn}
 use Rattle.clog_crash.specs.Recovery.{IsLiveOf, IsRecoveryFile}
 use Rattle.clog_crash.specs.Restore.{IsUndamaged}
-use Rattle.clog_crash.proofs.changes.Names.{is_named}
 use Rattle.clog_crash.proofs.flush.NewFile.{beside, new_puts, no_segment, reads_new}
 use Rattle.clog_crash.proofs.flush.Recovered.{
   file_comes,
@@ -235,38 +209,38 @@ module _ (first : Files) (names : List (List ℕ)) (cells : Pairs) (top : Positi
   module _ (some : length (part_on table cells) ≡ 0 → ⊥) (sequence : ℕ) (bytes : List ℕ)
       (spelled : IsFileOf table bytes (file_of table start top (part_on table cells)))
       (next : IsBase (OneHas (HasSequence table) names) 1 sequence) (fits : sequence < 2 ^ 63)
-      where
-    abbrev put : TableFile
-    put = file_of table start top (part_on table cells)
+    where
+      abbrev put : TableFile
+      put = file_of table start top (part_on table cells)
 
-    member : (x : CellKey × Cell) × Contains (part_on table cells) x
-    member = some_member (part_on table cells) some
+      member : (x : CellKey × Cell) × Contains (part_on table cells) x
+      member = some_member (part_on table cells) some
 
-    is_new_now : (now : Files) → IsFiledTo first cells table.0 now
-        → IsNewFile now (bytes_at now) put sequence bytes
-    is_new_now now so_far =
-        is_new first names cells top ready table member.0 member.1 now so_far sequence bytes
-        spelled next fits
+      is_new_now : (now : Files) → IsFiledTo first cells table.0 now
+          → IsNewFile now (bytes_at now) put sequence bytes
+      is_new_now now so_far =
+          is_new first names cells top ready table member.0 member.1 now so_far sequence bytes
+          spelled next fits
 
-    pub put_filed : (told now : Option Files) → FiledNow first cells table.0 told
-        → PutsAt told now (table_name_of table.0 sequence) (Some bytes)
-        → FiledNow first cells (table.0 + 1) now
-    put_filed None now is puts = absurd is
-    put_filed (Some f) now is puts =
-        subst (λ (o : Option Files). FiledNow first cells (table.0 + 1) o) (sym puts)
-        (filed_more first names cells top ready table member.0 member.1 f is sequence bytes
-        spelled next fits)
+      pub put_filed : (told now : Option Files) → FiledNow first cells table.0 told
+          → PutsAt told now (table_name_of table.0 sequence) (Some bytes)
+          → FiledNow first cells (table.0 + 1) now
+      put_filed None now is puts = absurd is
+      put_filed (Some f) now is puts =
+          subst (λ (o : Option Files). FiledNow first cells (table.0 + 1) o) (sym puts)
+          (filed_more first names cells top ready table member.0 member.1 f is sequence bytes
+          spelled next fits)
 
-    pub may_come_to : (told : Option Files) → FiledNow first cells table.0 told
-        → MayComeTo first told put sequence bytes
-    may_come_to None is = absurd is
-    may_come_to (Some now) is = (is.same, is_new_now now is)
+      pub may_come_to : (told : Option Files) → FiledNow first cells table.0 told
+          → MayComeTo first told put sequence bytes
+      may_come_to None is = absurd is
+      may_come_to (Some now) is = (is.same, is_new_now now is)
 
-    pub may_come_here : (told : Option Files) (leaves : List ℕ → Option (List ℕ) → Type 0)
-        → SettledTo first cells table.0 told leaves
-        → MayComeHere first told leaves put sequence bytes
-    may_come_here None leaves is = absurd is
-    may_come_here (Some now) leaves is = (is.1, is.0.same, is_new_now now is.0)
+      pub may_come_here : (told : Option Files) (leaves : List ℕ → Option (List ℕ) → Type 0)
+          → SettledTo first cells table.0 told leaves
+          → MayComeHere first told leaves put sequence bytes
+      may_come_here None leaves is = absurd is
+      may_come_here (Some now) leaves is = (is.1, is.0.same, is_new_now now is.0)
 
 pub settled_with : (first : Files) (cells : Pairs) (n : ℕ) (told : Option Files)
     (leaves : List ℕ → Option (List ℕ) → Type 0) → FiledNow first cells n told

@@ -1,35 +1,21 @@
 -- What the names and the table files of a folder say, one after another.
-use Rattle.std.proofs.Common.{
-  ◌≡◌,
-  ◌⊎◌,
-  ℕ,
-  ◌+◌,
-  ◌<◌,
-  ◌≤◌,
-  max,
-  List,
-  [],
-  ◌∷◌,
-  ◌++◌,
-  length,
-  take,
-  get_or,
-  map,
-  Bool,
-  Contains,
-  refl,
-  sym,
-  ap,
-  subst,
-  ◌∙◌,
-  inl,
-  inr,
-  arith,
+use Rattle.std.proofs.Common.{◌≡◌, ◌⊎◌, ℕ, ◌+◌, ◌<◌, max, List, [], ◌∷◌, ◌++◌, length, take, get_or, Contains, refl, sym, ap, subst, ◌∙◌, inl, inr, arith}
+use Rattle.std.specs.Prelude.{
+  IsTrue,
+  nat_lt,
+  ◌↔◌,
+  ◌^◌,
+  MatchOption,
+  Option,
+  Some,
+  None,
+  Result,
+  Ok,
+  Err,
 }
-use Rattle.std.specs.Prelude.{IsTrue, nat_lt, ◌↔◌, ◌^◌, MatchOption, Option, Some, None, Result, Ok, Err}
 use Rattle.std.specs.List.{Any}
 use Rattle.std.proofs.lemmas.Bool.{cases_lt, lt-ltb, ltb-true}
-use Rattle.std.proofs.lemmas.List.{map-append, take_more}
+use Rattle.std.proofs.lemmas.List.{take_more}
 use Rattle.std.proofs.lemmas.List.Elements.{
   Contains-append_left,
   Contains-push,

@@ -1,43 +1,9 @@
 -- What the log restores: its cells are those of the folder, they can be written, and the greatest
 -- position of its entries is that of the log.
-use Rattle.std.proofs.Common.{
-  ◌≡◌,
-  ◌⊎◌,
-  ℕ,
-  ◌+◌,
-  ◌<◌,
-  ◌≤◌,
-  List,
-  [],
-  ◌∷◌,
-  ◌++◌,
-  length,
-  map,
-  take,
-  get_or,
-  Bool,
-  true,
-  false,
-  cond,
-  Contains,
-  refl,
-  sym,
-  ap,
-  subst,
-  ◌∙◌,
-  inl,
-  inr,
-  arith,
-  eq-eqb,
-  eqb-true,
-  append_assoc,
-}
-use Rattle.std.specs.Prelude.{IsTrue, nat_lt, ◌↔◌}
-use Rattle.std.specs.List.{AllByRecursion, filter, flat_map}
-use Rattle.std.specs.BTreeMap.{is_at}
+use Rattle.std.proofs.Common.{◌≡◌, ℕ, List, [], ◌∷◌, ◌++◌, map, Bool, true, false, cond, Contains, refl, sym, ap, subst, ◌∙◌, inl, inr, arith, eq-eqb, eqb-true}
+use Rattle.std.specs.List.{AllByRecursion, flat_map}
 use Rattle.std.proofs.lemmas.Bool.{cases_lt}
-use Rattle.std.proofs.lemmas.List.{append-nil, take_more}
-use Rattle.std.proofs.lemmas.Grind.{flat_map-append}
+use Rattle.std.proofs.lemmas.List.{append-nil}
 use Rattle.std.proofs.lemmas.List.Elements.{
   filter-append,
   Contains-append_left,
@@ -62,29 +28,18 @@ use Rattle.clog_base.proofs.Members.{
   here,
   nothing_there,
 }
-use Rattle.clog_cells.specs.Merge.{
-  AreInOrder,
-  IsMerge,
-  IsMergeOf,
-  IsNewestAmong,
-  found_at,
-  is_of_table,
-  key_cmp,
-  part_on,
-}
+use Rattle.clog_base.proofs.PositionOrder.{up_to_trans}
+use Rattle.clog_cells.specs.Merge.{AreInOrder, IsMerge, IsMergeOf, IsNewestAmong, is_of_table, key_cmp, part_on}
 use Rattle.clog_cells.proofs.InOrder.{merge_in_order}
 use Rattle.clog_cells.proofs.Merging.{continues, of_itself, of_same, part_more}
 use Rattle.clog_cells.proofs.Orders.{key_equiv}
 use Rattle.clog_cells.proofs.Parts.{OnTable, members_of_part, part_of, part_of_all}
 use Rattle.clog_fields.specs.Limits.{IsStoredValue, IsValueSize}
 use Rattle.clog_disk.specs.Files.{Files, bytes_at}
-use Rattle.clog_mutation.specs.declared.mutation.Update.{Update}
 use Rattle.clog_mutation.specs.Stored.{IsPayload, IsStored, IsStoredUpdate}
 use Rattle.clog_table.specs.Limits.{IsSized, IsWithinLimits}
 use Rattle.clog_crash.specs.Counts.{IsLog, LoggedMutation}
-use Rattle.clog_crash.specs.Folder.{AreTables}
 use Rattle.clog_crash.specs.Readings.{IsLoggedCellIn}
-use Rattle.clog_crash.specs.Recovery.{IsLiveOf}
 use Rattle.clog_crash.specs.Restore.{IsLoggedCell}
 use Rattle.clog_crash.proofs.changes.BothWays.{cell, cell_in}
 use Rattle.clog_folder.specs.declared.segment.SegmentHeld.{SegmentHeld}
@@ -92,14 +47,7 @@ use Rattle.clog_folder.specs.declared.tables.TableHeld.{TableHeld}
 use Rattle.clog_folder.specs.Folder.{IsReadAs, PlacedPayload, Say, payloads_of}
 use Rattle.clog_folder.specs.Tables.{read_of}
 use Rattle.clog_folder.proofs.EntriesCounted.{picks_have}
-use Rattle.replay_merge.specs.Merged.{
-  IsMergedOf,
-  IsSkippedBy,
-  KeyedUpdate,
-  keyed,
-  pair_at,
-  updates_of,
-}
+use Rattle.replay_merge.specs.Merged.{IsSkippedBy, KeyedUpdate, keyed, pair_at, updates_of}
 use Rattle.replay_merge.proofs.Replayed.{kept_cell, logged_cell, one_log}
 use Rattle.clog_store.specs.Live.{AreLive, IsLaterOf, IsPartSoFar, IsTop, start}
 
@@ -275,29 +223,6 @@ within_limits table cells are =
 
 -- ---- the greatest position
 
-pub other_way : (a b : Position) → (IsUpTo a b → ⊥) → IsUpTo b a
-other_way a b not = elim (cases_lt b.id a.id) [
-  | inl less ↦ inl (omega (arith, less))
-  | inr up ↦ elim (cases_lt a.id b.id) [
-    | inl less ↦ absurd (not (inl (omega (arith, less))))
-    | inr low ↦
-        let same : a.id ≡ b.id = omega (arith, up, low) in
-        elim (cases_lt b.offset a.offset) [
-          | inl less ↦ inr (sym same, omega (arith, less))
-          | inr high ↦ absurd (not (inr (same, omega (arith, high))))
-        ]
-  ]
-]
-
-pub up_to_itself : (a : Position) → IsUpTo a a
-up_to_itself a = inr (refl, omega arith)
-
-up_to_then : (a b c : Position) → IsUpTo a b → IsUpTo b c → IsUpTo a c
-up_to_then a b c (inl x) (inl y) = inl (omega (arith, x, y))
-up_to_then a b c (inl x) (inr y) = inl (omega (arith, x, y.0))
-up_to_then a b c (inr x) (inl y) = inl (omega (arith, x.0, y))
-up_to_then a b c (inr x) (inr y) = inr (x.0 ∙ y.0, omega (arith, x.1, y.1))
-
 pub from_start : (top : Position) → IsUpTo start top
 from_start top = elim (cases_lt 0 top.id) [
   | inl some ↦ inl (omega (arith, some))
@@ -314,7 +239,7 @@ pub top_more : (ps : List PlacedPayload) (p : PlacedPayload) (top later : Positi
     → IsTop ps top → IsLaterOf top p.0 later → IsTop (ps ++ p ∷ []) later
 top_more ps p top later so_far is = record {
   behind = λ q there. elim (Contains-push_cases ps p q there) [
-    | inl old ↦ up_to_then q.0 top later (so_far.behind q old) is.first
+    | inl old ↦ up_to_trans q.0 top later (so_far.behind q old) is.first
     | inr same ↦ subst (λ (x : PlacedPayload). IsUpTo x.0 later) same is.second
   ];
   one = elim is.one [

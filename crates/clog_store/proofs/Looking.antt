@@ -1,39 +1,17 @@
 -- What is known of a folder that can be opened, and why one is refused.
-use Rattle.std.proofs.Common.{
-  ◌≡◌,
-  ◌⊎◌,
-  ℕ,
-  ◌<◌,
-  ◌≤◌,
-  List,
-  map,
-  Option,
-  Some,
-  None,
-  Contains,
-  IfSome,
-  All,
-  refl,
-  sym,
-  ap,
-  subst,
-  ◌∙◌,
-  inl,
-  inr,
-  arith,
-}
-use Rattle.std.specs.Prelude.{Bool, true, false, IsTrue, is_some, ◌↔◌, Result}
+use Rattle.std.proofs.Common.{◌≡◌, ℕ, ◌<◌, ◌≤◌, List, map, Option, Some, None, IfSome, refl, sym, ap, subst, ◌∙◌, inl, inr}
+use Rattle.std.specs.Prelude.{Bool, true, false, IsTrue, ◌↔◌, Result}
 use Rattle.std.proofs.lemmas.Bool.{true≢false}
 use Rattle.std.specs.List.{Any}
 use Rattle.std.specs.FinMap as finmap
 use Rattle.std.proofs.lemmas.List.Elements.{All-contains}
 use Rattle.clog_spec.specs.Names.{IsTableName, table_name_of}
-use Rattle.clog_base.specs.declared.fault.Quantity.TheVariants.{Ids, SegmentBytes, TableFiles}
+use Rattle.clog_base.specs.declared.fault.Quantity.TheVariants.{Ids, SegmentBytes}
 use Rattle.clog_base.proofs.Members.{from_map, in_map}
 use Rattle.clog_disk.specs.Files.{Files, Lists, bytes_at}
 use Rattle.clog_table.specs.declared.table_file.TableFile.{TableFile}
 use Rattle.clog_table.specs.Refusals.{IsFileOf}
-use Rattle.clog_crash.specs.Folder.{AreTables, HoldsName, IsBase, IsHeld, IsReadFrom, TableRead}
+use Rattle.clog_crash.specs.Folder.{AreTables, HoldsName, IsBase, IsReadFrom, TableRead}
 use Rattle.clog_crash.specs.Readings.{IsTableIn}
 use Rattle.clog_crash.specs.Recovery.{NamesAny}
 use Rattle.clog_crash.proofs.TableFiles.{known_read}
@@ -48,21 +26,14 @@ use Rattle.clog_folder.specs.declared.fault.OpenFault.TheVariants.{
 }
 use Rattle.clog_folder.specs.declared.folder.Folder.{Folder}
 use Rattle.clog_folder.specs.declared.tables.TableHeld.{TableHeld}
-use Rattle.clog_folder.specs.Folder.{FolderRefused, HasLongSegment, IsHeldOf}
+use Rattle.clog_folder.specs.Folder.{FolderRefused, IsHeldOf}
 use Rattle.clog_folder.specs.Tables.{read_of}
 use Rattle.clog_folder.proofs.Listed.{held_of, listed_of}
-use Rattle.clog_store.specs.Named.{
-  GivesBase,
-  IsIdBase,
-  IsLateTable,
-  NamesOne,
-  id_limit,
-  sequence_limit,
-}
+use Rattle.clog_store.specs.Named.{GivesBase, IsIdBase, IsLateTable, NamesOne, id_limit}
 use Rattle.clog_store.specs.Opened.{
   HasGreatId,
   HasManyTables,
-  IsWithinLimits,
+  CanBeOpened,
   OpenRefused,
 }
 use Rattle.clog_store.proofs.Ids.{same_base}
@@ -160,7 +131,7 @@ none_late files names lists few late =
 pub within : (files : Files) (folder : Folder) (names : List (List ℕ)) (now base : ℕ)
     → IsHeldOf false (Some files) folder → names ≡ finmap.keys files
     → (Any IsLateTable names → ⊥) → IsIdBase (NamesOne names folder.tables) now base
-    → IsWithinLimits files
+    → CanBeOpened files
 within files folder names now base held lists few is = record {
   readable = held.told.readable;
   few = none_late files names lists few;

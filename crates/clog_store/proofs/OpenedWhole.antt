@@ -1,24 +1,5 @@
 -- The looking and the recovery joined: what is opened, what is refused, and what stays.
-use Rattle.std.proofs.Common.{
-  ◌≡◌,
-  ℕ,
-  ◌<◌,
-  ◌≤◌,
-  ◌^◌,
-  List,
-  [],
-  Option,
-  Some,
-  None,
-  IfSome,
-  refl,
-  sym,
-  subst,
-  ◌∙◌,
-  inl,
-  inr,
-  arith,
-}
+use Rattle.std.proofs.Common.{◌≡◌, ℕ, ◌<◌, ◌≤◌, ◌^◌, List, [], Option, Some, None, refl, sym, subst, ◌∙◌, inl, inr, arith}
 use Rattle.std.specs.Prelude.{Err, false}
 use Rattle.std.specs.FinMap as finmap
 use Rattle.clog_disk.specs.Files.{Files, Lists, Told, bytes_at}
@@ -36,7 +17,7 @@ use Rattle.clog_folder.specs.declared.fault.OpenFault.TheVariants.{Disk, OutOfMe
 use Rattle.clog_folder.specs.Folder.{IsHeldOf}
 use Rattle.clog_store.specs.declared.opening.Known.{Known}
 use Rattle.clog_store.specs.Filing.{StepCause}
-use Rattle.clog_store.specs.Named.{IsIdBase, id_limit}
+use Rattle.clog_store.specs.Named.{IsIdBase}
 use Rattle.clog_store.specs.Opened.{
   IsKnown,
   IsOpened,

@@ -1,24 +1,5 @@
 -- What was read of a folder is what its recovery needs.
-use Rattle.std.proofs.Common.{
-  ◌≡◌,
-  ◌⊎◌,
-  ℕ,
-  ◌<◌,
-  List,
-  [],
-  ◌∷◌,
-  map,
-  Some,
-  Contains,
-  refl,
-  sym,
-  ap,
-  subst,
-  ◌∙◌,
-  inl,
-  inr,
-  arith,
-}
+use Rattle.std.proofs.Common.{◌≡◌, ℕ, ◌<◌, List, [], ◌∷◌, map, Some, Contains, refl, sym, ap, subst, ◌∙◌, inl, inr, arith}
 use Rattle.std.specs.Prelude.{false}
 use Rattle.std.specs.List.{flat_map}
 use Rattle.std.specs.FinMap as finmap
@@ -32,7 +13,7 @@ use Rattle.clog_scan.specs.Segment.{Entry}
 use Rattle.clog_crash.specs.Counts.{IsLog, LoggedMutation}
 use Rattle.clog_crash.specs.Readings.{IsLoggedCellIn, IsLoggedIn}
 use Rattle.clog_crash.specs.Recovery.{IsGreatestPosition}
-use Rattle.clog_crash.specs.Restore.{IsLogged, end_position}
+use Rattle.clog_crash.specs.Restore.{end_position}
 use Rattle.clog_crash.proofs.Good.{payload_is_said}
 use Rattle.clog_crash.proofs.changes.BothWays.{logged, logged_in}
 use Rattle.clog_crash.proofs.recovery.Decided.{skipped_in_or_not}

@@ -1,23 +1,7 @@
 -- The steps of a recovery joined, where the disk tells its files.
-use Rattle.std.proofs.Common.{
-  ◌≡◌,
-  ℕ,
-  ◌<◌,
-  List,
-  [],
-  Option,
-  Some,
-  None,
-  Contains,
-  IfSome,
-  refl,
-  sym,
-  subst,
-  ◌∙◌,
-}
+use Rattle.std.proofs.Common.{◌≡◌, ℕ, ◌<◌, List, [], Option, Some, None, Contains, IfSome, refl, sym, subst}
 use Rattle.std.specs.Prelude.{IsSome, false}
 use Rattle.std.specs.List.{flat_map}
-use Rattle.clog_spec.specs.Names.{IsSegmentName}
 use Rattle.clog_spec.specs.Sizes.{most_tables}
 use Rattle.clog_base.specs.declared.cell.Cell.{Cell}
 use Rattle.clog_base.specs.declared.cell.CellKey.{CellKey}
@@ -31,7 +15,7 @@ use Rattle.clog_crash.proofs.flush.Recovered.{same_itself}
 use Rattle.clog_folder.specs.declared.folder.Folder.{Folder}
 use Rattle.clog_folder.specs.Folder.{IsHeldOf, payloads_of}
 use Rattle.clog_folder.proofs.Listed.{held_of, listed_of}
-use Rattle.clog_store.specs.Coming.{AreGone, AreThere, IsRecovering, Recovers, without}
+use Rattle.clog_store.specs.Coming.{AreGone, AreThere, IsRecovering, Recovers}
 use Rattle.clog_store.specs.Filing.{FiledNow, IsReady, SettledTo}
 use Rattle.clog_store.specs.Live.{AreLive, IsTop}
 use Rattle.clog_store.specs.Named.{AreSegmentIds}

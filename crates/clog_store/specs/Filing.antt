@@ -1,17 +1,6 @@
 -- A folder on the way of its recovery: of the tables below one, those that the log has cells of
 -- have got their files.
-use Rattle.std.specs.Prelude.{
-  ◌≡◌,
-  ◌⊎◌,
-  ℕ,
-  ◌<◌,
-  ◌≤◌,
-  List,
-  Option,
-  Contains,
-  Result,
-  ⊤,
-}
+use Rattle.std.specs.Prelude.{◌≡◌, ◌⊎◌, ℕ, ◌<◌, ◌≤◌, List, Option, Contains, Result}
 use Rattle.std.specs.declared.result.Result.TheVariants as result
 use Rattle.std.specs.FinMap as finmap
 use Rattle.clog_spec.specs.Names.{IsSegmentName, IsTableName, table_name_of}

@@ -8,7 +8,6 @@ use Rattle.clog_base.specs.declared.position.Position.{Position}
 use Rattle.clog_base.specs.Positions.{IsUpTo}
 use Rattle.clog_cells.specs.Merge.{IsMerge, part_on}
 use Rattle.clog_crash.specs.Counts.{LoggedMutation}
-use Rattle.clog_folder.specs.declared.folder.Folder.{Folder}
 use Rattle.clog_folder.specs.declared.segment.SegmentHeld.{SegmentHeld}
 use Rattle.clog_folder.specs.declared.tables.TableHeld.{TableHeld}
 use Rattle.clog_folder.specs.Folder.{PlacedPayload, Say, payloads_of}

@@ -34,8 +34,8 @@ use Rattle.clog_store.specs.Named.{
 
 -- ---- what is opened
 
--- The folder can be read, no sequence is above its limit, and no id at its limit or above it.
-pub record IsWithinLimits (files : Files) : Type 0 where
+-- The folder can be read, no sequence is above its limit, and each id is below its own.
+pub record CanBeOpened (files : Files) : Type 0 where
   pub readable : CanBeRead false files
   pub few : ¬ HoldsName files IsLateTable
   pub low : (id : ℕ) → NamesAny files id → id < id_limit
@@ -50,7 +50,7 @@ pub record IsRecovered (first : Files) (base : ℕ) (now : Files) : Type 0 where
 -- The folder could be opened, was recovered, and the base is the greater of the moment and one more
 -- than each id that the folder named.
 pub record IsOpened (first : Files) (moment base : ℕ) (now : Files) : Type 0 where
-  pub within : IsWithinLimits first
+  pub within : CanBeOpened first
   pub is_base : IsBase (NamesAny first) moment base
   pub recovered : IsRecovered first base now
 

@@ -104,11 +104,7 @@ fn put_of_table(
 }
 
 /// The cells of one table, in their order.
-pub(crate) fn part_of(
-    alloc: Global,
-    cells: &CellMap,
-    table: Table,
-) -> Result<CellMap, OutOfMemory>
+pub(crate) fn part_of(alloc: Global, cells: &CellMap, table: Table) -> Result<CellMap, OutOfMemory>
     ensures { IfOk result (λ part. part ≡ part_on table cells.now) }
 {
     let mut part = CellMap::new(alloc);

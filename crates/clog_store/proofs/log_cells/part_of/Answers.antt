@@ -1,4 +1,4 @@
-use Rattle.std.proofs.Common.{List, [], ◌∷◌, ◌++◌, refl, sym, subst, ◌∙◌}
+use Rattle.std.proofs.Common.{List, subst}
 use Rattle.clog_base.specs.declared.cell.Cell.{Cell}
 use Rattle.clog_base.specs.declared.cell.CellKey.{CellKey}
 use Rattle.clog_store.specs.Live.{IsPartSoFar}

@@ -1,7 +1,7 @@
-use Rattle.std.proofs.Common.{◌≡◌, ◌+◌, ◌<◌, ◌≤◌, List, ℕ, ◌++◌, ◌∷◌, [], get_or, length, map, take, sym, subst, ap, ◌∙◌, append_assoc, arith}
+use Rattle.std.proofs.Common.{◌≡◌, ◌+◌, ◌<◌, ◌≤◌, List, ◌++◌, ◌∷◌, [], get_or, length, map, take, sym, subst, ap, ◌∙◌, append_assoc, arith}
 use Rattle.std.proofs.lemmas.List.{map-append, take_all, take_more}
 use Rattle.clog_scan.specs.declared.answer.Found.{Found}
-use Rattle.clog_folder.specs.Folder.{PlacedPayload, placed, payloads_of}
+use Rattle.clog_folder.specs.Folder.{PlacedPayload, placed}
 use Rattle.clog_store.specs.Live.{IsLaterOf, IsTop}
 use Rattle.clog_store.proofs.Live.{top_more}
 use Rattle.clog_store.proofs.log_cells.top_of_segment.Goals as goal

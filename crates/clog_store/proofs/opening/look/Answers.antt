@@ -1,9 +1,7 @@
-use Rattle.std.proofs.Common.{◌≡◌, List, ℕ, Option, refl, sym, subst, ◌∙◌, arith}
+use Rattle.std.proofs.Common.{Option, refl, subst}
 use Rattle.std.specs.Prelude.{Ok, Err}
-use Rattle.std.specs.List.{Any}
 use Rattle.clog_disk.specs.Files.{Files, Lists}
 use Rattle.clog_folder.proofs.Passing.{both, one_call}
-use Rattle.clog_store.specs.Named.{IsLateTable}
 use Rattle.clog_store.proofs.Looking.{
   few_of,
   from_folder,
@@ -25,11 +23,14 @@ returns-then-has_late_table-clause-looks g c =
     let old = c.args.disk.now in
     let mid = c.read_folder.new.disk in
     let new = c.list.new.self in
-    let lists = subst (λ (o : Option Files). Lists o c.in-Ok-list.names) c.read_folder.ensures.keeps.same.files
-    c.in-Ok-list.ensures.names in
-    (refl, many_tables (D.files old) c.in-Ok.folder c.in-Ok-list.names c.in-Ok.ensures.reads lists
-    (late_of c.in-Ok-list.names c.as_slice.result.now c.has_late_table.result c.as_slice.ensures
-    c.has_late_table.ensures c.if-has_late_table.true))
+    let lists = subst (λ (o : Option Files). Lists o c.in-Ok-list.names)
+    c.read_folder.ensures.keeps.same.files
+    c.in-Ok-list.ensures.names in (
+      refl,
+      many_tables (D.files old) c.in-Ok.folder c.in-Ok-list.names c.in-Ok.ensures.reads lists
+          (late_of c.in-Ok-list.names c.as_slice.result.now c.has_late_table.result c.as_slice.ensures
+          c.has_late_table.ensures c.if-has_late_table.true),
+    )
 
 pub returns-in-Ok-base_of-clause-looks : goal.returns-in-Ok-base_of-clause-looks
 returns-in-Ok-base_of-clause-looks g c =
@@ -37,7 +38,8 @@ returns-in-Ok-base_of-clause-looks g c =
     let old = c.args.disk.now in
     let mid = c.read_folder.new.disk in
     let new = c.list.new.self in
-    let lists = subst (λ (o : Option Files). Lists o c.in-Ok-list.names) c.read_folder.ensures.keeps.same.files
+    let lists = subst (λ (o : Option Files). Lists o c.in-Ok-list.names)
+    c.read_folder.ensures.keeps.same.files
     c.in-Ok-list.ensures.names in
     record {
       held = c.in-Ok.ensures.reads;
@@ -55,7 +57,8 @@ returns-in-Err-base_of-clause-looks g c =
     let old = c.args.disk.now in
     let mid = c.read_folder.new.disk in
     let new = c.list.new.self in
-    let lists = subst (λ (o : Option Files). Lists o c.in-Ok-list.names) c.read_folder.ensures.keeps.same.files
+    let lists = subst (λ (o : Option Files). Lists o c.in-Ok-list.names)
+    c.read_folder.ensures.keeps.same.files
     c.in-Ok-list.ensures.names in
     let few = few_of c.in-Ok-list.names c.as_slice.result.now c.has_late_table.result
     c.as_slice.ensures c.has_late_table.ensures c.if-has_late_table.false in

@@ -1,4 +1,4 @@
-use Rattle.std.proofs.Common.{◌≡◌, ℕ, Option, Some, refl, sym, subst, ◌∙◌, arith}
+use Rattle.std.proofs.Common.{Option, sym, subst, ◌∙◌, arith}
 use Rattle.clog_disk.specs.Files.{Files, SameTold}
 use Rattle.clog_disk.proofs.Moments.{goes_on_by, later_still, weakened}
 use Rattle.clog_disk.proofs.Telling.{same_told_self, same_told_then}
@@ -74,7 +74,8 @@ returns-in-Ok-recover_folder-clause-keeps g c first is =
     told_keeps first (g.D.Disk.files c.recover_folder.new.disk)
     (c.recover_folder.ensures.same first (c.look.ensures.keeps.same.files ∙ is))
 
-pub returns-in-Ok-recover_folder-clause-any_moment : goal.returns-in-Ok-recover_folder-clause-any_moment
+pub returns-in-Ok-recover_folder-clause-any_moment :
+    goal.returns-in-Ok-recover_folder-clause-any_moment
 returns-in-Ok-recover_folder-clause-any_moment g c first is lasts =
     let D = g.D.Disk in
     let old = c.args.disk.now in

@@ -1,7 +1,6 @@
-use Rattle.std.proofs.Common.{◌≡◌, ℕ, List, [], Option, Some, Contains, sym, subst, ◌∙◌}
+use Rattle.std.proofs.Common.{List, [], Contains, sym, subst}
 use Rattle.std.specs.Prelude.{false}
 use Rattle.std.specs.List.{flat_map}
-use Rattle.clog_spec.specs.Sizes.{most_tables}
 use Rattle.clog_disk.proofs.Moments.{started, goes_on_by}
 use Rattle.clog_crash.specs.Flush.{IsSameFolder}
 use Rattle.clog_folder.specs.declared.segment.SegmentHeld.{SegmentHeld}
@@ -118,7 +117,8 @@ take_all_recovered-requires g c = record {
       (begins first (D.files old) is folder c.requires.held cells)));
 }
 
-pub returns-in-Ok-take_all_recovered-clause-files : goal.returns-in-Ok-take_all_recovered-clause-files
+pub returns-in-Ok-take_all_recovered-clause-files :
+    goal.returns-in-Ok-take_all_recovered-clause-files
 returns-in-Ok-take_all_recovered-clause-files g c first is base above =
     let D = g.D.Disk in
     let old = c.args.disk.now in
@@ -131,7 +131,8 @@ returns-in-Ok-take_all_recovered-clause-files g c first is base above =
     let ready = ready_told first (D.files old) is folder c.requires.held names cells top
     c.requires.lists c.in_ok-cells.ensures is_top in
     let mid = c.put_tables.new.disk in
-    let are = subst (AreSegmentIds (Contains names)) (sym c.deref.ensures.value) c.in_ok-ids.ensures in
+    let are = subst (AreSegmentIds (Contains names)) (sym c.deref.ensures.value)
+    c.in_ok-ids.ensures in
     let ids = c.deref.result.now in
     let new = c.take_all_recovered.new.disk in
     recovered_told first names cells top ready ids are (D.files mid) (D.files new)
@@ -139,7 +140,8 @@ returns-in-Ok-take_all_recovered-clause-files g c first is base above =
     (begins first (D.files old) is folder c.requires.held cells))
     c.in-Ok-take_all_recovered.ensures.gone base above
 
-pub returns-in-Ok-take_all_recovered-clause-settles : goal.returns-in-Ok-take_all_recovered-clause-settles
+pub returns-in-Ok-take_all_recovered-clause-settles :
+    goal.returns-in-Ok-take_all_recovered-clause-settles
 returns-in-Ok-take_all_recovered-clause-settles g c first is settled =
     let D = g.D.Disk in
     let old = c.args.disk.now in
@@ -152,7 +154,8 @@ returns-in-Ok-take_all_recovered-clause-settles g c first is settled =
     let ready = ready_told first (D.files old) is folder c.requires.held names cells top
     c.requires.lists c.in_ok-cells.ensures is_top in
     let mid = c.put_tables.new.disk in
-    let are = subst (AreSegmentIds (Contains names)) (sym c.deref.ensures.value) c.in_ok-ids.ensures in
+    let are = subst (AreSegmentIds (Contains names)) (sym c.deref.ensures.value)
+    c.in_ok-ids.ensures in
     let ids = c.deref.result.now in
     let new = c.take_all_recovered.new.disk in
     settled_end first (D.files new) (D.leaves new)
@@ -161,7 +164,8 @@ returns-in-Ok-take_all_recovered-clause-settles g c first is settled =
     (c.in-Ok.ensures.settles first ready
     (begins_settled first (D.files old) is folder c.requires.held cells (D.leaves old) settled))))
 
-pub returns-in-Ok-take_all_recovered-clause-any_moment : goal.returns-in-Ok-take_all_recovered-clause-any_moment
+pub returns-in-Ok-take_all_recovered-clause-any_moment :
+    goal.returns-in-Ok-take_all_recovered-clause-any_moment
 returns-in-Ok-take_all_recovered-clause-any_moment g c first is settled =
     let D = g.D.Disk in
     let old = c.args.disk.now in
@@ -174,7 +178,8 @@ returns-in-Ok-take_all_recovered-clause-any_moment g c first is settled =
     let ready = ready_told first (D.files old) is folder c.requires.held names cells top
     c.requires.lists c.in_ok-cells.ensures is_top in
     let mid = c.put_tables.new.disk in
-    let are = subst (AreSegmentIds (Contains names)) (sym c.deref.ensures.value) c.in_ok-ids.ensures in
+    let are = subst (AreSegmentIds (Contains names)) (sym c.deref.ensures.value)
+    c.in_ok-ids.ensures in
     let ids = c.deref.result.now in
     let new = c.take_all_recovered.new.disk in
     let here = begins_settled first (D.files old) is folder c.requires.held cells (D.leaves old)
@@ -198,7 +203,8 @@ returns-clause-any_moment g c first is settled =
     let ready = ready_told first (D.files old) is folder c.requires.held names cells top
     c.requires.lists c.in_ok-cells.ensures is_top in
     let mid = c.put_tables.new.disk in
-    let are = subst (AreSegmentIds (Contains names)) (sym c.deref.ensures.value) c.in_ok-ids.ensures in
+    let are = subst (AreSegmentIds (Contains names)) (sym c.deref.ensures.value)
+    c.in_ok-ids.ensures in
     let ids = c.deref.result.now in
     let new = c.take_all_recovered.new.disk in
     let here = begins_settled first (D.files old) is folder c.requires.held cells (D.leaves old)
@@ -222,7 +228,8 @@ returns-clause-same g c first is =
     let ready = ready_told first (D.files old) is folder c.requires.held names cells top
     c.requires.lists c.in_ok-cells.ensures is_top in
     let mid = c.put_tables.new.disk in
-    let are = subst (AreSegmentIds (Contains names)) (sym c.deref.ensures.value) c.in_ok-ids.ensures in
+    let are = subst (AreSegmentIds (Contains names)) (sym c.deref.ensures.value)
+    c.in_ok-ids.ensures in
     let ids = c.deref.result.now in
     let new = c.take_all_recovered.new.disk in
     c.take_all_recovered.ensures.files first
@@ -243,7 +250,8 @@ returns-in-Ok-take_all_recovered-clause-same g c first is =
     let ready = ready_told first (D.files old) is folder c.requires.held names cells top
     c.requires.lists c.in_ok-cells.ensures is_top in
     let mid = c.put_tables.new.disk in
-    let are = subst (AreSegmentIds (Contains names)) (sym c.deref.ensures.value) c.in_ok-ids.ensures in
+    let are = subst (AreSegmentIds (Contains names)) (sym c.deref.ensures.value)
+    c.in_ok-ids.ensures in
     let ids = c.deref.result.now in
     let new = c.take_all_recovered.new.disk in
     c.take_all_recovered.ensures.files first

@@ -1,4 +1,19 @@
-use Rattle.std.proofs.Common.{◌≡◌, ℕ, IfSome, ◌+◌, List, ◌∷◌, drop, get_or, take, refl, sym, subst, ◌∙◌, arith}
+use Rattle.std.proofs.Common.{
+  ◌≡◌,
+  ℕ,
+  IfSome,
+  ◌+◌,
+  List,
+  ◌∷◌,
+  drop,
+  get_or,
+  take,
+  refl,
+  sym,
+  subst,
+  ◌∙◌,
+  arith,
+}
 use Rattle.std.proofs.lemmas.List.{drop_more, drop_all, take_all, take_more}
 use Rattle.clog_disk.proofs.Moments.{started, goes_on_by, later_still}
 use Rattle.clog_disk.proofs.Telling.{same_told_self, same_told_then}
@@ -64,7 +79,8 @@ loop-segment-preserved g c =
           c.loop-segment.invariant.told c.take_recovered.ensures.told;
       later = later_still D.moment D.read_at old before after c.loop-segment.invariant.later
           c.take_recovered.ensures.later;
-      faults = c.in_ok-take_recovered.ensures.cause.quiet (λ e. cc) ∙ c.loop-segment.invariant.faults;
+      faults = c.in_ok-take_recovered.ensures.cause.quiet (λ e. cc)
+          ∙ c.loop-segment.invariant.faults;
       there = others_there (D.files before) (D.files after) (get_or xs i 0) (drop (i + 1) xs)
           (subst (λ (l : List ℕ). IfSome (D.files before) (λ f. AreThere f l)) split
           c.loop-segment.invariant.there) c.in_ok-take_recovered.ensures.puts;
@@ -135,12 +151,14 @@ pub returns-clause-removes : goal.returns-clause-removes
 returns-clause-removes g c =
     let D = g.D.Disk in
     let xs = c.args.segments.now in
-    subst (λ (ids : List ℕ). HaveRemoved ids (D.changes c.args.disk.now) (D.changes c.loop-segment.disk))
+    subst (λ (ids : List ℕ).
+    HaveRemoved ids (D.changes c.args.disk.now) (D.changes c.loop-segment.disk))
     (take_all c.loop-segment.segment-index xs (omega (arith, c.loop-segment-test.false)))
     c.loop-segment.invariant.removed
 
 pub returns-clause-files : goal.returns-clause-files
 returns-clause-files g c first may =
     let D = g.D.Disk in
-    same_of first (D.files c.loop-segment.disk) (drop c.loop-segment.segment-index c.args.segments.now)
+    same_of first (D.files c.loop-segment.disk)
+    (drop c.loop-segment.segment-index c.args.segments.now)
     (c.loop-segment.invariant.files first may)
