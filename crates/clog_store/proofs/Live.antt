@@ -1,6 +1,29 @@
 -- What the log restores: its cells are those of the folder, they can be written, and the greatest
 -- position of its entries is that of the log.
-use Rattle.std.proofs.Common.{◌≡◌, ℕ, List, [], ◌∷◌, ◌++◌, map, Bool, true, false, cond, Contains, refl, sym, ap, subst, ◌∙◌, inl, inr, arith, eq-eqb, eqb-true}
+use Rattle.std.proofs.Common.{
+  ◌≡◌,
+  ℕ,
+  List,
+  [],
+  ◌∷◌,
+  ◌++◌,
+  map,
+  Bool,
+  true,
+  false,
+  cond,
+  Contains,
+  refl,
+  sym,
+  ap,
+  subst,
+  ◌∙◌,
+  inl,
+  inr,
+  arith,
+  eq-eqb,
+  eqb-true,
+}
 use Rattle.std.specs.List.{AllByRecursion, flat_map}
 use Rattle.std.proofs.lemmas.Bool.{cases_lt}
 use Rattle.std.proofs.lemmas.List.{append-nil}
@@ -29,7 +52,15 @@ use Rattle.clog_base.proofs.Members.{
   nothing_there,
 }
 use Rattle.clog_base.proofs.PositionOrder.{up_to_trans}
-use Rattle.clog_cells.specs.Merge.{AreInOrder, IsMerge, IsMergeOf, IsNewestAmong, is_of_table, key_cmp, part_on}
+use Rattle.clog_cells.specs.Merge.{
+  AreInOrder,
+  IsMerge,
+  IsMergeOf,
+  IsNewestAmong,
+  is_of_table,
+  key_cmp,
+  part_on,
+}
 use Rattle.clog_cells.proofs.InOrder.{merge_in_order}
 use Rattle.clog_cells.proofs.Merging.{continues, of_itself, of_same, part_more}
 use Rattle.clog_cells.proofs.Orders.{key_equiv}

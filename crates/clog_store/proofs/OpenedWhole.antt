@@ -1,5 +1,23 @@
 -- The looking and the recovery joined: what is opened, what is refused, and what stays.
-use Rattle.std.proofs.Common.{◌≡◌, ℕ, ◌<◌, ◌≤◌, ◌^◌, List, [], Option, Some, None, refl, sym, subst, ◌∙◌, inl, inr, arith}
+use Rattle.std.proofs.Common.{
+  ◌≡◌,
+  ℕ,
+  ◌<◌,
+  ◌≤◌,
+  ◌^◌,
+  List,
+  [],
+  Option,
+  Some,
+  None,
+  refl,
+  sym,
+  subst,
+  ◌∙◌,
+  inl,
+  inr,
+  arith,
+}
 use Rattle.std.specs.Prelude.{Err, false}
 use Rattle.std.specs.FinMap as finmap
 use Rattle.clog_disk.specs.Files.{Files, Lists, Told, bytes_at}

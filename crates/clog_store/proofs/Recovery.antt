@@ -1,5 +1,19 @@
 -- The steps of a recovery joined, where the disk tells its files.
-use Rattle.std.proofs.Common.{◌≡◌, ℕ, ◌<◌, List, [], Option, Some, None, Contains, IfSome, refl, sym, subst}
+use Rattle.std.proofs.Common.{
+  ◌≡◌,
+  ℕ,
+  ◌<◌,
+  List,
+  [],
+  Option,
+  Some,
+  None,
+  Contains,
+  IfSome,
+  refl,
+  sym,
+  subst,
+}
 use Rattle.std.specs.Prelude.{IsSome, false}
 use Rattle.std.specs.List.{flat_map}
 use Rattle.clog_spec.specs.Sizes.{most_tables}

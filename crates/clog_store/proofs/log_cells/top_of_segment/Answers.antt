@@ -1,4 +1,23 @@
-use Rattle.std.proofs.Common.{◌≡◌, ◌+◌, ◌<◌, ◌≤◌, List, ◌++◌, ◌∷◌, [], get_or, length, map, take, sym, subst, ap, ◌∙◌, append_assoc, arith}
+use Rattle.std.proofs.Common.{
+  ◌≡◌,
+  ◌+◌,
+  ◌<◌,
+  ◌≤◌,
+  List,
+  ◌++◌,
+  ◌∷◌,
+  [],
+  get_or,
+  length,
+  map,
+  take,
+  sym,
+  subst,
+  ap,
+  ◌∙◌,
+  append_assoc,
+  arith,
+}
 use Rattle.std.proofs.lemmas.List.{map-append, take_all, take_more}
 use Rattle.clog_scan.specs.declared.answer.Found.{Found}
 use Rattle.clog_folder.specs.Folder.{PlacedPayload, placed}

@@ -28,8 +28,8 @@ returns-then-has_late_table-clause-looks g c =
     c.in-Ok-list.ensures.names in (
       refl,
       many_tables (D.files old) c.in-Ok.folder c.in-Ok-list.names c.in-Ok.ensures.reads lists
-          (late_of c.in-Ok-list.names c.as_slice.result.now c.has_late_table.result c.as_slice.ensures
-          c.has_late_table.ensures c.if-has_late_table.true),
+          (late_of c.in-Ok-list.names c.as_slice.result.now c.has_late_table.result
+          c.as_slice.ensures c.has_late_table.ensures c.if-has_late_table.true),
     )
 
 pub returns-in-Ok-base_of-clause-looks : goal.returns-in-Ok-base_of-clause-looks
