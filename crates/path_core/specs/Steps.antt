@@ -18,6 +18,7 @@ use Rattle.std.specs.List.{Contains}
 use Rattle.std.specs.List.Sorted.{IsNonDecreasingBy}
 use Rattle.std.specs.declared.result.Result.{Result}
 use Rattle.clog_base.specs.declared.fault.OutOfMemory.{OutOfMemory}
+use Rattle.clog_spec.specs.Sizes.{greatest_capacity}
 use Rattle.op_core.specs.declared.count.Tally.{Tally}
 use Rattle.op_core.specs.Tallies.{running_of, one_more, IsPassed}
 use Rattle.path_core.specs.declared.event.Carried.{Carried}
@@ -64,7 +65,7 @@ StandInOrder notes = IsNonDecreasingBy (λ (n : EntryNote). n.start.0) notes
 -- What a path keeps: numbers within the limits of its sizes, and its notes in order.
 pub record IsWithin (x : PathState) : Type 0 where
   pub few_tables : length x.tables ≤ 16
-  pub capacity : x.capacity ≤ 33554432
+  pub capacity : x.capacity ≤ greatest_capacity
   pub notes : StandInOrder x.notes
 
 -- What a step's seat and words are: they are there.

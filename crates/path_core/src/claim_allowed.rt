@@ -1,5 +1,6 @@
 //! When a claim is allowed: of an entry, and of a marker.
 ghost use Rattle.std.specs.Prelude.{◌≡◌, ◌↔◌, ◌≤◌, false, None, IsTrue, IsSome};
+ghost use Rattle.clog_spec.specs.Sizes.{greatest_capacity};
 ghost use Rattle.path_core.specs.declared.event.Turn.{Turn};
 ghost use Rattle.path_core.specs.Keys.{MovesLog};
 ghost use Rattle.path_core.specs.Parts.{HoldsTurn, is_empty};
@@ -24,7 +25,7 @@ fn is_entry_last(state: &PathState) -> bool
 }
 
 pub(crate) fn allows_entry(state: &PathState, seat: &Seat, from: Key, to: Key) -> bool
-    requires { state.now.capacity ≤ 33554432 }
+    requires { state.now.capacity ≤ greatest_capacity }
     ensures { IsTrue result ↔ (IsSome seat.now.write × IsSome seat.now.append
         × (seat.now.claim ≡ None) × (from.0 ≡ state.now.log)
         × MovesLog ClaimKind.Entry state.now.capacity state.now.ordinals from.0 to.0) }
@@ -43,7 +44,7 @@ pub(crate) fn allows_entry(state: &PathState, seat: &Seat, from: Key, to: Key) -
 }
 
 pub(crate) fn allows_marker(state: &PathState, seat: &Seat, from: Key, to: Key) -> bool
-    requires { state.now.capacity ≤ 33554432 }
+    requires { state.now.capacity ≤ greatest_capacity }
     ensures { IsTrue result ↔ (HoldsTurn seat.now Turn.Sync × IsTrue (is_entry_last state.now)
         × (from.0 ≡ state.now.log)
         × MovesLog ClaimKind.Marker state.now.capacity state.now.ordinals from.0 to.0) }

@@ -112,9 +112,9 @@ pub fn the_last_marker_tells_when_it_may_be_synced()
 {}
 
 /// So seats with equal parts, in whatever lawful states, get the same answers of markers: whether a
-/// barrier of the append order is wanted, and for holders of the Sync turn, where the words that are
-/// read are the same, whether the log may be synced up to the last marker, and whether an entry was
-/// claimed since it, as the next one wants it.
+/// barrier of the append order is wanted; and for holders of the Sync turn, where the words that
+/// are read are the same, whether the log may be synced up to the last marker, and whether an entry
+/// was claimed since it, as the next one wants it.
 pub fn equal_parts_get_equal_answers_of_markers()
     ensures wanted { (x y : PathState) (v w : ℕ) → IsLawfulPath x → IsLawfulPath y
         → seat_of x v ≡ seat_of y w

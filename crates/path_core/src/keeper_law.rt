@@ -5,6 +5,7 @@ ghost use Rattle.clog_base.specs.declared.sizes.Sizes.{Sizes};
 ghost use Rattle.path_core.specs.declared.note.EntryNote.{EntryNote};
 ghost use Rattle.path_core.specs.declared.state.PathState.{PathState};
 ghost use Rattle.path_core.specs.Allowed.{IsAllowed};
+ghost use Rattle.path_core.specs.Keys.{first_offset};
 ghost use Rattle.path_core.specs.Lawful.{IsLawfulPath};
 ghost use Rattle.path_core.specs.Lent.{AgreesWith, IsKeptOf, run_to};
 ghost use Rattle.path_core.specs.Keeper.{
@@ -36,7 +37,7 @@ pub fn what_may_be_synced_can_be()
 /// A keeper that was just opened may sync a whole entry that stands first in the log.
 pub fn a_first_entry_may_be_synced()
     ensures { (base : ℕ) (sizes : Sizes) (h : Holding) (n : EntryNote) → IsFresh base sizes h
-        → IsWritable h n → n.start.0 ≡ 28 → MaySync h n.end.0 (n ∷ []) }
+        → IsWritable h n → n.start.0 ≡ first_offset → MaySync h n.end.0 (n ∷ []) }
 {}
 
 /// A keeper that was just opened has nothing to drop.

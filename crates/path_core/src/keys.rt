@@ -1,6 +1,7 @@
 //! Keys of the log, and where claims stand. A claim that does not fit a segment moves the log to
 //! the next one, behind the header and the first marker.
 ghost use Rattle.std.specs.Prelude.{◌≡◌, ◌↔◌, ◌+◌, ◌≤◌, ◌<◌, IsTrue};
+ghost use Rattle.clog_spec.specs.Sizes.{greatest_capacity};
 ghost use Rattle.path_core.specs.Keys.{
   ordinal_of,
   offset_of,
@@ -15,11 +16,12 @@ ghost use Rattle.path_core.specs.Keys.{
 };
 
 use crate::event::ClaimKind;
+use clog_base::FRONT_SIZE;
 
 /// The bytes of a segment's header and of its first marker.
-const FIRST_OFFSET: u64 = 28;
+pub(crate) const FIRST_OFFSET: u64 = FRONT_SIZE as u64;
 /// The bytes of a marker.
-const MARKER_SIZE: u64 = 8;
+const MARKER_SIZE: u64 = clog_base::MARKER_SIZE as u64;
 /// The least entry: a payload of 18 bytes and 12 around it.
 const LEAST_ENTRY: u64 = 30;
 
@@ -65,7 +67,7 @@ fn is_in_next(from: u64, to: u64, at: u64) -> bool
 /// Whether a claim may move the log from one key to another: an entry of a size that may be, in a
 /// segment that there is, or a marker.
 pub(crate) fn moves_log(what: ClaimKind, capacity: u32, ordinals: u32, from: u64, to: u64) -> bool
-    requires { capacity ≤ 33554432 }
+    requires { capacity ≤ greatest_capacity }
     ensures { IsTrue result ↔ MovesLog what capacity ordinals from to }
 {
     match what {
@@ -75,7 +77,7 @@ pub(crate) fn moves_log(what: ClaimKind, capacity: u32, ordinals: u32, from: u64
 }
 
 fn moves_by_entry(capacity: u32, ordinals: u32, from: u64, to: u64) -> bool
-    requires { capacity ≤ 33554432 }
+    requires { capacity ≤ greatest_capacity }
     ensures { IsTrue result ↔ MovesLog ClaimKind.Entry capacity ordinals from to }
 {
     let size = claimed_size(from, to);

@@ -6,6 +6,7 @@ ghost use Rattle.path_core.specs.Runs.{opening, first_group};
 ghost use Rattle.path_core.specs.Steps.{IsWithin, StepsTo};
 
 use crate::event::Event;
+use crate::keys::FIRST_OFFSET;
 use crate::making::make;
 use crate::seat::{Found, FoundGroups, Seat, SeatTable};
 use crate::state::{OrderGroups, PathState, TableState};
@@ -123,7 +124,7 @@ impl Path {
                 base,
                 capacity: sizes.capacity,
                 ordinals: sizes.ordinals,
-                log: 28,
+                log: FIRST_OFFSET,
                 claims: Rows::new(Vec::new(alloc)),
                 notes: Rows::new(Vec::new(alloc)),
                 write: first_group(alloc)?,
