@@ -63,19 +63,17 @@ fn keep(merged: &mut Merged, key: Text, update: Update) -> Result<(), OutOfMemor
 
 /// Takes in an update at its position.
 pub(crate) fn take_update(
-    alloc: Global,
     tables: &[TableHeld],
     merged: &mut Merged,
     at: Position,
-    key: &Text,
+    key: Text,
     update: Update,
 ) -> Result<(), OutOfMemory>
-    ensures { OnOk result (TakesOne tables.now (keyed at key.now update) merged.old merged.new) }
+    ensures { OnOk result (TakesOne tables.now (keyed at key update) merged.old merged.new) }
 {
     if is_filed(tables, update.table, at) {
         return skip(merged);
     }
-    let key = Text::copy_of(alloc, key.as_str())?;
     keep(merged, key, update)
 }
 

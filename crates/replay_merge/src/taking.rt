@@ -9,15 +9,35 @@ ghost use Rattle.replay_merge.specs.Taking.{AreRanges, IsTakenOf, TakesEntry, Ta
 
 use crate::merged::{Merged, take_update};
 use crate::share::Share;
-use clog_base::{OutOfMemory, Position, Writer};
+use clog_base::{OutOfMemory, Position, Text, Writer};
 use clog_entry::ENTRY_FRONT_SIZE;
 use clog_folder::{SegmentHeld, TableHeld};
 use clog_io::{Gate, Point};
-use clog_mutation::{Mutation, decode};
+use clog_mutation::{Mutation, Update, decode};
 use clog_scan::Found;
 use std::alloc::Global;
 
-/// Takes in the updates of a mutation at its position.
+/// Takes in updates at a position, each under a copy of the key.
+fn take_updates(
+    alloc: Global,
+    tables: &[TableHeld],
+    merged: &mut Merged,
+    at: Position,
+    key: &Text,
+    updates: Vec<Update>,
+) -> Result<(), OutOfMemory>
+    ensures { OnOk result (Takes tables.now (map (keyed at key.now) updates.items) merged.old
+        merged.new) }
+{
+    for update in updates {
+        let copy = Text::copy_of(alloc, key.as_str())?;
+        take_update(tables, merged, at, copy, update)?;
+    }
+    Ok(())
+}
+
+/// Takes in the updates of a mutation at its position. The last one takes the key itself, so that
+/// nothing is copied of a mutation of one update.
 fn take_mutation(
     alloc: Global,
     tables: &[TableHeld],
@@ -29,9 +49,12 @@ fn take_mutation(
         merged.old merged.new) }
 {
     let Mutation { key, updates } = mutation;
-    for update in updates.into_vec() {
-        take_update(alloc, tables, merged, at, &key, update)?;
-    }
+    let mut updates = updates.into_vec();
+    let Some(last) = updates.pop() else {
+        return Ok(());
+    };
+    take_updates(alloc, tables, merged, at, &key, updates)?;
+    take_update(tables, merged, at, key, last)?;
     Ok(())
 }
 
