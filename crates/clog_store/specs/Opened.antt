@@ -84,10 +84,14 @@ OpenRefused files faults now (Limit TableFiles most) =
 OpenRefused files faults now (Limit Ids most) = (most ≡ id_limit) × IfSome files HasGreatId
 OpenRefused files faults now other = ⊥
 
+-- where the files are told, they were opened, from a moment, with this base
+abbrev pub OpensAs : Option Files → Option Files → ℕ → ℕ → Type 0
+OpensAs files told moment base = IfSome files (λ first. Told told (IsOpened first moment base))
+
 -- the base, from a moment, or why the folder is not opened
 abbrev pub Opens : Option Files → Option Files → ℕ → ℕ → ℕ → Result ℕ OpenFault → Type 0
 Opens files told faults now moment (result.Ok base) =
-    IfSome files (λ first. Told told (IsOpened first moment base))
+    OpensAs files told moment base
 Opens files told faults now moment (result.Err refusal) = OpenRefused files faults now refusal
 
 -- ---- what stays

@@ -1,19 +1,23 @@
 //! A store that writes one segment. Over its whole life each image of a crash since its opening
 //! restores what the folder restored then, and the first of the entries that it was handed: the
 //! invariant of its type, `HasLived`. From the first fault of the disk on it writes nothing.
-ghost use Rattle.std.specs.Prelude.{◌≡◌, ◌++◌, List, [], ◌∷◌, take, drop, length, IfSome, OnOk};
+ghost use Rattle.std.specs.Prelude.{◌≡◌, ◌<◌, ◌^◌, ◌++◌, List, [], ◌∷◌, take, drop, length};
+ghost use Rattle.std.specs.Prelude.{IfErr, IfOk, IfSome, OnOk, Some};
 ghost use Rattle.std.specs.Prelude.{Err, true, false};
 ghost use Rattle.clog_store.specs.declared.store.StoreFault.TheVariants.{Stopped as stopped};
 ghost use Rattle.clog_scan.specs.Cut.{Section};
 ghost use Rattle.clog_spec.specs.Names.{segment_name_of};
-ghost use Rattle.clog_disk.specs.Files.{IsEnd};
+ghost use Rattle.clog_disk.specs.Files.{Files, IsEnd, Told};
 ghost use Rattle.clog_crash.specs.Rest.{IsAtRest};
 ghost use Rattle.clog_crash.specs.Sections.{Brings};
 ghost use Rattle.clog_store.specs.Life.{ShownSince};
+ghost use Rattle.clog_store.specs.Opened.{KeepsFolder, LastsAll, OpenRefused, OpensAs};
 
+use crate::opening::recover;
 use crate::sections::{keep_sections, settle_sections};
 use clog_base::Bytes;
 use clog_disk::{Disk, DiskFault};
+use clog_folder::OpenFault;
 use std::alloc::{AllocFailed, Global};
 use std::marker::Model;
 
@@ -94,9 +98,8 @@ fn take_back(sections: &mut Vec<Written>)
 }
 
 impl<D: Disk> Store<D> {
-    /// Opens a store over a folder in which everything lasts, for a segment above all that it
-    /// names.
-    pub fn open(alloc: Global, disk: D, id: u64) -> Store<D>
+    // A store over a folder in which everything lasts, for a segment above all that it names.
+    fn begin(alloc: Global, disk: D, id: u64) -> Store<D>
         requires rest { IfSome (D.files disk) (λ f. IsAtRest f (D.leaves disk) id [] []) }
         ensures disk { result.disk ≡ disk }
         ensures opened { result.opened ≡ D.moment disk }
@@ -111,6 +114,27 @@ impl<D: Disk> Store<D> {
             sections: Vec::new(alloc),
             synced: 0,
             is_stopped: false,
+        }
+    }
+
+    /// Opens a store: its folder, in which everything lasts, is read and recovered, and its log
+    /// goes on at the base. The moment is one in milliseconds. For each refusal see `recover`; the
+    /// disk comes back, and its folder restores the same.
+    pub fn open(alloc: Global, disk: D, moment: u64) -> Result<Store<D>, (D, OpenFault)>
+        requires moment { moment < 2 ^ 62 }
+        requires lasts { IfSome (D.files disk) (λ f. LastsAll f (D.leaves disk)) }
+        ensures opens { IfOk result (λ store. OpensAs (D.files disk) (D.files store.disk) moment
+            store.id) }
+        ensures sections { IfOk result (λ store. store.sections ≡ []) }
+        ensures refused { IfErr result (λ back.
+            OpenRefused (D.files disk) (D.faults disk) (D.faults back.0) back.1) }
+        ensures keeps { (first : Files) → D.files disk ≡ Some first
+            → IfErr result (λ back. Told (D.files back.0) (KeepsFolder first)) }
+    {
+        let mut disk = disk;
+        match recover(alloc, &mut disk, moment) {
+            Ok(base) => Ok(Store::begin(alloc, disk, base)),
+            Err(fault) => Err((disk, fault)),
         }
     }
 

@@ -1,16 +1,15 @@
-use Rattle.std.proofs.Common.{List, false, sym, subst}
-use Rattle.clog_scan.specs.Cut.{Section}
-use Rattle.clog_store.specs.Life.{HasLived}
-use Rattle.clog_store.proofs.Lived.{lived_at_first}
+use Rattle.std.proofs.Common.{[]}
+use Rattle.clog_crash.specs.Rest.{IsAtRest}
+use Rattle.clog_store.proofs.OpenedWhole.{rests_told}
 use Rattle.clog_store.proofs.store.Store.open.Goals as goal
 
-pub invariant_of-result : goal.invariant_of-result
-invariant_of-result g c =
+pub begin-requires : goal.begin-requires
+begin-requires g c =
     let D = g.D.Disk in
-    let disk = c.args.disk in
-    let opened = c.moment_count-opened.result in
-    subst (λ (l : List Section). HasLived D.files D.moment D.since D.leaves D.read_at disk opened
-    c.args.id l 0 false) (sym c.new.ensures.items)
-    (lived_at_first D.files D.moment D.since D.leaves D.read_at disk opened c.args.id
-    c.moment_count-opened.ensures (g.met.D.Disk.reads_now disk) (g.met.D.Disk.only_now disk)
-    c.requires.rest)
+    let old = c.args.disk in
+    let mid = c.recover.new.disk in
+    record {
+      rest = rests_told (D.files old) (D.files mid) (D.leaves old)
+          (λ f. IsAtRest f (D.leaves mid) c.in-Ok.base [] []) c.recover.ensures.told
+          c.requires.lasts c.in-Ok.ensures.rests;
+    }
