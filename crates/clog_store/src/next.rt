@@ -17,6 +17,7 @@ ghost use Rattle.std.specs.Prelude.{
 ghost use Rattle.clog_spec.specs.Segment.{header_bytes, section_bytes};
 ghost use Rattle.clog_spec.specs.Names.{segment_name_of};
 ghost use Rattle.clog_spec.specs.Sizes.{front_size, header_size, marker_size};
+ghost use Rattle.clog_disk.specs.Causes.{HasDiskCause};
 ghost use Rattle.clog_disk.specs.Files.{AppendsTo, IsEnd, SameTold};
 ghost use Rattle.clog_disk.specs.Images.{IsLater, LeavesOnly};
 ghost use Rattle.clog_scan.specs.Cut.{Section, entries_bytes};
@@ -74,6 +75,7 @@ fn put_next<D: Disk>(disk: &mut D, id: u64, size: u32, bytes: &[u8]) -> Result<(
     ensures appends { OnOk result (AppendsTo (D.files disk.old) (D.files disk.new)
         (segment_name_of 6 id) bytes.now) }
     ensures later { IsLater D.moment D.read_at disk.old disk.new }
+    ensures cause { HasDiskCause (D.faults disk.old) (D.faults disk.new) result }
     ensures put { (r : Reading) (past : List Write) (old kept : List Section)
         (payloads : List (List ℕ)) → IsNext id old kept payloads size bytes.now
         → RestsAt (D.files disk.old) (D.leaves disk.old) r past id old kept
@@ -102,6 +104,8 @@ pub fn write_section<D: Disk>(
     ensures told { SameTold (D.files disk.old) (D.files disk.new) }
     ensures appends { OnOk result (AppendsTo (D.files disk.old) (D.files disk.new)
         (segment_name_of 6 id) (next_bytes id size entries.now)) }
+    ensures later { IsLater D.moment D.read_at disk.old disk.new }
+    ensures cause { HasDiskCause (D.faults disk.old) (D.faults disk.new) result }
     ensures put { (r : Reading) (past : List Write) (old kept : List Section)
         (payloads : List (List ℕ)) → entries.now ≡ entries_bytes payloads
         → IsNext id old kept payloads size (next_bytes id size entries.now)

@@ -86,6 +86,7 @@ pub fn put_sections<D: Disk>(
     ensures appends { OnOk result (AppendsTo (D.files disk.old) (D.files disk.new)
         (segment_name_of 6 id) bytes.now) }
     ensures later { IsLater D.moment D.read_at disk.old disk.new }
+    ensures cause { HasDiskCause (D.faults disk.old) (D.faults disk.new) result }
     ensures put { (r : Reading) (past : List Write) (old kept new : List Section)
         → Brings id old kept new bytes.now
         → RestsAt (D.files disk.old) (D.leaves disk.old) r past id old kept

@@ -1,6 +1,7 @@
 //! Sections come into several new segments, one segment after another.
 ghost use Rattle.std.specs.Prelude.{◌≡◌, ◌∷◌, ◌++◌, [], ℕ, List, length, IfSome, Some, OnOk};
 ghost use Rattle.clog_spec.specs.Names.{segment_name_of};
+ghost use Rattle.clog_disk.specs.Causes.{HasDiskCause};
 ghost use Rattle.clog_disk.specs.Files.{IsEnd, SameTold};
 ghost use Rattle.clog_disk.specs.Images.{IsLater, LeavesOnly};
 ghost use Rattle.clog_scan.specs.Cut.{Section};
@@ -38,6 +39,7 @@ pub fn put_segments<D: Disk>(disk: &mut D, parts: &[Part]) -> Result<(), DiskFau
         CanPut (Some f) (D.leaves disk.old) parts.now) }
     ensures told { SameTold (D.files disk.old) (D.files disk.new) }
     ensures later { IsLater D.moment D.read_at disk.old disk.new }
+    ensures cause { HasDiskCause (D.faults disk.old) (D.faults disk.new) result }
     ensures put { (r : Reading) (past : List Write) (id : ℕ) (first : Section)
         (more : List Section) (ws : List NewSegment)
         → RestsAt (D.files disk.old) (D.leaves disk.old) r past id (first ∷ more) []
@@ -72,6 +74,7 @@ pub fn put_all<D: Disk>(
         CanWrite (Some f) (D.leaves disk.old) id bytes.now parts.now) }
     ensures told { SameTold (D.files disk.old) (D.files disk.new) }
     ensures later { IsLater D.moment D.read_at disk.old disk.new }
+    ensures cause { HasDiskCause (D.faults disk.old) (D.faults disk.new) result }
     ensures put { (r : Reading) (past : List Write) (old kept new : List Section)
         (first : Section) (more : List Section) (ws : List NewSegment)
         → Brings id old kept new bytes.now → old ++ (kept ++ new) ≡ first ∷ more

@@ -1,4 +1,5 @@
-use Rattle.std.proofs.Common.{◌++◌, inr}
+use Rattle.std.proofs.Common.{ℕ, ◌++◌, inr, subst}
+use Rattle.clog_disk.specs.Causes.{HasDiskCause}
 use Rattle.clog_disk.proofs.Moments.{goes_on_by}
 use Rattle.clog_store.specs.Resting.{ShowsBehind}
 use Rattle.clog_store.proofs.Outcomes.{err_then}
@@ -22,3 +23,9 @@ returns-clause-any_moment g c r past old kept new brings rests =
     (c.keep_sections.ensures.any_moment r past old kept new brings rests)
     (c.settle_sections.ensures.any_moment r past old (kept ++ new)
     (c.in_ok-keep_sections.ensures.kept r past old kept new brings rests))
+
+pub returns-clause-cause : goal.returns-clause-cause
+returns-clause-cause g c =
+    subst (λ (n : ℕ). HasDiskCause n (g.D.Disk.faults c.settle_sections.new.disk)
+    c.settle_sections.result) (c.in_ok-keep_sections.ensures.cause.quiet (λ e. cc))
+    c.settle_sections.ensures.cause

@@ -1,4 +1,5 @@
-use Rattle.std.proofs.Common.{[], ◌∷◌, ◌++◌, Option, Some, IfSome, length, sym, subst}
+use Rattle.std.proofs.Common.{ℕ, [], ◌∷◌, ◌++◌, Option, Some, IfSome, length, sym, subst}
+use Rattle.clog_disk.specs.Causes.{HasDiskCause}
 use Rattle.clog_disk.specs.Files.{Files}
 use Rattle.clog_disk.proofs.Moments.{goes_on_by, weakened}
 use Rattle.clog_crash.specs.Log.{logged_in}
@@ -81,3 +82,9 @@ returns-clause-any_moment g c r past old kept new s ss ws brings some rests are 
     (rests_first r past id old kept new s ss ws parts bytes brings some are (D.files mid)
     (D.leaves mid) (c.in_ok-put_sections.ensures.put r past old kept new brings rests)) are)
     (next_shows_all r past id old kept new s ss ws parts bytes brings some are))
+
+pub returns-clause-cause : goal.returns-clause-cause
+returns-clause-cause g c =
+    subst (λ (n : ℕ). HasDiskCause n (g.D.Disk.faults c.put_segments.new.disk)
+    c.put_segments.result) (c.in_ok-put_sections.ensures.cause.quiet (λ e. cc))
+    c.put_segments.ensures.cause

@@ -51,6 +51,7 @@ loop-part-init g c =
     record {
       told = same_told_self (D.files old);
       later = record { no_sooner = omega arith; remembers = λ t le. refl };
+      faults = refl;
       going = λ r past id s ss ws rests are.
           going_first (D.files old) (D.leaves old) r past id s ss ws parts rests are;
       only = λ r past id s ss ws rests are.
@@ -142,6 +143,8 @@ loop-part-preserved g c =
           c.loop-part.invariant.told c.put_sections.ensures.told;
       later = later_still D.moment D.read_at old mid c.put_sections.new.disk
           c.loop-part.invariant.later c.put_sections.ensures.later;
+      faults = c.in_ok-put_sections.ensures.cause.quiet (λ e. cc)
+          ∙ c.loop-part.invariant.faults;
       going = λ r past id s ss ws rests are.
           let least = length (logged_in past (s ∷ ss)) in
           let end = end_of past id (s ∷ ss) ws in

@@ -1,4 +1,4 @@
-use Rattle.std.proofs.Common.{ℕ, List, [], ◌∷◌, drop, length}
+use Rattle.std.proofs.Common.{◌≡◌, ℕ, List, [], ◌∷◌, drop, length}
 use Rattle.clog_disk.specs.Files.{SameTold}
 use Rattle.clog_disk.specs.Images.{IsLater, LeavesOnly}
 use Rattle.clog_scan.specs.Cut.{Section}
@@ -14,6 +14,7 @@ abbrev pub invariant-loop-part : goal.invariant-loop-part
 invariant-loop-part g l = record {
   told : SameTold (g.D.Disk.files l.fn.disk) (g.D.Disk.files l.disk);
   later : IsLater g.D.Disk.moment g.D.Disk.read_at l.fn.disk l.disk;
+  faults : g.D.Disk.faults l.disk ≡ g.D.Disk.faults l.fn.disk;
   going : (r : Reading) (past : List Write) (id : ℕ) (s : Section) (ss : List Section)
       (ws : List NewSegment)
       → RestsAt (g.D.Disk.files l.fn.disk) (g.D.Disk.leaves l.fn.disk) r past id (s ∷ ss) []
