@@ -1,5 +1,5 @@
 -- What the contracts say of the members of a table.
-use Rattle.std.specs.Prelude.{◌≡◌, ℕ, List}
+use Rattle.std.specs.Prelude.{◌≡◌, ℕ, List, [], ◌∷◌, ◌++◌}
 use Rattle.atomic_table.specs.Seated.{TableId}
 use Rattle.atomic_table.specs.Table.{rest}
 use Rattle.path_core.specs.declared.event.Event.{Event}
@@ -7,11 +7,13 @@ use Rattle.path_core.specs.declared.note.EntryNote.{EntryNote}
 use Rattle.path_core.specs.declared.seat.Seat.{Seat}
 use Rattle.path_rule.specs.declared.lasting.Lasting.{Lasting}
 use Rattle.path_rule.specs.declared.slot.Slot.{Slot}
+use Rattle.path_rule.specs.declared.slot.Slot.TheVariants.{Notes}
 use Rattle.path_rule.specs.declared.table.Member.{Member}
 use Rattle.path_rule.specs.declared.view.Hands.{Hands}
 use Rattle.path_rule.specs.declared.view.PathSize.{PathSize}
 use Rattle.path_rule.specs.declared.view.Returned.{Returned}
 use Rattle.path_rule.specs.declared.view.View.{View}
+use Rattle.path_rule.specs.Boxes.{box_of}
 use Rattle.path_rule.specs.Calls.{Did, DidAs}
 use Rattle.path_rule.specs.HandsAfter.{with_desk}
 use Rattle.path_rule.specs.TurnTold.{CarriesAs}
@@ -66,6 +68,11 @@ module _ {K : Type 0} where
   SteppedWith shows m e n m' = (lasting : Lasting) × (pending : List EntryNote)
       × SteppedAs m e n (with_desk lasting pending m.seat.me.0.hands.progress m.seat.me.0.hands) m'
       × CarriesAs shows lasting pending m.seat.me.0.hands.progress m.seat.me
+
+  -- its box for the group, which it took last, holds this note behind what was there
+  abbrev pub HasDeposit : Member K → ℕ → EntryNote → Type 0
+  HasDeposit m group note = m.seat.me.1
+      ≡ (box_of m.number group, Notes (m.seat.me.0.hands.notes ++ note ∷ [])) ∷ rest m.seat.me.1
 
   -- what it knows, for the seat that takes it in
   abbrev pub returned_of : Member K → Returned

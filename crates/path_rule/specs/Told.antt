@@ -1,5 +1,20 @@
 -- What the steps of each seat tell of it, before and after.
-use Rattle.std.specs.Prelude.{◌≡◌, ◌≢◌, ℕ, ◌+◌, ◌*◌, ◌<◌, false, List, [], ◌∷◌, ◌++◌}
+use Rattle.std.specs.Prelude.{
+  ◌≡◌,
+  ◌≢◌,
+  ℕ,
+  ◌+◌,
+  ◌*◌,
+  ◌^◌,
+  ◌<◌,
+  ◌≤◌,
+  false,
+  List,
+  [],
+  ◌∷◌,
+  ◌++◌,
+  length,
+}
 use Rattle.atomic_table.specs.Table.{Me, Step, rest}
 use Rattle.op_core.specs.declared.count.Order.TheVariants.{Write, Append}
 use Rattle.path_core.specs.declared.event.Carried.TheVariants.{Nothing, Deposit}
@@ -41,9 +56,10 @@ module _ {K : Type 0} where
       → (n ≡ st.first → Made w (Register w Write g) st.second m m')
       × (n ≢ st.first → Made w (Look w (Count Write g)) n m m')
 
-  -- the box b came, with what the seat knows
+  -- The box b came, with what the seat knows. In it are not more notes than the log has bytes.
   abbrev pub Took : ℕ → Me (Slot K) View → Me (Slot K) View → Type 0
   Took b m m' = (y : Slot K) × (m'.1 ≡ (b, y) ∷ m.1) × NotesAre y m'.0.hands.notes
+      × (length m'.0.hands.notes ≤ 2 ^ 62)
 
   -- the box b was taken last, with these notes in it
   abbrev pub CarriesNotes : ℕ → List EntryNote → Me (Slot K) View → Type 0

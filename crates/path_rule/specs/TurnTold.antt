@@ -9,6 +9,7 @@ use Rattle.std.specs.Prelude.{
   ◌*◌,
   ◌^◌,
   ◌<◌,
+  ◌≤◌,
   Bool,
   List,
   ◌∷◌,
@@ -82,7 +83,7 @@ module _ {K : Type 0} where
   -- than the log has bytes.
   abbrev pub TookBox : ℕ → Me (Slot K) View → Me (Slot K) View → Type 0
   TookBox b m m' = (y : Slot K) × (m'.1 ≡ (b, y) ∷ m.1) × NotesAre y m'.0.hands.taken
-      × (length m'.0.hands.pending + length m'.0.hands.taken < 2 ^ 63)
+      × (length m'.0.hands.pending + length m'.0.hands.taken ≤ 2 ^ 62)
 
   -- where the oldest group was found to be the current one, c, the next box of the other parity
   -- came

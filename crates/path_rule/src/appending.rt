@@ -12,7 +12,7 @@ ghost use Rattle.std.specs.Prelude.{
   Some,
   None,
   IsSome,
-  IfOk,
+  length,
 };
 ghost use Rattle.atomic_table.specs.Table.{rest};
 ghost use Rattle.op_core.specs.declared.count.Order.TheVariants.{Append};
@@ -36,6 +36,7 @@ ghost use Rattle.path_rule.specs.Members.{
   PutsBack,
   Stepped,
   SteppedAs,
+  HasDeposit,
 };
 ghost use Rattle.path_rule.specs.Told.{Took, CarriesNotes};
 ghost use Rattle.path_rule.specs.Turns.{Sighted};
@@ -45,7 +46,7 @@ use crate::slot::Slot;
 use crate::table::{Member, PathTable};
 use crate::words::{APPEND_COUNTS, CURRENT_APPEND};
 use path_core::{EntryNote, Keeper};
-use std::alloc::{AllocError, Allocator};
+use std::alloc::Allocator;
 use std::collections::LinkedList;
 
 impl<K: Keeper, A: Allocator> PathTable<K, A> {
@@ -118,19 +119,19 @@ impl<K: Keeper, A: Allocator> PathTable<K, A> {
             .fetch_sub::<WithdrawFrom<K>>(&mut member.seat, APPEND_COUNTS + 2 * group as usize, 1)
     }
 
-    /// Puts notes into the member's box, behind those that it holds. For want of memory the box is
-    /// as it was.
+    /// Puts notes into the member's box, behind those that it holds. It takes no memory.
     pub fn put_notes(
         &self,
         member: Member<K>,
         number: usize,
         more: &mut LinkedList<EntryNote>,
-    ) -> (Member<K>, Result<(), AllocError>)
+    ) -> Member<K>
         requires table { member.seat.table_id ≡ self.now.table.shared.table_id }
         requires kept { CarriesNotes number (hands_of member).notes member.seat.me }
-        ensures same { IsSame member result.0 × (view_of result.0 ≡ view_of member) }
-        ensures kept { IfOk result.1 (λ u. boxes_of result.0
-            ≡ (number, Notes ((hands_of member).notes ++ more.old)) ∷ rest (boxes_of member)) }
+        requires few { length (hands_of member).notes + length more.old < 2 ^ 63 }
+        ensures same { IsSame member result × (view_of result ≡ view_of member) }
+        ensures kept { boxes_of result
+            ≡ (number, Notes ((hands_of member).notes ++ more.old)) ∷ rest (boxes_of member) }
     {
         let Member {
             mut seat,
@@ -141,27 +142,28 @@ impl<K: Keeper, A: Allocator> PathTable<K, A> {
             Slot::Notes(kept) => kept.append(more),
             Slot::Turn(_) => unreachable!(),
         };
-        (Member { seat, number: by }, done)
+        if done.is_err() {
+            unreachable!()
+        }
+        Member { seat, number: by }
     }
 
     /// Leaves the append order with the note of the claimed entry, which lies in the box behind
     /// what was there (`Allocation.markWritten`). The box goes home.
-    pub fn deposit(&self, member: &mut Member<K>, group: u64, note: &EntryNote) -> u64
+    pub fn deposit(&self, member: &mut Member<K>, group: u64) -> u64
         requires table { IsOf self.now.table.shared.table_id self.now.size member.old }
-        requires group { (group < 65536) × ((part_of member.old).append ≡ Some group)
+        requires group { (group < 65536) × ((part_of member.old).append ≡ Some group) }
+        requires note { (note : EntryNote)
             × ((part_of member.old).claim
-            ≡ Some (record { start = note.now.start.0; end = note.now.end.0 })) }
-        requires note { (note.now.writer.0 ≡ member.old.number)
-            × (note.now.tables < 2 ^ (view_of member.old).size.tables) × IsWhole note.now }
-        requires box_kept { boxes_of member.old ≡ (
-          box_of member.old.number group,
-          Notes ((hands_of member.old).notes ++ note.now ∷ []),
-        ) ∷ rest (boxes_of member.old) }
+            ≡ Some (record { start = note.start.0; end = note.end.0 }))
+            × (note.writer.0 ≡ member.old.number)
+            × (note.tables < 2 ^ (view_of member.old).size.tables) × IsWhole note
+            × HasDeposit member.old group note }
         ensures same { PutsBack member.old member.new }
-        ensures step { Stepped member.old (Close member.old.number Append group (Deposit note.now))
-            result member.new }
+        ensures step { (note : EntryNote) → HasDeposit member.old group note
+            → Stepped member.old (Close member.old.number Append group (Deposit note)) result
+            member.new }
     {
-        let _ = note;
         self.table
             .shared
             .fetch_sub::<DepositIn<K>>(&mut member.seat, APPEND_COUNTS + 2 * group as usize, 1)

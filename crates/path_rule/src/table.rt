@@ -48,3 +48,12 @@ impl<K: Keeper, A: Allocator> PathTable<K, A> {
         self.size
     }
 }
+
+impl<K> Member<K> {
+    /// The number of its seat.
+    pub fn number(&self) -> u8
+        ensures { result ≡ self.now.number }
+    {
+        self.number
+    }
+}

@@ -1,8 +1,33 @@
 -- Where the log goes on behind a claim of some bytes.
-use Rattle.std.proofs.Common.{◌≡◌, ℕ, ◌+◌, ◌-◌, ◌*◌, ◌/◌, ◌<◌, ◌≤◌, Bool, cond, sym, ap, ◌∙◌, subst, arith, eq-eqb, ne_eqb}
+use Rattle.std.proofs.Common.{
+  ◌≡◌,
+  ℕ,
+  ◌+◌,
+  ◌-◌,
+  ◌*◌,
+  ◌/◌,
+  ◌<◌,
+  ◌≤◌,
+  Bool,
+  cond,
+  sym,
+  ap,
+  ◌∙◌,
+  subst,
+  arith,
+  eq-eqb,
+  ne_eqb,
+}
 use Rattle.std.proofs.lemmas.Bool.{lt-ltb, le-ltb}
 use Rattle.path_core.specs.declared.event.ClaimKind.TheVariants.{Entry}
-use Rattle.path_core.specs.Keys.{MovesLog, claimed_size, entry_end, ordinal_of, offset_of, next_segment}
+use Rattle.path_core.specs.Keys.{
+  MovesLog,
+  claimed_size,
+  entry_end,
+  ordinal_of,
+  offset_of,
+  next_segment,
+}
 
 -- a claim that leads to a key, where that is where an entry of its size ends
 moves_by : (capacity ordinals key to bytes : ℕ) → claimed_size key to ≡ bytes → 30 ≤ bytes

@@ -1,5 +1,5 @@
 //! A seat whose write has claimed its range of the log.
-ghost use Rattle.std.specs.Prelude.{◌≡◌, [], ◌∷◌, Some};
+ghost use Rattle.std.specs.Prelude.{◌≡◌, ◌^◌, ◌≤◌, [], ◌∷◌, length, Some};
 ghost use Rattle.path_rule.specs.declared.slot.Slot.TheVariants.{Notes};
 ghost use Rattle.path_rule.specs.Boxes.{box_of};
 
@@ -25,4 +25,5 @@ pub struct Claimed<K> {
         ≡ Some (record { start = start.0; end = end.0 }) },
     pub ghost carries: { member.seat.me.1
         ≡ (box_of member.number group, Notes member.seat.me.0.hands.notes) ∷ [] },
+    pub ghost few: { length member.seat.me.0.hands.notes ≤ 2 ^ 62 },
 }

@@ -5,6 +5,8 @@
 mod allocating;
 mod claimed;
 mod claiming;
+mod deposited;
+mod depositing;
 mod entry;
 mod fault;
 mod laws;
@@ -13,6 +15,7 @@ mod seats;
 
 pub use claimed::Claimed;
 pub use claiming::TryClaim;
+pub use deposited::Deposited;
 pub use fault::PrepareFault;
 pub use laws::note_laws;
 pub use path_rule::{Begun, PathSeat, Seen};

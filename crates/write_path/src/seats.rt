@@ -3,7 +3,19 @@
 //!
 //!     PathSeat ── try_start ──▶ Begun ── try_append ──▶ Appending
 //!              ◀──── stop ────        ◀── stop_append ──
-ghost use Rattle.std.specs.Prelude.{◌≡◌, ℕ, ◌<◌, [], ◌∷◌, Some, None, MatchResult};
+ghost use Rattle.std.specs.Prelude.{
+  ◌≡◌,
+  ℕ,
+  ◌^◌,
+  ◌<◌,
+  ◌≤◌,
+  [],
+  ◌∷◌,
+  length,
+  Some,
+  None,
+  MatchResult,
+};
 ghost use Rattle.op_core.specs.declared.count.Order.TheVariants.{Write, Append};
 ghost use Rattle.path_core.specs.declared.event.Carried.TheVariants.{Nothing};
 ghost use Rattle.path_core.specs.declared.event.Event.TheVariants.{Close};
@@ -44,6 +56,7 @@ pub struct Appending<K> {
     pub ghost free: { HoldsNoTurn member.seat.me.0.part },
     pub ghost carries: { member.seat.me.1
         ≡ (box_of member.number group, Notes member.seat.me.0.hands.notes) ∷ [] },
+    pub ghost few: { length member.seat.me.0.hands.notes ≤ 2 ^ 62 },
 }
 
 impl<K: Keeper, A: Allocator> WritePath<K, A> {

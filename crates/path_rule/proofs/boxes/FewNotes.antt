@@ -90,7 +90,7 @@ pub few_kept : {K : Type 0} (shows : K → Lasting) (seats : ℕ) (x : PathState
     → (lasting : Lasting) (claims : List Claim) (append : OrderGroups)
     (homes : List (maybe.Option (Slot K))) (views : List View)
     (B : Boxed shows seats x.notes lasting claims append homes views) (b : ℕ)
-    → length B.pending + length (B.contents b) < 2 ^ 63
+    → length B.pending + length (B.contents b) ≤ 2 ^ 62
 few_kept shows seats x L lasting claims append homes views B b =
     let f = few (suc x.log) (B.pending ++ B.contents b) once low in
     let a = length-append B.pending (B.contents b) in let s = log_small x L in omega arith

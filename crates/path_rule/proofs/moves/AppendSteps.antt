@@ -26,6 +26,7 @@ use Rattle.std.proofs.Common.{
   subst,
   ⊎_elim,
   arith,
+  length,
 }
 use Rattle.std.specs.Prelude.{slice_index, IsSome}
 use mathlib.Core.Logic.{inl}
@@ -60,6 +61,7 @@ use Rattle.path_rule.specs.Lasts.{shown}
 use Rattle.path_rule.specs.Layout.{tally_word}
 use Rattle.path_rule.specs.Rule.{Knows, Ruled, view_after, with_hands}
 use Rattle.path_rule.specs.Told.{Took, Joined, Withdrew, MadeAs, Made}
+use Rattle.path_rule.proofs.boxes.FewNotes.{few_kept}
 use Rattle.path_rule.proofs.boxes.HeldBoxes.{boxed_take, boxed_give}
 use Rattle.path_rule.proofs.moves.Looks.{
   Owes,
@@ -162,6 +164,10 @@ module _ {K : Type 0} (shows : K → Lasting) (size : PathSize) (slots id : ℕ)
       let rows = rows_stay x e may (λ q. q) r.rows in
       let home = r.boxed.at_home box (own_low s r there g)
       (own_free s r there g outside under more.0) in
+      let few : length ns ≤ 2 ^ 62 = (let f = few_kept shows size.seats x (core_lawful shows size s
+      r)
+      (shown r.kept_to x)
+      x.claims x.append s.homes s.views r.boxed box in omega arith) in
       let C = columns_now shows size s r id w m.0 there mine e refl may tt fits rows (k + 1)
       (k + 1) false h now refl in (
         v',
@@ -179,7 +185,7 @@ module _ {K : Type 0} (shows : K → Lasting) (size : PathSize) (slots id : ℕ)
             × (n ≢ k → Made z (Look z (Count Append q)) n m (v', (box, home.0) ∷ m.1))) (
               (λ _. (
                 (ns, (refl, was shows size s r id w m.0 there mine e may tt)),
-                (home.0, refl, home.2.notes (omega arith)),
+                (home.0, refl, home.2.notes (omega arith), few),
               )),
               (λ miss. absurd (miss hit)),
             ) z q role

@@ -9,6 +9,7 @@ use Rattle.std.proofs.Common.{
   ◌%◌,
   ◌^◌,
   ◌<◌,
+  ◌≤◌,
   false,
   List,
   [],
@@ -177,7 +178,7 @@ module _ {K : Type 0} (shows : K → Lasting) (size : PathSize) (slots id : ℕ)
       let h = with_taken (Some box) ns m.0.hands in
       let v' = view_after (with_hands h m.0) e n false in
       let home = r.boxed.at_home box (omega arith) (other_free s r there held k empty passed) in
-      let few = subst (λ (l : List EntryNote). length l + length ns < 2 ^ 63)
+      let few = subst (λ (l : List EntryNote). length l + length ns ≤ 2 ^ 62)
       (sym ((hands_now shows size slots id m w mine s r there).desk held).1)
       (few_kept shows size.seats x (core_lawful shows size s r) (shown r.kept_to x) x.claims
       x.append s.homes s.views r.boxed box) in
@@ -199,14 +200,14 @@ module _ {K : Type 0} (shows : K → Lasting) (size : PathSize) (slots id : ℕ)
             (with_taken (Some (box_of k (suc d))) taken m.0.hands) m.0 v')
             × ((y : Slot K) × ((box, home.0) ∷ m.1 ≡ (box_of k (suc d), y) ∷ m.1)
             × NotesAre y v'.hands.taken
-            × (length v'.hands.pending + length v'.hands.taken < 2 ^ 63)))
+            × (length v'.hands.pending + length v'.hands.taken ≤ 2 ^ 62)))
             × (n ≢ d → Made z (Look z (Oldest Append)) n m (v', (box, home.0) ∷ m.1)))
             (subst (λ q. (n ≡ q → ((taken : List EntryNote)
             × MadeAs w (Look w (Oldest Append)) n
             (with_taken (Some (box_of k (suc q))) taken m.0.hands) m.0 v')
             × ((y : Slot K) × ((box, home.0) ∷ m.1 ≡ (box_of k (suc q), y) ∷ m.1)
             × NotesAre y v'.hands.taken
-            × (length v'.hands.pending + length v'.hands.taken < 2 ^ 63)))
+            × (length v'.hands.pending + length v'.hands.taken ≤ 2 ^ 62)))
             × (n ≢ q → Made w (Look w (Oldest Append)) n m (v', (box, home.0) ∷ m.1))) (sym now) (
               (λ _. (
                 (ns, (refl, did.1)),
@@ -222,7 +223,7 @@ module _ {K : Type 0} (shows : K → Lasting) (size : PathSize) (slots id : ℕ)
       × MadeAs z (Look z (Oldest Append)) n
       (with_taken (Some (box_of k (suc d))) taken m.0.hands) m.0 v')
       × ((y : Slot K) × (m.1 ≡ (box_of k (suc d), y) ∷ m.1) × NotesAre y v'.hands.taken
-      × (length v'.hands.pending + length v'.hands.taken < 2 ^ 63)))
+      × (length v'.hands.pending + length v'.hands.taken ≤ 2 ^ 62)))
       × (n ≢ d → Made z (Look z (Oldest Append)) n m (v', m.1)))
       ((λ hit. absurd (miss hit)), (λ _. made))))
     where

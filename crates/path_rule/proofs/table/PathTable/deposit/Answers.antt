@@ -1,33 +1,32 @@
 use Rattle.std.proofs.Common.{refl, ap, ◌∙◌, arith}
 use Rattle.atomic_table.specs.Table.{rest}
 use Rattle.path_rule.specs.declared.view.View.{View}
-use Rattle.path_rule.proofs.moves.DepositSteps.{deposits}
 use Rattle.path_rule.specs.Lasts.{shows_of}
+use Rattle.path_rule.proofs.moves.DepositSteps.{deposits}
 use Rattle.path_rule.proofs.table.PathTable.deposit.Goals as goal
 
 pub fetch_sub-requires : goal.fetch_sub-requires
 fetch_sub-requires g c = let t = c.args.self.now in let m = c.args.member.now in
-    let k = t.table.shared.key in let wide = t.wide in let f = c.requires.group.0 in (
+    let k = t.table.shared.key in let wide = t.wide in let f = c.requires.group.0 in
+    let n = c.requires.note in (
       c.requires.table.0,
       omega arith,
       deposits (shows_of g.K.Keeper.holds) k t.table.shared.table_id.slots
-          m.seat.id m.seat.me m.number m.role c.args.group c.args.note.now
-          (rest m.seat.me.1) c.requires.group.1 c.requires.group.2 c.requires.note.0
-          c.requires.note.1
-          c.requires.note.2 c.requires.box_kept c.requires.group.0,
+          m.seat.id m.seat.me m.number m.role c.args.group n.0
+          (rest m.seat.me.1) c.requires.group.1 n.1 n.2 n.3 n.4 n.5 c.requires.group.0,
     )
 
 pub invariant_of-member : goal.invariant_of-member
-invariant_of-member g c = let m = c.args.member.now in
-    let d = c.fetch_sub.ensures.2 m.number c.args.group c.args.note.now m.role c.requires.group.0
-    refl c.requires.box_kept in record { role = ap (λ (v : View). v.role) d.0.0 ∙ m.role }
+invariant_of-member g c = let m = c.args.member.now in let n = c.requires.note in
+    let d = c.fetch_sub.ensures.2 m.number c.args.group n.0 m.role c.requires.group.0
+    refl n.5 in record { role = ap (λ (v : View). v.role) d.0.0 ∙ m.role }
 
 pub returns-clause-same : goal.returns-clause-same
-returns-clause-same g c = let m = c.args.member.now in
-    let d = c.fetch_sub.ensures.2 m.number c.args.group c.args.note.now m.role c.requires.group.0
-    refl c.requires.box_kept in (c.fetch_sub.ensures.0, refl, d.1)
+returns-clause-same g c = let m = c.args.member.now in let n = c.requires.note in
+    let d = c.fetch_sub.ensures.2 m.number c.args.group n.0 m.role c.requires.group.0
+    refl n.5 in (c.fetch_sub.ensures.0, refl, d.1)
 
 pub returns-clause-step : goal.returns-clause-step
 returns-clause-step g c = let m = c.args.member.now in
-    let d = c.fetch_sub.ensures.2 m.number c.args.group c.args.note.now m.role c.requires.group.0
-    refl c.requires.box_kept in record { view = d.0.0; was = d.0.1 }
+    λ note has. let d = c.fetch_sub.ensures.2 m.number c.args.group note m.role
+    c.requires.group.0 refl has in record { view = d.0.0; was = d.0.1 }

@@ -1,4 +1,21 @@
-use Rattle.std.proofs.Common.{◌-◌, ℕ, [], ◌∷◌, Option, Some, false, refl, sym, ap, ◌∙◌, subst, arith}
+use Rattle.std.proofs.Common.{
+  ◌-◌,
+  ℕ,
+  ◌^◌,
+  ◌≤◌,
+  [],
+  ◌∷◌,
+  length,
+  Option,
+  Some,
+  false,
+  refl,
+  sym,
+  ap,
+  ◌∙◌,
+  subst,
+  arith,
+}
 use Rattle.path_core.specs.declared.event.ClaimKind.TheVariants.{Entry}
 use Rattle.path_core.specs.declared.event.Event.TheVariants.{Look, Claim}
 use Rattle.path_core.specs.declared.event.Place.TheVariants.{Log}
@@ -26,6 +43,7 @@ invariant_of-seat g c =
         box_of (sym L.same.1 i) s.group,
         Notes (sym (ap (λ (v : View). v.hands.notes) L.step.view) i),
       ) ∷ []));
+      few = subst (λ (v : View). length v.hands.notes ≤ 2 ^ 62) (sym L.step.view) s.few;
     }
 
 pub invariant_of-seat-else-found-looked : goal.invariant_of-seat-else-found-looked
@@ -52,6 +70,8 @@ invariant_of-seat-else-found-looked g c =
         Notes (sym (ap (λ (v : View). v.hands.notes) D.view
             ∙ ap (λ (v : View). v.hands.notes) L.step.view) i),
       ) ∷ [])));
+      few = subst (λ (v : View). length v.hands.notes ≤ 2 ^ 62) (sym D.view)
+          (subst (λ (v : View). length v.hands.notes ≤ 2 ^ 62) (sym L.step.view) s.few);
     }
 
 pub invariant_of-result : goal.invariant_of-result
@@ -71,6 +91,8 @@ invariant_of-result g c =
         Notes (sym (ap (λ (v : View). v.hands.notes) D.view
             ∙ ap (λ (v : View). v.hands.notes) L.step.view) i),
       ) ∷ [])));
+      few = subst (λ (v : View). length v.hands.notes ≤ 2 ^ 62) (sym D.view)
+          (subst (λ (v : View). length v.hands.notes ≤ 2 ^ 62) (sym L.step.view) s.few);
     }
 
 pub returns-then-found-looked-clause-step : goal.returns-then-found-looked-clause-step

@@ -1,0 +1,164 @@
+use Rattle.std.proofs.Common.{
+  ◌≡◌,
+  ℕ,
+  ◌+◌,
+  ◌*◌,
+  ◌%◌,
+  ◌^◌,
+  ◌<◌,
+  List,
+  [],
+  ◌∷◌,
+  ◌++◌,
+  length,
+  get_or,
+  Some,
+  is_some,
+  refl,
+  sym,
+  ap,
+  ◌∙◌,
+  subst,
+  arith,
+}
+use Rattle.atomic_table.specs.Table.{rest}
+use Rattle.op_core.specs.declared.count.Order.TheVariants.{Append}
+use Rattle.path_core.specs.declared.event.Carried.TheVariants.{Deposit}
+use Rattle.path_core.specs.declared.event.Event.TheVariants.{Close}
+use Rattle.path_core.specs.declared.note.EntryNote.{EntryNote}
+use Rattle.path_rule.specs.declared.slot.Slot.{Slot}
+use Rattle.path_rule.specs.declared.slot.Slot.TheVariants.{Notes}
+use Rattle.path_rule.specs.declared.view.View.{View}
+use Rattle.path_rule.specs.Boxes.{box_of}
+use Rattle.path_rule.specs.Calls.{Did}
+use Rattle.write_path.specs.Writes.{IsNoteOf}
+use Rattle.write_path.proofs.BoxKept.{carries_notes}
+use Rattle.write_path.proofs.NoteLaws.{is_depositable}
+use Rattle.write_path.proofs.seats.WritePath.deposit.Goals as goal
+
+pub put_notes-member-requires-clause-kept : goal.put_notes-member-requires-clause-kept
+put_notes-member-requires-clause-kept g c =
+    let s = c.args.seat in
+    let at : 1 + 2 * c.from.result + s.group % 2 ≡ box_of s.member.number s.group =
+    ap (λ (n : ℕ). 1 + 2 * n + s.group % 2) (c.from.ensures ∙ c.number-number.ensures) in
+    carries_notes (1 + 2 * c.from.result + s.group % 2) s.member.seat.me
+    (s.carries ∙ ap (λ (n : ℕ). (n, Notes s.member.seat.me.0.hands.notes) ∷ []) (sym at))
+
+pub put_notes-member-requires-clause-few : goal.put_notes-member-requires-clause-few
+put_notes-member-requires-clause-few g c =
+    let P = c.requires.prepared in
+    let C = c.claimed.ensures P.0 P.1 P.2 P.3 in
+    let one = ap (λ (l : List EntryNote). length l) C.prepared.one in
+    let few = c.args.seat.few in omega arith
+
+pub deposit-found-requires-clause-note : goal.deposit-found-requires-clause-note
+deposit-found-requires-clause-note g c =
+    let P = c.requires.prepared in
+    let C = c.claimed.ensures P.0 P.1 P.2 P.3 in
+    let s = c.args.seat in
+    let at : 1 + 2 * c.from.result + s.group % 2 ≡ box_of s.member.number s.group =
+    ap (λ (n : ℕ). 1 + 2 * n + s.group % 2) (c.from.ensures ∙ c.number-number.ensures) in
+    let V = c.put_notes-member.ensures.same.1 in
+    let same = c.put_notes-member.ensures.same.0.1 in
+    let kept = c.put_notes-member.ensures.kept in
+    let has = kept ∙ (λ i. (
+      (at ∙ ap (λ (n : ℕ). box_of n s.group) (sym same)) i,
+      Notes ((sym (ap (λ (v : View). v.hands.notes) V)) i ++ C.prepared.one i),
+    ) ∷ (sym (ap (λ (l : List (ℕ × Slot g.row.K.Denot)). rest l) kept)) i) in
+    let ready = is_depositable P.0 P.1 c.args.seat.start.0 c.number-number.result P.2
+    c.claimed.new.self C in (
+      C.prepared.note,
+      ap (λ (v : View). v.part.claim) V ∙ (s.claims
+          ∙ (λ i. Some (record { start = sym C.begins i; end = sym (C.ends ∙ P.4) i }))),
+      C.by ∙ (c.number-number.ensures ∙ sym same),
+      subst (λ (t : ℕ). C.prepared.note.tables < 2 ^ t)
+          (P.5 ∙ sym (ap (λ (v : View). v.size.tables) V
+          ∙ ap (λ z. z.tables) c.requires.table.1)) ready.below,
+      ready.whole,
+      has,
+    )
+
+pub invariant_of-seat : goal.invariant_of-seat
+invariant_of-seat g c =
+    let P = c.requires.prepared in
+    let C = c.claimed.ensures P.0 P.1 P.2 P.3 in
+    let s = c.args.seat in
+    let at : 1 + 2 * c.from.result + s.group % 2 ≡ box_of s.member.number s.group =
+    ap (λ (n : ℕ). 1 + 2 * n + s.group % 2) (c.from.ensures ∙ c.number-number.ensures) in
+    let V = c.put_notes-member.ensures.same.1 in
+    let same = c.put_notes-member.ensures.same.0.1 in
+    let kept = c.put_notes-member.ensures.kept in
+    let has = kept ∙ (λ i. (
+      (at ∙ ap (λ (n : ℕ). box_of n s.group) (sym same)) i,
+      Notes ((sym (ap (λ (v : View). v.hands.notes) V)) i ++ C.prepared.one i),
+    ) ∷ (sym (ap (λ (l : List (ℕ × Slot g.row.K.Denot)). rest l) kept)) i) in
+    let d = c.deposit-found.ensures.step C.prepared.note has in record {
+      writes = ap (λ (v : View). v.part.write) d.view
+          ∙ (ap (λ (v : View). v.part.write) V ∙ s.writes);
+      left = ap (λ (v : View). v.part.append) d.view;
+      claims = ap (λ (v : View). v.part.claim) d.view
+          ∙ (ap (λ (v : View). v.part.claim) V ∙ s.claims);
+      noted = ap (λ (v : View). is_some v.part.note) d.view;
+      bare = c.deposit-found.ensures.same.2
+          ∙ (ap (λ (l : List (ℕ × Slot g.row.K.Denot)). rest l) kept
+          ∙ ap (λ (l : List (ℕ × Slot g.row.K.Denot)). rest l) s.carries);
+    }
+
+pub returns-clause-same : goal.returns-clause-same
+returns-clause-same g c =
+    let P = c.requires.prepared in
+    let C = c.claimed.ensures P.0 P.1 P.2 P.3 in
+    let s = c.args.seat in
+    let at : 1 + 2 * c.from.result + s.group % 2 ≡ box_of s.member.number s.group =
+    ap (λ (n : ℕ). 1 + 2 * n + s.group % 2) (c.from.ensures ∙ c.number-number.ensures) in
+    let V = c.put_notes-member.ensures.same.1 in
+    let same = c.put_notes-member.ensures.same.0.1 in
+    let kept = c.put_notes-member.ensures.kept in
+    let has = kept ∙ (λ i. (
+      (at ∙ ap (λ (n : ℕ). box_of n s.group) (sym same)) i,
+      Notes ((sym (ap (λ (v : View). v.hands.notes) V)) i ++ C.prepared.one i),
+    ) ∷ (sym (ap (λ (l : List (ℕ × Slot g.row.K.Denot)). rest l) kept)) i) in
+    let d = c.deposit-found.ensures.step C.prepared.note has in
+    let put = c.deposit-found.ensures.same in (
+      (
+        (
+          put.0 ∙ (c.put_notes-member.ensures.same.0.0 ∙ c.requires.table.0),
+          ap (λ (v : View). v.size) d.view ∙ (ap (λ (v : View). v.size) V ∙ c.requires.table.1),
+        ),
+        put.1 ∙ same,
+      ),
+      refl,
+      refl,
+    )
+
+pub returns-clause-mutation : goal.returns-clause-mutation
+returns-clause-mutation g c =
+    let P = c.requires.prepared in
+    let C = c.claimed.ensures P.0 P.1 P.2 P.3 in
+    C.prepared.mutation ∙ sym P.3.mutation
+
+pub returns-clause-step : goal.returns-clause-step
+returns-clause-step g c =
+    let P = c.requires.prepared in
+    let C = c.claimed.ensures P.0 P.1 P.2 P.3 in
+    let s = c.args.seat in
+    let at : 1 + 2 * c.from.result + s.group % 2 ≡ box_of s.member.number s.group =
+    ap (λ (n : ℕ). 1 + 2 * n + s.group % 2) (c.from.ensures ∙ c.number-number.ensures) in
+    let V = c.put_notes-member.ensures.same.1 in
+    let same = c.put_notes-member.ensures.same.0.1 in
+    let kept = c.put_notes-member.ensures.kept in
+    let has = kept ∙ (λ i. (
+      (at ∙ ap (λ (n : ℕ). box_of n s.group) (sym same)) i,
+      Notes ((sym (ap (λ (v : View). v.hands.notes) V)) i ++ C.prepared.one i),
+    ) ∷ (sym (ap (λ (l : List (ℕ × Slot g.row.K.Denot)). rest l) kept)) i) in
+    let d = c.deposit-found.ensures.step C.prepared.note has in (
+      C.prepared.note,
+      c.deposit-found.result,
+      subst (λ (q : View × ℕ). Did q.0 q.1 (Close q.1 Append s.group (Deposit C.prepared.note))
+          c.deposit-found.result c.deposit-found.new.member.seat.me.0)
+          (λ i. (V i, same i)) d,
+      (λ sizes line m ready. let D = c.claimed.ensures sizes line m ready in
+          subst (λ (n : EntryNote). IsNoteOf line m n)
+          (ap (λ (l : List EntryNote). get_or l 0 C.prepared.note)
+          (sym D.prepared.one ∙ C.prepared.one)) D.prepared.of),
+    )

@@ -1,0 +1,25 @@
+//! A seat whose entry is deposited: what is left of its write is to apply it.
+ghost use Rattle.std.specs.Prelude.{◌≡◌, [], Some, None, is_some, IsTrue};
+
+use clog_base::Key;
+use path_rule::Member;
+
+/// A seat that has deposited its entry and left the append order. It is in a group of the write
+/// order, and has no box.
+#[derive(Drop)]
+pub struct Deposited<K> {
+    /// The seat.
+    pub member: Member<K>,
+    /// The group of the write order.
+    pub writing: u64,
+    /// Where its range begins.
+    pub start: Key,
+    /// Where it ends.
+    pub end: Key,
+    pub ghost writes: { member.seat.me.0.part.write ≡ Some writing },
+    pub ghost left: { member.seat.me.0.part.append ≡ None },
+    pub ghost claims: { member.seat.me.0.part.claim
+        ≡ Some (record { start = start.0; end = end.0 }) },
+    pub ghost noted: { IsTrue (is_some member.seat.me.0.part.note) },
+    pub ghost bare: { member.seat.me.1 ≡ [] },
+}

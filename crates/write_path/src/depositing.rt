@@ -1,0 +1,59 @@
+//! A write deposits its entry, by one try that is never refused and takes no memory.
+ghost use Rattle.std.specs.Prelude.{◌≡◌, ℕ, ◌+◌, ◌<◌};
+ghost use Rattle.clog_base.specs.declared.sizes.Sizes.{Sizes};
+ghost use Rattle.clog_mutation.specs.declared.mutation.Mutation.{Mutation};
+ghost use Rattle.op_core.specs.declared.count.Order.TheVariants.{Append};
+ghost use Rattle.path_core.specs.declared.event.Carried.TheVariants.{Deposit};
+ghost use Rattle.path_core.specs.declared.event.Event.TheVariants.{Close};
+ghost use Rattle.path_core.specs.declared.note.EntryNote.{EntryNote};
+ghost use Rattle.path_rule.specs.Members.{IsOf, Stepped};
+ghost use Rattle.write_path.specs.Tries.{Stays};
+ghost use Rattle.write_path.specs.Writes.{entry_size, IsPrepared, IsNoteOf};
+
+use crate::claimed::Claimed;
+use crate::deposited::Deposited;
+use crate::prepared::Prepared;
+use crate::seats::WritePath;
+use clog_base::Writer;
+use path_core::Keeper;
+use std::alloc::Allocator;
+
+impl<K: Keeper, A: Allocator> WritePath<K, A> {
+    /// Puts the entry of a write into the seat's box, at the range that it claimed, and leaves the
+    /// append order with it. The prepared write that comes back has its updates still.
+    pub fn deposit(&self, seat: Claimed<K>, prepared: Prepared) -> (Deposited<K>, Prepared)
+        requires table { IsOf self.now.table.table.shared.table_id self.now.table.size seat.member }
+        requires group { seat.group < 65536 }
+        requires prepared { (sizes : Sizes) × (line : ℕ) × (m : Mutation)
+            × IsPrepared sizes line m prepared × (seat.start.0 + entry_size m ≡ seat.end.0)
+            × (sizes.tables ≡ self.now.table.size.tables) }
+        ensures same { Stays self.now.table.table.shared.table_id self.now.table.size seat.member
+            result.0.member × (result.0.writing ≡ seat.writing) × (result.0.end ≡ seat.end) }
+        ensures mutation { result.1.mutation ≡ prepared.mutation }
+        ensures step { (note : EntryNote) × (n : ℕ) × Stepped seat.member
+            (Close seat.member.number Append seat.group (Deposit note)) n result.0.member
+            × ((sizes : Sizes) (line : ℕ) (m : Mutation) → IsPrepared sizes line m prepared
+            → IsNoteOf line m note) }
+    {
+        let Claimed {
+            member,
+            writing,
+            group,
+            start,
+            end,
+        } = seat;
+        let mut prepared = prepared;
+        let number = member.number();
+        prepared.claimed(start, Writer(number));
+        let own = 1 + 2 * usize::from(number) + (group % 2) as usize;
+        let mut member = self.table.put_notes(member, own, &mut prepared.notes);
+        let _found = self.table.deposit(&mut member, group);
+        let seat = Deposited {
+            member,
+            writing,
+            start,
+            end,
+        };
+        (seat, prepared)
+    }
+}
