@@ -13,6 +13,8 @@ mod recovery_files;
 mod sections;
 mod segments;
 mod store;
+#[cfg(test)]
+mod tests;
 
 pub use changing::{put_table, take_away};
 pub use next::write_section;

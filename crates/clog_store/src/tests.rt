@@ -1,0 +1,52 @@
+//! The example segment of the formats is recovered. Its bytes, and those of the table file, were
+//! worked out by hand and by Python's struct and zlib.
+use crate::recover;
+use clog_base::{Table, segment_name, table_name};
+use clog_disk::{Disk, MemDisk};
+use clog_folder::OpenFault;
+use clog_scan::Cause;
+use std::test::Fail;
+
+// Segment 1000 with one entry, from 28 to 60: the deletion of key `ab` and column `cd` in table 0.
+const SEGMENT: [u8; 60] = [
+    0x00, 0x00, 0x00, 0x06, 0x00, 0x00, 0x00, 0x00, 0x00, 0x00, 0x03, 0xe8, 0x00, 0x02, 0x7b, 0x7d,
+    0x4e, 0x72, 0xf2, 0x7f, 0x00, 0x00, 0x00, 0x3c, 0x0b, 0xd6, 0x8a, 0xe2, 0x00, 0x00, 0x00, 0x14,
+    0x3b, 0x9e, 0x0b, 0x61, 0x00, 0x02, 0x61, 0x62, 0x00, 0x01, 0x00, 0x00, 0x02, 0x63, 0x64, 0x00,
+    0x00, 0x00, 0x00, 0x00, 0x00, 0x00, 0x05, 0x00, 0x18, 0xa5, 0x86, 0xff,
+];
+
+// The file of table 0 with the same cell, over (0, 0) to (1000, 60).
+const TABLE: [u8; 58] = [
+    0x00, 0x00, 0x00, 0x01, 0x00, 0x00, 0x00, 0x00, 0x00, 0x00, 0x00, 0x00, 0x00, 0x00, 0x00, 0x00,
+    0x00, 0x00, 0x00, 0x00, 0x00, 0x00, 0x00, 0x03, 0xe8, 0x00, 0x00, 0x00, 0x3c, 0x00, 0x00, 0x00,
+    0x01, 0x3f, 0x13, 0x24, 0x64, 0x00, 0x02, 0x61, 0x62, 0x00, 0x02, 0x63, 0x64, 0x00, 0x00, 0x00,
+    0x00, 0x00, 0x00, 0x00, 0x05, 0x00, 0x58, 0x4f, 0x3f, 0xb8,
+];
+
+#[test]
+fn a_segment_becomes_a_table_file(rt: HostRuntime) -> Result<(), Fail> {
+    let mut disk = MemDisk::new(rt.alloc());
+    disk.publish(&segment_name(1000), &SEGMENT)?;
+    // The base is the moment, or one more than the segment's id.
+    assert_eq!(rt; recover(rt.alloc(), &mut disk, 1000).ok(), Some(1001));
+    let names = disk.list()?;
+    assert_eq!(rt; names.as_slice(), [table_name(Table(0), 1)].as_slice());
+    let bytes = disk.read(&table_name(Table(0), 1), 0, 100)?;
+    assert_eq!(rt; bytes.as_slice(), TABLE.as_slice());
+    // What is recovered once stays so.
+    assert_eq!(rt; recover(rt.alloc(), &mut disk, 5000).ok(), Some(5000));
+    assert_eq!(rt; disk.list()?.len(), 1);
+    Ok(())
+}
+
+#[test]
+fn a_damaged_folder_is_left_alone(rt: HostRuntime) -> Result<(), Fail> {
+    let mut disk = MemDisk::new(rt.alloc());
+    // The last byte of the segment is cut, so that its marker points behind it.
+    disk.publish(&segment_name(1000), &SEGMENT[..59])?;
+    disk.publish(&segment_name(1001), &[])?;
+    let damage = OpenFault::Damaged(segment_name(1000), 20, Cause::MarkerTarget(60));
+    assert_eq!(rt; recover(rt.alloc(), &mut disk, 1000).err(), Some(damage));
+    assert_eq!(rt; disk.list()?.len(), 2);
+    Ok(())
+}
