@@ -10,12 +10,12 @@ use Rattle.std.proofs.Common.{
   ◌∷◌,
   ◌++◌,
   length,
-  map,
   Bool,
   true,
   false,
   inl,
   inr,
+  refl,
   ap,
   Option,
   Some,
@@ -29,7 +29,7 @@ use Rattle.std.proofs.Common.{
   arith,
   Global,
 }
-use Rattle.std.specs.Prelude.{String, string_bytes, IfSome}
+use Rattle.std.specs.Prelude.{String, IfSome}
 use Rattle.std.specs.List.{flat_map, AllByRecursion}
 use Rattle.clog_spec.specs.Names.{segment_name_of}
 use Rattle.clog_spec.specs.Sizes.{front_size, greatest_capacity}
@@ -40,9 +40,11 @@ use Rattle.clog_text.specs.CellTexts.{row_line}
 use Rattle.clog_mutation.specs.declared.mutation.Mutation.{Mutation}
 use Rattle.clog_mutation.specs.Stored.{IsStored}
 use Rattle.clog_engine.specs.declared.status.Status.{Status}
+use Rattle.clog_engine.specs.declared.status.Status.TheVariants.{OutOfMemory}
 use Rattle.clog_engine.specs.declared.words.ApplyOptions.{ApplyOptions}
-use Rattle.clog_engine.specs.declared.words.Request.{Request}
-use Rattle.clog_engine.specs.declared.words.Request.TheVariants.{Apply}
+use Rattle.clog_words.specs.declared.built.Built.{Built}
+use Rattle.clog_words.specs.declared.built.Built.TheVariants.{Apply}
+use Rattle.clog_words.specs.Given.{texts}
 use Rattle.clog_engine.specs.Apply.{
   segment_of,
   Gains,
@@ -53,17 +55,17 @@ use Rattle.clog_engine.specs.Apply.{
   ApplyRefuses,
 }
 use Rattle.clog_engine.specs.Adds.{IsAddedAndTold, AddsFile, IsReported, Adds}
-use Rattle.clog_engine.specs.Answering.{Answers, Does, Prints, Reports}
+use Rattle.clog_engine.specs.Answering.{Answers, Does, DoesAsked, Prints, Reports}
 use Rattle.clog_engine.specs.Report.{report_of}
 use Rattle.clog_crash.specs.Folder.{TableRead, NamesId, IsBase, cells_of_tables}
 use Rattle.clog_engine.specs.Directory.{IsPlainDirectory}
 use Rattle.clog_engine.specs.Input.{entries_of}
 use Rattle.clog_engine.specs.Outside.{Outside, Sinks}
 use Rattle.clog_engine.specs.Report.{applied_line, IsReport}
-use Rattle.clog_engine.specs.Request.{Asks}
+use Rattle.clog_engine.specs.Request.{Asks, options_of}
 use Rattle.clog_crash.specs.Restore.{IsAdded}
 use Rattle.clog_engine.proofs.Restored.{with_segment, added_none, added_some, told_rows}
-use Rattle.clog_engine.proofs.WordsAsked.{one_request}
+use Rattle.clog_engine.proofs.WordsAsked.{one_asked}
 
 -- told files hold what they held, and the mutations are added and told
 abbrev AddsTo : Bool → Option Files → Option Files → List Mutation → List ℕ → Type 0
@@ -149,26 +151,40 @@ no_such_refusal n status refusal o same (inl is) refused =
 no_such_refusal n status refusal o same (inr is) refused =
     subst (λ (x : Status). ApplyRefuses n x o) (sym same ∙ is) refused
 
-outcome_adds : (options : ApplyOptions) (o : Outside) (s : Sinks) (status : Status)
-    (outcome : Result (List ℕ) Status) → options.capacity ≡ greatest_capacity
-    → Does (Some (Apply options)) o outcome → Prints outcome status s → IsReported status
-    → (report : List ℕ) × Reports report status s × ReadsToEnd o (AddsFile options.dump o report)
-outcome_adds options o s status (ok report) greatest done prints is =
-    (report, prints, (done.0, done.1, applied_adds o options report done.0 greatest done.2))
-outcome_adds options o s status (err refusal) greatest done prints is =
-    absurd (no_such_refusal options.capacity status refusal o prints.0 is done)
+outcome_adds : (dump : Bool) (o : Outside) (s : Sinks) (status : Status)
+    (outcome : Result (List ℕ) Status) → Does (Some (Apply dump)) o outcome
+    → Prints outcome status s → IsReported status
+    → (report : List ℕ) × Reports report status s × ReadsToEnd o (AddsFile dump o report)
+outcome_adds dump o s status (ok report) done prints is =
+    (report, prints, (done.0, done.1, applied_adds o (options_of dump) report done.0 refl done.2))
+outcome_adds dump o s status (err refusal) done prints is =
+    absurd (no_such_refusal greatest_capacity status refusal o prints.0 is done)
 
-asked_adds : (request : Option Request) (words : List (String Global)) (o : Outside) (s : Sinks)
+request_adds : (request : Option Built) (words : List (String Global)) (o : Outside) (s : Sinks)
     (status : Status) (outcome : Result (List ℕ) Status) → Asks words request
     → Does request o outcome → Prints outcome status s → Adds words o s status
-asked_adds None words o s status outcome asks done prints options says is =
-    absurd (asks (Apply options) says)
-asked_adds (Some other) words o s status outcome asks done prints options says is =
-    let same = one_request (map string_bytes words) other (Apply options) asks says in
-    outcome_adds options o s status outcome says.capacity
-    (subst (λ (r : Request). Does (Some r) o outcome) same done) prints is
+request_adds None words o s status outcome asks done prints dump says is =
+    absurd (asks (Apply dump) says)
+request_adds (Some other) words o s status outcome asks done prints dump says is =
+    let same = one_asked (texts words) other (Apply dump) asks says in
+    outcome_adds dump o s status outcome
+    (subst (λ (r : Built). Does (Some r) o outcome) same done) prints is
+
+not_reported : (o : Outside) (s : Sinks) (status : Status) (outcome : Result (List ℕ) Status)
+    → outcome ≡ err OutOfMemory → Prints outcome status s → IsReported status → ⊥
+not_reported o s status outcome none prints (inl is) =
+    let same = (subst (λ (r : Result (List ℕ) Status). Prints r status s) none prints).0 in cc
+not_reported o s status outcome none prints (inr is) =
+    let same = (subst (λ (r : Result (List ℕ) Status). Prints r status s) none prints).0 in cc
+
+asked_adds : (words : List (String Global)) (o : Outside) (s : Sinks) (status : Status)
+    (outcome : Result (List ℕ) Status) → DoesAsked words o outcome → Prints outcome status s
+    → Adds words o s status
+asked_adds words o s status outcome (inl done) prints =
+    request_adds done.request words o s status outcome done.asked done.done prints
+asked_adds words o s status outcome (inr none) prints =
+    λ dump says is. absurd (not_reported o s status outcome none.0 prints is)
 
 pub adds : (words : List (String Global)) (o : Outside) (s : Sinks) (status : Status)
     → Answers words o s status → Adds words o s status
-adds words o s status a =
-    asked_adds a.request words o s status a.outcome a.asked a.done a.printed
+adds words o s status a = asked_adds words o s status a.outcome a.done a.printed

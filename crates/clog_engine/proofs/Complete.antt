@@ -4,7 +4,6 @@ use Rattle.std.proofs.Common.{
   ℕ,
   List,
   length,
-  map,
   Option,
   Some,
   None,
@@ -21,9 +20,10 @@ use Rattle.std.proofs.Common.{
   arith,
   Global,
 }
-use Rattle.std.specs.Prelude.{String, string_bytes, IfSome}
+use Rattle.std.specs.Prelude.{Bool, false, String, IfSome}
 use Rattle.std.specs.FinMap as finmap
 use Rattle.clog_spec.specs.Names.{segment_name_of}
+use Rattle.clog_spec.specs.Sizes.{greatest_capacity}
 use Rattle.clog_base.specs.declared.fault.Quantity.TheVariants.{
   FileBytes,
   Lines,
@@ -49,14 +49,16 @@ use Rattle.clog_engine.specs.declared.status.Status.TheVariants.{
   Absent,
   NotBuilt,
 }
-use Rattle.clog_engine.specs.declared.words.Request.{Request}
-use Rattle.clog_engine.specs.declared.words.Request.TheVariants.{Apply, Scan}
+use Rattle.clog_words.specs.declared.built.Built.{Built}
+use Rattle.clog_words.specs.declared.built.Built.TheVariants.{Apply, Replay, Scan}
+use Rattle.clog_words.specs.Given.{texts}
 use Rattle.clog_engine.specs.Apply.{ApplyRefuses}
-use Rattle.clog_engine.specs.Answering.{Answers, Does, Prints, Reports}
+use Rattle.clog_engine.specs.Answering.{Answers, Does, DoesAsked, Prints, Reports}
 use Rattle.clog_engine.specs.Completes.{
   Tells,
   IsPlain,
   IsScannable,
+  IsReplayable,
   IsFit,
   IsQuiet,
   EndsWell,
@@ -65,9 +67,16 @@ use Rattle.clog_engine.specs.Completes.{
 use Rattle.clog_engine.specs.Input.{IsGood}
 use Rattle.clog_engine.specs.Outside.{Outside, Sinks}
 use Rattle.clog_engine.specs.Request.{Asks}
+use Rattle.clog_entry.specs.declared.cause.Cause.{Cause}
+use Rattle.clog_table.specs.declared.fault.TableFault.{TableFault}
+use Rattle.clog_crash.specs.Folder.{IsFirstBad}
+use Rattle.clog_crash.proofs.damage.BadTables.{good_has_none}
+use Rattle.clog_crash.proofs.damage.First.{undamaged_has_none}
+use Rattle.clog_folder.specs.Folder.{HasDamage, HasLongSegment}
 use Rattle.clog_folder.specs.Segments.{IsTooLong}
+use Rattle.clog_engine.specs.Replaying.{ReplayRefused}
 use Rattle.clog_engine.specs.Scanning.{ReadRefused}
-use Rattle.clog_engine.proofs.WordsAsked.{one_request}
+use Rattle.clog_engine.proofs.WordsAsked.{one_asked}
 use Rattle.clog_engine.proofs.GoodInput.{
   taken_good,
   good_is_no_bad_line,
@@ -158,10 +167,58 @@ scan_completes (Absent other) o s name there quiet refused =
     absurd (there_is_there o.files name there refused.1)
 scan_completes (NotBuilt what) o s name there quiet refused = absurd refused
 
-does_complete : (request : Request) (o : Outside) (s : Sinks) (status : Status) → IsFit request o
+-- ---- a folder that can be read is not refused
+
+no_damage : (ignore : Bool) (files : Option Files) (name : List ℕ) (at : ℕ) (cause : Cause)
+    → Told files (IsReplayable ignore) → ignore ≡ false
+    → IfSome files (λ held. HasDamage held name at cause) → ⊥
+no_damage ignore None name at cause fit strict damage = fit
+no_damage ignore (Some files) name at cause fit strict damage =
+    undamaged_has_none files name at cause fit.segments (fit.readable.undamaged strict)
+    damage.first.damage
+
+no_long_segment : (ignore : Bool) (files : Option Files) → Told files (IsReplayable ignore)
+    → IfSome files (λ held. HasLongSegment ignore held) → ⊥
+no_long_segment ignore None fit long = fit
+no_long_segment ignore (Some files) fit long =
+    fit.readable.short long.first.name long.first.id long.first.named long.first.long
+
+no_bad_table : (ignore : Bool) (files : Option Files) (name : List ℕ) (fault : TableFault)
+    → Told files (IsReplayable ignore) → IfSome files (λ held. IsFirstBad held name fault) → ⊥
+no_bad_table ignore None name fault fit bad = fit
+no_bad_table ignore (Some files) name fault fit bad =
+    good_has_none files name fault fit.readable.tables bad
+
+replay_completes : (ignore : Bool) (status : Status) (o : Outside) (s : Sinks)
+    → Told o.files (IsReplayable ignore) → IsQuiet o s
+    → ReplayRefused ignore o.files o.disk_faults o.disk_faults_now status → EndsWell status
+replay_completes ignore Ok o s fit quiet refused = absurd refused
+replay_completes ignore Usage o s fit quiet refused = absurd refused
+replay_completes ignore (BadLine number cause) o s fit quiet refused = absurd refused
+replay_completes ignore (TooLarge number size most) o s fit quiet refused = absurd refused
+replay_completes ignore ReadFault o s fit quiet refused = absurd refused
+replay_completes ignore WriteFault o s fit quiet refused = absurd refused
+replay_completes ignore DiskFault o s fit quiet refused = absurd (quiet.disk refused)
+replay_completes ignore (Damaged name at cause) o s fit quiet refused =
+    absurd (no_damage ignore o.files name at cause fit refused.0 refused.1)
+replay_completes ignore (BadTable name fault) o s fit quiet refused =
+    absurd (no_bad_table ignore o.files name fault fit refused)
+replay_completes ignore OutOfMemory o s fit quiet refused = inr refl
+replay_completes ignore (Limit FileBytes most) o s fit quiet refused = absurd refused
+replay_completes ignore (Limit Lines most) o s fit quiet refused = absurd refused
+replay_completes ignore (Limit SegmentBytes most) o s fit quiet refused =
+    absurd (no_long_segment ignore o.files fit refused.1)
+replay_completes ignore (Limit Ids most) o s fit quiet refused = absurd refused
+replay_completes ignore (Limit TableFiles most) o s fit quiet refused = absurd refused
+replay_completes ignore (Absent name) o s fit quiet refused = absurd refused
+replay_completes ignore (NotBuilt what) o s fit quiet refused = absurd refused
+
+does_complete : (request : Built) (o : Outside) (s : Sinks) (status : Status) → IsFit request o
     → IsQuiet o s → Does (Some request) o (err status) → EndsWell status
-does_complete (Apply options) o s status fit quiet done =
-    apply_completes options.capacity status o s fit.0 fit.1 quiet done
+does_complete (Apply dump) o s status fit quiet done =
+    apply_completes greatest_capacity status o s fit.0 fit.1 quiet done
+does_complete (Replay options) o s status fit quiet done =
+    replay_completes options.ignore_errors status o s fit quiet done.0
 does_complete (Scan id) o s status fit quiet done =
     scan_completes status o s (segment_name_of 6 id) fit quiet done.0
 
@@ -182,7 +239,7 @@ reports_complete report (Limit what most) o s quiet reports = absurd reports
 reports_complete report (Absent name) o s quiet reports = absurd reports
 reports_complete report (NotBuilt what) o s quiet reports = absurd reports
 
-outcome_completes : (request : Request) (o : Outside) (s : Sinks) (status : Status)
+outcome_completes : (request : Built) (o : Outside) (s : Sinks) (status : Status)
     (outcome : Result (List ℕ) Status) → IsFit request o → IsQuiet o s
     → Does (Some request) o outcome → Prints outcome status s → EndsWell status
 outcome_completes request o s status (ok report) fit quiet done prints =
@@ -190,17 +247,30 @@ outcome_completes request o s status (ok report) fit quiet done prints =
 outcome_completes request o s status (err refusal) fit quiet done prints =
     subst EndsWell (sym prints.0) (does_complete request o s refusal fit quiet done)
 
-asked_completes : (request : Option Request) (words : List (String Global)) (o : Outside)
+request_completes : (request : Option Built) (words : List (String Global)) (o : Outside)
     (s : Sinks) (status : Status) (outcome : Result (List ℕ) Status) → Asks words request
     → Does request o outcome → Prints outcome status s → Completes words o s status
-asked_completes None words o s status outcome asks done prints request says fit quiet =
+request_completes None words o s status outcome asks done prints request says fit quiet =
     absurd (asks request says)
-asked_completes (Some other) words o s status outcome asks done prints request says fit quiet =
-    let same = one_request (map string_bytes words) other request asks says in
+request_completes (Some other) words o s status outcome asks done prints request says fit quiet =
+    let same = one_asked (texts words) other request asks says in
     outcome_completes other o s status outcome
-    (subst (λ r. IsFit r o) (sym same) fit) quiet done prints
+    (subst (λ (r : Built). IsFit r o) (sym same) fit) quiet done prints
+
+no_words_complete : (o : Outside) (s : Sinks) (status : Status)
+    (outcome : Result (List ℕ) Status) → outcome ≡ err OutOfMemory → Prints outcome status s
+    → EndsWell status
+no_words_complete o s status outcome is prints =
+    inr ((subst (λ (r : Result (List ℕ) Status). Prints r status s) is prints).0)
+
+asked_completes : (words : List (String Global)) (o : Outside) (s : Sinks) (status : Status)
+    (outcome : Result (List ℕ) Status) → DoesAsked words o outcome → Prints outcome status s
+    → Completes words o s status
+asked_completes words o s status outcome (inl done) prints =
+    request_completes done.request words o s status outcome done.asked done.done prints
+asked_completes words o s status outcome (inr none) prints =
+    λ request says fit quiet. no_words_complete o s status outcome none.0 prints
 
 pub completes : (words : List (String Global)) (o : Outside) (s : Sinks) (status : Status)
     → Answers words o s status → Completes words o s status
-completes words o s status a =
-    asked_completes a.request words o s status a.outcome a.asked a.done a.printed
+completes words o s status a = asked_completes words o s status a.outcome a.done a.printed

@@ -11,6 +11,7 @@ pub mod Looked
 pub mod Merged
 pub mod PlainFolder
 pub mod Quiet
+pub mod Replays
 pub mod Restored
 pub mod ScanReports
 pub mod SegmentFiles
@@ -18,5 +19,4 @@ pub mod SegmentHeld
 pub mod StoredBytes
 pub mod TablesRead
 pub mod Told
-pub mod WordLists
 pub mod WordsAsked

@@ -1,6 +1,6 @@
 -- Faults of the disk are told, and what is refused before the listing calls no disk.
 use Rattle.std.proofs.Common.{◌≡◌, ℕ, List, Option, Result, Ok, Err, sym, subst, ◌∙◌}
-use Rattle.std.specs.Prelude.{◌≢◌}
+use Rattle.std.specs.Prelude.{Bool, ◌≢◌}
 use Rattle.clog_base.specs.declared.fault.Quantity.TheVariants.{
   FileBytes,
   Lines,
@@ -41,6 +41,7 @@ use Rattle.clog_engine.specs.Looking.{LookRefused}
 use Rattle.clog_engine.specs.Outside.{Sinks}
 use Rattle.clog_engine.specs.Quiet.{TellsFaults, TellsEach, IsBeforeDisk, IsRefusedBefore}
 use Rattle.clog_engine.specs.Answering.{Prints}
+use Rattle.clog_engine.specs.Replaying.{ReplayRefused}
 use Rattle.clog_engine.specs.Scanning.{ReadRefused}
 
 -- ---- faults are told
@@ -152,3 +153,25 @@ read_at files f g name (Limit TableFiles most) refused before = before
 read_at files f g name (Absent other) refused before = before
 read_at files f g name (NotBuilt Segment) refused before = refused
 read_at files f g name (NotBuilt Directory) refused before = before
+
+-- nor one that comes of replaying the folder
+pub replayed_at : (ignore : Bool) (files : Option Files) (f g : ℕ) (status : Status)
+    → ReplayRefused ignore files f g status → IsBeforeDisk status → ⊥
+replayed_at ignore files f g Good refused before = before
+replayed_at ignore files f g Usage refused before = refused
+replayed_at ignore files f g (BadLine number cause) refused before = refused
+replayed_at ignore files f g (TooLarge number size most) refused before = refused
+replayed_at ignore files f g ReadFault refused before = refused
+replayed_at ignore files f g WriteFault refused before = before
+replayed_at ignore files f g DiskFault refused before = before
+replayed_at ignore files f g (Damaged name at cause) refused before = before
+replayed_at ignore files f g (BadTable name fault) refused before = before
+replayed_at ignore files f g OutOfMemory refused before = before
+replayed_at ignore files f g (Limit FileBytes most) refused before = refused
+replayed_at ignore files f g (Limit Lines most) refused before = refused
+replayed_at ignore files f g (Limit SegmentBytes most) refused before = before
+replayed_at ignore files f g (Limit Ids most) refused before = before
+replayed_at ignore files f g (Limit TableFiles most) refused before = before
+replayed_at ignore files f g (Absent name) refused before = before
+replayed_at ignore files f g (NotBuilt Segment) refused before = refused
+replayed_at ignore files f g (NotBuilt Directory) refused before = before

@@ -1,61 +1,76 @@
--- Words ask for one thing.
-use Rattle.std.proofs.Common.{
-  ◌≡◌,
-  ℕ,
-  List,
-  [],
-  ◌∷◌,
-  length,
-  Bool,
-  true,
-  false,
-  refl,
-  sym,
-  ap,
-  ap₂,
-  subst,
-  ◌∙◌,
-  arith,
-  codes,
-}
-use Rattle.clog_spec.specs.Names.{segment_name_of}
+-- Words ask for one thing, and a number of workers is from 1 to 64.
+use Rattle.std.proofs.Common.{◌≡◌, ℕ, ◌≤◌, List, [], ◌∷◌, Option, Some, None, sym, ap, subst, ◌∙◌, arith, codes}
+use Rattle.clog_spec.specs.Names.{IsSegmentName}
 use Rattle.clog_base.proofs.NameLaws.{one_segment}
-use Rattle.clog_engine.specs.declared.words.Request.{Request}
-use Rattle.clog_engine.specs.declared.words.Request.TheVariants.{Apply, Scan}
-use Rattle.clog_engine.specs.Request.{Says, AsksScan, apply_words}
+use Rattle.clog_words.specs.declared.built.Built.{Built}
+use Rattle.clog_words.specs.declared.built.Built.TheVariants as built
+use Rattle.clog_words.specs.declared.request.ApplyOptions.{ApplyOptions}
+use Rattle.clog_words.specs.declared.request.ReplayOptions.{ReplayOptions}
+use Rattle.clog_words.specs.declared.request.Request.{Request}
+use Rattle.clog_words.specs.declared.request.Request.TheVariants.{Apply, Replay, Scan}
+use Rattle.clog_words.specs.Asks.{Asks, IsNumberOr}
+use Rattle.clog_words.specs.Built.{AsksBuilt, IsBuilt, plain_options}
+use Rattle.clog_words.specs.Given.{Setting, said}
+use Rattle.clog_words.proofs.OneRequest.{one_request}
 
-one_request_scan : (words : List (List ℕ)) (id id' : ℕ) → AsksScan words id → AsksScan words id'
-    → id ≡ id'
-one_request_scan words id id' a b =
-    let both : codes "scan" ∷ a.name ∷ [] ≡ codes "scan" ∷ b.name ∷ [] =
-    sym a.words_are ∙ b.words_are in
-    let same : a.name ≡ b.name = cc in
-    (one_segment b.name 6 id 6 id'
-    (subst (λ (n : List ℕ). Rattle.clog_spec.specs.Names.IsSegmentName n 6 id) same a.segment)
-    b.segment).1
+one_apply : (r : Request) (a b : ApplyOptions) → r ≡ Apply a → r ≡ Apply b → a ≡ b
+one_apply r a b p q = let same : Apply a ≡ Apply b = sym p ∙ q in cc
 
-abbrev first_length : List (List ℕ) → ℕ
-first_length [] = 0
-first_length (word ∷ words) = length word
+one_replay : (r : Request) (a b : ReplayOptions) → r ≡ Replay a → r ≡ Replay b → a ≡ b
+one_replay r a b p q = let same : Replay a ≡ Replay b = sym p ∙ q in cc
 
-two_words : (dump : Bool) (name : List ℕ) → apply_words dump ≡ codes "scan" ∷ name ∷ [] → ⊥
-two_words false name same = omega (arith, ap length same)
-two_words true name same = let five : 5 ≡ 4 = ap first_length same in omega (arith, five)
+one_scan : (r : Request) (a b : List ℕ) → r ≡ Scan a → r ≡ Scan b → a ≡ b
+one_scan r a b p q = let same : Scan a ≡ Scan b = sym p ∙ q in cc
 
-one_dump : (a b : Bool) → apply_words a ≡ apply_words b → a ≡ b
-one_dump false false same = refl
-one_dump true true same = refl
-one_dump false true same = absurd (omega (arith, ap length same))
-one_dump true false same = absurd (omega (arith, ap length same))
+-- a request asks for one thing
+one_built : (r : Request) (a b : Built) → IsBuilt r a → IsBuilt r b → a ≡ b
+one_built r (built.Apply d) (built.Apply d') p q =
+    ap (λ (o : ApplyOptions). built.Apply o.dump)
+    (one_apply r (plain_options d) (plain_options d') p q)
+one_built r (built.Apply d) (built.Replay o) p q =
+    let same : Apply (plain_options d) ≡ Replay o = sym p ∙ q in cc
+one_built r (built.Apply d) (built.Scan id) p q =
+    let same : Apply (plain_options d) ≡ Scan q.0 = sym p ∙ q.1 in cc
+one_built r (built.Replay o) (built.Apply d) p q =
+    let same : Replay o ≡ Apply (plain_options d) = sym p ∙ q in cc
+one_built r (built.Replay o) (built.Replay o') p q = ap built.Replay (one_replay r o o' p q)
+one_built r (built.Replay o) (built.Scan id) p q =
+    let same : Replay o ≡ Scan q.0 = sym p ∙ q.1 in cc
+one_built r (built.Scan id) (built.Apply d) p q =
+    let same : Scan p.0 ≡ Apply (plain_options d) = sym p.1 ∙ q in cc
+one_built r (built.Scan id) (built.Replay o) p q =
+    let same : Scan p.0 ≡ Replay o = sym p.1 ∙ q in cc
+one_built r (built.Scan id) (built.Scan id') p q =
+    let same = one_scan r p.0 q.0 p.1 q.1 in
+    ap built.Scan (one_segment q.0 6 id 6 id'
+    (subst (λ (n : List ℕ). IsSegmentName n 6 id) same p.2) q.2).1
 
 -- words do not ask for two things
-pub one_request : (words : List (List ℕ)) (a b : Request) → Says words a → Says words b → a ≡ b
-one_request words (Apply a) (Apply b) x y =
-    let dump = one_dump a.dump b.dump (sym x.words_are ∙ y.words_are) in
-    let capacity = x.capacity ∙ sym y.capacity in
-    ap₂ (λ n d. Apply (record { capacity = n; dump = d })) capacity dump
-one_request words (Apply a) (Scan id) x y =
-    absurd (two_words a.dump y.name (sym x.words_are ∙ y.words_are))
-one_request words (Scan id) (Apply b) x y =
-    absurd (two_words b.dump x.name (sym y.words_are ∙ x.words_are))
-one_request words (Scan id) (Scan id') x y = ap Scan (one_request_scan words id id' x y)
+pub one_asked : (words : List (List ℕ)) (a b : Built) → AsksBuilt words a → AsksBuilt words b
+    → a ≡ b
+one_asked words a b x y =
+    let same : x.request ≡ y.request = one_request words x.request y.request x.asks y.asks in
+    one_built y.request a b (subst (λ (r : Request). IsBuilt r a) same x.is_built) y.is_built
+
+-- ---- the number of workers
+
+number_within : (option : Option Setting) (n : ℕ) → IsNumberOr 1 1 64 option n
+    → (1 ≤ n) × (n ≤ 64)
+number_within None n is = (omega (arith, is), omega (arith, is))
+number_within (Some setting) n is = value_within setting.value n is
+  where
+    value_within : (value : Option (List ℕ)) (m : ℕ)
+        → Rattle.clog_words.specs.Asks.IsValueWithin 1 64 value m → (1 ≤ m) × (m ≤ 64)
+    value_within None m is' = absurd is'
+    value_within (Some text) m is' = (is'.from, is'.up_to)
+
+asked_workers : (words : List (List ℕ)) (options : ReplayOptions) → Asks words (Replay options)
+    → (1 ≤ options.workers) × (options.workers ≤ 64)
+asked_workers [] options asks = absurd asks
+asked_workers (command ∷ words) options asks =
+    number_within (said (codes "workers") asks.1.settings) options.workers asks.1.says.workers
+
+pub workers_within : (words : List (List ℕ)) (options : ReplayOptions)
+    → AsksBuilt words (built.Replay options) → (1 ≤ options.workers) × (options.workers ≤ 64)
+workers_within words options asked =
+    asked_workers words options (subst (Asks words) asked.is_built asked.asks)

@@ -1,5 +1,5 @@
 -- What a run adds to a folder, and tells of it.
-use Rattle.std.specs.Prelude.{◌≡◌, ◌⊎◌, ℕ, List, map, Bool, String, string_bytes, IfSome}
+use Rattle.std.specs.Prelude.{◌≡◌, ◌⊎◌, ℕ, List, Bool, String, IfSome}
 use Rattle.std.specs.declared.alloc.Global.{Global}
 use Rattle.std.specs.declared.result.Result.TheVariants as result
 use Rattle.clog_disk.specs.Files.{Files, Told}
@@ -8,13 +8,13 @@ use Rattle.clog_mutation.specs.declared.mutation.Mutation.{Mutation}
 use Rattle.clog_text.specs.FileMutations.{file_mutations}
 use Rattle.clog_engine.specs.declared.status.Status.{Status}
 use Rattle.clog_engine.specs.declared.status.Status.TheVariants.{Ok, WriteFault}
-use Rattle.clog_engine.specs.declared.words.ApplyOptions.{ApplyOptions}
-use Rattle.clog_engine.specs.declared.words.Request.TheVariants.{Apply}
+use Rattle.clog_words.specs.declared.built.Built.TheVariants.{Apply}
+use Rattle.clog_words.specs.Built.{AsksBuilt}
+use Rattle.clog_words.specs.Given.{texts}
 use Rattle.clog_engine.specs.Answering.{Reports}
 use Rattle.clog_engine.specs.Apply.{ReadsToEnd}
 use Rattle.clog_engine.specs.Outside.{Outside, Sinks}
 use Rattle.clog_engine.specs.Report.{report_of}
-use Rattle.clog_engine.specs.Request.{Says}
 
 -- The mutations are added to what the files restored to, and the rows of the report are those that
 -- the files restore to now.
@@ -37,5 +37,5 @@ IsReported status = (status ≡ Ok) ⊎ (status ≡ WriteFault)
 -- `apply` that comes to a report has added what the source gave.
 abbrev pub Adds : List (String Global) → Outside → Sinks → Status → Type 0
 Adds words o s status =
-    (options : ApplyOptions) → Says (map string_bytes words) (Apply options) → IsReported status
-    → (report : List ℕ) × Reports report status s × ReadsToEnd o (AddsFile options.dump o report)
+    (dump : Bool) → AsksBuilt (texts words) (Apply dump) → IsReported status
+    → (report : List ℕ) × Reports report status s × ReadsToEnd o (AddsFile dump o report)

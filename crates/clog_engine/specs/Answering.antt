@@ -3,10 +3,16 @@ use Rattle.std.specs.Prelude.{◌≡◌, ◌⊎◌, ℕ, List, Option, Some, Non
 use Rattle.std.specs.declared.alloc.Global.{Global}
 use Rattle.std.specs.declared.result.Result.TheVariants as result
 use Rattle.clog_engine.specs.declared.status.Status.{Status}
-use Rattle.clog_engine.specs.declared.status.Status.TheVariants.{Ok, Usage, WriteFault}
-use Rattle.clog_engine.specs.declared.words.Request.{Request}
-use Rattle.clog_engine.specs.declared.words.Request.TheVariants.{Apply, Scan}
-use Rattle.clog_engine.specs.Request.{Asks}
+use Rattle.clog_engine.specs.declared.status.Status.TheVariants.{
+  Ok,
+  Usage,
+  WriteFault,
+  OutOfMemory,
+}
+use Rattle.clog_words.specs.declared.built.Built.{Built}
+use Rattle.clog_words.specs.declared.built.Built.TheVariants.{Apply, Replay, Scan}
+use Rattle.clog_engine.specs.Replaying.{ReplaysFolder}
+use Rattle.clog_engine.specs.Request.{Asks, options_of}
 use Rattle.clog_engine.specs.Scanning.{Scans}
 use Rattle.clog_engine.specs.Faults.{fault_line}
 use Rattle.clog_engine.specs.Outside.{Outside, IsUntouched, Sinks, Writes, Breaks}
@@ -19,16 +25,28 @@ pub record IsUnread (o : Outside) : Type 0 where
   pub faults : o.source_faults_now ≡ o.source_faults
 
 -- What is asked for is done and reported, or is refused; no request at all is refused.
-abbrev pub Does : Option Request → Outside → Result (List ℕ) Status → Type 0
+abbrev pub Does : Option Built → Outside → Result (List ℕ) Status → Type 0
 Does None o outcome = (outcome ≡ result.Err Usage) × IsUntouched o × IsUnread o
-Does (Some (Apply options)) o outcome = Applies options o outcome
+Does (Some (Apply dump)) o outcome = Applies (options_of dump) o outcome
+Does (Some (Replay options)) o outcome =
+    ReplaysFolder options.ignore_errors o.files o.disk_faults o.disk_faults_now outcome
+    × IsUntouched o × IsUnread o
 Does (Some (Scan id)) o outcome =
     Scans id o.files o.disk_faults o.disk_faults_now outcome × IsUntouched o × IsUnread o
 
--- what the words ask for is done, or refused
+-- Memory for the words was refused.
+abbrev pub HasNoWords : Outside → Result (List ℕ) Status → Type 0
+HasNoWords o outcome = (outcome ≡ result.Err OutOfMemory) × IsUntouched o × IsUnread o
+
+-- What the words ask for is done, or refused.
+pub record DoesWhatIsAsked (words : List (String Global)) (o : Outside)
+    (outcome : Result (List ℕ) Status) : Type 0 where
+  pub request : Option Built
+  pub asked : Asks words request
+  pub done : Does request o outcome
+
 abbrev pub DoesAsked : List (String Global) → Outside → Result (List ℕ) Status → Type 0
-DoesAsked words o outcome =
-    (request : Option Request) × Asks words request × Does request o outcome
+DoesAsked words o outcome = DoesWhatIsAsked words o outcome ⊎ HasNoWords o outcome
 
 -- a report goes out whole, or the sink fails
 abbrev pub Reports : List ℕ → Status → Sinks → Type 0
@@ -46,9 +64,7 @@ Prints (result.Err refusal) status s =
 -- fault of the disk is told.
 pub record Answers (words : List (String Global)) (o : Outside) (s : Sinks) (status : Status)
     : Type 0 where
-  pub request : Option Request
-  pub asked : Asks words request
   pub outcome : Result (List ℕ) Status
-  pub done : Does request o outcome
+  pub done : DoesAsked words o outcome
   pub printed : Prints outcome status s
   pub quiet : TellsFaults status o.disk_faults o.disk_faults_now

@@ -6,28 +6,31 @@ use Rattle.std.specs.Prelude.{
   ℕ,
   List,
   length,
-  map,
+  Bool,
   Option,
   Some,
   None,
   String,
-  string_bytes,
 }
 use Rattle.std.specs.declared.alloc.Global.{Global}
 use Rattle.std.specs.FinMap as finmap
 use Rattle.clog_spec.specs.Names.{segment_name_of}
+use Rattle.clog_spec.specs.Sizes.{greatest_capacity}
 use Rattle.clog_io.specs.Causes.{Rose}
 use Rattle.clog_disk.specs.Files.{Files, Told}
+use Rattle.clog_crash.specs.Damage.{AreSegmentFiles}
 use Rattle.clog_crash.specs.Folder.{TableRead}
+use Rattle.clog_folder.specs.Folder.{CanBeRead}
+use Rattle.clog_words.specs.declared.built.Built.{Built}
+use Rattle.clog_words.specs.declared.built.Built.TheVariants.{Apply, Replay, Scan}
+use Rattle.clog_words.specs.Built.{AsksBuilt}
+use Rattle.clog_words.specs.Given.{texts}
 use Rattle.clog_engine.specs.declared.status.Status.{Status}
 use Rattle.clog_engine.specs.declared.status.Status.TheVariants.{Ok, OutOfMemory}
-use Rattle.clog_engine.specs.declared.words.Request.{Request}
-use Rattle.clog_engine.specs.declared.words.Request.TheVariants.{Apply, Scan}
 use Rattle.clog_engine.specs.Directory.{IsPlainDirectory}
 use Rattle.clog_engine.specs.Input.{IsGood}
 use Rattle.clog_engine.specs.Limits.{scan_limit}
 use Rattle.clog_engine.specs.Outside.{Outside, Sinks}
-use Rattle.clog_engine.specs.Request.{Says}
 
 -- The source tells its bytes, and they are such.
 abbrev pub Tells : Option (List ℕ) → (List ℕ → Type 0) → Type 0
@@ -44,10 +47,17 @@ pub record IsScannable (files : Files) (name : List ℕ) : Type 0 where
 abbrev pub IsPlain : Files → Type 0
 IsPlain files = (reads : List TableRead) × IsPlainDirectory files reads
 
+-- All table files are good, and the segments are bytes and short enough to be read; where damage is
+-- not passed over, there is none.
+pub record IsReplayable (ignore : Bool) (files : Files) : Type 0 where
+  pub readable : CanBeRead ignore files
+  pub segments : AreSegmentFiles files
+
 -- What is asked for can be done: `apply` has a good mutation file and a directory with no segment
--- and good table files, `scan` its file.
-abbrev pub IsFit : Request → Outside → Type 0
-IsFit (Apply options) o = Tells o.left (IsGood options.capacity) × Told o.files IsPlain
+-- and good table files, `replay` a folder that can be read, `scan` its file.
+abbrev pub IsFit : Built → Outside → Type 0
+IsFit (Apply dump) o = Tells o.left (IsGood greatest_capacity) × Told o.files IsPlain
+IsFit (Replay options) o = Told o.files (IsReplayable options.ignore_errors)
 IsFit (Scan id) o = Told o.files (λ files. IsScannable files (segment_name_of 6 id))
 
 -- No fault was counted, and no count stands at its type's end.
@@ -62,5 +72,5 @@ EndsWell status = (status ≡ Ok) ⊎ (status ≡ OutOfMemory)
 -- Where the words ask for what can be done and no fault was counted, the run ends well.
 abbrev pub Completes : List (String Global) → Outside → Sinks → Status → Type 0
 Completes words o s status =
-    (request : Request) → Says (map string_bytes words) request → IsFit request o → IsQuiet o s
+    (request : Built) → AsksBuilt (texts words) request → IsFit request o → IsQuiet o s
     → EndsWell status

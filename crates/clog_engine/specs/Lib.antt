@@ -13,6 +13,7 @@ pub mod Outside
 pub mod Quiet
 pub mod Reading
 pub mod Refusal
+pub mod Replaying
 pub mod Report
 pub mod Request
 pub mod Run

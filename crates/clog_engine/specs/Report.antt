@@ -25,6 +25,10 @@ use Rattle.clog_text.specs.CellTexts.{row_line}
 abbrev pub line : List ℕ → List ℕ
 line text = text ++ 10 ∷ []
 
+-- a word, a space and a number
+abbrev pub numbered_line : List ℕ → ℕ → List ℕ
+numbered_line word number = line (word ++ 32 ∷ decimal number)
+
 abbrev pub applied_line : ℕ → List ℕ
 applied_line lines = line (codes "applied " ++ decimal lines)
 

@@ -1,6 +1,6 @@
 //! The commit log as one call: `run` reads a mutation file, writes it to a segment and tells what
-//! came of it. Its clause is what is promised of a run, where the source and the disk tell what
-//! they hold.
+//! came of it, or tells what the folder or a segment of it holds. Its clause is what is promised of
+//! a run, where the source and the disk tell what they hold.
 #![tactic(auto)]
 
 mod applying;
@@ -12,6 +12,7 @@ mod landing;
 mod laws;
 mod limits;
 mod refusal;
+mod replaying;
 mod report;
 mod running;
 mod scan_report;
@@ -29,4 +30,3 @@ pub use fault_line::FaultLine;
 pub use laws::segments_hold_their_mutations;
 pub use running::run;
 pub use status::{Status, Unbuilt};
-pub use words::{ApplyOptions, Request, request_of};

@@ -39,7 +39,12 @@ fn put_rows(
     Ok(())
 }
 
-fn put_cells(alloc: Global, out: &mut Vec<u8>, cells: &CellMap) -> Result<(), OutOfMemory>
+/// Puts the line of each cell.
+pub(crate) fn put_cells(
+    alloc: Global,
+    out: &mut Vec<u8>,
+    cells: &CellMap,
+) -> Result<(), OutOfMemory>
     ensures { OnOk result (out.new.items ≡ out.old.items ++ flat_map row_line cells.now) }
 {
     put_rows(alloc, out, cells.entries())

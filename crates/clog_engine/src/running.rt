@@ -7,12 +7,14 @@ ghost use Rattle.clog_engine.specs.Quiet.{IsBeforeDisk, IsRefusedBefore, TellsEa
 
 use crate::applying::apply;
 use crate::fault_line::FaultLine;
+use crate::replaying::replay_folder;
 use crate::scanning::scan_segment;
 use crate::status::Status;
-use crate::words::{Request, request_of};
+use crate::words::{ApplyOptions, request_of};
 use clog_base::Bytes;
 use clog_disk::Disk;
 use clog_io::{Clock, Gate, Sink, Source};
+use clog_words::Built;
 use std::alloc::Global;
 use std::sync::Wait;
 use std::thread::Threads;
@@ -35,28 +37,32 @@ fn print<K: Sink>(sink: &mut K, outcome: Result<Bytes, Status>) -> Status
 }
 
 // Does what the words ask for.
-fn outcome_of<T: Threads + Sync, R: Source, D: Disk, C: Clock>(
+fn outcome_of<T: Threads + Sync, R: Source, D: Disk, C: Clock, G: Gate + Sync>(
     rt: &T,
     alloc: Global,
     words: &[String],
     source: &mut R,
     disk: &mut D,
     clock: &C,
+    gate: &G,
 ) -> Result<Bytes, Status>
     ensures done { DoesAsked words.now (outside_of R.Source D.Disk C.Clock source.old source.new
         disk.old disk.new clock.now) result }
     ensures quiet { TellsEach (D.faults disk.old) (D.faults disk.new) result }
     ensures uncalled { IsRefusedBefore result → disk.new ≡ disk.old }
 {
-    match request_of(words) {
-        Some(Request::Apply(options)) => apply(rt, alloc, options, source, disk, clock),
-        Some(Request::Scan(id)) => scan_segment(alloc, disk, id),
+    match request_of(alloc, words)? {
+        Some(Built::Apply { dump }) => {
+            apply(rt, alloc, ApplyOptions::new(dump), source, disk, clock)
+        }
+        Some(Built::Replay(options)) => replay_folder(rt, alloc, options, disk, gate),
+        Some(Built::Scan { id }) => scan_segment(alloc, disk, id),
         None => Err(Status::Usage),
     }
 }
 
 // Does what the words ask for, and prints what came of it.
-fn answer<T: Threads + Sync, R: Source, K: Sink, D: Disk, C: Clock>(
+fn answer<T: Threads + Sync, R: Source, K: Sink, D: Disk, C: Clock, G: Gate + Sync>(
     rt: &T,
     alloc: Global,
     words: &[String],
@@ -64,12 +70,13 @@ fn answer<T: Threads + Sync, R: Source, K: Sink, D: Disk, C: Clock>(
     sink: &mut K,
     disk: &mut D,
     clock: &C,
+    gate: &G,
 ) -> Status
     ensures answers { Answers words.now (outside_of R.Source D.Disk C.Clock source.old source.new
         disk.old disk.new clock.now) (sinks_of K.Sink sink.old sink.new) result }
     ensures uncalled { IsBeforeDisk result → disk.new ≡ disk.old }
 {
-    let outcome = outcome_of(rt, alloc, words, source, disk, clock);
+    let outcome = outcome_of(rt, alloc, words, source, disk, clock, gate);
     print(sink, outcome)
 }
 
@@ -78,12 +85,12 @@ fn answer<T: Threads + Sync, R: Source, K: Sink, D: Disk, C: Clock>(
 /// bytes and the disk its files, `Ok` means that the source was read to its end, that all its
 /// mutations stand in one new segment (none for an empty file), lasting, that the folder restores
 /// to what it restored to before with the mutations' cells merged in, no file of it damaged, and
-/// that the report went out whole, whose dump is what the folder restores to now; of `scan` that
-/// the report tells what the segment's file holds. Where the words ask
-/// for what can be done and no fault was counted, it ends with `Ok`, or for want of memory. A fault
-/// of the disk is told: without `DiskFault`
-/// none was counted. What the words or the mutation file refuse by themselves leaves the disk
-/// uncalled.
+/// that the report went out whole, whose dump is what the folder restores to now; of `replay` that
+/// the report has the counts of the folder and what it restores to, and that without
+/// `--ignore-errors` nothing of the folder is damaged; of `scan` that the report tells what the
+/// segment's file holds. Where the words ask for what can be done and no fault was counted, it ends
+/// with `Ok`, or for want of memory. A fault of the disk is told: without `DiskFault` none was
+/// counted. What the words or the mutation file refuse by themselves leaves the disk uncalled.
 pub fn run<
     T: Threads + Wait + Sync,
     R: Source,
@@ -99,13 +106,13 @@ pub fn run<
     sink: &mut K,
     disk: D,
     clock: &C,
-    _gate: &G,
+    gate: &G,
 ) -> (Status, D)
     ensures runs { Runs words.now (outside_of R.Source D.Disk C.Clock source.old source.new disk
         result.1 clock.now) (sinks_of K.Sink sink.old sink.new) result.0 }
     ensures uncalled { IsBeforeDisk result.0 → result.1 ≡ disk }
 {
     let mut disk = disk;
-    let status = answer(rt, alloc, words, source, sink, &mut disk, clock);
+    let status = answer(rt, alloc, words, source, sink, &mut disk, clock, gate);
     (status, disk)
 }

@@ -1,5 +1,5 @@
 //! Each public call once. Worked rows of `run` are data, which `run_play` reads.
-use crate::{FaultLine, Request, Status, request_of, run};
+use crate::{FaultLine, Status, run};
 use clog_base::segment_name;
 use clog_disk::MemDisk;
 use clog_io::{FixedClock, MemSink, MemSource, OpenGate};
@@ -61,11 +61,4 @@ fn want_of_memory_has_its_number_and_its_line(rt: HostRuntime) {
         FaultLine::new(&status).as_bytes(),
         b"error 9: out of memory\n".as_slice()
     );
-}
-
-#[test]
-fn words_ask_for_a_request(rt: HostRuntime) -> Result<(), Fail> {
-    let scan = words_of(rt.alloc(), &["scan", "CommitLog-6-5.log"])?;
-    assert_eq!(rt; request_of(&scan), Some(Request::Scan(5)));
-    Ok(())
 }

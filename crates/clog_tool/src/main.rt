@@ -1,13 +1,14 @@
 //! The program: applies a mutation file from standard input to the folder `commitlog` below the
-//! current folder, or scans a segment there, and tells on standard output what came of it. It makes
-//! the real objects and calls `run`. What the system said where it refused a call goes to standard
-//! error.
+//! current folder, replays that folder, or scans a segment there, and tells on standard output what
+//! came of it. It makes the real objects and calls `run`. What the system said where it refused a
+//! call goes to standard error.
 #![tactic(auto)]
 
 use anyhow::Result;
 use clog_disk::FolderDisk;
-use clog_engine::{FaultLine, Request, Status, request_of, run};
+use clog_engine::{FaultLine, Status, run};
 use clog_io::{OpenGate, Sink, StdSink, StdSource, SystemClock};
+use clog_words::{Built, parse_built};
 use std::fmt::Display;
 use std::process::ExitCode;
 use std::{env, io};
@@ -34,10 +35,10 @@ fn out_of_memory(rt: &HostRuntime) -> ExitCode {
     ExitCode::from(Status::OutOfMemory.number())
 }
 
-// The folder. A scan only reads, and takes no lock.
+// The folder. What only reads takes no lock.
 fn disk_for(rt: HostRuntime, words: &[String]) -> FolderDisk<HostRuntime> {
-    match request_of(words) {
-        Some(Request::Scan(_)) => FolderDisk::for_reading(rt),
+    match parse_built(rt.alloc(), words) {
+        Ok(Built::Replay(_) | Built::Scan { .. }) => FolderDisk::for_reading(rt),
         _ => FolderDisk::for_writing(rt),
     }
 }

@@ -1,7 +1,7 @@
 mod Follows
 mod Levels
 mod LongWords
-mod OneRequest
+pub mod OneRequest
 mod Refusals
 mod Rows
 mod SettingLists

@@ -5,10 +5,8 @@ pub returns-clause-answers : goal.returns-clause-answers
 returns-clause-answers g c =
     let d = c.outcome_of-outcome.ensures in
     record {
-      request = d.done.0;
-      asked = d.done.1;
       outcome = c.outcome_of-outcome.result;
-      done = d.done.2;
+      done = d.done;
       printed = c.print.ensures;
       quiet = printed_quiet c.outcome_of-outcome.result c.print.result _ _ _ c.print.ensures
           d.quiet;

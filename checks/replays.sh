@@ -1,0 +1,26 @@
+# Replaying a real folder: whole, behind a damaged file, and past it. It is left as it is.
+. "$top/checks/lib"
+
+cell='{"column":"cd","key":"ab","table":0,"ts":5,"value":null}'
+counts() { printf 'segments %s\ntables %s\nentries %s\nupdates %s\nskipped %s' "$@"; }
+
+fresh
+expect 'a folder that is not there' 0 "$(counts 0 0 0 0 0)" '' "$pinsilver" replay
+that 'it is not made' test ! -e commitlog
+
+fresh
+apply_line "$pinsilver" apply >/dev/null
+name=$(ls commitlog 2>/dev/null)
+expect 'what apply wrote' 0 "$(counts 1 0 1 1 0)
+$cell" '' "$pinsilver" replay
+expect 'the same by four workers' 0 "$(counts 1 0 1 1 0)
+$cell" '' "$pinsilver" replay --ignore-errors --workers=4
+head -c 59 "commitlog/$name" >cut
+cp cut "commitlog/$name"
+expect "a crash's tail" 0 "$(counts 1 0 0 0 0)" '' "$pinsilver" replay
+: >commitlog/CommitLog-6-9223372036854775807.log
+expect 'damage below another segment' 7 "error 7: $name at 20: MarkerTarget 60" '' \
+    "$pinsilver" replay
+expect 'read past it' 0 "$(counts 2 0 0 0 0)" '' "$pinsilver" replay --ignore-errors
+that 'the damaged file is left' cmp -s cut "commitlog/$name"
+that 'the folder is left' test "$(ls commitlog | wc -l)" -eq 2
