@@ -14,7 +14,7 @@ few_keys() {
 
 # so many lines whose keys begin with the other word
 begun_with() {
-    lines "$1" | awk -v word="$2" '{ sub(/key/, word); print }'
+    lines "$1" | awk -v word="$2" '{ sub(/"key0/, "\"" word "0"); print }'
 }
 
 # Lines from standard input become one more segment of the folder. `apply` takes no folder that has
