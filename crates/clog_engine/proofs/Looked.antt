@@ -162,7 +162,8 @@ none_has P names has tells is any = true≢false (sym (tells.1 any) ∙ is)
 pub seen_now : (files now : Option Files) (names listed : List (List ℕ))
     (rows : List (Place × List ℕ)) (archive : Option ℕ) (dump : Bool) (standing : Standing)
     (has : Bool) → now ≡ files → Lists files listed → names ≡ listed
-    → (IsTrue has ↔ Any IsNameOfSegment names) → has ≡ false → AreRows place_cmp IsNameOf (Contains names) rows
+    → (IsTrue has ↔ Any IsNameOfSegment names) → has ≡ false
+    → AreRows place_cmp IsNameOf (Contains names) rows
     → IsGreatestArchive names archive
     → (read : HasJoined dump now rows archive standing)
     → Seen files names rows archive (map read_of read.tables)

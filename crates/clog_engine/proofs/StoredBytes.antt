@@ -25,6 +25,7 @@ pub of_segment : (id : ℕ) (ms : List Mutation) → AllByRecursion IsStored ms
 unfolding segment_of
 of_segment id ms stored =
     let end = front_size + length (entries_of ms) in
-    append-IsBytes (header_bytes id) (marker_bytes id header_size end ++ entries_of ms) (header-IsBytes id)
-    (append-IsBytes (marker_bytes id header_size end) (entries_of ms) (marker-IsBytes id header_size end)
+    let marker = marker_bytes id header_size end in
+    append-IsBytes (header_bytes id) (marker ++ entries_of ms) (header-IsBytes id)
+    (append-IsBytes marker (entries_of ms) (marker-IsBytes id header_size end)
     (of_entries ms stored))

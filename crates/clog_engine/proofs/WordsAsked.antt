@@ -1,5 +1,21 @@
 -- Words ask for one thing, and a number of workers is from 1 to 64.
-use Rattle.std.proofs.Common.{◌≡◌, ℕ, ◌≤◌, List, [], ◌∷◌, Option, Some, None, sym, ap, subst, ◌∙◌, arith, codes}
+use Rattle.std.proofs.Common.{
+  ◌≡◌,
+  ℕ,
+  ◌≤◌,
+  List,
+  [],
+  ◌∷◌,
+  Option,
+  Some,
+  None,
+  sym,
+  ap,
+  subst,
+  ◌∙◌,
+  arith,
+  codes,
+}
 use Rattle.clog_spec.specs.Names.{IsSegmentName}
 use Rattle.clog_base.proofs.NameLaws.{one_segment}
 use Rattle.clog_words.specs.declared.built.Built.{Built}
@@ -8,7 +24,7 @@ use Rattle.clog_words.specs.declared.request.ApplyOptions.{ApplyOptions}
 use Rattle.clog_words.specs.declared.request.ReplayOptions.{ReplayOptions}
 use Rattle.clog_words.specs.declared.request.Request.{Request}
 use Rattle.clog_words.specs.declared.request.Request.TheVariants.{Apply, Replay, Scan}
-use Rattle.clog_words.specs.Asks.{Asks, IsNumberOr}
+use Rattle.clog_words.specs.Asks.{Asks, IsNumberOr, IsValueWithin}
 use Rattle.clog_words.specs.Built.{AsksBuilt, IsBuilt, plain_options}
 use Rattle.clog_words.specs.Given.{Setting, said}
 use Rattle.clog_words.proofs.OneRequest.{one_request}
@@ -60,7 +76,7 @@ number_within None n is = (omega (arith, is), omega (arith, is))
 number_within (Some setting) n is = value_within setting.value n is
   where
     value_within : (value : Option (List ℕ)) (m : ℕ)
-        → Rattle.clog_words.specs.Asks.IsValueWithin 1 64 value m → (1 ≤ m) × (m ≤ 64)
+        → IsValueWithin 1 64 value m → (1 ≤ m) × (m ≤ 64)
     value_within None m is' = absurd is'
     value_within (Some text) m is' = (is'.from, is'.up_to)
 

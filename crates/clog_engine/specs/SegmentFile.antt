@@ -17,4 +17,5 @@ FindsFile files faults now name (result.Err status) = ReadRefused files faults n
 abbrev pub GivesSegmentFile : Option Files → ℕ → ℕ → List ℕ → Result (Vec ℕ Global) Status → Type 0
 GivesSegmentFile files faults now name (result.Ok bytes) =
     IsWhole files name bytes.items × (length bytes.items ≤ scan_limit)
-GivesSegmentFile files faults now name (result.Err status) = ReadRefused files faults now name status
+GivesSegmentFile files faults now name (result.Err status) =
+    ReadRefused files faults now name status
