@@ -18,9 +18,9 @@ use Rattle.std.proofs.Common.{
   inr,
   arith,
 }
-use Rattle.std.specs.Prelude.{Err, IfSome, false}
+use Rattle.std.specs.Prelude.{Err, false}
 use Rattle.std.specs.FinMap as finmap
-use Rattle.clog_disk.specs.Files.{Files, Lists, SameTold, Told, bytes_at}
+use Rattle.clog_disk.specs.Files.{Files, Lists, Told, bytes_at}
 use Rattle.clog_disk.specs.Images.{IsImage, Within}
 use Rattle.clog_disk.proofs.Named.{same_files}
 use Rattle.clog_crash.specs.Flush.{IsSameFolder, IsSettled}
@@ -46,7 +46,6 @@ use Rattle.clog_store.specs.Opened.{
   OpenRefused,
 }
 use Rattle.clog_store.proofs.Looking.{id_base, within}
-use Rattle.clog_store.proofs.Recovery.{if_told_first}
 
 -- ---- what stays
 
@@ -151,21 +150,3 @@ pub step_alone : (mid now : ℕ) (fault : OpenFault) (alone : Type 0)
 step_alone mid now Disk alone cause = tt
 step_alone mid now OutOfMemory alone cause = tt
 step_alone mid now other alone cause = absurd cause
-
--- ---- for a store
-
-pub some_of : (told : Option Files) (P : Files → Type 0) (first : Files) → told ≡ Some first
-    → IfSome told P → P first
-some_of told P first is has = subst (λ (o : Option Files). IfSome o P) is has
-
-told_if : (told : Option Files) (P : Files → Type 0) → Told told P → IfSome told P
-told_if None P is = absurd is
-told_if (Some now) P is = is
-
-pub rests_told : (old told : Option Files) (leaves : List ℕ → Option (List ℕ) → Type 0)
-    (P : Files → Type 0) → SameTold old told → IfSome old (λ f. LastsAll f leaves)
-    → ((first : Files) → old ≡ Some first → LastsAll first leaves → Told told P)
-    → IfSome told P
-rests_told old told leaves P same lasts rests =
-    if_told_first old told P same (λ first is.
-    told_if told P (rests first is (some_of old (λ f. LastsAll f leaves) first is lasts)))

@@ -29,6 +29,12 @@ pub record State (D : Type 0) : Type 0 where
   pub synced : ℕ
   pub is_stopped : Bool
 
+-- what stands from the opening on, whatever lasted before it
+pub record HasBegun {D : Type 0} (moment : D → ℕ) (disk : D) (opened : ℕ) (sections : List Section)
+    (synced : ℕ) : Type 0 where
+  pub began : opened ≤ moment disk
+  pub few : synced ≤ length sections
+
 -- where the disk tells its files and how they read at a moment, they have P
 abbrev pub BothTold : Option Files → Option Reading → (Files → Reading → Type 0) → Type 0
 BothTold told read P = IfSome told (λ f. IfSome read (λ r. P f r))
@@ -49,7 +55,7 @@ RestsNow files leaves read_at disk opened id sections synced =
     BothTold (files disk) (read_at disk opened) (λ f r.
     IsResting f (leaves disk) r [] id (take synced sections) (drop synced sections))
 
--- What a store keeps true from its opening on.
+-- What a store keeps true from its opening on, where all that was there before lasted.
 pub record HasLived {D : Type 0} (files : D → Option Files) (moment : D → ℕ)
     (since : D → ℕ → Files → Type 0) (leaves : D → List ℕ → Option (List ℕ) → Type 0)
     (read_at : D → ℕ → Option Reading) (disk : D) (opened id : ℕ) (sections : List Section)
@@ -60,3 +66,9 @@ pub record HasLived {D : Type 0} (files : D → Option Files) (moment : D → �
   -- until the disk has failed
   pub rests : is_stopped ≡ false
       → RestsNow files leaves read_at disk opened id sections synced
+
+-- the same of a store
+abbrev pub Lives : {D : Type 0} → (D → Option Files) → (D → ℕ) → (D → ℕ → Files → Type 0)
+    → (D → List ℕ → Option (List ℕ) → Type 0) → (D → ℕ → Option Reading) → State D → Type 0
+Lives files moment since leaves read_at s =
+    HasLived files moment since leaves read_at s.disk s.opened s.id s.sections s.synced s.is_stopped

@@ -24,6 +24,7 @@ use Rattle.clog_folder.specs.declared.fault.OpenFault.TheVariants.{
 }
 use Rattle.clog_folder.specs.Folder.{CanBeRead, HasDamage, HasLongSegment, IsHeldOf}
 use Rattle.clog_store.specs.declared.opening.Known.{Known}
+use Rattle.clog_store.specs.Life.{State}
 use Rattle.clog_store.specs.Named.{
   IsIdBase,
   IsLateTable,
@@ -102,11 +103,19 @@ pub record KeepsFolder (first now : Files) : Type 0 where
   pub undamaged : IsUndamaged first → IsUndamaged now
 
 -- a folder that is refused for what it holds is left alone
+abbrev pub LeftAlone : Type 0 → OpenFault → Type 0
+LeftAlone alone Disk = ⊤
+LeftAlone alone OutOfMemory = ⊤
+LeftAlone alone other = alone
+
 abbrev pub LeavesAlone : {T : Type 0} → Type 0 → Result T OpenFault → Type 0
 LeavesAlone alone (result.Ok x) = ⊤
-LeavesAlone alone (result.Err Disk) = ⊤
-LeavesAlone alone (result.Err OutOfMemory) = ⊤
-LeavesAlone alone (result.Err other) = alone
+LeavesAlone alone (result.Err refusal) = LeftAlone alone refusal
+
+-- the disk under an opened store, or the one that comes back, has P
+abbrev pub HandsOn : {D : Type 0} → (D → Type 0) → Result (State D) (D × OpenFault) → Type 0
+HandsOn P (result.Ok store) = P store.disk
+HandsOn P (result.Err back) = P back.0
 
 -- a crash leaves each name as it is
 abbrev pub LastsAll : Files → (List ℕ → Option (List ℕ) → Type 0) → Type 0

@@ -8,7 +8,7 @@ ghost use Rattle.clog_crash.specs.Flush.{IsSameFolder, IsSettled};
 ghost use Rattle.clog_crash.specs.Recovery.{NamesAny};
 ghost use Rattle.clog_crash.specs.Rest.{IsAtRest};
 ghost use Rattle.clog_folder.specs.Folder.{IsHeldOf};
-ghost use Rattle.clog_folder.specs.Passing.{IsUntouched};
+ghost use Rattle.clog_folder.specs.Passing.{IsUntouched, TellsEach};
 ghost use Rattle.clog_store.specs.Filing.{StepCause};
 ghost use Rattle.clog_store.specs.Named.{IsLateTable};
 ghost use Rattle.clog_store.specs.Opened.{
@@ -80,6 +80,7 @@ struct Known {
 /// Reads a folder, and sees whether it can be opened. The moment is one in milliseconds.
 fn look<D: Disk>(alloc: Global, disk: &mut D, moment: u64) -> Result<Known, OpenFault>
     ensures looks { Looks (D.files disk.old) (D.faults disk.old) (D.faults disk.new) moment result }
+    ensures cause { TellsEach (D.faults disk.old) (D.faults disk.new) result }
     ensures keeps { IsUntouched D.files D.changes D.leaves D.moment D.since D.read_at
         D.faults disk.old disk.new }
 {
@@ -124,6 +125,8 @@ pub fn recover<D: Disk>(alloc: Global, disk: &mut D, moment: u64) -> Result<u64,
     ensures told { SameTold (D.files disk.old) (D.files disk.new) }
     ensures later { IsLater D.moment D.read_at disk.old disk.new }
     ensures no_fewer { D.faults disk.old ≤ D.faults disk.new }
+    // Of another outcome than `Disk` no fault was counted.
+    ensures cause { TellsEach (D.faults disk.old) (D.faults disk.new) result }
     ensures opens { Opens (D.files disk.old) (D.files disk.new) (D.faults disk.old)
         (D.faults disk.new) moment result }
     ensures alone { LeavesAlone (IsUntouched D.files D.changes D.leaves D.moment D.since D.read_at

@@ -1,17 +1,27 @@
-//! A store that writes one segment. Over its whole life each image of a crash since its opening
-//! restores what the folder restored then, and the first of the entries that it was handed: the
-//! invariant of its type, `HasLived`. From the first fault of the disk on it writes nothing.
+//! A store that writes one segment. Where all that was there lasted before its opening, each image
+//! of a crash since then restores what the folder restored, and the first of the entries that the
+//! store was handed: `Lives`, which its opening begins and each write keeps. From the first fault of
+//! the disk on it writes nothing.
 ghost use Rattle.std.specs.Prelude.{◌≡◌, ◌<◌, ◌^◌, ◌++◌, List, [], ◌∷◌, take, drop, length};
 ghost use Rattle.std.specs.Prelude.{IfErr, IfOk, IfSome, OnOk, Some};
 ghost use Rattle.std.specs.Prelude.{Err, true, false};
 ghost use Rattle.clog_store.specs.declared.store.StoreFault.TheVariants.{Stopped as stopped};
 ghost use Rattle.clog_scan.specs.Cut.{Section};
 ghost use Rattle.clog_spec.specs.Names.{segment_name_of};
-ghost use Rattle.clog_disk.specs.Files.{Files, IsEnd, Told};
+ghost use Rattle.clog_disk.specs.Files.{Files, IsEnd, SameTold, Told};
+ghost use Rattle.clog_disk.specs.Images.{IsLater, LeavesOnly};
 ghost use Rattle.clog_crash.specs.Rest.{IsAtRest};
 ghost use Rattle.clog_crash.specs.Sections.{Brings};
-ghost use Rattle.clog_store.specs.Life.{ShownSince};
-ghost use Rattle.clog_store.specs.Opened.{KeepsFolder, LastsAll, OpenRefused, OpensAs};
+ghost use Rattle.clog_folder.specs.Passing.{IsUntouched};
+ghost use Rattle.clog_store.specs.Life.{Lives, ShownSince};
+ghost use Rattle.clog_store.specs.Opened.{
+  HandsOn,
+  KeepsFolder,
+  LastsAll,
+  LeftAlone,
+  OpenRefused,
+  OpensAs,
+};
 
 use crate::opening::recover;
 use crate::sections::{keep_sections, settle_sections};
@@ -72,7 +82,7 @@ pub struct Store<D: Disk> {
 }
 
 impl<D: Disk> Model for Store<D> {
-    ghost use Rattle.clog_store.specs.Life.{State, HasLived};
+    ghost use Rattle.clog_store.specs.Life.{State, HasBegun};
 
     ghost Value = { State D };
 
@@ -85,8 +95,7 @@ impl<D: Disk> Model for Store<D> {
       is_stopped = s.is_stopped;
     } };
 
-    ghost invariant = { λ s. HasLived D.files D.moment D.since D.leaves D.read_at s.disk s.opened
-        s.id s.sections.items s.synced s.is_stopped };
+    ghost invariant = { λ s. HasBegun D.moment s.disk s.opened s.sections.items s.synced };
 }
 
 // The last section goes, since nothing of it came onto the disk.
@@ -98,13 +107,16 @@ fn take_back(sections: &mut Vec<Written>)
 }
 
 impl<D: Disk> Store<D> {
-    // A store over a folder in which everything lasts, for a segment above all that it names.
+    // A store for a segment above all that the folder names.
     fn begin(alloc: Global, disk: D, id: u64) -> Store<D>
-        requires rest { IfSome (D.files disk) (λ f. IsAtRest f (D.leaves disk) id [] []) }
         ensures disk { result.disk ≡ disk }
         ensures opened { result.opened ≡ D.moment disk }
         ensures id { result.id ≡ id }
         ensures sections { result.sections ≡ [] }
+        ensures synced { result.synced ≡ 0 }
+        ensures runs { result.is_stopped ≡ false }
+        ensures lives { IfSome (D.files disk) (λ f. IsAtRest f (D.leaves disk) id [] [])
+            → Lives D.files D.moment D.since D.leaves D.read_at result }
     {
         let opened = disk.moment_count();
         Store {
@@ -117,19 +129,33 @@ impl<D: Disk> Store<D> {
         }
     }
 
-    /// Opens a store: its folder, in which everything lasts, is read and recovered, and its log
-    /// goes on at the base. The moment is one in milliseconds. For each refusal see `recover`; the
-    /// disk comes back, and its folder restores the same.
+    /// Opens a store: its folder is read and recovered, and its log goes on at the base. The moment
+    /// is one in milliseconds. For each refusal see `recover`; the disk comes back then.
+    ///
+    /// Whatever is answered, the folder restores the same, and so does each image of a crash
+    /// meanwhile where all that was there lasted before. From such an opening on the store lives.
     pub fn open(alloc: Global, disk: D, moment: u64) -> Result<Store<D>, (D, OpenFault)>
         requires moment { moment < 2 ^ 62 }
-        requires lasts { IfSome (D.files disk) (λ f. LastsAll f (D.leaves disk)) }
         ensures opens { IfOk result (λ store. OpensAs (D.files disk) (D.files store.disk) moment
             store.id) }
+        ensures opened { IfOk result (λ store. store.opened ≡ D.moment store.disk) }
         ensures sections { IfOk result (λ store. store.sections ≡ []) }
+        ensures synced { IfOk result (λ store. store.synced ≡ 0) }
+        ensures runs { IfOk result (λ store. store.is_stopped ≡ false) }
+        ensures quiet { IfOk result (λ store. D.faults store.disk ≡ D.faults disk) }
+        ensures lives { IfSome (D.files disk) (λ f. LastsAll f (D.leaves disk))
+            → IfOk result (Lives D.files D.moment D.since D.leaves D.read_at) }
         ensures refused { IfErr result (λ back.
             OpenRefused (D.files disk) (D.faults disk) (D.faults back.0) back.1) }
+        ensures alone { IfErr result (λ back. LeftAlone (IsUntouched D.files D.changes D.leaves
+            D.moment D.since D.read_at D.faults disk back.0) back.1) }
+        ensures told { HandsOn (λ now. SameTold (D.files disk) (D.files now)) result }
+        ensures later { HandsOn (IsLater D.moment D.read_at disk) result }
         ensures keeps { (first : Files) → D.files disk ≡ Some first
-            → IfErr result (λ back. Told (D.files back.0) (KeepsFolder first)) }
+            → HandsOn (λ now. Told (D.files now) (KeepsFolder first)) result }
+        ensures any_moment { (first : Files) → D.files disk ≡ Some first
+            → LastsAll first (D.leaves disk)
+            → HandsOn (λ now. LeavesOnly D.moment D.since disk now (KeepsFolder first)) result }
     {
         let mut disk = disk;
         match recover(alloc, &mut disk, moment) {
@@ -148,8 +174,10 @@ impl<D: Disk> Store<D> {
         ensures id { self.new.id ≡ self.old.id }
         ensures written { OnOk result (self.new.sections ≡ self.old.sections ++ section ∷ []) }
         ensures lasts { OnOk result (self.new.synced ≡ length self.new.sections) }
-        // So the disk rests, with all sections lasting.
+        // So the disk of a store that lives rests, with all sections lasting.
         ensures runs { OnOk result (self.new.is_stopped ≡ false) }
+        ensures lives { Lives D.files D.moment D.since D.leaves D.read_at self.old
+            → Lives D.files D.moment D.since D.leaves D.read_at self.new }
         ensures stays { self.old.is_stopped ≡ true → (result ≡ Err stopped)
             × (self.new.disk ≡ self.old.disk) }
     {
@@ -181,11 +209,12 @@ impl<D: Disk> Store<D> {
         }
     }
 
-    /// Gives the disk back, of which each image since the opening restores what the folder restored
-    /// then and the first of the entries.
+    /// Gives the disk back. Of a store that lives each image since the opening restores what the
+    /// folder restored then and the first of the entries.
     pub fn into_disk(self) -> D
         ensures disk { result ≡ self.disk }
-        ensures shown { ShownSince D.files D.moment D.since D.read_at result self.opened self.id
+        ensures shown { Lives D.files D.moment D.since D.leaves D.read_at self
+            → ShownSince D.files D.moment D.since D.read_at result self.opened self.id
             self.sections }
     {
         self.disk
