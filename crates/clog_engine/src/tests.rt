@@ -1,8 +1,8 @@
 //! Each public call once. Worked rows of `run` are data, which `run_play` reads.
 use crate::{FaultLine, Status, run};
 use clog_base::segment_name;
-use clog_disk::MemDisk;
-use clog_io::{FixedClock, MemSink, MemSource, OpenGate};
+use clog_disk::{Disk, MemDisk};
+use clog_io::{FixedClock, HoldGate, MemSink, MemSource, OpenGate};
 use std::alloc::Global;
 use std::rt::HostRuntime;
 use std::test::Fail;
@@ -19,6 +19,17 @@ const FILE: [u8; 60] = [
     0x0b, 0xd6, 0x8a, 0xe2, 0, 0, 0, 0x14, 0x3b, 0x9e, 0x0b, 0x61, 0, 2, 0x61, 0x62, 0, 1, 0, 0, 2,
     0x63, 0x64, 0, 0, 0, 0, 0, 0, 0, 5, 0, 0x18, 0xa5, 0x86, 0xff,
 ];
+
+// The segment 1001 with the same entry; its checks are Python's zlib's.
+const NEXT: [u8; 60] = [
+    0, 0, 0, 6, 0, 0, 0, 0, 0, 0, 3, 0xe9, 0, 2, 0x7b, 0x7d, 0x8f, 0xfc, 0x2d, 0xbf, 0, 0, 0, 0x3c,
+    0x1c, 0xad, 0x9e, 0xa1, 0, 0, 0, 0x14, 0x3b, 0x9e, 0x0b, 0x61, 0, 2, 0x61, 0x62, 0, 1, 0, 0, 2,
+    0x63, 0x64, 0, 0, 0, 0, 0, 0, 0, 5, 0, 0x18, 0xa5, 0x86, 0xff,
+];
+
+const REPLAYED: &[u8] =
+    b"segments 2\ntables 0\nentries 2\nupdates 2\nskipped 0\n\
+{\"column\":\"cd\",\"key\":\"ab\",\"table\":0,\"ts\":5,\"value\":null}\n";
 
 fn words_of(alloc: Global, list: &[&str]) -> Result<Vec<String>, Fail> {
     let mut words = Vec::new(alloc);
@@ -49,6 +60,32 @@ fn a_line_becomes_the_segment_and_its_cell(rt: HostRuntime) -> Result<(), Fail> 
         disk.bytes(&segment_name(1000)).unwrap_or(&[]),
         FILE.as_slice()
     );
+    Ok(())
+}
+
+// Each worker waits until the other has deposited its entry, so both are there.
+#[test]
+fn two_workers_of_a_replay_meet(rt: HostRuntime) -> Result<(), Fail> {
+    let words = words_of(rt.alloc(), &["replay", "--workers", "2"])?;
+    let mut source = MemSource::new(Vec::new(rt.alloc()), 7, Vec::new(rt.alloc()));
+    let mut sink = MemSink::new(rt.alloc(), Vec::new(rt.alloc()));
+    let mut disk = MemDisk::new(rt.alloc());
+    disk.publish(&segment_name(1000), &FILE)?;
+    disk.publish(&segment_name(1001), &NEXT)?;
+    let gate = HoldGate::new();
+    let (status, _disk) = run(
+        &rt,
+        rt.alloc(),
+        &words,
+        &mut source,
+        &mut sink,
+        disk,
+        &FixedClock::new(1000),
+        &gate,
+    );
+    assert_eq!(rt; status.number(), 0);
+    assert_eq!(rt; sink.as_slice(), REPLAYED);
+    assert!(rt; gate.met());
     Ok(())
 }
 
