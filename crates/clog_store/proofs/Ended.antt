@@ -140,6 +140,17 @@ still_there f (id ∷ ids) name held =
     subst (λ (o : Option (List ℕ)). IsSome o) (gone_there f u name (not_gone f u name before))
     before
 
+-- and it stands as it did
+pub was_there : (f : Files) (ids : List ℕ) (name bytes : List ℕ)
+    → finmap.get (without f ids) name ≡ Some bytes → finmap.get f name ≡ Some bytes
+was_there f [] name bytes there = there
+was_there f (id ∷ ids) name bytes there =
+    let u = segment_name_of 6 id in
+    let before = was_there (finmap.remove f u) ids name bytes there in
+    sym (gone_there f u name (not_gone f u name
+    (subst (λ (o : Option (List ℕ)). IsSome o) (sym before) refl)))
+    ∙ before
+
 -- none of them is there
 pub none_there : (f : Files) (ids : List ℕ) (id : ℕ) → Contains ids id
     → IsHeld (without f ids) (segment_name_of 6 id) → ⊥
@@ -239,6 +250,19 @@ module _ (first : Files) (names : List (List ℕ)) (cells : Pairs) (top : Positi
     same = same_then first now end filed.same
         (all_gone now ids (same_itself now filed.same.undamaged) all_ids_covered);
     no_segment = none_left;
+    others = λ name bytes apart there.
+        stays now ids name (λ id listed same.
+        let s = listed_id (Contains names) ids are id listed in
+        apart (
+          6,
+          (
+            id,
+            subst (λ (n : List ℕ). IsSegmentName n 6 id) (sym same)
+                (is_named id s.1.2.id_fits),
+          ),
+        ))
+        ∙ filed.stand name bytes there;
+    came = λ name bytes there. filed.came name bytes (was_there now ids name bytes there);
     below = λ file t. recovered_is_below first (bytes_at now) filed.done base filed.filed above
         file (table_before file t);
   }

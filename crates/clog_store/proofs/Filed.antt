@@ -23,7 +23,7 @@ use Rattle.std.proofs.Common.{
   inr,
   arith,
 }
-use Rattle.std.specs.Prelude.{IsSome, Err}
+use Rattle.std.specs.Prelude.{IsSome, Err, unwrap_or}
 use Rattle.std.specs.FinMap as finmap
 use Rattle.std.proofs.lemmas.Bool.{cases_lt}
 use Rattle.clog_spec.specs.Names.{IsTableName, table_name_of}
@@ -36,6 +36,7 @@ use Rattle.clog_base.proofs.NameLaws.{one_table}
 use Rattle.clog_cells.specs.Merge.{part_on}
 use Rattle.clog_cells.proofs.Parts.{members_of_part}
 use Rattle.clog_disk.specs.Files.{Files, PutsAt, Told, bytes_at}
+use Rattle.clog_disk.proofs.Named.{put_here, same_or_other}
 use Rattle.clog_disk.specs.Images.{IsImage}
 use Rattle.clog_table.specs.declared.table_file.TableFile.{TableFile}
 use Rattle.clog_table.specs.Format.{file_of}
@@ -58,7 +59,14 @@ use Rattle.clog_folder.specs.declared.fault.OpenFault.{OpenFault}
 use Rattle.clog_folder.specs.declared.fault.OpenFault.TheVariants.{Disk, OutOfMemory}
 use Rattle.clog_folder.proofs.Listed.{listed_of}
 use Rattle.clog_store.specs.Coming.{IsRecovering, MayComeHere, MayComeTo}
-use Rattle.clog_store.specs.Filing.{FiledNow, IsFiledTo, IsReady, SettledTo, StepCause}
+use Rattle.clog_store.specs.Filing.{
+  FiledNow,
+  IsFiledTo,
+  IsReady,
+  IsRecoveryPut,
+  SettledTo,
+  StepCause,
+}
 use Rattle.clog_store.specs.Live.{start}
 use Rattle.clog_store.specs.Named.{HasSequence, OneHas}
 use Rattle.clog_store.proofs.Live.{part_is_live, row_has}
@@ -82,6 +90,10 @@ filed_none first cells undamaged = record {
   same = same_itself first undamaged;
   free = λ table sequence low named. refl;
   segments = λ name version id named. refl;
+  stand = λ name bytes there. there;
+  came = λ name bytes there absent.
+      let no : Some bytes ≡ None = sym there ∙ absent in
+      cc;
 }
 
 module _ (first : Files) (names : List (List ℕ)) (cells : Pairs) (top : Position)
@@ -113,6 +125,8 @@ module _ (first : Files) (names : List (List ℕ)) (cells : Pairs) (top : Positi
     free = λ other sequence low named.
         so_far.free other sequence (omega (arith, low)) named;
     segments = so_far.segments;
+    stand = so_far.stand;
+    came = so_far.came;
   }
 
   -- ---- the file of a table that has some
@@ -159,12 +173,24 @@ module _ (first : Files) (names : List (List ℕ)) (cells : Pairs) (top : Positi
       not_done : Contains so_far.done table → ⊥
       not_done done = let low = so_far.below table done in omega (arith, low)
 
+      free_first : finmap.get first name ≡ None
+      free_first = absent_of (finmap.get first name) not_there
+
+      pub is_put : IsRecoveryPut first name bytes
+      is_put = record {
+        file = file;
+        sequence = sequence;
+        named = named;
+        spelled = spelled;
+        free = free_first;
+        is_recovery_file = is_recovery_file;
+      }
+
       pub is_new : IsNewFile now (bytes_at now) file sequence bytes
       is_new = record {
         named = named;
         spelled = spelled;
-        free = so_far.free table sequence (omega arith) named
-            ∙ absent_of (finmap.get first name) not_there;
+        free = so_far.free table sequence (omega arith) named ∙ free_first;
         is_true = next_is_true (bytes_at first) (bytes_at now) so_far.done file so_far.filed
             not_done is_recovery_file;
       }
@@ -204,6 +230,21 @@ module _ (first : Files) (names : List (List ℕ)) (cells : Pairs) (top : Positi
         segments = λ n version id is.
             off n (no_segment now (bytes_at now) file sequence bytes is_new n version id is)
             ∙ so_far.segments n version id is;
+        stand = λ n b there.
+            off n (λ same.
+            let no : Some b ≡ None =
+            sym there ∙ ap (finmap.get first) same ∙ free_first in
+            cc)
+            ∙ so_far.stand n b there;
+        came = λ n b there absent. elim (same_or_other n name) [
+          | inl same ↦
+              let is : Some bytes ≡ Some b =
+              sym (put_here now name bytes) ∙ ap (finmap.get later) (sym same) ∙ there in
+              subst (λ (m : List ℕ). IsRecoveryPut first m b) (sym same)
+              (subst (IsRecoveryPut first name) (ap (λ (o : Option (List ℕ)). unwrap_or o []) is)
+              is_put)
+          | inr apart ↦ so_far.came n b (sym (off n apart) ∙ there) absent
+        ];
       }
 
 -- ---- where the disk tells its files

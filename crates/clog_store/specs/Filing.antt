@@ -1,6 +1,6 @@
 -- A folder on the way of its recovery: of the tables below one, those that the log has cells of
 -- have got their files.
-use Rattle.std.specs.Prelude.{◌≡◌, ◌⊎◌, ℕ, ◌<◌, ◌≤◌, List, Option, Contains, Result}
+use Rattle.std.specs.Prelude.{◌≡◌, ◌⊎◌, ℕ, ◌<◌, ◌≤◌, List, Option, Some, None, Contains, Result}
 use Rattle.std.specs.declared.result.Result.TheVariants as result
 use Rattle.std.specs.FinMap as finmap
 use Rattle.clog_spec.specs.Names.{IsSegmentName, IsTableName, table_name_of}
@@ -11,9 +11,11 @@ use Rattle.clog_base.specs.declared.position.Position.{Position}
 use Rattle.clog_io.specs.Causes.{Rose}
 use Rattle.clog_cells.specs.Merge.{IsMergeOf}
 use Rattle.clog_disk.specs.Files.{Files, Told, bytes_at}
+use Rattle.clog_table.specs.declared.table_file.TableFile.{TableFile}
+use Rattle.clog_table.specs.Refusals.{IsFileOf}
 use Rattle.clog_crash.specs.Flush.{IsSameFolder, IsSettled}
 use Rattle.clog_crash.specs.Readings.{IsLoggedCellIn, IsSkippedIn}
-use Rattle.clog_crash.specs.Recovery.{AreFiled, IsGreatestPosition}
+use Rattle.clog_crash.specs.Recovery.{AreFiled, IsGreatestPosition, IsRecoveryFile}
 use Rattle.clog_crash.specs.Restore.{IsUndamaged}
 use Rattle.clog_folder.specs.declared.fault.OpenFault.{OpenFault}
 use Rattle.clog_folder.specs.declared.fault.OpenFault.TheVariants.{Disk, OutOfMemory}
@@ -30,6 +32,21 @@ pub record IsReady (first : Files) (names : List (List ℕ)) (cells : List (Cell
   pub decides : (table : Table) (at : Position)
       → IsSkippedIn (bytes_at first) table at ⊎ (¬ IsSkippedIn (bytes_at first) table at)
 
+-- These bytes are put at this name, which is free, by a recovery: a file of one table that stands for
+-- the whole log.
+pub record IsRecoveryPut (first : Files) (name bytes : List ℕ) : Type 0 where
+  pub file : TableFile
+  pub sequence : ℕ
+  pub named : IsTableName name file.table.0 sequence
+  pub spelled : IsFileOf file.table bytes file
+  pub free : finmap.get first name ≡ None
+  pub is_recovery_file : IsRecoveryFile (bytes_at first) file
+
+-- what is there now and was not before was put by a recovery
+abbrev pub AreRecoveryPuts : Files → Files → Type 0
+AreRecoveryPuts first now = (name bytes : List ℕ) → finmap.get now name ≡ Some bytes
+    → finmap.get first name ≡ None → IsRecoveryPut first name bytes
+
 -- The tables below n that the log has cells of have their files. Nothing else has changed.
 pub record IsFiledTo (first : Files) (cells : List (CellKey × Cell)) (n : ℕ) (now : Files) : Type 0
   where
@@ -45,6 +62,9 @@ pub record IsFiledTo (first : Files) (cells : List (CellKey × Cell)) (n : ℕ) 
         ≡ finmap.get first (table_name_of table.0 sequence)
     pub segments : (name : List ℕ) (version id : ℕ) → IsSegmentName name version id
         → finmap.get now name ≡ finmap.get first name
+    pub stand : (name bytes : List ℕ) → finmap.get first name ≡ Some bytes
+        → finmap.get now name ≡ Some bytes
+    pub came : AreRecoveryPuts first now
 
 -- where the disk tells its files, they are such
 abbrev pub FiledNow : Files → List (CellKey × Cell) → ℕ → Option Files → Type 0

@@ -1,5 +1,5 @@
 -- What an opening makes of a folder, and why it refuses one.
-use Rattle.std.specs.Prelude.{◌≡◌, ℕ, ◌<◌, ◌≤◌, List, Option, false, IfSome, ⊤, Result}
+use Rattle.std.specs.Prelude.{◌≡◌, ℕ, ◌<◌, ◌≤◌, List, Option, Some, false, IfSome, ⊤, Result}
 use Rattle.std.specs.List.{Any}
 use Rattle.std.specs.declared.result.Result.TheVariants as result
 use Rattle.std.specs.FinMap as finmap
@@ -10,7 +10,7 @@ use Rattle.clog_disk.specs.Files.{Files, Lists, Told, bytes_at}
 use Rattle.clog_table.specs.declared.table_file.TableFile.{TableFile}
 use Rattle.clog_crash.specs.Covering.{SameMerge}
 use Rattle.clog_crash.specs.Flush.{IsSameFolder}
-use Rattle.clog_crash.specs.Folder.{HasSegmentFile, HoldsName, IsBase, IsFirstBad}
+use Rattle.clog_crash.specs.Folder.{HasSegmentFile, HoldsName, IsBase, IsFirstBad, IsNameOfSegment}
 use Rattle.clog_crash.specs.Readings.{IsTableIn, RestoresIn}
 use Rattle.clog_crash.specs.Recovery.{NamesAny}
 use Rattle.clog_crash.specs.Restore.{IsUndamaged}
@@ -24,6 +24,7 @@ use Rattle.clog_folder.specs.declared.fault.OpenFault.TheVariants.{
 }
 use Rattle.clog_folder.specs.Folder.{CanBeRead, HasDamage, HasLongSegment, IsHeldOf}
 use Rattle.clog_store.specs.declared.opening.Known.{Known}
+use Rattle.clog_store.specs.Filing.{AreRecoveryPuts}
 use Rattle.clog_store.specs.Life.{State}
 use Rattle.clog_store.specs.Named.{
   IsIdBase,
@@ -41,11 +42,15 @@ pub record CanBeOpened (files : Files) : Type 0 where
   pub few : ¬ HoldsName files IsLateTable
   pub low : (id : ℕ) → NamesAny files id → id < id_limit
 
--- A recovered folder has the same newest cells, no damage, and no segment. No table file reaches
--- into a segment from the base on.
+-- A recovered folder has the same newest cells, no damage, and no segment. Each other file stands as
+-- it was, and what came are the files that recovery puts. No table file reaches into a segment from
+-- the base on.
 pub record IsRecovered (first : Files) (base : ℕ) (now : Files) : Type 0 where
   pub same : IsSameFolder first now
   pub no_segment : ¬ HasSegmentFile now
+  pub others : (name bytes : List ℕ) → ¬ IsNameOfSegment name
+      → finmap.get first name ≡ Some bytes → finmap.get now name ≡ Some bytes
+  pub came : AreRecoveryPuts first now
   pub below : (file : TableFile) → IsTableIn (bytes_at now) file → file.upper.id < base
 
 -- The folder could be opened, was recovered, and the base is the greater of the moment and one more
