@@ -294,6 +294,13 @@ module _ (first : Files) (names : List (List ℕ)) (cells : Pairs) (top : Positi
           (filed_more first names cells top ready table member.0 member.1 f is sequence bytes
           spelled next fits)
 
+      pub is_put_now : (told : Option Files) → FiledNow first cells table.0 told
+          → IsRecoveryPut first (table_name_of table.0 sequence) bytes
+      is_put_now None is = absurd is
+      is_put_now (Some now) is =
+          is_put first names cells top ready table member.0 member.1 now is sequence bytes spelled
+          next fits
+
       pub may_come_to : (told : Option Files) → FiledNow first cells table.0 told
           → MayComeTo first told put sequence bytes
       may_come_to None is = absurd is

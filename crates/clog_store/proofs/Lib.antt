@@ -1,4 +1,5 @@
 mod Beside
+mod Changed
 mod Ended
 mod Filed
 mod Going

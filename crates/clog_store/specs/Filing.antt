@@ -1,6 +1,21 @@
 -- A folder on the way of its recovery: of the tables below one, those that the log has cells of
 -- have got their files.
-use Rattle.std.specs.Prelude.{◌≡◌, ◌⊎◌, ℕ, ◌<◌, ◌≤◌, List, Option, Some, None, Contains, Result}
+use Rattle.std.specs.Prelude.{
+  ◌≡◌,
+  ◌⊎◌,
+  ℕ,
+  ◌<◌,
+  ◌≤◌,
+  List,
+  ◌++◌,
+  map,
+  Option,
+  Some,
+  None,
+  option_map,
+  Contains,
+  Result,
+}
 use Rattle.std.specs.declared.result.Result.TheVariants as result
 use Rattle.std.specs.FinMap as finmap
 use Rattle.clog_spec.specs.Names.{IsSegmentName, IsTableName, table_name_of}
@@ -10,6 +25,8 @@ use Rattle.clog_base.specs.declared.cell.Table.{Table}
 use Rattle.clog_base.specs.declared.position.Position.{Position}
 use Rattle.clog_io.specs.Causes.{Rose}
 use Rattle.clog_cells.specs.Merge.{IsMergeOf}
+use Rattle.clog_disk.specs.declared.change.Change.{Change}
+use Rattle.clog_disk.specs.declared.change.Change.TheVariants as change
 use Rattle.clog_disk.specs.Files.{Files, Told, bytes_at}
 use Rattle.clog_table.specs.declared.table_file.TableFile.{TableFile}
 use Rattle.clog_table.specs.Refusals.{IsFileOf}
@@ -32,8 +49,8 @@ pub record IsReady (first : Files) (names : List (List ℕ)) (cells : List (Cell
   pub decides : (table : Table) (at : Position)
       → IsSkippedIn (bytes_at first) table at ⊎ (¬ IsSkippedIn (bytes_at first) table at)
 
--- These bytes are put at this name, which is free, by a recovery: a file of one table that stands for
--- the whole log.
+-- These bytes are put at this name, which is free, by a recovery: a file of one table that stands
+-- for the whole log.
 pub record IsRecoveryPut (first : Files) (name bytes : List ℕ) : Type 0 where
   pub file : TableFile
   pub sequence : ℕ
@@ -46,6 +63,16 @@ pub record IsRecoveryPut (first : Files) (name bytes : List ℕ) : Type 0 where
 abbrev pub AreRecoveryPuts : Files → Files → Type 0
 AreRecoveryPuts first now = (name bytes : List ℕ) → finmap.get now name ≡ Some bytes
     → finmap.get first name ≡ None → IsRecoveryPut first name bytes
+
+-- the change of a disk that puts a file
+abbrev pub publish : List ℕ × List ℕ → Change
+publish put = change.Publish put.0 put.1
+
+-- Behind the changes that there were a recovery has put some files, and done nothing else.
+pub record HasPut (first : Files) (before now : Option (List Change)) : Type 0 where
+  pub puts : List (List ℕ × List ℕ)
+  pub are : (put : List ℕ × List ℕ) → Contains puts put → IsRecoveryPut first put.0 put.1
+  pub behind : now ≡ option_map (λ changes. changes ++ map publish puts) before
 
 -- The tables below n that the log has cells of have their files. Nothing else has changed.
 pub record IsFiledTo (first : Files) (cells : List (CellKey × Cell)) (n : ℕ) (now : Files) : Type 0

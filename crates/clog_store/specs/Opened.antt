@@ -1,16 +1,39 @@
 -- What an opening makes of a folder, and why it refuses one.
-use Rattle.std.specs.Prelude.{◌≡◌, ℕ, ◌<◌, ◌≤◌, List, Option, Some, false, IfSome, ⊤, Result}
+use Rattle.std.specs.Prelude.{
+  ◌≡◌,
+  ◌⊎◌,
+  ℕ,
+  ◌<◌,
+  ◌≤◌,
+  List,
+  [],
+  take,
+  Option,
+  Some,
+  false,
+  IfSome,
+  ⊤,
+  Result,
+}
 use Rattle.std.specs.List.{Any}
 use Rattle.std.specs.declared.result.Result.TheVariants as result
 use Rattle.std.specs.FinMap as finmap
 use Rattle.clog_spec.specs.Sizes.{file_limit}
 use Rattle.clog_base.specs.declared.fault.Quantity.TheVariants.{Ids, SegmentBytes, TableFiles}
 use Rattle.clog_io.specs.Causes.{Rose}
+use Rattle.clog_disk.specs.declared.change.Change.{Change}
 use Rattle.clog_disk.specs.Files.{Files, Lists, Told, bytes_at}
 use Rattle.clog_table.specs.declared.table_file.TableFile.{TableFile}
 use Rattle.clog_crash.specs.Covering.{SameMerge}
 use Rattle.clog_crash.specs.Flush.{IsSameFolder}
-use Rattle.clog_crash.specs.Folder.{HasSegmentFile, HoldsName, IsBase, IsFirstBad, IsNameOfSegment}
+use Rattle.clog_crash.specs.Folder.{
+  HasSegmentFile,
+  HoldsName,
+  IsBase,
+  IsFirstBad,
+  IsHeld,
+  IsNameOfSegment,
+}
 use Rattle.clog_crash.specs.Readings.{IsTableIn, RestoresIn}
 use Rattle.clog_crash.specs.Recovery.{NamesAny}
 use Rattle.clog_crash.specs.Restore.{IsUndamaged}
@@ -24,9 +47,11 @@ use Rattle.clog_folder.specs.declared.fault.OpenFault.TheVariants.{
 }
 use Rattle.clog_folder.specs.Folder.{CanBeRead, HasDamage, HasLongSegment, IsHeldOf}
 use Rattle.clog_store.specs.declared.opening.Known.{Known}
-use Rattle.clog_store.specs.Filing.{AreRecoveryPuts}
+use Rattle.clog_store.specs.Coming.{HaveRemoved}
+use Rattle.clog_store.specs.Filing.{AreRecoveryPuts, HasPut}
 use Rattle.clog_store.specs.Life.{State}
 use Rattle.clog_store.specs.Named.{
+  AreSegmentIds,
   IsIdBase,
   IsLateTable,
   NamesOne,
@@ -42,9 +67,9 @@ pub record CanBeOpened (files : Files) : Type 0 where
   pub few : ¬ HoldsName files IsLateTable
   pub low : (id : ℕ) → NamesAny files id → id < id_limit
 
--- A recovered folder has the same newest cells, no damage, and no segment. Each other file stands as
--- it was, and what came are the files that recovery puts. No table file reaches into a segment from
--- the base on.
+-- A recovered folder has the same newest cells, no damage, and no segment. Each other file stands
+-- as it was, and what came are the files that recovery puts. No table file reaches into a segment
+-- from the base on.
 pub record IsRecovered (first : Files) (base : ℕ) (now : Files) : Type 0 where
   pub same : IsSameFolder first now
   pub no_segment : ¬ HasSegmentFile now
@@ -59,6 +84,30 @@ pub record IsOpened (first : Files) (moment base : ℕ) (now : Files) : Type 0 w
   pub within : CanBeOpened first
   pub is_base : IsBase (NamesAny first) moment base
   pub recovered : IsRecovered first base now
+
+-- ---- what it changes
+
+-- First files are put, and then these segments are removed, in this order; nothing else is done.
+pub record HasRecovered (first : Files) (removed : List ℕ) (before now : Option (List Change))
+    : Type 0 where
+  pub between : Option (List Change)
+  pub puts : HasPut first before between
+  pub removes : HaveRemoved removed between now
+
+-- the first of the segments' ids, or none
+abbrev pub AreFirstIds : Files → List ℕ → Type 0
+AreFirstIds first removed = (removed ≡ [])
+    ⊎ ((ids : List ℕ) × AreSegmentIds (IsHeld first) ids × ((n : ℕ) × (removed ≡ take n ids)))
+
+-- the first of the segments are removed, or none, in the order of their ids
+abbrev pub RecoversFirst : Files → Option (List Change) → Option (List Change) → Type 0
+RecoversFirst first before now =
+    (removed : List ℕ) × AreFirstIds first removed × HasRecovered first removed before now
+
+-- all segments are removed, in the order of their ids
+abbrev pub RecoversAll : Files → Option (List Change) → Option (List Change) → Type 0
+RecoversAll first before now =
+    (ids : List ℕ) × AreSegmentIds (IsHeld first) ids × HasRecovered first ids before now
 
 -- ---- why it is refused
 

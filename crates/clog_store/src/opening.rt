@@ -18,6 +18,8 @@ ghost use Rattle.clog_store.specs.Opened.{
   LeavesAlone,
   Looks,
   Opens,
+  RecoversAll,
+  RecoversFirst,
 };
 
 use crate::log_cells::{live_cells, top_of};
@@ -43,6 +45,10 @@ fn recover_folder<D: Disk>(
     ensures later { IsLater D.moment D.read_at disk.old disk.new }
     ensures no_fewer { D.faults disk.old ≤ D.faults disk.new }
     ensures cause { StepCause (D.faults disk.old) (D.faults disk.new) result }
+    ensures changes { (first : Files) → D.files disk.old ≡ Some first
+        → RecoversFirst first (D.changes disk.old) (D.changes disk.new) }
+    ensures recovers { (first : Files) → D.files disk.old ≡ Some first
+        → OnOk result (RecoversAll first (D.changes disk.old) (D.changes disk.new)) }
     ensures same { (first : Files) → D.files disk.old ≡ Some first
         → Told (D.files disk.new) (IsSameFolder first) }
     ensures files { (first : Files) → D.files disk.old ≡ Some first → (base : ℕ)
@@ -111,10 +117,11 @@ fn look<D: Disk>(alloc: Global, disk: &mut D, moment: u64) -> Result<Known, Open
 /// moment is one in milliseconds.
 ///
 /// Table files are read first, then segments, each refused where it is the first that is bad; then
-/// the limits on sequences and on ids are looked at. Recovery puts one file for each table that has
-/// cells which the log restores, and then removes the segments in the order of their ids.
+/// the limits on sequences and on ids are looked at. Recovery puts files of new names, each with
+/// all cells of one table that the log restores, and then removes the segments in the order of
+/// their ids; it changes nothing else.
 ///
-/// - `Disk`: only where the disk's count of faults has risen in this call.
+/// - `Disk`: only where the disk's count of faults has risen in this call. Else it stays.
 /// - `BadTable`, `Damaged`, `Limit`: exactly where the folder is so. The disk is then as it was.
 /// - `OutOfMemory`: memory was refused.
 ///
@@ -125,12 +132,15 @@ pub fn recover<D: Disk>(alloc: Global, disk: &mut D, moment: u64) -> Result<u64,
     ensures told { SameTold (D.files disk.old) (D.files disk.new) }
     ensures later { IsLater D.moment D.read_at disk.old disk.new }
     ensures no_fewer { D.faults disk.old ≤ D.faults disk.new }
-    // Of another outcome than `Disk` no fault was counted.
     ensures cause { TellsEach (D.faults disk.old) (D.faults disk.new) result }
     ensures opens { Opens (D.files disk.old) (D.files disk.new) (D.faults disk.old)
         (D.faults disk.new) moment result }
     ensures alone { LeavesAlone (IsUntouched D.files D.changes D.leaves D.moment D.since D.read_at
         D.faults disk.old disk.new) result }
+    ensures changes { (first : Files) → D.files disk.old ≡ Some first
+        → RecoversFirst first (D.changes disk.old) (D.changes disk.new) }
+    ensures recovers { (first : Files) → D.files disk.old ≡ Some first
+        → OnOk result (RecoversAll first (D.changes disk.old) (D.changes disk.new)) }
     ensures keeps { (first : Files) → D.files disk.old ≡ Some first
         → Told (D.files disk.new) (KeepsFolder first) }
     ensures rests { (first : Files) → D.files disk.old ≡ Some first

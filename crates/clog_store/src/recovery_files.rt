@@ -12,6 +12,7 @@ ghost use Rattle.clog_crash.specs.Flush.{IsSameFolder};
 ghost use Rattle.clog_store.specs.Filing.{
   FiledBy,
   FiledNow,
+  HasPut,
   IsReady,
   SettledTo,
   StepCause,
@@ -44,6 +45,9 @@ fn put_table_of<D: Disk>(
     ensures later { IsLater D.moment D.read_at disk.old disk.new }
     ensures no_fewer { D.faults disk.old ≤ D.faults disk.new }
     ensures cause { StepCause (D.faults disk.old) (D.faults disk.new) result }
+    ensures puts { (first : Files) → IsReady first names.now cells.now top
+        → FiledNow first cells.now table.0 (D.files disk.old)
+        → HasPut first (D.changes disk.old) (D.changes disk.new) }
     ensures files { (first : Files) → IsReady first names.now cells.now top
         → FiledNow first cells.now table.0 (D.files disk.old)
         → FiledBy first cells.now (table.0 + 1) (D.files disk.new) result }
@@ -81,6 +85,9 @@ pub(crate) fn put_tables<D: Disk>(
     ensures later { IsLater D.moment D.read_at disk.old disk.new }
     ensures no_fewer { D.faults disk.old ≤ D.faults disk.new }
     ensures cause { StepCause (D.faults disk.old) (D.faults disk.new) result }
+    ensures puts { (first : Files) → IsReady first names.now cells.now top
+        → FiledNow first cells.now 0 (D.files disk.old)
+        → HasPut first (D.changes disk.old) (D.changes disk.new) }
     ensures files { (first : Files) → IsReady first names.now cells.now top
         → FiledNow first cells.now 0 (D.files disk.old)
         → FiledBy first cells.now most_tables (D.files disk.new) result }

@@ -1,7 +1,7 @@
 //! A store that writes one segment. Where all that was there lasted before its opening, each image
 //! of a crash since then restores what the folder restored, and the first of the entries that the
-//! store was handed: `Lives`, which its opening begins and each write keeps. From the first fault of
-//! the disk on it writes nothing.
+//! store was handed: `Lives`, which its opening begins and each write keeps. From the first fault
+//! of the disk on it writes nothing.
 ghost use Rattle.std.specs.Prelude.{◌≡◌, ◌<◌, ◌^◌, ◌++◌, List, [], ◌∷◌, take, drop, length};
 ghost use Rattle.std.specs.Prelude.{IfErr, IfOk, IfSome, OnOk, Some};
 ghost use Rattle.std.specs.Prelude.{Err, true, false};
@@ -12,7 +12,7 @@ ghost use Rattle.clog_disk.specs.Files.{Files, IsEnd, SameTold, Told};
 ghost use Rattle.clog_disk.specs.Images.{IsLater, LeavesOnly};
 ghost use Rattle.clog_crash.specs.Rest.{IsAtRest};
 ghost use Rattle.clog_crash.specs.Sections.{Brings};
-ghost use Rattle.clog_folder.specs.Passing.{IsUntouched};
+ghost use Rattle.clog_folder.specs.Passing.{IsUntouched, TellsFault};
 ghost use Rattle.clog_store.specs.Life.{Lives, ShownSince};
 ghost use Rattle.clog_store.specs.Opened.{
   HandsOn,
@@ -21,6 +21,8 @@ ghost use Rattle.clog_store.specs.Opened.{
   LeftAlone,
   OpenRefused,
   OpensAs,
+  RecoversAll,
+  RecoversFirst,
 };
 
 use crate::opening::recover;
@@ -149,6 +151,12 @@ impl<D: Disk> Store<D> {
             OpenRefused (D.files disk) (D.faults disk) (D.faults back.0) back.1) }
         ensures alone { IfErr result (λ back. LeftAlone (IsUntouched D.files D.changes D.leaves
             D.moment D.since D.read_at D.faults disk back.0) back.1) }
+        ensures tells { IfErr result (λ back.
+            TellsFault back.1 (D.faults disk) (D.faults back.0)) }
+        ensures changes { (first : Files) → D.files disk ≡ Some first
+            → HandsOn (λ now. RecoversFirst first (D.changes disk) (D.changes now)) result }
+        ensures recovers { (first : Files) → D.files disk ≡ Some first
+            → IfOk result (λ store. RecoversAll first (D.changes disk) (D.changes store.disk)) }
         ensures told { HandsOn (λ now. SameTold (D.files disk) (D.files now)) result }
         ensures later { HandsOn (IsLater D.moment D.read_at disk) result }
         ensures keeps { (first : Files) → D.files disk ≡ Some first

@@ -1,9 +1,11 @@
-use Rattle.std.proofs.Common.{Option, sym, subst, ◌∙◌, arith}
+use Rattle.std.proofs.Common.{List, Option, sym, subst, ◌∙◌, arith}
+use Rattle.clog_disk.specs.declared.change.Change.{Change}
 use Rattle.clog_disk.specs.Files.{Files, SameTold}
 use Rattle.clog_disk.proofs.Moments.{goes_on_by, later_still, weakened}
 use Rattle.clog_disk.proofs.Telling.{same_told_self, same_told_then}
 use Rattle.clog_crash.specs.Flush.{IsSameFolder}
-use Rattle.clog_store.specs.Opened.{KeepsFolder}
+use Rattle.clog_store.specs.Opened.{KeepsFolder, RecoversAll, RecoversFirst}
+use Rattle.clog_store.proofs.Changed.{only_puts, put_none}
 use Rattle.clog_store.proofs.Kept.{if_told}
 use Rattle.clog_store.proofs.OpenedWhole.{
   alone_of,
@@ -176,3 +178,32 @@ pub returns-clause-alone : goal.returns-clause-alone
 returns-clause-alone g c =
     step_alone (g.D.Disk.faults c.look.new.disk) (g.D.Disk.faults c.recover_folder.new.disk)
     c.in-Err-recover_folder.fault _ c.in-Err-recover_folder.ensures.cause
+
+-- ---- what it changes
+
+pub returns-in-Err-clause-changes : goal.returns-in-Err-clause-changes
+returns-in-Err-clause-changes g c first is =
+    let old = g.D.Disk.changes c.args.disk.now in
+    let mid = g.D.Disk.changes c.look.new.disk in
+    only_puts first old mid (put_none first old mid c.look.ensures.keeps.changes_are)
+
+pub returns-in-Ok-recover_folder-clause-changes : goal.returns-in-Ok-recover_folder-clause-changes
+returns-in-Ok-recover_folder-clause-changes g c first is =
+    let new = g.D.Disk.changes c.recover_folder.new.disk in
+    subst (λ (before : Option (List Change)). RecoversFirst first before new)
+    c.look.ensures.keeps.changes_are
+    (c.recover_folder.ensures.changes first (c.look.ensures.keeps.same.files ∙ is))
+
+pub returns-in-Ok-recover_folder-clause-recovers : goal.returns-in-Ok-recover_folder-clause-recovers
+returns-in-Ok-recover_folder-clause-recovers g c first is =
+    let new = g.D.Disk.changes c.recover_folder.new.disk in
+    subst (λ (before : Option (List Change)). RecoversAll first before new)
+    c.look.ensures.keeps.changes_are
+    (c.in-Ok-recover_folder.ensures.recovers first (c.look.ensures.keeps.same.files ∙ is))
+
+pub returns-clause-changes : goal.returns-clause-changes
+returns-clause-changes g c first is =
+    let new = g.D.Disk.changes c.recover_folder.new.disk in
+    subst (λ (before : Option (List Change)). RecoversFirst first before new)
+    c.look.ensures.keeps.changes_are
+    (c.recover_folder.ensures.changes first (c.look.ensures.keeps.same.files ∙ is))

@@ -1,4 +1,4 @@
-use Rattle.std.proofs.Common.{List, [], Contains, sym, subst}
+use Rattle.std.proofs.Common.{List, [], Contains, refl, sym, subst}
 use Rattle.std.specs.Prelude.{false}
 use Rattle.std.specs.List.{flat_map}
 use Rattle.clog_disk.proofs.Moments.{started, goes_on_by}
@@ -9,6 +9,14 @@ use Rattle.replay_merge.proofs.Replayed.{ranges_of}
 use Rattle.clog_store.specs.Coming.{AreThere}
 use Rattle.clog_store.specs.Live.{IsTop}
 use Rattle.clog_store.specs.Named.{AreSegmentIds}
+use Rattle.clog_store.proofs.Changed.{
+  first_of_all,
+  ids_held,
+  only_puts,
+  put_none,
+  then_all,
+  then_some,
+}
 use Rattle.clog_store.proofs.Filed.{settled_show}
 use Rattle.clog_store.proofs.Live.{sized}
 use Rattle.clog_store.proofs.Recovery.{
@@ -258,3 +266,99 @@ returns-in-Ok-take_all_recovered-clause-same g c first is =
     (recovers_told first names cells top ready ids are (D.files mid)
     (c.in-Ok.ensures.files first ready
     (begins first (D.files old) is folder c.requires.held cells)))
+
+-- ---- what it changes
+
+pub returns-in_err-ids-clause-changes : goal.returns-in_err-ids-clause-changes
+returns-in_err-ids-clause-changes g c first is =
+    let old = g.D.Disk.changes c.args.disk.now in
+    only_puts first old old (put_none first old old refl)
+
+pub returns-in_err-cells-clause-changes : goal.returns-in_err-cells-clause-changes
+returns-in_err-cells-clause-changes g c first is =
+    let old = g.D.Disk.changes c.args.disk.now in
+    only_puts first old old (put_none first old old refl)
+
+pub returns-in-Err-clause-changes : goal.returns-in-Err-clause-changes
+returns-in-Err-clause-changes g c first is =
+    let D = g.D.Disk in
+    let old = c.args.disk.now in
+    let folder = c.args.folder.now in
+    let names = c.args.names.now in
+    let cells = c.in_ok-cells.cells in
+    let top = c.top_of-top.result in
+    let is_top = subst (λ (hs : List SegmentHeld). IsTop (flat_map payloads_of hs) top)
+    c.as_slice.ensures c.top_of-top.ensures in
+    let ready = ready_told first (D.files old) is folder c.requires.held names cells top
+    c.requires.lists c.in_ok-cells.ensures is_top in
+    let mid = c.put_tables.new.disk in
+    let puts = c.put_tables.ensures.puts first ready
+    (begins first (D.files old) is folder c.requires.held cells) in
+    only_puts first (D.changes old) (D.changes mid) puts
+
+pub returns-in-Ok-take_all_recovered-clause-recovers :
+    goal.returns-in-Ok-take_all_recovered-clause-recovers
+returns-in-Ok-take_all_recovered-clause-recovers g c first is =
+    let D = g.D.Disk in
+    let old = c.args.disk.now in
+    let folder = c.args.folder.now in
+    let names = c.args.names.now in
+    let cells = c.in_ok-cells.cells in
+    let top = c.top_of-top.result in
+    let is_top = subst (λ (hs : List SegmentHeld). IsTop (flat_map payloads_of hs) top)
+    c.as_slice.ensures c.top_of-top.ensures in
+    let ready = ready_told first (D.files old) is folder c.requires.held names cells top
+    c.requires.lists c.in_ok-cells.ensures is_top in
+    let mid = c.put_tables.new.disk in
+    let puts = c.put_tables.ensures.puts first ready
+    (begins first (D.files old) is folder c.requires.held cells) in
+    let are = ids_held first names ready.lists c.deref.result.now
+    (subst (AreSegmentIds (Contains names)) (sym c.deref.ensures.value) c.in_ok-ids.ensures) in
+    let new = c.take_all_recovered.new.disk in
+    then_all first (D.changes old) (D.changes mid) (D.changes new) c.deref.result.now are puts
+    c.in-Ok-take_all_recovered.ensures.removes
+
+pub returns-in-Ok-take_all_recovered-clause-changes :
+    goal.returns-in-Ok-take_all_recovered-clause-changes
+returns-in-Ok-take_all_recovered-clause-changes g c first is =
+    let D = g.D.Disk in
+    let old = c.args.disk.now in
+    let folder = c.args.folder.now in
+    let names = c.args.names.now in
+    let cells = c.in_ok-cells.cells in
+    let top = c.top_of-top.result in
+    let is_top = subst (λ (hs : List SegmentHeld). IsTop (flat_map payloads_of hs) top)
+    c.as_slice.ensures c.top_of-top.ensures in
+    let ready = ready_told first (D.files old) is folder c.requires.held names cells top
+    c.requires.lists c.in_ok-cells.ensures is_top in
+    let mid = c.put_tables.new.disk in
+    let puts = c.put_tables.ensures.puts first ready
+    (begins first (D.files old) is folder c.requires.held cells) in
+    let are = ids_held first names ready.lists c.deref.result.now
+    (subst (AreSegmentIds (Contains names)) (sym c.deref.ensures.value) c.in_ok-ids.ensures) in
+    let new = c.take_all_recovered.new.disk in
+    first_of_all first (D.changes old) (D.changes new)
+    (then_all first (D.changes old) (D.changes mid) (D.changes new) c.deref.result.now are puts
+    c.in-Ok-take_all_recovered.ensures.removes)
+
+pub returns-clause-changes : goal.returns-clause-changes
+returns-clause-changes g c first is =
+    let D = g.D.Disk in
+    let old = c.args.disk.now in
+    let folder = c.args.folder.now in
+    let names = c.args.names.now in
+    let cells = c.in_ok-cells.cells in
+    let top = c.top_of-top.result in
+    let is_top = subst (λ (hs : List SegmentHeld). IsTop (flat_map payloads_of hs) top)
+    c.as_slice.ensures c.top_of-top.ensures in
+    let ready = ready_told first (D.files old) is folder c.requires.held names cells top
+    c.requires.lists c.in_ok-cells.ensures is_top in
+    let mid = c.put_tables.new.disk in
+    let puts = c.put_tables.ensures.puts first ready
+    (begins first (D.files old) is folder c.requires.held cells) in
+    let are = ids_held first names ready.lists c.deref.result.now
+    (subst (AreSegmentIds (Contains names)) (sym c.deref.ensures.value) c.in_ok-ids.ensures) in
+    let new = c.take_all_recovered.new.disk in
+    let removes = c.in-Err-take_all_recovered.ensures.removes in
+    then_some first (D.changes old) (D.changes mid) (D.changes new) c.deref.result.now removes.0
+    are puts removes.1

@@ -4,12 +4,15 @@ use Rattle.clog_base.specs.declared.cell.Cell.{Cell}
 use Rattle.clog_base.specs.declared.cell.CellKey.{CellKey}
 use Rattle.clog_cells.specs.Merge.{part_on}
 use Rattle.clog_disk.proofs.Moments.{started}
+use Rattle.clog_spec.specs.Names.{table_name_of}
 use Rattle.clog_table.specs.Format.{file_of}
 use Rattle.clog_table.specs.Limits.{IsWithinLimits}
 use Rattle.clog_crash.specs.Flush.{IsSameFolder}
 use Rattle.clog_store.specs.Live.{start}
+use Rattle.clog_store.proofs.Changed.{put_none, put_one}
 use Rattle.clog_store.proofs.Filed.{
   filed_told,
+  is_put_now,
   may_come_here,
   may_come_to,
   none_filed_now,
@@ -87,6 +90,23 @@ returns-in-Ok-clause-files g c first ready filed =
     c.next_sequence.result c.deref.result.now spelled c.next_sequence.ensures.next
     c.next_sequence.ensures.fits (D.files before) (D.files after) filed c.in-Ok.ensures.puts
 
+pub returns-in-Ok-clause-puts : goal.returns-in-Ok-clause-puts
+returns-in-Ok-clause-puts g c first ready filed =
+    let D = g.D.Disk in
+    let before = c.args.disk.now in
+    let after = c.put_recovered.new.disk in
+    let table = c.args.table in
+    let cells = c.args.cells.now in
+    let some = some_of table cells c.in_ok-part.part c.len.result c.in_ok-part.ensures
+    c.len.ensures.len (λ e. omega (arith, c.if-len-eq0.false, e)) in
+    let spelled = spelled_of table cells c.in_ok-part.part c.args.top c.in_ok-bytes.bytes.items
+    c.deref.result.now c.in_ok-part.ensures c.deref.ensures.value c.in_ok-bytes.ensures in
+    put_one first (D.changes before) (D.changes after)
+    (table_name_of table.0 c.next_sequence.result) c.deref.result.now
+    (is_put_now first c.args.names.now cells c.args.top ready table some c.next_sequence.result
+    c.deref.result.now spelled c.next_sequence.ensures.next c.next_sequence.ensures.fits
+    (D.files before) filed) c.in-Ok.ensures.adds
+
 pub returns-in-Ok-clause-settles : goal.returns-in-Ok-clause-settles
 returns-in-Ok-clause-settles g c first ready settled =
     let D = g.D.Disk in
@@ -126,6 +146,11 @@ returns-in-Ok-clause-any_moment g c first ready settled =
     (may_come_here first c.args.names.now cells c.args.top ready table some
     c.next_sequence.result c.deref.result.now spelled c.next_sequence.ensures.next
     c.next_sequence.ensures.fits (D.files before) (D.leaves before) settled)
+
+pub returns-clause-puts : goal.returns-clause-puts
+returns-clause-puts g c first ready filed =
+    put_none first (g.D.Disk.changes c.args.disk.now) (g.D.Disk.changes c.put_recovered.new.disk)
+    c.in-Err.ensures.adds
 
 pub returns-clause-files : goal.returns-clause-files
 returns-clause-files g c first ready filed =

@@ -2,6 +2,7 @@ use Rattle.std.proofs.Common.{refl, ◌∙◌, arith}
 use Rattle.clog_disk.proofs.Moments.{started, goes_on_by, later_still}
 use Rattle.clog_disk.proofs.Telling.{same_told_self, same_told_then}
 use Rattle.clog_crash.specs.Flush.{IsSameFolder}
+use Rattle.clog_store.proofs.Changed.{put_none, put_then}
 use Rattle.clog_store.proofs.Filed.{cause_from, settled_show}
 use Rattle.clog_store.proofs.recovery_files.put_tables.Goals as goal
 
@@ -13,6 +14,7 @@ loop-number-init g c =
       told = same_told_self (D.files old);
       later = record { no_sooner = omega arith; remembers = λ t le. refl };
       faults = refl;
+      puts = λ first ready filed. put_none first (D.changes old) (D.changes old) refl;
       files = λ first ready filed. filed;
       settled = λ first ready settled. settled;
       only = λ first ready settled. started D.moment D.since old (IsSameFolder first)
@@ -33,6 +35,10 @@ loop-number-preserved g c =
       later = later_still D.moment D.read_at old before after i.later
           c.put_table_of.ensures.later;
       faults = c.in-Ok.ensures.cause ∙ i.faults;
+      puts = λ first ready filed.
+          put_then first (D.changes old) (D.changes before) (D.changes after)
+          (i.puts first ready filed)
+          (c.put_table_of.ensures.puts first ready (i.files first ready filed));
       files = λ first ready filed. c.in-Ok.ensures.files first ready (i.files first ready filed);
       settled = λ first ready settled. c.in-Ok.ensures.settles first ready
           (i.settled first ready settled);
@@ -62,6 +68,14 @@ returns-in-Err-clause-cause g c =
     cause_from (g.D.Disk.faults c.args.disk.now) (g.D.Disk.faults c.loop-number.disk)
     (g.D.Disk.faults c.put_table_of.new.disk) c.in-Err.fault c.loop-number.invariant.faults
     c.in-Err.ensures.cause
+
+pub returns-in-Err-clause-puts : goal.returns-in-Err-clause-puts
+returns-in-Err-clause-puts g c first ready filed =
+    let D = g.D.Disk in
+    let i = c.loop-number.invariant in
+    put_then first (D.changes c.args.disk.now) (D.changes c.loop-number.disk)
+    (D.changes c.put_table_of.new.disk) (i.puts first ready filed)
+    (c.put_table_of.ensures.puts first ready (i.files first ready filed))
 
 pub returns-in-Err-clause-files : goal.returns-in-Err-clause-files
 returns-in-Err-clause-files g c first ready filed =

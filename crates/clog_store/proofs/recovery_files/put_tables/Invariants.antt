@@ -2,7 +2,7 @@ use Rattle.std.proofs.Common.{◌≡◌}
 use Rattle.clog_disk.specs.Files.{Files, SameTold}
 use Rattle.clog_disk.specs.Images.{IsLater, LeavesOnly}
 use Rattle.clog_crash.specs.Flush.{IsSameFolder}
-use Rattle.clog_store.specs.Filing.{FiledNow, IsReady, SettledTo}
+use Rattle.clog_store.specs.Filing.{FiledNow, HasPut, IsReady, SettledTo}
 use Rattle.clog_store.proofs.recovery_files.put_tables.Given as goal
 
 -- the tables seen have their files
@@ -11,6 +11,9 @@ invariant-loop-number g l = record {
   told : SameTold (g.D.Disk.files l.fn.disk) (g.D.Disk.files l.disk);
   later : IsLater g.D.Disk.moment g.D.Disk.read_at l.fn.disk l.disk;
   faults : g.D.Disk.faults l.disk ≡ g.D.Disk.faults l.fn.disk;
+  puts : (first : Files) → IsReady first l.names l.cells l.top
+      → FiledNow first l.cells 0 (g.D.Disk.files l.fn.disk)
+      → HasPut first (g.D.Disk.changes l.fn.disk) (g.D.Disk.changes l.disk);
   files : (first : Files) → IsReady first l.names l.cells l.top
       → FiledNow first l.cells 0 (g.D.Disk.files l.fn.disk)
       → FiledNow first l.cells l.number (g.D.Disk.files l.disk);

@@ -1,4 +1,19 @@
-use Rattle.std.proofs.Common.{◌≡◌, ◌∙◌, ℕ, List, [], ◌∷◌, take, drop, Bool, false, true, ap, sym, subst}
+use Rattle.std.proofs.Common.{
+  ◌≡◌,
+  ◌∙◌,
+  ℕ,
+  List,
+  [],
+  ◌∷◌,
+  take,
+  drop,
+  Bool,
+  false,
+  true,
+  ap,
+  sym,
+  subst,
+}
 use Rattle.clog_scan.specs.Cut.{Section}
 use Rattle.clog_crash.specs.Sections.{Brings}
 use Rattle.clog_store.specs.Life.{HasLived, Lives, State}
@@ -29,17 +44,22 @@ returns-in-Err g c =
           let ss = s.sections.items in
           let x = c.args.section in
           let mid = c.keep_sections.new.disk in
-          let brings = subst (λ (st : State g.row.D.Denot). Brings st.id (take st.synced st.sections)
+          let brings = subst (λ (st : State g.row.D.Denot). Brings st.id (take st.synced
+          st.sections)
           (drop st.synced st.sections) (x ∷ []) c.args.bytes.now) (sym c.self.view_is)
           c.requires.brings in
-          let lived = subst (λ (b : Bool). HasLived D.files D.moment D.since D.leaves D.read_at s.disk
+          let lived = subst (λ (b : Bool). HasLived D.files D.moment D.since D.leaves D.read_at
+          s.disk
           s.opened s.id ss s.synced b) c.if-self.false
           (subst (Lives D.files D.moment D.since D.leaves D.read_at) (sym c.self.view_is) lives) in
-          subst (λ (l : List Section). HasLived D.files D.moment D.since D.leaves D.read_at mid s.opened
+          subst (λ (l : List Section). HasLived D.files D.moment D.since D.leaves D.read_at mid
+          s.opened
           s.id l s.synced true) (sym c.in_ok-push.ensures.items)
-          (lived_torn D.files D.moment D.since D.leaves D.read_at s.disk mid s.opened s.id ss s.synced
+          (lived_torn D.files D.moment D.since D.leaves D.read_at s.disk mid s.opened s.id ss
+          s.synced
           lived c.keep_sections.ensures.told c.keep_sections.ensures.later x (λ r rests.
-          c.keep_sections.ensures.any_moment r [] (take s.synced ss) (drop s.synced ss) (x ∷ []) brings
+          c.keep_sections.ensures.any_moment r [] (take s.synced ss) (drop s.synced ss) (x ∷ [])
+          brings
           rests));
       stays = λ so.
           let no : true ≡ false = sym {A = Bool} so
@@ -153,23 +173,29 @@ returns-in-Err-settle_sections g c =
           let ss = s.sections.items in
           let x = c.args.section in
           let mid = c.keep_sections.new.disk in
-          let brings = subst (λ (st : State g.row.D.Denot). Brings st.id (take st.synced st.sections)
+          let brings = subst (λ (st : State g.row.D.Denot). Brings st.id (take st.synced
+          st.sections)
           (drop st.synced st.sections) (x ∷ []) c.args.bytes.now) (sym c.self.view_is)
           c.requires.brings in
-          let lived = subst (λ (b : Bool). HasLived D.files D.moment D.since D.leaves D.read_at s.disk
+          let lived = subst (λ (b : Bool). HasLived D.files D.moment D.since D.leaves D.read_at
+          s.disk
           s.opened s.id ss s.synced b) c.if-self.false
           (subst (Lives D.files D.moment D.since D.leaves D.read_at) (sym c.self.view_is) lives) in
           let all = c.push.new.self.items in
-          let kept = subst (λ (l : List Section). HasLived D.files D.moment D.since D.leaves D.read_at
+          let kept = subst (λ (l : List Section). HasLived D.files D.moment D.since D.leaves
+          D.read_at
           mid s.opened s.id l s.synced false) (sym c.in_ok-push.ensures.items)
-          (lived_kept D.files D.moment D.since D.leaves D.read_at s.disk mid s.opened s.id ss s.synced
+          (lived_kept D.files D.moment D.since D.leaves D.read_at s.disk mid s.opened s.id ss
+          s.synced
           lived c.keep_sections.ensures.told c.keep_sections.ensures.later x (λ r rests.
-          c.keep_sections.ensures.any_moment r [] (take s.synced ss) (drop s.synced ss) (x ∷ []) brings
+          c.keep_sections.ensures.any_moment r [] (take s.synced ss) (drop s.synced ss) (x ∷ [])
+          brings
           rests) (λ r rests.
           c.in-Ok.ensures.kept r [] (take s.synced ss) (drop s.synced ss) (x ∷ []) brings rests)) in
           let new = c.settle_sections.new.disk in
           let told = same_told (D.files mid) (D.files new) c.settle_sections.ensures.same in
-          lived_stopped D.files D.moment D.since D.leaves D.read_at mid new s.opened s.id all s.synced
+          lived_stopped D.files D.moment D.since D.leaves D.read_at mid new s.opened s.id all
+          s.synced
           kept told c.settle_sections.ensures.later (λ r rests.
           c.settle_sections.ensures.any_moment r [] (take s.synced all) (drop s.synced all) rests);
       stays = λ so.
