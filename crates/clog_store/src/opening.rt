@@ -118,8 +118,8 @@ fn look<D: Disk>(alloc: Global, disk: &mut D, moment: u64) -> Result<Known, Open
 ///
 /// Table files are read first, then segments, each refused where it is the first that is bad; then
 /// the limits on sequences and on ids are looked at. Recovery puts files of new names, each with
-/// all cells of one table that the log restores, and then removes the segments in the order of
-/// their ids; it changes nothing else.
+/// the newest cells of one table that the log restores, and then removes the segments in the order
+/// of their ids; it changes nothing else.
 ///
 /// - `Disk`: only where the disk's count of faults has risen in this call. Else it stays.
 /// - `BadTable`, `Damaged`, `Limit`: exactly where the folder is so. The disk is then as it was.

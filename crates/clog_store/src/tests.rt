@@ -1,6 +1,6 @@
 //! The example segment of the formats is recovered. Its bytes, and those of the table file, were
 //! worked out by hand and by Python's struct and zlib.
-use crate::recover;
+use crate::{Store, recover};
 use clog_base::{Table, segment_name, table_name};
 use clog_disk::{Disk, MemDisk};
 use clog_folder::OpenFault;
@@ -48,5 +48,20 @@ fn a_damaged_folder_is_left_alone(rt: HostRuntime) -> Result<(), Fail> {
     let damage = OpenFault::Damaged(segment_name(1000), 20, Cause::MarkerTarget(60));
     assert_eq!(rt; recover(rt.alloc(), &mut disk, 1000).err(), Some(damage));
     assert_eq!(rt; disk.list()?.len(), 2);
+    Ok(())
+}
+
+#[test]
+fn a_store_opens_over_what_it_recovers(rt: HostRuntime) -> Result<(), Fail> {
+    let mut disk = MemDisk::new(rt.alloc());
+    disk.publish(&segment_name(1000), &SEGMENT)?;
+    let Some(store) = Store::open(rt.alloc(), disk, 1000).ok() else {
+        return Err(Fail::new("no store"));
+    };
+    let mut disk = store.into_disk();
+    assert_eq!(rt;
+        disk.list()?.as_slice(),
+        [table_name(Table(0), 1)].as_slice()
+    );
     Ok(())
 }
