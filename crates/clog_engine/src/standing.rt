@@ -27,7 +27,7 @@ pub(crate) struct Standing {
 }
 
 impl Standing {
-    /// The id of the first segment: the moment, or one more than the greatest id.
+    /// The id of the first segment: the greater of the moment and one more than the greatest id.
     pub(crate) fn base(&self, now: u64) -> u64
         requires { IfSome self.now.greatest (λ id. id < id_limit) }
         ensures { result ≡ base_of self.now.greatest now }
