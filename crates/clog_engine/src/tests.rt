@@ -27,8 +27,7 @@ const NEXT: [u8; 60] = [
     0x63, 0x64, 0, 0, 0, 0, 0, 0, 0, 5, 0, 0x18, 0xa5, 0x86, 0xff,
 ];
 
-const REPLAYED: &[u8] =
-    b"segments 2\ntables 0\nentries 2\nupdates 2\nskipped 0\n\
+const REPLAYED: &[u8] = b"segments 2\ntables 0\nentries 2\nupdates 2\nskipped 0\n\
 {\"column\":\"cd\",\"key\":\"ab\",\"table\":0,\"ts\":5,\"value\":null}\n";
 
 fn words_of(alloc: Global, list: &[&str]) -> Result<Vec<String>, Fail> {
