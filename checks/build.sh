@@ -26,7 +26,7 @@ RT
 launcher() { RT=$folder/rt tree/pinsilver "$@"; }
 built() { test "$(wc -l <"$calls")" -eq "$1"; }
 
-begins='pinsilver: proving and building the program first; from nothing about ten minutes'
+begins='pinsilver: proving and building the program first; from nothing ten minutes or more'
 
 tree ''
 expect 'no toolchain' 127 '' \
