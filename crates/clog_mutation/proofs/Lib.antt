@@ -3,3 +3,5 @@ pub mod Loop
 pub mod Grammar
 pub mod Payloads
 pub mod Decoding
+pub mod Passed
+pub mod Judged

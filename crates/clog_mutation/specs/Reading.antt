@@ -72,3 +72,13 @@ ended end x = if length x.1 == 0 then Ok x.0 else Err (Trailing (place end x.1))
 -- all of the bytes
 unfoldable pub all_of : List ℕ → Result Mutation PayloadFault
 all_of bytes = mutation_at (length bytes) bytes >>= ended (length bytes)
+
+-- ---- without what is read
+
+-- what is left behind it
+abbrev pub passed : {X : Type 0} → Result (X × List ℕ) PayloadFault → Result (List ℕ) PayloadFault
+passed read = read >>= λ x. Ok x.1
+
+-- whether it is read
+abbrev pub judged : {X : Type 0} → Result X PayloadFault → Result (Unit {0}) PayloadFault
+judged read = read >>= λ x. Ok tt

@@ -92,3 +92,8 @@ Decodes bytes (Err (NotUtf8 at)) = IsRefused bytes (NotUtf8 at)
 Decodes bytes (Err (Trailing at)) = IsRefused bytes (Trailing at)
 Decodes bytes (Err (NameLength at)) = IsRefused bytes (NameLength at)
 Decodes bytes (Err (BadTable at)) = IsRefused bytes (BadTable at)
+
+-- what checking gives: that the bytes are some mutation's payload, or their first refusal
+abbrev pub Checks : {T : Type 0} → List ℕ → Result T PayloadFault → Type 0
+Checks bytes (Ok done) = (m : Mutation) × IsPayload bytes m
+Checks bytes (Err fault) = IsRefused bytes fault

@@ -1,11 +1,13 @@
 //! Mutations and the bytes of their payloads.
 #![tactic(auto)]
 
+mod checking;
 mod laws;
 mod mutation;
 mod reading;
 mod writing;
 
+pub use checking::check;
 pub use laws::payload_laws;
 pub use mutation::{Mutation, Mutations, Update, Updates};
 pub use reading::decode;

@@ -21,7 +21,7 @@ use clog_fields::{byte, name, place, short_number, timestamp, value};
 use std::alloc::Global;
 
 #[tactic(auto, unfolding(crate::specs::Reading::count_at))]
-fn count(end: usize, bytes: &[u8]) -> Result<(u16, &[u8]), PayloadFault>
+pub(crate) fn count(end: usize, bytes: &[u8]) -> Result<(u16, &[u8]), PayloadFault>
     ensures { Finds (λ x. (x.0, x.1.now)) result (count_at end bytes.now) }
 {
     let (count, rest) = short_number(end, bytes)?;
@@ -32,7 +32,7 @@ fn count(end: usize, bytes: &[u8]) -> Result<(u16, &[u8]), PayloadFault>
 }
 
 #[tactic(auto, unfolding(crate::specs::Reading::table_at))]
-fn table(end: usize, bytes: &[u8]) -> Result<(u8, &[u8]), PayloadFault>
+pub(crate) fn table(end: usize, bytes: &[u8]) -> Result<(u8, &[u8]), PayloadFault>
     ensures { Finds (λ x. (x.0, x.1.now)) result (table_at end bytes.now) }
 {
     let (table, rest) = byte(end, bytes)?;

@@ -1,5 +1,5 @@
 //! Payloads byte for byte, and each refusal once.
-use crate::{decode, encode, payload_size};
+use crate::{check, decode, encode, payload_size};
 use clog_base::{Kind, PayloadFault, Table};
 use std::test::Fail;
 
@@ -35,6 +35,7 @@ fn the_fields_of_a_payload_are_read(rt: HostRuntime) -> Result<(), Fail> {
 fn a_payload_is_written_byte_for_byte(rt: HostRuntime) -> Result<(), Fail> {
     let alloc = rt.alloc();
     for bytes in [DELETION, LIVE] {
+        assert_eq!(rt; check(bytes), Ok(()));
         let mutation = decode(alloc, bytes)?;
         let size = payload_size(&mutation);
         assert_eq!(rt; size, bytes.len() as u128);
@@ -103,6 +104,7 @@ fn each_refusal_comes_at_its_field(rt: HostRuntime) -> Result<(), Fail> {
         ),
     ];
     for (bytes, fault) in cases {
+        assert_eq!(rt; check(bytes), Err(fault));
         match decode(alloc, bytes) {
             Ok(_) => assert!(rt; false, "not refused: {fault:?}"),
             Err(found) => assert_eq!(rt; found, fault),
