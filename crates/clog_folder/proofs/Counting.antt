@@ -30,7 +30,7 @@ use Rattle.std.proofs.Common.{
   arith,
   length-append,
 }
-use Rattle.std.specs.Prelude.{IfSome, IsTrue, T, ◌&&◌, ◌↔◌}
+use Rattle.std.specs.Prelude.{IfSome, IsTrue, T, ◌↔◌}
 use Rattle.std.specs.FinMap as finmap
 use Rattle.std.specs.List.{AllByRecursion}
 use Rattle.std.specs.List.Sorted.{IsStrictlySortedBy}

@@ -36,7 +36,7 @@ use Rattle.clog_base.proofs.Members.{all_more, first_or_further, further, here, 
 use Rattle.clog_mutation.specs.Refusals.{IsRefused}
 use Rattle.clog_scan.specs.declared.answer.Found.{Found}
 use Rattle.clog_folder.specs.declared.fault.OpenFault.{OpenFault}
-use Rattle.clog_folder.specs.declared.fault.OpenFault.TheVariants.{Damaged, OutOfMemory}
+use Rattle.clog_folder.specs.declared.fault.OpenFault.TheVariants.{Damaged}
 use Rattle.clog_folder.specs.Entries.{
   AreCounted,
   GivesCounted,
@@ -158,7 +158,6 @@ module _ (ignore : Bool) (name bytes : List ℕ) (founds : List Found) (i : ℕ)
   pub refused_next : (refusal : OpenFault) (kept : List Found)
       → JudgesEntry ignore name bytes next (err refusal) → Counted i kept
       → GivesCounted ignore name bytes founds (err refusal)
-  refused_next OutOfMemory kept judged so_far = tt
   refused_next (Damaged other place cause) kept judged so_far = (
     judged.0,
     record {

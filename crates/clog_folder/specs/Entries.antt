@@ -47,7 +47,6 @@ pub record IsBadEntry (bytes : List ℕ) (found : Found) (name other : List ℕ)
 abbrev pub JudgesEntry : Bool → List ℕ → List ℕ → Found → Result Bool OpenFault → Type 0
 JudgesEntry ignore name bytes found (result.Ok true) = IsGoodIn bytes found
 JudgesEntry ignore name bytes found (result.Ok false) = (ignore ≡ true) × (¬ IsGoodIn bytes found)
-JudgesEntry ignore name bytes found (result.Err OutOfMemory) = ⊤
 JudgesEntry ignore name bytes found (result.Err (Damaged other at cause)) =
     (ignore ≡ false) × IsBadEntry bytes found name other at cause
 JudgesEntry ignore name bytes found (result.Err other) = ⊥

@@ -7,28 +7,21 @@ ghost use Rattle.clog_folder.specs.Entries.{GivesCounted, JudgesEnd, JudgesEntry
 ghost use Rattle.clog_folder.specs.Segments.{GivesEntries};
 
 use crate::fault::OpenFault;
-use clog_base::{Name, PayloadFault, Rows};
+use clog_base::{Name, Rows};
 use clog_entry::ENTRY_FRONT_SIZE;
-use clog_mutation::decode;
+use clog_mutation::check;
 use clog_scan::{Cause, End, Found, Founds, scan};
 use std::alloc::Global;
 
 /// Whether an entry counts: its payload is a mutation's. One whose payload is none is damage, or is
 /// left out.
-fn counts(
-    alloc: Global,
-    name: &Name,
-    bytes: &[u8],
-    found: Found,
-    ignore: bool,
-) -> Result<bool, OpenFault>
+fn counts(name: &Name, bytes: &[u8], found: Found, ignore: bool) -> Result<bool, OpenFault>
     requires { IsRange (length bytes.now) found }
     ensures { JudgesEntry ignore name.now bytes.now found result }
 {
     let payload = &bytes[found.start as usize + ENTRY_FRONT_SIZE..found.end as usize - 4];
-    match decode(alloc, payload) {
-        Ok(_) => Ok(true),
-        Err(PayloadFault::OutOfMemory) => Err(OpenFault::OutOfMemory),
+    match check(payload) {
+        Ok(()) => Ok(true),
         Err(_) if ignore => Ok(false),
         Err(fault) => Err(OpenFault::Damaged(*name, found.start, Cause::Payload(fault))),
     }
@@ -48,7 +41,7 @@ fn counted(
     let mut kept = Vec::new(alloc);
     for found in founds {
         // A match in place of `?`, since the exit speaks of what was judged.
-        let good = match counts(alloc, name, bytes, *found, ignore) {
+        let good = match counts(name, bytes, *found, ignore) {
             Ok(good) => good,
             Err(fault) => return Err(fault),
         };

@@ -1,4 +1,4 @@
-//! One segment is read and scanned, and its payloads are decoded.
+//! One segment is read and scanned, and its payloads are checked.
 ghost use Rattle.clog_disk.specs.Files.{IsThere};
 ghost use Rattle.clog_folder.specs.Passing.{IsUntouched, TellsEach};
 ghost use Rattle.clog_folder.specs.Segments.{GivesBytes, GivesOther, ReadsPlace};
