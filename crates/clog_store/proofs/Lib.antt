@@ -1,6 +1,8 @@
+mod AllGo
 mod Beside
 mod Changed
 mod Ended
+mod FilePut
 mod Filed
 mod Going
 mod Ids

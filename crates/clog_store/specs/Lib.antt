@@ -1,8 +1,10 @@
 pub mod Coming
+pub mod Discards
 pub mod Filing
 pub mod Life
 pub mod Live
 pub mod Named
 pub mod Opened
+pub mod Publishes
 pub mod Resting
 pub mod Several

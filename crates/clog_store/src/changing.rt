@@ -14,12 +14,15 @@ ghost use Rattle.std.specs.Prelude.{
   Err,
 };
 ghost use Rattle.clog_spec.specs.Names.{segment_name_of, table_name_of};
-ghost use Rattle.clog_disk.specs.Causes.{HasDiskCause};
+ghost use Rattle.clog_disk.specs.Causes.{Finds, HasDiskCause};
 ghost use Rattle.clog_disk.specs.Changes.{Adds};
 ghost use Rattle.clog_disk.specs.Files.{PutsAt, SameTold};
-ghost use Rattle.clog_disk.specs.Images.{IsLater, LeavesOnly};
+ghost use Rattle.clog_disk.specs.Images.{IsLater, LeavesOnly, Unchanged};
 ghost use Rattle.clog_disk.specs.declared.change.Change.TheVariants as change;
-ghost use Rattle.clog_disk.specs.declared.disk.DiskFault.TheVariants.{Failed as failed};
+ghost use Rattle.clog_disk.specs.declared.disk.DiskFault.TheVariants.{
+  Failed as failed,
+  NoSuchFile as no_file,
+};
 ghost use Rattle.clog_scan.specs.Cut.{Section};
 ghost use Rattle.clog_table.specs.declared.table_file.TableFile.{TableFile};
 ghost use Rattle.clog_crash.specs.Log.{Write};
@@ -45,6 +48,7 @@ pub fn put_table<D: Disk>(
     ensures adds { Adds (change.Publish (table_name_of table.0 sequence) bytes.now)
         (D.changes disk.old) (D.changes disk.new) result }
     ensures later { IsLater D.moment D.read_at disk.old disk.new }
+    ensures found { result ≢ Err no_file }
     ensures cause { HasDiskCause (D.faults disk.old) (D.faults disk.new) result }
     ensures comes { (r : Reading) (past : List Write) (id : ℕ) (old kept : List Section)
         (file : TableFile) → file.table ≡ table
@@ -72,6 +76,9 @@ pub fn take_away<D: Disk>(disk: &mut D, segment: u64) -> Result<(), DiskFault>
     ensures adds { Adds (change.Remove (segment_name_of 6 segment)) (D.changes disk.old)
         (D.changes disk.new) result }
     ensures later { IsLater D.moment D.read_at disk.old disk.new }
+    ensures finds { Finds (D.files disk.old) (segment_name_of 6 segment) result }
+    ensures same { result ≢ Err failed → OnErr result (Unchanged (D.files disk.old)
+        (D.files disk.new) (D.leaves disk.old) (D.leaves disk.new)) }
     ensures cause { HasDiskCause (D.faults disk.old) (D.faults disk.new) result }
     ensures goes { (r : Reading) (past : List Write) (id : ℕ) (old kept : List Section)
         → MayGo (D.files disk.old) (D.leaves disk.old) r past id old kept segment

@@ -4,10 +4,12 @@
 #![tactic(auto)]
 
 mod changing;
+mod discarding;
 mod log_cells;
 mod naming;
 mod next;
 mod opening;
+mod publishing;
 mod recovering;
 mod recovery_files;
 mod sections;
@@ -17,8 +19,10 @@ mod store;
 mod tests;
 
 pub use changing::{put_table, take_away};
+pub use discarding::{Halt, drop_segments};
 pub use next::write_section;
 pub use opening::recover;
+pub use publishing::{Published, publish_file};
 pub use recovering::{put_recovered, take_all_recovered, take_recovered};
 pub use sections::{keep_sections, put_sections, settle_sections};
 pub use segments::{Part, put_all, put_segments};

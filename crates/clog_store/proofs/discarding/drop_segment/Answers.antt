@@ -1,0 +1,69 @@
+use Rattle.std.proofs.Common.{◌∷◌, ◌+◌}
+use Rattle.clog_spec.specs.Names.{segment_name_of}
+use Rattle.clog_disk.proofs.Moments.{goes_on_by}
+use Rattle.clog_store.specs.Resting.{ShowsBehind}
+use Rattle.clog_store.proofs.AllGo.{
+  all_rest_on,
+  not_missing,
+  one_goes,
+  others_go,
+  still_there,
+}
+use Rattle.clog_store.proofs.discarding.drop_segment.Goals as goal
+use Rattle.std.specs.declared.result.Result.TheVariants.{Err}
+
+pub returns-in-Ok-clause-goes : goal.returns-in-Ok-clause-goes
+returns-in-Ok-clause-goes g c r past last old kept others may =
+    let D = g.D.Disk in
+    let o = c.args.ordinal in
+    let mid = c.name_archive.new.disk in
+    let after = c.take_away.new.disk in
+    let still = c.in_default.ensures.stays r past last old kept c.args.base (o ∷ others) may in
+    others_go (D.files mid) (D.files after) (D.leaves mid) (D.leaves after) r past last old kept
+    c.args.base o others still c.in-Ok.ensures.puts
+    (c.in-Ok.ensures.goes r past last old kept
+    (one_goes (D.files mid) (D.leaves mid) r past last old kept c.args.base o others still))
+
+pub returns-in-Ok-clause-any_moment : goal.returns-in-Ok-clause-any_moment
+returns-in-Ok-clause-any_moment g c r past last old kept others may =
+    let D = g.D.Disk in
+    let o = c.args.ordinal in
+    let mid = c.name_archive.new.disk in
+    let still = c.in_default.ensures.stays r past last old kept c.args.base (o ∷ others) may in
+    goes_on_by D.moment D.since c.args.disk.now mid c.take_away.new.disk
+    (ShowsBehind r past last old kept)
+    (c.name_archive.ensures.any_moment r past last old kept c.args.base (o ∷ others) may)
+    (c.take_away.ensures.any_moment r past last old kept
+    (one_goes (D.files mid) (D.leaves mid) r past last old kept c.args.base o others still))
+
+pub returns-in-Err-take_away-clause-found : goal.returns-in-Err-take_away-clause-found
+returns-in-Err-take_away-clause-found g c =
+    let D = g.D.Disk in
+    let id = c.args.base + c.args.ordinal in
+    not_missing (D.files c.name_archive.new.disk) (segment_name_of 6 id)
+    (Err c.in-Err-take_away.fault) c.in-Err-take_away.ensures.finds
+    (still_there (D.files c.args.disk.now) (D.files c.name_archive.new.disk) c.args.archives id
+    c.requires.fits c.in_default.ensures.files c.requires.there)
+
+pub returns-in-Err-take_away-clause-refused : goal.returns-in-Err-take_away-clause-refused
+returns-in-Err-take_away-clause-refused g c other r past last old kept others may =
+    let D = g.D.Disk in
+    let o = c.args.ordinal in
+    let mid = c.name_archive.new.disk in
+    let after = c.take_away.new.disk in
+    let still = c.in_default.ensures.stays r past last old kept c.args.base (o ∷ others) may in
+    let same = c.in-Err-take_away.ensures.same other in
+    all_rest_on (D.leaves mid) (D.leaves after) r past last old kept c.args.base (o ∷ others)
+    (D.files mid) (D.files after) same.files same.images.fewer still
+
+pub returns-in-Err-take_away-clause-any_moment : goal.returns-in-Err-take_away-clause-any_moment
+returns-in-Err-take_away-clause-any_moment g c r past last old kept others may =
+    let D = g.D.Disk in
+    let o = c.args.ordinal in
+    let mid = c.name_archive.new.disk in
+    let still = c.in_default.ensures.stays r past last old kept c.args.base (o ∷ others) may in
+    goes_on_by D.moment D.since c.args.disk.now mid c.take_away.new.disk
+    (ShowsBehind r past last old kept)
+    (c.name_archive.ensures.any_moment r past last old kept c.args.base (o ∷ others) may)
+    (c.take_away.ensures.any_moment r past last old kept
+    (one_goes (D.files mid) (D.leaves mid) r past last old kept c.args.base o others still))

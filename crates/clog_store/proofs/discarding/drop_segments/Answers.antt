@@ -1,0 +1,147 @@
+use Rattle.std.proofs.Common.{
+  ◌≡◌,
+  ℕ,
+  ◌+◌,
+  ◌∷◌,
+  List,
+  Option,
+  drop,
+  get_or,
+  take,
+  refl,
+  sym,
+  subst,
+  ◌∙◌,
+  arith,
+}
+use Rattle.std.specs.Prelude.{option_map}
+use Rattle.std.proofs.lemmas.List.{drop_all, drop_more, take_more}
+use Rattle.clog_base.proofs.Members.{here}
+use Rattle.clog_disk.specs.Files.{Files}
+use Rattle.clog_disk.proofs.Moments.{goes_on_by, later_still, started}
+use Rattle.clog_disk.proofs.Telling.{same_told_self, same_told_then}
+use Rattle.clog_store.specs.Discards.{
+  AreBehind,
+  AreDroppable,
+  MayAllGo,
+  all_go_by,
+  all_gone_at,
+}
+use Rattle.clog_store.specs.Resting.{ShowsBehind}
+use Rattle.clog_store.proofs.AllGo.{
+  all_go_more,
+  all_gone_none,
+  all_gone_then,
+  all_rest,
+  behind_none,
+  others_there_still,
+}
+use Rattle.clog_store.proofs.Kept.{rests_show}
+use Rattle.clog_store.proofs.discarding.drop_segments.Goals as goal
+
+pub loop-done-init : goal.loop-done-init
+loop-done-init g c =
+    let D = g.D.Disk in
+    let disk = c.args.disk.now in
+    record {
+      told = same_told_self (D.files disk);
+      later = record { no_sooner = omega arith; remembers = λ t le. refl };
+      faults = refl;
+      droppable = record {
+        fits = c.requires.fits;
+        ascending = c.requires.ascending;
+        there = c.requires.there;
+      };
+      gone = λ now gone. gone;
+      changes = behind_none (D.changes disk) (D.changes disk) refl;
+      may = λ r past last old kept may. may;
+      only = λ r past last old kept may.
+          started D.moment D.since disk (ShowsBehind r past last old kept) (λ image left.
+          rests_show (D.files disk) (D.leaves disk) r past last old kept
+          (all_rest (D.files disk) (D.leaves disk) r past last old kept c.args.base
+          c.args.ordinals.now may) image (g.met.D.Disk.only_now disk image left));
+    }
+
+pub drop_segment-requires-clause-fits : goal.drop_segment-requires-clause-fits
+drop_segment-requires-clause-fits g c =
+    let D = g.D.Disk in
+    let i = c.loop-done.done in
+    let xs = c.args.ordinals.now in
+    let are = subst (AreDroppable (D.files c.loop-done.disk) c.args.base)
+    (drop_more xs i 0 c.loop-done-test.true) c.loop-done.invariant.droppable in
+    are.fits (get_or xs i 0) (here (get_or xs i 0) (drop (i + 1) xs))
+
+pub drop_segment-requires-clause-there : goal.drop_segment-requires-clause-there
+drop_segment-requires-clause-there g c =
+    let D = g.D.Disk in
+    let i = c.loop-done.done in
+    let xs = c.args.ordinals.now in
+    let are = subst (AreDroppable (D.files c.loop-done.disk) c.args.base)
+    (drop_more xs i 0 c.loop-done-test.true) c.loop-done.invariant.droppable in
+    are.there (get_or xs i 0) (here (get_or xs i 0) (drop (i + 1) xs))
+
+pub returns-in-Err-clause-any_moment : goal.returns-in-Err-clause-any_moment
+returns-in-Err-clause-any_moment g c r past last old kept may =
+    let D = g.D.Disk in
+    let i = c.loop-done.done in
+    let xs = c.args.ordinals.now in
+    let before = c.loop-done.disk in
+    goes_on_by D.moment D.since c.args.disk.now before c.drop_segment.new.disk
+    (ShowsBehind r past last old kept) (c.loop-done.invariant.only r past last old kept may)
+    (c.drop_segment.ensures.any_moment r past last old kept (drop (i + 1) xs)
+    (subst (MayAllGo (D.files before) (D.leaves before) r past last old kept c.args.base)
+    (drop_more xs i 0 c.loop-done-test.true) (c.loop-done.invariant.may r past last old kept may)))
+
+pub loop-done-preserved : goal.loop-done-preserved
+loop-done-preserved g c =
+    let D = g.D.Disk in
+    let i = c.loop-done.done in
+    let xs = c.args.ordinals.now in
+    let o = get_or xs i 0 in
+    let base = c.args.base in
+    let split : drop i xs ≡ o ∷ drop (i + 1) xs = drop_more xs i 0 c.loop-done-test.true in
+    let first = c.args.disk.now in
+    let before = c.loop-done.disk in
+    let after = c.drop_segment.new.disk in
+    let is = c.loop-done.invariant in
+    record {
+      told = same_told_then (D.files first) (D.files before) (D.files after) is.told
+          c.drop_segment.ensures.told;
+      later = later_still D.moment D.read_at first before after is.later
+          c.drop_segment.ensures.later;
+      faults = c.in-Ok.ensures.cause.quiet (λ e. cc) ∙ is.faults;
+      droppable = others_there_still (D.files before) (D.files after) c.args.archives base o
+          (drop (i + 1) xs) (subst (AreDroppable (D.files before) base) split is.droppable)
+          c.in-Ok.ensures.files;
+      gone = λ now gone. is.gone now
+          (subst (λ (l : List ℕ).
+          now ≡ option_map (all_gone_at c.args.archives base l) (D.files before)) (sym split)
+          (all_gone_then (D.files before) (D.files after) now c.args.archives base o
+          (drop (i + 1) xs) c.in-Ok.ensures.files gone));
+      changes = subst (λ (l : List ℕ).
+          AreBehind (all_go_by c.args.archives base l) (D.changes first) (D.changes after))
+          (sym (take_more xs i 0 c.loop-done-test.true))
+          (all_go_more c.args.archives base (take i xs) o (D.changes first) (D.changes before)
+          (D.changes after) is.changes c.in-Ok.ensures.changes);
+      may = λ r past last old kept may.
+          c.in-Ok.ensures.goes r past last old kept (drop (i + 1) xs)
+          (subst (MayAllGo (D.files before) (D.leaves before) r past last old kept base) split
+          (is.may r past last old kept may));
+      only = λ r past last old kept may.
+          goes_on_by D.moment D.since first before after (ShowsBehind r past last old kept)
+          (is.only r past last old kept may)
+          (c.drop_segment.ensures.any_moment r past last old kept (drop (i + 1) xs)
+          (subst (MayAllGo (D.files before) (D.leaves before) r past last old kept base) split
+          (is.may r past last old kept may)));
+    }
+
+pub returns-clause-files : goal.returns-clause-files
+returns-clause-files g c =
+    let D = g.D.Disk in
+    let now = D.files c.loop-done.disk in
+    let xs = c.args.ordinals.now in
+    c.loop-done.invariant.gone now
+    (subst (λ (l : List ℕ).
+    now ≡ option_map (all_gone_at c.args.archives c.args.base l) now)
+    (sym (drop_all c.loop-done.done xs (omega (arith, c.loop-done-test.false))))
+    (all_gone_none now c.args.archives c.args.base))

@@ -1,0 +1,40 @@
+use Rattle.std.proofs.Common.{◌≡◌, ℕ, List, Option, drop, take}
+use Rattle.std.specs.Prelude.{option_map}
+use Rattle.clog_disk.specs.Files.{Files, SameTold}
+use Rattle.clog_disk.specs.Images.{IsLater, LeavesOnly}
+use Rattle.clog_scan.specs.Cut.{Section}
+use Rattle.clog_crash.specs.Log.{Write}
+use Rattle.clog_crash.specs.Readings.{Reading}
+use Rattle.clog_store.specs.Discards.{
+  AreBehind,
+  AreDroppable,
+  MayAllGo,
+  all_go_by,
+  all_gone_at,
+}
+use Rattle.clog_store.specs.Resting.{ShowsBehind}
+use Rattle.clog_store.proofs.discarding.drop_segments.Given as goal
+
+-- the first segments have gone, and the others may go
+abbrev pub invariant-loop-done : goal.invariant-loop-done
+invariant-loop-done g l =
+    let D = g.D.Disk in
+    record {
+      told : SameTold (D.files l.fn.disk) (D.files l.disk);
+      later : IsLater D.moment D.read_at l.fn.disk l.disk;
+      faults : D.faults l.disk ≡ D.faults l.fn.disk;
+      droppable : AreDroppable (D.files l.disk) l.base (drop l.done l.ordinals);
+      gone : (now : Option Files)
+          → now ≡ option_map (all_gone_at l.archives l.base (drop l.done l.ordinals))
+          (D.files l.disk)
+          → now ≡ option_map (all_gone_at l.archives l.base l.ordinals) (D.files l.fn.disk);
+      changes : AreBehind (all_go_by l.archives l.base (take l.done l.ordinals))
+          (D.changes l.fn.disk) (D.changes l.disk);
+      may : (r : Reading) (past : List Write) (last : ℕ) (old kept : List Section)
+          → MayAllGo (D.files l.fn.disk) (D.leaves l.fn.disk) r past last old kept l.base l.ordinals
+          → MayAllGo (D.files l.disk) (D.leaves l.disk) r past last old kept l.base
+          (drop l.done l.ordinals);
+      only : (r : Reading) (past : List Write) (last : ℕ) (old kept : List Section)
+          → MayAllGo (D.files l.fn.disk) (D.leaves l.fn.disk) r past last old kept l.base l.ordinals
+          → LeavesOnly D.moment D.since l.fn.disk l.disk (ShowsBehind r past last old kept);
+    }

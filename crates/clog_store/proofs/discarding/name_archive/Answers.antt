@@ -1,0 +1,46 @@
+use Rattle.clog_disk.proofs.Moments.{started}
+use Rattle.clog_store.specs.Resting.{ShowsBehind}
+use Rattle.clog_store.proofs.AllGo.{all_rest, link_rests, link_shows, named_by}
+use Rattle.clog_store.proofs.Kept.{rests_show}
+use Rattle.clog_store.proofs.Outcomes.{ok_both, one_call}
+use Rattle.clog_store.proofs.discarding.name_archive.Goals as goal
+
+pub returns-then-archives-clause-changes : goal.returns-then-archives-clause-changes
+returns-then-archives-clause-changes g c =
+    let D = g.D.Disk in
+    named_by c.args.archives c.args.id _ _ (D.changes c.args.disk.now) (D.changes c.link.new.self)
+    c.link.result c.if-archives.true c.segment_name.ensures c.archive_name.ensures
+    c.link.ensures.adds
+
+pub returns-then-archives-clause-stays : goal.returns-then-archives-clause-stays
+returns-then-archives-clause-stays g c r past last old kept base ordinals may =
+    let D = g.D.Disk in
+    let before = c.args.disk.now in
+    let after = c.link.new.self in
+    ok_both c.link.result c.link.ensures.puts c.link.ensures.lasts (λ puts lasts.
+    link_rests (D.leaves before) (D.leaves after) r past last old kept base ordinals c.args.id
+    c.requires.fits _ _ c.segment_name.ensures c.archive_name.ensures (D.files before)
+    (D.files after) may c.requires.there c.link.ensures.crash puts lasts)
+
+pub returns-then-archives-clause-any_moment : goal.returns-then-archives-clause-any_moment
+returns-then-archives-clause-any_moment g c r past last old kept base ordinals may =
+    let D = g.D.Disk in
+    let before = c.args.disk.now in
+    let after = c.link.new.self in
+    one_call D.moment D.since D.leaves D.read_at before after (ShowsBehind r past last old kept)
+    (g.met.D.Disk.only_now before)
+    (rests_show (D.files before) (D.leaves before) r past last old kept
+    (all_rest (D.files before) (D.leaves before) r past last old kept base ordinals may))
+    c.link.ensures.time
+    (link_shows (D.leaves before) (D.leaves after) r past last old kept base ordinals c.args.id
+    c.requires.fits _ _ c.segment_name.ensures c.archive_name.ensures (D.files before) may
+    c.requires.there c.link.ensures.crash)
+
+pub returns-clause-any_moment : goal.returns-clause-any_moment
+returns-clause-any_moment g c r past last old kept base ordinals may =
+    let D = g.D.Disk in
+    let old_disk = c.args.disk.now in
+    started D.moment D.since old_disk (ShowsBehind r past last old kept) (λ image left.
+    rests_show (D.files old_disk) (D.leaves old_disk) r past last old kept
+    (all_rest (D.files old_disk) (D.leaves old_disk) r past last old kept base ordinals may) image
+    (g.met.D.Disk.only_now old_disk image left))

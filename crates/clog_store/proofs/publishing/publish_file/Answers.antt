@@ -1,0 +1,56 @@
+use Rattle.std.proofs.Common.{refl, sym}
+use Rattle.clog_disk.proofs.Moments.{started}
+use Rattle.clog_store.specs.Publishes.{file_at}
+use Rattle.clog_store.specs.Resting.{ShowsBehind}
+use Rattle.clog_store.proofs.FilePut.{added, may_come, put_rests, spelled_at}
+use Rattle.clog_store.proofs.Kept.{rests_show}
+use Rattle.clog_store.proofs.Outcomes.{ok_both}
+use Rattle.clog_store.proofs.publishing.publish_file.Goals as goal
+
+pub returns-in_default-clause-any_moment : goal.returns-in_default-clause-any_moment
+returns-in_default-clause-any_moment g c r past id old kept may =
+    let D = g.D.Disk in
+    let disk = c.args.disk.now in
+    started D.moment D.since disk (ShowsBehind r past id old kept) (λ image left.
+    rests_show (D.files disk) (D.leaves disk) r past id old kept
+    (put_rests (D.files disk) (D.leaves disk) r past id old kept
+    (file_at c.args.base c.args.file c.args.cells.now) c.args.sequence may) image
+    (g.met.D.Disk.only_now disk image left))
+
+pub returns-clause-comes : goal.returns-clause-comes
+returns-clause-comes g c =
+    let D = g.D.Disk in
+    ok_both c.put_table.result c.put_table.ensures.puts
+    (added _ (D.changes c.args.disk.now) (D.changes c.put_table.new.disk) c.put_table.result
+    c.put_table.ensures.adds) (λ puts adds. record {
+      bytes = c.deref.result.now;
+      spelled = spelled_at c.args.base c.args.file c.args.cells.now _ _ c.in-Ok.bytes.items
+          c.deref.result.now c.in-Ok.ensures c.position-lower.ensures c.position-upper.ensures
+          (sym c.deref.ensures.value);
+      put = puts;
+      adds = adds;
+    })
+
+pub returns-clause-rests : goal.returns-clause-rests
+returns-clause-rests g c r past id old kept may =
+    let D = g.D.Disk in
+    let disk = c.args.disk.now in
+    let file = file_at c.args.base c.args.file c.args.cells.now in
+    c.put_table.ensures.comes r past id old kept file refl
+    (may_come c.args.base c.args.sequence c.args.file c.args.cells.now (D.files disk)
+    (D.leaves disk) r past id old kept c.deref.result.now c.requires
+    (spelled_at c.args.base c.args.file c.args.cells.now _ _ c.in-Ok.bytes.items c.deref.result.now
+    c.in-Ok.ensures c.position-lower.ensures c.position-upper.ensures (sym c.deref.ensures.value))
+    may)
+
+pub returns-clause-any_moment : goal.returns-clause-any_moment
+returns-clause-any_moment g c r past id old kept may =
+    let D = g.D.Disk in
+    let disk = c.args.disk.now in
+    let file = file_at c.args.base c.args.file c.args.cells.now in
+    c.put_table.ensures.any_moment r past id old kept file refl
+    (may_come c.args.base c.args.sequence c.args.file c.args.cells.now (D.files disk)
+    (D.leaves disk) r past id old kept c.deref.result.now c.requires
+    (spelled_at c.args.base c.args.file c.args.cells.now _ _ c.in-Ok.bytes.items c.deref.result.now
+    c.in-Ok.ensures c.position-lower.ensures c.position-upper.ensures (sym c.deref.ensures.value))
+    may)
