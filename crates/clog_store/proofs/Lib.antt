@@ -3,6 +3,7 @@ mod Beside
 mod Changed
 mod Ended
 mod FilePut
+mod Ends
 mod Filed
 mod Going
 mod Ids

@@ -114,7 +114,7 @@ module _ (first : Files) (files : Option Files) (is : files ≡ Some first) (mom
     recovered = recovered;
   }
 
-base_fits : (P : ℕ → Type 0) (moment base : ℕ) → IsIdBase P moment base → moment < 2 ^ 62
+pub base_fits : (P : ℕ → Type 0) (moment base : ℕ) → IsIdBase P moment base → moment < 2 ^ 62
     → base < 2 ^ 63
 base_fits P moment base is low = elim is.base.one [
   | inl same ↦ omega (arith, same, low)

@@ -8,3 +8,4 @@ pub mod Opened
 pub mod Publishes
 pub mod Resting
 pub mod Several
+pub mod Stepped

@@ -1,10 +1,12 @@
--- A store of one segment over its whole life: what each image since its opening restores.
+-- A store over its whole life: what each image since its opening restores, and that what lasts stays
+-- in each later one.
 use Rattle.std.specs.Prelude.{
   ◌≡◌,
+  ◌<◌,
   ◌≤◌,
+  ◌^◌,
   ℕ,
   List,
-  [],
   length,
   take,
   drop,
@@ -13,62 +15,102 @@ use Rattle.std.specs.Prelude.{
   Bool,
   false,
 }
-use Rattle.clog_disk.specs.Files.{Files}
-use Rattle.clog_disk.specs.Images.{SinceThen}
+use Rattle.clog_spec.specs.Names.{segment_name_of}
+use Rattle.clog_disk.specs.Files.{Files, IsEnd, SameTold}
+use Rattle.clog_disk.specs.Images.{IsImage, IsLater, LeavesOnly, SinceThen}
 use Rattle.clog_scan.specs.Cut.{Section}
-use Rattle.clog_crash.specs.Log.{HasShown, IsResting}
+use Rattle.clog_crash.specs.Log.{Write, HasShown, IsResting, logged_in}
 use Rattle.clog_crash.specs.Readings.{Reading}
+use Rattle.clog_crash.specs.Sections.{IsStored, segment_bytes}
 
--- A store: its disk, the moment of its opening, its segment, the sections that it was handed, how
--- many of them last, and whether the disk has failed.
+-- A store: its disk, the moment of its opening, the segments that it has written, each of which
+-- lasts, the one that it writes with the sections that it was handed, how many of them last, and
+-- whether the disk has failed.
 pub record State (D : Type 0) : Type 0 where
   pub disk : D
   pub opened : ℕ
+  pub past : List Write
   pub id : ℕ
   pub sections : List Section
   pub synced : ℕ
   pub is_stopped : Bool
 
+-- A segment can hold the log's sections. Where the disk tells its files, it ends behind them, and no
+-- later segment is there.
+pub record HasEnd (told : Option Files) (id size : ℕ) (sections : List Section) : Type 0 where
+  pub stored : IsStored id sections
+  pub size_is : size ≡ length (segment_bytes id sections)
+  pub here : IsEnd told (segment_name_of 6 id) size
+  pub above : (other : ℕ) → id < other → other < 2 ^ 63 → IsEnd told (segment_name_of 6 other) 0
+
 -- what stands from the opening on, whatever lasted before it
-pub record HasBegun {D : Type 0} (moment : D → ℕ) (disk : D) (opened : ℕ) (sections : List Section)
-    (synced : ℕ) : Type 0 where
+pub record HasBegun {D : Type 0} (files : D → Option Files) (moment : D → ℕ) (disk : D)
+    (opened id size : ℕ) (sections : List Section) (synced : ℕ) (is_stopped : Bool) : Type 0 where
   pub began : opened ≤ moment disk
   pub few : synced ≤ length sections
+  -- until the disk has failed
+  pub ends : is_stopped ≡ false → HasEnd (files disk) id size sections
+
+-- how many entries of its log last
+abbrev pub lasting_in : {D : Type 0} → State D → ℕ
+lasting_in s = length (logged_in s.past (take s.synced s.sections))
 
 -- where the disk tells its files and how they read at a moment, they have P
 abbrev pub BothTold : Option Files → Option Reading → (Files → Reading → Type 0) → Type 0
 BothTold told read P = IfSome told (λ f. IfSome read (λ r. P f r))
 
 -- Each image since the opening shows what the folder restored then, and the first of the entries of
--- all sections, however the log goes on.
+-- the log, however it goes on.
 abbrev pub ShownSince : {D : Type 0} → (D → Option Files) → (D → ℕ) → (D → ℕ → Files → Type 0)
-    → (D → ℕ → Option Reading) → D → ℕ → ℕ → List Section → Type 0
-ShownSince files moment since read_at disk opened id sections =
+    → (D → ℕ → Option Reading) → D → ℕ → List Write → ℕ → List Section → Type 0
+ShownSince files moment since read_at disk opened past id sections =
     BothTold (files disk) (read_at disk opened) (λ f r.
-    SinceThen moment since opened disk (HasShown r 0 [] id sections))
+    SinceThen moment since opened disk (HasShown r 0 past id sections))
 
 -- the disk's files are at rest, with what the folder restored at the opening
 abbrev pub RestsNow : {D : Type 0} → (D → Option Files)
-    → (D → List ℕ → Option (List ℕ) → Type 0) → (D → ℕ → Option Reading) → D → ℕ → ℕ
-    → List Section → ℕ → Type 0
-RestsNow files leaves read_at disk opened id sections synced =
-    BothTold (files disk) (read_at disk opened) (λ f r.
-    IsResting f (leaves disk) r [] id (take synced sections) (drop synced sections))
+    → (D → List ℕ → Option (List ℕ) → Type 0) → (D → ℕ → Option Reading) → State D → Type 0
+RestsNow files leaves read_at s =
+    BothTold (files s.disk) (read_at s.disk s.opened) (λ f r.
+    IsResting f (leaves s.disk) r s.past s.id (take s.synced s.sections)
+    (drop s.synced s.sections))
 
 -- What a store keeps true from its opening on, where all that was there before lasted.
-pub record HasLived {D : Type 0} (files : D → Option Files) (moment : D → ℕ)
+pub record Lives {D : Type 0} (files : D → Option Files) (moment : D → ℕ)
     (since : D → ℕ → Files → Type 0) (leaves : D → List ℕ → Option (List ℕ) → Type 0)
-    (read_at : D → ℕ → Option Reading) (disk : D) (opened id : ℕ) (sections : List Section)
-    (synced : ℕ) (is_stopped : Bool) : Type 0 where
-  pub began : opened ≤ moment disk
-  pub few : synced ≤ length sections
-  pub shown : ShownSince files moment since read_at disk opened id sections
+    (read_at : D → ℕ → Option Reading) (s : State D) : Type 0 where
+  pub began : s.opened ≤ moment s.disk
+  pub few : s.synced ≤ length s.sections
+  pub shown : ShownSince files moment since read_at s.disk s.opened s.past s.id s.sections
+  -- each image of now shows all that lasts
+  pub lasts : BothTold (files s.disk) (read_at s.disk s.opened) (λ f r. (image : Files)
+      → IsImage (leaves s.disk) image
+      → HasShown r (lasting_in s) s.past s.id s.sections image)
   -- until the disk has failed
-  pub rests : is_stopped ≡ false
-      → RestsNow files leaves read_at disk opened id sections synced
+  pub rests : s.is_stopped ≡ false → RestsNow files leaves read_at s
 
--- the same of a store
-abbrev pub Lives : {D : Type 0} → (D → Option Files) → (D → ℕ) → (D → ℕ → Files → Type 0)
-    → (D → List ℕ → Option (List ℕ) → Type 0) → (D → ℕ → Option Reading) → State D → Type 0
-Lives files moment since leaves read_at s =
-    HasLived files moment since leaves read_at s.disk s.opened s.id s.sections s.synced s.is_stopped
+-- What an image has shown of the one log it shows of the other, which goes on from it.
+abbrev pub ShowsOn : {D : Type 0} → Reading → State D → State D → Type 0
+ShowsOn r before now = (least : ℕ) (image : Files)
+    → HasShown r least before.past before.id before.sections image
+    → HasShown r least now.past now.id now.sections image
+
+-- From a state of a store to a later one: what lasted lasts, and each image since then restores it,
+-- with what the folder restored at the opening, and the first of the log's further entries.
+pub record Outlives {D : Type 0} (files : D → Option Files) (moment : D → ℕ)
+    (since : D → ℕ → Files → Type 0) (read_at : D → ℕ → Option Reading) (before now : State D)
+    : Type 0 where
+  pub opened : now.opened ≡ before.opened
+  pub told : SameTold (files before.disk) (files now.disk)
+  pub later : IsLater moment read_at before.disk now.disk
+  pub no_fewer : lasting_in before ≤ lasting_in now
+  pub shown : BothTold (files now.disk) (read_at now.disk now.opened) (λ f r.
+      ShowsOn r before now × LeavesOnly moment since before.disk now.disk
+      (HasShown r (lasting_in before) now.past now.id now.sections))
+
+-- a call of a store that lives: it lives on, and what lasted before is in each image since
+pub record LivesOn {D : Type 0} (files : D → Option Files) (moment : D → ℕ)
+    (since : D → ℕ → Files → Type 0) (leaves : D → List ℕ → Option (List ℕ) → Type 0)
+    (read_at : D → ℕ → Option Reading) (before now : State D) : Type 0 where
+  pub lives : Lives files moment since leaves read_at now
+  pub outlives : Outlives files moment since read_at before now

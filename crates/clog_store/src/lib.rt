@@ -5,6 +5,7 @@
 
 mod changing;
 mod discarding;
+mod lasting;
 mod log_cells;
 mod naming;
 mod next;
@@ -17,13 +18,16 @@ mod segments;
 mod store;
 #[cfg(test)]
 mod tests;
+mod written;
 
 pub use changing::{put_table, take_away};
 pub use discarding::{Halt, drop_segments};
+pub use lasting::what_lasts_stays;
 pub use next::write_section;
 pub use opening::recover;
 pub use publishing::{Published, publish_file};
 pub use recovering::{put_recovered, take_all_recovered, take_recovered};
 pub use sections::{keep_sections, put_sections, settle_sections};
 pub use segments::{Part, put_all, put_segments};
-pub use store::{Store, StoreFault, Written};
+pub use store::Store;
+pub use written::{PastSegment, StoreFault, Written};

@@ -38,6 +38,7 @@ pub fn keep_sections<D: Disk>(
         → RestsAt (D.files disk.old) (D.leaves disk.old) r past id old kept
         → OnOk result
         (RestsAt (D.files disk.new) (D.leaves disk.new) r past id old (kept ++ new)) }
+    ensures same { result ≢ Err failed → OnErr result (D.files disk.new ≡ D.files disk.old) }
     ensures refused { result ≢ Err failed → (r : Reading) (past : List Write)
         (old kept : List Section)
         → RestsAt (D.files disk.old) (D.leaves disk.old) r past id old kept

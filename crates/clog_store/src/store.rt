@@ -1,19 +1,20 @@
-//! A store that writes one segment. Where all that was there lasted before its opening, each image
-//! of a crash since then restores what the folder restored, and the first of the entries that the
-//! store was handed: `Lives`, which its opening begins and each write keeps. From the first fault
-//! of the disk on it writes nothing.
+//! A store of a log: sections of one segment after another. Where all that was there lasted before
+//! its opening, each image of a crash since then restores what the folder restored, and the first
+//! of the entries that the store was handed: `Lives`, which its opening begins and each call keeps.
+//! Each image since a call began restores all that lasted before it: `Outlives`. From the first
+//! fault of the disk on a store writes nothing.
 ghost use Rattle.std.specs.Prelude.{◌≡◌, ◌<◌, ◌^◌, ◌++◌, List, [], ◌∷◌, take, drop, length};
-ghost use Rattle.std.specs.Prelude.{IfErr, IfOk, IfSome, OnOk, Some};
+ghost use Rattle.std.specs.Prelude.{IfErr, IfOk, IfSome, OnErr, OnOk, Some};
 ghost use Rattle.std.specs.Prelude.{Err, true, false};
-ghost use Rattle.clog_store.specs.declared.store.StoreFault.TheVariants.{Stopped as stopped};
+ghost use Rattle.clog_store.specs.declared.written.StoreFault.TheVariants.{Stopped as stopped};
 ghost use Rattle.clog_scan.specs.Cut.{Section};
-ghost use Rattle.clog_spec.specs.Names.{segment_name_of};
-ghost use Rattle.clog_disk.specs.Files.{Files, IsEnd, SameTold, Told};
+ghost use Rattle.clog_disk.specs.Files.{Files, SameTold, Told};
 ghost use Rattle.clog_disk.specs.Images.{IsLater, LeavesOnly};
 ghost use Rattle.clog_crash.specs.Rest.{IsAtRest};
 ghost use Rattle.clog_crash.specs.Sections.{Brings};
 ghost use Rattle.clog_folder.specs.Passing.{IsUntouched, TellsFault};
-ghost use Rattle.clog_store.specs.Life.{Lives, ShownSince};
+ghost use Rattle.clog_store.specs.Life.{HasEnd, Lives, LivesOn, ShownSince};
+ghost use Rattle.clog_store.specs.Stepped.{Keeps, Settles, Writes};
 ghost use Rattle.clog_store.specs.Opened.{
   HandsOn,
   KeepsFolder,
@@ -27,55 +28,23 @@ ghost use Rattle.clog_store.specs.Opened.{
 
 use crate::opening::recover;
 use crate::sections::{keep_sections, settle_sections};
-use clog_base::Bytes;
+use crate::written::{PastSegment, StoreFault, Written};
 use clog_disk::{Disk, DiskFault};
 use clog_folder::OpenFault;
-use std::alloc::{AllocFailed, Global};
+use std::alloc::Global;
 use std::marker::Model;
+use std::mem;
 
-/// A section as it was handed over: where it ends, and its entries' payloads.
-#[derive(Drop)]
-pub struct Written {
-    /// Where it ends in its segment's file, in bytes, exclusive.
-    pub until: u64,
-    /// The payloads of its entries, in their order.
-    pub payloads: Vec<Bytes>,
-}
-
-impl Model for Written {
-    ghost use Rattle.clog_scan.specs.Cut.{Section};
-
-    ghost Value = { Section };
-
-    ghost view = { λ w. record { until = w.until; payloads = w.payloads.items } };
-}
-
-/// Why a store did not write a section, or did not make it last.
-#[derive(Clone, Copy, Debug, PartialEq, Eq)]
-pub enum StoreFault {
-    /// The disk has failed, in this call or in an earlier one.
-    Stopped,
-    /// Memory was refused. The section is not there, or is kept.
-    OutOfMemory,
-}
-
-impl<T: Drop> From<AllocFailed<T>> for StoreFault {
-    ghost use Rattle.clog_store.specs.declared.store.StoreFault.TheVariants.{OutOfMemory};
-
-    ghost from_gives = { λ _ e. e ≡ OutOfMemory };
-
-    fn from(_: AllocFailed<T>) -> Self {
-        StoreFault::OutOfMemory
-    }
-}
-
-/// A store of one segment.
+/// A store of a log of several segments.
 #[derive(Drop)]
 pub struct Store<D: Disk> {
     disk: D,
     /// The disk's moment at the opening.
     opened: u64,
+    past: Vec<PastSegment>,
+    /// The segment that it writes, the length of its file, and its sections.
     id: u64,
+    size: u64,
     sections: Vec<Written>,
     /// How many of them last.
     synced: usize,
@@ -91,13 +60,15 @@ impl<D: Disk> Model for Store<D> {
     ghost view = { λ s. record {
       disk = s.disk;
       opened = s.opened;
+      past = s.past.items;
       id = s.id;
       sections = s.sections.items;
       synced = s.synced;
       is_stopped = s.is_stopped;
     } };
 
-    ghost invariant = { λ s. HasBegun D.moment s.disk s.opened s.sections.items s.synced };
+    ghost invariant = { λ s. HasBegun D.files D.moment s.disk s.opened s.id s.size s.sections.items
+        s.synced s.is_stopped };
 }
 
 // The last section goes, since nothing of it came onto the disk.
@@ -111,8 +82,10 @@ fn take_back(sections: &mut Vec<Written>)
 impl<D: Disk> Store<D> {
     // A store for a segment above all that the folder names.
     fn begin(alloc: Global, disk: D, id: u64) -> Store<D>
+        requires none { HasEnd (D.files disk) id 0 [] }
         ensures disk { result.disk ≡ disk }
         ensures opened { result.opened ≡ D.moment disk }
+        ensures past { result.past ≡ [] }
         ensures id { result.id ≡ id }
         ensures sections { result.sections ≡ [] }
         ensures synced { result.synced ≡ 0 }
@@ -124,7 +97,9 @@ impl<D: Disk> Store<D> {
         Store {
             disk,
             opened,
+            past: Vec::new(alloc),
             id,
+            size: 0,
             sections: Vec::new(alloc),
             synced: 0,
             is_stopped: false,
@@ -141,6 +116,7 @@ impl<D: Disk> Store<D> {
         ensures opens { IfOk result (λ store. OpensAs (D.files disk) (D.files store.disk) moment
             store.id) }
         ensures opened { IfOk result (λ store. store.opened ≡ D.moment store.disk) }
+        ensures past { IfOk result (λ store. store.past ≡ []) }
         ensures sections { IfOk result (λ store. store.sections ≡ []) }
         ensures synced { IfOk result (λ store. store.synced ≡ 0) }
         ensures runs { IfOk result (λ store. store.is_stopped ≡ false) }
@@ -172,37 +148,45 @@ impl<D: Disk> Store<D> {
         }
     }
 
-    /// Writes one section more, whose bytes these are, and makes it last, with those that were
-    /// kept. `size` is the length of the segment's file.
-    pub fn write(&mut self, section: Written, size: u64, bytes: &[u8]) -> Result<(), StoreFault>
-        requires end { IsEnd (D.files self.old.disk) (segment_name_of 6 self.old.id) size }
+    // Puts one section more, whose bytes these are, behind those of the segment at hand. It is kept,
+    // and does not last yet.
+    fn keep(&mut self, section: Written, bytes: &[u8]) -> Result<(), StoreFault>
         requires brings { Brings self.old.id (take self.old.synced self.old.sections)
             (drop self.old.synced self.old.sections) (section ∷ []) bytes.now }
-        ensures opened { self.new.opened ≡ self.old.opened }
-        ensures id { self.new.id ≡ self.old.id }
-        ensures written { OnOk result (self.new.sections ≡ self.old.sections ++ section ∷ []) }
-        ensures lasts { OnOk result (self.new.synced ≡ length self.new.sections) }
-        // So the disk of a store that lives rests, with all sections lasting.
-        ensures runs { OnOk result (self.new.is_stopped ≡ false) }
-        ensures lives { Lives D.files D.moment D.since D.leaves D.read_at self.old
-            → Lives D.files D.moment D.since D.leaves D.read_at self.new }
+        ensures keeps { Keeps self.old self.new section result }
         ensures stays { self.old.is_stopped ≡ true → (result ≡ Err stopped)
             × (self.new.disk ≡ self.old.disk) }
+        ensures lives { Lives D.files D.moment D.since D.leaves D.read_at self.old
+            → LivesOn D.files D.moment D.since D.leaves D.read_at self.old self.new }
     {
         if self.is_stopped {
             return Err(StoreFault::Stopped);
         }
         self.sections.push(section)?;
-        match keep_sections(&mut self.disk, self.id, size, bytes) {
-            Ok(()) => {}
+        match keep_sections(&mut self.disk, self.id, self.size, bytes) {
+            Ok(()) => {
+                self.size += bytes.len() as u64;
+                Ok(())
+            }
             Err(DiskFault::OutOfMemory) => {
                 take_back(&mut self.sections);
-                return Err(StoreFault::OutOfMemory);
+                Err(StoreFault::OutOfMemory)
             }
             Err(_) => {
                 self.is_stopped = true;
-                return Err(StoreFault::Stopped);
+                Err(StoreFault::Stopped)
             }
+        }
+    }
+
+    // Makes the sections last that are kept.
+    fn settle(&mut self) -> Result<(), StoreFault>
+        ensures settles { Settles self.old self.new result }
+        ensures lives { Lives D.files D.moment D.since D.leaves D.read_at self.old
+            → LivesOn D.files D.moment D.since D.leaves D.read_at self.old self.new }
+    {
+        if self.is_stopped {
+            return Err(StoreFault::Stopped);
         }
         match settle_sections(&mut self.disk, self.id) {
             Ok(()) => {
@@ -217,12 +201,62 @@ impl<D: Disk> Store<D> {
         }
     }
 
+    /// Writes one section more, whose bytes these are, and makes it last, with those that were
+    /// kept. Where memory is refused the section is kept, or is not there.
+    pub fn write(&mut self, section: Written, bytes: &[u8]) -> Result<(), StoreFault>
+        requires brings { Brings self.old.id (take self.old.synced self.old.sections)
+            (drop self.old.synced self.old.sections) (section ∷ []) bytes.now }
+        ensures writes { Writes self.old self.new section result }
+        ensures lives { Lives D.files D.moment D.since D.leaves D.read_at self.old
+            → LivesOn D.files D.moment D.since D.leaves D.read_at self.old self.new }
+        ensures stays { self.old.is_stopped ≡ true → (result ≡ Err stopped)
+            × (self.new.disk ≡ self.old.disk) }
+    {
+        match self.keep(section, bytes) {
+            Ok(()) => self.settle(),
+            Err(fault) => Err(fault),
+        }
+    }
+
+    /// The log goes on in a further segment, above the one at hand, all of whose sections last.
+    pub fn roll(&mut self, alloc: Global, id: u64) -> Result<(), StoreFault>
+        requires above { self.old.id < id }
+        requires fits { id < 2 ^ 63 }
+        requires some { 0 < length self.old.sections }
+        requires all { self.old.synced ≡ length self.old.sections }
+        ensures rolls { OnOk result (self.new ≡ record self.old {
+          past = self.old.past ++ record { id = self.old.id; sections = self.old.sections } ∷ [];
+          id = id;
+          sections = [];
+          synced = 0;
+        }) }
+        ensures refused { OnErr result (self.new ≡ self.old) }
+        ensures stays { self.old.is_stopped ≡ true → result ≡ Err stopped }
+        ensures lives { Lives D.files D.moment D.since D.leaves D.read_at self.old
+            → OnOk result
+            (LivesOn D.files D.moment D.since D.leaves D.read_at self.old self.new) }
+    {
+        if self.is_stopped {
+            return Err(StoreFault::Stopped);
+        }
+        self.past.reserve(1)?;
+        let sections = mem::replace(&mut self.sections, Vec::new(alloc));
+        self.past.push_reserved(PastSegment {
+            id: self.id,
+            sections,
+        });
+        self.id = id;
+        self.size = 0;
+        self.synced = 0;
+        Ok(())
+    }
+
     /// Gives the disk back. Of a store that lives each image since the opening restores what the
     /// folder restored then and the first of the entries.
     pub fn into_disk(self) -> D
         ensures disk { result ≡ self.disk }
         ensures shown { Lives D.files D.moment D.since D.leaves D.read_at self
-            → ShownSince D.files D.moment D.since D.read_at result self.opened self.id
+            → ShownSince D.files D.moment D.since D.read_at result self.opened self.past self.id
             self.sections }
     {
         self.disk

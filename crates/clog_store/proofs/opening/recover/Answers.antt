@@ -10,6 +10,7 @@ use Rattle.clog_store.proofs.Kept.{if_told}
 use Rattle.clog_store.proofs.OpenedWhole.{
   alone_of,
   at_rest,
+  base_fits,
   image_keeps,
   is_opened,
   keeps_same,
@@ -151,6 +152,10 @@ returns-in-Ok-recover_folder-clause-opens g c =
     (c.in-Ok-recover_folder.ensures.files first (c.look.ensures.keeps.same.files ∙ is)
     c.in-Ok.known.base
     (known_above first (D.files old) is c.args.moment c.in-Ok.known c.in-Ok.ensures.looks)))
+
+pub returns-in-Ok-recover_folder-clause-fits : goal.returns-in-Ok-recover_folder-clause-fits
+returns-in-Ok-recover_folder-clause-fits g c =
+    base_fits _ c.args.moment c.in-Ok.known.base c.in-Ok.ensures.looks.base_is c.requires.moment
 
 pub returns-in-Ok-recover_folder-clause-rests : goal.returns-in-Ok-recover_folder-clause-rests
 returns-in-Ok-recover_folder-clause-rests g c first is lasts =
