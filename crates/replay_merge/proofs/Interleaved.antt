@@ -30,10 +30,18 @@ use Rattle.std.proofs.Common.{
   arith,
 }
 use Rattle.std.proofs.Common.{eq-eqb}
+use Rattle.std.specs.Prelude.{◌&&◌}
 use Rattle.std.specs.List.{flat_map}
 use Rattle.std.proofs.lemmas.Bool.{ltb-true, ltb-false, lt-ltb, le-ltb, eqb-true, eqb-false}
 use Rattle.clog_base.proofs.Members.{first_or_further, further, here, nothing_there}
-use Rattle.replay_merge.specs.Dealt.{numbered, is_dealt_below, is_dealt_to}
+use Rattle.replay_merge.specs.Dealt.{
+  numbered,
+  is_dealt_below,
+  is_dealt_to,
+  is_taken_before,
+  is_taken_in,
+  round_of,
+}
 
 -- the third list is the first two, each in its order, one between the other
 abbrev pub Interleaves : {A : Type 0} → List A → List A → List A → Type 0
@@ -105,6 +113,22 @@ numbered_all P all n (x ∷ xs) =
     ap (λ b. cond b (x ∷ numbered P (n + 1) xs) (numbered P (n + 1) xs)) (all n)
     ∙ ap (λ l. x ∷ l) (numbered_all P all (n + 1) xs)
 
+-- ---- the rounds of one worker
+
+parts_within : (b p q r : Bool) → Parts p q r → Parts (b && p) (b && q) (b && r)
+parts_within true p q r parts = parts
+parts_within false p q r parts = tt
+
+pub round_more : {A : Type 0} (workers worker k : ℕ) (xs : List A)
+    → Interleaves (numbered (is_taken_before workers worker k) 0 xs)
+    (numbered (is_taken_in workers worker k) 0 xs)
+    (numbered (is_taken_before workers worker (k + 1)) 0 xs)
+round_more workers worker k xs =
+    deal (is_taken_before workers worker k) (is_taken_in workers worker k)
+    (is_taken_before workers worker (k + 1))
+    (λ n. parts_within (is_dealt_to workers worker n) _ _ _
+    (parts_by _ _ _ (round_of workers n) k refl refl refl)) 0 xs
+
 pub dealt_none : {A : Type 0} (workers : ℕ) (xs : List A)
     → numbered (is_dealt_below workers 0) 0 xs ≡ []
 dealt_none workers xs =
@@ -115,6 +139,16 @@ pub dealt_all : {A : Type 0} (workers : ℕ) (xs : List A) → 0 < workers
 dealt_all workers xs some =
     numbered_all (is_dealt_below workers workers)
     (λ n. lt-ltb (n % workers) workers (omega (arith, some))) 0 xs
+
+pub rounds_none : {A : Type 0} (workers worker : ℕ) (xs : List A)
+    → numbered (is_taken_before workers worker 0) 0 xs ≡ []
+rounds_none workers worker xs =
+    numbered_none (is_taken_before workers worker 0)
+    (λ n. never (is_dealt_to workers worker n) (round_of workers n)) 0 xs
+  where
+    never : (b : Bool) (m : ℕ) → b && ltb m 0 ≡ false
+    never true m = le-ltb m 0 (omega arith)
+    never false m = refl
 
 -- ---- one more, and several more, of those that are numbered
 

@@ -23,6 +23,7 @@ use Rattle.std.proofs.Common.{
   arith,
 }
 use Rattle.std.specs.List.{flat_map}
+use Rattle.std.proofs.lemmas.List.{map-append}
 use Rattle.std.proofs.lemmas.List.Elements.{
   Contains-append_cases,
   Contains-append_left,
@@ -48,7 +49,7 @@ use Rattle.replay_merge.specs.Merged.{
   updates_of,
 }
 use Rattle.replay_merge.specs.Dealt.{is_dealt_below, numbered, share_of}
-use Rattle.replay_merge.specs.Taking.{IsTakenOf}
+use Rattle.replay_merge.specs.Taking.{IsTakenOf, TakesLog}
 use Rattle.replay_merge.specs.Working.{AreParts, IsPart, Part}
 use Rattle.replay_merge.proofs.Interleaved.{
   Interleaves,
@@ -103,6 +104,27 @@ picks_parts P us vs (w ∷ ws) left right first second (inr is) =
             more.2,
           )
     ]
+
+-- what is picked of a list and one behind it
+picks_split : {A : Type 0} (P : A → Type 0) (us vs picked : List A) → Picks P (us ++ vs) picked
+    → (left right : List A) × (picked ≡ left ++ right) × Picks P us left × Picks P vs right
+picks_split P [] vs picked is = ([], picked, refl, refl, is)
+picks_split P (u ∷ us) vs picked (inl has) =
+    let more = picks_split P us vs has.1.0 has.1.2 in (
+      u ∷ more.0,
+      more.1,
+      has.1.1 ∙ ap (λ l. u ∷ l) more.2,
+      inl (has.0, (more.0, refl, more.3)),
+      more.4,
+    )
+picks_split P (u ∷ us) vs picked (inr lacks) =
+    let more = picks_split P us vs picked lacks.1 in (
+      more.0,
+      more.1,
+      more.2,
+      inr (lacks.0, more.3),
+      more.4,
+    )
 
 -- what interleaved payloads say
 say_parts : (ps qs rs : List PlacedPayload) (log more : List LoggedMutation) → Say ps log
@@ -178,6 +200,46 @@ module _ (tables : List TableHeld) where
         taken = merged_both (flat_map updates_of first.log) (flat_map updates_of second.log)
             (flat_map updates_of all.0) a b c first.taken second.taken
             (interleaved_flat updates_of first.log second.log all.0 all.2) join;
+      }
+
+  -- ---- what is taken in behind, put in its place
+
+  merged_between : (us vs ws : List KeyedUpdate) (m : Merged) → IsMergedOf tables (us ++ vs) m
+      → Interleaves us vs ws → IsMergedOf tables ws m
+  merged_between us vs ws m is between =
+      let kept = picks_split (λ u. ¬ IsSkippedBy tables u) us vs is.kept is.picks_kept in
+      let gone = picks_split (IsSkippedBy tables) us vs is.gone is.picks_gone in
+      let kept_there = picks_parts (λ u. ¬ IsSkippedBy tables u) us vs ws kept.0 kept.1 kept.3
+      kept.4 between in
+      let gone_there = picks_parts (IsSkippedBy tables) us vs ws gone.0 gone.1 gone.3 gone.4
+      between in
+      record {
+        kept = kept_there.0;
+        picks_kept = kept_there.1;
+        cells = merged_parts (map pair_at kept.0) (map pair_at kept.1) (map pair_at kept_there.0)
+            m.cells (interleaved_map pair_at kept.0 kept.1 kept_there.0 kept_there.2)
+            (subst (λ (l : Pairs). IsMerge l m.cells)
+            (ap (map pair_at) kept.2 ∙ map-append pair_at kept.0 kept.1) is.cells);
+        updates = is.updates ∙ ap length kept.2 ∙ length-append kept.0 kept.1
+            ∙ sym (interleaved_length kept.0 kept.1 kept_there.0 kept_there.2);
+        gone = gone_there.0;
+        picks_gone = gone_there.1;
+        skipped = is.skipped ∙ ap length gone.2 ∙ length-append gone.0 gone.1
+            ∙ sym (interleaved_length gone.0 gone.1 gone_there.0 gone_there.2);
+      }
+
+  -- one round more is taken in
+  pub taken_between : (ps qs rs : List PlacedPayload) (old new : Merged) → IsTakenOf tables ps old
+      → TakesLog tables qs old new → Interleaves ps qs rs → IsTakenOf tables rs new
+  taken_between ps qs rs old new has more between =
+      let all = say_parts ps qs rs has.log more.log has.say more.say between in
+      record {
+        log = all.0;
+        say = all.1;
+        taken = merged_between (flat_map updates_of has.log) (flat_map updates_of more.log)
+            (flat_map updates_of all.0) new
+            (more.takes (flat_map updates_of has.log) has.taken)
+            (interleaved_flat updates_of has.log more.log all.0 all.2);
       }
 
 -- ---- the workers' parts, one after another

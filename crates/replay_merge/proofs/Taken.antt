@@ -54,7 +54,7 @@ use Rattle.replay_merge.specs.Merged.{
   updates_of,
 }
 use Rattle.replay_merge.specs.Dealt.{numbered}
-use Rattle.replay_merge.specs.Taking.{IsTakenOf, TakesEntry, TakesLog}
+use Rattle.replay_merge.specs.Taking.{TakesEntry, TakesLog}
 use Rattle.replay_merge.proofs.Interleaved.{numbered_both}
 
 -- what is seen up to an index, and what stands there
@@ -177,17 +177,6 @@ module _ (tables : List TableHeld) where
         (sym (append-nil _)) is.takes;
   }
 
-  -- what is taken behind what a worker has
-  pub taken_more : (ps qs : List PlacedPayload) (old new : Merged) → IsTakenOf tables ps old
-      → TakesLog tables qs old new → IsTakenOf tables (ps ++ qs) new
-  taken_more ps qs old new has more = record {
-    log = has.log ++ more.log;
-    say = say_both ps qs has.log more.log has.say more.say;
-    taken = subst (λ (us : List KeyedUpdate). IsMergedOf tables us new)
-        (sym (flat_map-append updates_of has.log more.log))
-        (more.takes (flat_map updates_of has.log) has.taken);
-  }
-
   -- one entry more of a segment
   pub entry_more : (P : ℕ → Bool) (held : SegmentHeld) (first number : ℕ) (front : List Found)
       (found : Found) (old mid new : Merged) → number ≡ first + length front
@@ -208,19 +197,19 @@ module _ (tables : List TableHeld) where
 
   -- one segment more
   pub segment_more : (P : ℕ → Bool) (front : List SegmentHeld) (held : SegmentHeld) (number : ℕ)
-      (old new : Merged) → number ≡ length (flat_map payloads_of front)
-      → IsTakenOf tables (numbered P 0 (flat_map payloads_of front)) old
-      → TakesLog tables (numbered P number (payloads_of held)) old new
-      → IsTakenOf tables (numbered P 0 (flat_map payloads_of (front ++ held ∷ []))) new
-  segment_more P front held number old new is so_far step =
+      (old mid new : Merged) → number ≡ length (flat_map payloads_of front)
+      → TakesLog tables (numbered P 0 (flat_map payloads_of front)) old mid
+      → TakesLog tables (numbered P number (payloads_of held)) mid new
+      → TakesLog tables (numbered P 0 (flat_map payloads_of (front ++ held ∷ []))) old new
+  segment_more P front held number old mid new is so_far step =
       let ps = flat_map payloads_of front in
       let all : ps ++ payloads_of held ≡ flat_map payloads_of (front ++ held ∷ []) =
       ap (λ (l : List PlacedPayload). ps ++ l) (sym (append-nil (payloads_of held)))
       ∙ sym (flat_map-append payloads_of front (held ∷ [])) in
-      subst (λ (qs : List PlacedPayload). IsTakenOf tables qs new)
+      subst (λ (qs : List PlacedPayload). TakesLog tables qs old new)
       (ap (λ k. numbered P 0 ps ++ numbered P k (payloads_of held))
       (let e : length ps ≡ 0 + length ps = omega arith in e)
       ∙ sym (numbered_both P 0 ps (payloads_of held))
       ∙ ap (λ (qs : List PlacedPayload). numbered P 0 qs) all)
-      (taken_more (numbered P 0 ps) (numbered P (length ps) (payloads_of held)) old new so_far
-      (subst (λ k. TakesLog tables (numbered P k (payloads_of held)) old new) is step))
+      (log_both (numbered P 0 ps) (numbered P (length ps) (payloads_of held)) old mid new so_far
+      (subst (λ k. TakesLog tables (numbered P k (payloads_of held)) mid new) is step))

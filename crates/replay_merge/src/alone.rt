@@ -6,7 +6,6 @@ ghost use Rattle.replay_merge.specs.Taking.{AreRanges, IsTakenOf};
 
 use crate::merged::Merged;
 use crate::restoring::count_entries;
-use crate::share::Share;
 use crate::taking::take_share;
 use clog_base::OutOfMemory;
 use clog_folder::{SegmentHeld, TableHeld};
@@ -24,9 +23,5 @@ pub fn merge_alone(
 {
     // Entries are numbered, so there are to be numbers enough.
     count_entries(segments)?;
-    let share = Share {
-        worker: 0,
-        workers: 1,
-    };
-    take_share(alloc, tables, segments, share, &OpenGate::new())
+    take_share(alloc, tables, segments, 0, 1, &OpenGate::new())
 }

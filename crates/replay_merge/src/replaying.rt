@@ -10,7 +10,6 @@ ghost use Rattle.replay_merge.specs.Working.{AreParts, IsPart};
 
 use crate::merged::Merged;
 use crate::restoring::{Restored, count_entries, restored_of};
-use crate::share::Share;
 use crate::taking::take_share;
 use clog_base::{OutOfMemory, Writer};
 use clog_disk::Disk;
@@ -38,13 +37,10 @@ fn work<G: Gate>(
     requires few { length (flat_map payloads_of segments.now) < 2 ^ 64 }
     ensures { IsPart tables.now segments.now workers worker result }
 {
-    let share = Share {
-        worker: worker as u8,
-        workers,
-    };
-    gate.reached(Writer(share.worker), Point::Started);
-    let part = take_share(alloc, tables, segments, share, gate);
-    gate.reached(Writer(share.worker), Point::Returned);
+    let worker = worker as u8;
+    gate.reached(Writer(worker), Point::Started);
+    let part = take_share(alloc, tables, segments, worker, workers, gate);
+    gate.reached(Writer(worker), Point::Returned);
     part
 }
 

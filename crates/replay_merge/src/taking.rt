@@ -3,12 +3,12 @@ ghost use Rattle.std.specs.Prelude.{◌≡◌, ◌+◌, ◌^◌, ◌<◌, OnOk, 
 ghost use Rattle.std.specs.List.{flat_map};
 ghost use Rattle.clog_scan.specs.Laws.{IsRange};
 ghost use Rattle.clog_folder.specs.Folder.{payloads_of, placed};
-ghost use Rattle.replay_merge.specs.Dealt.{is_dealt_to, numbered, share_of};
+ghost use Rattle.replay_merge.specs.Dealt.{is_taken_in, numbered, share_of};
 ghost use Rattle.replay_merge.specs.Merged.{Takes, keyed};
 ghost use Rattle.replay_merge.specs.Taking.{AreRanges, IsTakenOf, TakesEntry, TakesLog};
 
 use crate::merged::{Merged, take_update};
-use crate::share::Share;
+use crate::share::{ROUNDS, Share};
 use clog_base::{OutOfMemory, Position, Text, Writer};
 use clog_entry::ENTRY_FRONT_SIZE;
 use clog_folder::{SegmentHeld, TableHeld};
@@ -96,7 +96,7 @@ fn take_own<G: Gate>(
     requires range { IsRange (length held.now.bytes) found }
     requires some { 0 < share.workers }
     ensures { OnOk result (TakesLog tables.now
-        (numbered (is_dealt_to share.workers share.worker) number (placed held.now found ∷ []))
+        (numbered (is_taken_in share.workers share.worker share.round) number (placed held.now found ∷ []))
         merged.old merged.new) }
 {
     if !share.takes(number) {
@@ -122,7 +122,7 @@ fn take_segment<G: Gate>(
     requires some { 0 < share.workers }
     requires few { first + length held.now.entries < 2 ^ 64 }
     ensures { OnOk result (TakesLog tables.now
-        (numbered (is_dealt_to share.workers share.worker) first (payloads_of held.now))
+        (numbered (is_taken_in share.workers share.worker share.round) first (payloads_of held.now))
         merged.old merged.new) }
 {
     let mut number = first;
@@ -133,25 +133,53 @@ fn take_segment<G: Gate>(
     Ok(())
 }
 
+/// Takes in what a worker takes of all segments in one round.
+fn take_round<G: Gate>(
+    alloc: Global,
+    tables: &[TableHeld],
+    merged: &mut Merged,
+    segments: &[SegmentHeld],
+    share: Share,
+    gate: &G,
+) -> Result<(), OutOfMemory>
+    requires ranges { All AreRanges segments.now }
+    requires some { 0 < share.workers }
+    requires few { length (flat_map payloads_of segments.now) < 2 ^ 64 }
+    ensures { OnOk result (TakesLog tables.now
+        (numbered (is_taken_in share.workers share.worker share.round) 0
+        (flat_map payloads_of segments.now)) merged.old merged.new) }
+{
+    let mut number = 0;
+    for held in segments {
+        take_segment(alloc, tables, merged, held, number, share, gate)?;
+        number += held.entries.len() as u64;
+    }
+    Ok(())
+}
+
 /// What a worker has of all segments.
 pub(crate) fn take_share<G: Gate>(
     alloc: Global,
     tables: &[TableHeld],
     segments: &[SegmentHeld],
-    share: Share,
+    worker: u8,
+    workers: u8,
     gate: &G,
 ) -> Result<Merged, OutOfMemory>
     requires ranges { All AreRanges segments.now }
-    requires some { 0 < share.workers }
+    requires some { 0 < workers }
     requires few { length (flat_map payloads_of segments.now) < 2 ^ 64 }
     ensures { IfOk result (IsTakenOf tables.now
-        (share_of share.workers share.worker (flat_map payloads_of segments.now))) }
+        (share_of workers worker (flat_map payloads_of segments.now))) }
 {
     let mut merged = Merged::new(alloc);
-    let mut number = 0;
-    for held in segments {
-        take_segment(alloc, tables, &mut merged, held, number, share, gate)?;
-        number += held.entries.len() as u64;
+    for round in 0..ROUNDS {
+        let share = Share {
+            worker,
+            workers,
+            round,
+        };
+        take_round(alloc, tables, &mut merged, segments, share, gate)?;
     }
     Ok(merged)
 }

@@ -16,7 +16,7 @@ use Rattle.std.proofs.Common.{
 use Rattle.std.proofs.lemmas.List.{length-take, take_more}
 use Rattle.clog_scan.specs.declared.answer.Found.{Found}
 use Rattle.clog_folder.specs.Folder.{placed}
-use Rattle.replay_merge.specs.Dealt.{is_dealt_to, numbered}
+use Rattle.replay_merge.specs.Dealt.{is_taken_in, numbered}
 use Rattle.replay_merge.specs.Taking.{TakesLog}
 use Rattle.replay_merge.proofs.Taken.{entry_more}
 use Rattle.replay_merge.proofs.taking.take_segment.Goals as goal
@@ -27,7 +27,7 @@ loop-found-preserved g c =
     let held = c.args.held.now in
     let tables = c.args.tables.now in
     let none : Found = record { start = 0; end = 0 } in
-    let P = is_dealt_to c.args.share.workers c.args.share.worker in
+    let P = is_taken_in c.args.share.workers c.args.share.worker c.args.share.round in
     let inside : l.found-index < length held.entries =
     subst (λ (es : List Found). l.found-index < length es) c.as_slice-found-items.ensures
     c.loop-found-test.true in

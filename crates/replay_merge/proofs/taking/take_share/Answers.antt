@@ -1,50 +1,27 @@
-use Rattle.std.proofs.Common.{◌+◌, List, subst, take, ap, ◌∙◌, arith}
+use Rattle.std.proofs.Common.{◌+◌, List, sym, subst}
 use Rattle.std.specs.List.{flat_map}
-use Rattle.clog_folder.specs.declared.segment.SegmentHeld.{SegmentHeld}
-use Rattle.clog_folder.specs.Folder.{payloads_of}
-use Rattle.replay_merge.specs.Dealt.{is_dealt_to, share_of}
+use Rattle.clog_folder.specs.Folder.{PlacedPayload, payloads_of}
+use Rattle.replay_merge.specs.Dealt.{is_taken_before, is_taken_in, numbered}
 use Rattle.replay_merge.specs.Taking.{IsTakenOf}
-use Rattle.replay_merge.proofs.Taken.{seen, segment_more}
-use Rattle.replay_merge.proofs.Replayed.{entries_more, none_taken, segments_fit}
+use Rattle.replay_merge.proofs.Interleaved.{round_more, rounds_none}
+use Rattle.replay_merge.proofs.Joined.{taken_between}
+use Rattle.replay_merge.proofs.Replayed.{none_taken}
 use Rattle.replay_merge.proofs.taking.take_share.Goals as goal
 
-pub loop-held-init : goal.loop-held-init
-loop-held-init g c = record {
-  taken = none_taken c.args.tables.now c.new-merged.result c.new-merged.ensures.cells
-      c.new-merged.ensures.updates c.new-merged.ensures.skipped;
-  number = omega arith;
-}
+pub loop-round-init : goal.loop-round-init
+loop-round-init g c =
+    subst (λ (ps : List PlacedPayload). IsTakenOf c.args.tables.now ps c.new-merged.result)
+    (sym (rounds_none c.args.workers c.args.worker (flat_map payloads_of c.args.segments.now)))
+    (none_taken c.args.tables.now c.new-merged.result c.new-merged.ensures.cells
+    c.new-merged.ensures.updates c.new-merged.ensures.skipped)
 
-pub loop-held-preserved : goal.loop-held-preserved
-loop-held-preserved g c =
-    let l = c.loop-held in
-    let segments = c.args.segments.now in
-    record {
-      taken = subst (λ (hs : List SegmentHeld). IsTakenOf c.args.tables.now
-          (share_of c.args.share.workers c.args.share.worker (flat_map payloads_of hs))
-          c.take_segment.new.merged)
-          (seen segments l.held-index c.held-item.result c.loop-held-test.true c.held-item.is)
-          (segment_more c.args.tables.now
-          (is_dealt_to c.args.share.workers c.args.share.worker) (take l.held-index segments)
-          c.held-item.result l.number l.merged c.take_segment.new.merged l.invariant.number
-          l.invariant.taken c.in_ok-take_segment.ensures);
-      number = ap (λ k. l.number + k) c.len.ensures
-          ∙ entries_more segments l.held-index l.number c.held-item.result c.loop-held-test.true
-          c.held-item.is l.invariant.number;
-    }
-
-pub take_segment-requires-clause-few : goal.take_segment-requires-clause-few
-take_segment-requires-clause-few g c =
-    let l = c.loop-held in
-    let segments = c.args.segments.now in
-    let more = entries_more segments l.held-index l.number c.held-item.result
-    c.loop-held-test.true c.held-item.is l.invariant.number in
-    omega (arith, more, segments_fit segments (l.held-index + 1), c.requires.few)
-
-pub overflow_add-number : goal.overflow_add-number
-overflow_add-number g c =
-    let l = c.loop-held in
-    let segments = c.args.segments.now in
-    let more = entries_more segments l.held-index l.number c.held-item.result
-    c.loop-held-test.true c.held-item.is l.invariant.number in
-    omega (arith, more, segments_fit segments (l.held-index + 1), c.requires.few, c.len.ensures)
+pub loop-round-preserved : goal.loop-round-preserved
+loop-round-preserved g c =
+    let l = c.loop-round in
+    let ps = flat_map payloads_of c.args.segments.now in
+    taken_between c.args.tables.now
+    (numbered (is_taken_before c.args.workers c.args.worker l.round) 0 ps)
+    (numbered (is_taken_in c.args.workers c.args.worker l.round) 0 ps)
+    (numbered (is_taken_before c.args.workers c.args.worker (l.round + 1)) 0 ps)
+    l.merged c.take_round.new.merged l.invariant c.in_ok-take_round.ensures
+    (round_more c.args.workers c.args.worker l.round ps)
