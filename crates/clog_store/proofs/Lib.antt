@@ -11,6 +11,7 @@ mod Kept
 mod Live
 mod Lived
 mod Looking
+mod Noted
 mod OpenedWhole
 mod Outcomes
 mod Ready

@@ -4,6 +4,7 @@ pub mod Filing
 pub mod Life
 pub mod Live
 pub mod Named
+pub mod Notes
 pub mod Opened
 pub mod Publishes
 pub mod Resting
