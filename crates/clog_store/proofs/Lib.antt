@@ -10,6 +10,8 @@ mod Ids
 mod Kept
 mod Live
 mod Lived
+mod LivedCalls
+mod LivedRolls
 mod Looking
 mod Noted
 mod OpenedWhole

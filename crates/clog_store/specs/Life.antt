@@ -75,6 +75,13 @@ RestsNow files leaves read_at s =
     IsResting f (leaves s.disk) r s.past s.id (take s.synced s.sections)
     (drop s.synced s.sections))
 
+-- Each image of now shows all that lasts.
+abbrev pub LastsNow : {D : Type 0} → (D → Option Files)
+    → (D → List ℕ → Option (List ℕ) → Type 0) → (D → ℕ → Option Reading) → State D → Type 0
+LastsNow files leaves read_at s =
+    BothTold (files s.disk) (read_at s.disk s.opened) (λ f r. (image : Files)
+    → IsImage (leaves s.disk) image → HasShown r (lasting_in s) s.past s.id s.sections image)
+
 -- What a store keeps true from its opening on, where all that was there before lasted.
 pub record Lives {D : Type 0} (files : D → Option Files) (moment : D → ℕ)
     (since : D → ℕ → Files → Type 0) (leaves : D → List ℕ → Option (List ℕ) → Type 0)
@@ -82,10 +89,7 @@ pub record Lives {D : Type 0} (files : D → Option Files) (moment : D → ℕ)
   pub began : s.opened ≤ moment s.disk
   pub few : s.synced ≤ length s.sections
   pub shown : ShownSince files moment since read_at s.disk s.opened s.past s.id s.sections
-  -- each image of now shows all that lasts
-  pub lasts : BothTold (files s.disk) (read_at s.disk s.opened) (λ f r. (image : Files)
-      → IsImage (leaves s.disk) image
-      → HasShown r (lasting_in s) s.past s.id s.sections image)
+  pub lasts : LastsNow files leaves read_at s
   -- until the disk has failed
   pub rests : s.is_stopped ≡ false → RestsNow files leaves read_at s
 

@@ -13,7 +13,7 @@ ghost use Rattle.clog_disk.specs.Images.{IsLater, LeavesOnly};
 ghost use Rattle.clog_crash.specs.Rest.{IsAtRest};
 ghost use Rattle.clog_crash.specs.Sections.{Brings};
 ghost use Rattle.clog_folder.specs.Passing.{IsUntouched, TellsFault};
-ghost use Rattle.clog_store.specs.Life.{HasEnd, Lives, LivesOn, ShownSince};
+ghost use Rattle.clog_store.specs.Life.{HasEnd, LastsNow, Lives, LivesOn, ShownSince};
 ghost use Rattle.clog_store.specs.Stepped.{Keeps, Settles, Writes};
 ghost use Rattle.clog_store.specs.Opened.{
   HandsOn,
@@ -252,12 +252,14 @@ impl<D: Disk> Store<D> {
     }
 
     /// Gives the disk back. Of a store that lives each image since the opening restores what the
-    /// folder restored then and the first of the entries.
+    /// folder restored then and the first of the entries, and each image of now all that last.
     pub fn into_disk(self) -> D
         ensures disk { result ≡ self.disk }
         ensures shown { Lives D.files D.moment D.since D.leaves D.read_at self
             → ShownSince D.files D.moment D.since D.read_at result self.opened self.past self.id
             self.sections }
+        ensures lasts { Lives D.files D.moment D.since D.leaves D.read_at self
+            → LastsNow D.files D.leaves D.read_at self }
     {
         self.disk
     }

@@ -3,7 +3,8 @@ use Rattle.clog_scan.specs.Cut.{Section}
 use Rattle.clog_crash.specs.Sections.{Brings}
 use Rattle.clog_store.specs.Life.{HasEnd, Lives, LivesOn, State}
 use Rattle.clog_store.proofs.Ends.{end_more}
-use Rattle.clog_store.proofs.Lived.{lives_from, lives_kept, lives_same, lives_still, lives_torn}
+use Rattle.clog_store.proofs.Lived.{lives_from, lives_still}
+use Rattle.clog_store.proofs.LivedCalls.{lives_kept, lives_same, lives_torn}
 use Rattle.clog_store.proofs.Outcomes.{no_failure}
 use Rattle.clog_store.proofs.store.Store.keep.Goals as goal
 

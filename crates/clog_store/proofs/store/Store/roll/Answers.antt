@@ -3,7 +3,8 @@ use Rattle.clog_scan.specs.Cut.{Section}
 use Rattle.clog_crash.specs.Log.{Write}
 use Rattle.clog_store.specs.Life.{Lives, LivesOn, State}
 use Rattle.clog_store.specs.Several.{written}
-use Rattle.clog_store.proofs.Lived.{lives_from, lives_rolled}
+use Rattle.clog_store.proofs.Lived.{lives_from}
+use Rattle.clog_store.proofs.LivedRolls.{lives_rolled}
 use Rattle.clog_store.proofs.store.Store.roll.Goals as goal
 
 pub returns-clause-lives : goal.returns-clause-lives
