@@ -1,3 +1,4 @@
 -- The log: the last marker, and what is pending up to it.
+pub mod BuiltSteps
 pub mod Lending
 pub mod KeptStays

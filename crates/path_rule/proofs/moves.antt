@@ -19,3 +19,4 @@ pub mod LentLooks
 pub mod RefusedSyncs
 pub mod DepositSteps
 pub mod AppendMoved
+pub mod FinishSteps

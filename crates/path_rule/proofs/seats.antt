@@ -11,3 +11,5 @@ pub mod Ends
 pub mod HolderLooks
 pub mod HolderIssues
 pub mod MayGives
+pub mod Placing
+pub mod Accepting

@@ -1,10 +1,26 @@
 -- What the keeper shows of the machine.
-use Rattle.std.specs.Prelude.{◌≡◌, ℕ, nat_lt, Bool, false, List, [], ◌++◌, map}
+use Rattle.std.specs.Prelude.{
+  ◌≡◌,
+  ℕ,
+  zero,
+  suc,
+  Bool,
+  true,
+  false,
+  List,
+  [],
+  ◌++◌,
+  map,
+  Option,
+  Some,
+  None,
+}
 use Rattle.std.specs.List.{filter}
 use Rattle.clog_base.specs.declared.sizes.Sizes.{Sizes}
 use Rattle.path_core.specs.declared.note.EntryNote.{EntryNote}
 use Rattle.path_core.specs.declared.state.PathState.{PathState}
 use Rattle.path_core.specs.Keeper.{Holding, IsFresh}
+use Rattle.path_core.specs.LawfulLog.{is_at_most}
 use Rattle.path_core.specs.Next.{is_between}
 use Rattle.path_rule.specs.declared.lasting.Lasting.{Lasting}
 use Rattle.path_rule.specs.declared.view.PathSize.{PathSize}
@@ -13,14 +29,20 @@ use Rattle.path_rule.specs.declared.view.PathSize.{PathSize}
 abbrev pub ends : List EntryNote → List ℕ
 ends l = map (λ (n : EntryNote). n.end.0) l
 
+-- the count of faults with which a keeper has stopped
+abbrev pub stopped_with : Bool → ℕ → Option ℕ
+stopped_with true faults = Some faults
+stopped_with false faults = None
+
 -- what a keeper shows by what it holds
 abbrev pub lasting_of : Holding → Lasting
 lasting_of h = record {
-  logged = ends h.logged;
+  logged = h.logged;
   synced = h.synced;
   dropped = h.dropped;
   kept = h.kept;
-  stopped = h.stopped;
+  stopped = stopped_with h.stopped h.faults;
+  at_open = h.at_open;
   capacity = h.sizes.capacity;
   ordinals = h.sizes.ordinals;
   base = h.base;
@@ -29,15 +51,21 @@ lasting_of h = record {
 abbrev pub shows_of : {K : Type 0} → (K → Holding) → K → Lasting
 shows_of holds k = lasting_of (holds k)
 
--- What it is to show of a state. It may have kept the entries of a sync up to a key, which was
--- refused.
-abbrev pub shown : ℕ → PathState → Lasting
-shown key x = record {
-  logged = x.logged;
+-- the count of faults that the cursor of a stopped log tells
+abbrev pub fault_count : ℕ → Option ℕ
+fault_count zero = None
+fault_count (suc n) = Some (suc n)
+
+-- What it is to show of a state, where its disk had counted so many faults when it was opened. It
+-- may have kept the entries of a sync up to a key, which was refused.
+abbrev pub shown : ℕ → ℕ → PathState → Lasting
+shown opened key x = record {
+  logged = filter (is_at_most x.synced) x.notes;
   synced = x.synced;
   dropped = x.dropped;
   kept = filter (is_between x.synced key) x.notes;
-  stopped = nat_lt 0 x.stopped;
+  stopped = fault_count x.stopped;
+  at_open = opened;
   capacity = x.capacity;
   ordinals = x.ordinals;
   base = x.base;
@@ -50,7 +78,8 @@ none_lasting size = record {
   synced = 0;
   dropped = [];
   kept = [];
-  stopped = false;
+  stopped = None;
+  at_open = size.at_open;
   capacity = size.capacity;
   ordinals = size.ordinals;
   base = size.base;
@@ -59,12 +88,12 @@ none_lasting size = record {
 -- a keeper that was just opened, of the table's sizes
 abbrev pub IsNew : PathSize → Holding → Type 0
 IsNew size h = (sizes : Sizes) × IsFresh size.base sizes h × (sizes.capacity ≡ size.capacity)
-    × (sizes.ordinals ≡ size.ordinals)
+    × (sizes.ordinals ≡ size.ordinals) × (h.at_open ≡ size.at_open)
 
 -- More entries are lasting, up to a key, and none is kept.
-abbrev pub more_lasting : List ℕ → ℕ → Lasting → Lasting
+abbrev pub more_lasting : List EntryNote → ℕ → Lasting → Lasting
 more_lasting more upto l = record l { logged = l.logged ++ more; synced = upto; kept = [] }
 
--- A sync was refused: these entries are kept, and the keeper has stopped or not.
-abbrev pub refused_lasting : List EntryNote → Bool → Lasting → Lasting
+-- A sync was refused: these entries are kept, and the keeper has stopped with a count, or not.
+abbrev pub refused_lasting : List EntryNote → Option ℕ → Lasting → Lasting
 refused_lasting kept stopped l = record l { kept = kept; stopped = stopped }

@@ -6,10 +6,12 @@ pub mod Boxed
 pub mod Rule
 pub mod HandsAfter
 pub mod Turns
+pub mod Accepted
 pub mod Told
 pub mod TurnTold
 pub mod Desks
 pub mod Calls
+pub mod SyncEnd
 pub mod Members
 pub mod Passes
 pub mod Sharing

@@ -1,11 +1,11 @@
 -- What the contracts say of the members of a table.
-use Rattle.std.specs.Prelude.{◌≡◌, ℕ, List, [], ◌∷◌, ◌++◌}
+use Rattle.std.specs.Prelude.{◌≡◌, ℕ, List, [], ◌∷◌, ◌++◌, Option}
+use Rattle.std.specs.List.Sorted.{IsPermutation}
 use Rattle.atomic_table.specs.Seated.{TableId}
 use Rattle.atomic_table.specs.Table.{rest}
 use Rattle.path_core.specs.declared.event.Event.{Event}
 use Rattle.path_core.specs.declared.note.EntryNote.{EntryNote}
 use Rattle.path_core.specs.declared.seat.Seat.{Seat}
-use Rattle.path_rule.specs.declared.lasting.Lasting.{Lasting}
 use Rattle.path_rule.specs.declared.slot.Slot.{Slot}
 use Rattle.path_rule.specs.declared.slot.Slot.TheVariants.{Notes}
 use Rattle.path_rule.specs.declared.table.Member.{Member}
@@ -16,7 +16,8 @@ use Rattle.path_rule.specs.declared.view.View.{View}
 use Rattle.path_rule.specs.Boxes.{box_of}
 use Rattle.path_rule.specs.Calls.{Did, DidAs}
 use Rattle.path_rule.specs.HandsAfter.{with_desk}
-use Rattle.path_rule.specs.TurnTold.{CarriesAs}
+use Rattle.path_rule.specs.Lasts.{refused_lasting}
+use Rattle.path_rule.specs.TurnTold.{IsKeptNow}
 
 module _ {K : Type 0} where
   -- what a member knows, and the boxes that it has, the one that it took last in front
@@ -63,11 +64,14 @@ module _ {K : Type 0} where
   abbrev pub SteppedAs : Member K → Event → ℕ → Hands → Member K → Type 0
   SteppedAs m e n h m' = DidAs m.seat.me.0 m.number e n h m'.seat.me.0
 
-  -- It made that step, and knows since what lies on the desk, which it took last.
-  abbrev pub SteppedWith : (K → Lasting) → Member K → Event → ℕ → Member K → Type 0
-  SteppedWith shows m e n m' = (lasting : Lasting) × (pending : List EntryNote)
-      × SteppedAs m e n (with_desk lasting pending m.seat.me.0.hands.progress m.seat.me.0.hands) m'
-      × CarriesAs shows lasting pending m.seat.me.0.hands.progress m.seat.me
+  -- It made that step after a sync up to a key that was refused. It knows since what lies on the
+  -- desk: all is pending still, in some order, and the keeper may have kept a part, and may have
+  -- stopped with a count of faults.
+  abbrev pub SteppedRefused : ℕ → Option ℕ → Member K → Event → ℕ → Member K → Type 0
+  SteppedRefused upto stopped m e n m' = (kept : List EntryNote) × (pending : List EntryNote)
+      × IsPermutation m.seat.me.0.hands.pending pending × IsKeptNow upto m.seat.me.0.hands kept
+      × SteppedAs m e n (with_desk (refused_lasting kept stopped m.seat.me.0.hands.lasting) pending
+      m.seat.me.0.hands.progress m.seat.me.0.hands) m'
 
   -- its box for the group, which it took last, holds this note behind what was there
   abbrev pub HasDeposit : Member K → ℕ → EntryNote → Type 0

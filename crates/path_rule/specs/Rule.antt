@@ -15,6 +15,7 @@ use Rattle.std.specs.Prelude.{
   ◌∷◌,
   map,
   length,
+  replicate,
   slice_index,
   None,
 }
@@ -23,13 +24,16 @@ use lib.ListN.{get_elem?}
 use Rattle.atomic_table.specs.Table.{State}
 use Rattle.clog_base.specs.Sizes.{IsWithinLimits}
 use Rattle.op_core.specs.declared.count.Order.{Order}
+use Rattle.path_core.specs.declared.event.Cursor.TheVariants.{Synced, OldestLive, Stopped}
 use Rattle.path_core.specs.declared.event.Event.{Event}
+use Rattle.path_core.specs.declared.event.Event.TheVariants.{Switch, Raise, Finalise, Put}
 use Rattle.path_core.specs.declared.event.Place.{Place}
 use Rattle.path_core.specs.declared.seat.Seat.{Seat}
 use Rattle.path_core.specs.declared.state.PathState.{PathState}
 use Rattle.path_core.specs.Allowed.{IsStep}
+use Rattle.path_core.specs.Keeper.{HasRisen}
 use Rattle.path_core.specs.Lawful.{IsLawfulPath}
-use Rattle.path_core.specs.Parts.{fresh_seat, seat_of, groups_of, table_of}
+use Rattle.path_core.specs.Parts.{fresh_seat, fresh_table, seat_of, groups_of, table_of}
 use Rattle.path_core.specs.Runs.{opening, Past}
 use Rattle.path_core.specs.SeatAfter.{Told, seat_after}
 use Rattle.path_core.specs.Whole.{CarriesWhole}
@@ -88,6 +92,7 @@ no_hands = record {
     capacity = 0;
     ordinals = 0;
     base = 0;
+    at_open = 0;
   });
   swept = 0;
   progress = record { gathered = false; marker = None };
@@ -150,6 +155,17 @@ SizedAs size (Opener k) z = z ≡ size
 abbrev pub IsSized : PathSize → View → Type 0
 IsSized size v = SizedAs size v.role v.size
 
+-- A step of a kind that is built: none switches a memtable, and the log is stopped only with a count
+-- of faults that has risen.
+abbrev pub IsBuilt : ℕ → Event → Type 0
+IsBuilt opened (Switch by t m part) = ⊥
+IsBuilt opened (Raise by t m to) = ⊥
+IsBuilt opened (Finalise by t m) = ⊥
+IsBuilt opened (Put by (OldestLive t) value) = ⊥
+IsBuilt opened (Put by Synced value) = Unit {0}
+IsBuilt opened (Put by Stopped value) = HasRisen opened value
+IsBuilt opened _ = Unit {0}
+
 -- There are words for all groups and memtables that were made.
 pub record HasRows (x : PathState) : Type 0 where
   pub groups : (o : Order) → length (groups_of x o).tallies ≤ group_rows
@@ -183,8 +199,12 @@ pub record Ruled {K : Type 0} (shows : K → Lasting) (size : PathSize)
   pub kept_to : ℕ
   pub may_be_kept : MayBeKept core kept_to
   -- the boxes show the notes that are not yet lasting, and the keeper what is
-  pub boxed : Boxed shows size.seats core.notes (shown kept_to core) core.claims core.append s.homes
+  pub boxed : Boxed shows size.seats core.notes (shown size.at_open kept_to core) core.claims core.append s.homes
       s.views
+  -- a stopped log tells a count of faults that has risen since the keeper was opened
+  pub risen : 0 < core.stopped → HasRisen size.at_open core.stopped
+  -- no memtable was switched: each table has its first one alone, which is live
+  pub unswitched : core.tables ≡ replicate size.tables fresh_table
   -- each view shows its seat's part and steps
   pub each_seat : (j : ℕ) (v : View) → get_elem? s.views j ≡ some v
       → IsSized size v × Knows core events owner made boss j v.role v.part v.trail v.returned
@@ -202,3 +222,5 @@ pub record Was (v : View) (w : ℕ) (e : Event) : Type 0 where
   pub mine : map event_of v.trail ≡ steps_by w events
   pub part : v.part ≡ seat_of core w
   pub rows : HasRows core
+  pub risen : 0 < core.stopped → HasRisen v.size.at_open core.stopped
+  pub unswitched : core.tables ≡ replicate v.size.tables fresh_table

@@ -5,7 +5,7 @@ use lib.ListN.{get_elem?}
 use Rattle.path_core.specs.declared.event.Event.{Event}
 use Rattle.path_core.specs.declared.seat.Seat.{Seat}
 use Rattle.path_core.specs.declared.state.PathState.{PathState}
-use Rattle.path_core.specs.Keeper.{Holding}
+use Rattle.path_core.specs.Keeper.{Holding, HasRisen}
 use Rattle.path_core.specs.Lawful.{IsLawfulPath}
 use Rattle.path_core.specs.Parts.{seat_of}
 use Rattle.path_core.specs.Runs.{Past}
@@ -32,7 +32,7 @@ abbrev pub spent_view : PathSize → View
 spent_view size = fresh_view Spent size
 
 abbrev pub spent : View
-spent = spent_view (record { tables = 0; seats = 0; capacity = 0; ordinals = 0; base = 0 })
+spent = spent_view (record { tables = 0; seats = 0; capacity = 0; ordinals = 0; base = 0; at_open = 0 })
 
 abbrev pub handed_by : Role → PathSize → View
 handed_by (Opener k) size = new_seat k size
@@ -61,8 +61,8 @@ HasAll seats w returned = (z : ℕ) → z < seats
 -- There is one run of the machine, which ends in a lawful state with this log key, and in which
 -- each
 -- seat's steps are those that it made. The keeper holds what is lasting in that state: the entries,
--- the synced key, what is dropped, and whether the log is stopped; and it may have kept the entries
--- of a sync that was refused.
+-- the synced key, what is dropped, and the count of faults with which the log is stopped, which has
+-- risen; and it may have kept the entries of a sync that was refused.
 pub record Ended (size : PathSize) (returned : List Returned) (log : ℕ) (keeper : Holding) :
     Type 0 where
   pub core : PathState
@@ -72,6 +72,7 @@ pub record Ended (size : PathSize) (returned : List Returned) (log : ℕ) (keepe
   pub log_is : log ≡ core.log
   pub kept_to : ℕ
   pub may_be_kept : MayBeKept core kept_to
-  pub lasting_is : lasting_of keeper ≡ shown kept_to core
+  pub lasting_is : lasting_of keeper ≡ shown size.at_open kept_to core
+  pub risen : 0 < core.stopped → HasRisen size.at_open core.stopped
   pub each : (n : ℕ) (b : Returned) → get_elem? returned n ≡ some b
       → (b.part ≡ seat_of core b.number) × (map event_of b.trail ≡ steps_by b.number events)

@@ -17,7 +17,7 @@ use Rattle.std.specs.Prelude.{
 }
 use Rattle.atomic_table.specs.Table.{Me, Step, rest}
 use Rattle.op_core.specs.declared.count.Order.TheVariants.{Write, Append}
-use Rattle.path_core.specs.declared.event.Carried.TheVariants.{Nothing, Deposit}
+use Rattle.path_core.specs.declared.event.Carried.TheVariants.{Nothing, Deposit, Applied}
 use Rattle.path_core.specs.declared.event.ClaimKind.TheVariants.{Entry}
 use Rattle.path_core.specs.declared.event.Event.{Event}
 use Rattle.path_core.specs.declared.event.Event.TheVariants.{Look, Register, Close, Claim}
@@ -30,6 +30,7 @@ use Rattle.path_rule.specs.declared.slot.Slot.TheVariants.{Notes}
 use Rattle.path_rule.specs.declared.view.Hands.{Hands}
 use Rattle.path_rule.specs.declared.view.Role.TheVariants.{Steps}
 use Rattle.path_rule.specs.declared.view.View.{View}
+use Rattle.path_rule.specs.Accepted.{places_of}
 use Rattle.path_rule.specs.Boxes.{box_of, NotesAre}
 use Rattle.path_rule.specs.HandsAfter.{with_notes}
 use Rattle.path_rule.specs.Layout.{word_at, IsWord, word_of}
@@ -76,6 +77,11 @@ module _ {K : Type 0} where
   abbrev pub Stopped : Step (Slot K) → Me (Slot K) View → ℕ → Me (Slot K) View → Type 0
   Stopped st m n m' = (w g : ℕ) → m.0.role ≡ Steps w → g < 65536 → st.word ≡ 72 + 2 * g
       → Made w (Close w Write g Nothing) n m m'
+
+  -- it left that order once its write was accepted at each of its tables
+  abbrev pub Finished : Step (Slot K) → Me (Slot K) View → ℕ → Me (Slot K) View → Type 0
+  Finished st m n m' = (w g : ℕ) → m.0.role ≡ Steps w → g < 65536 → st.word ≡ 72 + 2 * g
+      → Made w (Close w Write g (Applied (places_of m.0.part))) n m m'
 
   -- it left the append order, before a claim, and its box is at home
   abbrev pub Withdrew : Step (Slot K) → Me (Slot K) View → ℕ → Me (Slot K) View → Type 0

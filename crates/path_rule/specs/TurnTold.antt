@@ -10,10 +10,10 @@ use Rattle.std.specs.Prelude.{
   ◌^◌,
   ◌<◌,
   ◌≤◌,
-  Bool,
   List,
   ◌∷◌,
   length,
+  Option,
   Some,
 }
 use Rattle.std.specs.List.Sorted.{IsPermutation}
@@ -55,7 +55,7 @@ use Rattle.path_rule.specs.HandsAfter.{
   barred,
   with_marker,
 }
-use Rattle.path_rule.specs.Lasts.{lasting_of, shown, more_lasting, refused_lasting, ends}
+use Rattle.path_rule.specs.Lasts.{lasting_of, shown, more_lasting, refused_lasting}
 use Rattle.path_rule.specs.Rule.{Was}
 use Rattle.path_rule.specs.Told.{MadeAs, Made}
 use Rattle.path_rule.specs.Turns.{TurnSaw, IsBarred}
@@ -166,8 +166,8 @@ module _ {K : Type 0} (shows : K → Lasting) where
   abbrev pub SyncTaken : Step (Slot K) → Me (Slot K) View → ℕ → Me (Slot K) View → Type 0
   SyncTaken st m n m' = (w : ℕ) → m.0.role ≡ Steps w
       → (n ≡ 0 → ((lasting : Lasting) × (pending : List EntryNote) × (progress : Progress)
-      × MadeAs w (TakeTurn w Sync) 1 (with_desk lasting pending progress m.0.hands) m.0 m'.0)
-      × TookDesk m m')
+      × MadeAs w (TakeTurn w Sync) 1 (with_desk lasting pending progress m.0.hands) m.0 m'.0
+      × (lasting.at_open ≡ m.0.size.at_open)) × TookDesk m m')
       × (n ≢ 0 → Made w (Look w (TurnWord Sync)) n m m')
 
   -- the desk was taken last, with what the seat knows in it
@@ -184,7 +184,7 @@ module _ {K : Type 0} (shows : K → Lasting) where
   abbrev pub CarriesSynced : ℕ → Me (Slot K) View → Type 0
   CarriesSynced upto m = (run : List EntryNote) × (left : List EntryNote)
       × IsParted upto m.0.hands.pending run left
-      × CarriesAs (more_lasting (ends run) upto m.0.hands.lasting) left m.0.hands.progress m
+      × CarriesAs (more_lasting run upto m.0.hands.lasting) left m.0.hands.progress m
 
   -- The synced key is put, and what the keeper made lasting is what the machine has now.
   abbrev pub SyncedPut : Step (Slot K) → Me (Slot K) View → ℕ → Me (Slot K) View → Type 0
@@ -193,28 +193,32 @@ module _ {K : Type 0} (shows : K → Lasting) where
       → MadeAs w (Put w Synced st.first) n
       (with_desk lasting pending m.0.hands.progress m.0.hands) m.0 m'.0 × (m'.1 ≡ m.1)
       × ((was : Was m.0 w (Put w Synced st.first))
-      × (shown st.first (next_of was.core (Put w Synced st.first)) ≡ lasting))
+      × (shown m.0.size.at_open st.first (next_of was.core (Put w Synced st.first)) ≡ lasting))
 
   -- A sync up to a key was refused: on the desk lies what was pending, in some order, and the
-  -- keeper
-  -- shows what it did, but for what it has kept and whether it has stopped.
-  abbrev pub CarriesRefused : ℕ → Bool → Me (Slot K) View → Type 0
+  -- keeper shows what it did, but for what it has kept, and the count with which it has stopped.
+  abbrev pub CarriesRefused : ℕ → Option ℕ → Me (Slot K) View → Type 0
   CarriesRefused upto stopped m = (kept : List EntryNote) × (pending : List EntryNote)
       × IsPermutation m.0.hands.pending pending × IsKeptNow upto m.0.hands kept
       × CarriesAs (refused_lasting kept stopped m.0.hands.lasting) pending m.0.hands.progress m
 
-  -- the seat made a step, and knows what lies on the desk since
-  abbrev pub MadeWith : ℕ → Event → ℕ → Me (Slot K) View → Me (Slot K) View → Type 0
-  MadeWith w e n m m' = ((lasting : Lasting) × (pending : List EntryNote)
-      × MadeAs w e n (with_desk lasting pending m.0.hands.progress m.0.hands) m.0 m'.0
-      × CarriesAs lasting pending m.0.hands.progress m) × (m'.1 ≡ m.1)
+  -- After a sync up to a key that was refused the seat made a step, and knows what lies on the desk
+  -- since.
+  abbrev pub MadeRefused : ℕ → Option ℕ → ℕ → Event → ℕ → Me (Slot K) View → Me (Slot K) View
+      → Type 0
+  MadeRefused upto stopped w e n m m' = ((kept : List EntryNote) × (pending : List EntryNote)
+      × IsPermutation m.0.hands.pending pending × IsKeptNow upto m.0.hands kept
+      × MadeAs w e n (with_desk (refused_lasting kept stopped m.0.hands.lasting) pending
+      m.0.hands.progress m.0.hands) m.0 m'.0
+      × CarriesAs (refused_lasting kept stopped m.0.hands.lasting) pending m.0.hands.progress m)
+      × (m'.1 ≡ m.1)
 
-  -- a look, after a sync that was refused
+  -- a look, after a sync up to the last marker that was refused
   abbrev pub RefusedKept : Step (Slot K) → Me (Slot K) View → ℕ → Me (Slot K) View → Type 0
-  RefusedKept st m n m' = (w : ℕ) → m.0.role ≡ Steps w
-      → MadeWith w (Look w (CursorWord StoppedCursor)) n m m'
+  RefusedKept st m n m' = (w upto : ℕ) → m.0.role ≡ Steps w → IsBarred m.0.hands upto
+      → MadeRefused upto m.0.hands.lasting.stopped w (Look w (CursorWord StoppedCursor)) n m m'
 
-  -- the log is stopped, as the keeper is
+  -- the log is stopped with the count with which the keeper is
   abbrev pub StoppedPut : Step (Slot K) → Me (Slot K) View → ℕ → Me (Slot K) View → Type 0
-  StoppedPut st m n m' = (w : ℕ) → m.0.role ≡ Steps w
-      → MadeWith w (Put w StoppedCursor st.first) n m m'
+  StoppedPut st m n m' = (w upto : ℕ) → m.0.role ≡ Steps w → IsBarred m.0.hands upto
+      → MadeRefused upto (Some st.first) w (Put w StoppedCursor st.first) n m m'

@@ -1,9 +1,11 @@
 //! A sync is brought to its end, in the hand of the holder of the Sync turn.
-ghost use Rattle.std.specs.Prelude.{◌≡◌, true, Some, OnOk};
+ghost use Rattle.std.specs.Prelude.{◌≡◌, true, Some, OnOk, OnErr};
+ghost use Rattle.std.specs.List.Sorted.{IsPermutation};
 ghost use Rattle.path_core.specs.declared.seat.SyncTurn.{SyncTurn};
 ghost use Rattle.path_rule.specs.Calls.{MayGive, IsSyncedTo};
 ghost use Rattle.path_rule.specs.Lasts.{shows_of};
 ghost use Rattle.path_rule.specs.Members.{view_of, part_of, hands_of, IsOf, IsSame};
+ghost use Rattle.path_rule.specs.SyncEnd.{stopped_by, EndsSync, TellsFaults};
 ghost use Rattle.path_rule.specs.TurnTold.{CarriesDesk};
 ghost use Rattle.path_rule.specs.Turns.{IsBarred};
 
@@ -14,8 +16,9 @@ use std::alloc::Allocator;
 impl<K: Keeper, A: Allocator> PathTable<K, A> {
     /// Ends a sync up to the last marker, once all boxes behind its barrier are gathered and the log
     /// was found running. The keeper is lent what is pending, and the synced key is put at the
-    /// marker; where the keeper has stopped, the log is. After each answer the turn may be given
-    /// back.
+    /// marker; where the keeper has stopped, the log is, with the count of faults that the keeper
+    /// shows and that is answered. After each answer the turn may be given back, and after a
+    /// refusal all is pending still. It makes two steps at most, of which one is no look.
     pub fn end_sync(&self, member: Member<K>, upto: u64) -> (Member<K>, Result<(), KeeperFault>)
         requires table { IsOf self.now.table.shared.table_id self.now.size member }
         requires turn { MayGive (view_of member) × ((hands_of member).progress.gathered ≡ true)
@@ -26,6 +29,13 @@ impl<K: Keeper, A: Allocator> PathTable<K, A> {
         ensures give { MayGive (view_of result.0) }
         ensures desk { CarriesDesk (shows_of K.holds) result.0.seat.me }
         ensures synced { OnOk result.1 (IsSyncedTo (view_of result.0) upto) }
+        ensures refused { OnErr result.1 (IsPermutation (hands_of member).pending
+            (hands_of result.0).pending) }
+        ensures counts { TellsFaults (hands_of member).lasting.at_open result.1 }
+        ensures stopped { (hands_of result.0).lasting.stopped
+            ≡ stopped_by (hands_of member).lasting.stopped result.1 }
+        ensures steps { EndsSync member.number upto (view_of member).trail result.1
+            (view_of result.0).trail }
     {
         let mut member = member;
         let synced = self.look_lent(&mut member);

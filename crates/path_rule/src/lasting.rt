@@ -5,16 +5,18 @@ use std::collections::LinkedList;
 /// What a keeper has made of the log.
 #[derive(Drop)]
 pub struct Lasting {
-    /// The ends of the entries that it made lasting, in the order of the log.
-    pub logged: LinkedList<u64>,
+    /// The entries that it made lasting, in the order of the log.
+    pub logged: LinkedList<EntryNote>,
     /// The key up to which it made the log lasting.
     pub synced: u64,
     /// The ordinals of the segments that it dropped.
     pub dropped: LinkedList<u64>,
     /// The entries of a sync that was refused, until one ends well.
     pub kept: LinkedList<EntryNote>,
-    /// Whether it has stopped.
-    pub stopped: bool,
+    /// The count of faults of its disk with which it stopped, once it has.
+    pub stopped: Option<u64>,
+    /// That count when it was opened.
+    pub at_open: u64,
     /// The bytes of a segment.
     pub capacity: u64,
     /// How many segments its log may have.

@@ -1,6 +1,6 @@
 //! What the rule of the table says of each moment, for whatever the words, the boxes and the views
 //! hold then. Nothing here runs; each function's contract is a promise of the table.
-ghost use Rattle.std.specs.Prelude.{◌≡◌, ◌≤◌, ◌⊎◌, ℕ, true, false, Some};
+ghost use Rattle.std.specs.Prelude.{◌≡◌, ◌<◌, ◌≤◌, ◌⊎◌, ℕ, true, false, Some};
 ghost use Rattle.std.specs.List.{Contains};
 ghost use mathlib.Core.Option.{some};
 ghost use lib.ListN.{get_elem?};
@@ -8,6 +8,7 @@ ghost use Rattle.atomic_table.specs.Table.{State};
 ghost use Rattle.path_core.specs.declared.event.Turn.{Turn};
 ghost use Rattle.path_core.specs.declared.note.EntryNote.{EntryNote};
 ghost use Rattle.path_core.specs.declared.state.Claim.{Claim};
+ghost use Rattle.path_core.specs.Keeper.{HasRisen};
 ghost use Rattle.path_core.specs.Lawful.{IsLawfulPath};
 ghost use Rattle.path_core.specs.Parts.{holds_turn, last_marker, seat_of};
 ghost use Rattle.path_rule.specs.declared.slot.Slot.{Slot};
@@ -31,8 +32,15 @@ pub fn the_keeper_at_home_shows_what_is_lasting<K: Keeper>()
     ensures { (size : PathSize) (s : State (Slot K) View) (r : Ruled (shows_of K.holds) size s)
         → ((w : ℕ) → holds_turn (seat_of r.core w) Turn.Sync ≡ false)
         → (y : Slot K) × (get_elem? s.homes desk_box ≡ some (some y))
-        × DeskIs (shows_of K.holds) y (shown r.kept_to r.core) r.boxed.pending
+        × DeskIs (shows_of K.holds) y (shown size.at_open r.kept_to r.core) r.boxed.pending
         r.boxed.progress }
+{}
+
+/// A stopped log tells the count of faults with which its keeper stopped, which has risen since the
+/// keeper was opened; the keeper at home shows it.
+pub fn a_stopped_log_tells_a_count_that_has_risen<K: Keeper>()
+    ensures { (size : PathSize) (s : State (Slot K) View) (r : Ruled (shows_of K.holds) size s)
+        → 0 < r.core.stopped → HasRisen size.at_open r.core.stopped }
 {}
 
 /// No two seats have one box.

@@ -6,7 +6,6 @@ ghost use Rattle.std.specs.Prelude.{
   ◌<◌,
   ◌≤◌,
   ◌^◌,
-  ◌||◌,
   List,
   [],
   ◌∷◌,
@@ -17,19 +16,12 @@ ghost use Rattle.std.specs.Prelude.{
 };
 ghost use Rattle.atomic_table.specs.Table.{rest, turned};
 ghost use Rattle.path_core.specs.declared.note.EntryNote.{EntryNote};
-ghost use Rattle.path_core.specs.Keeper.{
-  Holding,
-  IsParted,
-  MayWrite,
-  Syncs,
-  SyncRefused,
-  TellsCounts,
-  is_stopped,
-};
+ghost use Rattle.path_core.specs.Keeper.{IsParted, MayWrite, Syncs, SyncRefused};
 ghost use Rattle.path_rule.specs.declared.slot.Slot.TheVariants.{Notes};
 ghost use Rattle.path_rule.specs.Desks.{pending_on, HasDesk, HasDeskBehind};
-ghost use Rattle.path_rule.specs.Lasts.{shows_of};
+ghost use Rattle.path_rule.specs.Lasts.{shows_of, stopped_with};
 ghost use Rattle.path_rule.specs.Members.{view_of, hands_of, boxes_of, IsSame};
+ghost use Rattle.path_rule.specs.SyncEnd.{stopped_by, TellsFaults};
 ghost use Rattle.path_rule.specs.Told.{CarriesNotes};
 ghost use Rattle.path_rule.specs.TurnTold.{
   CarriesDesk,
@@ -76,9 +68,11 @@ fn lend_pending<K: Keeper>(desk: &mut Desk<K>, upto: u64) -> Result<(), KeeperFa
         (pending_on desk.old) (pending_on desk.new)) }
     ensures refused { OnErr result (SyncRefused (K.holds desk.old.keeper)
         (K.holds desk.new.keeper) upto (pending_on desk.old) (pending_on desk.new)) }
-    ensures counts { TellsCounts (K.holds desk.new.keeper) result }
-    ensures stopped { (K.holds desk.new.keeper).stopped
-        ≡ ((K.holds desk.old.keeper).stopped || is_stopped result) }
+    ensures counts { TellsFaults (K.holds desk.old.keeper).at_open result }
+    ensures stopped { stopped_with (K.holds desk.new.keeper).stopped
+        (K.holds desk.new.keeper).faults
+        ≡ stopped_by (stopped_with (K.holds desk.old.keeper).stopped
+        (K.holds desk.old.keeper).faults) result }
 {
     move_all(&mut desk.lent, &mut desk.gathered)?;
     desk.lent.sort_unstable_by_key(|note| note.end.0);
@@ -87,7 +81,8 @@ fn lend_pending<K: Keeper>(desk: &mut Desk<K>, upto: u64) -> Result<(), KeeperFa
 
 impl<K: Keeper, A: Allocator> PathTable<K, A> {
     /// Lends the keeper on the desk what is pending, in the order of the log, so that it makes
-    /// lasting what ends at or below a key. After a refusal all is pending, in whatever order.
+    /// lasting what ends at or below a key. After a refusal all is pending, in whatever order; a
+    /// keeper that has stopped tells its counts of faults, the second one the count that it shows.
     pub fn lend(&self, member: Member<K>, upto: u64) -> (Member<K>, Result<(), KeeperFault>)
         requires table { member.seat.table_id ≡ self.now.table.shared.table_id }
         requires desk { CarriesDesk (shows_of K.holds) member.seat.me }
@@ -100,9 +95,9 @@ impl<K: Keeper, A: Allocator> PathTable<K, A> {
             × (rest (boxes_of result.0) ≡ rest (boxes_of member))) }
         ensures refused { OnErr result.1
             (CarriesRefused (shows_of K.holds) upto
-            ((hands_of member).lasting.stopped || is_stopped result.1) result.0.seat.me
+            (stopped_by (hands_of member).lasting.stopped result.1) result.0.seat.me
             × (rest (boxes_of result.0) ≡ rest (boxes_of member))) }
-        ensures counts { (h : Holding) × TellsCounts h result.1 }
+        ensures counts { TellsFaults (hands_of member).lasting.at_open result.1 }
     {
         let Member { mut seat, number } = member;
         let shared = &self.table.shared;

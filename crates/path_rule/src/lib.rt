@@ -6,6 +6,7 @@
 //! `PathTable` has a method for each kind of step, and `Member` is the seat that makes them.
 #![tactic(auto)]
 
+mod accepting;
 mod append_barrier;
 mod appending;
 mod claiming;
@@ -33,8 +34,9 @@ mod writing;
 
 pub use lasting::Lasting;
 pub use laws::{
-    each_box_has_one_holder, gathering_reaches_the_last_marker,
-    the_keeper_at_home_shows_what_is_lasting, the_table_shows_a_lawful_state,
+    a_stopped_log_tells_a_count_that_has_risen, each_box_has_one_holder,
+    gathering_reaches_the_last_marker, the_keeper_at_home_shows_what_is_lasting,
+    the_table_shows_a_lawful_state,
 };
 pub use opening::open;
 pub use rule::PathRule;

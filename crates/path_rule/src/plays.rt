@@ -39,6 +39,17 @@ impl<K> Play<Slot<K>, View> for StopIn<K> {
     ghost then = { Stopped };
 }
 
+/// It leaves it once its write was accepted.
+pub(crate) struct FinishIn<K> {
+    keeper: PhantomData<K>,
+}
+
+impl<K> Play<Slot<K>, View> for FinishIn<K> {
+    ghost use Rattle.path_rule.specs.Told.{Finished};
+
+    ghost then = { Finished };
+}
+
 /// It joins a group of the append order, and takes its box.
 pub(crate) struct JoinIn<K> {
     keeper: PhantomData<K>,

@@ -6,7 +6,7 @@ ghost use Rattle.path_core.specs.declared.event.Event.TheVariants.{Look, Put};
 ghost use Rattle.path_core.specs.declared.event.Place.TheVariants.{CursorWord};
 ghost use Rattle.path_core.specs.declared.note.EntryNote.{EntryNote};
 ghost use Rattle.path_core.specs.declared.seat.SyncTurn.{SyncTurn};
-ghost use Rattle.path_core.specs.Keeper.{IsParted};
+ghost use Rattle.path_core.specs.Keeper.{HasRisen, IsParted};
 ghost use Rattle.path_core.specs.Next.{next_of};
 ghost use Rattle.path_rule.specs.declared.lasting.Lasting.{Lasting};
 ghost use Rattle.path_rule.specs.Calls.{MayGive, IsSyncedTo};
@@ -20,7 +20,7 @@ ghost use Rattle.path_rule.specs.Members.{
   KeepsBoxes,
   Stepped,
   SteppedAs,
-  SteppedWith,
+  SteppedRefused,
 };
 ghost use Rattle.path_rule.specs.Rule.{Was};
 ghost use Rattle.path_rule.specs.TurnTold.{
@@ -82,7 +82,7 @@ impl<K: Keeper, A: Allocator> PathTable<K, A> {
             member.new
             × ((was : Was (view_of member.old) member.old.number
             (Put member.old.number Synced value))
-            × (shown value (next_of was.core (Put member.old.number Synced value))
+            × (shown self.now.size.at_open value (next_of was.core (Put member.old.number Synced value))
             ≡ lasting)) }
         ensures give { MayGive (view_of member.old) → MayGive (view_of member.new) }
         ensures desk { CarriesDesk (shows_of K.holds) member.new.seat.me }
@@ -94,17 +94,17 @@ impl<K: Keeper, A: Allocator> PathTable<K, A> {
     }
 
     /// Stops the log, which the member found running, after a sync up to the last marker in which
-    /// the keeper on the desk has stopped. The value is its count of faults.
+    /// the keeper on the desk has stopped. The value is the count of faults with which it did.
     pub fn put_stopped(&self, member: &mut Member<K>, value: u64, upto: u64)
         requires table { IsOf self.now.table.shared.table_id self.now.size member.old }
         requires turn { TurnRuns (part_of member.old) upto
             × ((hands_of member.old).progress.gathered ≡ true)
             × ((hands_of member.old).box_taken ≡ None) }
         requires marker { IsBarred (hands_of member.old) upto }
-        requires desk { CarriesRefused (shows_of K.holds) upto true member.old.seat.me }
-        requires value { 0 < value }
+        requires desk { CarriesRefused (shows_of K.holds) upto (Some value) member.old.seat.me }
+        requires value { HasRisen (hands_of member.old).lasting.at_open value }
         ensures same { KeepsBoxes member.old member.new }
-        ensures step { SteppedWith (shows_of K.holds) member.old
+        ensures step { SteppedRefused upto (Some value) member.old
             (Put member.old.number Stopped value) value member.new }
         ensures give { MayGive (view_of member.old) → MayGive (view_of member.new) }
         ensures desk { CarriesDesk (shows_of K.holds) member.new.seat.me }
@@ -125,7 +125,7 @@ impl<K: Keeper, A: Allocator> PathTable<K, A> {
         requires desk { CarriesRefused (shows_of K.holds) upto
             (hands_of member.old).lasting.stopped member.old.seat.me }
         ensures same { KeepsBoxes member.old member.new }
-        ensures step { SteppedWith (shows_of K.holds) member.old
+        ensures step { SteppedRefused upto (hands_of member.old).lasting.stopped member.old
             (Look member.old.number (CursorWord Stopped)) result member.new }
         ensures give { MayGive (view_of member.old) → MayGive (view_of member.new) }
         ensures desk { CarriesDesk (shows_of K.holds) member.new.seat.me }

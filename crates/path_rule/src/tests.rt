@@ -36,6 +36,7 @@ fn a_barrier_passes(rt: HostRuntime) -> Result<(), Fail> {
         capacity: u64::from(sizes.capacity),
         ordinals: u64::from(sizes.ordinals),
         base: 7,
+        at_open: 0,
     };
     let keeper = ListKeeper::new(rt.alloc(), sizes, 7);
     let (table, mut opener) = open(rt.alloc(), keeper, size)?;

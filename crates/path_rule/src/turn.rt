@@ -1,5 +1,5 @@
 //! The Sync turn: taken with the desk, given back with it, and what its holder finds of the log.
-ghost use Rattle.std.specs.Prelude.{◌≡◌, ◌≢◌, false, List, Some, None, is_some, IsTrue};
+ghost use Rattle.std.specs.Prelude.{◌≡◌, ◌≢◌, ◌<◌, false, List, Some, None, is_some, IsTrue};
 ghost use Rattle.path_core.specs.declared.event.Cursor.TheVariants.{Stopped};
 ghost use Rattle.path_core.specs.declared.event.Event.TheVariants.{Look, TakeTurn, GiveTurn};
 ghost use Rattle.path_core.specs.declared.event.Place.TheVariants.{TurnWord, CursorWord};
@@ -7,6 +7,7 @@ ghost use Rattle.path_core.specs.declared.event.Turn.TheVariants.{Sync};
 ghost use Rattle.path_core.specs.declared.note.EntryNote.{EntryNote};
 ghost use Rattle.path_core.specs.declared.seat.Issue.TheVariants.{Rest};
 ghost use Rattle.path_core.specs.declared.seat.SyncTurn.{SyncTurn};
+ghost use Rattle.path_core.specs.Keeper.{HasRisen};
 ghost use Rattle.path_core.specs.Next.{has_filed};
 ghost use Rattle.path_core.specs.Parts.{IsIdle, issue_of};
 ghost use Rattle.path_rule.specs.declared.lasting.Lasting.{Lasting};
@@ -43,7 +44,8 @@ impl<K: Keeper, A: Allocator> PathTable<K, A> {
         ensures hit { result ≡ 0
             → ((lasting : Lasting) × (pending : List EntryNote) × (progress : Progress)
             × SteppedAs member.old (TakeTurn member.old.number Sync) 1
-            (with_desk lasting pending progress (hands_of member.old)) member.new)
+            (with_desk lasting pending progress (hands_of member.old)) member.new
+            × (lasting.at_open ≡ self.now.size.at_open))
             × TookDesk (shows_of K.holds) member.old.seat.me member.new.seat.me }
         ensures miss { result ≢ 0
             → Stepped member.old (Look member.old.number (TurnWord Sync)) result member.new
@@ -71,8 +73,8 @@ impl<K: Keeper, A: Allocator> PathTable<K, A> {
             .store::<GiveSync<K>>(&mut member.seat, SYNC_TURN, 0);
     }
 
-    /// The keeper's count of faults as the path tells it, 0 while the log runs. It is exact while
-    /// the turn is held.
+    /// The count of faults with which the keeper stopped, 0 while the log runs. It is exact while
+    /// the turn is held, and above the count at the keeper's opening.
     pub fn look_stopped(&self, member: &mut Member<K>) -> u64
         requires table { IsOf self.now.table.shared.table_id self.now.size member.old }
         requires turn { IsTrue (is_some (part_of member.old).sync) }
@@ -81,6 +83,7 @@ impl<K: Keeper, A: Allocator> PathTable<K, A> {
             member.new }
         ensures turn { (t : SyncTurn) × ((part_of member.new).sync ≡ Some t)
             × (t.stopped ≡ Some result) }
+        ensures risen { 0 < result → HasRisen self.now.size.at_open result }
     {
         self.table
             .shared

@@ -4,7 +4,8 @@ use crate::lasting::Lasting;
 use path_core::{EntryNote, Event, LastMarker, Seat};
 use std::collections::LinkedList;
 
-/// The sizes of the machine.
+/// What a path is told when it is opened: the sizes of the machine, and what its keeper's disk had
+/// counted.
 #[derive(Clone, Copy, Drop)]
 pub struct PathSize {
     /// How many tables there are.
@@ -17,6 +18,8 @@ pub struct PathSize {
     pub ordinals: u64,
     /// The id of the first segment.
     pub base: u64,
+    /// The count of faults of the keeper's disk when the keeper was opened.
+    pub at_open: u64,
 }
 
 /// What a seat of the table is for.

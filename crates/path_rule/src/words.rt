@@ -28,6 +28,12 @@ pub(crate) const STOPPED: usize = 6;
 /// 1 while a seat holds the Sync turn.
 pub(crate) const SYNC_TURN: usize = 7;
 
+/// The oldest live memtable of table 0: four words on for each next table.
+pub(crate) const OLDEST_LIVE: usize = 10;
+
+/// The bounds of the tables' first memtables: one word on for each next table.
+pub(crate) const FIRST_BOUNDS: usize = 131_144;
+
 /// The counts of the groups of the write order: two words on for each next group.
 pub(crate) const WRITE_COUNTS: usize = 72;
 

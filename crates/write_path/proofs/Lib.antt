@@ -5,3 +5,4 @@ pub mod LeastEntry
 pub mod BoxKept
 pub mod Answered
 pub mod LogAfter
+pub mod PlacedAt

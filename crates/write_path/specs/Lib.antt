@@ -1,3 +1,4 @@
 pub mod Claims
 pub mod Tries
 pub mod Writes
+pub mod Ends

@@ -1,5 +1,6 @@
 //! A seat whose write has claimed its range of the log.
 ghost use Rattle.std.specs.Prelude.{◌≡◌, ◌^◌, ◌≤◌, [], ◌∷◌, length, Some};
+ghost use Rattle.path_core.specs.Parts.{HoldsNoTurn};
 ghost use Rattle.path_rule.specs.declared.slot.Slot.TheVariants.{Notes};
 ghost use Rattle.path_rule.specs.Boxes.{box_of};
 
@@ -23,6 +24,7 @@ pub struct Claimed<K> {
     pub ghost appends: { member.seat.me.0.part.append ≡ Some group },
     pub ghost claims: { member.seat.me.0.part.claim
         ≡ Some (record { start = start.0; end = end.0 }) },
+    pub ghost free: { HoldsNoTurn member.seat.me.0.part },
     pub ghost carries: { member.seat.me.1
         ≡ (box_of member.number group, Notes member.seat.me.0.hands.notes) ∷ [] },
     pub ghost few: { length member.seat.me.0.hands.notes ≤ 2 ^ 62 },

@@ -1,5 +1,6 @@
 //! A seat whose entry is deposited: what is left of its write is to apply it.
-ghost use Rattle.std.specs.Prelude.{◌≡◌, [], Some, None, is_some, IsTrue};
+ghost use Rattle.std.specs.Prelude.{◌≡◌, ◌^◌, ◌<◌, [], Some, None};
+ghost use Rattle.path_core.specs.Parts.{HoldsNoTurn};
 
 use clog_base::Key;
 use path_rule::Member;
@@ -16,10 +17,14 @@ pub struct Deposited<K> {
     pub start: Key,
     /// Where it ends.
     pub end: Key,
+    /// The tables of its entry: bit `t` for table `t`.
+    pub tables: u16,
     pub ghost writes: { member.seat.me.0.part.write ≡ Some writing },
     pub ghost left: { member.seat.me.0.part.append ≡ None },
     pub ghost claims: { member.seat.me.0.part.claim
         ≡ Some (record { start = start.0; end = end.0 }) },
-    pub ghost noted: { IsTrue (is_some member.seat.me.0.part.note) },
+    pub ghost noted: { member.seat.me.0.part.note ≡ Some tables },
+    pub ghost few: { tables < 2 ^ member.seat.me.0.size.tables },
+    pub ghost free: { HoldsNoTurn member.seat.me.0.part },
     pub ghost bare: { member.seat.me.1 ≡ [] },
 }

@@ -6,7 +6,8 @@ ghost use Rattle.op_core.specs.declared.count.Order.TheVariants.{Append};
 ghost use Rattle.path_core.specs.declared.event.Carried.TheVariants.{Deposit};
 ghost use Rattle.path_core.specs.declared.event.Event.TheVariants.{Close};
 ghost use Rattle.path_core.specs.declared.note.EntryNote.{EntryNote};
-ghost use Rattle.path_rule.specs.Members.{IsOf, Stepped};
+ghost use Rattle.path_rule.specs.Members.{view_of, IsOf, Stepped};
+ghost use Rattle.write_path.specs.Ends.{IsListed};
 ghost use Rattle.write_path.specs.Tries.{Stays};
 ghost use Rattle.write_path.specs.Writes.{entry_size, IsPrepared, IsNoteOf};
 
@@ -20,7 +21,8 @@ use std::alloc::Allocator;
 
 impl<K: Keeper, A: Allocator> WritePath<K, A> {
     /// Puts the entry of a write into the seat's box, at the range that it claimed, and leaves the
-    /// append order with it. The prepared write that comes back has its updates still.
+    /// append order with it: the seat's list is the old one and this write. The prepared write that
+    /// comes back has its updates still.
     pub fn deposit(&self, seat: Claimed<K>, prepared: Prepared) -> (Deposited<K>, Prepared)
         requires table { IsOf self.now.table.table.shared.table_id self.now.table.size seat.member }
         requires group { seat.group < 65536 }
@@ -28,12 +30,15 @@ impl<K: Keeper, A: Allocator> WritePath<K, A> {
             × IsPrepared sizes line m prepared × (seat.start.0 + entry_size m ≡ seat.end.0)
             × (sizes.tables ≡ self.now.table.size.tables) }
         ensures same { Stays self.now.table.table.shared.table_id self.now.table.size seat.member
-            result.0.member × (result.0.writing ≡ seat.writing) × (result.0.end ≡ seat.end) }
+            result.0.member × (result.0.writing ≡ seat.writing) × (result.0.start ≡ seat.start)
+            × (result.0.end ≡ seat.end) }
         ensures mutation { result.1.mutation ≡ prepared.mutation }
         ensures step { (note : EntryNote) × (n : ℕ) × Stepped seat.member
             (Close seat.member.number Append seat.group (Deposit note)) n result.0.member
             × ((sizes : Sizes) (line : ℕ) (m : Mutation) → IsPrepared sizes line m prepared
             → IsNoteOf line m note) }
+        ensures listed { IsListed (view_of seat.member).trail (view_of result.0.member).trail
+            seat.member.number seat.start.0 seat.end.0 result.0.tables prepared }
     {
         let Claimed {
             member,
@@ -45,6 +50,7 @@ impl<K: Keeper, A: Allocator> WritePath<K, A> {
         let mut prepared = prepared;
         let number = member.number();
         prepared.claimed(start, Writer(number));
+        let tables = prepared.tables();
         let own = 1 + 2 * usize::from(number) + (group % 2) as usize;
         let mut member = self.table.put_notes(member, own, &mut prepared.notes);
         let _found = self.table.deposit(&mut member, group);
@@ -53,6 +59,7 @@ impl<K: Keeper, A: Allocator> WritePath<K, A> {
             writing,
             start,
             end,
+            tables,
         };
         (seat, prepared)
     }

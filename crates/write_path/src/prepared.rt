@@ -1,8 +1,9 @@
 //! Writes whose memory is all taken.
-ghost use Rattle.std.specs.Prelude.{◌≡◌, ℕ, ◌+◌, ◌<◌, ◌^◌};
+ghost use Rattle.std.specs.Prelude.{◌≡◌, ℕ, ◌+◌, ◌<◌, ◌^◌, [], ◌∷◌};
 ghost use Rattle.clog_base.specs.declared.sizes.Sizes.{Sizes};
 ghost use Rattle.clog_mutation.specs.declared.mutation.Mutation.{Mutation};
 ghost use Rattle.clog_mutation.specs.Limits.{IsWithinLimits};
+ghost use Rattle.path_core.specs.declared.note.EntryNote.{EntryNote};
 ghost use Rattle.write_path.specs.Writes.{Prepares, TablesBelow, IsPrepared, IsClaimed};
 
 use crate::entry::{entry_size, note_of};
@@ -56,6 +57,16 @@ impl Prepared {
             note.start = start;
             note.end = end;
             note.writer = writer;
+        }
+    }
+
+    // The tables of its note.
+    pub(crate) fn tables(&self) -> u16
+        ensures { (note : EntryNote) → self.now.notes ≡ note ∷ [] → result ≡ note.tables }
+    {
+        match self.notes.front() {
+            Some(note) => note.tables,
+            None => 0,
         }
     }
 

@@ -10,8 +10,10 @@ use Rattle.std.proofs.Common.{
   length,
   Some,
   IsTrue,
+  sym,
   ap,
   ◌∙◌,
+  subst,
   ⊎_elim,
   arith,
 }
@@ -34,7 +36,7 @@ use Rattle.path_rule.specs.declared.slot.Slot.{Slot}
 use Rattle.path_rule.specs.declared.view.PathSize.{PathSize}
 use Rattle.path_rule.specs.declared.view.View.{View}
 use Rattle.path_rule.specs.Boxed.{Boxed}
-use Rattle.path_rule.specs.Lasts.{shown}
+use Rattle.path_rule.specs.Lasts.{ends, shown}
 
 pub gathered_all : {K : Type 0} (shows : K → Lasting) (seats : ℕ) (notes : List EntryNote)
     (lasting : Lasting) (claims : List Claim) (append : OrderGroups)
@@ -43,7 +45,7 @@ pub gathered_all : {K : Type 0} (shows : K → Lasting) (seats : ℕ) (notes : L
     → (i g : ℕ) → i < length claims → IsTrue (is_marker (claim_in claims i))
     → (claim_in claims i).barrier ≡ Some g → g < append.current
     → (n : EntryNote) → Contains notes n → n.end.0 ≤ (claim_in claims i).start
-    → Contains lasting.logged n.end.0 ⊎ Contains B.pending n
+    → Contains (ends lasting.logged) n.end.0 ⊎ Contains B.pending n
 gathered_all shows seats notes lasting claims append homes views B all i g l mark bar below n h
     low = ⊎_elim (λ a. inl a) (λ q. ⊎_elim (λ p. inr p)
     (λ (t : (b : ℕ) × Contains (B.contents b) n). let S = B.stamped t.0 n t.1 in
@@ -76,15 +78,16 @@ marker_at x L c last g issued =
     }
 
 -- So it is for the last marker, once its barrier is issued.
-pub gathered_up_to_last : {K : Type 0} (shows : K → Lasting) (size : PathSize) (key : ℕ)
+pub gathered_up_to_last : {K : Type 0} (shows : K → Lasting) (size : PathSize) (opened key : ℕ)
     (homes : List (maybe.Option (Slot K))) (views : List View) (x : PathState) → IsLawfulPath x
-    → (B : Boxed shows size.seats x.notes (shown key x) x.claims x.append homes views)
+    → (B : Boxed shows size.seats x.notes (shown opened key x) x.claims x.append homes views)
     → B.progress.gathered ≡ true → (c : Claim) (g : ℕ) → last_marker x ≡ Some c
     → c.barrier ≡ Some g → (n : EntryNote) → Contains x.notes n → n.end.0 ≤ c.start
     → Contains x.logged n.end.0 ⊎ Contains B.pending n
-gathered_up_to_last shows size key homes views x L B all c g last issued n h low =
+gathered_up_to_last shows size opened key homes views x L B all c g last issued n h low =
     let M = marker_at x L c last g issued in
     let start = ap (λ (d : Claim). d.start) M.is in
-    gathered_all shows size.seats x.notes (shown key x) x.claims x.append homes views B all M.number
-    g
-    M.inside M.marker M.barrier M.below n h (omega arith)
+    ⊎_elim (λ a. inl (subst (λ (l : List ℕ). Contains l n.end.0)
+    (sym L.logged_is_the_synced_part.logged) a)) (λ p. inr p)
+    (gathered_all shows size.seats x.notes (shown opened key x) x.claims x.append homes views B all
+    M.number g M.inside M.marker M.barrier M.below n h (omega arith))

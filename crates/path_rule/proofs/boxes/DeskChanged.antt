@@ -37,6 +37,7 @@ use Rattle.path_rule.specs.declared.view.Role.TheVariants.{Opener, Steps, Spent}
 use Rattle.path_rule.specs.declared.view.View.{View}
 use Rattle.path_rule.specs.Boxed.{HandsAs, IsSomewhere, IsKept, ends_at, Boxed}
 use Rattle.path_rule.specs.Boxes.{boxes, HoldsAs, HoldsBox, IsFree, Fits}
+use Rattle.path_rule.specs.Lasts.{ends}
 use Rattle.path_rule.proofs.boxes.AtHome.{inside_list, same_homes}
 
 -- What is on the desk changes, in the hand of the holder of the turn.
@@ -89,10 +90,10 @@ module _ {K : Type 0} (shows : K → Lasting) (seats : ℕ) (notes : List EntryN
       (sym (role ∙ mine)) (inr (inl (still, is))))
 
   pub boxed_desk_turns : ((n : EntryNote) → Contains notes n
-      → IsSomewhere after.logged left B.contents n)
+      → IsSomewhere (ends after.logged) left B.contents n)
       → ((n : EntryNote) → IsKept left B.contents n → Contains notes n)
       → ((k : ℕ) → ends_at k left ≤ ends_at k B.pending)
-      → ((n : EntryNote) → IsKept left B.contents n → ¬ Contains after.logged n.end.0)
+      → ((n : EntryNote) → IsKept left B.contents n → ¬ Contains (ends after.logged) n.end.0)
       → Boxed shows seats notes after claims append homes (set views id v')
   boxed_desk_turns noted sound fewer unlogged = record {
     contents = B.contents;

@@ -8,6 +8,8 @@ use Rattle.std.proofs.Common.{
   ◌≤◌,
   ◌||◌,
   Bool,
+  true,
+  false,
   List,
   [],
   ◌∷◌,
@@ -16,6 +18,8 @@ use Rattle.std.proofs.Common.{
   take,
   drop,
   get_or,
+  Option,
+  Some,
   Result,
   Ok,
   Err,
@@ -27,7 +31,8 @@ use Rattle.std.proofs.Common.{
   ⊎_elim,
   arith,
 }
-use Rattle.std.proofs.lemmas.List.{append-nil, map-append}
+use Rattle.std.proofs.lemmas.Bool.{false≢true}
+use Rattle.std.proofs.lemmas.List.{append-nil}
 use Rattle.std.proofs.lemmas.List.Sorted.{IsPermutation-refl, IsPermutation-trans}
 use Rattle.std.specs.List.Sorted.{IsPermutation, IsNonDecreasingBy}
 use Rattle.std.specs.Prelude.{OnOk, OnErr}
@@ -35,7 +40,18 @@ use mathlib.Core.Logic.{dite, inl, inr}
 use native.Mathlib.Decide.{dec_le}
 use Rattle.atomic_table.specs.Table.{Me, rest}
 use Rattle.path_core.specs.declared.note.EntryNote.{EntryNote}
-use Rattle.path_core.specs.Keeper.{Holding, IsParted, MayWrite, MaySync, Syncs, SyncRefused}
+use Rattle.path_core.specs.declared.keeper.KeeperFault.{KeeperFault}
+use Rattle.path_core.specs.declared.keeper.KeeperFault.TheVariants.{Stopped, OutOfMemory}
+use Rattle.path_core.specs.Keeper.{
+  Holding,
+  IsParted,
+  MayWrite,
+  MaySync,
+  Syncs,
+  SyncRefused,
+  HasKeeperCause,
+  is_stopped,
+}
 use Rattle.path_core.proofs.lists.PartedNotes.{parted}
 use Rattle.path_rule.specs.declared.lasting.Lasting.{Lasting}
 use Rattle.path_rule.specs.declared.slot.Desk.{Desk}
@@ -44,9 +60,17 @@ use Rattle.path_rule.specs.declared.slot.Slot.TheVariants.{Turn}
 use Rattle.path_rule.specs.declared.view.View.{View}
 use Rattle.path_rule.specs.Boxes.{desk_box, DeskIs}
 use Rattle.path_rule.specs.Desks.{pending_on}
-use Rattle.path_rule.specs.Lasts.{lasting_of, shows_of, ends, more_lasting, refused_lasting}
+use Rattle.path_rule.specs.Lasts.{
+  lasting_of,
+  shows_of,
+  stopped_with,
+  more_lasting,
+  refused_lasting,
+}
+use Rattle.path_rule.specs.SyncEnd.{stopped_by, TellsFaults}
 use Rattle.path_rule.specs.TurnTold.{CarriesDesk, CarriesSynced, CarriesRefused}
 use Rattle.path_rule.proofs.moves.SyncSteps.{top_box}
+use Rattle.path_rule.proofs.seats.MayGives.{or_true}
 
 pub on_desk : {K : Type 0} (holds : K → Holding) (before : Desk K) (m : Me (Slot K) View)
     (carries : CarriesDesk (shows_of holds) m) → m.1 ≡ (desk_box, Turn before) ∷ rest m.1
@@ -60,37 +84,42 @@ module _ {K : Type 0} (holds : K → Holding) (before after : Desk K) (m : Me (S
     (upto : ℕ) (carries : CarriesDesk (shows_of holds) m)
     (top : m.1 ≡ (desk_box, Turn before) ∷ rest m.1)
     (progress : after.progress ≡ before.progress) where
-  pub lent_synced : Syncs (holds before.keeper) (holds after.keeper) upto (pending_on before)
+  pub lent_synced : stopped_with (holds after.keeper).stopped (holds after.keeper).faults
+      ≡ stopped_with (holds before.keeper).stopped (holds before.keeper).faults
+      → Syncs (holds before.keeper) (holds after.keeper) upto (pending_on before)
       (pending_on after)
       → CarriesSynced (shows_of holds) upto (m.0, (desk_box, Turn after) ∷ rest m.1)
-  lent_synced S = let D = on_desk holds before m carries top in (
-    S.run,
-    pending_on after,
-    subst (λ (l : List EntryNote). IsParted upto l S.run (pending_on after)) D.1 S.parted,
-    (
-      Turn after,
-      refl,
-      (
-        ap lasting_of S.holds
-            ∙ (ap (λ (l : List ℕ). record (lasting_of (holds before.keeper)) {
-              logged = l;
-              synced = upto;
-              kept = [];
-            }) (map-append (λ (n : EntryNote). n.end.0) (holds before.keeper).logged S.run)
-            ∙ ap (more_lasting (ends S.run) upto) D.0),
-        refl,
-        progress ∙ D.2,
-      ),
-    ),
-  )
+  lent_synced stops S = let D = on_desk holds before m carries top in
+      let faults = (holds after.keeper).faults in
+      let still : stopped_with (holds before.keeper).stopped faults
+      ≡ (lasting_of (holds before.keeper)).stopped =
+      ap (λ (b : Bool). stopped_with b faults) (sym (ap (λ (h : Holding). h.stopped) S.holds))
+      ∙ stops in (
+        S.run,
+        pending_on after,
+        subst (λ (l : List EntryNote). IsParted upto l S.run (pending_on after)) D.1 S.parted,
+        (
+          Turn after,
+          refl,
+          (
+            ap lasting_of S.holds
+                ∙ (ap (λ (o : Option ℕ). record (more_lasting S.run upto
+                (lasting_of (holds before.keeper))) { stopped = o }) still
+                ∙ ap (more_lasting S.run upto) D.0),
+            refl,
+            progress ∙ D.2,
+          ),
+        ),
+      )
 
-  pub lent_refused : (stopped : Bool)
-      → (holds after.keeper).stopped ≡ ((holds before.keeper).stopped || stopped)
+  pub lent_refused : (by : Option ℕ → Option ℕ)
+      → stopped_with (holds after.keeper).stopped (holds after.keeper).faults
+      ≡ by (stopped_with (holds before.keeper).stopped (holds before.keeper).faults)
       → SyncRefused (holds before.keeper) (holds after.keeper) upto (pending_on before)
       (pending_on after)
-      → CarriesRefused (shows_of holds) upto (m.0.hands.lasting.stopped || stopped)
+      → CarriesRefused (shows_of holds) upto (by m.0.hands.lasting.stopped)
       (m.0, (desk_box, Turn after) ∷ rest m.1)
-  lent_refused stopped stops S = let D = on_desk holds before m carries top in (
+  lent_refused by stops S = let D = on_desk holds before m carries top in (
     (holds after.keeper).kept,
     pending_on after,
     subst (λ (l : List EntryNote). IsPermutation l (pending_on after)) D.1 S.pends,
@@ -106,10 +135,9 @@ module _ {K : Type 0} (holds : K → Holding) (before after : Desk K) (m : Me (S
       refl,
       (
         ap lasting_of S.holds
-            ∙ (ap (λ (b : Bool). refused_lasting (holds after.keeper).kept b
+            ∙ (ap (λ (o : Option ℕ). refused_lasting (holds after.keeper).kept o
             (lasting_of (holds before.keeper))) stops
-            ∙ ap (λ (l : Lasting). refused_lasting (holds after.keeper).kept (l.stopped || stopped)
-            l) D.0),
+            ∙ ap (λ (l : Lasting). refused_lasting (holds after.keeper).kept (by l.stopped) l) D.0),
         refl,
         progress ∙ D.2,
       ),
@@ -205,7 +233,46 @@ module _ (h : Holding) (upto : ℕ) (pending sorted : List EntryNote)
     holds = S.holds;
   }
 
+-- the counts of faults of a keeper that was lent entries
+module _ {T : Type 0} (before now : Holding) where
+  pub tells_faults : (r : Result T KeeperFault) (upto : ℕ) (pending left : List EntryNote)
+      → HasKeeperCause before now r → OnErr r (SyncRefused before now upto pending left)
+      → TellsFaults before.at_open r
+  tells_faults (Ok a) upto pending left C R = tt
+  tells_faults (Err (Stopped at_open count)) upto pending left C R =
+      (C.counts.0 ∙ ap (λ (h : Holding). h.at_open) R.holds, C.counts.2)
+  tells_faults (Err OutOfMemory) upto pending left C R = tt
+
+  -- one that answers something else runs on
+  runs_on : (r : Result T KeeperFault) → is_stopped r ≡ false → HasKeeperCause before now r
+      → stopped_with now.stopped now.faults ≡ stopped_with before.stopped before.faults
+  runs_on r goes C = by before.stopped refl
+    where
+      by : (b : Bool) → before.stopped ≡ b
+          → stopped_with now.stopped now.faults ≡ stopped_with before.stopped before.faults
+      by true e = absurd (false≢true (sym goes ∙ C.for_good e))
+      by false e = ap (λ (b : Bool). stopped_with b now.faults)
+          (C.kept_in_mind ∙ (λ j. (e j || goes j)))
+          ∙ sym (ap (λ (b : Bool). stopped_with b before.faults) e)
+
+  pub stops_by : (r : Result T KeeperFault) → HasKeeperCause before now r
+      → stopped_with now.stopped now.faults
+      ≡ stopped_by (stopped_with before.stopped before.faults) r
+  stops_by (Ok a) C = runs_on (Ok a) refl C
+  stops_by (Err (Stopped at_open count)) C = ap (λ (b : Bool). stopped_with b now.faults)
+      (C.kept_in_mind ∙ or_true before.stopped) ∙ ap (λ (n : ℕ). Some n) (sym C.counts.1)
+  stops_by (Err OutOfMemory) C = runs_on (Err OutOfMemory) refl C
+
+-- what is said of a good answer
+pub ok_holds : {A E : Type 0} (P : Type 0) (r : Result A E) (a : A) → r ≡ Ok a → OnOk r P → P
+ok_holds P r a is h = subst (λ (q : Result _ _). OnOk q P) is h
+
 -- from one clause on an answer to another
+
+pub on_ok_with : {A : Type 0} (r : Result A KeeperFault) (P Q : Type 0) (before now : Option ℕ)
+    → now ≡ stopped_by before r → (now ≡ before → P → Q) → OnOk r P → OnOk r Q
+on_ok_with (Ok a) P Q before now is f h = f is h
+on_ok_with (Err e) P Q before now is f h = h
 
 pub on_ok : {A E : Type 0} (r : Result A E) (P Q : Type 0) → (P → Q)
     → OnOk r P → OnOk r Q

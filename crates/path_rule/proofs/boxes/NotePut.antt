@@ -65,6 +65,7 @@ use Rattle.path_rule.specs.declared.view.Role.TheVariants.{Opener, Steps, Spent}
 use Rattle.path_rule.specs.declared.view.View.{View}
 use Rattle.path_rule.specs.Boxed.{HandsAre, HandsAs, Stamped, ends_at, Boxed}
 use Rattle.path_rule.specs.Boxes.{box_of, boxes, HoldsAs, HoldsBox, Fits, NotesAre}
+use Rattle.path_rule.specs.Lasts.{ends}
 use Rattle.path_rule.proofs.boxes.AtHome.{give_homes}
 use Rattle.path_rule.proofs.boxes.PutAt.{put, put_here, put_else}
 use Rattle.path_rule.proofs.places.ReadBack.{is_some_held}
@@ -90,7 +91,7 @@ module _ {K : Type 0} (shows : K → Lasting) (seats : ℕ) (notes more_notes : 
     (among : (n : EntryNote) → Contains more_notes n → (n ≡ note) ⊎ Contains notes n)
     (grows : (n : EntryNote) → Contains notes n → Contains more_notes n)
     (placed : Contains more_notes note) (unnoted : ends_at note.end.0 notes ≡ 0)
-    (unlogged : ¬ Contains lasting.logged note.end.0)
+    (unlogged : ¬ Contains (ends lasting.logged) note.end.0)
     (others_are : (j z : ℕ) (u : View) → j ≢ id → get_elem? views j ≡ some u → u.role ≡ Steps z
     → z ≢ w) where
   abbrev box : ℕ
@@ -266,7 +267,7 @@ module _ {K : Type 0} (shows : K → Lasting) (seats : ℕ) (notes more_notes : 
     unlogged = λ n h. ⊎_elim (λ p. B.unlogged n (inl p))
         (λ (t : (b : ℕ) × Contains (contents' b) n). dite (ℕ_discrete t.0 box)
         (λ same. ⊎_elim (λ old. B.unlogged n (inr (box, old)))
-        (λ new. subst (λ (q : EntryNote). ¬ Contains lasting.logged q.end.0)
+        (λ new. subst (λ (q : EntryNote). ¬ Contains (ends lasting.logged) q.end.0)
         (the_one note n new) unlogged)
         (Contains-append_cases (B.contents box) (note ∷ []) n
         (subst (λ l. Contains l n) (put_here B.contents box (B.contents box ++ note ∷ []))

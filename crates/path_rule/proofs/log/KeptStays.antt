@@ -45,7 +45,7 @@ use Rattle.path_core.specs.declared.state.Claim.{Claim as ClaimOf}
 use Rattle.path_core.specs.declared.state.PathState.{PathState}
 use Rattle.path_core.specs.Allowed.{IsStep}
 use Rattle.path_core.specs.Lawful.{IsLawfulPath}
-use Rattle.path_core.specs.LawfulLog.{is_note_at, entry_claim}
+use Rattle.path_core.specs.LawfulLog.{is_note_at, is_at_most, entry_claim}
 use Rattle.path_core.specs.Next.{next_of, is_between, claim_of, barred_marker}
 use Rattle.path_core.specs.Parts.{no_claim, is_entry, is_marker, last_marker}
 use Rattle.path_core.proofs.lists.Inserted.{map_old}
@@ -88,6 +88,21 @@ none_kept low key (n ∷ ns) le =
     (between_none low key n.end.0 le) ∙ none_kept low key ns le
 
 module _ (x : PathState) (L : IsLawfulPath x) where
+  -- where all up to a key is noted, what is deposited now ends above it
+  above_noted : (key : ℕ) → ((c : ClaimOf) → Contains x.claims c → IsTrue (is_entry c)
+      → c.end ≤ key → count_by (is_note_at c.end) x.notes ≡ 1)
+      → (by g : ℕ) (note : EntryNote) → IsStep x (Close by Append g (Deposit note))
+      → key < note.end.0
+  above_noted key noted by g note a = dite (dec_le note.end.0 key)
+      (λ low. absurd (
+      let one = noted (entry_claim note.writer.0 note.start.0 note.end.0)
+      (own_range x L.sized L.claims_tile_the_log L.orders L.own_claim L.each_claim_noted_once
+      L.notes_are_claims by g note a) refl low in
+      let n = counted_from (is_note_at note.end.0) x.notes (omega arith) in
+      not_noted x L.sized L.claims_tile_the_log L.orders L.own_claim L.each_claim_noted_once
+      L.notes_are_claims by g note a n.0 n.1 (eqb-true n.0.end.0 note.end.0 n.2)))
+      (λ n. omega arith)
+
   module _ (key : ℕ) (D : IsDepositedTo x key) where
     below_log : key ≤ x.log
     below_log = let read = get_or_default x.claims D.claimed.0 no_claim D.marker D.claimed.1
@@ -176,19 +191,6 @@ module _ (x : PathState) (L : IsLawfulPath x) where
           (λ new. absurd (claimed_later e a c new low)) (claims_were x e c entry h);
     }
 
-    -- what is deposited now ends above it
-    deposited_later : (by g : ℕ) (note : EntryNote) → IsStep x (Close by Append g (Deposit note))
-        → key < note.end.0
-    deposited_later by g note a = dite (dec_le note.end.0 key)
-        (λ low. absurd (
-        let one = D.noted (entry_claim note.writer.0 note.start.0 note.end.0)
-        (own_range x L.sized L.claims_tile_the_log L.orders L.own_claim L.each_claim_noted_once
-        L.notes_are_claims by g note a) refl low in
-        let n = counted_from (is_note_at note.end.0) x.notes (omega arith) in
-        not_noted x L.sized L.claims_tile_the_log L.orders L.own_claim L.each_claim_noted_once
-        L.notes_are_claims by g note a n.0 n.1 (eqb-true n.0.end.0 note.end.0 n.2)))
-        (λ n. omega arith)
-
   synced_grows : (e : Event) → IsStep x e → x.synced ≤ (next_of x e).synced
   synced_grows (Put by Synced value) a = let l = a.row.2 in omega arith
   synced_grows (Put by (OldestLive t) value) a = omega arith
@@ -205,12 +207,17 @@ module _ (x : PathState) (L : IsLawfulPath x) where
       → (key : ℕ) → MayBeKept x key → is_between x.synced key note ≡ false
   not_kept by g note a key may = ⊎_elim (λ low. between_none x.synced key note.end.0 low)
       (λ D. and_no (nat_lt x.synced note.end.0) (nat_le note.end.0 key)
-      (lt-leb note.end.0 key (deposited_later key D by g note a))) may
+      (lt-leb note.end.0 key (above_noted key D.noted by g note a))) may
 
+  -- and what is lasting
   pub kept_same : (by g : ℕ) (note : EntryNote) (a : IsStep x (Close by Append g (Deposit note)))
-      (key : ℕ) → MayBeKept x key
-      → shown key x ≡ shown key (next_of x (Close by Append g (Deposit note)))
-  kept_same by g note a key may = ap (λ (l : List EntryNote). record (shown key x) { kept = l })
-      (sym (filter_insert (is_between x.synced key) x.notes
-      (position_or_len (λ (n : EntryNote). nat_lt note.start.0 n.start.0) x.notes) note
-      (not_kept by g note a key may)))
+      (opened key : ℕ) → MayBeKept x key
+      → shown opened key x ≡ shown opened key (next_of x (Close by Append g (Deposit note)))
+  kept_same by g note a opened key may =
+      let at = position_or_len (λ (n : EntryNote). nat_lt note.start.0 n.start.0) x.notes in
+      let above = above_noted x.synced L.logged_is_the_synced_part.gathered by g note a in
+      let lasts = filter_insert (is_at_most x.synced) x.notes at note
+      (lt-leb note.end.0 x.synced above) in
+      let kept = filter_insert (is_between x.synced key) x.notes at note
+      (not_kept by g note a key may) in
+      λ j. record (shown opened key x) { logged = sym lasts j; kept = sym kept j }

@@ -55,6 +55,7 @@ use Rattle.path_core.proofs.lists.Inserted.{map_old, map_from}
 use Rattle.path_core.proofs.lists.Passing.{filter_from, kept_in}
 use Rattle.path_core.proofs.lists.Replaced.{counted_in}
 use Rattle.path_rule.specs.Boxed.{ends_at}
+use Rattle.path_rule.specs.Lasts.{ends}
 
 -- two lists in order, of the same notes
 pub same_list : (xs ys : List EntryNote) → AllPairs (λ (a b : EntryNote). a.end.0 < b.end.0) xs
@@ -121,23 +122,27 @@ module _ (upto : ℕ) (pending run left : List EntryNote) (P : IsParted upto pen
       (λ (a : EntryNote). cond {A = ℕ} (is_note_at k a) 1 0) pending (run ++ left) P.all)
       ∙ sum_by-append (λ (a : EntryNote). cond {A = ℕ} (is_note_at k a) 1 0) run left
 
+-- where the entries end that are lasting
+abbrev pub lasting_ends : PathState → List ℕ
+lasting_ends x = ends (filter (is_at_most x.synced) x.notes)
+
 module _ (x : PathState) (L : IsLawfulPath x) (upto : ℕ) (pending run left : List EntryNote)
     (P : IsParted upto pending run left)
     (sound : (n : EntryNote) → Contains pending n → Contains x.notes n)
-    (unlogged : (n : EntryNote) → Contains pending n → ¬ Contains x.logged n.end.0)
+    (unlogged : (n : EntryNote) → Contains pending n → ¬ Contains (lasting_ends x) n.end.0)
     (once : (k : ℕ) → ends_at k pending ≤ 1)
     (covered : (n : EntryNote) → Contains x.notes n → n.end.0 ≤ upto
-    → Contains x.logged n.end.0 ⊎ Contains pending n) where
+    → Contains (lasting_ends x) n.end.0 ⊎ Contains pending n) where
   -- what is at or below the synced key is lasting
-  low_logged : (n : EntryNote) → Contains x.notes n → n.end.0 ≤ x.synced → Contains x.logged n.end.0
-  low_logged n h l = subst (λ q. Contains q n.end.0) (sym L.logged_is_the_synced_part.logged)
-      (map_old (λ (a : EntryNote). a.end.0) (filter (is_at_most x.synced) x.notes) n
-      (kept_in (is_at_most x.synced) x.notes n h (le-leb n.end.0 x.synced l)))
+  low_logged : (n : EntryNote) → Contains x.notes n → n.end.0 ≤ x.synced
+      → Contains (lasting_ends x) n.end.0
+  low_logged n h l =
+      map_old (λ (a : EntryNote). a.end.0) (filter (is_at_most x.synced) x.notes) n
+      (kept_in (is_at_most x.synced) x.notes n h (le-leb n.end.0 x.synced l))
 
-  logged_low : (n : EntryNote) → Contains x.logged n.end.0 → n.end.0 ≤ x.synced
+  logged_low : (n : EntryNote) → Contains (lasting_ends x) n.end.0 → n.end.0 ≤ x.synced
   logged_low n h = let t = map_from (λ (a : EntryNote). a.end.0)
-      (filter (is_at_most x.synced) x.notes) n.end.0
-      (subst (λ q. Contains q n.end.0) L.logged_is_the_synced_part.logged h) in
+      (filter (is_at_most x.synced) x.notes) n.end.0 h in
       let f = filter_from (is_at_most x.synced) x.notes t.0 t.1 in
       let l = leb-true t.0.end.0 x.synced f.1 in let e = t.2 in omega arith
 

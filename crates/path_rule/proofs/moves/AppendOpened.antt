@@ -79,7 +79,7 @@ module _ {K : Type 0} (shows : K → Lasting) (size : PathSize) (slots id : ℕ)
         v',
         keeps,
         tt,
-        plays shows size s r id w m.0 there mine e refl may tt fits
+        plays shows size s r id w m.0 there mine e refl may tt tt fits
             (rows s r g (let q = up ∙ ap suc now in omega arith)) 0 0 false m.0.hands told refl m.1
             keeps
             (unseen shows size slots id m w mine s r there held

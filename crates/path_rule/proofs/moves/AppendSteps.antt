@@ -101,7 +101,7 @@ module _ {K : Type 0} (shows : K → Lasting) (size : PathSize) (slots id : ℕ)
 
         by_role : (ρ : Role) → Knows r.core r.events r.owner r.made r.boss j ρ u.part u.trail
             u.returned → HandsAs r.boxed.contents
-            (shown r.kept_to r.core) r.boxed.pending r.boxed.progress r.core.append size.seats
+            (shown size.at_open r.kept_to r.core) r.boxed.pending r.boxed.progress r.core.append size.seats
             u.part u.hands
             ρ
             → HoldsAs u.part.append (is_some u.part.sync) u.hands.box_taken (box_of w g) ρ → ⊥
@@ -166,16 +166,16 @@ module _ {K : Type 0} (shows : K → Lasting) (size : PathSize) (slots id : ℕ)
       (own_free s r there g outside under more.0) in
       let few : length ns ≤ 2 ^ 62 = (let f = few_kept shows size.seats x (core_lawful shows size s
       r)
-      (shown r.kept_to x)
+      (shown size.at_open r.kept_to x)
       x.claims x.append s.homes s.views r.boxed box in omega arith) in
-      let C = columns_now shows size s r id w m.0 there mine e refl may tt fits rows (k + 1)
+      let C = columns_now shows size s r id w m.0 there mine e refl may tt tt fits rows (k + 1)
       (k + 1) false h now refl in (
         v',
         takes box home.0,
         home.1,
-        plays shows size s r id w m.0 there mine e refl may tt fits rows (k + 1)
+        plays shows size s r id w m.0 there mine e refl may tt tt fits rows (k + 1)
             (k + 1) false h now refl m.1 (takes box home.0)
-            (boxed_take shows size.seats x.notes (shown r.kept_to x) x.claims x.claims x.append
+            (boxed_take shows size.seats x.notes (shown size.at_open r.kept_to x) x.claims x.claims x.append
             (next_of x e).append s.homes s.views r.boxed id w m.0 v' there mine refl refl refl
             (λ i g l _ _. (l, refl)) refl C.issue g outside C.append refl),
         (λ z q role _ word. each_name shows size slots id m w mine 73 g
@@ -225,17 +225,17 @@ module _ {K : Type 0} (shows : K → Lasting) (size : PathSize) (slots id : ℕ)
       ∙ less_word c (some_left x (core_lawful shows size s r) Append w g here)
       (subst (λ z. z < 2 ^ 64) found low) in
       let rows = rows_stay x e may (λ q. q) r.rows in
-      let C = columns_now shows size s r id w m.0 there mine e refl may tt fits rows
+      let C = columns_now shows size s r id w m.0 there mine e refl may tt tt fits rows
       ((n + (2 ^ 64 - 1)) % 2 ^ 64) n false m.0.hands now refl in (
         v',
         gives,
         tt,
-        plays shows size s r id w m.0 there mine e refl may tt fits rows
+        plays shows size s r id w m.0 there mine e refl may tt tt fits rows
             ((n + (2 ^ 64 - 1)) % 2 ^ 64) n false m.0.hands now refl m.1 gives
-            (subst (λ l. Boxed shows size.seats x.notes (shown r.kept_to x) x.claims (next_of x
+            (subst (λ l. Boxed shows size.seats x.notes (shown size.at_open r.kept_to x) x.claims (next_of x
             e).append
             (put_back s.homes l) (set s.views id v')) (sym holds)
-            (boxed_give shows size.seats x.notes (shown r.kept_to x) x.claims x.claims x.append
+            (boxed_give shows size.seats x.notes (shown size.at_open r.kept_to x) x.claims x.claims x.append
             (next_of x e).append s.homes s.views r.boxed id w m.0 v' there mine refl refl refl
             (λ i g l _ _. (l, refl)) refl C.issue g y append C.append refl kept r.deep
             (low_seat s r there))),

@@ -68,6 +68,7 @@ use Rattle.path_rule.specs.Rule.{Knows, start_of, Ruled, view_after}
 use Rattle.path_rule.specs.Told.{Deposited, MadeAs}
 use Rattle.path_rule.proofs.boxes.NotePut.{boxed_put}
 use Rattle.path_rule.proofs.log.KeptStays.{kept_same}
+use Rattle.path_rule.proofs.log.Lending.{lasting_ends}
 use Rattle.path_rule.proofs.moves.AppendSteps.{low_seat}
 use Rattle.path_rule.proofs.moves.Looks.{within, each_name, own_part}
 use Rattle.path_rule.proofs.moves.Moving.{core_lawful, known, was, plays, columns_now}
@@ -76,7 +77,7 @@ use Rattle.path_rule.proofs.moves.StepFacts.{
   group_low,
   last_same,
   notes_first,
-  logged_note,
+  lasting_note,
 }
 use Rattle.path_rule.proofs.places.ReadBack.{rows_stay}
 
@@ -113,17 +114,17 @@ module _ {K : Type 0} (shows : K → Lasting) (size : PathSize) (slots id : ℕ)
       let now = ap (λ z. (z + (2 ^ 64 - 1)) % 2 ^ 64) found
       ∙ less_word c (some_left x law Append w g here) (subst (λ z. z < 2 ^ 64) found low) in
       let rows = rows_stay x e may (λ q. q) r.rows in
-      let C = columns_now shows size s r id w m.0 there mine e refl may whole fits rows
+      let C = columns_now shows size s r id w m.0 there mine e refl may whole tt fits rows
       ((n + (2 ^ 64 - 1)) % 2 ^ 64) n false m.0.hands now refl in (
         v',
         gives,
         tt,
-        plays shows size s r id w m.0 there mine e refl may whole fits rows
+        plays shows size s r id w m.0 there mine e refl may whole tt fits rows
             ((n + (2 ^ 64 - 1)) % 2 ^ 64) n false m.0.hands now refl m.1 gives
             (subst (λ (q : Lasting × List (ℕ × Slot K)). Boxed shows size.seats (next_of x e).notes
             q.0 x.claims (next_of x e).append (put_back s.homes q.1) (set s.views id v'))
-            (λ i. (kept_same x law w g note may r.kept_to r.may_be_kept i, sym holds i))
-            (boxed_put shows size.seats x.notes (next_of x e).notes (shown r.kept_to x) x.claims
+            (λ i. (kept_same x law w g note may size.at_open r.kept_to r.may_be_kept i, sym holds i))
+            (boxed_put shows size.seats x.notes (next_of x e).notes (shown size.at_open r.kept_to x) x.claims
             x.append
             (next_of x e).append s.homes s.views r.boxed id w m.0 v' there mine refl refl refl g
             note append C.append C.issue refl
@@ -196,9 +197,9 @@ module _ {K : Type 0} (shows : K → Lasting) (size : PathSize) (slots id : ℕ)
       unlogged : (s : State (Slot K) View) (r : Ruled shows size s)
           → get_elem? s.views id ≡ some m.0 → (note : EntryNote) → m.0.part.append ≡ Some g
           → m.0.part.claim ≡ Some (record { start = note.start.0; end = note.end.0 })
-          → ¬ Contains r.core.logged note.end.0
+          → ¬ Contains (lasting_ends r.core) note.end.0
       unlogged s r there note append claim h = let law = core_lawful shows size s r in
-          let t = logged_note r.core law note.end.0 h in
+          let t = lasting_note r.core note.end.0 h in
           absurd (let c = counted_in (is_note_at note.end.0) r.core.notes t.0 t.1
           (eq-eqb t.0.end.0 note.end.0 t.2) in let z = unnoted s r there note append claim in
           omega arith)

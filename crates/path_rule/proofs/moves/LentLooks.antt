@@ -75,13 +75,14 @@ kept_below x key value kept may last m marked is = ⊎_elim (λ low. nothing low
     nothing low = inl (is ∙ none_kept x.synced key x.notes low)
 
 -- so a keeper that shows what it has made of the state may write what the machine would
-may_be_lent : (x : PathState) → IsLawfulPath x → (w key value by group : ℕ) → MayBeKept x key
+may_be_lent : (x : PathState) → IsLawfulPath x → (w opened key value by group : ℕ)
+    → MayBeKept x key
     → last_kept x.claims ≡ Some (record { by = by; start = value; barrier = Some group })
     → IsStep x (Put w Synced value) → (lasting : Lasting) (run : List EntryNote)
-    → lasting ≡ shown key x → filter (is_between x.synced value) x.notes ≡ run
+    → lasting ≡ shown opened key x → filter (is_between x.synced value) x.notes ≡ run
     → MayLend lasting value run
-may_be_lent x L w key value by group may marked step lasting run shows is h holds =
-    let E : lasting_of h ≡ shown key x = holds ∙ shows in
+may_be_lent x L w opened key value by group may marked step lasting run shows is h holds =
+    let E : lasting_of h ≡ shown opened key x = holds ∙ shows in
     subst (λ (l : List EntryNote). MayWrite h value l) is
     (may_write x L w value step h (record {
       capacity = ap (λ (l : Lasting). l.capacity) E;
@@ -128,7 +129,7 @@ module _ {K : Type 0} (shows : K → Lasting) (size : PathSize) (slots id : ℕ)
               sym found,
               S.1,
               record { seat = S.0.seat; is_there = S.0.is_there; row = S.0.row },
-              may_be_lent x (core_lawful shows size s r) w r.kept_to value barred.0
+              may_be_lent x (core_lawful shows size s r) w size.at_open r.kept_to value barred.0
                   barred.1 r.may_be_kept marked S.0 m.0.hands.lasting run D.0 S.1,
             )),
       ))

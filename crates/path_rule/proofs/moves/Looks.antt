@@ -73,7 +73,7 @@ use Rattle.path_rule.specs.declared.view.View.{View}
 use Rattle.path_rule.specs.Boxed.{Boxed}
 use Rattle.path_rule.specs.Lasts.{shown}
 use Rattle.path_rule.specs.Layout.{word_at, IsWord, word_of, reading_at}
-use Rattle.path_rule.specs.Rule.{start_of, Ruled, HasRows, told_by, view_after, Was}
+use Rattle.path_rule.specs.Rule.{start_of, IsBuilt, Ruled, HasRows, told_by, view_after, Was}
 use Rattle.path_rule.specs.Told.{Made, Looked}
 use Rattle.path_rule.specs.Turns.{TurnOld, turn_groups, Sighted}
 use Rattle.path_rule.proofs.boxes.HeldBoxes.{boxed_stay}
@@ -149,25 +149,26 @@ module _ {K : Type 0} (shows : K → Lasting) (size : PathSize) (slots id : ℕ)
     below (CursorWord (OldestLive t)) h = few_tables t.0 h
 
     -- a step at which no box moves
-    pub acts : (e : Event) → by_of e ≡ w → IsStep x e → CarriesWhole e → IsWord (place_of e)
+    pub acts : (e : Event) → by_of e ≡ w → IsStep x e → CarriesWhole e
+        → IsBuilt size.at_open e → IsWord (place_of e)
         → HasRows (next_of x e) → (n found : ℕ)
         → n ≡ word_of (left_by e (reading x (place_of e)))
         → seat_after m.0.part e (reading_at (place_of e) found) (told_by false m.0.hands)
         ≡ seat_after m.0.part e (reading x (place_of e)) (told_of x e)
         → (Columns e m.0.part (view_after m.0 e found false).part
-        → Boxed shows size.seats (next_of x e).notes (shown r.kept_to (next_of x e)) (next_of x
+        → Boxed shows size.seats (next_of x e).notes (shown size.at_open r.kept_to (next_of x e)) (next_of x
         e).claims
         (next_of x e).append s.homes (set s.views id (view_after m.0 e found false)))
         → (then : Me (Slot K) View → Type 0)
         → (Was m.0 w e → then (view_after m.0 e found false, m.1))
         → Owes s (word_at (place_of e)) n then
-    acts e by may whole spot rows n found now told boxed then ok = (
+    acts e by may whole built spot rows n found now told boxed then ok = (
       view_after m.0 e found false,
       keeps,
       tt,
-      plays shows size s r id w m.0 there mine e by may whole spot rows n found false m.0.hands now
+      plays shows size s r id w m.0 there mine e by may whole built spot rows n found false m.0.hands now
           told m.1 keeps (boxed (columns_now shows size s r id w m.0 there mine e by may whole
-          spot rows n found false m.0.hands now told)),
+          built spot rows n found false m.0.hands now told)),
       ok (was shows size s r id w m.0 there mine e may whole),
     )
 
@@ -185,11 +186,11 @@ module _ {K : Type 0} (shows : K → Lasting) (size : PathSize) (slots id : ℕ)
           is_there = below at sighted;
           row = tt;
         } in
-        acts (Look w at) refl may tt spot (rows_stay x (Look w at) may (λ q. q) r.rows) n n found
+        acts (Look w at) refl may tt tt spot (rows_stay x (Look w at) may (λ q. q) r.rows) n n found
         (ap (λ k. seat_after m.0.part (Look w at) k (told_by false m.0.hands))
         (ap (reading_at at) found ∙ read_back x L at))
         (λ C. boxed_stay shows size.seats x.notes
-        (shown r.kept_to x) x.claims x.claims x.append x.append s.homes s.views r.boxed id w m.0
+        (shown size.at_open r.kept_to x) x.claims x.claims x.append x.append s.homes s.views r.boxed id w m.0
         (view_after m.0 (Look w at) n false) there mine refl refl refl
         (λ i g l _ _. (l, refl)) refl C.append C.issue refl)
         then (λ u. give ((refl, u), refl)

@@ -11,6 +11,7 @@ use Rattle.std.proofs.Common.{
   ◌∷◌,
   map,
   length,
+  replicate,
   set,
   refl,
   sym,
@@ -48,9 +49,10 @@ use Rattle.path_core.specs.declared.seat.Seat.{Seat}
 use Rattle.path_core.specs.declared.state.PathState.{PathState}
 use Rattle.path_core.specs.Allowed.{IsStep}
 use Rattle.path_core.specs.Frame.{left_by}
+use Rattle.path_core.specs.Keeper.{HasRisen}
 use Rattle.path_core.specs.Lawful.{IsLawfulPath}
 use Rattle.path_core.specs.Next.{next_of, told_of}
-use Rattle.path_core.specs.Parts.{fresh_seat, seat_of}
+use Rattle.path_core.specs.Parts.{fresh_seat, fresh_table, seat_of}
 use Rattle.path_core.specs.Runs.{Past}
 use Rattle.path_core.specs.SeatAfter.{seat_after}
 use Rattle.path_core.specs.Whole.{CarriesWhole}
@@ -75,6 +77,7 @@ use Rattle.path_rule.specs.Layout.{word_at, IsWord, word_of, reading_at}
 use Rattle.path_rule.specs.Rule.{
   start_of,
   IsFit,
+  IsBuilt,
   event_of,
   steps_by,
   IsSeat,
@@ -88,6 +91,7 @@ use Rattle.path_rule.specs.Rule.{
   with_hands,
   Was,
 }
+use Rattle.path_rule.proofs.log.BuiltSteps.{still_risen, still_unswitched}
 use Rattle.path_rule.proofs.log.KeptStays.{kept_stays}
 use Rattle.path_rule.proofs.places.SamePlace.{same_place, in_rows}
 
@@ -146,10 +150,14 @@ module _ {K : Type 0} (shows : K → Lasting) (size : PathSize) (s : State (Slot
       mine = k.1.3;
       part = k.1.2;
       rows = r.rows;
+      risen = subst (λ (z : PathSize). 0 < r.core.stopped → HasRisen z.at_open r.core.stopped)
+          (sym k.0) r.risen;
+      unswitched = subst (λ (z : PathSize). r.core.tables ≡ replicate z.tables fresh_table)
+          (sym k.0) r.unswitched;
     }
 
     module _ (e : Event) (by : by_of e ≡ w) (may : IsStep r.core e) (whole : CarriesWhole e)
-        (spot : IsWord (place_of e)) (rows : HasRows (next_of r.core e)) (n found : ℕ)
+        (built : IsBuilt size.at_open e) (spot : IsWord (place_of e)) (rows : HasRows (next_of r.core e)) (n found : ℕ)
         (filed : Bool) (h : Hands)
         (now : n ≡ word_of (left_by e (reading r.core (place_of e))))
         (told : seat_after v.part e (reading_at (place_of e) found) (told_by filed h)
@@ -216,7 +224,7 @@ module _ {K : Type 0} (shows : K → Lasting) (size : PathSize) (s : State (Slot
 
       -- with what the keeper may have kept up to a key
       pub plays_to : (key : ℕ) → MayBeKept x' key → (cs : List (ℕ × Slot K)) (a : Act (Slot K))
-          → Boxed shows size.seats x'.notes (shown key x') x'.claims x'.append
+          → Boxed shows size.seats x'.notes (shown size.at_open key x') x'.claims x'.append
           (homes_after s.homes cs a) (set s.views id v')
           → Ruled shows size (stepped s (word_at (place_of e)) n id cs v' a)
       plays_to key may_be cs a boxed = record {
@@ -249,6 +257,8 @@ module _ {K : Type 0} (shows : K → Lasting) (size : PathSize) (s : State (Slot
         kept_to = key;
         may_be_kept = may_be;
         boxed = boxed;
+        risen = still_risen size.at_open r.core e built r.risen;
+        unswitched = still_unswitched size.at_open r.core size.tables e built r.unswitched;
         each_seat = λ j u p. ⊎_elim
             (λ (t : (j ≡ id) × (v' ≡ u)). let P : ℕ × View
             → Type 0 = λ y. IsSized size y.1
@@ -271,7 +281,7 @@ module _ {K : Type 0} (shows : K → Lasting) (size : PathSize) (s : State (Slot
 
       -- with what it may have kept before
       pub plays : (cs : List (ℕ × Slot K)) (a : Act (Slot K))
-          → Boxed shows size.seats x'.notes (shown r.kept_to x') x'.claims x'.append
+          → Boxed shows size.seats x'.notes (shown size.at_open r.kept_to x') x'.claims x'.append
           (homes_after s.homes cs a) (set s.views id v')
           → Ruled shows size (stepped s (word_at (place_of e)) n id cs v' a)
       plays cs a boxed = plays_to r.kept_to

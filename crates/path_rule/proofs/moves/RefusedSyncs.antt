@@ -4,13 +4,15 @@
 use Rattle.std.proofs.Common.{
   ◌≡◌,
   ℕ,
+  zero,
+  suc,
   ◌<◌,
-  Bool,
   true,
   false,
   cond,
   List,
   set,
+  Option,
   Some,
   None,
   is_some,
@@ -23,7 +25,6 @@ use Rattle.std.proofs.Common.{
   ⊎_elim,
   arith,
 }
-use Rattle.std.proofs.lemmas.Bool.{lt-ltb}
 use Rattle.std.proofs.lemmas.List.Sorted.{
   Contains-permutation,
   IsPermutation-sym,
@@ -45,7 +46,8 @@ use Rattle.path_core.specs.declared.seat.LastMarker.{LastMarker}
 use Rattle.path_core.specs.declared.state.PathState.{PathState}
 use Rattle.path_core.specs.Allowed.{IsStep, IsSyncPoint}
 use Rattle.path_core.specs.Lawful.{IsLawfulPath}
-use Rattle.path_core.specs.LawfulLog.{is_note_at}
+use Rattle.path_core.specs.Keeper.{HasRisen}
+use Rattle.path_core.specs.LawfulLog.{is_note_at, is_at_most}
 use Rattle.path_core.specs.Next.{next_of, is_between}
 use Rattle.path_core.specs.SeatAfter.{seat_after}
 use Rattle.path_core.specs.Steps.{HasPassedMarker}
@@ -62,12 +64,12 @@ use Rattle.path_rule.specs.Boxed.{Boxed}
 use Rattle.path_core.specs.Parts.{last_kept}
 use Rattle.path_rule.specs.HandsAfter.{with_desk}
 use Rattle.path_rule.specs.Kept.{IsDepositedTo, MayBeKept}
-use Rattle.path_rule.specs.Lasts.{shown, refused_lasting}
+use Rattle.path_rule.specs.Lasts.{ends, fault_count, shown, refused_lasting}
 use Rattle.path_rule.specs.Rule.{Ruled, told_by, view_after, with_hands}
 use Rattle.path_rule.specs.TurnTold.{
   IsKeptNow,
   CarriesAs,
-  MadeWith,
+  MadeRefused,
   RefusedKept,
   StoppedPut,
 }
@@ -80,6 +82,18 @@ use Rattle.path_rule.proofs.moves.Moving.{core_lawful, was, plays_to}
 use Rattle.path_rule.proofs.moves.SyncFacts.{turn_exact, settled}
 use Rattle.path_rule.proofs.places.ReadBack.{rows_stay}
 use Rattle.path_rule.proofs.seats.HolderKnows.{still}
+use Rattle.path_rule.proofs.seats.MayGives.{risen_above}
+
+same_marker : {a b : LastMarker} → Some a ≡ Some b → a ≡ b
+same_marker e = cc
+
+-- the last marker of a desk has one start
+one_start : (h : Hands) (u v : ℕ) → IsBarred h u → IsBarred h v → u ≡ v
+one_start h u v a b = ap (λ (k : LastMarker). k.start) (same_marker (sym a.2 ∙ b.2))
+
+counts_fault : (n : ℕ) → 0 < n → fault_count n ≡ Some n
+counts_fault zero above = absurd (omega arith)
+counts_fault (suc n) above = refl
 
 -- Up to the last marker, once its barrier is passed, each entry is noted.
 deposited_to : (x : PathState) → IsLawfulPath x → (value by group : ℕ) → IsSyncPoint x value
@@ -97,9 +111,6 @@ deposited_to x L value by group P marked = record {
       let once = L.each_claim_noted_once.once c h entry in omega arith;
 }
   where
-    same_marker : {a b : LastMarker} → Some a ≡ Some b → a ≡ b
-    same_marker e = cc
-
     passed : HasPassedMarker x.claims x.append.tallies value
     passed = record {
       marker = P.above;
@@ -118,7 +129,7 @@ module _ {K : Type 0} (shows : K → Lasting) (size : PathSize) (slots id : ℕ)
     (all : m.0.hands.progress.gathered ≡ true) (empty : m.0.hands.box_taken ≡ None)
     (barred : IsBarred m.0.hands upto) (kept pending : List EntryNote)
     (perm : IsPermutation m.0.hands.pending pending) (now : IsKeptNow upto m.0.hands kept) where
-  abbrev hands_with : Bool → Hands
+  abbrev hands_with : Option ℕ → Hands
   hands_with stopped = with_desk (refused_lasting kept stopped m.0.hands.lasting) pending
       m.0.hands.progress m.0.hands
 
@@ -148,9 +159,9 @@ module _ {K : Type 0} (shows : K → Lasting) (size : PathSize) (slots id : ℕ)
           sym S.1,
         )) now
 
-    boxed_now : (stopped : Bool) (after : Lasting) (v' : View) → v'.role ≡ m.0.role
+    boxed_now : (stopped : Option ℕ) (after : Lasting) (v' : View) → v'.role ≡ m.0.role
         → v'.part.append ≡ None → IsTrue (is_some v'.part.sync)
-        → v'.hands ≡ hands_with stopped → after.logged ≡ r.core.logged
+        → v'.hands ≡ hands_with stopped → after.logged ≡ filter (is_at_most r.core.synced) r.core.notes
         → refused_lasting kept stopped m.0.hands.lasting ≡ after
         → Boxed shows size.seats r.core.notes after r.core.claims r.core.append s.homes
         (set s.views id v')
@@ -161,7 +172,7 @@ module _ {K : Type 0} (shows : K → Lasting) (size : PathSize) (slots id : ℕ)
         subst (λ (l : List EntryNote). IsPermutation l pending) D.1 perm in
         let back : (n : EntryNote) → Contains pending n → Contains B.pending n =
         λ n a. Contains-permutation pending B.pending n (IsPermutation-sym B.pending pending P) a in
-        boxed_desk_turns shows size.seats x.notes (shown r.kept_to x) after x.claims x.append
+        boxed_desk_turns shows size.seats x.notes (shown size.at_open r.kept_to x) after x.claims x.append
         s.homes s.views B id w m.0 v' there mine role
         (outside shows size slots id m w mine s r there held) out held on empty
         (ap (λ (h : Hands). h.box_taken) hands ∙ empty)
@@ -171,13 +182,13 @@ module _ {K : Type 0} (shows : K → Lasting) (size : PathSize) (slots id : ℕ)
           ap (λ (h : Hands). h.progress) hands ∙ D.2,
         )
         (ap (λ (h : Hands). h.swept) hands)
-        (λ n q. ⊎_elim (λ a. inl (subst (λ l. Contains l n.end.0) (sym logged) a))
+        (λ n q. ⊎_elim (λ a. inl (subst (λ (l : List EntryNote). Contains (ends l) n.end.0) (sym logged) a))
         (λ z. inr (⊎_elim (λ p. inl (Contains-permutation B.pending pending n P p))
         (λ b. inr b) z)) (B.noted n q))
         (λ n q. ⊎_elim (λ a. B.sound n (inl (back n a))) (λ b. B.sound n (inr b)) q)
         (λ k. let c = sum_by-IsPermutation
         (λ (a : EntryNote). cond {A = ℕ} (is_note_at k a) 1 0) B.pending pending P in omega arith)
-        (λ n q old. let old' = subst (λ l. Contains l n.end.0) logged old in
+        (λ n q old. let old' = subst (λ (l : List EntryNote). Contains (ends l) n.end.0) logged old in
         ⊎_elim (λ a. B.unlogged n (inl (back n a)) old') (λ b. B.unlogged n (inr b) old') q)
 
   pub keeps_refused : CarriesAs shows (refused_lasting kept m.0.hands.lasting.stopped
@@ -197,37 +208,44 @@ module _ {K : Type 0} (shows : K → Lasting) (size : PathSize) (slots id : ℕ)
         is_there = tt;
         row = tt;
       } in
-      let after_is : refused_lasting kept stopped m.0.hands.lasting ≡ shown k.0 x =
+      let after_is : refused_lasting kept stopped m.0.hands.lasting ≡ shown size.at_open k.0 x =
       (λ j. refused_lasting (k.2 j) ((ap (λ (l : Lasting). l.stopped) D.0) j) (D.0 j)) in (
         v',
         keeps,
         tt,
-        plays_to shows size s r id w m.0 there mine e refl may tt tt
+        plays_to shows size s r id w m.0 there mine e refl may tt tt tt
             (rows_stay x e may (λ q. q) r.rows) n n false h found
             (ap (λ q. seat_after m.0.part e (Number q) (told_by false h)) found) k.0
             (kept_stays x (core_lawful shows size s r) e may k.0 k.1) m.1 keeps
-            (boxed_now s r there stopped (shown k.0 x) v' refl
+            (boxed_now s r there stopped (shown size.at_open k.0 x) v' refl
             (outside shows size slots id m w mine s r there held)
             (still _ m.0.part.sync held) refl refl after_is),
-        each_seat_name shows size slots id m w mine
-            (λ z. MadeWith shows z (Look z (CursorWord Stopped)) n m (v', m.1)) (
+        (λ z u role bar. subst
+            (λ (q : ℕ). MadeRefused shows q stopped z (Look z (CursorWord Stopped)) n m (v', m.1))
+            (one_start m.0.hands upto u barred bar)
+            (each_seat_name shows size slots id m w mine
+            (λ y. MadeRefused shows upto stopped y (Look y (CursorWord Stopped)) n m (v', m.1)) (
               (
-                refused_lasting kept stopped m.0.hands.lasting,
+                kept,
                 pending,
+                perm,
+                now,
                 (refl, was shows size s r id w m.0 there mine e may tt),
                 C,
               ),
               refl,
-            ),
+            ) z role)),
       )
 
   -- The log is stopped by the holder of the turn that found it running.
-  pub halts : (value : ℕ) → 0 < value
-      → CarriesAs shows (refused_lasting kept true m.0.hands.lasting) pending m.0.hands.progress m
+  pub halts : (value : ℕ) → HasRisen m.0.hands.lasting.at_open value
+      → CarriesAs shows (refused_lasting kept (Some value) m.0.hands.lasting) pending
+      m.0.hands.progress m
       → Allows (Ruled shows size) slots id m 6 (λ _. value)
       (λ _. StoppedPut shows (step slots 6 value 0 none) m value)
-  halts value above C s r _ there _ = let x = r.core in let e = Put w Stopped value in
-      let h = hands_with true in
+  halts value risen C s r _ there _ = let x = r.core in let e = Put w Stopped value in
+      let above = risen_above m.0.hands.lasting.at_open value risen in
+      let h = hands_with (Some value) in
       let v' = view_after (with_hands h m.0) e value false in
       let D = (hands_now shows size slots id m w mine s r there).desk held in
       let k = kept_key s r there in
@@ -240,25 +258,31 @@ module _ {K : Type 0} (shows : K → Lasting) (size : PathSize) (slots id : ℕ)
           running s r there,
         );
       } in
-      let after_is : refused_lasting kept true m.0.hands.lasting ≡ shown k.0 (next_of x e) =
-      (λ j. refused_lasting (k.2 j) (sym (lt-ltb 0 value above) j) (D.0 j)) in (
+      let built = subst (λ (k : ℕ). HasRisen k value) (ap (λ (l : Lasting). l.at_open) D.0) risen in
+      let after_is : refused_lasting kept (Some value) m.0.hands.lasting ≡ shown size.at_open k.0 (next_of x e) =
+      (λ j. refused_lasting (k.2 j) (sym (counts_fault value above) j) (D.0 j)) in (
         v',
         keeps,
         tt,
-        plays_to shows size s r id w m.0 there mine e refl may tt tt
+        plays_to shows size s r id w m.0 there mine e refl may tt built tt
             (rows_stay x e may (λ q. q) r.rows) value value false h refl refl k.0
             (kept_stays x (core_lawful shows size s r) e may k.0 k.1) m.1 keeps
-            (boxed_now s r there true (shown k.0 (next_of x e)) v' refl
+            (boxed_now s r there (Some value) (shown size.at_open k.0 (next_of x e)) v' refl
             (outside shows size slots id m w mine s r there held)
             (still _ m.0.part.sync held) refl refl after_is),
-        each_seat_name shows size slots id m w mine
-            (λ z. MadeWith shows z (Put z Stopped value) value m (v', m.1)) (
+        (λ z u role bar. subst
+            (λ (q : ℕ). MadeRefused shows q (Some value) z (Put z Stopped value) value m (v', m.1))
+            (one_start m.0.hands upto u barred bar)
+            (each_seat_name shows size slots id m w mine
+            (λ y. MadeRefused shows upto (Some value) y (Put y Stopped value) value m (v', m.1)) (
               (
-                refused_lasting kept true m.0.hands.lasting,
+                kept,
                 pending,
+                perm,
+                now,
                 (refl, was shows size s r id w m.0 there mine e may tt),
                 C,
               ),
               refl,
-            ),
+            ) z role)),
       )

@@ -58,6 +58,7 @@ use Rattle.path_rule.specs.declared.view.View.{View}
 use Rattle.path_rule.specs.Layout.{tally_word, word_of}
 use Rattle.path_rule.specs.Rule.{Was}
 use Rattle.path_rule.proofs.boxes.HandsStay.{SameBarriers}
+use Rattle.path_rule.proofs.log.Lending.{lasting_ends}
 use Rattle.path_rule.proofs.moves.Moving.{was}
 
 pub same_seat : (ρ : Role) (w z : ℕ) → ρ ≡ Steps w → ρ ≡ Steps z → w ≡ z
@@ -136,11 +137,10 @@ claim_bars claims c none_yet i h l mark bar = dite (dec_lt i (length claims))
     (get_or_push claims c no_claim i (sym at)) ∙ none_yet) in cc))
 
 -- what is lasting is the end of a note, at or below the synced key
-pub logged_note : (x : PathState) → IsLawfulPath x → (k : ℕ) → Contains x.logged k
+pub lasting_note : (x : PathState) (k : ℕ) → Contains (lasting_ends x) k
     → (n : EntryNote) × Contains x.notes n × (n.end.0 ≡ k) × (is_at_most x.synced n ≡ true)
-logged_note x L k h = let t = map_from (λ (n : EntryNote). n.end.0)
-    (filter (is_at_most x.synced) x.notes) k
-    (subst (λ l. Contains l k) L.logged_is_the_synced_part.logged h) in
+lasting_note x k h = let t = map_from (λ (n : EntryNote). n.end.0)
+    (filter (is_at_most x.synced) x.notes) k h in
     let f = filter_from (is_at_most x.synced) x.notes t.0 t.1 in (t.0, f.0, t.2, f.1)
 
 pub known_groups : (x : PathState) → IsLawfulPath x → (o : Order) (w : ℕ)

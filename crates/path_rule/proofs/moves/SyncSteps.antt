@@ -30,7 +30,8 @@ use Rattle.std.proofs.lemmas.List.Elements.{
   Contains-append_right,
   Contains-append_cases,
 }
-use Rattle.std.specs.List.{Contains}
+use Rattle.std.proofs.lemmas.List.{map-append}
+use Rattle.std.specs.List.{Contains, filter}
 use Rattle.std.specs.Option.{option_map}
 use mathlib.Core.Logic.{inl, inr}
 use mathlib.Core.Option.{none}
@@ -40,8 +41,11 @@ use Rattle.path_core.specs.declared.event.Event.TheVariants.{Put}
 use Rattle.path_core.specs.declared.note.EntryNote.{EntryNote}
 use Rattle.path_core.specs.declared.seat.SyncTurn.{SyncTurn}
 use Rattle.path_core.specs.Keeper.{IsParted}
+use Rattle.path_core.specs.LawfulLog.{is_at_most}
 use Rattle.path_core.specs.Next.{next_of}
 use Rattle.path_core.proofs.lists.Inserted.{map_old, map_from}
+use Rattle.path_core.proofs.log.Between.{between}
+use Rattle.path_core.proofs.log.KeepsNotes.{note_long}
 use Rattle.path_rule.specs.declared.lasting.Lasting.{Lasting}
 use Rattle.path_rule.specs.declared.slot.Slot.{Slot}
 use Rattle.path_rule.specs.declared.slot.Slot.TheVariants.{Notes, Turn}
@@ -59,10 +63,10 @@ use Rattle.path_rule.specs.TurnTold.{SyncedPut}
 use Rattle.path_rule.specs.Turns.{IsBarred, TurnRuns}
 use Rattle.path_rule.proofs.boxes.DeskChanged.{boxed_desk_turns}
 use Rattle.path_rule.proofs.log.KeptStays.{none_kept}
-use Rattle.path_rule.proofs.log.Lending.{parts_of, left_pending, counts}
+use Rattle.path_rule.proofs.log.Lending.{lasting_ends, parts_of, left_pending, counts}
 use Rattle.path_rule.proofs.moves.HolderFacts.{outside, others_free, is_held, hands_now}
 use Rattle.path_rule.proofs.moves.Looks.{each_seat_name}
-use Rattle.path_rule.proofs.moves.Moving.{core_lawful, was, plays_to}
+use Rattle.path_rule.proofs.moves.Moving.{core_lawful, known, was, plays_to}
 use Rattle.path_rule.proofs.moves.SyncFacts.{turn_exact, settled}
 use Rattle.path_rule.proofs.places.ReadBack.{rows_stay}
 
@@ -86,7 +90,7 @@ module _ {K : Type 0} (shows : K → Lasting) (size : PathSize) (slots id : ℕ)
       → TurnRuns m.0.part value → m.0.hands.progress.gathered ≡ true → m.0.hands.box_taken ≡ None
       → IsBarred m.0.hands value
       → IsParted value m.0.hands.pending run left → m.1 ≡ (desk_box, y) ∷ cs
-      → DeskIs shows y (more_lasting (ends run) value m.0.hands.lasting) left m.0.hands.progress
+      → DeskIs shows y (more_lasting run value m.0.hands.lasting) left m.0.hands.progress
       → Allows (Ruled shows size) slots id m 5 (λ _. value)
       (λ _. SyncedPut shows (step slots 5 value 0 none) m value)
   syncs value run left y cs turn all empty barred parted holds fits s r _ there _ = let x =
@@ -103,34 +107,45 @@ module _ {K : Type 0} (shows : K → Lasting) (size : PathSize) (slots id : ℕ)
       subst (λ p. IsParted value p run left) D.1 parted in
       let sound : (n : EntryNote) → Contains B.pending n → Contains x.notes n =
       λ n h. B.sound n (inl h) in
-      let fresh : (n : EntryNote) → Contains B.pending n → ¬ Contains x.logged n.end.0 =
+      let fresh : (n : EntryNote) → Contains B.pending n → ¬ Contains (lasting_ends x) n.end.0 =
       λ n h. B.unlogged n (inl h) in
       let once : (k : ℕ) → ends_at k B.pending ≤ 1 = λ k. let a =
       B.alone k 0 1 (λ q. absurd (omega arith)) in omega arith in
-      let now_is : more_lasting (ends run) value (shown r.kept_to x) ≡ shown value (next_of x e) =
-      (λ j. record (more_lasting (ends (sym is j)) value (shown r.kept_to x)) {
+      let old = filter (is_at_most x.synced) x.notes in
+      let lasts : old ++ run ≡ filter (is_at_most value) x.notes =
+      ap (λ (l : List EntryNote). old ++ l) (sym is)
+      ∙ between x.synced value (omega arith) x.notes law.notes_are_claims.in_order
+      (λ k h. note_long x law.sized law.claims_tile_the_log law.orders law.own_claim
+      law.each_claim_noted_once law.notes_are_claims k h) in
+      let both : ends (old ++ run) ≡ lasting_ends x ++ ends run =
+      map-append (λ (k : EntryNote). k.end.0) old run in
+      let now_is : more_lasting run value (shown size.at_open r.kept_to x) ≡ shown size.at_open value (next_of x e) =
+      (λ j. record (more_lasting run value (shown size.at_open r.kept_to x)) {
+        logged = lasts j;
         kept = sym (none_kept value value x.notes (omega arith)) j;
       }) in
-      let now : shown value (next_of x e) ≡ more_lasting (ends run) value m.0.hands.lasting =
-      sym now_is ∙ (λ j. more_lasting (ends run) value (sym D.0 j)) in
-      let h = with_desk (more_lasting (ends run) value m.0.hands.lasting) left m.0.hands.progress
+      let now : shown size.at_open value (next_of x e) ≡ more_lasting run value m.0.hands.lasting =
+      sym now_is ∙ (λ j. more_lasting run value (sym D.0 j)) in
+      let h = with_desk (more_lasting run value m.0.hands.lasting) left m.0.hands.progress
       m.0.hands in let v' = view_after (with_hands h m.0) e value false in
       let out = outside shows size slots id m w mine s r there held in
-      let grown : (q : EntryNote) → Contains (x.logged ++ ends run) q.end.0
-      → Contains x.logged q.end.0 ⊎ (q.end.0 ≤ value) = λ q h. ⊎_elim (λ a. inl a)
+      let grown : (q : EntryNote) → Contains (ends (old ++ run)) q.end.0
+      → Contains (lasting_ends x) q.end.0 ⊎ (q.end.0 ≤ value) = λ q h. ⊎_elim (λ a. inl a)
       (λ b. let o = map_from (λ (n : EntryNote). n.end.0) run q.end.0 b in
       inr (let k = P.low o.0 o.1 in let z = o.2 in omega arith))
-      (Contains-append_cases x.logged (ends run) q.end.0 h) in
-      let boxed = boxed_desk_turns shows size.seats x.notes (shown r.kept_to x)
-      (more_lasting (ends run) value (shown r.kept_to x)) x.claims x.append s.homes s.views B id w
+      (Contains-append_cases (lasting_ends x) (ends run) q.end.0
+      (subst (λ (l : List ℕ). Contains l q.end.0) both h)) in
+      let boxed = boxed_desk_turns shows size.seats x.notes (shown size.at_open r.kept_to x)
+      (more_lasting run value (shown size.at_open r.kept_to x)) x.claims x.append s.homes s.views B id w
       m.0 v'
       there mine refl out out held (still_some m.0.part.sync held) empty empty
       (others_free shows size slots id m w mine s r there held) left
-      ((λ j. more_lasting (ends run) value (D.0 j)), refl, D.2) refl
-      (λ n q. ⊎_elim (λ a. inl (Contains-append_left x.logged (ends run) n.end.0 a))
-      (λ z. ⊎_elim (λ p. ⊎_elim (λ a. inl
-      (Contains-append_right x.logged (ends run) n.end.0
-      (map_old (λ (n : EntryNote). n.end.0) run n a))) (λ a. inr (inl a))
+      ((λ j. more_lasting run value (D.0 j)), refl, D.2) refl
+      (λ n q. ⊎_elim (λ a. inl (subst (λ (l : List ℕ). Contains l n.end.0) (sym both)
+      (Contains-append_left (lasting_ends x) (ends run) n.end.0 a)))
+      (λ z. ⊎_elim (λ p. ⊎_elim (λ a. inl (subst (λ (l : List ℕ). Contains l n.end.0) (sym both)
+      (Contains-append_right (lasting_ends x) (ends run) n.end.0
+      (map_old (λ (n : EntryNote). n.end.0) run n a)))) (λ a. inr (inl a))
       (parts_of value B.pending run left P n p)) (λ b. inr (inr b)) z) (B.noted n q))
       (λ n q. ⊎_elim (λ a. sound n (left_pending value B.pending run left P n a))
       (λ b. B.sound n (inr b)) q)
@@ -143,24 +158,28 @@ module _ {K : Type 0} (shows : K → Lasting) (size : PathSize) (slots id : ℕ)
         v',
         keeps,
         tt,
-        plays_to shows size s r id w m.0 there mine e refl may tt tt
+        plays_to shows size s r id w m.0 there mine e refl may tt tt tt
             (rows_stay x e may (λ q. q) r.rows) value value false h refl refl value
             (inl (omega arith)) m.1 keeps
             (subst (λ q. Boxed shows size.seats x.notes q x.claims x.append s.homes
             (set s.views id v')) now_is boxed),
         (λ z lasting pending role C. let d = desk_same shows y C.0
-            (more_lasting (ends run) value m.0.hands.lasting) lasting left pending
+            (more_lasting run value m.0.hands.lasting) lasting left pending
             m.0.hands.progress (ap (top_box y) (sym holds ∙ C.1)) fits C.2 in
             let Q : ℕ → Lasting → List EntryNote → Type 0 =
             λ z lasting pending. MadeAs z (Put z Synced value) value
             (with_desk lasting pending m.0.hands.progress m.0.hands) m.0 v' × (m.1 ≡ m.1)
             × ((was : Was m.0 z (Put z Synced value))
-            × (shown value (next_of was.core (Put z Synced value)) ≡ lasting)) in
+            × (shown m.0.size.at_open value (next_of was.core (Put z Synced value)) ≡ lasting)) in
             each_seat_name shows size slots id m w mine (λ z. Q z lasting pending)
             (subst (λ (q : Lasting × List EntryNote). Q w q.0 q.1) (λ j. (d.0 j, d.1 j)) (
               (refl, was shows size s r id w m.0 there mine e may tt),
               refl,
-              (was shows size s r id w m.0 there mine e may tt, now),
+              (
+                was shows size s r id w m.0 there mine e may tt,
+                ap (λ (z : PathSize). shown z.at_open value (next_of x e))
+                    (known shows size s r id w m.0 there mine).0 ∙ now,
+              ),
             )) z role),
       )
     where

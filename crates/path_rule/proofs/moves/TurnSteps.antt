@@ -55,7 +55,7 @@ use Rattle.path_rule.specs.TurnTold.{TookDesk, SyncTaken, SyncGiven}
 use Rattle.path_rule.proofs.boxes.DeskMoved.{boxed_desk_take, boxed_desk_give}
 use Rattle.path_rule.proofs.boxes.OneHolder.{desk_free}
 use Rattle.path_rule.proofs.moves.Looks.{Owes, as_part, within, own_part, look_owes, each_seat_name}
-use Rattle.path_rule.proofs.moves.Moving.{core_lawful, was, plays}
+use Rattle.path_rule.proofs.moves.Moving.{core_lawful, known, was, plays}
 use Rattle.path_rule.proofs.places.ReadBack.{rows_stay}
 
 module _ {K : Type 0} (shows : K → Lasting) (size : PathSize) (slots id : ℕ) (m : Me (Slot K) View)
@@ -67,7 +67,7 @@ module _ {K : Type 0} (shows : K → Lasting) (size : PathSize) (slots id : ℕ)
       let then = SyncTaken shows (step slots 7 0 1 none) m n in
       exchanged n 0 1 (λ z. Owes shows size slots id m w mine s 7 z then)
       (λ hit. let e = TakeTurn w Sync in let is = as_part shows size slots id m w mine s r there in
-      let h = with_desk (shown r.kept_to x) r.boxed.pending r.boxed.progress m.0.hands in
+      let h = with_desk (shown size.at_open r.kept_to x) r.boxed.pending r.boxed.progress m.0.hands in
       let v' = view_after (with_hands h m.0) e 1 false in
       let free = unheld x Sync (ap Number (sym (r.words (TurnWord Sync) tt) ∙ hit)) in
       let in_it = within shows size slots id m w mine s r there in
@@ -81,25 +81,28 @@ module _ {K : Type 0} (shows : K → Lasting) (size : PathSize) (slots id : ℕ)
         v',
         takes desk_box home.0,
         home.1,
-        plays shows size s r id w m.0 there mine e refl may tt tt
+        plays shows size s r id w m.0 there mine e refl may tt tt tt
             (rows_stay x e may (λ q. q) r.rows) 1 1 false h refl
             (ap (λ k. seat_after m.0.part e (Number 1) (record { files = false; marker = k }))
             (sym r.boxed.marked)) m.1 (takes desk_box home.0)
             (boxed_desk_take shows size.seats x.notes
-            (shown r.kept_to x) x.claims x.append s.homes s.views r.boxed id w m.0 v' there mine
+            (shown size.at_open r.kept_to x) x.claims x.append s.homes s.views r.boxed id w m.0 v' there mine
             refl
             idle.append idle.append empty empty refl refl (refl, refl, refl)),
         each_seat_name shows size slots id m w mine
             (λ z. (n ≡ 0 → ((lasting : Lasting) × (pending : List EntryNote) × (marks : Progress)
-            × MadeAs z (TakeTurn z Sync) 1 (with_desk lasting pending marks m.0.hands) m.0 v')
+            × MadeAs z (TakeTurn z Sync) 1 (with_desk lasting pending marks m.0.hands) m.0 v'
+            × (lasting.at_open ≡ m.0.size.at_open))
             × TookDesk shows m (v', (desk_box, home.0) ∷ m.1))
             × (n ≢ 0 → Made z (Look z (TurnWord Sync)) n m (v', (desk_box, home.0) ∷ m.1))) (
               (λ _. (
                 (
-                  shown r.kept_to x,
+                  shown size.at_open r.kept_to x,
                   r.boxed.pending,
                   r.boxed.progress,
                   (refl, was shows size s r id w m.0 there mine e may tt),
+                  ap (λ (z : PathSize). z.at_open)
+                      (sym (known shows size s r id w m.0 there mine).0),
                 ),
                 (home.0, refl, home.2.desk refl),
               )),
@@ -110,8 +113,8 @@ module _ {K : Type 0} (shows : K → Lasting) (size : PathSize) (slots id : ℕ)
       look_owes shows size slots id m w mine s r there (TurnWord Sync) tt tt then (λ made _.
       each_seat_name shows size slots id m w mine
       (λ z. (n ≡ 0 → ((lasting : Lasting) × (pending : List EntryNote) × (marks : Progress)
-      × MadeAs z (TakeTurn z Sync) 1 (with_desk lasting pending marks m.0.hands) m.0 v')
-      × TookDesk shows m (v', m.1))
+      × MadeAs z (TakeTurn z Sync) 1 (with_desk lasting pending marks m.0.hands) m.0 v'
+      × (lasting.at_open ≡ m.0.size.at_open)) × TookDesk shows m (v', m.1))
       × (n ≢ 0 → Made z (Look z (TurnWord Sync)) n m (v', m.1)))
       ((λ hit. absurd (miss hit)), (λ _. made))))
 
@@ -132,8 +135,8 @@ module _ {K : Type 0} (shows : K → Lasting) (size : PathSize) (slots id : ℕ)
         row =
             (has, own_part shows size slots id m w mine s r there issue_of Rest rest_now);
       } in
-      let same : shown r.kept_to x ≡ shown r.kept_to (next_of x e) =
-      ap (λ (b : Bool). record (shown r.kept_to x) {
+      let same : shown size.at_open r.kept_to x ≡ shown size.at_open r.kept_to (next_of x e) =
+      ap (λ (b : Bool). record (shown size.at_open r.kept_to x) {
         dropped = cond b
             (x.dropped ++ newly_dropped x) x.dropped;
       })
@@ -143,14 +146,14 @@ module _ {K : Type 0} (shows : K → Lasting) (size : PathSize) (slots id : ℕ)
         v',
         gives,
         tt,
-        plays shows size s r id w m.0 there mine e refl may tt tt
+        plays shows size s r id w m.0 there mine e refl may tt tt tt
             (rows_stay x e may (λ q. q) r.rows) 0 0 false h refl refl m.1 gives
             (subst (λ q. Boxed shows size.seats x.notes q x.claims x.append (put_back s.homes m.1)
             (set s.views id v')) same (subst
-            (λ l. Boxed shows size.seats x.notes (shown r.kept_to x) x.claims x.append
+            (λ l. Boxed shows size.seats x.notes (shown size.at_open r.kept_to x) x.claims x.append
             (put_back s.homes l) (set s.views id v')) (sym holds)
             (boxed_desk_give shows size.seats x.notes
-            (shown r.kept_to x) x.claims x.append s.homes s.views r.boxed id w m.0 v' there mine
+            (shown size.at_open r.kept_to x) x.claims x.append s.homes s.views r.boxed id w m.0 v' there mine
             refl out
             out empty empty refl y refl held fits r.deep))),
         each_seat_name shows size slots id m w mine

@@ -100,7 +100,7 @@ module _ {K : Type 0} (shows : K → Lasting) (size : PathSize) (slots id : ℕ)
         v',
         keeps,
         tt,
-        plays shows size s r id w m.0 there mine e refl may tt fits
+        plays shows size s r id w m.0 there mine e refl may tt tt fits
             (rows s r g (let q = up ∙ ap suc now in omega arith)) 0 0 false m.0.hands told refl m.1
             keeps
             (unseen shows size slots id m w mine s r there held
@@ -147,7 +147,7 @@ module _ {K : Type 0} (shows : K → Lasting) (size : PathSize) (slots id : ℕ)
         v',
         keeps,
         tt,
-        plays shows size s r id w m.0 there mine e refl may tt tt
+        plays shows size s r id w m.0 there mine e refl may tt tt tt
             (rows_stay x e may (λ q. q) r.rows) g c false m.0.hands refl
             (ap (λ k. seat_after m.0.part e (Number k) (told_by false m.0.hands)) now) m.1 keeps
             (unseen shows size slots id m w mine s r there held x.append v' refl refl refl out
@@ -192,7 +192,7 @@ module _ {K : Type 0} (shows : K → Lasting) (size : PathSize) (slots id : ℕ)
         v',
         keeps,
         tt,
-        plays shows size s r id w m.0 there mine e refl may tt fits
+        plays shows size s r id w m.0 there mine e refl may tt tt fits
             (rows_stay x e may (λ q. q) r.rows)
             ((n + 2 ^ 63) % 2 ^ 64) n false m.0.hands told refl m.1 keeps
             (unseen shows size slots id m w mine s r there held x.append v' refl refl refl out
@@ -229,7 +229,7 @@ module _ {K : Type 0} (shows : K → Lasting) (size : PathSize) (slots id : ℕ)
         v',
         keeps,
         tt,
-        plays shows size s r id w m.0 there mine e refl may tt tt
+        plays shows size s r id w m.0 there mine e refl may tt tt tt
             (rows_stay x e may (λ q. q) r.rows) g g false m.0.hands refl refl m.1 keeps
             (unseen shows size slots id m w mine s r there held x.append v' refl refl refl out
             (still _ m.0.part.sync held) refl empty),

@@ -73,6 +73,8 @@ module _ {K : Type 0} (shows : K → Lasting) where
     deep = length-map xs some ∙ long;
     kept_to = 0;
     may_be_kept = inl (omega arith);
+    risen = λ above. absurd (omega arith);
+    unswitched = refl;
     boxed = record {
       contents = λ _. [];
       stamp = λ _. 0;

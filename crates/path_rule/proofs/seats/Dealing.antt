@@ -81,7 +81,7 @@ module _ {K : Type 0} (shows : K → Lasting) (size : PathSize) (id : ℕ) (v : 
     sized = subst (λ ρ. SizedAs size ρ v.size) role (r.each_seat id v at).0
 
     abbrev Hand : View → Type 0
-    Hand y = HandsAs r.boxed.contents (shown r.kept_to r.core) r.boxed.pending r.boxed.progress
+    Hand y = HandsAs r.boxed.contents (shown size.at_open r.kept_to r.core) r.boxed.pending r.boxed.progress
         r.core.append
         size.seats y.part y.hands y.role
 
@@ -119,8 +119,10 @@ module _ {K : Type 0} (shows : K → Lasting) (size : PathSize) (id : ℕ) (v : 
           deep = r.deep;
           kept_to = r.kept_to;
           may_be_kept = r.may_be_kept;
+          risen = r.risen;
+          unswitched = r.unswitched;
           boxed = reboxed shows size.seats r.core.notes
-              (shown r.kept_to r.core) r.core.claims r.core.append s.homes s.views
+              (shown size.at_open r.kept_to r.core) r.core.claims r.core.append s.homes s.views
               (set s.views id (handing v) ++ handed v ∷ []) r.boxed
               (λ b free j u e h. dite (ℕ_discrete j id)
               (λ same. let u_is : u ≡ v = some-injective u v
@@ -133,7 +135,7 @@ module _ {K : Type 0} (shows : K → Lasting) (size : PathSize) (id : ℕ) (v : 
               (λ old. ⊎_elim
               (λ (t : (j ≡ id) × (handing v ≡ u)). subst Hand t.1
               (subst (HandsAs r.boxed.contents
-              (shown r.kept_to r.core) r.boxed.pending r.boxed.progress r.core.append size.seats
+              (shown size.at_open r.kept_to r.core) r.boxed.pending r.boxed.progress r.core.append size.seats
               v.part
               v.hands) (sym (ap one_on role)) tt))
               (λ (t : (j ≢ id) × (get_elem? s.views j ≡ some u)). r.boxed.in_hands j u t.1)

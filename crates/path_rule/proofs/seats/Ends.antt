@@ -4,6 +4,7 @@ use Rattle.std.proofs.Common.{
   ℕ,
   zero,
   suc,
+  ◌<◌,
   List,
   [],
   ◌∷◌,
@@ -23,7 +24,7 @@ use lib.ListN.{get_elem?}
 use Rattle.atomic_table.specs.Table.{State, Final, Seen}
 use Rattle.path_core.specs.declared.event.Place.TheVariants.{Log}
 use Rattle.path_core.specs.declared.note.EntryNote.{EntryNote}
-use Rattle.path_core.specs.Keeper.{Holding}
+use Rattle.path_core.specs.Keeper.{Holding, HasRisen}
 use Rattle.path_core.specs.Parts.{seat_of}
 use Rattle.path_core.specs.Runs.{Past}
 use Rattle.path_rule.specs.declared.lasting.Lasting.{Lasting}
@@ -75,7 +76,7 @@ module _ {K : Type 0} (shows : K → Lasting) where
         → (y : Slot K) × (get_elem? xs 0 ≡ some y)
         × ((pending : List EntryNote) × (gathered : Progress)
         × (f : Final (Seen (Ruled shows key) id v) ws xs)
-        × DeskIs shows y (shown f.1.0.kept_to f.1.0.core) pending gathered)
+        × DeskIs shows y (shown key.at_open f.1.0.kept_to f.1.0.core) pending gathered)
     desk_home ws xs f = let r : Ruled shows key f.0 = f.1.0 in
         let y = r.boxed.at_home 0 (omega arith) (free_all f.0 r f.1.1 0) in
         (y.0, f.4 0 y.0 y.1, (r.boxed.pending, r.boxed.progress, f, y.2.desk refl))
@@ -83,7 +84,7 @@ module _ {K : Type 0} (shows : K → Lasting) where
   pub ends_by : (size key : PathSize) (id w log : ℕ) (keeper : Holding) (v : View) (ws : List ℕ)
       (xs : List (Slot K)) → key ≡ size → v.role ≡ Steps w
       → (f : Final (Seen (Ruled shows key) id v) ws xs) → get_elem? ws 4 ≡ some log
-      → lasting_of keeper ≡ shown f.1.0.kept_to f.1.0.core
+      → lasting_of keeper ≡ shown key.at_open f.1.0.kept_to f.1.0.core
       → Ended size (record { number = w; part = v.part; trail = v.trail } ∷ v.returned) log keeper
   ends_by size key id w log keeper v ws xs same role f e kept = let s = f.0 in
       let r : Ruled shows key s = f.1.0 in
@@ -97,7 +98,9 @@ module _ {K : Type 0} (shows : K → Lasting) where
             (ap (λ (l : List ℕ). slice_index l 4) (sym f.2) ∙ r.words Log tt);
         kept_to = r.kept_to;
         may_be_kept = r.may_be_kept;
-        lasting_is = kept;
+        lasting_is = kept ∙ ap (λ (z : PathSize). shown z.at_open r.kept_to r.core) same;
+        risen = subst (λ (z : PathSize). 0 < r.core.stopped → HasRisen z.at_open r.core.stopped)
+            same r.risen;
         each = one s r k;
       }
     where

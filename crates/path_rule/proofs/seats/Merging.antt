@@ -68,8 +68,10 @@ module _ {K : Type 0} (shows : K → Lasting) (size : PathSize) (id : ℕ) (v : 
         deep = r.deep;
         kept_to = r.kept_to;
         may_be_kept = r.may_be_kept;
+        risen = r.risen;
+        unswitched = r.unswitched;
         boxed = reboxed shows size.seats r.core.notes
-            (shown r.kept_to r.core) r.core.claims r.core.append s.homes s.views
+            (shown size.at_open r.kept_to r.core) r.core.claims r.core.append s.homes s.views
             (set (set s.views id (taking v u)) other spent) r.boxed
             (λ b free j x e h. dite (ℕ_discrete j other)
             (λ same. bare b (subst (λ z. HoldsBox z b)
@@ -83,7 +85,7 @@ module _ {K : Type 0} (shows : K → Lasting) (size : PathSize) (id : ℕ) (v : 
             (λ apart'. free j x (set_else (set s.views id (taking v u)) other j spent far
             ∙ (set_else s.views id j (taking v u) apart' ∙ e)) h)))
             (λ j x e. let Hand : View → Type 0 = λ y. HandsAs r.boxed.contents
-            (shown r.kept_to r.core) r.boxed.pending r.boxed.progress r.core.append size.seats
+            (shown size.at_open r.kept_to r.core) r.boxed.pending r.boxed.progress r.core.append size.seats
             y.part
             y.hands y.role in ⊎_elim
             (λ (t : (j ≡ other) × (spent ≡ x)). subst Hand t.1 tt)

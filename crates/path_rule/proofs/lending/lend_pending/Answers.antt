@@ -12,6 +12,8 @@ use Rattle.path_rule.proofs.boxes.DeskLent.{
   refused_of,
   on_ok,
   on_err,
+  tells_faults,
+  stops_by,
 }
 use Rattle.path_rule.proofs.lending.lend_pending.Goals as goal
 
@@ -57,3 +59,16 @@ returns-clause-refused g c =
     (sym (none_behind left c.move_all.new.gathered c.in_ok-move_all.ensures.moved))
     (refused_of (holds c.args.desk.now.keeper) c.args.upto pending sorted same
     (holds c.sync.new.self) left S)) c.sync.ensures.refused
+
+pub returns-clause-counts : goal.returns-clause-counts
+returns-clause-counts g c =
+    let holds = g.K.Keeper.holds in
+    tells_faults (holds c.args.desk.now.keeper) (holds c.sync.new.self) c.sync.result c.args.upto
+    c.sort_unstable_by_key.new.self.items c.sync.new.pending.items c.sync.ensures.cause
+    c.sync.ensures.refused
+
+pub returns-clause-stopped : goal.returns-clause-stopped
+returns-clause-stopped g c =
+    let holds = g.K.Keeper.holds in
+    stops_by (holds c.args.desk.now.keeper) (holds c.sync.new.self) c.sync.result
+    c.sync.ensures.cause

@@ -1,14 +1,16 @@
-use Rattle.std.proofs.Common.{List, ◌∷◌, refl, ap, ◌∙◌, subst}
+use Rattle.std.proofs.Common.{ℕ, List, ◌∷◌, refl, ap, ◌∙◌, subst}
 use Rattle.atomic_table.specs.Table.{rest}
 use Rattle.path_core.specs.declared.note.EntryNote.{EntryNote}
-use Rattle.path_core.specs.Keeper.{IsParted, is_stopped}
+use Rattle.path_core.specs.Keeper.{IsParted}
+use Rattle.path_rule.specs.declared.lasting.Lasting.{Lasting}
 use Rattle.path_rule.specs.declared.slot.Slot.{Slot}
 use Rattle.path_rule.specs.Boxes.{desk_box}
+use Rattle.path_rule.specs.SyncEnd.{stopped_by, TellsFaults}
 use Rattle.path_rule.proofs.boxes.DeskLent.{
   on_desk,
   lent_synced,
   lent_refused,
-  on_ok,
+  on_ok_with,
   on_err,
 }
 use Rattle.path_rule.proofs.table.PathTable.lend.Goals as goal
@@ -25,12 +27,12 @@ lend_pending-done-requires g c =
 
 pub returns-clause-synced : goal.returns-clause-synced
 returns-clause-synced g c = let m = c.args.member in
-    on_ok c.lend_pending-done.result _ _ (λ S. (
+    on_ok_with c.lend_pending-done.result _ _ _ _ c.lend_pending-done.ensures.stopped (λ stops S. (
       lent_synced g.K.Keeper.holds c.in-Turn.desk c.lend_pending-done.new.desk m.seat.me
           c.args.upto c.requires.desk
           (c.slot_mut.ensures.value
           ∙ ap (λ (y : Slot _). (desk_box, y) ∷ rest m.seat.me.1) c.in-Turn.is)
-          c.lend_pending-done.ensures.progress S,
+          c.lend_pending-done.ensures.progress stops S,
       refl,
     )) c.lend_pending-done.ensures.syncs
 
@@ -41,7 +43,15 @@ returns-clause-refused g c = let m = c.args.member in
           c.args.upto c.requires.desk
           (c.slot_mut.ensures.value
           ∙ ap (λ (y : Slot _). (desk_box, y) ∷ rest m.seat.me.1) c.in-Turn.is)
-          c.lend_pending-done.ensures.progress (is_stopped c.lend_pending-done.result)
+          c.lend_pending-done.ensures.progress (λ o. stopped_by o c.lend_pending-done.result)
           c.lend_pending-done.ensures.stopped S,
       refl,
     )) c.lend_pending-done.ensures.refused
+
+pub returns-clause-counts : goal.returns-clause-counts
+returns-clause-counts g c = let m = c.args.member in
+    let D = on_desk g.K.Keeper.holds c.in-Turn.desk m.seat.me c.requires.desk
+    (c.slot_mut.ensures.value
+    ∙ ap (λ (y : Slot _). (desk_box, y) ∷ rest m.seat.me.1) c.in-Turn.is) in
+    subst (λ (n : ℕ). TellsFaults n c.lend_pending-done.result)
+    (ap (λ (l : Lasting). l.at_open) D.0) c.lend_pending-done.ensures.counts

@@ -1,6 +1,8 @@
-use Rattle.std.proofs.Common.{refl, sym, ap, ◌∙◌, subst, arith}
+use Rattle.std.proofs.Common.{ℕ, ◌<◌, refl, sym, ap, ◌∙◌, subst, arith}
 use Rattle.path_core.specs.declared.event.Cursor.TheVariants.{Stopped}
 use Rattle.path_core.specs.declared.event.Place.TheVariants.{CursorWord}
+use Rattle.path_core.specs.Keeper.{HasRisen}
+use Rattle.path_rule.specs.declared.view.PathSize.{PathSize}
 use Rattle.path_rule.specs.declared.view.View.{View}
 use Rattle.path_rule.proofs.moves.Looks.{looks}
 use Rattle.path_rule.proofs.seats.CursorKnows.{StoppedSeen, stopped_seen}
@@ -36,3 +38,9 @@ returns-clause-turn g c = let m = c.args.member.now in
     let q = c.load.ensures.2 m.number (CursorWord Stopped) m.role tt refl in let d = q.0 in
     subst (λ (v : View). StoppedSeen v.part c.load.result) (sym d.0.0)
     (stopped_seen m.seat.me.0 m.number c.load.result c.requires.turn)
+
+pub returns-clause-risen : goal.returns-clause-risen
+returns-clause-risen g c = let m = c.args.member.now in
+    let q = c.load.ensures.2 m.number (CursorWord Stopped) m.role tt refl in
+    subst (λ (p : ℕ × PathSize). 0 < p.0 → HasRisen p.1.at_open p.0)
+    (λ j. (q.1.1 j, c.requires.table.1 j)) q.1.0.risen

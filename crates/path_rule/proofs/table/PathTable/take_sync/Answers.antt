@@ -1,6 +1,7 @@
 use Rattle.std.proofs.Common.{ap, ◌∙◌, arith}
 use mathlib.Core.Logic.{dite}
 use native.Mathlib.Decide.{ℕ_discrete}
+use Rattle.path_rule.specs.declared.view.PathSize.{PathSize}
 use Rattle.path_rule.specs.declared.view.View.{View}
 use Rattle.path_rule.proofs.moves.TurnSteps.{takes_sync}
 use Rattle.path_rule.specs.Lasts.{shows_of}
@@ -24,8 +25,16 @@ invariant_of-member g c = let m = c.args.member.now in
 
 pub returns-clause-hit : goal.returns-clause-hit
 returns-clause-hit g c = let m = c.args.member.now in
-    λ hit. let e = c.compare_exchange.ensures.2 m.number m.role in let d = e.0 hit in
-    ((d.0.0, d.0.1, d.0.2, record { view = d.0.3.0; was = d.0.3.1 }), d.1)
+    λ hit. let e = c.compare_exchange.ensures.2 m.number m.role in let d = e.0 hit in (
+      (
+        d.0.0,
+        d.0.1,
+        d.0.2,
+        record { view = d.0.3.0; was = d.0.3.1 },
+        d.0.4 ∙ ap (λ (z : PathSize). z.at_open) c.requires.table.1,
+      ),
+      d.1,
+    )
 
 pub returns-clause-miss : goal.returns-clause-miss
 returns-clause-miss g c = let m = c.args.member.now in

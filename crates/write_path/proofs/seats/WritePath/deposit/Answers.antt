@@ -13,7 +13,6 @@ use Rattle.std.proofs.Common.{
   length,
   get_or,
   Some,
-  is_some,
   refl,
   sym,
   ap,
@@ -30,7 +29,10 @@ use Rattle.path_rule.specs.declared.slot.Slot.{Slot}
 use Rattle.path_rule.specs.declared.slot.Slot.TheVariants.{Notes}
 use Rattle.path_rule.specs.declared.view.View.{View}
 use Rattle.path_rule.specs.Boxes.{box_of}
+use Rattle.path_core.specs.Parts.{HoldsNoTurn}
 use Rattle.path_rule.specs.Calls.{Did}
+use Rattle.path_rule.proofs.seats.Staying.{view_columns, free_stays}
+use Rattle.write_path.specs.Ends.{writes_of}
 use Rattle.write_path.specs.Writes.{IsNoteOf}
 use Rattle.write_path.proofs.BoxKept.{carries_notes}
 use Rattle.write_path.proofs.NoteLaws.{is_depositable}
@@ -98,7 +100,22 @@ invariant_of-seat g c =
       left = ap (λ (v : View). v.part.append) d.view;
       claims = ap (λ (v : View). v.part.claim) d.view
           ∙ (ap (λ (v : View). v.part.claim) V ∙ s.claims);
-      noted = ap (λ (v : View). is_some v.part.note) d.view;
+      noted = ap (λ (v : View). v.part.note) d.view
+          ∙ ap (λ (n : ℕ). Some n) (sym (c.tables-tables.ensures C.prepared.note C.prepared.one));
+      few = let ready = is_depositable P.0 P.1 c.args.seat.start.0 c.number-number.result P.2
+          c.claimed.new.self C in
+          let many = P.5 ∙ sym (ap (λ (v : View). v.size.tables) d.view
+          ∙ (ap (λ (v : View). v.size.tables) V ∙ ap (λ z. z.tables) c.requires.table.1)) in
+          subst (λ (q : ℕ × ℕ). q.0 < 2 ^ q.1) (λ i. (
+            sym (c.tables-tables.ensures C.prepared.note C.prepared.one) i,
+            many i,
+          )) ready.below;
+      free = let v = c.put_notes-member.result.seat.me.0 in
+          let e = Close c.put_notes-member.result.number Append s.group (Deposit C.prepared.note) in
+          let K = view_columns v e c.deposit-found.result tt in
+          subst (λ (v : View). HoldsNoTurn v.part) (sym d.view)
+          (free_stays e v.part _ K refl (λ t b. refl)
+          (subst (λ (v : View). HoldsNoTurn v.part) (sym V) s.free));
       bare = c.deposit-found.ensures.same.2
           ∙ (ap (λ (l : List (ℕ × Slot g.row.K.Denot)). rest l) kept
           ∙ ap (λ (l : List (ℕ × Slot g.row.K.Denot)). rest l) s.carries);
@@ -127,6 +144,7 @@ returns-clause-same g c =
         ),
         put.1 ∙ same,
       ),
+      refl,
       refl,
       refl,
     )
@@ -162,3 +180,31 @@ returns-clause-step g c =
           (ap (λ (l : List EntryNote). get_or l 0 C.prepared.note)
           (sym D.prepared.one ∙ C.prepared.one)) D.prepared.of),
     )
+
+pub returns-clause-listed : goal.returns-clause-listed
+returns-clause-listed g c =
+    let P = c.requires.prepared in
+    let C = c.claimed.ensures P.0 P.1 P.2 P.3 in
+    let s = c.args.seat in
+    let at : 1 + 2 * c.from.result + s.group % 2 ≡ box_of s.member.number s.group =
+    ap (λ (n : ℕ). 1 + 2 * n + s.group % 2) (c.from.ensures ∙ c.number-number.ensures) in
+    let V = c.put_notes-member.ensures.same.1 in
+    let same = c.put_notes-member.ensures.same.0.1 in
+    let kept = c.put_notes-member.ensures.kept in
+    let has = kept ∙ (λ i. (
+      (at ∙ ap (λ (n : ℕ). box_of n s.group) (sym same)) i,
+      Notes ((sym (ap (λ (v : View). v.hands.notes) V)) i ++ C.prepared.one i),
+    ) ∷ (sym (ap (λ (l : List (ℕ × Slot g.row.K.Denot)). rest l) kept)) i) in
+    let d = c.deposit-found.ensures.step C.prepared.note has in record {
+      note = C.prepared.note;
+      list = ap (λ (v : View). writes_of v.trail) d.view
+          ∙ ap (λ (v : View). C.prepared.note ∷ writes_of v.trail) V;
+      writer = C.by ∙ c.number-number.ensures;
+      starts = C.begins;
+      ends = C.ends ∙ P.4;
+      tables_are = sym (c.tables-tables.ensures C.prepared.note C.prepared.one);
+      of = λ sizes line m ready. let D = c.claimed.ensures sizes line m ready in
+          subst (λ (n : EntryNote). IsNoteOf line m n)
+          (ap (λ (l : List EntryNote). get_or l 0 C.prepared.note)
+          (sym D.prepared.one ∙ C.prepared.one)) D.prepared.of;
+    }

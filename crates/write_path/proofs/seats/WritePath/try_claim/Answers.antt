@@ -86,6 +86,17 @@ invariant_of-result g c =
           ∙ (ap (λ (v : View). v.part.append) L.step.view ∙ s.appends);
       claims = ap (λ (v : View). v.part.claim) D.view
           ∙ ap range c.in-Some.ensures.moves.1;
+      free = let m = s.member in
+          let v = m.seat.me.0 in let n = c.look_log-looked.result in
+          let C = view_columns v (Look m.number Log) n tt in
+          let w = c.look_log-looked.new.member.number in
+          let v1 = c.look_log-looked.new.member.seat.me.0 in
+          let e = Claim w (record { 0 = n }) (record { 0 = to }) Entry in
+          let C1 = view_columns v1 e to tt in
+          subst (λ (v : View). HoldsNoTurn v.part) (sym D.view)
+          (free_stays e v1.part _ C1 refl (λ t b. refl)
+          (subst (λ (v : View). HoldsNoTurn v.part) (sym L.step.view)
+          (free_stays (Look m.number Log) v.part _ C refl (λ t b. refl) s.free)));
       carries = M.same.2 ∙ (L.same.2 ∙ (s.carries ∙ (λ i. (
         box_of (sym (M.same.1 ∙ L.same.1) i) s.group,
         Notes (sym (ap (λ (v : View). v.hands.notes) D.view

@@ -1,0 +1,78 @@
+-- How a write ends, and the list of a seat's own writes.
+use Rattle.std.specs.Prelude.{◌≡◌, ℕ, ◌<◌, List, [], ◌∷◌, IsTrue, Some}
+use Rattle.atomic_table.specs.Seated.{TableId}
+use Rattle.clog_base.specs.declared.cell.Table.{Table}
+use Rattle.clog_base.specs.declared.sizes.Sizes.{Sizes}
+use Rattle.clog_mutation.specs.declared.mutation.Mutation.{Mutation}
+use Rattle.op_core.specs.declared.count.Order.TheVariants.{Write}
+use Rattle.path_core.specs.declared.event.Carried.TheVariants.{Deposit, Applied}
+use Rattle.path_core.specs.declared.event.Event.{Event}
+use Rattle.path_core.specs.declared.event.Event.TheVariants.{Close}
+use Rattle.path_core.specs.declared.note.EntryNote.{EntryNote}
+use Rattle.path_core.specs.Allowed.{IsItsPlaces}
+use Rattle.path_core.specs.Parts.{seat_table, touches}
+use Rattle.path_rule.specs.declared.table.Member.{Member}
+use Rattle.path_rule.specs.declared.view.OwnStep.{OwnStep}
+use Rattle.path_rule.specs.declared.view.PathSize.{PathSize}
+use Rattle.path_rule.specs.declared.view.View.{View}
+use Rattle.path_rule.specs.Calls.{Did}
+use Rattle.path_rule.specs.Members.{part_of}
+use Rattle.write_path.specs.declared.deposited.Deposited.{Deposited}
+use Rattle.write_path.specs.declared.prepared.Prepared.{Prepared}
+use Rattle.write_path.specs.Tries.{Stays}
+use Rattle.write_path.specs.Writes.{IsPrepared, IsNoteOf}
+
+-- the list of a seat's own writes: the notes that it deposited, the newest first
+abbrev pub with_write : Event → List EntryNote → List EntryNote
+with_write (Close by order group (Deposit note)) writes = note ∷ writes
+with_write _ writes = writes
+
+abbrev pub writes_of : List OwnStep → List EntryNote
+writes_of [] = []
+writes_of (t ∷ ts) = with_write t.event (writes_of ts)
+
+-- The list is the old one and this write: its note is by this seat, has this range and these
+-- tables, and says what was prepared.
+pub record IsListed (before after : List OwnStep) (by start end tables : ℕ)
+    (prepared : Prepared) : Type 0 where
+  pub note : EntryNote
+  pub list : writes_of after ≡ note ∷ writes_of before
+  pub writer : note.writer.0 ≡ by
+  pub starts : note.start.0 ≡ start
+  pub ends : note.end.0 ≡ end
+  pub tables_are : note.tables ≡ tables
+  pub of : (sizes : Sizes) (line : ℕ) (m : Mutation) → IsPrepared sizes line m prepared
+      → IsNoteOf line m note
+
+module _ {K : Type 0} where
+  -- It is the same write of the same seat, whose list is as it was.
+  pub record IsSameWrite (id : TableId) (size : PathSize) (s s' : Deposited K) : Type 0 where
+    pub member : Stays id size s.member s'.member
+    pub writing : s'.writing ≡ s.writing
+    pub start : s'.start ≡ s.start
+    pub end : s'.end ≡ s.end
+    pub tables : s'.tables ≡ s.tables
+    pub list : writes_of s'.member.seat.me.0.trail ≡ writes_of s.member.seat.me.0.trail
+
+  -- The write has its place at each of its tables below a number.
+  abbrev pub IsPlacedBelow : ℕ → Deposited K → Type 0
+  IsPlacedBelow k s = (t : ℕ) → t < k → IsTrue (touches s.tables t)
+      → (m : ℕ) × ((seat_table (part_of s.member) t).place ≡ Some m)
+
+  -- The write is closed with one place for each of its tables, and the seat's list is as it was.
+  pub record EndsWrite (s : Deposited K) (after : Member K) : Type 0 where
+    -- what the seat knew before its last step
+    pub before : View
+    pub tables : before.part.note ≡ Some s.tables
+    pub claim : before.part.claim ≡ Some (record { start = s.start.0; end = s.end.0 })
+    pub places : List (Table × ℕ)
+    pub are : IsItsPlaces before.part places
+    pub found : ℕ
+    pub did : Did before s.member.number (Close s.member.number Write s.writing (Applied places))
+        found after.seat.me.0
+    pub list : writes_of after.seat.me.0.trail ≡ writes_of s.member.seat.me.0.trail
+
+  -- It is the same seat, and its list is as it was.
+  abbrev pub StaysListed : TableId → PathSize → Member K → Member K → Type 0
+  StaysListed id size m m' = Stays id size m m'
+      × (writes_of m'.seat.me.0.trail ≡ writes_of m.seat.me.0.trail)

@@ -1,0 +1,138 @@
+//! A write that has deposited its entry is applied and ends, by single tries that are never
+//! refused. At each of its tables it tries the oldest live memtable, which accepts it; then it
+//! leaves the write order, and its seat is idle again.
+ghost use Rattle.std.specs.Prelude.{◌≡◌, ◌≢◌, ℕ, suc, ◌<◌, IsTrue, Some};
+ghost use Rattle.op_core.specs.declared.count.Order.TheVariants.{Write};
+ghost use Rattle.path_core.specs.declared.event.Carried.TheVariants.{Applied};
+ghost use Rattle.path_core.specs.declared.event.Cursor.TheVariants.{OldestLive};
+ghost use Rattle.path_core.specs.declared.event.Event.TheVariants.{Look, Close};
+ghost use Rattle.path_core.specs.declared.event.Place.TheVariants.{Bound, CursorWord};
+ghost use Rattle.path_core.specs.Allowed.{IsItsPlaces};
+ghost use Rattle.path_core.specs.Parts.{seat_table, touches};
+ghost use Rattle.path_rule.specs.Accepted.{places_of};
+ghost use Rattle.path_rule.specs.Members.{view_of, part_of, IsOf, Stepped};
+ghost use Rattle.write_path.specs.Ends.{writes_of, EndsWrite, IsPlacedBelow, IsSameWrite};
+ghost use Rattle.write_path.specs.Tries.{Stays};
+
+use crate::deposited::Deposited;
+use crate::seats::WritePath;
+use clog_base::Table;
+use path_core::Keeper;
+use path_rule::PathSeat;
+use std::alloc::Allocator;
+
+/// What a memtable answers to a write.
+#[derive(Clone, Copy, Drop)]
+pub enum Accept {
+    /// It takes the write.
+    Yes,
+}
+
+// Whether a set of tables holds a table.
+fn touches(tables: u16, table: u8) -> bool
+    requires { table < 16 }
+    ensures { result ≡ touches tables table }
+{
+    tables >> table & 1 == 1
+}
+
+impl<K: Keeper, A: Allocator> WritePath<K, A> {
+    /// The number of the oldest live memtable of a table, which a write of the table tries first.
+    /// No memtable is switched yet, so it is 0.
+    pub fn oldest(&self, seat: &mut Deposited<K>, table: Table) -> u64
+        requires table { IsOf self.now.table.table.shared.table_id self.now.table.size
+            seat.old.member }
+        requires there { table.0 < self.now.table.size.tables }
+        ensures same { IsSameWrite self.now.table.table.shared.table_id self.now.table.size
+            seat.old seat.new }
+        ensures step { Stepped seat.old.member
+            (Look seat.old.member.number (CursorWord (OldestLive table))) result seat.new.member }
+        ensures first { result ≡ 0 }
+        ensures tries { IsTrue (touches seat.old.tables table.0)
+            → (seat_table (part_of seat.new.member) table.0).trying ≡ Some result }
+        ensures others { (t : ℕ) → t ≢ table.0 → seat_table (part_of seat.new.member) t
+            ≡ seat_table (part_of seat.old.member) t }
+    {
+        self.table.look_oldest_live(&mut seat.member, table)
+    }
+
+    /// Asks a memtable to take the write, which tries it: by its bound, which is live, it does. The
+    /// memtable is the one that `oldest` told.
+    pub fn accept(&self, seat: &mut Deposited<K>, table: Table, memtable: u64) -> Accept
+        requires table { IsOf self.now.table.table.shared.table_id self.now.table.size
+            seat.old.member }
+        requires there { table.0 < self.now.table.size.tables }
+        requires tried { ((seat_table (part_of seat.old.member) table.0).trying ≡ Some memtable)
+            × (memtable ≡ 0) }
+        ensures same { IsSameWrite self.now.table.table.shared.table_id self.now.table.size
+            seat.old seat.new }
+        ensures step { Stepped seat.old.member
+            (Look seat.old.member.number (Bound table memtable)) 0 seat.new.member }
+        ensures place { (seat_table (part_of seat.new.member) table.0).place ≡ Some memtable }
+        ensures others { (t : ℕ) → t ≢ table.0 → seat_table (part_of seat.new.member) t
+            ≡ seat_table (part_of seat.old.member) t }
+    {
+        let _ = memtable;
+        let _bound = self.table.look_first_bound(&mut seat.member, table);
+        Accept::Yes
+    }
+
+    /// Leaves the write order with the write's places, one for each of its tables. The seat is idle
+    /// again.
+    pub fn finish(&self, seat: Deposited<K>) -> PathSeat<K>
+        requires table { IsOf self.now.table.table.shared.table_id self.now.table.size seat.member }
+        requires group { seat.writing < 65536 }
+        requires placed { IsPlacedBelow self.now.table.size.tables seat }
+        ensures same { Stays self.now.table.table.shared.table_id self.now.table.size seat.member
+            result.member }
+        ensures step { (n : ℕ) × Stepped seat.member (Close seat.member.number Write seat.writing
+            (Applied (places_of (part_of seat.member)))) n result.member }
+        ensures places { IsItsPlaces (part_of seat.member) (places_of (part_of seat.member)) }
+        ensures list { writes_of (view_of result.member).trail
+            ≡ writes_of (view_of seat.member).trail }
+    {
+        let Deposited {
+            mut member,
+            writing,
+            start: _,
+            end: _,
+            tables: _,
+        } = seat;
+        let _found = self.table.leave_placed(&mut member, writing);
+        PathSeat { member }
+    }
+
+    // At one table: a write of the table is accepted by the oldest live memtable.
+    fn place_at(&self, seat: Deposited<K>, table: u8) -> Deposited<K>
+        requires table { IsOf self.now.table.table.shared.table_id self.now.table.size seat.member }
+        requires there { table < self.now.table.size.tables }
+        ensures same { IsSameWrite self.now.table.table.shared.table_id self.now.table.size
+            seat result }
+        ensures placed { IsPlacedBelow table seat → IsPlacedBelow (suc table) result }
+    {
+        if !touches(seat.tables, table) {
+            return seat;
+        }
+        let mut seat = seat;
+        let first = self.oldest(&mut seat, Table(table));
+        match self.accept(&mut seat, Table(table), first) {
+            Accept::Yes => seat,
+        }
+    }
+
+    /// Applies a write at each of its tables in ascending order, and ends it: the seat is idle
+    /// again, and its list has the write.
+    pub fn end_write(&self, seat: Deposited<K>) -> PathSeat<K>
+        requires table { IsOf self.now.table.table.shared.table_id self.now.table.size seat.member }
+        requires group { seat.writing < 65536 }
+        ensures same { Stays self.now.table.table.shared.table_id self.now.table.size seat.member
+            result.member }
+        ensures ends { EndsWrite seat result.member }
+    {
+        let mut seat = seat;
+        for table in 0..self.table.size().tables as u8 {
+            seat = self.place_at(seat, table);
+        }
+        self.finish(seat)
+    }
+}
