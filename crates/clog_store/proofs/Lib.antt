@@ -1,6 +1,7 @@
 mod AllGo
 mod Beside
 mod Changed
+mod Due
 mod Ended
 mod FilePut
 mod Ends
@@ -14,8 +15,11 @@ mod LivedCalls
 mod LivedRolls
 mod Looking
 mod Noted
+mod OnDisk
 mod OpenedWhole
 mod Outcomes
+mod Picking
 mod Ready
 mod Recovered
 mod Recovery
+mod TableLogs

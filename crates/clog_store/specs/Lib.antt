@@ -1,10 +1,12 @@
 pub mod Coming
 pub mod Discards
+pub mod Dropping
 pub mod Filing
 pub mod Life
 pub mod Live
 pub mod Named
 pub mod Notes
+pub mod OnDisk
 pub mod Opened
 pub mod Publishes
 pub mod Resting

@@ -5,6 +5,7 @@
 
 mod changing;
 mod discarding;
+mod droppable;
 mod lasting;
 mod log_cells;
 mod naming;
@@ -17,17 +18,19 @@ mod recovery_files;
 mod sections;
 mod segments;
 mod store;
+mod table_log;
 #[cfg(test)]
 mod tests;
 mod written;
 
 pub use changing::{put_table, take_away};
 pub use discarding::{Halt, drop_segments};
+pub use droppable::{due_segments, due_segments_are_covered};
 pub use lasting::what_lasts_stays;
 pub use next::write_section;
 pub use noting::{a_note_tells_its_place, four_notes_are_three_sections, notes_are_runs};
 pub use opening::recover;
-pub use publishing::{Published, publish_file};
+pub use publishing::{Published, publish_file, what_may_be_published_is_true};
 pub use recovering::{put_recovered, take_all_recovered, take_recovered};
 pub use sections::{keep_sections, put_sections, settle_sections};
 pub use segments::{Part, put_all, put_segments};
