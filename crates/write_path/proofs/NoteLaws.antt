@@ -74,6 +74,7 @@ unfolding entry_of
 is_whole line m n limits note claimed = record {
   mutation = m;
   limits = limits;
+  stored = note.stored;
   bytes = note.bytes;
   long = omega (
     arith,

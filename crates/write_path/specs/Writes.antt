@@ -27,6 +27,7 @@ use Rattle.clog_mutation.specs.declared.mutation.Mutation.{Mutation}
 use Rattle.clog_mutation.specs.declared.mutation.Update.{Update}
 use Rattle.clog_mutation.specs.Limits.{IsWithinLimits}
 use Rattle.clog_mutation.specs.Payload.{payload_of}
+use Rattle.clog_mutation.specs.Stored.{IsStored}
 use Rattle.clog_spec.specs.Segment.{entry_bytes}
 use Rattle.clog_spec.specs.Sizes.{frame_size}
 use Rattle.path_core.specs.declared.note.EntryNote.{EntryNote}
@@ -71,11 +72,13 @@ with_tables tables (u ∷ us) = with_tables (with_table tables u.table.0) us
 
 -- ---- the note
 
--- The note says what a mutation of a line deposits, wherever it is claimed.
+-- The note says what a mutation of a line deposits, wherever it is claimed; its payload can be read
+-- back.
 pub record IsNoteOf (line : ℕ) (m : Mutation) (n : EntryNote) : Type 0 where
   pub bytes : n.bytes ≡ entry_of m
   pub tables : HoldsTables m n.tables
   pub told : n.line ≡ line
+  pub stored : IsStored m
 
 -- All of the memory of a write is taken, for a path of these sizes: it holds the mutation, and the
 -- node of its one note.

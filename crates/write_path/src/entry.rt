@@ -3,6 +3,7 @@ ghost use Rattle.std.specs.Prelude.{◌≡◌, ◌≤◌, ◌^◌, ◌+◌, IfOk
 ghost use Rattle.std.specs.List.{AllByRecursion};
 ghost use Rattle.clog_base.specs.Sizes.{IsWithinLimits as AreSizes};
 ghost use Rattle.clog_mutation.specs.Limits.{IsWithinLimits, UpdateIsWithinLimits};
+ghost use Rattle.clog_mutation.specs.Stored.{IsStored};
 ghost use Rattle.write_path.specs.Writes.{
   entry_of,
   entry_size,
@@ -40,7 +41,9 @@ pub(crate) fn entry_size(mutation: &Mutation, capacity: u32) -> Result<u32, Prep
 fn entry_bytes(alloc: Global, mutation: &Mutation, size: u32) -> Result<Vec<u8>, OutOfMemory>
     requires within { IsWithinLimits mutation.now }
     requires size { (size ≡ entry_size mutation.now) × (size ≤ 2 ^ 30) }
-    ensures { IfOk result (λ v. v.items ≡ entry_of mutation.now) }
+    ensures bytes { IfOk result (λ v. v.items ≡ entry_of mutation.now) }
+    // Its payload can be read back.
+    ensures stored { IfOk result (λ v. IsStored mutation.now) }
 {
     let mut out = Vec::with_capacity(alloc, size as usize)?;
     begin_entry(&mut out, size - FRAME_SIZE as u32)?;

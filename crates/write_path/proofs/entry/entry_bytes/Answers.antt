@@ -4,9 +4,9 @@ use Rattle.clog_mutation.specs.Payload.{payload_of}
 use Rattle.write_path.specs.Writes.{entry_of}
 use Rattle.write_path.proofs.entry.entry_bytes.Goals as goal
 
-pub returns : goal.returns
+pub returns-clause-bytes : goal.returns-clause-bytes
 unfolding entry_of
-returns c =
+returns-clause-bytes c =
     let payload = payload_of c.args.mutation.now in
     let sized : c.args.size - 12 ≡ length payload = omega (arith, c.requires.size.0) in
     c.in_ok-end_entry.ensures.ok [] payload refl

@@ -33,6 +33,7 @@ returns-in-Some c = λ sizes line m p.
           bytes = ap (λ (n : EntryNote). n.bytes) same ∙ p.of.bytes;
           tables = subst (λ (n : EntryNote). HoldsTables m n.tables) (sym same) p.of.tables;
           told = ap (λ (n : EntryNote). n.line) same ∙ p.of.told;
+          stored = p.of.stored;
         };
         mutation = p.mutation;
         size = p.size;
