@@ -32,7 +32,6 @@ use Rattle.path_core.specs.declared.event.Event.TheVariants.{
 }
 use Rattle.path_core.specs.declared.seat.SeatTable.{SeatTable}
 use Rattle.path_core.specs.declared.state.PathState.{PathState}
-use Rattle.path_core.specs.declared.state.TableState.{TableState}
 use Rattle.path_core.specs.Keeper.{HasRisen}
 use Rattle.path_core.specs.Next.{next_of, barred, barred_tables}
 use Rattle.path_core.specs.Parts.{seat_of, fresh_table}
