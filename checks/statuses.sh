@@ -4,8 +4,18 @@
 fresh
 apply_line expect 'apply' 0 'applied 1' '' "$pinsilver" apply
 that 'its segment has 60 bytes' test "$(segment_size)" -eq 60
-apply_line expect 'a second apply' 12 'error 12: not built directory' '' "$pinsilver" apply
-that 'it leaves the segment' test "$(segment_size)" -eq 60
+first=$(ls commitlog)
+apply_line expect 'a second apply' 0 'applied 1' '' "$pinsilver" apply
+that 'it has a segment of its own' test "$(segment_size)" -eq 60
+that 'the first one is gone' test ! -e "commitlog/$first"
+that 'a table file stands for it' test "$(wc -c <commitlog/Table-0-1.tbl)" -eq 58
+: >commitlog/CommitLog-6-9000000000000000000.log
+second=$(ls commitlog | sed -n 's/^\(CommitLog-6-1.*\)/\1/p')
+head -c 59 "commitlog/$second" >cut
+cp cut "commitlog/$second"
+apply_line expect 'a damaged segment' 7 "error 7: $second at 20: MarkerTarget 60" '' \
+    "$pinsilver" apply
+that 'it is left alone' cmp -s cut "commitlog/$second"
 
 fresh
 expect 'an empty file' 0 'applied 0' '' "$pinsilver" apply --dump </dev/null

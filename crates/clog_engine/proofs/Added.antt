@@ -31,7 +31,6 @@ use Rattle.std.proofs.Common.{
 }
 use Rattle.std.specs.Prelude.{String, IfSome}
 use Rattle.std.specs.List.{flat_map, AllByRecursion}
-use Rattle.clog_spec.specs.Names.{segment_name_of}
 use Rattle.clog_spec.specs.Sizes.{front_size, greatest_capacity}
 use Rattle.clog_disk.specs.Files.{Files, Told}
 use Rattle.clog_base.specs.declared.cell.Cell.{Cell}
@@ -45,25 +44,16 @@ use Rattle.clog_engine.specs.declared.words.ApplyOptions.{ApplyOptions}
 use Rattle.clog_words.specs.declared.built.Built.{Built}
 use Rattle.clog_words.specs.declared.built.Built.TheVariants.{Apply}
 use Rattle.clog_words.specs.Given.{texts}
-use Rattle.clog_engine.specs.Apply.{
-  segment_of,
-  Gains,
-  Lands,
-  ReadsToEnd,
-  IsBegun,
-  IsApplied,
-  ApplyRefuses,
-}
+use Rattle.clog_engine.specs.Apply.{Lands, ReadsToEnd, IsApplied, ApplyRefuses}
 use Rattle.clog_engine.specs.Adds.{IsAddedAndTold, AddsFile, IsReported, Adds}
 use Rattle.clog_engine.specs.Answering.{Answers, Does, DoesAsked, Prints, Reports}
 use Rattle.clog_engine.specs.Report.{report_of}
-use Rattle.clog_crash.specs.Folder.{TableRead, NamesId, IsBase, cells_of_tables}
-use Rattle.clog_engine.specs.Directory.{IsPlainDirectory}
+use Rattle.clog_engine.specs.Ready.{IsMadeReady, MakesReady}
 use Rattle.clog_engine.specs.Input.{entries_of}
 use Rattle.clog_engine.specs.Outside.{Outside, Sinks}
 use Rattle.clog_engine.specs.Report.{applied_line, IsReport}
 use Rattle.clog_engine.specs.Request.{Asks, options_of}
-use Rattle.clog_crash.specs.Restore.{IsAdded}
+use Rattle.clog_crash.specs.Restore.{IsAdded, IsRestored}
 use Rattle.clog_engine.proofs.Restored.{with_segment, added_none, added_some, told_rows}
 use Rattle.clog_engine.proofs.WordsAsked.{one_asked}
 
@@ -72,67 +62,64 @@ abbrev AddsTo : Bool → Option Files → Option Files → List Mutation → Lis
 AddsTo dump files now ms report =
     IfSome files (λ before. Told now (λ after. IsAddedAndTold dump before after ms report))
 
-is_told : (dump : Bool) (before after : Files) (reads : List TableRead) (ms : List Mutation)
-    (report : List ℕ) → IsPlainDirectory before reads
-    → IsReport dump (cells_of_tables reads) ms report → (added : IsAdded before after ms)
+is_told : (dump : Bool) (first after : Files) (before : List (CellKey × Cell))
+    (ms : List Mutation) (report : List ℕ) → IsRestored first before
+    → IsReport dump before ms report → (added : IsAdded first after ms)
     → report ≡ report_of dump ms added.rows_now
-is_told false before after reads ms report plain is added = is
-is_told true before after reads ms report plain is added =
+is_told false first after before ms report restored is added = is
+is_told true first after before ms report restored is added =
     is.text
     ∙ ap (λ (l : List (CellKey × Cell)). applied_line (length ms) ++ flat_map row_line l)
-    (told_rows before after reads ms is.rows plain.few.readable.no_segment
-    plain.few.readable.tables is.merge added)
+    (told_rows first after ms before is.rows restored is.merge added)
 
-and_told : (dump : Bool) (before after : Files) (reads : List TableRead) (ms : List Mutation)
-    (report : List ℕ) → IsPlainDirectory before reads
-    → IsReport dump (cells_of_tables reads) ms report → IsAdded before after ms
-    → IsAddedAndTold dump before after ms report
-and_told dump before after reads ms report plain is added = record {
+and_told : (dump : Bool) (first after : Files) (before : List (CellKey × Cell))
+    (ms : List Mutation) (report : List ℕ) → IsRestored first before
+    → IsReport dump before ms report → IsAdded first after ms
+    → IsAddedAndTold dump first after ms report
+and_told dump first after before ms report restored is added = record {
   added = added;
-  told = is_told dump before after reads ms report plain is added;
+  told = is_told dump first after before ms report restored is added;
 }
 
-adds_none : (dump : Bool) (files now : Option Files) (reads : List TableRead) (report : List ℕ)
-    → now ≡ files → IfSome files (λ held. IsPlainDirectory held reads)
-    → IsReport dump (cells_of_tables reads) [] report → AddsTo dump files now [] report
-adds_none dump None now reads report same plain is = tt
-adds_none dump (Some before) now reads report same plain is =
-    subst (λ (n : Option Files). Told n (λ after. IsAddedAndTold dump before after [] report))
-    (sym same)
-    (and_told dump before before reads [] report plain is
-    (added_none before reads plain.few.readable.no_segment plain.few.readable.tables))
-
-adds_some : (dump : Bool) (files now : Option Files) (reads : List TableRead) (moment id : ℕ)
-    (ms : List Mutation) (report : List ℕ)
-    → Gains files now (segment_name_of 6 id) (segment_of id ms)
-    → IfSome files (λ held. IsPlainDirectory held reads)
-    → IfSome files (λ held. IsBase (NamesId held reads) moment id) → id < 2 ^ 63
-    → AllByRecursion IsStored ms → front_size + length (entries_of ms) < greatest_capacity
-    → IsReport dump (cells_of_tables reads) ms report → AddsTo dump files now ms report
-adds_some dump None now reads moment id ms report gains plain base fits stored room is = tt
-adds_some dump (Some before) now reads moment id ms report gains plain base fits stored room is =
-    subst (λ (n : Option Files). Told n (λ after. IsAddedAndTold dump before after ms report))
-    (sym gains)
-    (and_told dump before (with_segment before id ms) reads ms report plain is
-    (added_some before reads id ms (record {
-      no_segment = plain.few.readable.no_segment;
-      tables = plain.few.readable.tables;
-      above = base.above;
+-- what has landed in a folder that was made ready
+added_by : (first ready : Files) (moment id : ℕ) (before : List (CellKey × Cell))
+    (ms : List Mutation) → IsMadeReady first moment id ready → IsRestored first before
+    → id < 2 ^ 63 → AllByRecursion IsStored ms
+    → front_size + length (entries_of ms) < greatest_capacity
+    → IsAdded first (with_segment ready id ms) ms
+added_by first ready moment id before ms made restored fits stored room =
+    let recovered = made.opened.recovered in
+    added_some first ready id ms before recovered.same restored (record {
+      no_segment = recovered.no_segment;
+      tables = recovered.same.undamaged.tables;
+      below = recovered.below;
       fits = fits;
       stored = stored;
       room = room;
-    })))
+    })
 
-adds_landed : (dump : Bool) (o : Outside) (reads : List TableRead) (id : ℕ) (ms : List Mutation)
-    (report : List ℕ) → IsBegun o reads id → id < 2 ^ 63 → AllByRecursion IsStored ms
-    → front_size + length (entries_of ms) < greatest_capacity
-    → IsReport dump (cells_of_tables reads) ms report
-    → Lands o id ms → AddsTo dump o.files o.files_now ms report
-adds_landed dump o reads id [] report begun fits stored room is landed =
-    adds_none dump o.files o.files_now reads report landed.files begun.plain is
-adds_landed dump o reads id (m ∷ ms) report begun fits stored room is landed =
-    adds_some dump o.files o.files_now reads begun.now id (m ∷ ms) report landed.gained begun.plain
-    begun.base fits stored room is
+module _ (dump : Bool) (o : Outside) (report : List ℕ) where
+  adds_landed : (files ready : Option Files) (moment id : ℕ) (ms : List Mutation)
+      (before : List (CellKey × Cell)) → MakesReady files ready moment id → id < 2 ^ 63
+      → AllByRecursion IsStored ms → front_size + length (entries_of ms) < greatest_capacity
+      → IfSome files (λ held. IsRestored held before) → IsReport dump before ms report
+      → Lands o ready id ms → AddsTo dump files o.files_now ms report
+  adds_landed None ready moment id ms before made fits stored room restored is landed = tt
+  adds_landed (Some first) None moment id ms before made fits stored room restored is landed =
+      absurd made
+  adds_landed (Some first) (Some ready) moment id [] before made fits stored room restored is
+      landed =
+      subst (λ (n : Option Files). Told n (λ after. IsAddedAndTold dump first after [] report))
+      (sym landed.files)
+      (and_told dump first ready before [] report restored is
+      (added_none first ready before made.opened.recovered.same restored))
+  adds_landed (Some first) (Some ready) moment id (m ∷ ms) before made fits stored room restored is
+      landed =
+      subst (λ (n : Option Files).
+      Told n (λ after. IsAddedAndTold dump first after (m ∷ ms) report))
+      (sym landed.gained)
+      (and_told dump first (with_segment ready id (m ∷ ms)) before (m ∷ ms) report restored is
+      (added_by first ready moment id before (m ∷ ms) made restored fits stored room))
 
 applied_adds : (o : Outside) (options : ApplyOptions) (report bytes : List ℕ)
     → options.capacity ≡ greatest_capacity → IsApplied o options report bytes
@@ -140,8 +127,9 @@ applied_adds : (o : Outside) (options : ApplyOptions) (report bytes : List ℕ)
 applied_adds o options report bytes greatest a = record {
   mutations = a.mutations;
   said = a.accepted.sized.read.read;
-  added = adds_landed options.dump o a.reads a.id a.mutations report a.begun a.fits a.stored
-      (omega (arith, greatest, a.accepted.room)) a.reported a.landed;
+  added = adds_landed options.dump o report o.files a.ready a.begun.now a.id a.mutations a.before
+      a.begun.made a.fits a.stored (omega (arith, greatest, a.accepted.room)) a.restored
+      a.reported a.landed;
 }
 
 no_such_refusal : (capacity : ℕ) (status refusal : Status) (o : Outside) → status ≡ refusal

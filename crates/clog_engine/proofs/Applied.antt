@@ -29,7 +29,30 @@ use Rattle.clog_disk.specs.declared.disk.DiskFault.TheVariants.{
   NoSuchFile,
   OutOfMemory as NoMemory,
 }
+use Rattle.clog_base.specs.declared.fault.Quantity.TheVariants.{
+  FileBytes,
+  Lines,
+  SegmentBytes,
+  Ids,
+  TableFiles,
+}
+use Rattle.clog_engine.specs.declared.status.Unbuilt.TheVariants.{Segment}
 use Rattle.clog_engine.specs.declared.status.Status.{Status}
+use Rattle.clog_engine.specs.declared.status.Status.TheVariants.{
+  Ok,
+  Usage,
+  BadLine,
+  TooLarge,
+  ReadFault,
+  WriteFault,
+  DiskFault,
+  Damaged,
+  BadTable,
+  OutOfMemory,
+  Limit,
+  Absent,
+  NotBuilt,
+}
 use Rattle.clog_engine.specs.Input.{HasFittingEntry, IsAccepted, IsGood}
 use Rattle.clog_engine.specs.Limits.{entry_limit}
 use Rattle.clog_engine.specs.Reading.{
@@ -49,11 +72,14 @@ use Rattle.clog_engine.specs.Landing.{LeftBehind}
 use Rattle.clog_engine.proofs.Landed.{gained}
 use Rattle.clog_engine.specs.Landing.{LandingRefused}
 use Rattle.clog_engine.specs.Refusal.{status_of}
-use Rattle.clog_engine.specs.Outside.{Outside, IsUntouched}
+use Rattle.clog_engine.specs.Looking.{LookRefused}
+use Rattle.clog_engine.specs.Readying.{LeftBy}
+use Rattle.clog_engine.specs.Outside.{Outside}
 use Rattle.clog_engine.specs.Apply.{
   segment_of,
   HasLanded,
   IsPartly,
+  IsReady,
   Lands,
   ReadsToEnd,
   ApplyRefuses,
@@ -102,17 +128,18 @@ short_size capacity ms size few sized = record {
   room = omega (arith, few, sized.room);
 }
 
--- for no mutation nothing changes
-pub lands_none : (o : Outside) (id : ℕ) (mutations : List Mutation) → length mutations ≡ 0
-    → IsUntouched o → Lands o id mutations
-lands_none o id [] none untouched = untouched
-lands_none o id (first ∷ more) none untouched = absurd (omega arith)
+-- for no mutation nothing comes
+pub lands_none : (o : Outside) (ready : Option Files) (id : ℕ) (mutations : List Mutation)
+    → length mutations ≡ 0 → IsReady o ready → Lands o ready id mutations
+lands_none o ready id [] none is = is
+lands_none o ready id (first ∷ more) none is = absurd (omega arith)
 
 -- some mutations are in a segment
-pub lands_some : (o : Outside) (id : ℕ) (mutations : List Mutation) → 0 < length mutations
-    → HasLanded o id (segment_of id mutations) → Lands o id mutations
-lands_some o id [] some landed = absurd (omega arith)
-lands_some o id (first ∷ more) some landed = landed
+pub lands_some : (o : Outside) (ready : Option Files) (id : ℕ) (mutations : List Mutation)
+    → 0 < length mutations → HasLanded o ready id (segment_of id mutations)
+    → Lands o ready id mutations
+lands_some o ready id [] some landed = absurd (omega arith)
+lands_some o ready id (first ∷ more) some landed = landed
 
 pub length-front_of : (id end : ℕ) → length (front_of id end) ≡ front_size
 unfolding front_of
@@ -139,9 +166,32 @@ left_part NoMemory files files_now name bytes free (inr all) =
 pub landing_refuses : (capacity : ℕ) (fault : Fault) (status : Status) (o : Outside)
     → status ≡ status_of fault → ReadsToEnd o (IsGood capacity)
     → LandingRefused o.disk_faults o.disk_faults_now fault
-    → IsPartly capacity o (PartBy fault o.files o.files_now) → ApplyRefuses capacity status o
+    → IsPartly capacity o (λ ready. PartBy fault ready o.files_now) → ApplyRefuses capacity status o
 landing_refuses n Failed status o is good refused part =
-    subst (λ s. ApplyRefuses n s o) (sym is) (good, refused, inr part)
+    subst (λ s. ApplyRefuses n s o) (sym is) (good, refused, inr (inr part))
 landing_refuses n NoSuchFile status o is good refused part = absurd refused
 landing_refuses n NoMemory status o is good refused part =
-    subst (λ s. ApplyRefuses n s o) (sym is) (inr part)
+    subst (λ s. ApplyRefuses n s o) (sym is) (inr (inr part))
+
+-- why the folder was not made ready
+pub ready_refuses : (capacity : ℕ) (status : Status) (o : Outside)
+    → ReadsToEnd o (IsGood capacity) → LookRefused o.files o.disk_faults o.disk_faults_now status
+    → LeftBy status o.files o.files_now o.leaves o.leaves_now → ApplyRefuses capacity status o
+ready_refuses n Ok o good refused left = absurd refused
+ready_refuses n Usage o good refused left = absurd refused
+ready_refuses n (BadLine number cause) o good refused left = absurd refused
+ready_refuses n (TooLarge number size most) o good refused left = absurd refused
+ready_refuses n ReadFault o good refused left = absurd refused
+ready_refuses n WriteFault o good refused left = absurd refused
+ready_refuses n DiskFault o good refused left = (good, refused, inr (inl left))
+ready_refuses n (Damaged name at cause) o good refused left = (good, refused, left)
+ready_refuses n (BadTable name fault) o good refused left = (good, refused, left)
+ready_refuses n OutOfMemory o good refused left = inr (inl left)
+ready_refuses n (Limit FileBytes most) o good refused left = absurd refused
+ready_refuses n (Limit Lines most) o good refused left = absurd refused
+ready_refuses n (Limit SegmentBytes most) o good refused left =
+    (refused.0, good, refused.1, left)
+ready_refuses n (Limit Ids most) o good refused left = (refused.0, good, refused.1, left)
+ready_refuses n (Limit TableFiles most) o good refused left = (refused.0, good, refused.1, left)
+ready_refuses n (Absent name) o good refused left = absurd refused
+ready_refuses n (NotBuilt Segment) o good refused left = absurd refused

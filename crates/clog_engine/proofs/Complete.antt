@@ -32,7 +32,7 @@ use Rattle.clog_base.specs.declared.fault.Quantity.TheVariants.{
   TableFiles,
 }
 use Rattle.clog_disk.specs.Files.{Files, Told}
-use Rattle.clog_engine.specs.declared.status.Unbuilt.TheVariants.{Segment, Directory}
+use Rattle.clog_engine.specs.declared.status.Unbuilt.TheVariants.{Segment}
 use Rattle.clog_engine.specs.declared.status.Status.{Status}
 use Rattle.clog_engine.specs.declared.status.Status.TheVariants.{
   Ok,
@@ -56,7 +56,7 @@ use Rattle.clog_engine.specs.Apply.{ApplyRefuses}
 use Rattle.clog_engine.specs.Answering.{Answers, Does, DoesAsked, Prints, Reports}
 use Rattle.clog_engine.specs.Completes.{
   Tells,
-  IsPlain,
+  IsOpenable,
   IsScannable,
   IsReplayable,
   IsFit,
@@ -85,45 +85,52 @@ use Rattle.clog_engine.proofs.GoodInput.{
   good_has_room,
   good_is_short,
 }
-use Rattle.clog_engine.proofs.PlainFolder.{
-  told_plain,
-  plain_has_no_segment,
-  plain_has_few_tables,
-  plain_has_no_bad_table,
-  plain_has_low_ids,
-}
 
--- a good mutation file and a plain directory are not refused
+-- ---- a folder that can be opened is not refused
+
+-- what is told of a folder contradicts that it can be opened
+told_openable : (files : Option Files) (P : Files → Type 0) → Told files IsOpenable
+    → IfSome files P → ((held : Files) → IsOpenable held → P held → ⊥) → ⊥
+told_openable None P fit other clash = fit
+told_openable (Some files) P fit other clash = clash files fit other
+
+-- a good mutation file and a folder that can be opened are not refused
 apply_completes : (capacity : ℕ) (status : Status) (o : Outside) (s : Sinks)
-    → Tells o.left (IsGood capacity) → Told o.files IsPlain → IsQuiet o s
+    → Tells o.left (IsGood capacity) → Told o.files IsOpenable → IsQuiet o s
     → ApplyRefuses capacity status o → EndsWell status
-apply_completes n Ok o s good plain quiet refused = absurd refused
-apply_completes n Usage o s good plain quiet refused = absurd refused
-apply_completes n (BadLine number cause) o s good plain quiet refused =
+apply_completes n Ok o s good fit quiet refused = absurd refused
+apply_completes n Usage o s good fit quiet refused = absurd refused
+apply_completes n (BadLine number cause) o s good fit quiet refused =
     absurd (taken_good n o _ good refused.0 (good_is_no_bad_line n number cause))
-apply_completes n (TooLarge number size most) o s good plain quiet refused =
+apply_completes n (TooLarge number size most) o s good fit quiet refused =
     absurd (taken_good n o _ good refused.0 (good_is_not_large n number size most))
-apply_completes n ReadFault o s good plain quiet refused = absurd (quiet.source refused.0)
-apply_completes n WriteFault o s good plain quiet refused = absurd refused
-apply_completes n DiskFault o s good plain quiet refused = absurd (quiet.disk refused.1)
-apply_completes n (Damaged name at cause) o s good plain quiet refused = absurd refused
-apply_completes n (BadTable name fault) o s good plain quiet refused =
-    absurd (told_plain o.files _ plain refused.1 (plain_has_no_bad_table name fault))
-apply_completes n OutOfMemory o s good plain quiet refused = inr refl
-apply_completes n (Limit FileBytes most) o s good plain quiet refused =
+apply_completes n ReadFault o s good fit quiet refused = absurd (quiet.source refused.0)
+apply_completes n WriteFault o s good fit quiet refused = absurd refused
+apply_completes n DiskFault o s good fit quiet refused = absurd (quiet.disk refused.1)
+apply_completes n (Damaged name at cause) o s good fit quiet refused =
+    absurd (told_openable o.files _ fit refused.1 (λ files can damage.
+    undamaged_has_none files name at cause can.segments (can.within.readable.undamaged refl)
+    damage.first.damage))
+apply_completes n (BadTable name fault) o s good fit quiet refused =
+    absurd (told_openable o.files _ fit refused.1 (λ files can bad.
+    good_has_none files name fault can.within.readable.tables bad))
+apply_completes n OutOfMemory o s good fit quiet refused = inr refl
+apply_completes n (Limit FileBytes most) o s good fit quiet refused =
     absurd (good_is_short n o.left good refused.1)
-apply_completes n (Limit Lines most) o s good plain quiet refused =
+apply_completes n (Limit Lines most) o s good fit quiet refused =
     absurd (taken_good n o _ good refused.1 (good_has_few_lines n))
-apply_completes n (Limit SegmentBytes most) o s good plain quiet refused = absurd refused
-apply_completes n (Limit Ids most) o s good plain quiet refused =
-    absurd (told_plain o.files _ plain refused.2 plain_has_low_ids)
-apply_completes n (Limit TableFiles most) o s good plain quiet refused =
-    absurd (told_plain o.files _ plain refused.2 plain_has_few_tables)
-apply_completes n (Absent name) o s good plain quiet refused = absurd refused
-apply_completes n (NotBuilt Segment) o s good plain quiet refused =
+apply_completes n (Limit SegmentBytes most) o s good fit quiet refused =
+    absurd (told_openable o.files _ fit refused.2 (λ files can long.
+    can.within.readable.short long.first.name long.first.id long.first.named long.first.long))
+apply_completes n (Limit Ids most) o s good fit quiet refused =
+    absurd (told_openable o.files _ fit refused.2 (λ files can great.
+    let low = can.within.low great.id great.named in omega (arith, low, great.great)))
+apply_completes n (Limit TableFiles most) o s good fit quiet refused =
+    absurd (told_openable o.files _ fit refused.2 (λ files can many.
+    can.within.few many.late))
+apply_completes n (Absent name) o s good fit quiet refused = absurd refused
+apply_completes n (NotBuilt Segment) o s good fit quiet refused =
     absurd (taken_good n o _ good refused.0 (good_has_room n))
-apply_completes n (NotBuilt Directory) o s good plain quiet refused =
-    absurd (told_plain o.files _ plain refused.1 plain_has_no_segment)
 
 -- ---- a file that is there is not refused
 

@@ -20,36 +20,50 @@ use Rattle.std.proofs.Common.{
 }
 use Rattle.std.specs.Prelude.{IfSome, IsSome, ◌^◌, ◌<◌}
 use Rattle.std.specs.FinMap as finmap
-use Rattle.clog_spec.specs.Names.{segment_name_of}
+use Rattle.clog_spec.specs.Names.{IsSegmentName, segment_name_of}
 use Rattle.std.specs.Prelude.{◌≢◌}
 use Rattle.clog_io.specs.Causes.{Rose}
 use Rattle.clog_disk.specs.Files.{Files, bytes_at, IsEnd, AppendsTo, MayAppend, IsAbsent}
-use Rattle.clog_disk.specs.Images.{Within, SameImages, Tears}
+use Rattle.clog_disk.specs.Images.{Within, Tears}
 use Rattle.clog_disk.proofs.Named.{put_here}
 use Rattle.clog_crash.proofs.changes.Names.{is_named}
 use Rattle.clog_crash.proofs.rest.Tails.{empty_at}
 use Rattle.clog_disk.specs.declared.disk.DiskFault.{DiskFault as Fault}
 use Rattle.clog_disk.specs.declared.disk.DiskFault.TheVariants.{Failed, NoSuchFile, OutOfMemory}
 use Rattle.clog_engine.specs.Apply.{Gains}
-use Rattle.clog_crash.specs.Folder.{TableRead}
-use Rattle.clog_engine.specs.Directory.{IsPlainDirectory}
 use Rattle.clog_engine.specs.Landing.{LandingRefused, LeftBehind}
+use Rattle.clog_engine.specs.Ready.{
+  IsMadeReady,
+  LeavesAllReady,
+  LeavesOneTorn,
+  LeavesReady,
+  LeavesTorn,
+  MakesReady,
+  as_it_is,
+}
 
 absent : {A : Type 0} (o : Option A) → (IsSome o → ⊥) → o ≡ None
 absent None h = refl
 absent (Some x) h = absurd (h refl)
 
--- the name of a segment is free in a directory that has none
-pub is_free : (files : Option Files) (reads : List TableRead) (id : ℕ) → id < 2 ^ 63
-    → IfSome files (λ held. IsPlainDirectory held reads)
-    → IfSome files (λ held. finmap.get held (segment_name_of 6 id) ≡ None)
-is_free None reads id fits plain = tt
-is_free (Some held) reads id fits plain =
-    absent (finmap.get held (segment_name_of 6 id)) (λ there.
-    plain.few.readable.no_segment (
-      segment_name_of 6 id,
+-- the name of the new segment is free in a folder that is ready
+pub is_free : (files ready : Option Files) (moment base : ℕ) (name : List ℕ)
+    → MakesReady files ready moment base → base < 2 ^ 63 → name ≡ segment_name_of 6 base
+    → IfSome ready (λ held. finmap.get held name ≡ None)
+is_free files None moment base name made fits named = tt
+is_free None (Some ready) moment base name made fits named = cc
+is_free (Some first) (Some ready) moment base name made fits named =
+    absent (finmap.get ready name) (λ there.
+    made.opened.recovered.no_segment (
+      name,
       there,
-      (6, (id, is_named id fits)),
+      (
+        6,
+        (
+          base,
+          subst (λ (n : List ℕ). IsSegmentName n 6 base) (sym named) (is_named base fits),
+        ),
+      ),
     ))
 
 -- a file that is not there begins at 0
@@ -158,13 +172,29 @@ tears_on (Some f) before old new after name n most earlier few torn later =
 pub same_within : (leaves : List ℕ → Option (List ℕ) → Type 0) → Within leaves leaves
 same_within leaves name left has = has
 
--- The same by a state before the listing, and the name that is written.
-pub torn_from : (files listed_files : Option Files)
-    (before listed now : List ℕ → Option (List ℕ) → Type 0) (name written : List ℕ) (n most : ℕ)
-    → listed_files ≡ files → SameImages before listed → written ≡ name → n ≤ most
-    → Tears listed_files listed now written n → Tears files before now name most
-torn_from files told before listed now name written n most same_files same same_name few torn =
-    tears_on files before listed now now name n most same.fewer few
-    (subst (λ (f : Option Files). Tears f listed now name n) same_files
-    (subst (λ (m : List ℕ). Tears told listed now m n) same_name torn))
-    (same_within now)
+torn_of : (first ready : Files) (old leaves new : List ℕ → Option (List ℕ) → Type 0)
+    (moment base : ℕ) (name : List ℕ) (n most : ℕ) → IsMadeReady first moment base ready
+    → LeavesReady first ready old leaves → n ≤ most → Tears (Some ready) leaves new name n
+    → LeavesTorn first ready old new name most
+torn_of first ready old leaves new moment base name n most made left few torn = record {
+  plain = λ none.
+      tears_on (Some first) old leaves new new name n most (left.plain none).fewer few
+      (subst (λ (f : Files). Tears (Some f) leaves new name n) (made.plain none) torn)
+      (same_within new);
+  lasting = λ lasts.
+      tears_on (Some ready) (as_it_is ready) leaves new new name n most (left.lasting lasts) few
+      torn (same_within new);
+}
+
+-- The same by a folder that was made ready, and the name that is written.
+pub torn_from : (files ready : Option Files) (old leaves new : List ℕ → Option (List ℕ) → Type 0)
+    (moment base : ℕ) (name written : List ℕ) (n most : ℕ) → MakesReady files ready moment base
+    → LeavesAllReady files ready old leaves → written ≡ name → n ≤ most
+    → Tears ready leaves new written n → LeavesOneTorn files ready old new name most
+torn_from None ready old leaves new moment base name written n most made left same few torn = tt
+torn_from (Some first) None old leaves new moment base name written n most made left same few torn =
+    tt
+torn_from (Some first) (Some ready) old leaves new moment base name written n most made left same
+    few torn =
+    torn_of first ready old leaves new moment base name n most made left few
+    (subst (λ (m : List ℕ). Tears (Some ready) leaves new m n) same torn)

@@ -7,10 +7,12 @@ pub mod FewMutations
 pub mod GoodInput
 pub mod Landed
 pub mod Listed
+pub mod LogReady
 pub mod Looked
 pub mod Merged
-pub mod PlainFolder
+pub mod PlainReady
 pub mod Quiet
+pub mod Readied
 pub mod Replays
 pub mod Restored
 pub mod ScanReports

@@ -33,7 +33,6 @@ use Rattle.std.specs.List.{Any}
 use Rattle.std.proofs.lemmas.Bool.{leb-true, leb-false, true≢false}
 use Rattle.clog_base.proofs.Members.{first_or_further}
 use Rattle.clog_disk.specs.Files.{Files, Lists}
-use Rattle.clog_table.specs.declared.fault.TableFault.{TableFault}
 use Rattle.clog_crash.specs.Folder.{
   Place,
   place_cmp,
@@ -58,18 +57,17 @@ use Rattle.clog_folder.proofs.TablesRead.{are_tables}
 use Rattle.clog_engine.specs.declared.standing.Standing.{Standing}
 use Rattle.clog_engine.specs.declared.status.Status.{Status}
 use Rattle.clog_engine.specs.Limits.{id_limit}
+use Rattle.clog_store.specs.Opened.{HasGreatId, HasManyTables}
 use Rattle.clog_engine.specs.Directory.{
   IsLateTable,
   IsReadable,
   HasFewTables,
   IsPlainDirectory,
-  HasBadTable,
-  HasManyTables,
-  HasGreatId,
 }
 use Rattle.clog_engine.specs.Listing.{greater, is_last, ListsArchive, IsGreatestArchive}
 use Rattle.clog_engine.specs.Looking.{HasJoined, Stands, greatest_with, LookRefused}
 use Rattle.clog_engine.specs.Refusal.{folder_status}
+use Rattle.clog_engine.proofs.PlainReady.{great_id_in, many_tables_in}
 use Rattle.clog_engine.proofs.Listed.{later_greatest, same_greatest}
 
 -- ---- what is listed is there
@@ -204,44 +202,28 @@ names_ids held names rows archive reads g seen is =
 
 -- ---- the rows
 
-first_bad : (files : Option Files) (names : List (List ℕ)) (name : List ℕ) (fault : TableFault)
-    → Lists files names → (Any IsNameOfSegment names → ⊥)
-    → IfSome files (λ held. IsFirstBad held name fault)
-    → IfSome files (λ held. HasBadTable held name fault)
-first_bad None names name fault lists none bad = tt
-first_bad (Some held) names name fault lists none bad = record {
-  no_segment = λ has. none (held_any held names lists IsNameOfSegment has);
-  bad = bad;
-}
-
-tables_refused : (files now : Option Files) (f g k : ℕ) (names : List (List ℕ))
-    (refusal : OpenFault) → now ≡ files → Lists files names → (Any IsNameOfSegment names → ⊥)
+tables_refused : (files now : Option Files) (f g k : ℕ) (refusal : OpenFault) → now ≡ files
     → f ≤ g → TablesRefused now g k refusal → LookRefused files f k (folder_status refusal)
-tables_refused files now f g k names Disk same lists none later refused =
-    omega (arith, later, refused)
-tables_refused files now f g k names OutOfMemory same lists none later refused = tt
-tables_refused files now f g k names (BadTable name fault) same lists none later refused =
-    first_bad files names name fault lists none
-    (subst (λ (o : Option Files). IfSome o (λ held. IsFirstBad held name fault)) same refused)
-tables_refused files now f g k names other same lists none later refused = absurd refused
+tables_refused files now f g k Disk same later refused = omega (arith, later, refused)
+tables_refused files now f g k OutOfMemory same later refused = tt
+tables_refused files now f g k (BadTable name fault) same later refused =
+    subst (λ (o : Option Files). IfSome o (λ held. IsFirstBad held name fault)) same refused
+tables_refused files now f g k other same later refused = absurd refused
 
-pub look_refused : (files now : Option Files) (f g k : ℕ) (names : List (List ℕ))
-    (refusal : OpenFault) (status : Status) → status ≡ folder_status refusal → now ≡ files
-    → Lists files names → (Any IsNameOfSegment names → ⊥) → f ≤ g
-    → TablesRefused now g k refusal → LookRefused files f k status
-look_refused files now f g k names refusal status is same lists none later refused =
+pub look_refused : (files now : Option Files) (f g k : ℕ) (refusal : OpenFault) (status : Status)
+    → status ≡ folder_status refusal → now ≡ files → f ≤ g → TablesRefused now g k refusal
+    → LookRefused files f k status
+look_refused files now f g k refusal status is same later refused =
     subst (LookRefused files f k) (sym is)
-    (tables_refused files now f g k names refusal same lists none later refused)
+    (tables_refused files now f g k refusal same later refused)
 
 pub many_tables : (files : Option Files) (names : List (List ℕ)) (rows : List (Place × List ℕ))
     (archive : Option ℕ) (reads : List TableRead) → Seen files names rows archive reads
     → Any IsLateTable names → IfSome files HasManyTables
 many_tables None names rows archive reads seen late = tt
-many_tables (Some held) names rows archive reads seen late = record {
-  reads = reads;
-  readable = is_readable held names rows archive reads seen;
-  late = any_held held names seen.lists IsLateTable late;
-}
+many_tables (Some held) names rows archive reads seen late =
+    many_tables_in held reads (is_readable held names rows archive reads seen)
+    (any_held held names seen.lists IsLateTable late)
 
 last_id : (P : ℕ → Type 0) (g : Option ℕ) → IsGreatest P g → is_last g ≡ true
     → (id : ℕ) × P id × (id_limit ≤ id)
@@ -256,13 +238,8 @@ great_id None names rows archive reads g seen none is last = tt
 great_id (Some held) names rows archive reads g seen none is last =
     let found = last_id (NamesId held reads) g
     (names_ids held names rows archive reads g seen is) last in
-    record {
-      reads = reads;
-      few = has_few held names rows archive reads seen none;
-      id = found.0;
-      named = found.1;
-      great = found.2;
-    }
+    great_id_in held reads found.0 (has_few held names rows archive reads seen none) found.1
+    found.2
 
 low_ids : (P : ℕ → Type 0) (g : Option ℕ) → IsGreatest P g → is_last g ≡ false → (id : ℕ) → P id
     → id < id_limit

@@ -19,7 +19,7 @@ use Rattle.clog_folder.specs.declared.fault.OpenFault.{OpenFault}
 use Rattle.clog_folder.specs.declared.fault.OpenFault.TheVariants as folder
 use Rattle.clog_folder.specs.declared.fault.OpenFault.TheVariants.{Disk}
 use Rattle.clog_folder.specs.Passing.{TellsFault}
-use Rattle.clog_engine.specs.declared.status.Unbuilt.TheVariants.{Segment, Directory}
+use Rattle.clog_engine.specs.declared.status.Unbuilt.TheVariants.{Segment}
 use Rattle.clog_engine.specs.declared.status.Status.{Status}
 use Rattle.clog_engine.specs.declared.status.Status.TheVariants.{
   Ok as Good,
@@ -66,6 +66,12 @@ told_folder folder.OutOfMemory status f g is told = λ other. told (λ e. cc)
 pub told_on : (status : Status) (f g k : ℕ) → g ≡ f → TellsFaults status g k
     → TellsFaults status f k
 told_on status f g k same told = λ other. told other ∙ same
+
+-- the same of an answer
+pub quiet_on : {T : Type 0} (r : Result T Status) (f g k : ℕ) → g ≡ f → TellsEach g k r
+    → TellsEach f k r
+quiet_on (Ok x) f g k same told = told ∙ same
+quiet_on (Err status) f g k same told = told_on status f g k same told
 
 -- where none was counted, whatever the answer
 pub still : {T : Type 0} (r : Result T Status) (f g : ℕ) → g ≡ f → TellsEach f g r
@@ -120,7 +126,7 @@ looked_at files f g (TooLarge number size most) refused before = refused
 looked_at files f g ReadFault refused before = refused
 looked_at files f g WriteFault refused before = before
 looked_at files f g DiskFault refused before = before
-looked_at files f g (Damaged name at cause) refused before = refused
+looked_at files f g (Damaged name at cause) refused before = before
 looked_at files f g (BadTable name fault) refused before = before
 looked_at files f g OutOfMemory refused before = before
 looked_at files f g (Limit FileBytes most) refused before = refused
@@ -130,7 +136,6 @@ looked_at files f g (Limit Ids most) refused before = before
 looked_at files f g (Limit TableFiles most) refused before = before
 looked_at files f g (Absent name) refused before = before
 looked_at files f g (NotBuilt Segment) refused before = refused
-looked_at files f g (NotBuilt Directory) refused before = before
 
 -- nor one that comes of reading a segment's file
 pub read_at : (files : Option Files) (f g : ℕ) (name : List ℕ) (status : Status)
@@ -152,7 +157,6 @@ read_at files f g name (Limit Ids most) refused before = before
 read_at files f g name (Limit TableFiles most) refused before = before
 read_at files f g name (Absent other) refused before = before
 read_at files f g name (NotBuilt Segment) refused before = refused
-read_at files f g name (NotBuilt Directory) refused before = before
 
 -- nor one that comes of replaying the folder
 pub replayed_at : (ignore : Bool) (files : Option Files) (f g : ℕ) (status : Status)
@@ -174,4 +178,3 @@ replayed_at ignore files f g (Limit Ids most) refused before = before
 replayed_at ignore files f g (Limit TableFiles most) refused before = before
 replayed_at ignore files f g (Absent name) refused before = before
 replayed_at ignore files f g (NotBuilt Segment) refused before = refused
-replayed_at ignore files f g (NotBuilt Directory) refused before = before

@@ -10,6 +10,7 @@ use Rattle.std.specs.Prelude.{
   ◌∷◌,
   ◌++◌,
   length,
+  false,
   Option,
   Some,
   None,
@@ -21,29 +22,37 @@ use Rattle.std.specs.List.{AllByRecursion}
 use Rattle.std.specs.FinMap as map
 use Rattle.clog_spec.specs.Names.{segment_name_of}
 use Rattle.clog_spec.specs.Segment.{header_bytes, section_bytes}
-use Rattle.clog_base.specs.declared.fault.Quantity.TheVariants.{FileBytes, Lines, Ids, TableFiles}
+use Rattle.clog_base.specs.declared.cell.Cell.{Cell}
+use Rattle.clog_base.specs.declared.cell.CellKey.{CellKey}
+use Rattle.clog_base.specs.declared.fault.Quantity.TheVariants.{
+  FileBytes,
+  Lines,
+  SegmentBytes,
+  Ids,
+  TableFiles,
+}
 use Rattle.clog_io.specs.Bytes.{TakesAll}
 use Rattle.clog_io.specs.Causes.{Rose}
 use Rattle.clog_disk.specs.Files.{Files, MayAppend}
-use Rattle.clog_disk.specs.Images.{Lasts, Tears}
+use Rattle.clog_disk.specs.Images.{Lasts}
 use Rattle.clog_mutation.specs.declared.mutation.Mutation.{Mutation}
 use Rattle.clog_mutation.specs.Stored.{IsStored}
 use Rattle.clog_text.specs.FileLines.{line_limit}
 use Rattle.clog_engine.specs.declared.words.ApplyOptions.{ApplyOptions}
-use Rattle.clog_engine.specs.declared.status.Unbuilt.TheVariants.{Segment, Directory}
+use Rattle.clog_engine.specs.declared.status.Unbuilt.TheVariants.{Segment}
 use Rattle.clog_engine.specs.declared.status.Status.{Status}
 use Rattle.clog_engine.specs.declared.status.Status.TheVariants.{
   BadLine,
   TooLarge,
   ReadFault,
   DiskFault,
+  Damaged,
   BadTable,
   OutOfMemory,
   Limit,
   NotBuilt,
 }
 use Rattle.clog_spec.specs.Sizes.{file_limit, header_size}
-use Rattle.clog_engine.specs.Limits.{sequence_limit, id_limit}
 use Rattle.clog_engine.specs.Input.{
   IsAccepted,
   HasManyLines,
@@ -53,9 +62,13 @@ use Rattle.clog_engine.specs.Input.{
   IsGood,
   entries_of,
 }
-use Rattle.clog_crash.specs.Folder.{TableRead, NamesId, IsBase, HasSegmentFile, cells_of_tables}
-use Rattle.clog_engine.specs.Directory.{HasBadTable, HasManyTables, HasGreatId, IsPlainDirectory}
+use Rattle.clog_crash.specs.Folder.{IsFirstBad}
+use Rattle.clog_crash.specs.Restore.{IsRestored}
+use Rattle.clog_folder.specs.Folder.{HasDamage, HasLongSegment}
+use Rattle.clog_store.specs.Named.{sequence_limit, id_limit}
+use Rattle.clog_store.specs.Opened.{HasGreatId, HasManyTables}
 use Rattle.clog_engine.specs.Outside.{Outside, IsUntouched}
+use Rattle.clog_engine.specs.Ready.{IsKept, LeavesAllReady, LeavesOneTorn, MakesReady}
 use Rattle.clog_engine.specs.Report.{IsReport}
 
 -- the segment of an id: its header, and one section with all entries
@@ -67,68 +80,82 @@ abbrev pub Gains : Option Files → Option Files → List ℕ → List ℕ → T
 Gains None after name bytes = after ≡ None
 Gains (Some before) after name bytes = after ≡ Some (map.insert before name bytes)
 
--- The segment is there, lasting. No other file has changed, and a crash leaves at each other name
--- no more than before.
-pub record HasLanded (o : Outside) (id : ℕ) (bytes : List ℕ) : Type 0 where
-  pub gained : Gains o.files o.files_now (segment_name_of 6 id) bytes
+-- The segment is there, lasting. No other file has changed since the folder was ready, and a crash
+-- leaves at each other name no more than then.
+pub record HasLanded (o : Outside) (ready : Option Files) (id : ℕ) (bytes : List ℕ) : Type 0 where
+  pub gained : Gains ready o.files_now (segment_name_of 6 id) bytes
   pub lasts : Lasts o.files_now o.leaves_now (segment_name_of 6 id)
-  pub images : Tears o.files o.leaves o.leaves_now (segment_name_of 6 id) (length bytes)
+  pub images : LeavesOneTorn o.files ready o.leaves o.leaves_now (segment_name_of 6 id)
+      (length bytes)
+
+-- nothing has changed since the folder was ready
+pub record IsReady (o : Outside) (ready : Option Files) : Type 0 where
+  pub files : o.files_now ≡ ready
+  pub images : LeavesAllReady o.files ready o.leaves o.leaves_now
 
 -- all mutations are in one segment; for none there is no segment
-abbrev pub Lands : Outside → ℕ → List Mutation → Type 0
-Lands o id [] = IsUntouched o
-Lands o id (first ∷ more) = HasLanded o id (segment_of id (first ∷ more))
+abbrev pub Lands : Outside → Option Files → ℕ → List Mutation → Type 0
+Lands o ready id [] = IsReady o ready
+Lands o ready id (first ∷ more) = HasLanded o ready id (segment_of id (first ∷ more))
 
 -- The source was read to its end, and the bytes that it gave are such.
 abbrev pub ReadsToEnd : Outside → (List ℕ → Type 0) → Type 0
 ReadsToEnd o P = (bytes : List ℕ) × TakesAll o.left o.left_now bytes × P bytes
 
--- The directory is good and these are its table files; the clock told a moment, and the id is the
--- greater of it and one more than each id of the directory.
-pub record IsBegun (o : Outside) (reads : List TableRead) (id : ℕ) : Type 0 where
-  pub plain : IfSome o.files (λ files. IsPlainDirectory files reads)
+-- The clock told a moment. From it the folder was made ready for a segment of this id: recovered,
+-- where it held segments, and else left as it was. These are its files then.
+pub record IsBegun (o : Outside) (ready : Option Files) (id : ℕ) : Type 0 where
   pub now : ℕ
   pub told : o.tells now
-  pub base : IfSome o.files (λ files. IsBase (NamesId files reads) now id)
+  pub made : MakesReady o.files ready now id
 
--- The file's mutations each have a payload and stand in a new segment, and the report tells them.
+-- The file's mutations each have a payload and stand in a new segment of a folder that was made
+-- ready, and the report tells them and what the folder restored to.
 pub record IsApplied (o : Outside) (options : ApplyOptions) (report bytes : List ℕ) : Type 0 where
   pub mutations : List Mutation
   pub accepted : IsAccepted options.capacity bytes mutations
   pub stored : AllByRecursion IsStored mutations
-  pub reads : List TableRead
+  pub ready : Option Files
   pub id : ℕ
-  pub begun : IsBegun o reads id
+  pub begun : IsBegun o ready id
   pub fits : id < 2 ^ 63
-  pub landed : Lands o id mutations
-  pub reported : IsReport options.dump (cells_of_tables reads) mutations report
+  pub landed : Lands o ready id mutations
+  pub before : List (CellKey × Cell)
+  pub restored : IfSome o.files (λ files. IsRestored files before)
+  pub reported : IsReport options.dump before mutations report
 
--- All was good, and there are mutations. Nothing has changed but the new segment, of whose name and
--- bytes the part speaks that may be there; a crash leaves at each other name no more than before.
-pub record IsPartly (capacity : ℕ) (o : Outside) (Part : List ℕ → List ℕ → Type 0) : Type 0 where
+-- All was good, and there are mutations. The folder was made ready, and nothing has changed since
+-- but the new segment, of whose name and bytes the part speaks that may be there; a crash leaves at
+-- each other name no more than then.
+pub record IsPartly (capacity : ℕ) (o : Outside) (Part : Option Files → List ℕ → List ℕ → Type 0)
+    : Type 0 where
   pub bytes : List ℕ
   pub taken : TakesAll o.left o.left_now bytes
   pub mutations : List Mutation
   pub accepted : IsAccepted capacity bytes mutations
   pub some : 0 < length mutations
-  pub reads : List TableRead
+  pub ready : Option Files
   pub id : ℕ
-  pub begun : IsBegun o reads id
-  pub part : Part (segment_name_of 6 id) (segment_of id mutations)
-  pub images : Tears o.files o.leaves o.leaves_now (segment_name_of 6 id)
+  pub begun : IsBegun o ready id
+  pub part : Part ready (segment_name_of 6 id) (segment_of id mutations)
+  pub images : LeavesOneTorn o.files ready o.leaves o.leaves_now (segment_name_of 6 id)
       (length (segment_of id mutations))
 
 -- any bytes are there, at most as many
-abbrev pub BrokeOff : Outside → List ℕ → List ℕ → Type 0
-BrokeOff o name bytes = MayAppend o.files o.files_now name (length bytes)
+abbrev pub BrokeOff : Outside → Option Files → List ℕ → List ℕ → Type 0
+BrokeOff o ready name bytes = MayAppend ready o.files_now name (length bytes)
 
 -- no file has changed, or just these bytes are there
-abbrev pub NothingOrAll : Outside → List ℕ → List ℕ → Type 0
-NothingOrAll o name bytes = (o.files_now ≡ o.files) ⊎ Gains o.files o.files_now name bytes
+abbrev pub NothingOrAll : Outside → Option Files → List ℕ → List ℕ → Type 0
+NothingOrAll o ready name bytes = (o.files_now ≡ ready) ⊎ Gains ready o.files_now name bytes
 
--- the disk is as it was, or has such a part of the new segment
-abbrev pub LeavesPart : ℕ → Outside → (List ℕ → List ℕ → Type 0) → Type 0
-LeavesPart capacity o Part = IsUntouched o ⊎ IsPartly capacity o Part
+-- the folder restores the same
+abbrev pub KeepsAll : Outside → Type 0
+KeepsAll o = IsKept o.files o.files_now o.leaves o.leaves_now
+
+-- the disk is as it was, or the folder restores the same, or has such a part of the new segment
+abbrev pub LeavesPart : ℕ → Outside → (Option Files → List ℕ → List ℕ → Type 0) → Type 0
+LeavesPart capacity o Part = IsUntouched o ⊎ (KeepsAll o ⊎ IsPartly capacity o Part)
 
 -- Why nothing is reported, and what is left of the disk, by the capacity of a segment: each row
 -- with all that comes before it.
@@ -141,22 +168,26 @@ ApplyRefuses capacity ReadFault o = Rose o.source_faults o.source_faults_now × 
 ApplyRefuses capacity DiskFault o =
     ReadsToEnd o (IsGood capacity) × Rose o.disk_faults o.disk_faults_now
     × LeavesPart capacity o (BrokeOff o)
+ApplyRefuses capacity (Damaged name at cause) o =
+    ReadsToEnd o (IsGood capacity) × IfSome o.files (λ files. HasDamage files name at cause)
+    × IsUntouched o
 ApplyRefuses capacity (BadTable name fault) o =
-    ReadsToEnd o (IsGood capacity) × IfSome o.files (λ files. HasBadTable files name fault)
+    ReadsToEnd o (IsGood capacity) × IfSome o.files (λ files. IsFirstBad files name fault)
     × IsUntouched o
 ApplyRefuses capacity OutOfMemory o = LeavesPart capacity o (NothingOrAll o)
 ApplyRefuses capacity (Limit FileBytes most) o =
     (most ≡ file_limit) × IfSome o.left (λ bytes. file_limit < length bytes) × IsUntouched o
 ApplyRefuses capacity (Limit Lines most) o =
     (most ≡ line_limit) × ReadsToEnd o HasManyLines × IsUntouched o
+ApplyRefuses capacity (Limit SegmentBytes most) o =
+    (most ≡ file_limit) × ReadsToEnd o (IsGood capacity) × IfSome o.files (HasLongSegment false)
+    × IsUntouched o
 ApplyRefuses capacity (Limit TableFiles most) o =
     (most ≡ sequence_limit) × ReadsToEnd o (IsGood capacity) × IfSome o.files HasManyTables
     × IsUntouched o
 ApplyRefuses capacity (Limit Ids most) o =
     (most ≡ id_limit) × ReadsToEnd o (IsGood capacity) × IfSome o.files HasGreatId × IsUntouched o
 ApplyRefuses capacity (NotBuilt Segment) o = ReadsToEnd o (HasNoRoom capacity) × IsUntouched o
-ApplyRefuses capacity (NotBuilt Directory) o =
-    ReadsToEnd o (IsGood capacity) × IfSome o.files HasSegmentFile × IsUntouched o
 ApplyRefuses capacity other o = ⊥
 
 -- a report, or why there is none

@@ -19,15 +19,14 @@ use Rattle.clog_spec.specs.Sizes.{greatest_capacity}
 use Rattle.clog_io.specs.Causes.{Rose}
 use Rattle.clog_disk.specs.Files.{Files, Told}
 use Rattle.clog_crash.specs.Damage.{AreSegmentFiles}
-use Rattle.clog_crash.specs.Folder.{TableRead}
 use Rattle.clog_folder.specs.Folder.{CanBeRead}
+use Rattle.clog_store.specs.Opened.{CanBeOpened}
 use Rattle.clog_words.specs.declared.built.Built.{Built}
 use Rattle.clog_words.specs.declared.built.Built.TheVariants.{Apply, Replay, Scan}
 use Rattle.clog_words.specs.Built.{AsksBuilt}
 use Rattle.clog_words.specs.Given.{texts}
 use Rattle.clog_engine.specs.declared.status.Status.{Status}
 use Rattle.clog_engine.specs.declared.status.Status.TheVariants.{Ok, OutOfMemory}
-use Rattle.clog_engine.specs.Directory.{IsPlainDirectory}
 use Rattle.clog_engine.specs.Input.{IsGood}
 use Rattle.clog_engine.specs.Limits.{scan_limit}
 use Rattle.clog_engine.specs.Outside.{Outside, Sinks}
@@ -43,9 +42,11 @@ pub record IsScannable (files : Files) (name : List ℕ) : Type 0 where
   pub there : finmap.get files name ≡ Some bytes
   pub few : length bytes ≤ scan_limit
 
--- no segment, good table files, and room for one more of each
-abbrev pub IsPlain : Files → Type 0
-IsPlain files = (reads : List TableRead) × IsPlainDirectory files reads
+-- All table files and segments are good, the segments are bytes, and there is room for one more of
+-- each.
+pub record IsOpenable (files : Files) : Type 0 where
+  pub within : CanBeOpened files
+  pub segments : AreSegmentFiles files
 
 -- All table files are good, and the segments are bytes and short enough to be read; where damage is
 -- not passed over, there is none.
@@ -53,10 +54,10 @@ pub record IsReplayable (ignore : Bool) (files : Files) : Type 0 where
   pub readable : CanBeRead ignore files
   pub segments : AreSegmentFiles files
 
--- What is asked for can be done: `apply` has a good mutation file and a directory with no segment
--- and good table files, `replay` a folder that can be read, `scan` its file.
+-- What is asked for can be done: `apply` has a good mutation file and a folder that can be opened,
+-- `replay` a folder that can be read, `scan` its file.
 abbrev pub IsFit : Built → Outside → Type 0
-IsFit (Apply dump) o = Tells o.left (IsGood greatest_capacity) × Told o.files IsPlain
+IsFit (Apply dump) o = Tells o.left (IsGood greatest_capacity) × Told o.files IsOpenable
 IsFit (Replay options) o = Told o.files (IsReplayable options.ignore_errors)
 IsFit (Scan id) o = Told o.files (λ files. IsScannable files (segment_name_of 6 id))
 

@@ -12,7 +12,7 @@ use Rattle.clog_entry.specs.CauseText.{cause_text}
 use Rattle.clog_table.specs.FaultTexts.{fault_text}
 use Rattle.clog_text.specs.Refusals.{refusal_text}
 use Rattle.clog_engine.specs.declared.status.Unbuilt.{Unbuilt}
-use Rattle.clog_engine.specs.declared.status.Unbuilt.TheVariants.{Segment, Directory}
+use Rattle.clog_engine.specs.declared.status.Unbuilt.TheVariants.{Segment}
 use Rattle.clog_engine.specs.declared.status.Status.{Status}
 use Rattle.clog_engine.specs.declared.status.Status.TheVariants.{
   Ok,
@@ -40,7 +40,6 @@ quantity_name TableFiles = codes "table-files"
 
 abbrev pub unbuilt_name : Unbuilt → List ℕ
 unbuilt_name Segment = codes "segment"
-unbuilt_name Directory = codes "directory"
 
 abbrev pub fault_line : Status → List ℕ
 fault_line Ok = []

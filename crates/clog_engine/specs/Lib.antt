@@ -12,6 +12,8 @@ pub mod Looking
 pub mod Outside
 pub mod Quiet
 pub mod Reading
+pub mod Ready
+pub mod Readying
 pub mod Refusal
 pub mod Replaying
 pub mod Report

@@ -20,8 +20,9 @@ use Rattle.std.specs.declared.result.Result.TheVariants as result
 use Rattle.clog_base.specs.declared.cell.Cell.{Cell}
 use Rattle.clog_base.specs.declared.cell.CellKey.{CellKey}
 use Rattle.clog_base.specs.declared.cell.Table.{Table}
-use Rattle.clog_base.specs.declared.fault.Quantity.TheVariants.{Ids, TableFiles}
-use Rattle.clog_cells.specs.Merge.{IsMerge}
+use Rattle.clog_base.specs.declared.fault.Quantity.TheVariants.{Ids, SegmentBytes, TableFiles}
+use Rattle.clog_spec.specs.Sizes.{file_limit}
+use Rattle.clog_cells.specs.Merge.{AreInOrder, IsMerge}
 use Rattle.clog_io.specs.Causes.{Rose}
 use Rattle.clog_disk.specs.Files.{Files}
 use Rattle.clog_table.specs.declared.fault.TableFault.{TableFault}
@@ -33,26 +34,31 @@ use Rattle.clog_crash.specs.Folder.{
   cells_of_tables,
   NamesId,
   IsGreatest,
+  IsFirstBad,
   IsGoodTable,
   HasSegmentFile,
 }
+use Rattle.clog_crash.specs.Restore.{IsRestored}
 use Rattle.clog_folder.specs.declared.fault.OpenFault.{OpenFault}
 use Rattle.clog_folder.specs.declared.tables.TableHeld.{TableHeld}
+use Rattle.clog_folder.specs.Folder.{HasDamage, HasLongSegment}
 use Rattle.clog_folder.specs.Tables.{HaveRead, TableRefused, TablesRefused, read_of}
-use Rattle.clog_engine.specs.declared.status.Unbuilt.TheVariants.{Directory}
 use Rattle.clog_engine.specs.declared.status.Status.{Status}
 use Rattle.clog_engine.specs.declared.status.Status.TheVariants.{
   DiskFault as HasDiskFault,
+  Damaged,
   BadTable,
   OutOfMemory,
   Limit,
-  NotBuilt,
 }
+use Rattle.clog_engine.specs.declared.standing.Found.{Found}
+use Rattle.clog_engine.specs.declared.standing.Found.TheVariants.{Log, Plain}
 use Rattle.clog_engine.specs.declared.standing.Standing.{Standing}
 use Rattle.clog_engine.specs.declared.tables.Addition.{Addition}
-use Rattle.clog_engine.specs.Limits.{sequence_limit, id_limit}
+use Rattle.clog_store.specs.Named.{sequence_limit, id_limit}
+use Rattle.clog_store.specs.Opened.{HasGreatId, HasManyTables}
 use Rattle.clog_engine.specs.Listing.{greater}
-use Rattle.clog_engine.specs.Directory.{HasBadTable, HasManyTables, HasGreatId, IsPlainDirectory}
+use Rattle.clog_engine.specs.Directory.{IsPlainDirectory}
 
 -- ---- one file
 
@@ -124,17 +130,35 @@ pub record Stands (dump : Bool) (files : Option Files) (standing : Standing) : T
   pub greatest : IfSome files (λ held. IsGreatest (NamesId held reads) standing.greatest)
   pub low : IfSome standing.greatest (λ id. id < id_limit)
 
+-- why a folder is not opened, as a run ends then
 abbrev pub LookRefused : Option Files → ℕ → ℕ → Status → Type 0
 LookRefused files faults now HasDiskFault = Rose faults now
 LookRefused files faults now OutOfMemory = ⊤
-LookRefused files faults now (NotBuilt Directory) = IfSome files HasSegmentFile
 LookRefused files faults now (BadTable name fault) =
-    IfSome files (λ held. HasBadTable held name fault)
+    IfSome files (λ held. IsFirstBad held name fault)
+LookRefused files faults now (Damaged name at cause) =
+    IfSome files (λ held. HasDamage held name at cause)
+LookRefused files faults now (Limit SegmentBytes most) =
+    (most ≡ file_limit) × IfSome files (HasLongSegment false)
 LookRefused files faults now (Limit TableFiles most) =
     (most ≡ sequence_limit) × IfSome files HasManyTables
 LookRefused files faults now (Limit Ids most) = (most ≡ id_limit) × IfSome files HasGreatId
 LookRefused files faults now other = ⊥
 
-abbrev pub Looks : Bool → Option Files → ℕ → ℕ → Result Standing Status → Type 0
-Looks dump files faults now (result.Ok standing) = Stands dump files standing
+-- The cells are those that the files restore to, where a dump asks for them.
+pub record Shows (dump : Bool) (files : Option Files) (cells : List (CellKey × Cell)) : Type 0 where
+  pub ordered : AreInOrder cells
+  pub restored : dump ≡ true → IfSome files (λ held. IsRestored held cells)
+
+-- a log, or why the files are not read
+abbrev pub FindsLog : Bool → Option Files → ℕ → ℕ → Result Found Status → Type 0
+FindsLog dump files faults now (result.Ok (Plain standing)) = ⊥
+FindsLog dump files faults now (result.Ok (Log cells)) = Shows dump files cells
+FindsLog dump files faults now (result.Err status) = LookRefused files faults now status
+
+-- what stands, or a log, and the cells that all of it restores to
+abbrev pub Looks : Bool → Option Files → ℕ → ℕ → Result Found Status → Type 0
+Looks dump files faults now (result.Ok (Plain standing)) = Stands dump files standing
+Looks dump files faults now (result.Ok (Log cells)) =
+    IfSome files HasSegmentFile × Shows dump files cells
 Looks dump files faults now (result.Err status) = LookRefused files faults now status

@@ -29,7 +29,6 @@ fn unbuilt_name(what: Unbuilt) -> &'static [u8]
 {
     match what {
         Unbuilt::Segment => b"segment",
-        Unbuilt::Directory => b"directory",
     }
 }
 

@@ -11,6 +11,7 @@ mod input;
 mod landing;
 mod laws;
 mod limits;
+mod ready;
 mod refusal;
 mod replaying;
 mod report;

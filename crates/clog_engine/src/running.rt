@@ -53,7 +53,15 @@ fn outcome_of<T: Threads + Sync, R: Source, D: Disk, C: Clock, G: Gate + Sync>(
 {
     match request_of(alloc, words)? {
         Some(Built::Apply { dump }) => {
-            apply(rt, alloc, ApplyOptions::new(dump), source, disk, clock)
+            apply(
+                rt,
+                alloc,
+                ApplyOptions::new(dump),
+                source,
+                disk,
+                clock,
+                gate,
+            )
         }
         Some(Built::Replay(options)) => replay_folder(rt, alloc, options, disk, gate),
         Some(Built::Scan { id }) => scan_segment(alloc, disk, id),
@@ -81,16 +89,23 @@ fn answer<T: Threads + Sync, R: Source, K: Sink, D: Disk, C: Clock, G: Gate + Sy
 }
 
 /// All that the program does. It takes the words after the program's name and the outside, and
-/// answers how it ended; the disk comes back in each case. Of `apply`, where the source tells its
-/// bytes and the disk its files, `Ok` means that the source was read to its end, that all its
-/// mutations stand in one new segment (none for an empty file), lasting, that the folder restores
-/// to what it restored to before with the mutations' cells merged in, no file of it damaged, and
-/// that the report went out whole, whose dump is what the folder restores to now; of `replay` that
-/// the report has the counts of the folder and what it restores to, and that without
-/// `--ignore-errors` nothing of the folder is damaged; of `scan` that the report tells what the
-/// segment's file holds. Where the words ask for what can be done and no fault was counted, it ends
-/// with `Ok`, or for want of memory. A fault of the disk is told: without `DiskFault` none was
-/// counted. What the words or the mutation file refuse by themselves leaves the disk uncalled.
+/// answers how it ended; the disk comes back in each case.
+///
+/// Of `apply`, where the source tells its bytes and the disk its files, `Ok` means that the source
+/// was read to its end; that a folder that held segments was recovered: they are gone, table files
+/// came for them, and each other file stands as it was; that all mutations stand in one new segment
+/// (none for an empty file), lasting, whose id is the greater of the clock's moment and one more
+/// than each id that the folder named; that the folder restores to what it restored to before with
+/// the mutations' cells merged in, no file of it damaged; and that the report went out whole, whose
+/// dump is what the folder restores to now. Of `replay` it means that the report has the counts of
+/// the folder and what it restores to, and that without `--ignore-errors` nothing of the folder is
+/// damaged; of `scan` that the report tells what the segment's file holds.
+///
+/// Where the words ask for what can be done and no fault was counted, it ends with `Ok`, or for
+/// want of memory. A fault of the disk is told: without `DiskFault` none was counted. What the words
+/// or the mutation file refuse by themselves leaves the disk uncalled, and what the folder refuses
+/// for what it holds leaves it as it was. After `DiskFault` and `OutOfMemory` the folder restores to
+/// what it restored to before, or the new segment has come in part (`DiskFault`) or whole.
 pub fn run<
     T: Threads + Wait + Sync,
     R: Source,

@@ -11,13 +11,13 @@ use clog_text::BadLine;
 pub enum Unbuilt {
     /// More than one segment.
     Segment,
-    /// A folder that holds segments.
-    Directory,
 }
 
-/// How a run ends. Each refusal leaves the disk as it was, but `DiskFault`, after which as many
-/// bytes as the new segment has, or fewer, may stand under its name, `OutOfMemory`, after which the
-/// whole segment may be there, and `WriteFault`, which comes when all is done.
+/// How a run ends. Each refusal leaves the disk as it was, but `DiskFault`, `OutOfMemory` and
+/// `WriteFault`, which comes when all is done. After the first two a folder that held segments may
+/// be recovered in part or whole, and restores the same; or it is recovered and of the new segment
+/// as many bytes as it has, or fewer, may stand under its name (`DiskFault`), or the whole of it
+/// (`OutOfMemory`).
 #[derive(Clone, Copy, Debug, PartialEq, Eq)]
 pub enum Status {
     /// The report was written whole.

@@ -7,16 +7,16 @@ mod FilePut
 mod Ends
 mod Filed
 mod Going
-mod Ids
+pub mod Ids
 mod Kept
 mod Live
 mod Lived
 mod LivedCalls
 mod LivedRolls
-mod Looking
+pub mod Looking
 mod Noted
 mod OnDisk
-mod OpenedWhole
+pub mod OpenedWhole
 mod Outcomes
 mod Picking
 mod Ready

@@ -58,7 +58,7 @@ use Rattle.clog_store.proofs.Ids.{same_base}
 
 -- ---- table files, by what was read and by how names read
 
-in_reading : (files : Files) (read : TableRead) → IsReadFrom files read
+pub in_reading : (files : Files) (read : TableRead) → IsReadFrom files read
     → IsTableIn (bytes_at files) read.file
 in_reading files read t =
     let name = table_name_of read.file.table.0 read.sequence in
@@ -72,7 +72,7 @@ in_reading files read t =
           t.good.spelled;
     }
 
-was_read : (files : Files) (file : TableFile) → IsTableIn (bytes_at files) file
+pub was_read : (files : Files) (file : TableFile) → IsTableIn (bytes_at files) file
     → (read : TableRead) × IsReadFrom files read × (read.file ≡ file)
 was_read files file t =
     let name = table_name_of file.table.0 t.sequence in

@@ -7,6 +7,8 @@ use Rattle.std.proofs.Common.{
   ◌^◌,
   List,
   [],
+  ◌++◌,
+  map,
   Option,
   Some,
   None,
@@ -20,10 +22,14 @@ use Rattle.std.proofs.Common.{
 }
 use Rattle.std.specs.Prelude.{Err, false}
 use Rattle.std.specs.FinMap as finmap
+use Rattle.std.specs.List.{flat_map}
+use Rattle.clog_cells.proofs.Made.{merge_of}
 use Rattle.clog_disk.specs.Files.{Files, Lists, Told, bytes_at}
 use Rattle.clog_disk.specs.Images.{IsImage, Within}
 use Rattle.clog_disk.proofs.Named.{same_files}
+use Rattle.clog_crash.specs.Counts.{IsLog}
 use Rattle.clog_crash.specs.Flush.{IsSameFolder, IsSettled}
+use Rattle.clog_crash.specs.Folder.{cells_of_tables}
 use Rattle.clog_crash.specs.Readings.{RestoresIn}
 use Rattle.clog_crash.specs.Recovery.{NamesAny}
 use Rattle.clog_crash.specs.Rest.{IsAtRest}
@@ -32,11 +38,16 @@ use Rattle.clog_crash.proofs.changes.Covering.{exactly}
 use Rattle.clog_crash.proofs.rest.Opening.{at_opening}
 use Rattle.clog_folder.specs.declared.fault.OpenFault.{OpenFault}
 use Rattle.clog_folder.specs.declared.fault.OpenFault.TheVariants.{Disk, OutOfMemory}
-use Rattle.clog_folder.specs.Folder.{IsHeldOf}
+use Rattle.clog_folder.specs.declared.folder.Folder.{Folder}
+use Rattle.clog_folder.specs.Folder.{IsHeldOf, payloads_of}
+use Rattle.clog_folder.specs.Tables.{read_of}
+use Rattle.replay_merge.proofs.Replayed.{one_log, restores}
 use Rattle.clog_store.specs.declared.opening.Known.{Known}
 use Rattle.clog_store.specs.Filing.{StepCause}
+use Rattle.clog_store.specs.Live.{HasLive}
 use Rattle.clog_store.specs.Named.{IsIdBase}
 use Rattle.clog_store.specs.Opened.{
+  HasRows,
   IsKnown,
   IsOpened,
   IsRecovered,
@@ -130,6 +141,28 @@ at_rest first files moment known is_known low None leaves recovered settled = ab
 at_rest first files moment known is_known low (Some now) leaves recovered settled =
     at_opening now leaves known.base (base_fits _ moment known.base is_known.base_is low) settled
     recovered.no_segment recovered.below
+
+pub exact_told : (told : Option Files) (leaves : List ℕ → Option (List ℕ) → Type 0)
+    → Told told (λ now. IsSettled now leaves) → Told told (λ now. LastsAll now leaves)
+exact_told None leaves settled = settled
+exact_told (Some now) leaves settled = settled.exact
+
+-- ---- what it restores to
+
+-- a folder that was read restores to some rows
+pub has_rows : (first : Files) (files : Option Files) → files ≡ Some first → (folder : Folder)
+    → IsHeldOf false files folder → HasLive folder.tables folder.segments → HasRows first
+has_rows first files is folder held live =
+    let read = (subst (λ (o : Option Files). IsHeldOf false o folder) is held).told in
+    let cells = live.1 in
+    let same = one_log (flat_map payloads_of folder.segments) cells.log read.log cells.say
+    read.say in
+    let is_log : IsLog first cells.log = subst (IsLog first) (sym same) read.is_log in
+    let rows = merge_of (cells.merged.cells ++ cells_of_tables (map read_of folder.tables)) in (
+      rows.0,
+      restores first folder.tables read.are_tables cells.log is_log cells.merged cells.taken
+          rows.0 rows.1,
+    )
 
 -- ---- why it is refused
 

@@ -24,6 +24,10 @@ pub record AreLive (tables : List TableHeld) (segments : List SegmentHeld)
   pub taken : IsMergedOf tables (flat_map updates_of log) merged
   pub cells_are : cells ≡ merged.cells
 
+-- the log restores some cells
+abbrev pub HasLive : List TableHeld → List SegmentHeld → Type 0
+HasLive tables segments = (cells : List (CellKey × Cell)) × AreLive tables segments cells
+
 -- the very beginning of the log
 abbrev pub start : Position
 start = record { id = 0; offset = 0 }

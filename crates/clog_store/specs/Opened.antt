@@ -19,6 +19,8 @@ use Rattle.std.specs.List.{Any}
 use Rattle.std.specs.declared.result.Result.TheVariants as result
 use Rattle.std.specs.FinMap as finmap
 use Rattle.clog_spec.specs.Sizes.{file_limit}
+use Rattle.clog_base.specs.declared.cell.Cell.{Cell}
+use Rattle.clog_base.specs.declared.cell.CellKey.{CellKey}
 use Rattle.clog_base.specs.declared.fault.Quantity.TheVariants.{Ids, SegmentBytes, TableFiles}
 use Rattle.clog_io.specs.Causes.{Rose}
 use Rattle.clog_disk.specs.declared.change.Change.{Change}
@@ -36,7 +38,7 @@ use Rattle.clog_crash.specs.Folder.{
 }
 use Rattle.clog_crash.specs.Readings.{IsTableIn, RestoresIn}
 use Rattle.clog_crash.specs.Recovery.{NamesAny}
-use Rattle.clog_crash.specs.Restore.{IsUndamaged}
+use Rattle.clog_crash.specs.Restore.{IsRestored, IsUndamaged}
 use Rattle.clog_folder.specs.declared.fault.OpenFault.{OpenFault}
 use Rattle.clog_folder.specs.declared.fault.OpenFault.TheVariants.{
   Disk,
@@ -84,6 +86,10 @@ pub record IsOpened (first : Files) (moment base : ℕ) (now : Files) : Type 0 w
   pub within : CanBeOpened first
   pub is_base : IsBase (NamesAny first) moment base
   pub recovered : IsRecovered first base now
+
+-- the files restore to some rows
+abbrev pub HasRows : Files → Type 0
+HasRows files = (rows : List (CellKey × Cell)) × IsRestored files rows
 
 -- ---- what it changes
 

@@ -10,8 +10,10 @@ ghost use Rattle.clog_crash.specs.Rest.{IsAtRest};
 ghost use Rattle.clog_folder.specs.Folder.{IsHeldOf};
 ghost use Rattle.clog_folder.specs.Passing.{IsUntouched, TellsEach};
 ghost use Rattle.clog_store.specs.Filing.{StepCause};
+ghost use Rattle.clog_store.specs.Live.{HasLive};
 ghost use Rattle.clog_store.specs.Named.{IsLateTable};
 ghost use Rattle.clog_store.specs.Opened.{
+  HasRows,
   IsRecovered,
   KeepsFolder,
   LastsAll,
@@ -54,6 +56,7 @@ fn recover_folder<D: Disk>(
     ensures files { (first : Files) → D.files disk.old ≡ Some first → (base : ℕ)
         → ((n : ℕ) → NamesAny first n → n < base)
         → OnOk result (Told (D.files disk.new) (IsRecovered first base)) }
+    ensures live { OnOk result (HasLive folder.now.tables folder.now.segments) }
     ensures settles { (first : Files) → D.files disk.old ≡ Some first
         → IsSettled first (D.leaves disk.old)
         → OnOk result (Told (D.files disk.new) (λ now. IsSettled now (D.leaves disk.new))) }
@@ -144,6 +147,11 @@ pub fn recover<D: Disk>(alloc: Global, disk: &mut D, moment: u64) -> Result<u64,
         → OnOk result (RecoversAll first (D.changes disk.old) (D.changes disk.new)) }
     ensures keeps { (first : Files) → D.files disk.old ≡ Some first
         → Told (D.files disk.new) (KeepsFolder first) }
+    ensures restored { (first : Files) → D.files disk.old ≡ Some first
+        → OnOk result (HasRows first) }
+    ensures lasts { (first : Files) → D.files disk.old ≡ Some first
+        → LastsAll first (D.leaves disk.old)
+        → OnOk result (Told (D.files disk.new) (λ now. LastsAll now (D.leaves disk.new))) }
     ensures rests { (first : Files) → D.files disk.old ≡ Some first
         → LastsAll first (D.leaves disk.old)
         → IfOk result (λ base. Told (D.files disk.new) (λ now.

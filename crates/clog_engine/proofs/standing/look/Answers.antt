@@ -5,7 +5,8 @@ use Rattle.clog_folder.specs.Tables.{read_of}
 use Rattle.clog_folder.proofs.FolderRead.{told_rows}
 use Rattle.clog_folder.proofs.Passing.{both, one_call, told_on}
 use Rattle.clog_engine.specs.Directory.{IsLateTable}
-use Rattle.clog_engine.proofs.Quiet.{told_folder}
+use Rattle.clog_engine.proofs.LogReady.{found_on}
+use Rattle.clog_engine.proofs.Quiet.{quiet_on, told_folder}
 use Rattle.clog_engine.proofs.Looked.{
   told_holds,
   none_has,
@@ -21,9 +22,28 @@ pub returns-then-has_segment-clause-looks : goal.returns-then-has_segment-clause
 returns-then-has_segment-clause-looks g c =
     let files = g.D.Disk.files c.args.disk.now in
     let names = c.as_slice-names.result.now in
-    told_holds files names IsNameOfSegment
+    found_on c.args.dump files (g.D.Disk.files c.list.new.self) (g.D.Disk.faults c.args.disk.now)
+    (g.D.Disk.faults c.list.new.self) (g.D.Disk.faults c.find_log.new.disk) c.find_log.result
+    c.in-Ok.ensures.same.files c.in-Ok.ensures.cause.later
+    (told_holds files names IsNameOfSegment
     (subst (Lists files) (sym c.as_slice-names.ensures) c.in-Ok.ensures.names)
-    (c.has_segment.ensures.0 c.if-has_segment.true)
+    (c.has_segment.ensures.0 c.if-has_segment.true)) c.find_log.ensures.finds
+
+pub returns-then-has_segment-clause-keeps : goal.returns-then-has_segment-clause-keeps
+returns-then-has_segment-clause-keeps g c =
+    both g.D.Disk.files g.D.Disk.changes g.D.Disk.leaves g.D.Disk.moment
+    g.D.Disk.since g.D.Disk.read_at g.D.Disk.faults c.args.disk.now c.list.new.self
+    c.find_log.new.disk
+    (one_call g.D.Disk.files g.D.Disk.changes g.D.Disk.leaves g.D.Disk.moment
+    g.D.Disk.since g.D.Disk.read_at g.D.Disk.faults c.args.disk.now
+    c.list.new.self c.in-Ok.ensures.same c.in-Ok.ensures.quiet c.in-Ok.ensures.time
+    c.in-Ok.ensures.cause.later) c.find_log.ensures.keeps
+
+pub returns-then-has_segment-clause-quiet : goal.returns-then-has_segment-clause-quiet
+returns-then-has_segment-clause-quiet g c =
+    quiet_on c.find_log.result (g.D.Disk.faults c.args.disk.now)
+    (g.D.Disk.faults c.list.new.self) (g.D.Disk.faults c.find_log.new.disk)
+    (c.in-Ok.ensures.cause.quiet (λ e. cc)) c.find_log.ensures.quiet
 
 pub read_tables-requires : goal.read_tables-requires
 read_tables-requires g c =
@@ -38,15 +58,10 @@ read_tables-requires g c =
 pub returns-in-Err-read_tables-clause-looks : goal.returns-in-Err-read_tables-clause-looks
 returns-in-Err-read_tables-clause-looks g c =
     let files = g.D.Disk.files c.args.disk.now in
-    let names = c.as_slice-names.result.now in
     look_refused files (g.D.Disk.files c.list.new.self) (g.D.Disk.faults c.args.disk.now)
-    (g.D.Disk.faults c.list.new.self) (g.D.Disk.faults c.read_tables.new.disk) names
+    (g.D.Disk.faults c.list.new.self) (g.D.Disk.faults c.read_tables.new.disk)
     c.in-Err-read_tables.refusal c.folder_status.result c.folder_status.ensures
-    c.in-Ok.ensures.same.files
-    (subst (Lists files) (sym c.as_slice-names.ensures) c.in-Ok.ensures.names)
-    (none_has IsNameOfSegment names c.has_segment.result c.has_segment.ensures
-    c.if-has_segment.false)
-    c.in-Ok.ensures.cause.later c.in-Err-read_tables.ensures.reads
+    c.in-Ok.ensures.same.files c.in-Ok.ensures.cause.later c.in-Err-read_tables.ensures.reads
 
 pub returns-in-Err-read_tables-clause-quiet : goal.returns-in-Err-read_tables-clause-quiet
 returns-in-Err-read_tables-clause-quiet g c =

@@ -11,6 +11,8 @@ use Rattle.clog_store.proofs.OpenedWhole.{
   alone_of,
   at_rest,
   base_fits,
+  exact_told,
+  has_rows,
   image_keeps,
   is_opened,
   keeps_same,
@@ -171,6 +173,22 @@ returns-in-Ok-recover_folder-clause-rests g c first is lasts =
     (known_settled first (D.files old) is c.args.moment c.in-Ok.known c.in-Ok.ensures.looks
     (D.leaves mid) (lasts_on first (D.leaves old) (D.leaves mid) lasts
     c.look.ensures.keeps.same.images.fewer)))
+
+pub returns-in-Ok-recover_folder-clause-lasts : goal.returns-in-Ok-recover_folder-clause-lasts
+returns-in-Ok-recover_folder-clause-lasts g c first is lasts =
+    let D = g.D.Disk in
+    let old = c.args.disk.now in
+    let mid = c.look.new.disk in
+    exact_told (D.files c.recover_folder.new.disk) (D.leaves c.recover_folder.new.disk)
+    (c.in-Ok-recover_folder.ensures.settles first (c.look.ensures.keeps.same.files ∙ is)
+    (known_settled first (D.files old) is c.args.moment c.in-Ok.known c.in-Ok.ensures.looks
+    (D.leaves mid) (lasts_on first (D.leaves old) (D.leaves mid) lasts
+    c.look.ensures.keeps.same.images.fewer)))
+
+pub returns-in-Ok-recover_folder-clause-restored : goal.returns-in-Ok-recover_folder-clause-restored
+returns-in-Ok-recover_folder-clause-restored g c first is =
+    has_rows first (g.D.Disk.files c.args.disk.now) is c.in-Ok.known.folder
+    c.in-Ok.ensures.looks.held c.in-Ok-recover_folder.ensures.live
 
 pub returns-clause-opens : goal.returns-clause-opens
 returns-clause-opens g c =

@@ -267,6 +267,9 @@ returns-in-Ok-take_all_recovered-clause-same g c first is =
     (c.in-Ok.ensures.files first ready
     (begins first (D.files old) is folder c.requires.held cells)))
 
+pub returns-in-Ok-take_all_recovered-clause-live : goal.returns-in-Ok-take_all_recovered-clause-live
+returns-in-Ok-take_all_recovered-clause-live g c = (c.in_ok-cells.cells, c.in_ok-cells.ensures)
+
 -- ---- what it changes
 
 pub returns-in_err-ids-clause-changes : goal.returns-in_err-ids-clause-changes

@@ -1,0 +1,50 @@
+# A real folder, run after run: what earlier runs left is recovered, and no line is lost.
+. "$top/checks/lib"
+
+cell() { printf '{"column":"c","key":"%s","table":0,"ts":1,"value":"v"}' "$1"; }
+put() { echo '{"key":"'"$1"'","updates":[{"table":0,"column":"c","ts":1,"value":"v"}]}'; }
+
+fresh
+put a | expect 'a first run' 0 'applied 1' '' "$pinsilver" apply
+put b | expect 'a second' 0 'applied 1' '' "$pinsilver" apply
+put c | expect 'a third tells all' 0 "applied 1
+$(cell a)
+$(cell b)
+$(cell c)" '' "$pinsilver" apply --dump
+that 'two table files and one segment are left' sh -c \
+    '[ "$(ls commitlog | sed "s/CommitLog-6-.*/segment/" | tr "\n" " ")" = \
+    "segment Table-0-1.tbl Table-0-2.tbl " ]'
+expect 'an empty file recovers too' 0 'applied 0' '' "$pinsilver" apply </dev/null
+that 'it makes no segment' test "$(ls commitlog | grep -c CommitLog)" -eq 0
+expect 'all is there' 0 "segments 0
+tables 3
+entries 0
+updates 0
+skipped 0
+$(cell a)
+$(cell b)
+$(cell c)" '' "$pinsilver" replay
+
+# What a crash has torn off the last segment was not acknowledged, and is given up.
+fresh
+{ put a; put b; } | expect 'two lines' 0 'applied 2' '' "$pinsilver" apply
+name=$(ls commitlog)
+head -c 90 "commitlog/$name" >cut
+cp cut "commitlog/$name"
+put c | expect 'a torn tail' 0 "applied 1
+$(cell c)" '' "$pinsilver" apply --dump
+
+# A run that is killed in a removal, or in what comes before it, is ended by the next.
+fresh
+put a | expect 'before a removal that is refused' 0 'applied 1' '' "$pinsilver" apply
+if has strace && strace -o /dev/null true 2>/dev/null; then
+    put b | expect 'a removal is refused' 6 'error 6: disk fault' \
+        'pinsilver: remove commitlog/CommitLog-6-*.log: Input/output error' \
+        strace -o "$box/trace" -e trace=unlink,unlinkat \
+        -e inject=unlink,unlinkat:error=EIO:when=1 "$program" apply
+    put b | expect 'the next run goes on' 0 "applied 1
+$(cell a)
+$(cell b)" '' "$pinsilver" apply --dump
+else
+    skipped 'no strace'
+fi
