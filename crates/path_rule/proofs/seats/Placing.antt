@@ -1,33 +1,5 @@
 -- What a seat's places are, for the tables of its note.
-use Rattle.std.proofs.Common.{
-  ◌≡◌,
-  ℕ,
-  zero,
-  suc,
-  ◌+◌,
-  ◌/◌,
-  ◌%◌,
-  ◌≤◌,
-  ◌==◌,
-  Bool,
-  true,
-  false,
-  List,
-  [],
-  ◌∷◌,
-  length,
-  Option,
-  Some,
-  IsTrue,
-  count_ones,
-  refl,
-  sym,
-  ap,
-  ◌∙◌,
-  subst,
-  arith,
-  eq-eqb,
-}
+use Rattle.std.proofs.Common.{◌≡◌, ℕ, zero, suc, ◌+◌, ◌/◌, ◌%◌, ◌≤◌, ◌==◌, Bool, true, false, List, ◌∷◌, length, Option, count_ones, refl, sym, ap, ◌∙◌, subst, arith, eq-eqb}
 use Rattle.std.specs.Int.{bit_at}
 use Rattle.std.specs.List.{Contains}
 use Rattle.std.specs.Option.{option_map_or}
@@ -41,7 +13,6 @@ use native.Mathlib.Decide.{ℕ_discrete}
 use Rattle.clog_base.specs.declared.cell.Table.{Table}
 use Rattle.path_core.specs.declared.seat.Seat.{Seat}
 use Rattle.path_core.specs.Allowed.{IsItsPlaces}
-use Rattle.path_core.specs.Parts.{seat_table, touches}
 use Rattle.path_core.proofs.lists.Heads.{first_in, later_in}
 use Rattle.path_rule.specs.Accepted.{places_from, place_at, tables_noted, places_of, IsPlaced}
 

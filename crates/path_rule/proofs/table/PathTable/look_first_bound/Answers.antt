@@ -1,4 +1,4 @@
-use Rattle.std.proofs.Common.{◌≡◌, ◌≢◌, ℕ, ◌<◌, Some, IsSome, refl, sym, ap, ◌∙◌, subst, arith}
+use Rattle.std.proofs.Common.{ℕ, ◌<◌, refl, sym, ap, ◌∙◌, subst, arith}
 use Rattle.std.specs.Prelude.{false, ◌+◌}
 use Rattle.path_core.specs.declared.event.Event.TheVariants.{Look}
 use Rattle.path_core.specs.declared.event.Place.TheVariants.{Bound}
