@@ -137,7 +137,8 @@ pub record Boxed {K : Type 0} (shows : K → Lasting) (seats : ℕ) (notes : Lis
   pub in_hands : (j : ℕ) (v : View) → get_elem? views j ≡ some v
       → HandsAs contents lasting pending progress append seats v.part v.hands v.role
   -- each note is somewhere, and one in a box has its stamp
-  pub noted : (n : EntryNote) → Contains notes n → IsSomewhere (ends lasting.logged) pending contents n
+  pub noted : (n : EntryNote) → Contains notes n → IsSomewhere (ends lasting.logged) pending
+    contents n
   pub stamped : (b : ℕ) (n : EntryNote) → Contains (contents b) n
       → Stamped claims append.current progress.gathered b (stamp b) n
   pub within : (b : ℕ) (n : EntryNote) → Contains (contents b) n → b < boxes seats
@@ -146,7 +147,8 @@ pub record Boxed {K : Type 0} (shows : K → Lasting) (seats : ℕ) (notes : Lis
   pub alone : (k b c : ℕ) → b ≢ c → ends_at k pending +
       (ends_at k (contents b) + ends_at k (contents c)) ≤ 1
   -- and it is not lasting
-  pub unlogged : (n : EntryNote) → IsKept pending contents n → ¬ Contains (ends lasting.logged) n.end.0
+  pub unlogged : (n : EntryNote) → IsKept pending contents n → ¬ Contains (ends lasting.logged)
+    n.end.0
 
 -- what the boxes of a new table of these sizes hold
 pub record AreFirst {K : Type 0} (shows : K → Lasting) (size : PathSize) (xs : List (Slot K)) :

@@ -155,8 +155,8 @@ SizedAs size (Opener k) z = z ≡ size
 abbrev pub IsSized : PathSize → View → Type 0
 IsSized size v = SizedAs size v.role v.size
 
--- A step of a kind that is built: none switches a memtable, and the log is stopped only with a count
--- of faults that has risen.
+-- A step of a kind that is built: none switches a memtable, and the log is stopped only with a
+-- count of faults that has risen.
 abbrev pub IsBuilt : ℕ → Event → Type 0
 IsBuilt opened (Switch by t m part) = ⊥
 IsBuilt opened (Raise by t m to) = ⊥
@@ -199,7 +199,8 @@ pub record Ruled {K : Type 0} (shows : K → Lasting) (size : PathSize)
   pub kept_to : ℕ
   pub may_be_kept : MayBeKept core kept_to
   -- the boxes show the notes that are not yet lasting, and the keeper what is
-  pub boxed : Boxed shows size.seats core.notes (shown size.at_open kept_to core) core.claims core.append s.homes
+  pub boxed : Boxed shows size.seats core.notes (shown size.at_open kept_to core) core.claims
+    core.append s.homes
       s.views
   -- a stopped log tells a count of faults that has risen since the keeper was opened
   pub risen : 0 < core.stopped → HasRisen size.at_open core.stopped

@@ -14,8 +14,8 @@ use path_core::{Keeper, KeeperFault};
 use std::alloc::Allocator;
 
 impl<K: Keeper, A: Allocator> PathTable<K, A> {
-    /// Ends a sync up to the last marker, once all boxes behind its barrier are gathered and the log
-    /// was found running. The keeper is lent what is pending, and the synced key is put at the
+    /// Ends a sync up to the last marker, once all boxes behind its barrier are gathered and the
+    /// log was found running. The keeper is lent what is pending, and the synced key is put at the
     /// marker; where the keeper has stopped, the log is, with the count of faults that the keeper
     /// shows and that is answered. After each answer the turn may be given back, and after a
     /// refusal all is pending still. It makes two steps at most, of which one is no look.

@@ -96,7 +96,8 @@ fn take_own<G: Gate>(
     requires range { IsRange (length held.now.bytes) found }
     requires some { 0 < share.workers }
     ensures { OnOk result (TakesLog tables.now
-        (numbered (is_taken_in share.workers share.worker share.round) number (placed held.now found ∷ []))
+        (numbered (is_taken_in share.workers share.worker share.round) number (placed held.now found
+        ∷ []))
         merged.old merged.new) }
 {
     if !share.takes(number) {

@@ -1,5 +1,20 @@
 -- A set of tables below a number is below that power of two.
-use Rattle.std.proofs.Common.{◌≡◌, ℕ, zero, suc, ◌/◌, ◌<◌, ◌≤◌, ◌^◌, IsTrue, sym, ap, ◌∙◌, arith, pow-suc}
+use Rattle.std.proofs.Common.{
+  ◌≡◌,
+  ℕ,
+  zero,
+  suc,
+  ◌/◌,
+  ◌<◌,
+  ◌≤◌,
+  ◌^◌,
+  IsTrue,
+  sym,
+  ap,
+  ◌∙◌,
+  arith,
+  pow-suc,
+}
 use Rattle.std.specs.Int.{bit_at}
 use Rattle.std.proofs.lemmas.Bool.{eqb-true}
 use Rattle.std.proofs.lemmas.Nat.Bits.{

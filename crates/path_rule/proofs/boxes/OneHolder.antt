@@ -66,7 +66,8 @@ module _ {K : Type 0} (shows : K → Lasting) (size : PathSize) (s : State (Slot
   law = core_lawful shows size s r
 
   abbrev KnowsHands : ℕ → Seat → Hands → Type 0
-  KnowsHands z p h = HandsAre r.boxed.contents (shown size.at_open r.kept_to x) r.boxed.pending r.boxed.progress
+  KnowsHands z p h = HandsAre r.boxed.contents (shown size.at_open r.kept_to x) r.boxed.pending
+    r.boxed.progress
       x.append
       size.seats z p h
 
@@ -142,7 +143,8 @@ module _ {K : Type 0} (shows : K → Lasting) (size : PathSize) (s : State (Slot
   Told n ρ t = Knows x r.events r.owner r.made r.boss n ρ t.part t.trail t.returned
 
   abbrev Hand : Role → View → Type 0
-  Hand ρ t = HandsAs r.boxed.contents (shown size.at_open r.kept_to x) r.boxed.pending r.boxed.progress x.append
+  Hand ρ t = HandsAs r.boxed.contents (shown size.at_open r.kept_to x) r.boxed.pending
+    r.boxed.progress x.append
       size.seats t.part t.hands ρ
 
   abbrev Has : ℕ → Role → View → Type 0

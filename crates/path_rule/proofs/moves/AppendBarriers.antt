@@ -108,7 +108,8 @@ module _ {K : Type 0} (shows : K → Lasting) (size : PathSize) (slots id : ℕ)
         tt,
         plays shows size s r id w m.0 there mine e refl may tt tt fits rows
             ((n + 2 ^ 63) % 2 ^ 64) n false m.0.hands told refl m.1 keeps
-            (boxed_goes shows size.seats x.notes (shown size.at_open r.kept_to x) x.claims x.claims x.append
+            (boxed_goes shows size.seats x.notes (shown size.at_open r.kept_to x) x.claims x.claims
+            x.append
             (next_of x e).append s.homes s.views r.boxed id w m.0 v' there mine refl out out
             held (still_held m.0.part held)
             (others_free shows size slots id m w mine s r there held)
@@ -123,11 +124,13 @@ module _ {K : Type 0} (shows : K → Lasting) (size : PathSize) (slots id : ℕ)
     where
       hands_of : (s : State (Slot K) View) (r : Ruled shows size s)
           → get_elem? s.views id ≡ some m.0
-          → HandsAre r.boxed.contents (shown size.at_open r.kept_to r.core) r.boxed.pending r.boxed.progress
+          → HandsAre r.boxed.contents (shown size.at_open r.kept_to r.core) r.boxed.pending
+          r.boxed.progress
           r.core.append
           size.seats w m.0.part m.0.hands
       hands_of s r there = subst (HandsAs r.boxed.contents
-          (shown size.at_open r.kept_to r.core) r.boxed.pending r.boxed.progress r.core.append size.seats
+          (shown size.at_open r.kept_to r.core) r.boxed.pending r.boxed.progress r.core.append
+          size.seats
           m.0.part
           m.0.hands) mine (r.boxed.in_hands id m.0 there)
 
@@ -170,7 +173,8 @@ module _ {K : Type 0} (shows : K → Lasting) (size : PathSize) (slots id : ℕ)
         tt,
         plays shows size s r id w m.0 there mine e refl may tt tt tt
             (rows_stay x e may (λ q. q) r.rows) g g false m.0.hands refl refl m.1 keeps
-            (boxed_goes shows size.seats x.notes (shown size.at_open r.kept_to x) x.claims x.claims x.append
+            (boxed_goes shows size.seats x.notes (shown size.at_open r.kept_to x) x.claims x.claims
+            x.append
             (next_of x e).append s.homes s.views r.boxed id w m.0 v' there mine refl out out
             held (still _ m.0.part.sync held)
             (others_free shows size slots id m w mine s r there held)

@@ -167,7 +167,8 @@ module _ {K : Type 0} (shows : K → Lasting) (size : PathSize) (slots id : ℕ)
         plays shows size s r id w m.0 there mine e refl may tt tt tt
             (rows_stay x e may (λ q. q) r.rows) g c false h refl
             (ap (λ k. seat_after m.0.part e (Number k) (told_by false h)) now) m.1 keeps
-            (boxed_goes shows size.seats x.notes (shown size.at_open r.kept_to x) x.claims (next_of x e).claims
+            (boxed_goes shows size.seats x.notes (shown size.at_open r.kept_to x) x.claims (next_of
+            x e).claims
             x.append
             (next_of x e).append s.homes s.views r.boxed id w m.0 v' there mine refl out out
             held (still _ m.0.part.sync held)

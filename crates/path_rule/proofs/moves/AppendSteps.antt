@@ -101,7 +101,8 @@ module _ {K : Type 0} (shows : K → Lasting) (size : PathSize) (slots id : ℕ)
 
         by_role : (ρ : Role) → Knows r.core r.events r.owner r.made r.boss j ρ u.part u.trail
             u.returned → HandsAs r.boxed.contents
-            (shown size.at_open r.kept_to r.core) r.boxed.pending r.boxed.progress r.core.append size.seats
+            (shown size.at_open r.kept_to r.core) r.boxed.pending r.boxed.progress r.core.append
+            size.seats
             u.part u.hands
             ρ
             → HoldsAs u.part.append (is_some u.part.sync) u.hands.box_taken (box_of w g) ρ → ⊥
@@ -175,7 +176,8 @@ module _ {K : Type 0} (shows : K → Lasting) (size : PathSize) (slots id : ℕ)
         home.1,
         plays shows size s r id w m.0 there mine e refl may tt tt fits rows (k + 1)
             (k + 1) false h now refl m.1 (takes box home.0)
-            (boxed_take shows size.seats x.notes (shown size.at_open r.kept_to x) x.claims x.claims x.append
+            (boxed_take shows size.seats x.notes (shown size.at_open r.kept_to x) x.claims x.claims
+            x.append
             (next_of x e).append s.homes s.views r.boxed id w m.0 v' there mine refl refl refl
             (λ i g l _ _. (l, refl)) refl C.issue g outside C.append refl),
         (λ z q role _ word. each_name shows size slots id m w mine 73 g
@@ -232,10 +234,12 @@ module _ {K : Type 0} (shows : K → Lasting) (size : PathSize) (slots id : ℕ)
         tt,
         plays shows size s r id w m.0 there mine e refl may tt tt fits rows
             ((n + (2 ^ 64 - 1)) % 2 ^ 64) n false m.0.hands now refl m.1 gives
-            (subst (λ l. Boxed shows size.seats x.notes (shown size.at_open r.kept_to x) x.claims (next_of x
+            (subst (λ l. Boxed shows size.seats x.notes (shown size.at_open r.kept_to x) x.claims
+            (next_of x
             e).append
             (put_back s.homes l) (set s.views id v')) (sym holds)
-            (boxed_give shows size.seats x.notes (shown size.at_open r.kept_to x) x.claims x.claims x.append
+            (boxed_give shows size.seats x.notes (shown size.at_open r.kept_to x) x.claims x.claims
+            x.append
             (next_of x e).append s.homes s.views r.boxed id w m.0 v' there mine refl refl refl
             (λ i g l _ _. (l, refl)) refl C.issue g y append C.append refl kept r.deep
             (low_seat s r there))),

@@ -137,7 +137,8 @@ module _ {K : Type 0} (shows : K → Lasting) (size : PathSize) (slots id : ℕ)
             (λ q. ⊎_elim (λ d. false≢true (sym bare ∙ d.0))
             (λ taken. false≢true (sym bare ∙
             ((subst (HandsAs r.boxed.contents
-            (shown size.at_open r.kept_to r.core) r.boxed.pending r.boxed.progress r.core.append size.seats
+            (shown size.at_open r.kept_to r.core) r.boxed.pending r.boxed.progress r.core.append
+            size.seats
             u.part
             u.hands) is (r.boxed.in_hands j u e)).other (box_of k (suc cur)) taken).holds)) q) h
 
@@ -145,7 +146,8 @@ module _ {K : Type 0} (shows : K → Lasting) (size : PathSize) (slots id : ℕ)
     looked : (n : ℕ) → n ≡ r.core.append.oldest → (h : Hands) (a : Act (Slot K)) → let e =
         Look w (Oldest Append) in let v' = view_after (with_hands h m.0) e n false in
         (Columns e m.0.part v'.part → Boxed shows size.seats r.core.notes
-        (shown size.at_open r.kept_to r.core) r.core.claims r.core.append (homes_after s.homes m.1 a)
+        (shown size.at_open r.kept_to r.core) r.core.claims r.core.append (homes_after s.homes m.1
+        a)
         (set s.views id v'))
         → Ruled shows size (stepped s 3 n id m.1 v' a) × Was m.0 w e
     looked n found h a boxed = let x = r.core in let e = Look w (Oldest Append) in
@@ -157,7 +159,8 @@ module _ {K : Type 0} (shows : K → Lasting) (size : PathSize) (slots id : ℕ)
         } in let rows = rows_stay x e may (λ q. q) r.rows in (
           plays shows size s r id w m.0 there mine e refl may tt tt tt rows n n false h found
               (ap (λ k. seat_after m.0.part e (Number k) (told_by false h)) found) m.1 a
-              (boxed (columns_now shows size s r id w m.0 there mine e refl may tt tt tt rows n n false
+              (boxed (columns_now shows size s r id w m.0 there mine e refl may tt tt tt rows n n
+              false
               h found (ap (λ k. seat_after m.0.part e (Number k) (told_by false h)) found))),
           was shows size s r id w m.0 there mine e may tt,
         )
@@ -180,11 +183,13 @@ module _ {K : Type 0} (shows : K → Lasting) (size : PathSize) (slots id : ℕ)
       let home = r.boxed.at_home box (omega arith) (other_free s r there held k empty passed) in
       let few = subst (λ (l : List EntryNote). length l + length ns ≤ 2 ^ 62)
       (sym ((hands_now shows size slots id m w mine s r there).desk held).1)
-      (few_kept shows size.seats x (core_lawful shows size s r) (shown size.at_open r.kept_to x) x.claims
+      (few_kept shows size.seats x (core_lawful shows size s r) (shown size.at_open r.kept_to x)
+      x.claims
       x.append s.homes s.views r.boxed box) in
       let did = looked s r there held n found h (takes box home.0)
       (λ C. boxed_gather shows size.seats x.notes
-      (shown size.at_open r.kept_to x) x.claims x.claims x.append x.append s.homes s.views r.boxed id w m.0 v'
+      (shown size.at_open r.kept_to x) x.claims x.claims x.append x.append s.homes s.views r.boxed
+      id w m.0 v'
       there
       mine refl out (C.append ∙ out) held
       (sym (is_some_held v'.part) ∙ (ap (λ (o : Option Issue). is_some o) C.issue
@@ -257,10 +262,12 @@ module _ {K : Type 0} (shows : K → Lasting) (size : PathSize) (slots id : ℕ)
       let sized = (known shows size s r id w m.0 there mine).0 in
       let box : ℕ → ℕ = λ d. box_of k (suc d) in
       let did = looked s r there held n found h gives
-      (λ C. subst (λ l. Boxed shows size.seats x.notes (shown size.at_open r.kept_to x) x.claims x.append
+      (λ C. subst (λ l. Boxed shows size.seats x.notes (shown size.at_open r.kept_to x) x.claims
+      x.append
       (put_back s.homes l) (set s.views id v')) (sym (holds ∙ (λ i. (box (now i), y) ∷ cs)))
       (boxed_give_back shows size.seats x.notes
-      (shown size.at_open r.kept_to x) x.claims x.claims x.append x.append s.homes s.views r.boxed id w m.0 v'
+      (shown size.at_open r.kept_to x) x.claims x.claims x.append x.append s.homes s.views r.boxed
+      id w m.0 v'
       there
       mine refl out (C.append ∙ out) held
       (sym (is_some_held v'.part) ∙ (ap (λ (o : Option Issue). is_some o) C.issue

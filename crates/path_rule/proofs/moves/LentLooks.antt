@@ -92,7 +92,8 @@ may_be_lent x L w opened key value by group may marked step lasting run shows is
     })
     (kept_below x key value h.kept may
     (λ k q. ap (λ (m : LastMarker). m.start) (same_marker (sym q ∙ marked)))
-    (record { by = by; start = value; barrier = Some group }) marked (ap (λ (l : Lasting). l.kept) E)))
+    (record { by = by; start = value; barrier = Some group }) marked (ap (λ (l : Lasting). l.kept)
+    E)))
   where
     same_marker : {a b : LastMarker} → Some a ≡ Some b → a ≡ b
     same_marker e = cc

@@ -156,7 +156,8 @@ module _ {K : Type 0} (shows : K → Lasting) (size : PathSize) (slots id : ℕ)
         → seat_after m.0.part e (reading_at (place_of e) found) (told_by false m.0.hands)
         ≡ seat_after m.0.part e (reading x (place_of e)) (told_of x e)
         → (Columns e m.0.part (view_after m.0 e found false).part
-        → Boxed shows size.seats (next_of x e).notes (shown size.at_open r.kept_to (next_of x e)) (next_of x
+        → Boxed shows size.seats (next_of x e).notes (shown size.at_open r.kept_to (next_of x e))
+        (next_of x
         e).claims
         (next_of x e).append s.homes (set s.views id (view_after m.0 e found false)))
         → (then : Me (Slot K) View → Type 0)
@@ -166,7 +167,8 @@ module _ {K : Type 0} (shows : K → Lasting) (size : PathSize) (slots id : ℕ)
       view_after m.0 e found false,
       keeps,
       tt,
-      plays shows size s r id w m.0 there mine e by may whole built spot rows n found false m.0.hands now
+      plays shows size s r id w m.0 there mine e by may whole built spot rows n found false
+      m.0.hands now
           told m.1 keeps (boxed (columns_now shows size s r id w m.0 there mine e by may whole
           built spot rows n found false m.0.hands now told)),
       ok (was shows size s r id w m.0 there mine e may whole),
@@ -190,7 +192,8 @@ module _ {K : Type 0} (shows : K → Lasting) (size : PathSize) (slots id : ℕ)
         (ap (λ k. seat_after m.0.part (Look w at) k (told_by false m.0.hands))
         (ap (reading_at at) found ∙ read_back x L at))
         (λ C. boxed_stay shows size.seats x.notes
-        (shown size.at_open r.kept_to x) x.claims x.claims x.append x.append s.homes s.views r.boxed id w m.0
+        (shown size.at_open r.kept_to x) x.claims x.claims x.append x.append s.homes s.views r.boxed
+        id w m.0
         (view_after m.0 (Look w at) n false) there mine refl refl refl
         (λ i g l _ _. (l, refl)) refl C.append C.issue refl)
         then (λ u. give ((refl, u), refl)

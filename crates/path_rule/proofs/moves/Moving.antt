@@ -157,7 +157,8 @@ module _ {K : Type 0} (shows : K → Lasting) (size : PathSize) (s : State (Slot
     }
 
     module _ (e : Event) (by : by_of e ≡ w) (may : IsStep r.core e) (whole : CarriesWhole e)
-        (built : IsBuilt size.at_open e) (spot : IsWord (place_of e)) (rows : HasRows (next_of r.core e)) (n found : ℕ)
+        (built : IsBuilt size.at_open e) (spot : IsWord (place_of e)) (rows : HasRows (next_of
+        r.core e)) (n found : ℕ)
         (filed : Bool) (h : Hands)
         (now : n ≡ word_of (left_by e (reading r.core (place_of e))))
         (told : seat_after v.part e (reading_at (place_of e) found) (told_by filed h)

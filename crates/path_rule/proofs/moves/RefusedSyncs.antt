@@ -161,7 +161,8 @@ module _ {K : Type 0} (shows : K → Lasting) (size : PathSize) (slots id : ℕ)
 
     boxed_now : (stopped : Option ℕ) (after : Lasting) (v' : View) → v'.role ≡ m.0.role
         → v'.part.append ≡ None → IsTrue (is_some v'.part.sync)
-        → v'.hands ≡ hands_with stopped → after.logged ≡ filter (is_at_most r.core.synced) r.core.notes
+        → v'.hands ≡ hands_with stopped → after.logged ≡ filter (is_at_most r.core.synced)
+        r.core.notes
         → refused_lasting kept stopped m.0.hands.lasting ≡ after
         → Boxed shows size.seats r.core.notes after r.core.claims r.core.append s.homes
         (set s.views id v')
@@ -172,7 +173,8 @@ module _ {K : Type 0} (shows : K → Lasting) (size : PathSize) (slots id : ℕ)
         subst (λ (l : List EntryNote). IsPermutation l pending) D.1 perm in
         let back : (n : EntryNote) → Contains pending n → Contains B.pending n =
         λ n a. Contains-permutation pending B.pending n (IsPermutation-sym B.pending pending P) a in
-        boxed_desk_turns shows size.seats x.notes (shown size.at_open r.kept_to x) after x.claims x.append
+        boxed_desk_turns shows size.seats x.notes (shown size.at_open r.kept_to x) after x.claims
+        x.append
         s.homes s.views B id w m.0 v' there mine role
         (outside shows size slots id m w mine s r there held) out held on empty
         (ap (λ (h : Hands). h.box_taken) hands ∙ empty)
@@ -182,13 +184,15 @@ module _ {K : Type 0} (shows : K → Lasting) (size : PathSize) (slots id : ℕ)
           ap (λ (h : Hands). h.progress) hands ∙ D.2,
         )
         (ap (λ (h : Hands). h.swept) hands)
-        (λ n q. ⊎_elim (λ a. inl (subst (λ (l : List EntryNote). Contains (ends l) n.end.0) (sym logged) a))
+        (λ n q. ⊎_elim (λ a. inl (subst (λ (l : List EntryNote). Contains (ends l) n.end.0) (sym
+        logged) a))
         (λ z. inr (⊎_elim (λ p. inl (Contains-permutation B.pending pending n P p))
         (λ b. inr b) z)) (B.noted n q))
         (λ n q. ⊎_elim (λ a. B.sound n (inl (back n a))) (λ b. B.sound n (inr b)) q)
         (λ k. let c = sum_by-IsPermutation
         (λ (a : EntryNote). cond {A = ℕ} (is_note_at k a) 1 0) B.pending pending P in omega arith)
-        (λ n q old. let old' = subst (λ (l : List EntryNote). Contains (ends l) n.end.0) logged old in
+        (λ n q old. let old' = subst (λ (l : List EntryNote). Contains (ends l) n.end.0) logged old
+        in
         ⊎_elim (λ a. B.unlogged n (inl (back n a)) old') (λ b. B.unlogged n (inr b) old') q)
 
   pub keeps_refused : CarriesAs shows (refused_lasting kept m.0.hands.lasting.stopped
@@ -259,7 +263,8 @@ module _ {K : Type 0} (shows : K → Lasting) (size : PathSize) (slots id : ℕ)
         );
       } in
       let built = subst (λ (k : ℕ). HasRisen k value) (ap (λ (l : Lasting). l.at_open) D.0) risen in
-      let after_is : refused_lasting kept (Some value) m.0.hands.lasting ≡ shown size.at_open k.0 (next_of x e) =
+      let after_is : refused_lasting kept (Some value) m.0.hands.lasting ≡ shown size.at_open k.0
+      (next_of x e) =
       (λ j. refused_lasting (k.2 j) (sym (counts_fault value above) j) (D.0 j)) in (
         v',
         keeps,

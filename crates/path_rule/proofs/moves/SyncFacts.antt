@@ -97,7 +97,8 @@ module _ {K : Type 0} (shows : K → Lasting) (size : PathSize) (slots id : ℕ)
               (λ n h. B.sound n (inl h)) (λ n h. B.unlogged n (inl h))
               (λ k. let a = B.alone k 0 1 (λ q. absurd (omega arith)) in omega arith)
               (λ n h le. gathered_all shows size.seats x.notes
-              (shown size.at_open r.kept_to x) x.claims x.append s.homes s.views B whole M.number group M.inside
+              (shown size.at_open r.kept_to x) x.claims x.append s.homes s.views B whole M.number
+              group M.inside
               M.marker
               M.barrier below n h
               (omega arith)),

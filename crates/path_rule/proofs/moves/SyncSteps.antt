@@ -119,7 +119,8 @@ module _ {K : Type 0} (shows : K → Lasting) (size : PathSize) (slots id : ℕ)
       law.each_claim_noted_once law.notes_are_claims k h) in
       let both : ends (old ++ run) ≡ lasting_ends x ++ ends run =
       map-append (λ (k : EntryNote). k.end.0) old run in
-      let now_is : more_lasting run value (shown size.at_open r.kept_to x) ≡ shown size.at_open value (next_of x e) =
+      let now_is : more_lasting run value (shown size.at_open r.kept_to x) ≡ shown size.at_open
+      value (next_of x e) =
       (λ j. record (more_lasting run value (shown size.at_open r.kept_to x)) {
         logged = lasts j;
         kept = sym (none_kept value value x.notes (omega arith)) j;
@@ -136,7 +137,8 @@ module _ {K : Type 0} (shows : K → Lasting) (size : PathSize) (slots id : ℕ)
       (Contains-append_cases (lasting_ends x) (ends run) q.end.0
       (subst (λ (l : List ℕ). Contains l q.end.0) both h)) in
       let boxed = boxed_desk_turns shows size.seats x.notes (shown size.at_open r.kept_to x)
-      (more_lasting run value (shown size.at_open r.kept_to x)) x.claims x.append s.homes s.views B id w
+      (more_lasting run value (shown size.at_open r.kept_to x)) x.claims x.append s.homes s.views B
+      id w
       m.0 v'
       there mine refl out out held (still_some m.0.part.sync held) empty empty
       (others_free shows size slots id m w mine s r there held) left

@@ -67,7 +67,8 @@ module _ {K : Type 0} (shows : K → Lasting) (size : PathSize) (slots id : ℕ)
       let then = SyncTaken shows (step slots 7 0 1 none) m n in
       exchanged n 0 1 (λ z. Owes shows size slots id m w mine s 7 z then)
       (λ hit. let e = TakeTurn w Sync in let is = as_part shows size slots id m w mine s r there in
-      let h = with_desk (shown size.at_open r.kept_to x) r.boxed.pending r.boxed.progress m.0.hands in
+      let h = with_desk (shown size.at_open r.kept_to x) r.boxed.pending r.boxed.progress m.0.hands
+      in
       let v' = view_after (with_hands h m.0) e 1 false in
       let free = unheld x Sync (ap Number (sym (r.words (TurnWord Sync) tt) ∙ hit)) in
       let in_it = within shows size slots id m w mine s r there in
@@ -86,7 +87,8 @@ module _ {K : Type 0} (shows : K → Lasting) (size : PathSize) (slots id : ℕ)
             (ap (λ k. seat_after m.0.part e (Number 1) (record { files = false; marker = k }))
             (sym r.boxed.marked)) m.1 (takes desk_box home.0)
             (boxed_desk_take shows size.seats x.notes
-            (shown size.at_open r.kept_to x) x.claims x.append s.homes s.views r.boxed id w m.0 v' there mine
+            (shown size.at_open r.kept_to x) x.claims x.append s.homes s.views r.boxed id w m.0 v'
+            there mine
             refl
             idle.append idle.append empty empty refl refl (refl, refl, refl)),
         each_seat_name shows size slots id m w mine
@@ -153,7 +155,8 @@ module _ {K : Type 0} (shows : K → Lasting) (size : PathSize) (slots id : ℕ)
             (λ l. Boxed shows size.seats x.notes (shown size.at_open r.kept_to x) x.claims x.append
             (put_back s.homes l) (set s.views id v')) (sym holds)
             (boxed_desk_give shows size.seats x.notes
-            (shown size.at_open r.kept_to x) x.claims x.append s.homes s.views r.boxed id w m.0 v' there mine
+            (shown size.at_open r.kept_to x) x.claims x.append s.homes s.views r.boxed id w m.0 v'
+            there mine
             refl out
             out empty empty refl y refl held fits r.deep))),
         each_seat_name shows size slots id m w mine

@@ -79,7 +79,8 @@ module _ {K : Type 0} (shows : K → Lasting) (size : PathSize) (slots id : ℕ)
       (rows_stay x e may (λ q. q) r.rows) (k + 1) (k + 1)
       (sym (more.1 ∙ ap (λ z. z + 1) (sym found ∙ hit))) refl
       (λ C. boxed_stay shows size.seats x.notes
-      (shown size.at_open r.kept_to x) x.claims x.claims x.append x.append s.homes s.views r.boxed id w m.0 v'
+      (shown size.at_open r.kept_to x) x.claims x.claims x.append x.append s.homes s.views r.boxed
+      id w m.0 v'
       there
       mine refl refl refl (λ i g l _ _. (l, refl)) refl C.append C.issue refl)
       then (λ u z h role _ word. each_name shows size slots id m w mine 72 g
@@ -124,7 +125,8 @@ module _ {K : Type 0} (shows : K → Lasting) (size : PathSize) (slots id : ℕ)
       ∙ less_word c (some_left x (core_lawful shows size s r) Write w g here)
       (subst (λ z. z < 2 ^ 64) found low)) refl
       (λ C. boxed_stay shows size.seats x.notes
-      (shown size.at_open r.kept_to x) x.claims x.claims x.append x.append s.homes s.views r.boxed id w m.0 v'
+      (shown size.at_open r.kept_to x) x.claims x.claims x.append x.append s.homes s.views r.boxed
+      id w m.0 v'
       there
       mine refl refl refl (λ i g l _ _. (l, refl)) refl C.append C.issue refl)
       (StoppedBy (step slots (72 + 2 * g) 1 0 none) m n)

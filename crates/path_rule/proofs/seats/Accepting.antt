@@ -1,6 +1,29 @@
 -- What a deposited write knows of a table after it looked at its oldest live memtable, and at the
 -- bound of the first one.
-use Rattle.std.proofs.Common.{◌≡◌, ◌≢◌, ℕ, ◌<◌, Bool, true, false, length, get_or, Option, Some, None, is_some, IsTrue, IsSome, refl, sym, ap, ◌∙◌, arith, get_or-set_same, get_or-set_other}
+use Rattle.std.proofs.Common.{
+  ◌≡◌,
+  ◌≢◌,
+  ℕ,
+  ◌<◌,
+  Bool,
+  true,
+  false,
+  length,
+  get_or,
+  Option,
+  Some,
+  None,
+  is_some,
+  IsTrue,
+  IsSome,
+  refl,
+  sym,
+  ap,
+  ◌∙◌,
+  arith,
+  get_or-set_same,
+  get_or-set_other,
+}
 use Rattle.std.specs.Option.{option_map, option_map_or}
 use Rattle.std.specs.Prelude.{if◌then◌else◌}
 use Rattle.std.proofs.lemmas.Bool.{false≢true}

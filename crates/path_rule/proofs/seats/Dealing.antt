@@ -81,7 +81,8 @@ module _ {K : Type 0} (shows : K → Lasting) (size : PathSize) (id : ℕ) (v : 
     sized = subst (λ ρ. SizedAs size ρ v.size) role (r.each_seat id v at).0
 
     abbrev Hand : View → Type 0
-    Hand y = HandsAs r.boxed.contents (shown size.at_open r.kept_to r.core) r.boxed.pending r.boxed.progress
+    Hand y = HandsAs r.boxed.contents (shown size.at_open r.kept_to r.core) r.boxed.pending
+    r.boxed.progress
         r.core.append
         size.seats y.part y.hands y.role
 
@@ -135,7 +136,8 @@ module _ {K : Type 0} (shows : K → Lasting) (size : PathSize) (id : ℕ) (v : 
               (λ old. ⊎_elim
               (λ (t : (j ≡ id) × (handing v ≡ u)). subst Hand t.1
               (subst (HandsAs r.boxed.contents
-              (shown size.at_open r.kept_to r.core) r.boxed.pending r.boxed.progress r.core.append size.seats
+              (shown size.at_open r.kept_to r.core) r.boxed.pending r.boxed.progress r.core.append
+              size.seats
               v.part
               v.hands) (sym (ap one_on role)) tt))
               (λ (t : (j ≢ id) × (get_elem? s.views j ≡ some u)). r.boxed.in_hands j u t.1)

@@ -85,7 +85,8 @@ module _ {K : Type 0} (shows : K → Lasting) (size : PathSize) (id : ℕ) (v : 
             (λ apart'. free j x (set_else (set s.views id (taking v u)) other j spent far
             ∙ (set_else s.views id j (taking v u) apart' ∙ e)) h)))
             (λ j x e. let Hand : View → Type 0 = λ y. HandsAs r.boxed.contents
-            (shown size.at_open r.kept_to r.core) r.boxed.pending r.boxed.progress r.core.append size.seats
+            (shown size.at_open r.kept_to r.core) r.boxed.pending r.boxed.progress r.core.append
+            size.seats
             y.part
             y.hands y.role in ⊎_elim
             (λ (t : (j ≡ other) × (spent ≡ x)). subst Hand t.1 tt)

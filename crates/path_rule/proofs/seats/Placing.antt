@@ -1,5 +1,30 @@
 -- What a seat's places are, for the tables of its note.
-use Rattle.std.proofs.Common.{◌≡◌, ℕ, zero, suc, ◌+◌, ◌/◌, ◌%◌, ◌≤◌, ◌==◌, Bool, true, false, List, ◌∷◌, length, Option, count_ones, refl, sym, ap, ◌∙◌, subst, arith, eq-eqb}
+use Rattle.std.proofs.Common.{
+  ◌≡◌,
+  ℕ,
+  zero,
+  suc,
+  ◌+◌,
+  ◌/◌,
+  ◌%◌,
+  ◌≤◌,
+  ◌==◌,
+  Bool,
+  true,
+  false,
+  List,
+  ◌∷◌,
+  length,
+  Option,
+  count_ones,
+  refl,
+  sym,
+  ap,
+  ◌∙◌,
+  subst,
+  arith,
+  eq-eqb,
+}
 use Rattle.std.specs.Int.{bit_at}
 use Rattle.std.specs.List.{Contains}
 use Rattle.std.specs.Option.{option_map_or}
@@ -45,7 +70,8 @@ module _ (memtable : ℕ → ℕ) where
       → Contains (places_from memtable more first bits)
       (record { 0 = first + t }, memtable (first + t))
   is_there zero first bits t few set =
-      absurd (let none = ap (λ (n : ℕ). bit_at n t) (no_bits bits few) ∙ bit_at-zero t in omega arith)
+      absurd (let none = ap (λ (n : ℕ). bit_at n t) (no_bits bits few) ∙ bit_at-zero t in omega
+      arith)
     where
       no_bits : (n : ℕ) → n ≤ 0 → n ≡ 0
       no_bits n l = omega arith

@@ -31,7 +31,8 @@ returns g c = let t = c.args.self in let b = c.args.member in
     (subst (λ (z : PathSize). HasAll z.seats b.number b.seat.me.0.returned)
     (sym t.keyed) c.requires.all) (holds_none b.seat.me.0 i.0 i.1 i.2)
     (slots_items closed.words) (slots_items closed.slots) c.close_with-closed.ensures.values.2 in
-    let k = subst (λ z. DeskIs (shows_of g.K.Keeper.holds) z (shown t.table.shared.key.at_open d.2.2.1.0.kept_to
+    let k = subst (λ z. DeskIs (shows_of g.K.Keeper.holds) z (shown t.table.shared.key.at_open
+    d.2.2.1.0.kept_to
     d.2.2.1.0.core) d.2.0 d.2.1)
     (some-injective d.0 c.take-first.result (sym d.1 ∙ c.take-first.ensures.value)
     ∙ c.in-Turn.is) d.2.3 in

@@ -18,28 +18,33 @@ store-requires g c = let t = c.args.self.now in let m = c.args.member.now in
     )
 
 pub invariant_of-member : goal.invariant_of-member
-invariant_of-member g c = let m = c.args.member.now in let d = c.store.ensures.2 m.number c.args.upto m.role
+invariant_of-member g c = let m = c.args.member.now in let d = c.store.ensures.2 m.number
+    c.args.upto m.role
     c.requires.marker in
     record { role = ap (λ (v : View). v.role) d.0.4.0 ∙ m.role }
 
 pub returns-clause-same : goal.returns-clause-same
-returns-clause-same g c = let m = c.args.member.now in let d = c.store.ensures.2 m.number c.args.upto m.role
+returns-clause-same g c = let m = c.args.member.now in let d = c.store.ensures.2 m.number
+    c.args.upto m.role
     c.requires.marker in
     (c.store.ensures.0, refl, d.1)
 
 pub returns-clause-step : goal.returns-clause-step
-returns-clause-step g c = let m = c.args.member.now in let d = c.store.ensures.2 m.number c.args.upto m.role
+returns-clause-step g c = let m = c.args.member.now in let d = c.store.ensures.2 m.number
+    c.args.upto m.role
     c.requires.marker in
     (d.0.0, d.0.1, d.0.2, d.0.3, record { view = d.0.4.0; was = d.0.4.1 })
 
 pub returns-clause-give : goal.returns-clause-give
-returns-clause-give g c = let m = c.args.member.now in let d = c.store.ensures.2 m.number c.args.upto m.role
+returns-clause-give g c = let m = c.args.member.now in let d = c.store.ensures.2 m.number
+    c.args.upto m.role
     c.requires.marker in
     λ may. subst MayGive (sym d.0.4.0) (gives_still (λ (t : SyncTurn).
     record t { stopped = Some c.args.value }) (λ t. refl) (λ t. refl) m.seat.me.0 _ refl refl may)
 
 pub returns-clause-desk : goal.returns-clause-desk
-returns-clause-desk g c = let m = c.args.member.now in let d = c.store.ensures.2 m.number c.args.upto m.role
+returns-clause-desk g c = let m = c.args.member.now in let d = c.store.ensures.2 m.number
+    c.args.upto m.role
     c.requires.marker in
     carries_on (shows_of g.K.Keeper.holds) m.seat.me c.store.new.seat.me
     (refused_lasting d.0.0 (Some c.args.value) m.seat.me.0.hands.lasting) d.0.1
