@@ -16,7 +16,6 @@ use Rattle.std.proofs.Common.{
   Some,
   None,
   refl,
-  sym,
   subst,
   inl,
   inr,

@@ -2,10 +2,8 @@
 use Rattle.std.proofs.Common.{
   ◌≡◌,
   ℕ,
-  ◌<◌,
   ◌≤◌,
   List,
-  [],
   Bool,
   true,
   false,
@@ -20,7 +18,7 @@ use Rattle.std.proofs.Common.{
   inl,
   inr,
 }
-use Rattle.std.specs.Prelude.{Contains, IfSome, is_some}
+use Rattle.std.specs.Prelude.{IfSome, is_some}
 use Rattle.std.specs.FinMap as finmap
 use Rattle.std.proofs.lemmas.Bool.{true≢false}
 use Rattle.std.proofs.lemmas.List.Elements.{All-contains}
@@ -29,7 +27,7 @@ use Rattle.clog_base.specs.declared.cell.CellKey.{CellKey}
 use Rattle.clog_cells.specs.Merge.{IsMerge}
 use Rattle.clog_cells.proofs.Made.{merge_of}
 use Rattle.clog_disk.specs.Files.{Files, Told, bytes_at}
-use Rattle.clog_disk.specs.Images.{SameImages, Unchanged}
+use Rattle.clog_disk.specs.Images.{Unchanged}
 use Rattle.clog_table.specs.declared.table_file.TableFile.{TableFile}
 use Rattle.clog_crash.specs.Flush.{IsSameFolder}
 use Rattle.clog_crash.specs.Folder.{
@@ -48,7 +46,6 @@ use Rattle.clog_crash.proofs.Folders.{restored_tables, undamaged_tables}
 use Rattle.clog_crash.proofs.TableFiles.{known_read, tables_are_good}
 use Rattle.clog_crash.proofs.changes.Covering.{exactly}
 use Rattle.clog_folder.specs.Folder.{CanBeRead}
-use Rattle.clog_store.specs.Filing.{IsRecoveryPut}
 use Rattle.clog_store.specs.Named.{IsLateTable, id_limit}
 use Rattle.clog_store.specs.Opened.{CanBeOpened, HasGreatId, HasManyTables, IsOpened}
 use Rattle.clog_store.proofs.Ids.{same_base}

@@ -16,7 +16,6 @@ use Rattle.std.proofs.Common.{
   inr,
   refl,
   sym,
-  ap,
   subst,
   ◌∙◌,
   arith,
@@ -265,7 +264,8 @@ in_logged_cell before id ms new pair h =
 -- ---- what is restored
 
 table_cell_stays : (before : Files) (id : ℕ) (ms : List Mutation) → IsNew before id ms
-    → (pair : CellKey × Cell) → IsTableCell before pair → IsTableCell (with_segment before id ms) pair
+    → (pair : CellKey × Cell) → IsTableCell before pair → IsTableCell (with_segment before id ms)
+    pair
 table_cell_stays before id ms new pair c = record {
   read = c.read;
   there = read_stays before id ms new.fits c.read c.there;
@@ -273,7 +273,8 @@ table_cell_stays before id ms new pair c = record {
 }
 
 table_cell_before : (before : Files) (id : ℕ) (ms : List Mutation) → IsNew before id ms
-    → (pair : CellKey × Cell) → IsTableCell (with_segment before id ms) pair → IsTableCell before pair
+    → (pair : CellKey × Cell) → IsTableCell (with_segment before id ms) pair → IsTableCell before
+    pair
 table_cell_before before id ms new pair c = record {
   read = c.read;
   there = read_before before id ms new.fits c.read c.there;

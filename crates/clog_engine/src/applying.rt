@@ -32,8 +32,8 @@ impl From<OutOfMemory> for Status {
     }
 }
 
-/// Applies the source's mutations to the disk, and gives the report. A folder that holds segments is
-/// recovered first; all other memory is taken before the segment comes onto the disk.
+/// Applies the source's mutations to the disk, and gives the report. A folder that holds segments
+/// is recovered first; all other memory is taken before the segment comes onto the disk.
 pub(crate) fn apply<T: Threads + Sync, S: Source, D: Disk, C: Clock, G: Gate + Sync>(
     rt: &T,
     alloc: Global,

@@ -102,10 +102,11 @@ fn answer<T: Threads + Sync, R: Source, K: Sink, D: Disk, C: Clock, G: Gate + Sy
 /// damaged; of `scan` that the report tells what the segment's file holds.
 ///
 /// Where the words ask for what can be done and no fault was counted, it ends with `Ok`, or for
-/// want of memory. A fault of the disk is told: without `DiskFault` none was counted. What the words
-/// or the mutation file refuse by themselves leaves the disk uncalled, and what the folder refuses
-/// for what it holds leaves it as it was. After `DiskFault` and `OutOfMemory` the folder restores to
-/// what it restored to before, or the new segment has come in part (`DiskFault`) or whole.
+/// want of memory. A fault of the disk is told: without `DiskFault` none was counted. What the
+/// words or the mutation file refuse by themselves leaves the disk uncalled, and what the folder
+/// refuses for what it holds leaves it as it was. After `DiskFault` and `OutOfMemory` the folder
+/// restores to what it restored to before, or the new segment has come in part (`DiskFault`) or
+/// whole.
 pub fn run<
     T: Threads + Wait + Sync,
     R: Source,

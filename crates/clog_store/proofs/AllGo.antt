@@ -44,7 +44,7 @@ use Rattle.clog_disk.specs.declared.disk.DiskFault.{DiskFault}
 use Rattle.clog_disk.specs.declared.disk.DiskFault.TheVariants.{NoSuchFile}
 use Rattle.clog_disk.specs.Causes.{Finds}
 use Rattle.clog_disk.specs.Changes.{Adds}
-use Rattle.clog_disk.specs.Files.{Files, PutsAt, Told, at_name, with_at}
+use Rattle.clog_disk.specs.Files.{Files, PutsAt, at_name, with_at}
 use Rattle.clog_disk.specs.Images.{IsImage, LastsAs, LastsLike, TurnsLike, TurnsTo, Within}
 use Rattle.clog_disk.proofs.Named.{gone_there, put_there, same_or_other}
 use Rattle.clog_scan.specs.Cut.{Section}
@@ -52,7 +52,7 @@ use Rattle.clog_scan.specs.Segment.{Entry, IsSegment}
 use Rattle.clog_crash.specs.Changes.{DiffersAt}
 use Rattle.clog_crash.specs.Flush.{IsCovered}
 use Rattle.clog_crash.specs.Folder.{IsHeld}
-use Rattle.clog_crash.specs.Log.{Write, IsResting}
+use Rattle.clog_crash.specs.Log.{Write}
 use Rattle.clog_crash.specs.Readings.{IsLoggedIn, Reading}
 use Rattle.clog_crash.specs.Rest.{settled}
 use Rattle.clog_crash.specs.Restore.{end_position}

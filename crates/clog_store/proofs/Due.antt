@@ -2,7 +2,6 @@
 use Rattle.std.proofs.Common.{
   ◌≡◌,
   ℕ,
-  ◌<◌,
   Bool,
   true,
   false,
@@ -38,9 +37,7 @@ use Rattle.std.proofs.lemmas.Map.Lookups.{exact_unsigned}
 use Rattle.std.proofs.lemmas.Map.Views.{btree_set_contains_iff}
 use Rattle.clog_spec.specs.Sizes.{most_tables}
 use Rattle.clog_base.specs.Positions.{ordinal_of}
-use Rattle.clog_base.proofs.Members.{nothing_there}
 use Rattle.path_core.specs.declared.note.EntryNote.{EntryNote}
-use Rattle.path_core.specs.Droppable.{is_of}
 use Rattle.path_core.specs.Keeper.{Holding, IsDue, IsFiledIn, MayDrop}
 use Rattle.clog_store.specs.declared.droppable.Known.{Known}
 use Rattle.clog_store.specs.declared.publishing.Published.{Published}
@@ -49,7 +46,6 @@ use Rattle.clog_store.specs.Dropping.{
   AreFiled,
   ArePicked,
   ArePlaced,
-  ArePublished,
   HasEntry,
   IsClosedAndGoes,
   IsFiledAt,

@@ -11,7 +11,6 @@ use Rattle.std.proofs.Common.{
   Option,
   Some,
   None,
-  true,
   false,
   IfSome,
   refl,
@@ -43,7 +42,8 @@ both None read P h = tt
 both (Some f) None P h = tt
 both (Some f) (Some r) P h = h f r refl refl
 
-pub at_both : (told : Option Files) (read : Option Reading) (P : Files → Reading → Type 0) (f : Files)
+pub at_both : (told : Option Files) (read : Option Reading) (P : Files → Reading → Type 0)
+    (f : Files)
     (r : Reading) → BothTold told read P → told ≡ Some f → read ≡ Some r → P f r
 at_both told read P f r is t e =
     subst (λ (o : Option Reading). IfSome o (λ q. P f q)) e

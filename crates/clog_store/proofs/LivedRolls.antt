@@ -13,7 +13,6 @@ use Rattle.std.proofs.Common.{
   take,
   Option,
   Some,
-  true,
   false,
   refl,
   sym,
@@ -125,8 +124,10 @@ module _ {D : Type 0} (files : D → Option Files) (moment : D → ℕ)
         lives = record {
           began = lives.began;
           few = omega arith;
-          shown = shown_on files moment since leaves read_at s rolled lives.began outlives_rolled lives.shown;
-          lasts = lasts_on files moment since leaves read_at s rolled (λ image left. counts image left) no_more_rolled
+          shown = shown_on files moment since leaves read_at s rolled lives.began outlives_rolled
+          lives.shown;
+          lasts = lasts_on files moment since leaves read_at s rolled (λ image left. counts image
+          left) no_more_rolled
               outlives_rolled;
           rests = λ going. both (files s.disk) (read_at s.disk s.opened) _ (λ f r is read.
               subst (λ (l : List Section).

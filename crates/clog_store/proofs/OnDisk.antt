@@ -37,10 +37,8 @@ use Rattle.clog_cells.proofs.Merging.{of_same}
 use Rattle.clog_mutation.specs.Payload.{cells_of, pair_of, payload_of}
 use Rattle.clog_mutation.proofs.Decoding.{one_mutation}
 use Rattle.clog_scan.specs.Segment.{Entry}
-use Rattle.clog_table.specs.declared.table_file.TableFile.{TableFile}
 use Rattle.clog_crash.specs.Changes.{AreCovered, IsLiveInside, IsTrueOf}
-use Rattle.clog_crash.specs.Readings.{IsCellOf, IsLoggedIn, IsSkippedIn, Reading}
-use Rattle.clog_crash.specs.Restore.{end_position}
+use Rattle.clog_crash.specs.Readings.{IsCellOf, IsSkippedIn, Reading}
 use Rattle.clog_crash.proofs.changes.Covering.{merges_are_true}
 use Rattle.path_core.specs.declared.note.EntryNote.{EntryNote}
 use Rattle.path_core.specs.Droppable.{is_of}
@@ -49,7 +47,6 @@ use Rattle.path_core.specs.Keeper.{
   IsDue,
   IsFiledIn,
   IsLoggedCell,
-  MayDrop,
   MayPublish,
   PutFile,
   upper_from,

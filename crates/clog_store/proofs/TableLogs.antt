@@ -32,8 +32,8 @@ use Rattle.std.proofs.Common.{
   inr,
   arith,
 }
-use Rattle.std.specs.Prelude.{◌↔◌, ◌&&◌, ◌==◌, ◌⊎◌, Contains, IsTrue}
-use Rattle.std.specs.BTreeMap.{get, is_at}
+use Rattle.std.specs.Prelude.{◌↔◌, ◌&&◌, ◌==◌, ◌⊎◌, Contains}
+use Rattle.std.specs.BTreeMap.{is_at}
 use Rattle.std.specs.Map.{lookup}
 use Rattle.std.specs.List.{All, filter}
 use Rattle.std.specs.Ordering.{nat_cmp}

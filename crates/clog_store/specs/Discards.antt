@@ -17,8 +17,6 @@ use Rattle.std.specs.Prelude.{
   take,
   drop,
   Option,
-  Some,
-  None,
   option_map,
   Contains,
   IfSome,

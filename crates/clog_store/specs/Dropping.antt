@@ -30,7 +30,7 @@ use Rattle.clog_intervals.specs.Hulls.{IsHull}
 use Rattle.clog_intervals.specs.Union.{Holds, IsCovered}
 use Rattle.path_core.specs.declared.note.EntryNote.{EntryNote}
 use Rattle.path_core.specs.Droppable.{is_of}
-use Rattle.path_core.specs.Keeper.{Holding, IsDue, IsFiledIn, PutFile}
+use Rattle.path_core.specs.Keeper.{Holding, IsDue, PutFile}
 use Rattle.path_core.specs.Parts.{touches}
 use Rattle.clog_store.specs.declared.droppable.Known.{Known}
 use Rattle.clog_store.specs.declared.publishing.Published.{Published}

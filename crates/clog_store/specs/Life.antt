@@ -1,5 +1,5 @@
--- A store over its whole life: what each image since its opening restores, and that what lasts stays
--- in each later one.
+-- A store over its whole life: what each image since its opening restores, and that what lasts
+-- stays in each later one.
 use Rattle.std.specs.Prelude.{
   ◌≡◌,
   ◌<◌,
@@ -35,8 +35,8 @@ pub record State (D : Type 0) : Type 0 where
   pub synced : ℕ
   pub is_stopped : Bool
 
--- A segment can hold the log's sections. Where the disk tells its files, it ends behind them, and no
--- later segment is there.
+-- A segment can hold the log's sections. Where the disk tells its files, it ends behind them, and
+-- no later segment is there.
 pub record HasEnd (told : Option Files) (id size : ℕ) (sections : List Section) : Type 0 where
   pub stored : IsStored id sections
   pub size_is : size ≡ length (segment_bytes id sections)

@@ -148,8 +148,8 @@ impl<D: Disk> Store<D> {
         }
     }
 
-    // Puts one section more, whose bytes these are, behind those of the segment at hand. It is kept,
-    // and does not last yet.
+    // Puts one section more, whose bytes these are, behind those of the segment at hand. It is
+    // kept, and does not last yet.
     fn keep(&mut self, section: Written, bytes: &[u8]) -> Result<(), StoreFault>
         requires brings { Brings self.old.id (take self.old.synced self.old.sections)
             (drop self.old.synced self.old.sections) (section ∷ []) bytes.now }

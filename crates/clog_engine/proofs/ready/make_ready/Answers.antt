@@ -1,7 +1,6 @@
 use Rattle.std.proofs.Common.{Ok, subst}
 use Rattle.clog_engine.specs.declared.standing.Found.{Found}
 use Rattle.clog_engine.specs.Looking.{Looks}
-use Rattle.clog_disk.specs.Images.{Unchanged}
 use Rattle.clog_folder.specs.Passing.{IsUntouched}
 use Rattle.clog_engine.proofs.LogReady.{
   kept_log,
@@ -10,7 +9,6 @@ use Rattle.clog_engine.proofs.LogReady.{
   log_refused,
   unchanged_on,
 }
-use Rattle.clog_engine.proofs.Quiet.{told_folder, told_on}
 use Rattle.clog_engine.proofs.Readied.{log_readied, plain_readied}
 use Rattle.clog_engine.proofs.ready.make_ready.Goals as goal
 
@@ -28,7 +26,8 @@ returns-in-Ok-Plain-clause-readies g c =
     plain_readied c.args.dump (g.C.Clock.tells c.args.clock.now) (D.files old) (D.files looked)
     (D.leaves old) (D.leaves looked) c.in-Ok-Plain.standing c.now_ms.result c.base.result
     (subst (λ (f : Found). Looks c.args.dump (D.files old) (D.faults old) (D.faults looked) (Ok f))
-    c.in-Ok-Plain.field-0-is c.in-Ok-Plain.ensures.looks) c.now_ms.ensures.told c.now_ms.ensures.bound c.base.ensures
+    c.in-Ok-Plain.field-0-is c.in-Ok-Plain.ensures.looks) c.now_ms.ensures.told
+    c.now_ms.ensures.bound c.base.ensures
     c.look.ensures.keeps.same
 
 pub returns-in-Ok-clause-readies : goal.returns-in-Ok-clause-readies
@@ -42,7 +41,8 @@ returns-in-Ok-clause-readies g c =
     (D.files new) (D.leaves old) (D.leaves looked) (D.leaves new) c.in-Ok-Log.cells
     c.now_ms-in-Ok-Log.result c.in-Ok.base c.now_ms-in-Ok-Log.ensures.told c.look.ensures.keeps.same
     (subst (λ (f : Found). Looks c.args.dump (D.files old) (D.faults old) (D.faults looked) (Ok f))
-    c.in-Ok-Log.field-0-is c.in-Ok-Log.ensures.looks) ends.told ends.opens ends.fits ends.restored ends.lasts
+    c.in-Ok-Log.field-0-is c.in-Ok-Log.ensures.looks) ends.told ends.opens ends.fits ends.restored
+    ends.lasts
 
 pub returns-in-Err-recover-clause-readies : goal.returns-in-Err-recover-clause-readies
 returns-in-Err-recover-clause-readies g c =

@@ -4,7 +4,6 @@ use Rattle.std.proofs.Common.{
   ◌+◌,
   ◌∷◌,
   List,
-  Option,
   drop,
   get_or,
   take,
@@ -17,7 +16,6 @@ use Rattle.std.proofs.Common.{
 use Rattle.std.specs.Prelude.{option_map}
 use Rattle.std.proofs.lemmas.List.{drop_all, drop_more, take_more}
 use Rattle.clog_base.proofs.Members.{here}
-use Rattle.clog_disk.specs.Files.{Files}
 use Rattle.clog_disk.proofs.Moments.{goes_on_by, later_still, started}
 use Rattle.clog_disk.proofs.Telling.{same_told_self, same_told_then}
 use Rattle.clog_store.specs.Discards.{

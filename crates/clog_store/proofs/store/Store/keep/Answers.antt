@@ -1,4 +1,18 @@
-use Rattle.std.proofs.Common.{List, [], ◌∷◌, ◌+◌, length, take, drop, true, ap, sym, subst, arith, length-append}
+use Rattle.std.proofs.Common.{
+  List,
+  [],
+  ◌∷◌,
+  ◌+◌,
+  length,
+  take,
+  drop,
+  true,
+  ap,
+  sym,
+  subst,
+  arith,
+  length-append,
+}
 use Rattle.clog_scan.specs.Cut.{Section}
 use Rattle.clog_crash.specs.Sections.{Brings}
 use Rattle.clog_store.specs.Life.{HasEnd, Lives, LivesOn, State}
@@ -63,10 +77,12 @@ returns-in-Err-clause-lives g c lives =
     c.requires.brings in
     lives_from D.files D.moment D.since D.leaves D.read_at c.self.view_is
     (subst (λ (l : List Section). LivesOn D.files D.moment D.since D.leaves D.read_at before
-    (record before { disk = mid; sections = l; is_stopped = true })) (sym c.in_ok-push.ensures.items)
+    (record before { disk = mid; sections = l; is_stopped = true })) (sym
+    c.in_ok-push.ensures.items)
     (lives_torn D.files D.moment D.since D.leaves D.read_at before mid c.if-self.false lived
     (λ image left. g.met.D.Disk.counts_now mid (D.moment s.disk) image
-    c.keep_sections.ensures.later.no_sooner left) c.keep_sections.ensures.told c.keep_sections.ensures.later x (λ r rests.
+    c.keep_sections.ensures.later.no_sooner left) c.keep_sections.ensures.told
+    c.keep_sections.ensures.later x (λ r rests.
     c.keep_sections.ensures.any_moment r s.past.items (take s.synced ss) (drop s.synced ss) (x ∷ [])
     brings rests)))
 
@@ -93,7 +109,8 @@ returns-in-Err-OutOfMemory-clause-lives g c lives =
     (sym (c.take_back.ensures ss c.args.section c.in_ok-push.ensures.items))
     (lives_same D.files D.moment D.since D.leaves D.read_at before mid c.if-self.false lived
     (λ image left. g.met.D.Disk.counts_now mid (D.moment s.disk) image
-    c.keep_sections.ensures.later.no_sooner left) c.keep_sections.ensures.told c.keep_sections.ensures.later
+    c.keep_sections.ensures.later.no_sooner left) c.keep_sections.ensures.told
+    c.keep_sections.ensures.later
     (λ r rests. (no_failure c.keep_sections.result c.in-Err-OutOfMemory.is
     c.in-Err-OutOfMemory.field-0-is (λ other. c.keep_sections.ensures.refused other r s.past.items
     (take s.synced ss) (drop s.synced ss) rests)).1)
@@ -129,7 +146,8 @@ returns-in-Ok-clause-lives g c lives =
     before (record before { disk = mid; sections = l })) (sym c.in_ok-push.ensures.items)
     (lives_kept D.files D.moment D.since D.leaves D.read_at before mid c.if-self.false lived
     (λ image left. g.met.D.Disk.counts_now mid (D.moment s.disk) image
-    c.keep_sections.ensures.later.no_sooner left) c.keep_sections.ensures.told c.keep_sections.ensures.later x (λ r rests.
+    c.keep_sections.ensures.later.no_sooner left) c.keep_sections.ensures.told
+    c.keep_sections.ensures.later x (λ r rests.
     c.keep_sections.ensures.any_moment r s.past.items (take s.synced ss) (drop s.synced ss) (x ∷ [])
     brings rests) (λ r rests.
     c.in-Ok.ensures.kept r s.past.items (take s.synced ss) (drop s.synced ss) (x ∷ []) brings

@@ -1,4 +1,18 @@
-use Rattle.std.proofs.Common.{◌≡◌, ◌<◌, List, [], ◌∷◌, ◌++◌, length, sym, ◌∙◌, ap, ap₂, subst, arith}
+use Rattle.std.proofs.Common.{
+  ◌≡◌,
+  ◌<◌,
+  List,
+  [],
+  ◌∷◌,
+  ◌++◌,
+  length,
+  sym,
+  ◌∙◌,
+  ap,
+  ap₂,
+  subst,
+  arith,
+}
 use Rattle.clog_scan.specs.Cut.{Section}
 use Rattle.clog_crash.specs.Log.{Write}
 use Rattle.clog_store.specs.Life.{Lives, LivesOn, State}
