@@ -145,11 +145,17 @@ module _ {D : Type 0} (files : D → Option Files) (moment : D → ℕ)
             lives = record {
               began = began_still;
               few = few_still;
-              shown = shown_on files moment since leaves read_at s (record s { disk = new;
-              sections = longer; is_stopped = true })
+              shown = shown_on files moment since leaves read_at s (record s {
+                disk = new;
+                sections = longer;
+                is_stopped = true;
+              })
                   lives.began on lives.shown;
-              lasts = lasts_on files moment since leaves read_at s (record s { disk = new;
-              sections = longer; is_stopped = true })
+              lasts = lasts_on files moment since leaves read_at s (record s {
+                disk = new;
+                sections = longer;
+                is_stopped = true;
+              })
                   counts no_more on;
               rests = λ going. let no : true ≡ false = going in cc;
             };
@@ -166,11 +172,15 @@ module _ {D : Type 0} (files : D → Option Files) (moment : D → ℕ)
             lives = record {
               began = began_still;
               few = few_still;
-              shown = shown_on files moment since leaves read_at s (record s { disk = new;
-              sections = longer }) lives.began on
+              shown = shown_on files moment since leaves read_at s (record s {
+                disk = new;
+                sections = longer;
+              }) lives.began on
                   lives.shown;
-              lasts = lasts_on files moment since leaves read_at s (record s { disk = new;
-              sections = longer }) counts no_more on;
+              lasts = lasts_on files moment since leaves read_at s (record s {
+                disk = new;
+                sections = longer;
+              }) counts no_more on;
               rests = λ going.
                   rests_then (take s.synced longer) (drop s.synced longer) (λ r rests.
                   subst (λ (l : List Section).
@@ -214,9 +224,9 @@ module _ {D : Type 0} (files : D → Option Files) (moment : D → ℕ)
               began = began_still;
               few = lives.few;
               shown = shown_on files moment since leaves read_at s (record s { disk = new })
-              lives.began on lives.shown;
+                  lives.began on lives.shown;
               lasts = lasts_on files moment since leaves read_at s (record s { disk = new }) counts
-              (omega arith) on;
+                  (omega arith) on;
               rests = λ going. rests_then a b same;
             };
             outlives = on;
@@ -230,11 +240,15 @@ module _ {D : Type 0} (files : D → Option Files) (moment : D → ℕ)
             lives = record {
               began = began_still;
               few = lives.few;
-              shown = shown_on files moment since leaves read_at s (record s { disk = new;
-              is_stopped = true }) lives.began on
+              shown = shown_on files moment since leaves read_at s (record s {
+                disk = new;
+                is_stopped = true;
+              }) lives.began on
                   lives.shown;
-              lasts = lasts_on files moment since leaves read_at s (record s { disk = new;
-              is_stopped = true }) counts (omega arith)
+              lasts = lasts_on files moment since leaves read_at s (record s {
+                disk = new;
+                is_stopped = true;
+              }) counts (omega arith)
                   on;
               rests = λ going. let no : true ≡ false = going in cc;
             };
@@ -279,8 +293,10 @@ module _ {D : Type 0} (files : D → Option Files) (moment : D → ℕ)
               lives = record {
                 began = began_still;
                 few = omega arith;
-                shown = shown_on files moment since leaves read_at s (record s { disk = new;
-                synced = all }) lives.began on
+                shown = shown_on files moment since leaves read_at s (record s {
+                  disk = new;
+                  synced = all;
+                }) lives.began on
                     lives.shown;
                 lasts = both (files new) (read_at new s.opened) _ (λ f r is read image left.
                     subst (λ (l : List Section).

@@ -125,9 +125,9 @@ module _ {D : Type 0} (files : D → Option Files) (moment : D → ℕ)
           began = lives.began;
           few = omega arith;
           shown = shown_on files moment since leaves read_at s rolled lives.began outlives_rolled
-          lives.shown;
+              lives.shown;
           lasts = lasts_on files moment since leaves read_at s rolled (λ image left. counts image
-          left) no_more_rolled
+              left) no_more_rolled
               outlives_rolled;
           rests = λ going. both (files s.disk) (read_at s.disk s.opened) _ (λ f r is read.
               subst (λ (l : List Section).

@@ -138,7 +138,7 @@ pub record Boxed {K : Type 0} (shows : K → Lasting) (seats : ℕ) (notes : Lis
       → HandsAs contents lasting pending progress append seats v.part v.hands v.role
   -- each note is somewhere, and one in a box has its stamp
   pub noted : (n : EntryNote) → Contains notes n → IsSomewhere (ends lasting.logged) pending
-    contents n
+      contents n
   pub stamped : (b : ℕ) (n : EntryNote) → Contains (contents b) n
       → Stamped claims append.current progress.gathered b (stamp b) n
   pub within : (b : ℕ) (n : EntryNote) → Contains (contents b) n → b < boxes seats
@@ -148,7 +148,7 @@ pub record Boxed {K : Type 0} (shows : K → Lasting) (seats : ℕ) (notes : Lis
       (ends_at k (contents b) + ends_at k (contents c)) ≤ 1
   -- and it is not lasting
   pub unlogged : (n : EntryNote) → IsKept pending contents n → ¬ Contains (ends lasting.logged)
-    n.end.0
+      n.end.0
 
 -- what the boxes of a new table of these sizes hold
 pub record AreFirst {K : Type 0} (shows : K → Lasting) (size : PathSize) (xs : List (Slot K)) :

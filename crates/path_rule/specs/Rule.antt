@@ -200,7 +200,7 @@ pub record Ruled {K : Type 0} (shows : K → Lasting) (size : PathSize)
   pub may_be_kept : MayBeKept core kept_to
   -- the boxes show the notes that are not yet lasting, and the keeper what is
   pub boxed : Boxed shows size.seats core.notes (shown size.at_open kept_to core) core.claims
-    core.append s.homes
+      core.append s.homes
       s.views
   -- a stopped log tells a count of faults that has risen since the keeper was opened
   pub risen : 0 < core.stopped → HasRisen size.at_open core.stopped

@@ -32,8 +32,15 @@ abbrev pub spent_view : PathSize → View
 spent_view size = fresh_view Spent size
 
 abbrev pub spent : View
-spent = spent_view (record { tables = 0; seats = 0; capacity = 0; ordinals = 0; base = 0; at_open =
-    0 })
+spent = spent_view (record {
+  tables = 0;
+  seats = 0;
+  capacity = 0;
+  ordinals = 0;
+  base = 0;
+  at_open =
+      0;
+})
 
 abbrev pub handed_by : Role → PathSize → View
 handed_by (Opener k) size = new_seat k size

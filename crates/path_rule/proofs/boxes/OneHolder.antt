@@ -67,7 +67,7 @@ module _ {K : Type 0} (shows : K → Lasting) (size : PathSize) (s : State (Slot
 
   abbrev KnowsHands : ℕ → Seat → Hands → Type 0
   KnowsHands z p h = HandsAre r.boxed.contents (shown size.at_open r.kept_to x) r.boxed.pending
-    r.boxed.progress
+      r.boxed.progress
       x.append
       size.seats z p h
 
@@ -144,7 +144,7 @@ module _ {K : Type 0} (shows : K → Lasting) (size : PathSize) (s : State (Slot
 
   abbrev Hand : Role → View → Type 0
   Hand ρ t = HandsAs r.boxed.contents (shown size.at_open r.kept_to x) r.boxed.pending
-    r.boxed.progress x.append
+      r.boxed.progress x.append
       size.seats t.part t.hands ρ
 
   abbrev Has : ℕ → Role → View → Type 0

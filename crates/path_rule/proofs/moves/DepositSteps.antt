@@ -123,8 +123,11 @@ module _ {K : Type 0} (shows : K → Lasting) (size : PathSize) (slots id : ℕ)
             ((n + (2 ^ 64 - 1)) % 2 ^ 64) n false m.0.hands now refl m.1 gives
             (subst (λ (q : Lasting × List (ℕ × Slot K)). Boxed shows size.seats (next_of x e).notes
             q.0 x.claims (next_of x e).append (put_back s.homes q.1) (set s.views id v'))
-            (λ i. (kept_same x law w g note may size.at_open r.kept_to r.may_be_kept i, sym holds
-            i))
+            (λ i. (
+              kept_same x law w g note may size.at_open r.kept_to r.may_be_kept i,
+              sym holds
+                  i,
+            ))
             (boxed_put shows size.seats x.notes (next_of x e).notes (shown size.at_open r.kept_to x)
             x.claims
             x.append

@@ -168,7 +168,7 @@ module _ {K : Type 0} (shows : K → Lasting) (size : PathSize) (slots id : ℕ)
       keeps,
       tt,
       plays shows size s r id w m.0 there mine e by may whole built spot rows n found false
-      m.0.hands now
+          m.0.hands now
           told m.1 keeps (boxed (columns_now shows size s r id w m.0 there mine e by may whole
           built spot rows n found false m.0.hands now told)),
       ok (was shows size s r id w m.0 there mine e may whole),
