@@ -34,17 +34,36 @@ cp cut "commitlog/$name"
 put c | expect 'a torn tail' 0 "applied 1
 $(cell c)" '' "$pinsilver" apply --dump
 
-# A run that is killed in a removal, or in what comes before it, is ended by the next.
+# A run whose removal of a segment is refused is ended by the next. (Its first removal is for a file
+# that an earlier program may have left unfinished.)
 fresh
 put a | expect 'before a removal that is refused' 0 'applied 1' '' "$pinsilver" apply
 if has strace && strace -o /dev/null true 2>/dev/null; then
     put b | expect 'a removal is refused' 6 'error 6: disk fault' \
         'pinsilver: remove commitlog/CommitLog-6-*.log: Input/output error' \
         strace -o "$box/trace" -e trace=unlink,unlinkat \
-        -e inject=unlink,unlinkat:error=EIO:when=1 "$program" apply
+        -e inject=unlink,unlinkat:error=EIO:when=2 "$program" apply
     put b | expect 'the next run goes on' 0 "applied 1
 $(cell a)
 $(cell b)" '' "$pinsilver" apply --dump
+
+    # A run that is killed at any of its calls loses nothing that was acknowledged before it; of its
+    # own line all or nothing is there, and all where it has said so.
+    lost=
+    for call in openat write fsync rename unlink; do
+        for number in 1 2 3 4 5 6 7 8 9 10; do
+            rm -rf commitlog
+            put a | "$program" apply >/dev/null
+            (put b | strace -o "$box/trace" -e trace="$call" \
+                -e inject="$call":signal=KILL:when="$number" "$program" apply) >said 2>/dev/null
+            told=$(put c | "$program" apply --dump | grep -o '"key":"."' | cut -c8 | tr -d '\n')
+            case $(cat said):$told in
+            *:abc | :ac) ;;
+            *) lost="$lost $call $number" ;;
+            esac
+        done
+    done
+    that "a run that is killed loses nothing ($lost)" test -z "$lost"
 else
     skipped 'no strace'
 fi
