@@ -38,8 +38,7 @@ spent = spent_view (record {
   capacity = 0;
   ordinals = 0;
   base = 0;
-  at_open =
-      0;
+  at_open = 0;
 })
 
 abbrev pub handed_by : Role → PathSize → View
@@ -67,10 +66,9 @@ HasAll seats w returned = (z : ℕ) → z < seats
     → (z ≡ w) ⊎ ((n : ℕ) × (b : Returned) × (get_elem? returned n ≡ some b) × (b.number ≡ z))
 
 -- There is one run of the machine, which ends in a lawful state with this log key, and in which
--- each
--- seat's steps are those that it made. The keeper holds what is lasting in that state: the entries,
--- the synced key, what is dropped, and the count of faults with which the log is stopped, which has
--- risen; and it may have kept the entries of a sync that was refused.
+-- each seat's steps are those that it made. The keeper holds what is lasting in that state: the
+-- entries, the synced key, what is dropped, and the count of faults with which the log is stopped,
+-- which has risen; and it may have kept the entries of a sync that was refused.
 pub record Ended (size : PathSize) (returned : List Returned) (log : ℕ) (keeper : Holding) :
     Type 0 where
   pub core : PathState

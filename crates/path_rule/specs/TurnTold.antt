@@ -66,8 +66,7 @@ MayLend lasting upto run = (h : Holding) → lasting_of h ≡ lasting → MayWri
 
 -- In the state that the look at the synced key found, what was pending up to a key is exactly what
 -- the machine would make lasting up to it, and the synced key may be put there. So the keeper on
--- the
--- desk may be lent it.
+-- the desk may be lent it.
 abbrev pub IsLent : View → ℕ → ℕ → ℕ → List EntryNote → Type 0
 IsLent v w synced upto run = (was : Was v w (Look w (CursorWord Synced)))
     × (was.core.synced ≡ synced) × (run_to was.core upto ≡ run)

@@ -18,7 +18,7 @@ impl<K: Keeper, A: Allocator> PathTable<K, A> {
     /// log was found running. The keeper is lent what is pending, and the synced key is put at the
     /// marker; where the keeper has stopped, the log is, with the count of faults that the keeper
     /// shows and that is answered. After each answer the turn may be given back, and after a
-    /// refusal all is pending still. It makes two steps at most, of which one is no look.
+    /// refusal all is pending still. It makes two steps at most, of which at most one is no look.
     pub fn end_sync(&self, member: Member<K>, upto: u64) -> (Member<K>, Result<(), KeeperFault>)
         requires table { IsOf self.now.table.shared.table_id self.now.size member }
         requires turn { MayGive (view_of member) × ((hands_of member).progress.gathered ≡ true)

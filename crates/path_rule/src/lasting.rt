@@ -13,7 +13,7 @@ pub struct Lasting {
     pub dropped: LinkedList<u64>,
     /// The entries of a sync that was refused, until one ends well.
     pub kept: LinkedList<EntryNote>,
-    /// The count of faults of its disk with which it stopped, once it has.
+    /// Its disk's count of faults, once it has stopped. No call is made of it then.
     pub stopped: Option<u64>,
     /// That count when it was opened.
     pub at_open: u64,

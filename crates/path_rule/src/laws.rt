@@ -36,8 +36,8 @@ pub fn the_keeper_at_home_shows_what_is_lasting<K: Keeper>()
         r.boxed.progress }
 {}
 
-/// A stopped log tells the count of faults with which its keeper stopped, which has risen since the
-/// keeper was opened; the keeper at home shows it.
+/// The count of faults that a stopped log tells has risen since its keeper was opened. (That the
+/// keeper at home shows it: `the_keeper_at_home_shows_what_is_lasting`.)
 pub fn a_stopped_log_tells_a_count_that_has_risen<K: Keeper>()
     ensures { (size : PathSize) (s : State (Slot K) View) (r : Ruled (shows_of K.holds) size s)
         → 0 < r.core.stopped → HasRisen size.at_open r.core.stopped }

@@ -1,14 +1,13 @@
 -- What a try to claim answers.
-use Rattle.std.specs.Prelude.{◌≡◌, ◌≢◌, ℕ, ◌≤◌, false, List}
+use Rattle.std.specs.Prelude.{◌≡◌, ◌≢◌, ℕ, ◌≤◌, false}
 use Rattle.path_core.specs.declared.event.ClaimKind.TheVariants.{Entry}
 use Rattle.path_core.specs.declared.event.Event.TheVariants.{Look, Claim}
 use Rattle.path_core.specs.declared.event.Place.TheVariants.{Log}
 use Rattle.path_core.specs.Keys.{entry_end, ordinal_of}
 use Rattle.path_rule.specs.declared.trying.Seen.{Seen}
-use Rattle.path_rule.specs.declared.view.OwnStep.{OwnStep}
 use Rattle.path_rule.specs.declared.view.PathSize.{PathSize}
 use Rattle.path_rule.specs.declared.view.View.{View}
-use Rattle.path_rule.specs.Calls.{Did, FoundSince}
+use Rattle.path_rule.specs.Calls.{Did}
 use Rattle.path_rule.specs.Rule.{view_after}
 use Rattle.clog_base.specs.declared.position.Key.{Key}
 use Rattle.write_path.specs.declared.claimed.Claimed.{Claimed as ClaimedSeat}
@@ -37,8 +36,3 @@ pub record IsAgain (v : View) (w looked found : ℕ) (after : View) : Type 0 whe
 pub record IsSpent (size : PathSize) (v : View) (w bytes key : ℕ) (after : View) : Type 0 where
   pub none : size.ordinals ≤ ordinal_of (entry_end size.capacity key bytes)
   pub view : after ≡ view_after v (Look w Log) key false
-
--- An entry of so many bytes has no segment at a key, which the seat found at a step behind so many.
-pub record IsFull (size : PathSize) (bytes key before : ℕ) (trail : List OwnStep) : Type 0 where
-  pub none : size.ordinals ≤ ordinal_of (entry_end size.capacity key bytes)
-  pub found_now : FoundSince before Log key trail

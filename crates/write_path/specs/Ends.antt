@@ -71,8 +71,3 @@ module _ {K : Type 0} where
     pub did : Did before s.member.number (Close s.member.number Write s.writing (Applied places))
         found after.seat.me.0
     pub list : writes_of after.seat.me.0.trail ≡ writes_of s.member.seat.me.0.trail
-
-  -- It is the same seat, and its list is as it was.
-  abbrev pub StaysListed : TableId → PathSize → Member K → Member K → Type 0
-  StaysListed id size m m' = Stays id size m m'
-      × (writes_of m'.seat.me.0.trail ≡ writes_of m.seat.me.0.trail)
