@@ -25,7 +25,7 @@ $(cell a)
 $(cell b)
 $(cell c)" '' "$pinsilver" replay
 
-# What a crash has torn off the last segment was not acknowledged, and is given up.
+# A last segment that is cut is a crash's tail: its section is given up whole.
 fresh
 { put a; put b; } | expect 'two lines' 0 'applied 2' '' "$pinsilver" apply
 name=$(ls commitlog)
