@@ -82,7 +82,7 @@ module _ {K : Type 0} (shows : K → Lasting) (size : PathSize) (id : ℕ) (v : 
 
     abbrev Hand : View → Type 0
     Hand y = HandsAs r.boxed.contents (shown size.at_open r.kept_to r.core) r.boxed.pending
-    r.boxed.progress
+        r.boxed.progress
         r.core.append
         size.seats y.part y.hands y.role
 
