@@ -26,7 +26,8 @@ RT
 launcher() { RT=$folder/rt tree/pinsilver "$@"; }
 built() { test "$(wc -l <"$calls")" -eq "$1"; }
 
-begins='pinsilver: proving and building the program first; from nothing ten minutes or more'
+begins='pinsilver: proving and building the program first;'
+begins="$begins from nothing a quarter of an hour or more"
 
 tree ''
 expect 'no toolchain' 127 '' \
