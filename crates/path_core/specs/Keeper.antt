@@ -53,6 +53,8 @@ use Rattle.path_core.specs.Whole.{IsWhole}
 pub record Opening : Type 0 where
   -- a segment that is dropped gets its archive name first
   pub archives : Bool
+  -- the moment of its disk then, by which the disk tells what it was
+  pub moment : ℕ
   -- how each name of its disk read then, where the disk tells it
   pub reads : Option (List ℕ → List ℕ)
   -- how many changes the disk had made, where it tells them

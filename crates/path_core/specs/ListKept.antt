@@ -18,7 +18,7 @@ abbrev pub listed : ℕ → Sizes → ℕ → List EntryNote → List ListFile �
 listed base sizes synced logged files = record {
   base = base;
   sizes = sizes;
-  opening = record { archives = false; reads = None; changes = None };
+  opening = record { archives = false; moment = 0; reads = None; changes = None };
   at_open = 0;
   faults = 0;
   stopped = false;
