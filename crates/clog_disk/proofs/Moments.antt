@@ -1,16 +1,29 @@
 -- How a run of calls of a disk goes on.
-use Rattle.std.proofs.Common.{inl, inr, ⊎_elim, ℕ, List, Option, ◌∙◌, arith}
+use Rattle.std.proofs.Common.{inl, inr, ⊎_elim, ℕ, List, Option, refl, ◌∙◌, arith}
 use Rattle.clog_disk.specs.Files.{Files}
 use Rattle.clog_disk.specs.Images.{IsLater, Elapses, LeavesOnly, IsImage, SinceThen}
 
 -- what is later than a later state is later
 pub later_still : {D : Type 0} (moment : D → ℕ) (read_at : D → ℕ → Option (List ℕ → List ℕ))
-    (old mid new : D) → IsLater moment read_at old mid → IsLater moment read_at mid new
-    → IsLater moment read_at old new
-later_still moment read_at old mid new first next = record {
+    (lasted_at : D → ℕ → Type 0) (old mid new : D) → IsLater moment read_at lasted_at old mid
+    → IsLater moment read_at lasted_at mid new → IsLater moment read_at lasted_at old new
+later_still moment read_at lasted_at old mid new first next = record {
   no_sooner = omega (arith, first.no_sooner, next.no_sooner);
   remembers = λ t le.
       next.remembers t (omega (arith, le, first.no_sooner)) ∙ first.remembers t le;
+  lasted_then = λ t le.
+      let then_ = next.lasted_then t (omega (arith, le, first.no_sooner)) in
+      let before = first.lasted_then t le in
+      (λ now. before.0 (then_.0 now), λ old. then_.1 (before.1 old));
+}
+
+-- where nothing has happened
+pub still_now : {D : Type 0} (moment : D → ℕ) (read_at : D → ℕ → Option (List ℕ → List ℕ))
+    (lasted_at : D → ℕ → Type 0) (now : D) → IsLater moment read_at lasted_at now now
+still_now moment read_at lasted_at now = record {
+  no_sooner = omega arith;
+  remembers = λ t le. refl;
+  lasted_then = λ t le. (λ has. has, λ has. has);
 }
 
 module _ {D : Type 0} (moment : D → ℕ) (since : D → ℕ → Files → Type 0) where
@@ -26,10 +39,11 @@ module _ {D : Type 0} (moment : D → ℕ) (since : D → ℕ → Files → Type
 
   -- one call more, after which a crash leaves what has P
   pub goes_on : (leaves : D → List ℕ → Option (List ℕ) → Type 0)
-      (read_at : D → ℕ → Option (List ℕ → List ℕ)) (old mid new : D) (P : Files → Type 0)
-      → LeavesOnly moment since old mid P → Elapses moment since leaves read_at mid new
+      (read_at : D → ℕ → Option (List ℕ → List ℕ)) (lasted_at : D → ℕ → Type 0)
+      (old mid new : D) (P : Files → Type 0)
+      → LeavesOnly moment since old mid P → Elapses moment since leaves read_at lasted_at mid new
       → ((image : Files) → IsImage (leaves new) image → P image) → LeavesOnly moment since old new P
-  goes_on leaves read_at old mid new P so_far time here = record {
+  goes_on leaves read_at lasted_at old mid new P so_far time here = record {
     later = omega (arith, so_far.later, time.later.no_sooner);
     each = λ image left.
         ⊎_elim (so_far.each image) (here image) (

@@ -1,4 +1,5 @@
 -- What is undone, and how time goes on.
+use Rattle.std.specs.Prelude.{◌↔◌}
 use Rattle.std.proofs.Common.{
   ◌≡◌,
   ◌⊎◌,
@@ -35,6 +36,8 @@ use Rattle.clog_disk.specs.declared.stored.Undo.{Undo}
 use Rattle.clog_disk.specs.Images.{Elapses}
 use Rattle.clog_disk.specs.Stored.{Stored, may_leave, cut_to, grown_at, settled}
 use Rattle.clog_disk.specs.InMemory.{
+  LastedAt,
+  LastsWhole,
   with_file,
   undo_at,
   undone,
@@ -128,16 +131,24 @@ split (suc k) zero = inr (omega arith)
 split (suc k) (suc n) =
     ⊎_elim (λ x. inl (omega (arith, x))) (λ y. inr (omega (arith, y))) (split k n)
 
+-- equal types imply each other
+either_way : {A B : Type 0} → A ≡ B → A ↔ B
+either_way same = (subst (λ (T : Type 0). T) same, subst (λ (T : Type 0). T) (sym same))
+
 -- time goes on by a call that noted what it did, or did nothing
 module _ {D : Type 0} (state : D → List ℕ → Option Stored) (undos : D → List Undo) where
   pub elapses : (old new : D) → Steps (state old) (state new) (undos old) (undos new)
       → Elapses (λ d. length (undos d)) (λ d t image. Since (state d) (undos d) t image) (
       λ d name left. may_leave (state d name) left
-      ) (λ d t. Some (reading_at (state d) (undos d) t)) old new
+      ) (λ d t. Some (reading_at (state d) (undos d) t)) (
+      λ d t. LastedAt (state d) (undos d) t
+      ) old new
   elapses old new (inl same) = record {
     later = record {
       no_sooner = omega (arith, ap (λ (l : List Undo). length l) same.1);
       remembers = λ t le i. Some (reading_at (same.0 i) (same.1 i) t);
+      lasted_then = λ t le.
+          either_way (λ i. LastedAt (same.0 i) (same.1 i) t);
     };
     nothing_else = λ t image le since.
         inl (
@@ -162,6 +173,9 @@ module _ {D : Type 0} (state : D → List ℕ → Option Stored) (undos : D → 
               Some (λ (name : List ℕ).
               unwrap_or (option_map (λ (file : Stored). file.bytes) (st name)) [])
               ) (before t le);
+          lasted_then = λ t le.
+              either_way (ap (λ (st : List ℕ → Option Stored).
+              (name : List ℕ) → LastsWhole (st name)) (before t le));
         };
         nothing_else = λ t image le since. elim (split since.0 (length (undos old))) [
           | inl early ↦ inl (

@@ -3,6 +3,7 @@
 use Rattle.std.specs.Prelude.{
   ◌≡◌,
   ◌⊎◌,
+  ◌↔◌,
   ℕ,
   ◌+◌,
   ◌≤◌,
@@ -46,6 +47,10 @@ abbrev pub Lasts : Option Files → (List ℕ → Option (List ℕ) → Type 0) 
 Lasts None new name = ⊤
 Lasts (Some files) new name = LastsAs new name (map.get files name)
 
+-- a crash leaves just the files
+abbrev pub LastsAll : Files → (List ℕ → Option (List ℕ) → Type 0) → Type 0
+LastsAll files leaves = (name : List ℕ) → LastsAs leaves name (map.get files name)
+
 -- where the files are told, a crash leaves at the second name just what stands at the first
 abbrev pub LastsLike : Option Files → (List ℕ → Option (List ℕ) → Type 0) → List ℕ → List ℕ
     → Type 0
@@ -83,18 +88,21 @@ Tears (Some files) old new name n = (other : List ℕ) (left : Option (List ℕ)
     ⊎ ((other ≡ name) × ((bytes : List ℕ) × (left ≡ Some bytes) × Torn files old name n bytes))
 
 -- A later state of a disk: the moment is none before, and how the names read at each moment up to
--- the earlier one stays known. A function of several calls hands this on whatever else it says.
+-- the earlier one stays known, and whether all lasted then. A function of several calls hands this
+-- on whatever else it says.
 pub record IsLater {D : Type 0} (moment : D → ℕ) (read_at : D → ℕ → Option (List ℕ → List ℕ))
-    (old new : D) : Type 0 where
+    (lasted_at : D → ℕ → Type 0) (old new : D) : Type 0 where
   pub no_sooner : moment old ≤ moment new
   pub remembers : (t : ℕ) → t ≤ moment old → read_at new t ≡ read_at old t
+  pub lasted_then : (t : ℕ) → t ≤ moment old → lasted_at new t ↔ lasted_at old t
 
 -- Time goes on by one call. What a crash since a moment might have left is what it might have left
 -- before the call, or what it may leave now.
 pub record Elapses {D : Type 0} (moment : D → ℕ) (since : D → ℕ → Files → Type 0)
     (leaves : D → List ℕ → Option (List ℕ) → Type 0)
-    (read_at : D → ℕ → Option (List ℕ → List ℕ)) (old new : D) : Type 0 where
-  pub later : IsLater moment read_at old new
+    (read_at : D → ℕ → Option (List ℕ → List ℕ)) (lasted_at : D → ℕ → Type 0) (old new : D)
+    : Type 0 where
+  pub later : IsLater moment read_at lasted_at old new
   pub nothing_else : (t : ℕ) (image : Files) → t ≤ moment old → since new t image
       → since old t image ⊎ IsImage (leaves new) image
   pub keeps : (t : ℕ) (image : Files) → t ≤ moment old → since old t image → since new t image

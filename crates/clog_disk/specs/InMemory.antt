@@ -74,6 +74,15 @@ abbrev pub reading_at : (List ℕ → Option Stored) → List Undo → ℕ → L
 reading_at state undos t name =
     unwrap_or (option_map (λ (file : Stored). file.bytes) (back (drop t undos) state name)) []
 
+-- a crash leaves just the file
+abbrev pub LastsWhole : Option Stored → Type 0
+LastsWhole file = (left : Option (List ℕ)) → may_leave file left
+    → left ≡ option_map (λ (f : Stored). f.bytes) file
+
+-- all lasted at a moment
+abbrev pub LastedAt : (List ℕ → Option Stored) → List Undo → ℕ → Type 0
+LastedAt state undos t = (name : List ℕ) → LastsWhole (back (drop t undos) state name)
+
 -- one more call was noted, or none, and what was noted leads back
 abbrev pub Steps : (List ℕ → Option Stored) → (List ℕ → Option Stored) → List Undo → List Undo
     → Type 0

@@ -1,6 +1,7 @@
 -- The laws of a disk in memory.
 use Rattle.std.specs.Prelude.{
   ◌≡◌,
+  ◌↔◌,
   ℕ,
   ◌≤◌,
   List,
@@ -25,8 +26,17 @@ use Rattle.std.specs.Ordering.{nat_cmp, is_eq}
 use Rattle.std.specs.Cmp.Lexicographic.{slice_cmp, nat_list_cmp_total}
 use Rattle.clog_disk.specs.declared.stored.Undo.{Undo}
 use Rattle.clog_disk.specs.Files.{Files, bytes_at}
+use Rattle.clog_disk.specs.Images.{LastsAll}
 use Rattle.clog_disk.specs.Stored.{Stored, may_leave}
-use Rattle.clog_disk.specs.InMemory.{files_of, state_of, back, Since, reading_at}
+use Rattle.clog_disk.specs.InMemory.{
+  files_of,
+  state_of,
+  back,
+  LastsWhole,
+  LastedAt,
+  Since,
+  reading_at,
+}
 
 pub none_left : {A : Type 0} (xs : List A) → drop (length xs) xs ≡ []
 none_left [] = refl
@@ -84,6 +94,21 @@ pub reads_now_an_image : (es : List (List ℕ × Stored)) (name : List ℕ)
     → may_leave (state_of es name) (finmap.get (files_of es) name)
 reads_now_an_image es name =
     subst (may_leave (state_of es name)) (sym (get-files_of es name)) (as_read (state_of es name))
+
+pub lasting_now : (es : List (List ℕ × Stored)) (undos : List Undo)
+    → LastedAt (state_of es) undos (length undos)
+    ↔ LastsAll (files_of es) (λ name left. may_leave (state_of es name) left)
+lasting_now es undos = (
+  λ lasted name left leaves.
+      subst (λ (us : List Undo). LastsWhole (back us (state_of es) name)) (none_left undos) (
+      lasted name
+      ) left leaves
+      ∙ sym (get-files_of es name),
+  λ lasts name.
+      subst (λ (us : List Undo). LastsWhole (back us (state_of es) name)) (
+      sym (none_left undos)
+      ) (λ left leaves. lasts name left leaves ∙ get-files_of es name),
+)
 
 pub reading_now : (es : List (List ℕ × Stored)) (undos : List Undo)
     → Some (reading_at (state_of es) undos (length undos)) ≡ Some (bytes_at (files_of es))

@@ -10,6 +10,7 @@ ghost use Rattle.std.specs.Prelude.{
   ◌≡◌,
   ◌≢◌,
   ◌≤◌,
+  ◌↔◌,
   ℕ,
   List,
   length,
@@ -39,6 +40,7 @@ ghost use Rattle.clog_disk.specs.Files.{
   MayPutAt,
 };
 ghost use Rattle.clog_disk.specs.Images.{
+  LastsAll,
   IsImage,
   Within,
   SameImages,
@@ -119,6 +121,9 @@ pub trait Disk {
     /// How each name read at a moment, where the disk tells its files.
     ghost read_at: { Self → ℕ → Option (List ℕ → List ℕ) };
 
+    /// That at a moment all lasted: a crash then left just what was read.
+    ghost lasted_at: { Self → ℕ → Type 0 };
+
     /// How often it has failed.
     ghost faults: { Self → ℕ };
 
@@ -131,7 +136,8 @@ pub trait Disk {
         ensures same { Unchanged (files self.old) (files self.new) (leaves self.old)
             (leaves self.new) }
         ensures quiet { changes self.new ≡ changes self.old }
-        ensures time { Elapses moment since leaves read_at self.old self.new }
+        ensures time { Elapses moment since leaves read_at lasted_at self.old
+            self.new }
         ensures found { result ≢ Err no_file }
         ensures cause { HasDiskCause (faults self.old) (faults self.new) result }
         ensures reliable { reliable self.old → StaysReliable (reliable self.new) result };
@@ -142,7 +148,8 @@ pub trait Disk {
         ensures same { Unchanged (files self.old) (files self.new) (leaves self.old)
             (leaves self.new) }
         ensures quiet { changes self.new ≡ changes self.old }
-        ensures time { Elapses moment since leaves read_at self.old self.new }
+        ensures time { Elapses moment since leaves read_at lasted_at self.old
+            self.new }
         ensures finds { Finds (files self.old) name.now result }
         ensures cause { HasDiskCause (faults self.old) (faults self.new) result }
         ensures reliable { reliable self.old → StaysReliable (reliable self.new) result };
@@ -155,7 +162,8 @@ pub trait Disk {
         ensures same { Unchanged (files self.old) (files self.new) (leaves self.old)
             (leaves self.new) }
         ensures quiet { changes self.new ≡ changes self.old }
-        ensures time { Elapses moment since leaves read_at self.old self.new }
+        ensures time { Elapses moment since leaves read_at lasted_at self.old
+            self.new }
         ensures finds { Finds (files self.old) name.now result }
         ensures cause { HasDiskCause (faults self.old) (faults self.new) result }
         ensures reliable { reliable self.old → StaysReliable (reliable self.new) result };
@@ -176,7 +184,8 @@ pub trait Disk {
             (length bytes.now) }
         ensures refused { result ≢ Err failed → OnErr result (Unchanged (files self.old)
             (files self.new) (leaves self.old) (leaves self.new)) }
-        ensures time { Elapses moment since leaves read_at self.old self.new }
+        ensures time { Elapses moment since leaves read_at lasted_at self.old
+            self.new }
         ensures found { result ≢ Err no_file }
         ensures cause { HasDiskCause (faults self.old) (faults self.new) result }
         ensures reliable { reliable self.old → StaysReliable (reliable self.new) result };
@@ -188,7 +197,8 @@ pub trait Disk {
         ensures quiet { changes self.new ≡ changes self.old }
         ensures crash { Within (leaves self.old) (leaves self.new) }
         ensures refused { OnErr result (SameImages (leaves self.old) (leaves self.new)) }
-        ensures time { Elapses moment since leaves read_at self.old self.new }
+        ensures time { Elapses moment since leaves read_at lasted_at self.old
+            self.new }
         ensures finds { Finds (files self.old) name.now result }
         ensures cause { HasDiskCause (faults self.old) (faults self.new) result }
         ensures reliable { reliable self.old → StaysReliable (reliable self.new) result };
@@ -207,7 +217,8 @@ pub trait Disk {
         ensures crash { TurnsTo (leaves self.old) (leaves self.new) name.now (Some bytes.now) }
         ensures refused { result ≢ Err failed → OnErr result (Unchanged (files self.old)
             (files self.new) (leaves self.old) (leaves self.new)) }
-        ensures time { Elapses moment since leaves read_at self.old self.new }
+        ensures time { Elapses moment since leaves read_at lasted_at self.old
+            self.new }
         ensures found { result ≢ Err no_file }
         ensures cause { HasDiskCause (faults self.old) (faults self.new) result }
         ensures reliable { reliable self.old → StaysReliable (reliable self.new) result };
@@ -224,7 +235,8 @@ pub trait Disk {
         ensures crash { TurnsTo (leaves self.old) (leaves self.new) name.now None }
         ensures refused { result ≢ Err failed → OnErr result (Unchanged (files self.old)
             (files self.new) (leaves self.old) (leaves self.new)) }
-        ensures time { Elapses moment since leaves read_at self.old self.new }
+        ensures time { Elapses moment since leaves read_at lasted_at self.old
+            self.new }
         ensures finds { Finds (files self.old) name.now result }
         ensures cause { HasDiskCause (faults self.old) (faults self.new) result }
         ensures reliable { reliable self.old → StaysReliable (reliable self.new) result };
@@ -245,7 +257,8 @@ pub trait Disk {
             second.now }
         ensures refused { result ≢ Err failed → OnErr result (Unchanged (files self.old)
             (files self.new) (leaves self.old) (leaves self.new)) }
-        ensures time { Elapses moment since leaves read_at self.old self.new }
+        ensures time { Elapses moment since leaves read_at lasted_at self.old
+            self.new }
         ensures finds { Finds (files self.old) name.now result }
         ensures cause { HasDiskCause (faults self.old) (faults self.new) result }
         ensures reliable { reliable self.old → StaysReliable (reliable self.new) result };
@@ -267,6 +280,10 @@ pub trait Disk {
 
     /// Now each name reads as the files do.
     ghost reads_now: { (d : Self) → read_at d (moment d) ≡ option_map bytes_at (files d) };
+
+    /// Whether all lasts now is told of this moment from now on.
+    ghost lasts_now: { (d : Self) → IfSome (files d) (λ f. lasted_at d (moment d)
+        ↔ LastsAll f (leaves d)) };
 
     /// The files as they read now are one of the images of now.
     ghost reads_an_image: { (d : Self) → IfSome (files d) (IsImage (leaves d)) };

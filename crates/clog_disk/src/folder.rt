@@ -116,7 +116,7 @@ impl<R: Files<File = File> + AllocGlobal + Clone + Drop> FolderDisk<R> {
 }
 
 impl<R: Files<File = File> + AllocGlobal + Clone + Drop> Disk for FolderDisk<R> {
-    ghost use Rattle.std.specs.Prelude.{None, [], refl};
+    ghost use Rattle.std.specs.Prelude.{None, [], refl, ⊤};
 
     ghost files = { λ d. None };
 
@@ -129,6 +129,8 @@ impl<R: Files<File = File> + AllocGlobal + Clone + Drop> Disk for FolderDisk<R> 
     ghost since = { λ d t image. ⊥ };
 
     ghost read_at = { λ d t. None };
+
+    ghost lasted_at = { λ d t. ⊤ };
 
     ghost faults = { λ d. d.faults };
 
@@ -190,6 +192,8 @@ impl<R: Files<File = File> + AllocGlobal + Clone + Drop> Disk for FolderDisk<R> 
     ghost tells_both = { λ d. refl };
 
     ghost reads_now = { λ d. refl };
+
+    ghost lasts_now = { λ d. tt };
 
     ghost reads_an_image = { λ d. tt };
 

@@ -34,7 +34,7 @@ use Rattle.clog_base.specs.declared.fault.Quantity.TheVariants.{
   TableFiles,
 }
 use Rattle.clog_disk.specs.Files.{Files, SameTold, Told}
-use Rattle.clog_disk.specs.Images.{Unchanged, Within}
+use Rattle.clog_disk.specs.Images.{LastsAll, Unchanged, Within}
 use Rattle.clog_crash.specs.Folder.{HasSegmentFile}
 use Rattle.clog_folder.specs.declared.fault.OpenFault.{OpenFault}
 use Rattle.clog_folder.specs.declared.fault.OpenFault.TheVariants.{
@@ -49,7 +49,6 @@ use Rattle.clog_store.specs.Opened.{
   HasRows,
   IsOpened,
   KeepsFolder,
-  LastsAll,
   LeavesAlone,
   OpenRefused,
   OpensAs,

@@ -4,9 +4,9 @@ use Rattle.std.specs.Prelude.{IfSome}
 use Rattle.clog_base.specs.declared.cell.Cell.{Cell}
 use Rattle.clog_base.specs.declared.cell.CellKey.{CellKey}
 use Rattle.clog_disk.specs.Files.{Files, SameTold, Told}
-use Rattle.clog_disk.specs.Images.{Unchanged}
+use Rattle.clog_disk.specs.Images.{LastsAll, Unchanged}
 use Rattle.clog_crash.specs.Folder.{HasSegmentFile, IsBase, NamesId}
-use Rattle.clog_store.specs.Opened.{HasRows, LastsAll, OpensAs}
+use Rattle.clog_store.specs.Opened.{HasRows, OpensAs}
 use Rattle.clog_engine.specs.declared.standing.Standing.{Standing}
 use Rattle.clog_engine.specs.Listing.{base_of}
 use Rattle.clog_engine.specs.Looking.{Shows, Stands}

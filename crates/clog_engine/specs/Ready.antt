@@ -3,9 +3,9 @@
 use Rattle.std.specs.Prelude.{◌≡◌, ℕ, List, Option, Some, None, IfSome}
 use Rattle.std.specs.FinMap as finmap
 use Rattle.clog_disk.specs.Files.{Files, SameTold, Told}
-use Rattle.clog_disk.specs.Images.{SameImages, Tears, Unchanged}
+use Rattle.clog_disk.specs.Images.{LastsAll, SameImages, Tears, Unchanged}
 use Rattle.clog_crash.specs.Folder.{HasSegmentFile}
-use Rattle.clog_store.specs.Opened.{IsOpened, KeepsFolder, LastsAll}
+use Rattle.clog_store.specs.Opened.{IsOpened, KeepsFolder}
 
 -- The folder could be opened, was recovered, and the base is the greater of the moment and one more
 -- than each id that it named. Where it held no segment, nothing has changed.

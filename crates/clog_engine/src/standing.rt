@@ -68,7 +68,7 @@ fn find_log<T: Threads + Sync, D: Disk, G: Gate + Sync>(
 ) -> Result<Found, Status>
     ensures finds { FindsLog dump (D.files disk.old) (D.faults disk.old) (D.faults disk.new)
         result }
-    ensures keeps { IsUntouched D.files D.changes D.leaves D.moment D.since D.read_at
+    ensures keeps { IsUntouched D.files D.changes D.leaves D.moment D.since D.read_at D.lasted_at
         D.faults disk.old disk.new }
     ensures quiet { TellsEach (D.faults disk.old) (D.faults disk.new) result }
 {
@@ -91,7 +91,7 @@ pub(crate) fn look<T: Threads + Sync, D: Disk, G: Gate + Sync>(
     gate: &G,
 ) -> Result<Found, Status>
     ensures looks { Looks dump (D.files disk.old) (D.faults disk.old) (D.faults disk.new) result }
-    ensures keeps { IsUntouched D.files D.changes D.leaves D.moment D.since D.read_at
+    ensures keeps { IsUntouched D.files D.changes D.leaves D.moment D.since D.read_at D.lasted_at
         D.faults disk.old disk.new }
     ensures quiet { TellsEach (D.faults disk.old) (D.faults disk.new) result }
 {

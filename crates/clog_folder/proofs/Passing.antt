@@ -23,9 +23,10 @@ use Rattle.clog_folder.specs.Passing.{IsUntouched, TellsEach, TellsFault}
 module _ {D : Type 0} (files : D → Option Files) (changes : D → Option (List Change))
     (leaves : D → List ℕ → Option (List ℕ) → Type 0) (moment : D → ℕ)
     (since : D → ℕ → Files → Type 0) (read_at : D → ℕ → Option (List ℕ → List ℕ))
+    (lasted_at : D → ℕ → Type 0)
     (faults : D → ℕ) where
   abbrev Stays : D → D → Type 0
-  Stays old new = IsUntouched files changes leaves moment since read_at faults old new
+  Stays old new = IsUntouched files changes leaves moment since read_at lasted_at faults old new
 
   -- no call
   pub no_call : (d : D) → Stays d d
@@ -36,7 +37,11 @@ module _ {D : Type 0} (files : D → Option Files) (changes : D → Option (List
     };
     changes_are = refl;
     time = record {
-      later = record { no_sooner = omega arith; remembers = λ t before. refl };
+      later = record {
+        no_sooner = omega arith;
+        remembers = λ t before. refl;
+        lasted_then = λ t before. (λ has. has, λ has. has);
+      };
       nothing_else = λ t image before has. inl has;
       keeps = λ t image before has. has;
     };
@@ -46,7 +51,7 @@ module _ {D : Type 0} (files : D → Option Files) (changes : D → Option (List
   -- one call that changes nothing
   pub one_call : (a b : D) → Unchanged (files a) (files b) (leaves a) (leaves b)
       → changes b ≡ changes a
-      → Elapses moment since leaves read_at a b → faults a ≤ faults b → Stays a b
+      → Elapses moment since leaves read_at lasted_at a b → faults a ≤ faults b → Stays a b
   one_call a b same quiet time later = record {
     same = same;
     changes_are = quiet;
@@ -71,6 +76,16 @@ module _ {D : Type 0} (files : D → Option Files) (changes : D → Option (List
         remembers = λ t before.
             second.time.later.remembers t (omega (arith, before, first.time.later.no_sooner))
             ∙ first.time.later.remembers t before;
+        lasted_then = λ t before. (
+          λ has. (first.time.later.lasted_then t before).0 (
+              (second.time.later.lasted_then t (
+              omega (arith, before, first.time.later.no_sooner)
+              )).0 has
+              ),
+          λ has. (second.time.later.lasted_then t (
+              omega (arith, before, first.time.later.no_sooner)
+              )).1 ((first.time.later.lasted_then t before).1 has),
+        );
       };
       nothing_else = λ t image before has.
           elim (second.time.nothing_else t image

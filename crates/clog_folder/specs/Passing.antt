@@ -14,10 +14,11 @@ pub record IsUntouched {D : Type 0} (files : D → Option Files)
     (changes : D → Option (List Change))
     (leaves : D → List ℕ → Option (List ℕ) → Type 0) (moment : D → ℕ)
     (since : D → ℕ → Files → Type 0) (read_at : D → ℕ → Option (List ℕ → List ℕ))
+    (lasted_at : D → ℕ → Type 0)
     (faults : D → ℕ) (old new : D) : Type 0 where
   pub same : Unchanged (files old) (files new) (leaves old) (leaves new)
   pub changes_are : changes new ≡ changes old
-  pub time : Elapses moment since leaves read_at old new
+  pub time : Elapses moment since leaves read_at lasted_at old new
   pub later : faults old ≤ faults new
 
 -- why a folder is not read whose disk refuses a call

@@ -42,7 +42,7 @@ pub fn read_folder<D: Disk>(alloc: Global, disk: &mut D, ignore: bool) -> Result
     ensures reads { ReadsFolder ignore (D.files disk.old) (D.faults disk.old)
         (D.faults disk.new) result }
     // No file, no image and no earlier moment of the disk has changed.
-    ensures keeps { IsUntouched D.files D.changes D.leaves D.moment D.since D.read_at
+    ensures keeps { IsUntouched D.files D.changes D.leaves D.moment D.since D.read_at D.lasted_at
         D.faults disk.old disk.new }
     ensures quiet { TellsEach (D.faults disk.old) (D.faults disk.new) result }
 {

@@ -31,7 +31,7 @@ pub fn segment_bytes<D: Disk>(disk: &mut D, name: &Name) -> Result<Vec<u8>, Open
     requires { IsThere (D.files disk.old) name.now }
     ensures gives { GivesBytes (D.files disk.old) (D.faults disk.old) (D.faults disk.new) name.now
         result }
-    ensures keeps { IsUntouched D.files D.changes D.leaves D.moment D.since D.read_at
+    ensures keeps { IsUntouched D.files D.changes D.leaves D.moment D.since D.read_at D.lasted_at
         D.faults disk.old disk.new }
     ensures quiet { TellsEach (D.faults disk.old) (D.faults disk.new) result }
 {
@@ -80,7 +80,7 @@ pub(crate) fn read_place<D: Disk>(
     requires { IsThere (D.files disk.old) name.now }
     ensures reads { ReadsPlace ignore last (D.files disk.old) (D.faults disk.old)
         (D.faults disk.new) (place, name.now) result }
-    ensures keeps { IsUntouched D.files D.changes D.leaves D.moment D.since D.read_at
+    ensures keeps { IsUntouched D.files D.changes D.leaves D.moment D.since D.read_at D.lasted_at
         D.faults disk.old disk.new }
     ensures quiet { TellsEach (D.faults disk.old) (D.faults disk.new) result }
 {

@@ -32,7 +32,7 @@ pub(crate) fn read_segments<D: Disk>(
         AreRows segment_cmp IsSegmentAt (IsHeld held) names.entries) }
     ensures reads { ReadsSegments ignore (D.files disk.old) (D.faults disk.old)
         (D.faults disk.new) names.entries result }
-    ensures keeps { IsUntouched D.files D.changes D.leaves D.moment D.since D.read_at
+    ensures keeps { IsUntouched D.files D.changes D.leaves D.moment D.since D.read_at D.lasted_at
         D.faults disk.old disk.new }
     ensures quiet { TellsEach (D.faults disk.old) (D.faults disk.new) result }
 {

@@ -33,7 +33,7 @@ fn read_table<D: Disk>(
     requires { IsThere (D.files disk.old) name.now }
     ensures reads { ReadsTable (D.files disk.old) (D.faults disk.old) (D.faults disk.new) place
         name.now result }
-    ensures keeps { IsUntouched D.files D.changes D.leaves D.moment D.since D.read_at
+    ensures keeps { IsUntouched D.files D.changes D.leaves D.moment D.since D.read_at D.lasted_at
         D.faults disk.old disk.new }
     ensures quiet { TellsEach (D.faults disk.old) (D.faults disk.new) result }
 {
@@ -58,7 +58,7 @@ pub(crate) fn read_tables<D: Disk>(
         AreRows place_cmp IsNameOf (IsHeld held) names.entries) }
     ensures reads { ReadsTables (D.files disk.old) (D.faults disk.old) (D.faults disk.new)
         names.entries result }
-    ensures keeps { IsUntouched D.files D.changes D.leaves D.moment D.since D.read_at
+    ensures keeps { IsUntouched D.files D.changes D.leaves D.moment D.since D.read_at D.lasted_at
         D.faults disk.old disk.new }
     ensures quiet { TellsEach (D.faults disk.old) (D.faults disk.new) result }
 {

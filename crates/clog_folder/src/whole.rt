@@ -19,7 +19,7 @@ const PIECE: u32 = 1 << 20;
 pub fn read_whole<D: Disk>(alloc: Global, disk: &mut D, name: &Name) -> Result<Vec<u8>, DiskFault>
     ensures whole { GivesWhole (D.files disk.old) name.now (D.faults disk.old)
         (D.faults disk.new) result }
-    ensures keeps { IsUntouched D.files D.changes D.leaves D.moment D.since D.read_at
+    ensures keeps { IsUntouched D.files D.changes D.leaves D.moment D.since D.read_at D.lasted_at
         D.faults disk.old disk.new }
     ensures quiet { result ≢ Err Failed → D.faults disk.new ≡ D.faults disk.old }
 {

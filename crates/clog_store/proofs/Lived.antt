@@ -71,15 +71,15 @@ all_of n xs more =
 
 module _ {D : Type 0} (files : D → Option Files) (moment : D → ℕ)
     (since : D → ℕ → Files → Type 0) (leaves : D → List ℕ → Option (List ℕ) → Type 0)
-    (read_at : D → ℕ → Option Reading) where
+    (read_at : D → ℕ → Option Reading) (lasted_at : D → ℕ → Type 0) where
   abbrev Living : State D → Type 0
-  Living s = Lives files moment since leaves read_at s
+  Living s = Lives files moment since leaves read_at lasted_at s
 
   abbrev LivingOn : State D → State D → Type 0
-  LivingOn before now = LivesOn files moment since leaves read_at before now
+  LivingOn before now = LivesOn files moment since leaves read_at lasted_at before now
 
   abbrev Outliving : State D → State D → Type 0
-  Outliving before now = Outlives files moment since read_at before now
+  Outliving before now = Outlives files moment since read_at lasted_at before now
 
   -- ---- at the opening
 
@@ -140,7 +140,7 @@ module _ {D : Type 0} (files : D → Option Files) (moment : D → ℕ)
     outlives_on = record {
       opened = next.opened ∙ first.opened;
       told = same_told_then (files a.disk) (files b.disk) (files c.disk) first.told next.told;
-      later = later_still moment read_at a.disk b.disk c.disk first.later next.later;
+      later = later_still moment read_at lasted_at a.disk b.disk c.disk first.later next.later;
       no_fewer = omega (arith, first.no_fewer, next.no_fewer);
       shown = both (files c.disk) (read_at c.disk c.opened) _ (λ g r is read.
           let before = told_before (files b.disk) (files c.disk) g next.told is in
@@ -174,8 +174,8 @@ module _ {D : Type 0} (files : D → Option Files) (moment : D → ℕ)
   -- what images have shown since the opening they show still, and each image of a call shows what
   -- lasted before it
   pub shown_on : (a b : State D) → a.opened ≤ moment a.disk → Outliving a b
-      → ShownSince files moment since read_at a.disk a.opened a.past a.id a.sections
-      → ShownSince files moment since read_at b.disk b.opened b.past b.id b.sections
+      → ShownSince files moment since read_at lasted_at a.disk a.opened a.past a.id a.sections
+      → ShownSince files moment since read_at lasted_at b.disk b.opened b.past b.id b.sections
   shown_on a b began on shown =
       both (files b.disk) (read_at b.disk b.opened) _ (λ g r is read.
       let before = told_before (files a.disk) (files b.disk) g on.told is in
@@ -201,7 +201,11 @@ module _ {D : Type 0} (files : D → Option Files) (moment : D → ℕ)
     outlives = record {
       opened = refl;
       told = same_told_self (files s.disk);
-      later = record { no_sooner = omega arith; remembers = λ t le. refl };
+      later = record {
+        no_sooner = omega arith;
+        remembers = λ t le. refl;
+        lasted_then = λ t le. (λ has. has, λ has. has);
+      };
       no_fewer = omega arith;
       shown = both (files s.disk) (read_at s.disk s.opened) _ (λ f r is read. (
         λ least image shown. shown,

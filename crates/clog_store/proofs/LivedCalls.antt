@@ -45,19 +45,20 @@ use Rattle.clog_store.proofs.Lived.{all_of, at_both, at_told, both, lasts_on, sh
 
 module _ {D : Type 0} (files : D → Option Files) (moment : D → ℕ)
     (since : D → ℕ → Files → Type 0) (leaves : D → List ℕ → Option (List ℕ) → Type 0)
-    (read_at : D → ℕ → Option Reading) where
+    (read_at : D → ℕ → Option Reading) (lasted_at : D → ℕ → Type 0) where
   abbrev Living : State D → Type 0
-  Living s = Lives files moment since leaves read_at s
+  Living s = Lives files moment since leaves read_at lasted_at s
 
   abbrev LivingOn : State D → State D → Type 0
-  LivingOn before now = LivesOn files moment since leaves read_at before now
+  LivingOn before now = LivesOn files moment since leaves read_at lasted_at before now
 
   abbrev Outliving : State D → State D → Type 0
-  Outliving before now = Outlives files moment since read_at before now
+  Outliving before now = Outlives files moment since read_at lasted_at before now
 
   module _ (s : State D) (new : D) (runs : s.is_stopped ≡ false) (lives : Living s)
       (counts : (image : Files) → IsImage (leaves new) image → since new (moment s.disk) image)
-      (told : SameTold (files s.disk) (files new)) (later : IsLater moment read_at s.disk new) where
+      (told : SameTold (files s.disk) (files new)) (later : IsLater moment read_at lasted_at s.disk
+      new) where
     abbrev a : List Section
     a = take s.synced s.sections
 
@@ -145,13 +146,13 @@ module _ {D : Type 0} (files : D → Option Files) (moment : D → ℕ)
             lives = record {
               began = began_still;
               few = few_still;
-              shown = shown_on files moment since leaves read_at s (record s {
+              shown = shown_on files moment since leaves read_at lasted_at s (record s {
                 disk = new;
                 sections = longer;
                 is_stopped = true;
               })
                   lives.began on lives.shown;
-              lasts = lasts_on files moment since leaves read_at s (record s {
+              lasts = lasts_on files moment since leaves read_at lasted_at s (record s {
                 disk = new;
                 sections = longer;
                 is_stopped = true;
@@ -172,12 +173,12 @@ module _ {D : Type 0} (files : D → Option Files) (moment : D → ℕ)
             lives = record {
               began = began_still;
               few = few_still;
-              shown = shown_on files moment since leaves read_at s (record s {
+              shown = shown_on files moment since leaves read_at lasted_at s (record s {
                 disk = new;
                 sections = longer;
               }) lives.began on
                   lives.shown;
-              lasts = lasts_on files moment since leaves read_at s (record s {
+              lasts = lasts_on files moment since leaves read_at lasted_at s (record s {
                 disk = new;
                 sections = longer;
               }) counts no_more on;
@@ -223,9 +224,11 @@ module _ {D : Type 0} (files : D → Option Files) (moment : D → ℕ)
             lives = record {
               began = began_still;
               few = lives.few;
-              shown = shown_on files moment since leaves read_at s (record s { disk = new })
+              shown = shown_on files moment since leaves read_at lasted_at s
+                  (record s { disk = new })
                   lives.began on lives.shown;
-              lasts = lasts_on files moment since leaves read_at s (record s { disk = new }) counts
+              lasts = lasts_on files moment since leaves read_at lasted_at s
+                  (record s { disk = new }) counts
                   (omega arith) on;
               rests = λ going. rests_then a b same;
             };
@@ -240,12 +243,12 @@ module _ {D : Type 0} (files : D → Option Files) (moment : D → ℕ)
             lives = record {
               began = began_still;
               few = lives.few;
-              shown = shown_on files moment since leaves read_at s (record s {
+              shown = shown_on files moment since leaves read_at lasted_at s (record s {
                 disk = new;
                 is_stopped = true;
               }) lives.began on
                   lives.shown;
-              lasts = lasts_on files moment since leaves read_at s (record s {
+              lasts = lasts_on files moment since leaves read_at lasted_at s (record s {
                 disk = new;
                 is_stopped = true;
               }) counts (omega arith)
@@ -293,7 +296,7 @@ module _ {D : Type 0} (files : D → Option Files) (moment : D → ℕ)
               lives = record {
                 began = began_still;
                 few = omega arith;
-                shown = shown_on files moment since leaves read_at s (record s {
+                shown = shown_on files moment since leaves read_at lasted_at s (record s {
                   disk = new;
                   synced = all;
                 }) lives.began on

@@ -37,15 +37,15 @@ use Rattle.clog_store.proofs.Lived.{at_both, both, lasts_on, shown_on}
 
 module _ {D : Type 0} (files : D → Option Files) (moment : D → ℕ)
     (since : D → ℕ → Files → Type 0) (leaves : D → List ℕ → Option (List ℕ) → Type 0)
-    (read_at : D → ℕ → Option Reading) where
+    (read_at : D → ℕ → Option Reading) (lasted_at : D → ℕ → Type 0) where
   abbrev Living : State D → Type 0
-  Living s = Lives files moment since leaves read_at s
+  Living s = Lives files moment since leaves read_at lasted_at s
 
   abbrev LivingOn : State D → State D → Type 0
-  LivingOn before now = LivesOn files moment since leaves read_at before now
+  LivingOn before now = LivesOn files moment since leaves read_at lasted_at before now
 
   abbrev Outliving : State D → State D → Type 0
-  Outliving before now = Outlives files moment since read_at before now
+  Outliving before now = Outlives files moment since read_at lasted_at before now
 
   module _ (s : State D) (next : ℕ) (runs : s.is_stopped ≡ false) (lives : Living s)
       (only : (image : Files) → since s.disk (moment s.disk) image
@@ -105,7 +105,11 @@ module _ {D : Type 0} (files : D → Option Files) (moment : D → ℕ)
       outlives_rolled = record {
         opened = refl;
         told = same_told_self (files s.disk);
-        later = record { no_sooner = omega arith; remembers = λ t le. refl };
+        later = record {
+          no_sooner = omega arith;
+          remembers = λ t le. refl;
+          lasted_then = λ t le. (λ has. has, λ has. has);
+        };
         no_fewer = omega (arith, same_lasting);
         shown = both (files s.disk) (read_at s.disk s.opened) _ (λ f r is read.
             let rest = rests_whole f r is read in
@@ -124,9 +128,11 @@ module _ {D : Type 0} (files : D → Option Files) (moment : D → ℕ)
         lives = record {
           began = lives.began;
           few = omega arith;
-          shown = shown_on files moment since leaves read_at s rolled lives.began outlives_rolled
+          shown = shown_on files moment since leaves read_at lasted_at s rolled lives.began
+              outlives_rolled
               lives.shown;
-          lasts = lasts_on files moment since leaves read_at s rolled (λ image left. counts image
+          lasts = lasts_on files moment since leaves read_at lasted_at s rolled
+              (λ image left. counts image
               left) no_more_rolled
               outlives_rolled;
           rests = λ going. both (files s.disk) (read_at s.disk s.opened) _ (λ f r is read.

@@ -25,7 +25,7 @@ use Rattle.std.specs.FinMap as finmap
 use Rattle.std.specs.List.{flat_map}
 use Rattle.clog_cells.proofs.Made.{merge_of}
 use Rattle.clog_disk.specs.Files.{Files, Lists, Told, bytes_at}
-use Rattle.clog_disk.specs.Images.{IsImage, Within}
+use Rattle.clog_disk.specs.Images.{IsImage, LastsAll, Within}
 use Rattle.clog_disk.proofs.Named.{same_files}
 use Rattle.clog_crash.specs.Counts.{IsLog}
 use Rattle.clog_crash.specs.Flush.{IsSameFolder, IsSettled}
@@ -52,7 +52,6 @@ use Rattle.clog_store.specs.Opened.{
   IsOpened,
   IsRecovered,
   KeepsFolder,
-  LastsAll,
   LeavesAlone,
   OpenRefused,
 }

@@ -24,14 +24,15 @@ err_then (Err e) p h = h p
 -- one call, before and after which each image has P
 pub one_call : {D : Type 0} (moment : D → ℕ) (since : D → ℕ → Files → Type 0)
     (leaves : D → List ℕ → Option (List ℕ) → Type 0)
-    (read_at : D → ℕ → Option (List ℕ → List ℕ)) (old new : D) (P : Files → Type 0)
+    (read_at : D → ℕ → Option (List ℕ → List ℕ)) (lasted_at : D → ℕ → Type 0) (old new : D)
+    (P : Files → Type 0)
     → ((image : Files) → since old (moment old) image → IsImage (leaves old) image)
     → ((image : Files) → IsImage (leaves old) image → P image)
-    → Elapses moment since leaves read_at old new
+    → Elapses moment since leaves read_at lasted_at old new
     → ((image : Files) → IsImage (leaves new) image → P image)
     → LeavesOnly moment since old new P
-one_call moment since leaves read_at old new P only_now before time after =
-    goes_on moment since leaves read_at old old new P
+one_call moment since leaves read_at lasted_at old new P only_now before time after =
+    goes_on moment since leaves read_at lasted_at old old new P
     (started moment since old P (λ image here. before image (only_now image here))) time after
 
 -- what is so of the value at Ok is so of an equal one

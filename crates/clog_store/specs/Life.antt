@@ -62,36 +62,38 @@ BothTold told read P = IfSome told (λ f. IfSome read (λ r. P f r))
 -- Each image since the opening shows what the folder restored then, and the first of the entries of
 -- the log, however it goes on.
 abbrev pub ShownSince : {D : Type 0} → (D → Option Files) → (D → ℕ) → (D → ℕ → Files → Type 0)
-    → (D → ℕ → Option Reading) → D → ℕ → List Write → ℕ → List Section → Type 0
-ShownSince files moment since read_at disk opened past id sections =
+    → (D → ℕ → Option Reading) → (D → ℕ → Type 0) → D → ℕ → List Write → ℕ → List Section → Type 0
+ShownSince files moment since read_at lasted_at disk opened past id sections =
     BothTold (files disk) (read_at disk opened) (λ f r.
     SinceThen moment since opened disk (HasShown r 0 past id sections))
 
 -- the disk's files are at rest, with what the folder restored at the opening
 abbrev pub RestsNow : {D : Type 0} → (D → Option Files)
-    → (D → List ℕ → Option (List ℕ) → Type 0) → (D → ℕ → Option Reading) → State D → Type 0
-RestsNow files leaves read_at s =
+    → (D → List ℕ → Option (List ℕ) → Type 0) → (D → ℕ → Option Reading) → (D → ℕ → Type 0) → State
+    D → Type 0
+RestsNow files leaves read_at lasted_at s =
     BothTold (files s.disk) (read_at s.disk s.opened) (λ f r.
     IsResting f (leaves s.disk) r s.past s.id (take s.synced s.sections)
     (drop s.synced s.sections))
 
 -- Each image of now shows all that lasts.
 abbrev pub LastsNow : {D : Type 0} → (D → Option Files)
-    → (D → List ℕ → Option (List ℕ) → Type 0) → (D → ℕ → Option Reading) → State D → Type 0
-LastsNow files leaves read_at s =
+    → (D → List ℕ → Option (List ℕ) → Type 0) → (D → ℕ → Option Reading) → (D → ℕ → Type 0) → State
+    D → Type 0
+LastsNow files leaves read_at lasted_at s =
     BothTold (files s.disk) (read_at s.disk s.opened) (λ f r. (image : Files)
     → IsImage (leaves s.disk) image → HasShown r (lasting_in s) s.past s.id s.sections image)
 
 -- What a store keeps true from its opening on, where all that was there before lasted.
 pub record Lives {D : Type 0} (files : D → Option Files) (moment : D → ℕ)
     (since : D → ℕ → Files → Type 0) (leaves : D → List ℕ → Option (List ℕ) → Type 0)
-    (read_at : D → ℕ → Option Reading) (s : State D) : Type 0 where
+    (read_at : D → ℕ → Option Reading) (lasted_at : D → ℕ → Type 0) (s : State D) : Type 0 where
   pub began : s.opened ≤ moment s.disk
   pub few : s.synced ≤ length s.sections
-  pub shown : ShownSince files moment since read_at s.disk s.opened s.past s.id s.sections
-  pub lasts : LastsNow files leaves read_at s
+  pub shown : ShownSince files moment since read_at lasted_at s.disk s.opened s.past s.id s.sections
+  pub lasts : LastsNow files leaves read_at lasted_at s
   -- until the disk has failed
-  pub rests : s.is_stopped ≡ false → RestsNow files leaves read_at s
+  pub rests : s.is_stopped ≡ false → RestsNow files leaves read_at lasted_at s
 
 -- What an image has shown of the one log it shows of the other, which goes on from it.
 abbrev pub ShowsOn : {D : Type 0} → Reading → State D → State D → Type 0
@@ -102,11 +104,12 @@ ShowsOn r before now = (least : ℕ) (image : Files)
 -- From a state of a store to a later one: what lasted lasts, and each image since then restores it,
 -- with what the folder restored at the opening, and the first of the log's further entries.
 pub record Outlives {D : Type 0} (files : D → Option Files) (moment : D → ℕ)
-    (since : D → ℕ → Files → Type 0) (read_at : D → ℕ → Option Reading) (before now : State D)
+    (since : D → ℕ → Files → Type 0) (read_at : D → ℕ → Option Reading) (lasted_at : D → ℕ → Type 0)
+    (before now : State D)
     : Type 0 where
   pub opened : now.opened ≡ before.opened
   pub told : SameTold (files before.disk) (files now.disk)
-  pub later : IsLater moment read_at before.disk now.disk
+  pub later : IsLater moment read_at lasted_at before.disk now.disk
   pub no_fewer : lasting_in before ≤ lasting_in now
   pub shown : BothTold (files now.disk) (read_at now.disk now.opened) (λ f r.
       ShowsOn r before now × LeavesOnly moment since before.disk now.disk
@@ -115,6 +118,7 @@ pub record Outlives {D : Type 0} (files : D → Option Files) (moment : D → �
 -- a call of a store that lives: it lives on, and what lasted before is in each image since
 pub record LivesOn {D : Type 0} (files : D → Option Files) (moment : D → ℕ)
     (since : D → ℕ → Files → Type 0) (leaves : D → List ℕ → Option (List ℕ) → Type 0)
-    (read_at : D → ℕ → Option Reading) (before now : State D) : Type 0 where
-  pub lives : Lives files moment since leaves read_at now
-  pub outlives : Outlives files moment since read_at before now
+    (read_at : D → ℕ → Option Reading) (lasted_at : D → ℕ → Type 0) (before now : State D) : Type 0
+  where
+    pub lives : Lives files moment since leaves read_at lasted_at now
+    pub outlives : Outlives files moment since read_at lasted_at before now

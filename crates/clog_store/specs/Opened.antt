@@ -177,11 +177,6 @@ abbrev pub HandsOn : {D : Type 0} → (D → Type 0) → Result (State D) (D × 
 HandsOn P (result.Ok store) = P store.disk
 HandsOn P (result.Err back) = P back.0
 
--- a crash leaves each name as it is
-abbrev pub LastsAll : Files → (List ℕ → Option (List ℕ) → Type 0) → Type 0
-LastsAll files leaves =
-    (name : List ℕ) (left : Option (List ℕ)) → leaves name left → left ≡ finmap.get files name
-
 -- ---- for private clauses
 
 -- What is known of a folder that can be opened, from a moment.

@@ -47,7 +47,7 @@ pub fn put_table<D: Disk>(
         (table_name_of table.0 sequence) (Some bytes.now)) }
     ensures adds { Adds (change.Publish (table_name_of table.0 sequence) bytes.now)
         (D.changes disk.old) (D.changes disk.new) result }
-    ensures later { IsLater D.moment D.read_at disk.old disk.new }
+    ensures later { IsLater D.moment D.read_at D.lasted_at disk.old disk.new }
     ensures found { result ≢ Err no_file }
     ensures cause { HasDiskCause (D.faults disk.old) (D.faults disk.new) result }
     ensures comes { (r : Reading) (past : List Write) (id : ℕ) (old kept : List Section)
@@ -75,7 +75,7 @@ pub fn take_away<D: Disk>(disk: &mut D, segment: u64) -> Result<(), DiskFault>
         (segment_name_of 6 segment) None) }
     ensures adds { Adds (change.Remove (segment_name_of 6 segment)) (D.changes disk.old)
         (D.changes disk.new) result }
-    ensures later { IsLater D.moment D.read_at disk.old disk.new }
+    ensures later { IsLater D.moment D.read_at D.lasted_at disk.old disk.new }
     ensures finds { Finds (D.files disk.old) (segment_name_of 6 segment) result }
     ensures same { result ≢ Err failed → OnErr result (Unchanged (D.files disk.old)
         (D.files disk.new) (D.leaves disk.old) (D.leaves disk.new)) }

@@ -76,7 +76,7 @@ fn name_archive<D: Disk>(disk: &mut D, id: u64, archives: bool) -> Result<(), Di
     requires fits { id < 2 ^ 63 }
     requires there { IfSome (D.files disk.old) (λ f. IsHeld f (segment_name_of 6 id)) }
     ensures told { SameTold (D.files disk.old) (D.files disk.new) }
-    ensures later { IsLater D.moment D.read_at disk.old disk.new }
+    ensures later { IsLater D.moment D.read_at D.lasted_at disk.old disk.new }
     ensures cause { HasDiskCause (D.faults disk.old) (D.faults disk.new) result }
     ensures found { result ≢ Err no_file }
     ensures files { OnOk result (D.files disk.new
@@ -114,7 +114,7 @@ fn drop_segment<D: Disk>(
     requires there { IfSome (D.files disk.old)
         (λ f. IsHeld f (segment_name_of 6 (base + ordinal))) }
     ensures told { SameTold (D.files disk.old) (D.files disk.new) }
-    ensures later { IsLater D.moment D.read_at disk.old disk.new }
+    ensures later { IsLater D.moment D.read_at D.lasted_at disk.old disk.new }
     ensures cause { HasDiskCause (D.faults disk.old) (D.faults disk.new) (refused_by result) }
     ensures found { refused_by result ≢ Err no_file }
     ensures named { NamesOnly archives result }
@@ -167,7 +167,7 @@ pub fn drop_segments<D: Disk>(
 ) -> Result<(), Halt>
     requires { AreDroppable (D.files disk.old) base ordinals.now }
     ensures told { SameTold (D.files disk.old) (D.files disk.new) }
-    ensures later { IsLater D.moment D.read_at disk.old disk.new }
+    ensures later { IsLater D.moment D.read_at D.lasted_at disk.old disk.new }
     ensures cause { HasDiskCause (D.faults disk.old) (D.faults disk.new) (halted_by result) }
     ensures found { halted_by result ≢ Err no_file }
     ensures named { NamesNext archives result }

@@ -8,7 +8,7 @@ use clog_disk::Disk;
 /// that was acknowledged stays.
 pub fn what_lasts_stays<D: Disk>()
     ensures { (a b c : State D) → a.opened ≤ D.moment a.disk
-        → Outlives D.files D.moment D.since D.read_at a b
-        → Outlives D.files D.moment D.since D.read_at b c
-        → Outlives D.files D.moment D.since D.read_at a c }
+        → Outlives D.files D.moment D.since D.read_at D.lasted_at a b
+        → Outlives D.files D.moment D.since D.read_at D.lasted_at b c
+        → Outlives D.files D.moment D.since D.read_at D.lasted_at a c }
 {}

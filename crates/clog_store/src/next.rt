@@ -74,7 +74,7 @@ fn put_next<D: Disk>(disk: &mut D, id: u64, size: u32, bytes: &[u8]) -> Result<(
     ensures told { SameTold (D.files disk.old) (D.files disk.new) }
     ensures appends { OnOk result (AppendsTo (D.files disk.old) (D.files disk.new)
         (segment_name_of 6 id) bytes.now) }
-    ensures later { IsLater D.moment D.read_at disk.old disk.new }
+    ensures later { IsLater D.moment D.read_at D.lasted_at disk.old disk.new }
     ensures cause { HasDiskCause (D.faults disk.old) (D.faults disk.new) result }
     ensures put { (r : Reading) (past : List Write) (old kept : List Section)
         (payloads : List (List ℕ)) → IsNext id old kept payloads size bytes.now
@@ -104,7 +104,7 @@ pub fn write_section<D: Disk>(
     ensures told { SameTold (D.files disk.old) (D.files disk.new) }
     ensures appends { OnOk result (AppendsTo (D.files disk.old) (D.files disk.new)
         (segment_name_of 6 id) (next_bytes id size entries.now)) }
-    ensures later { IsLater D.moment D.read_at disk.old disk.new }
+    ensures later { IsLater D.moment D.read_at D.lasted_at disk.old disk.new }
     ensures cause { HasDiskCause (D.faults disk.old) (D.faults disk.new) result }
     ensures put { (r : Reading) (past : List Write) (old kept : List Section)
         (payloads : List (List ℕ)) → entries.now ≡ entries_bytes payloads

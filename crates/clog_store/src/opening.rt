@@ -3,7 +3,7 @@
 ghost use Rattle.std.specs.Prelude.{◌≡◌, ◌≤◌, ◌<◌, ◌^◌, ℕ, [], Some, false, IfOk, OnOk};
 ghost use Rattle.std.specs.List.{Any};
 ghost use Rattle.clog_disk.specs.Files.{Files, Lists, SameTold, Told};
-ghost use Rattle.clog_disk.specs.Images.{IsLater, LeavesOnly};
+ghost use Rattle.clog_disk.specs.Images.{IsLater, LastsAll, LeavesOnly};
 ghost use Rattle.clog_crash.specs.Flush.{IsSameFolder, IsSettled};
 ghost use Rattle.clog_crash.specs.Recovery.{NamesAny};
 ghost use Rattle.clog_crash.specs.Rest.{IsAtRest};
@@ -16,7 +16,6 @@ ghost use Rattle.clog_store.specs.Opened.{
   HasRows,
   IsRecovered,
   KeepsFolder,
-  LastsAll,
   LeavesAlone,
   Looks,
   Opens,
@@ -44,7 +43,7 @@ fn recover_folder<D: Disk>(
     requires lists { Lists (D.files disk.old) names.now }
     requires few { ¬ Any IsLateTable names.now }
     ensures told { SameTold (D.files disk.old) (D.files disk.new) }
-    ensures later { IsLater D.moment D.read_at disk.old disk.new }
+    ensures later { IsLater D.moment D.read_at D.lasted_at disk.old disk.new }
     ensures no_fewer { D.faults disk.old ≤ D.faults disk.new }
     ensures cause { StepCause (D.faults disk.old) (D.faults disk.new) result }
     ensures changes { (first : Files) → D.files disk.old ≡ Some first
@@ -90,7 +89,7 @@ struct Known {
 fn look<D: Disk>(alloc: Global, disk: &mut D, moment: u64) -> Result<Known, OpenFault>
     ensures looks { Looks (D.files disk.old) (D.faults disk.old) (D.faults disk.new) moment result }
     ensures cause { TellsEach (D.faults disk.old) (D.faults disk.new) result }
-    ensures keeps { IsUntouched D.files D.changes D.leaves D.moment D.since D.read_at
+    ensures keeps { IsUntouched D.files D.changes D.leaves D.moment D.since D.read_at D.lasted_at
         D.faults disk.old disk.new }
 {
     // Matches in place of `?`, since the exits speak of what was read.
@@ -133,13 +132,14 @@ fn look<D: Disk>(alloc: Global, disk: &mut D, moment: u64) -> Result<Known, Open
 pub fn recover<D: Disk>(alloc: Global, disk: &mut D, moment: u64) -> Result<u64, OpenFault>
     requires moment { moment < 2 ^ 62 }
     ensures told { SameTold (D.files disk.old) (D.files disk.new) }
-    ensures later { IsLater D.moment D.read_at disk.old disk.new }
+    ensures later { IsLater D.moment D.read_at D.lasted_at disk.old disk.new }
     ensures no_fewer { D.faults disk.old ≤ D.faults disk.new }
     ensures cause { TellsEach (D.faults disk.old) (D.faults disk.new) result }
     ensures opens { Opens (D.files disk.old) (D.files disk.new) (D.faults disk.old)
         (D.faults disk.new) moment result }
     ensures fits { IfOk result (λ base. base < 2 ^ 63) }
     ensures alone { LeavesAlone (IsUntouched D.files D.changes D.leaves D.moment D.since D.read_at
+        D.lasted_at
         D.faults disk.old disk.new) result }
     ensures changes { (first : Files) → D.files disk.old ≡ Some first
         → RecoversFirst first (D.changes disk.old) (D.changes disk.new) }

@@ -49,7 +49,7 @@ pub fn publish_file<D: Disk>(
 ) -> Result<(), DiskFault>
     requires { IsNumbered base sequence file cells.now }
     ensures told { SameTold (D.files disk.old) (D.files disk.new) }
-    ensures later { IsLater D.moment D.read_at disk.old disk.new }
+    ensures later { IsLater D.moment D.read_at D.lasted_at disk.old disk.new }
     ensures cause { HasDiskCause (D.faults disk.old) (D.faults disk.new) result }
     ensures found { result ≢ Err no_file }
     ensures comes { OnOk result (HasCome (D.files disk.old) (D.files disk.new)

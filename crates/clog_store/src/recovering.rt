@@ -52,7 +52,7 @@ pub fn put_recovered<D: Disk>(
         (table_name_of table.0 sequence) (Some bytes.now)) }
     ensures adds { Adds (change.Publish (table_name_of table.0 sequence) bytes.now)
         (D.changes disk.old) (D.changes disk.new) result }
-    ensures later { IsLater D.moment D.read_at disk.old disk.new }
+    ensures later { IsLater D.moment D.read_at D.lasted_at disk.old disk.new }
     ensures cause { HasDiskCause (D.faults disk.old) (D.faults disk.new) result }
     ensures found { result ≢ Err no_file }
     ensures comes { (first : Files) (file : TableFile) → file.table ≡ table
@@ -76,7 +76,7 @@ pub fn take_recovered<D: Disk>(disk: &mut D, segment: u64) -> Result<(), DiskFau
         (segment_name_of 6 segment) None) }
     ensures adds { Adds (change.Remove (segment_name_of 6 segment)) (D.changes disk.old)
         (D.changes disk.new) result }
-    ensures later { IsLater D.moment D.read_at disk.old disk.new }
+    ensures later { IsLater D.moment D.read_at D.lasted_at disk.old disk.new }
     ensures cause { HasDiskCause (D.faults disk.old) (D.faults disk.new) result }
     ensures found { result ≢ Err no_file }
     ensures goes { (first : Files) (others : List ℕ)
@@ -97,7 +97,7 @@ pub fn take_recovered<D: Disk>(disk: &mut D, segment: u64) -> Result<(), DiskFau
 pub fn take_all_recovered<D: Disk>(disk: &mut D, segments: &[u64]) -> Result<(), DiskFault>
     requires there { IfSome (D.files disk.old) (λ f. AreThere f segments.now) }
     ensures told { SameTold (D.files disk.old) (D.files disk.new) }
-    ensures later { IsLater D.moment D.read_at disk.old disk.new }
+    ensures later { IsLater D.moment D.read_at D.lasted_at disk.old disk.new }
     ensures cause { HasDiskCause (D.faults disk.old) (D.faults disk.new) result }
     ensures found { result ≢ Err no_file }
     ensures removes { RemovesFirst segments.now (D.changes disk.old) (D.changes disk.new) result }

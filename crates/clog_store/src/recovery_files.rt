@@ -42,7 +42,7 @@ fn put_table_of<D: Disk>(
     requires few { ¬ Any IsLateTable names.now }
     requires sized { (pair : CellKey × Cell) → Contains cells.now pair → IsSized pair }
     ensures told { SameTold (D.files disk.old) (D.files disk.new) }
-    ensures later { IsLater D.moment D.read_at disk.old disk.new }
+    ensures later { IsLater D.moment D.read_at D.lasted_at disk.old disk.new }
     ensures no_fewer { D.faults disk.old ≤ D.faults disk.new }
     ensures cause { StepCause (D.faults disk.old) (D.faults disk.new) result }
     ensures puts { (first : Files) → IsReady first names.now cells.now top
@@ -82,7 +82,7 @@ pub(crate) fn put_tables<D: Disk>(
     requires few { ¬ Any IsLateTable names.now }
     requires sized { (pair : CellKey × Cell) → Contains cells.now pair → IsSized pair }
     ensures told { SameTold (D.files disk.old) (D.files disk.new) }
-    ensures later { IsLater D.moment D.read_at disk.old disk.new }
+    ensures later { IsLater D.moment D.read_at D.lasted_at disk.old disk.new }
     ensures no_fewer { D.faults disk.old ≤ D.faults disk.new }
     ensures cause { StepCause (D.faults disk.old) (D.faults disk.new) result }
     ensures puts { (first : Files) → IsReady first names.now cells.now top

@@ -31,7 +31,7 @@ pub fn keep_sections<D: Disk>(
         (segment_name_of 6 id) bytes.now) }
     ensures adds { Adds (change.Append (segment_name_of 6 id) bytes.now) (D.changes disk.old)
         (D.changes disk.new) result }
-    ensures later { IsLater D.moment D.read_at disk.old disk.new }
+    ensures later { IsLater D.moment D.read_at D.lasted_at disk.old disk.new }
     ensures cause { HasDiskCause (D.faults disk.old) (D.faults disk.new) result }
     ensures kept { (r : Reading) (past : List Write) (old kept new : List Section)
         → Brings id old kept new bytes.now
@@ -58,7 +58,7 @@ pub fn keep_sections<D: Disk>(
 pub fn settle_sections<D: Disk>(disk: &mut D, id: u64) -> Result<(), DiskFault>
     ensures same { D.files disk.new ≡ D.files disk.old }
     ensures quiet { D.changes disk.new ≡ D.changes disk.old }
-    ensures later { IsLater D.moment D.read_at disk.old disk.new }
+    ensures later { IsLater D.moment D.read_at D.lasted_at disk.old disk.new }
     ensures cause { HasDiskCause (D.faults disk.old) (D.faults disk.new) result }
     ensures lasts { (r : Reading) (past : List Write) (old kept : List Section)
         → RestsAt (D.files disk.old) (D.leaves disk.old) r past id old kept
@@ -86,7 +86,7 @@ pub fn put_sections<D: Disk>(
     ensures told { SameTold (D.files disk.old) (D.files disk.new) }
     ensures appends { OnOk result (AppendsTo (D.files disk.old) (D.files disk.new)
         (segment_name_of 6 id) bytes.now) }
-    ensures later { IsLater D.moment D.read_at disk.old disk.new }
+    ensures later { IsLater D.moment D.read_at D.lasted_at disk.old disk.new }
     ensures cause { HasDiskCause (D.faults disk.old) (D.faults disk.new) result }
     ensures put { (r : Reading) (past : List Write) (old kept new : List Section)
         → Brings id old kept new bytes.now

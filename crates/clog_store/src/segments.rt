@@ -38,7 +38,7 @@ pub fn put_segments<D: Disk>(disk: &mut D, parts: &[Part]) -> Result<(), DiskFau
     requires ready { IfSome (D.files disk.old) (λ f.
         CanPut (Some f) (D.leaves disk.old) parts.now) }
     ensures told { SameTold (D.files disk.old) (D.files disk.new) }
-    ensures later { IsLater D.moment D.read_at disk.old disk.new }
+    ensures later { IsLater D.moment D.read_at D.lasted_at disk.old disk.new }
     ensures cause { HasDiskCause (D.faults disk.old) (D.faults disk.new) result }
     ensures put { (r : Reading) (past : List Write) (id : ℕ) (first : Section)
         (more : List Section) (ws : List NewSegment)
@@ -73,7 +73,7 @@ pub fn put_all<D: Disk>(
     requires ready { IfSome (D.files disk.old) (λ f.
         CanWrite (Some f) (D.leaves disk.old) id bytes.now parts.now) }
     ensures told { SameTold (D.files disk.old) (D.files disk.new) }
-    ensures later { IsLater D.moment D.read_at disk.old disk.new }
+    ensures later { IsLater D.moment D.read_at D.lasted_at disk.old disk.new }
     ensures cause { HasDiskCause (D.faults disk.old) (D.faults disk.new) result }
     ensures put { (r : Reading) (past : List Write) (old kept new : List Section)
         (first : Section) (more : List Section) (ws : List NewSegment)

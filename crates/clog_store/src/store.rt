@@ -9,7 +9,7 @@ ghost use Rattle.std.specs.Prelude.{Err, true, false};
 ghost use Rattle.clog_store.specs.declared.written.StoreFault.TheVariants.{Stopped as stopped};
 ghost use Rattle.clog_scan.specs.Cut.{Section};
 ghost use Rattle.clog_disk.specs.Files.{Files, SameTold, Told};
-ghost use Rattle.clog_disk.specs.Images.{IsLater, LeavesOnly};
+ghost use Rattle.clog_disk.specs.Images.{IsLater, LastsAll, LeavesOnly};
 ghost use Rattle.clog_crash.specs.Rest.{IsAtRest};
 ghost use Rattle.clog_crash.specs.Sections.{Brings};
 ghost use Rattle.clog_folder.specs.Passing.{IsUntouched, TellsFault};
@@ -18,7 +18,6 @@ ghost use Rattle.clog_store.specs.Stepped.{Keeps, Settles, Writes};
 ghost use Rattle.clog_store.specs.Opened.{
   HandsOn,
   KeepsFolder,
-  LastsAll,
   LeftAlone,
   OpenRefused,
   OpensAs,
@@ -91,7 +90,7 @@ impl<D: Disk> Store<D> {
         ensures synced { result.synced ≡ 0 }
         ensures runs { result.is_stopped ≡ false }
         ensures lives { IfSome (D.files disk) (λ f. IsAtRest f (D.leaves disk) id [] [])
-            → Lives D.files D.moment D.since D.leaves D.read_at result }
+            → Lives D.files D.moment D.since D.leaves D.read_at D.lasted_at result }
     {
         let opened = disk.moment_count();
         Store {
@@ -122,11 +121,11 @@ impl<D: Disk> Store<D> {
         ensures runs { IfOk result (λ store. store.is_stopped ≡ false) }
         ensures quiet { IfOk result (λ store. D.faults store.disk ≡ D.faults disk) }
         ensures lives { IfSome (D.files disk) (λ f. LastsAll f (D.leaves disk))
-            → IfOk result (Lives D.files D.moment D.since D.leaves D.read_at) }
+            → IfOk result (Lives D.files D.moment D.since D.leaves D.read_at D.lasted_at) }
         ensures refused { IfErr result (λ back.
             OpenRefused (D.files disk) (D.faults disk) (D.faults back.0) back.1) }
         ensures alone { IfErr result (λ back. LeftAlone (IsUntouched D.files D.changes D.leaves
-            D.moment D.since D.read_at D.faults disk back.0) back.1) }
+            D.moment D.since D.read_at D.lasted_at D.faults disk back.0) back.1) }
         ensures tells { IfErr result (λ back.
             TellsFault back.1 (D.faults disk) (D.faults back.0)) }
         ensures changes { (first : Files) → D.files disk ≡ Some first
@@ -134,7 +133,7 @@ impl<D: Disk> Store<D> {
         ensures recovers { (first : Files) → D.files disk ≡ Some first
             → IfOk result (λ store. RecoversAll first (D.changes disk) (D.changes store.disk)) }
         ensures told { HandsOn (λ now. SameTold (D.files disk) (D.files now)) result }
-        ensures later { HandsOn (IsLater D.moment D.read_at disk) result }
+        ensures later { HandsOn (IsLater D.moment D.read_at D.lasted_at disk) result }
         ensures keeps { (first : Files) → D.files disk ≡ Some first
             → HandsOn (λ now. Told (D.files now) (KeepsFolder first)) result }
         ensures any_moment { (first : Files) → D.files disk ≡ Some first
@@ -156,8 +155,8 @@ impl<D: Disk> Store<D> {
         ensures keeps { Keeps self.old self.new section result }
         ensures stays { self.old.is_stopped ≡ true → (result ≡ Err stopped)
             × (self.new.disk ≡ self.old.disk) }
-        ensures lives { Lives D.files D.moment D.since D.leaves D.read_at self.old
-            → LivesOn D.files D.moment D.since D.leaves D.read_at self.old self.new }
+        ensures lives { Lives D.files D.moment D.since D.leaves D.read_at D.lasted_at self.old
+            → LivesOn D.files D.moment D.since D.leaves D.read_at D.lasted_at self.old self.new }
     {
         if self.is_stopped {
             return Err(StoreFault::Stopped);
@@ -182,8 +181,8 @@ impl<D: Disk> Store<D> {
     // Makes the sections last that are kept.
     fn settle(&mut self) -> Result<(), StoreFault>
         ensures settles { Settles self.old self.new result }
-        ensures lives { Lives D.files D.moment D.since D.leaves D.read_at self.old
-            → LivesOn D.files D.moment D.since D.leaves D.read_at self.old self.new }
+        ensures lives { Lives D.files D.moment D.since D.leaves D.read_at D.lasted_at self.old
+            → LivesOn D.files D.moment D.since D.leaves D.read_at D.lasted_at self.old self.new }
     {
         if self.is_stopped {
             return Err(StoreFault::Stopped);
@@ -207,8 +206,8 @@ impl<D: Disk> Store<D> {
         requires brings { Brings self.old.id (take self.old.synced self.old.sections)
             (drop self.old.synced self.old.sections) (section ∷ []) bytes.now }
         ensures writes { Writes self.old self.new section result }
-        ensures lives { Lives D.files D.moment D.since D.leaves D.read_at self.old
-            → LivesOn D.files D.moment D.since D.leaves D.read_at self.old self.new }
+        ensures lives { Lives D.files D.moment D.since D.leaves D.read_at D.lasted_at self.old
+            → LivesOn D.files D.moment D.since D.leaves D.read_at D.lasted_at self.old self.new }
         ensures stays { self.old.is_stopped ≡ true → (result ≡ Err stopped)
             × (self.new.disk ≡ self.old.disk) }
     {
@@ -232,9 +231,9 @@ impl<D: Disk> Store<D> {
         }) }
         ensures refused { OnErr result (self.new ≡ self.old) }
         ensures stays { self.old.is_stopped ≡ true → result ≡ Err stopped }
-        ensures lives { Lives D.files D.moment D.since D.leaves D.read_at self.old
+        ensures lives { Lives D.files D.moment D.since D.leaves D.read_at D.lasted_at self.old
             → OnOk result
-            (LivesOn D.files D.moment D.since D.leaves D.read_at self.old self.new) }
+            (LivesOn D.files D.moment D.since D.leaves D.read_at D.lasted_at self.old self.new) }
     {
         if self.is_stopped {
             return Err(StoreFault::Stopped);
@@ -255,11 +254,12 @@ impl<D: Disk> Store<D> {
     /// folder restored then and the first of the entries, and each image of now all that last.
     pub fn into_disk(self) -> D
         ensures disk { result ≡ self.disk }
-        ensures shown { Lives D.files D.moment D.since D.leaves D.read_at self
-            → ShownSince D.files D.moment D.since D.read_at result self.opened self.past self.id
+        ensures shown { Lives D.files D.moment D.since D.leaves D.read_at D.lasted_at self
+            → ShownSince D.files D.moment D.since D.read_at D.lasted_at result self.opened self.past
+            self.id
             self.sections }
-        ensures lasts { Lives D.files D.moment D.since D.leaves D.read_at self
-            → LastsNow D.files D.leaves D.read_at self }
+        ensures lasts { Lives D.files D.moment D.since D.leaves D.read_at D.lasted_at self
+            → LastsNow D.files D.leaves D.read_at D.lasted_at self }
     {
         self.disk
     }

@@ -145,7 +145,7 @@ pub fn replay<R: Threads + Sync, D: Disk, G: Gate + Sync>(
     ensures replays { Replays ignore (D.files disk.old) (D.faults disk.old) (D.faults disk.new)
         result }
     // No file, no image and no earlier moment of the disk has changed.
-    ensures keeps { IsUntouched D.files D.changes D.leaves D.moment D.since D.read_at
+    ensures keeps { IsUntouched D.files D.changes D.leaves D.moment D.since D.read_at D.lasted_at
         D.faults disk.old disk.new }
     // What is answered for another reason than the disk's has counted no fault of it.
     ensures quiet { TellsEach (D.faults disk.old) (D.faults disk.new) result }

@@ -20,8 +20,9 @@ fn copy_of(alloc: Global, bytes: &[u8]) -> Result<Bytes, AllocError>
 impl Disk for MemDisk {
     ghost use Rattle.std.specs.Prelude.{refl};
     ghost use Rattle.clog_disk.specs.Stored.{may_leave};
-    ghost use Rattle.clog_disk.specs.InMemory.{files_of, state_of, Since, reading_at};
+    ghost use Rattle.clog_disk.specs.InMemory.{files_of, state_of, LastedAt, Since, reading_at};
     ghost use Rattle.clog_disk.specs.InMemoryLaws.{
+      lasting_now,
       reading_now,
       reads_now_an_image,
       counts_this_moment,
@@ -39,6 +40,8 @@ impl Disk for MemDisk {
     ghost since = { λ d t image. Since (state_of d.files.entries) d.undos.items t image };
 
     ghost read_at = { λ d t. Some (reading_at (state_of d.files.entries) d.undos.items t) };
+
+    ghost lasted_at = { λ d t. LastedAt (state_of d.files.entries) d.undos.items t };
 
     ghost faults = { λ d. d.calls.faults };
 
@@ -164,6 +167,8 @@ impl Disk for MemDisk {
     ghost tells_both = { λ d. refl };
 
     ghost reads_now = { λ d. reading_now d.files.entries d.undos.items };
+
+    ghost lasts_now = { λ d. lasting_now d.files.entries d.undos.items };
 
     ghost reads_an_image = { λ d. reads_now_an_image d.files.entries };
 

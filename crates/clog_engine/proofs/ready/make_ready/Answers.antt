@@ -58,7 +58,8 @@ returns-in-Err-recover-clause-readies g c =
           (D.faults new) refusal status c.folder_status.ensures same.files
           c.look.ensures.keeps.later ends.opens,
       left_log refusal status (D.files old) (D.files new) (D.leaves old) (D.leaves new)
-          (IsUntouched D.files D.changes D.leaves D.moment D.since D.read_at D.faults looked new)
+          (IsUntouched D.files D.changes D.leaves D.moment D.since D.read_at D.lasted_at D.faults
+          looked new)
           c.folder_status.ensures ends.alone
           (λ still. unchanged_on (D.files old) (D.files looked) (D.files new) (D.leaves old)
           (D.leaves looked) (D.leaves new) same still.same)

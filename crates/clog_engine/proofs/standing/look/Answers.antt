@@ -32,10 +32,11 @@ returns-then-has_segment-clause-looks g c =
 pub returns-then-has_segment-clause-keeps : goal.returns-then-has_segment-clause-keeps
 returns-then-has_segment-clause-keeps g c =
     both g.D.Disk.files g.D.Disk.changes g.D.Disk.leaves g.D.Disk.moment
-    g.D.Disk.since g.D.Disk.read_at g.D.Disk.faults c.args.disk.now c.list.new.self
+    g.D.Disk.since g.D.Disk.read_at g.D.Disk.lasted_at g.D.Disk.faults c.args.disk.now
+    c.list.new.self
     c.find_log.new.disk
     (one_call g.D.Disk.files g.D.Disk.changes g.D.Disk.leaves g.D.Disk.moment
-    g.D.Disk.since g.D.Disk.read_at g.D.Disk.faults c.args.disk.now
+    g.D.Disk.since g.D.Disk.read_at g.D.Disk.lasted_at g.D.Disk.faults c.args.disk.now
     c.list.new.self c.in-Ok.ensures.same c.in-Ok.ensures.quiet c.in-Ok.ensures.time
     c.in-Ok.ensures.cause.later) c.find_log.ensures.keeps
 
@@ -75,40 +76,44 @@ returns-in-Err-read_tables-clause-quiet g c =
 pub returns-in-Err-read_tables-clause-keeps : goal.returns-in-Err-read_tables-clause-keeps
 returns-in-Err-read_tables-clause-keeps g c =
     both g.D.Disk.files g.D.Disk.changes g.D.Disk.leaves g.D.Disk.moment
-    g.D.Disk.since g.D.Disk.read_at g.D.Disk.faults c.args.disk.now c.list.new.self
+    g.D.Disk.since g.D.Disk.read_at g.D.Disk.lasted_at g.D.Disk.faults c.args.disk.now
+    c.list.new.self
     c.read_tables.new.disk
     (one_call g.D.Disk.files g.D.Disk.changes g.D.Disk.leaves g.D.Disk.moment
-    g.D.Disk.since g.D.Disk.read_at g.D.Disk.faults c.args.disk.now
+    g.D.Disk.since g.D.Disk.read_at g.D.Disk.lasted_at g.D.Disk.faults c.args.disk.now
     c.list.new.self c.in-Ok.ensures.same c.in-Ok.ensures.quiet c.in-Ok.ensures.time
     c.in-Ok.ensures.cause.later) c.in-Err-read_tables.ensures.keeps
 
 pub returns-then-has_late_table-clause-keeps : goal.returns-then-has_late_table-clause-keeps
 returns-then-has_late_table-clause-keeps g c =
     both g.D.Disk.files g.D.Disk.changes g.D.Disk.leaves g.D.Disk.moment
-    g.D.Disk.since g.D.Disk.read_at g.D.Disk.faults c.args.disk.now c.list.new.self
+    g.D.Disk.since g.D.Disk.read_at g.D.Disk.lasted_at g.D.Disk.faults c.args.disk.now
+    c.list.new.self
     c.read_tables.new.disk
     (one_call g.D.Disk.files g.D.Disk.changes g.D.Disk.leaves g.D.Disk.moment
-    g.D.Disk.since g.D.Disk.read_at g.D.Disk.faults c.args.disk.now
+    g.D.Disk.since g.D.Disk.read_at g.D.Disk.lasted_at g.D.Disk.faults c.args.disk.now
     c.list.new.self c.in-Ok.ensures.same c.in-Ok.ensures.quiet c.in-Ok.ensures.time
     c.in-Ok.ensures.cause.later) c.in-Ok-read_tables.ensures.keeps
 
 pub returns-then-is_last-clause-keeps : goal.returns-then-is_last-clause-keeps
 returns-then-is_last-clause-keeps g c =
     both g.D.Disk.files g.D.Disk.changes g.D.Disk.leaves g.D.Disk.moment
-    g.D.Disk.since g.D.Disk.read_at g.D.Disk.faults c.args.disk.now c.list.new.self
+    g.D.Disk.since g.D.Disk.read_at g.D.Disk.lasted_at g.D.Disk.faults c.args.disk.now
+    c.list.new.self
     c.read_tables.new.disk
     (one_call g.D.Disk.files g.D.Disk.changes g.D.Disk.leaves g.D.Disk.moment
-    g.D.Disk.since g.D.Disk.read_at g.D.Disk.faults c.args.disk.now
+    g.D.Disk.since g.D.Disk.read_at g.D.Disk.lasted_at g.D.Disk.faults c.args.disk.now
     c.list.new.self c.in-Ok.ensures.same c.in-Ok.ensures.quiet c.in-Ok.ensures.time
     c.in-Ok.ensures.cause.later) c.in-Ok-read_tables.ensures.keeps
 
 pub returns-clause-keeps : goal.returns-clause-keeps
 returns-clause-keeps g c =
     both g.D.Disk.files g.D.Disk.changes g.D.Disk.leaves g.D.Disk.moment
-    g.D.Disk.since g.D.Disk.read_at g.D.Disk.faults c.args.disk.now c.list.new.self
+    g.D.Disk.since g.D.Disk.read_at g.D.Disk.lasted_at g.D.Disk.faults c.args.disk.now
+    c.list.new.self
     c.read_tables.new.disk
     (one_call g.D.Disk.files g.D.Disk.changes g.D.Disk.leaves g.D.Disk.moment
-    g.D.Disk.since g.D.Disk.read_at g.D.Disk.faults c.args.disk.now
+    g.D.Disk.since g.D.Disk.read_at g.D.Disk.lasted_at g.D.Disk.faults c.args.disk.now
     c.list.new.self c.in-Ok.ensures.same c.in-Ok.ensures.quiet c.in-Ok.ensures.time
     c.in-Ok.ensures.cause.later) c.in-Ok-read_tables.ensures.keeps
 

@@ -11,7 +11,7 @@ loop-place-init g c = record {
   can_next = tt;
   is_finite = tt;
   keeps = no_call g.D.Disk.files g.D.Disk.changes g.D.Disk.leaves g.D.Disk.moment
-      g.D.Disk.since g.D.Disk.read_at g.D.Disk.faults c.args.disk.now;
+      g.D.Disk.since g.D.Disk.read_at g.D.Disk.lasted_at g.D.Disk.faults c.args.disk.now;
   quiet = refl;
   parts = sym c.into_iter-place-iterator.ensures.into_iter_gives.0;
   read = joined_none c.args.dump (g.D.Disk.files c.args.disk.now) c.args.greatest c.new.result
@@ -38,7 +38,7 @@ loop-place-preserved g c =
       can_next = tt;
       is_finite = tt;
       keeps = both g.D.Disk.files g.D.Disk.changes g.D.Disk.leaves g.D.Disk.moment
-          g.D.Disk.since g.D.Disk.read_at g.D.Disk.faults c.args.disk.now l.disk
+          g.D.Disk.since g.D.Disk.read_at g.D.Disk.lasted_at g.D.Disk.faults c.args.disk.now l.disk
           c.read_table.new.disk l.invariant.keeps c.in-Ok.ensures.keeps;
       quiet = c.in-Ok.ensures.quiet ∙ l.invariant.quiet;
       parts = part_more c.args.names.entries l.yielded l.place-iterator c.next.new.self

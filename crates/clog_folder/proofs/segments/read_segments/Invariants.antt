@@ -9,7 +9,7 @@ invariant-loop-place g l = record {
   can_next : (goal.iterator-loop-place g).can_next l.place-iterator;
   is_finite : (goal.iterator-loop-place g).is_finite l.place-iterator;
   keeps : IsUntouched g.D.Disk.files g.D.Disk.changes g.D.Disk.leaves g.D.Disk.moment
-      g.D.Disk.since g.D.Disk.read_at g.D.Disk.faults l.fn.disk l.disk;
+      g.D.Disk.since g.D.Disk.read_at g.D.Disk.lasted_at g.D.Disk.faults l.fn.disk l.disk;
   quiet : g.D.Disk.faults l.disk ≡ g.D.Disk.faults l.fn.disk;
   parts : l.fn.names.entries ≡ l.yielded ++ l.place-iterator;
   held : AreHeld l.ignore l.greatest (g.D.Disk.files l.fn.disk) l.yielded l.segments.items;

@@ -19,7 +19,7 @@ use Rattle.clog_folder.proofs.whole.read_whole.Goals as goal
 pub loop-disk-init : goal.loop-disk-init
 loop-disk-init g c = record {
   keeps = one_call g.D.Disk.files g.D.Disk.changes g.D.Disk.leaves g.D.Disk.moment
-      g.D.Disk.since g.D.Disk.read_at
+      g.D.Disk.since g.D.Disk.read_at g.D.Disk.lasted_at
       g.D.Disk.faults c.args.disk.now c.len.new.self c.in_ok-len.ensures.same
       c.in_ok-len.ensures.quiet
       c.in_ok-len.ensures.time c.in_ok-len.ensures.cause.later;
@@ -40,10 +40,11 @@ loop-disk-preserved g c =
     omega (arith, c.len-in-loop-disk-2.ensures, l.bytes.ok) in
     record {
       keeps = both g.D.Disk.files g.D.Disk.changes g.D.Disk.leaves g.D.Disk.moment
-          g.D.Disk.since g.D.Disk.read_at g.D.Disk.faults c.args.disk.now l.disk c.read.new.self
+          g.D.Disk.since g.D.Disk.read_at g.D.Disk.lasted_at g.D.Disk.faults c.args.disk.now l.disk
+          c.read.new.self
           l.invariant.keeps
           (one_call g.D.Disk.files g.D.Disk.changes g.D.Disk.leaves g.D.Disk.moment
-          g.D.Disk.since g.D.Disk.read_at g.D.Disk.faults l.disk c.read.new.self
+          g.D.Disk.since g.D.Disk.read_at g.D.Disk.lasted_at g.D.Disk.faults l.disk c.read.new.self
           c.in-Ok.ensures.same c.in-Ok.ensures.quiet
           c.in-Ok.ensures.time c.in-Ok.ensures.cause.later);
       quiet = c.in-Ok.ensures.cause.quiet (λ e. cc) ∙ l.invariant.quiet;

@@ -11,7 +11,7 @@ decreases-loop-disk g l = l.len - length l.bytes.items
 abbrev pub invariant-loop-disk : goal.invariant-loop-disk
 invariant-loop-disk g l = record {
   keeps : IsUntouched g.D.Disk.files g.D.Disk.changes g.D.Disk.leaves g.D.Disk.moment
-      g.D.Disk.since g.D.Disk.read_at g.D.Disk.faults l.fn.disk l.disk;
+      g.D.Disk.since g.D.Disk.read_at g.D.Disk.lasted_at g.D.Disk.faults l.fn.disk l.disk;
   quiet : g.D.Disk.faults l.disk ≡ g.D.Disk.faults l.fn.disk;
   front : HasFirstPart (g.D.Disk.files l.fn.disk) l.name l.len l.bytes.items;
 }

@@ -35,7 +35,8 @@ returns-clause-any_moment g c r past id old kept file table_is may =
     let after = c.publish.new.self in
     let name_is = c.table_name.ensures
     ∙ ap (λ (t : Table). table_name_of t.0 c.args.sequence) (sym table_is) in
-    one_call D.moment D.since D.leaves D.read_at before after (ShowsBehind r past id old kept)
+    one_call D.moment D.since D.leaves D.read_at D.lasted_at before after
+    (ShowsBehind r past id old kept)
     (g.met.D.Disk.only_now before)
     (rests_show (D.files before) (D.leaves before) r past id old kept
     (rests_for_file (D.files before) (D.leaves before) r past id old kept file c.args.sequence

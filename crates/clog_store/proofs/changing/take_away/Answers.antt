@@ -27,7 +27,8 @@ returns-clause-any_moment g c r past id old kept may =
     let D = g.D.Disk in
     let before = c.args.disk.now in
     let after = c.remove.new.self in
-    one_call D.moment D.since D.leaves D.read_at before after (ShowsBehind r past id old kept)
+    one_call D.moment D.since D.leaves D.read_at D.lasted_at before after
+    (ShowsBehind r past id old kept)
     (g.met.D.Disk.only_now before)
     (rests_show (D.files before) (D.leaves before) r past id old kept
     (rests_for_none (D.files before) (D.leaves before) r past id old kept c.args.segment may))

@@ -43,7 +43,11 @@ loop-done-init g c =
     let disk = c.args.disk.now in
     record {
       told = same_told_self (D.files disk);
-      later = record { no_sooner = omega arith; remembers = λ t le. refl };
+      later = record {
+        no_sooner = omega arith;
+        remembers = λ t le. refl;
+        lasted_then = λ t le. (λ has. has, λ has. has);
+      };
       faults = refl;
       droppable = record {
         fits = c.requires.fits;
@@ -105,7 +109,7 @@ loop-done-preserved g c =
     record {
       told = same_told_then (D.files first) (D.files before) (D.files after) is.told
           c.drop_segment.ensures.told;
-      later = later_still D.moment D.read_at first before after is.later
+      later = later_still D.moment D.read_at D.lasted_at first before after is.later
           c.drop_segment.ensures.later;
       faults = c.in-Ok.ensures.cause.quiet (λ e. cc) ∙ is.faults;
       droppable = others_there_still (D.files before) (D.files after) c.args.archives base o

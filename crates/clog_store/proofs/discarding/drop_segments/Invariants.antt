@@ -21,7 +21,7 @@ invariant-loop-done g l =
     let D = g.D.Disk in
     record {
       told : SameTold (D.files l.fn.disk) (D.files l.disk);
-      later : IsLater D.moment D.read_at l.fn.disk l.disk;
+      later : IsLater D.moment D.read_at D.lasted_at l.fn.disk l.disk;
       faults : D.faults l.disk ≡ D.faults l.fn.disk;
       droppable : AreDroppable (D.files l.disk) l.base (drop l.done l.ordinals);
       gone : (now : Option Files)

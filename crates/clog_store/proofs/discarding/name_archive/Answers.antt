@@ -27,7 +27,8 @@ returns-then-archives-clause-any_moment g c r past last old kept base ordinals m
     let D = g.D.Disk in
     let before = c.args.disk.now in
     let after = c.link.new.self in
-    one_call D.moment D.since D.leaves D.read_at before after (ShowsBehind r past last old kept)
+    one_call D.moment D.since D.leaves D.read_at D.lasted_at before after
+    (ShowsBehind r past last old kept)
     (g.met.D.Disk.only_now before)
     (rests_show (D.files before) (D.leaves before) r past last old kept
     (all_rest (D.files before) (D.leaves before) r past last old kept base ordinals may))

@@ -74,9 +74,9 @@ returns-in-Err-list-clause-keeps g c =
     let old = c.args.disk.now in
     let mid = c.read_folder.new.disk in
     let new = c.list.new.self in
-    both D.files D.changes D.leaves D.moment D.since D.read_at D.faults old mid new
+    both D.files D.changes D.leaves D.moment D.since D.read_at D.lasted_at D.faults old mid new
     c.read_folder.ensures.keeps
-    (one_call D.files D.changes D.leaves D.moment D.since D.read_at D.faults mid new
+    (one_call D.files D.changes D.leaves D.moment D.since D.read_at D.lasted_at D.faults mid new
     c.list.ensures.same c.list.ensures.quiet c.list.ensures.time c.list.ensures.cause.later)
 
 pub returns-then-has_late_table-clause-keeps : goal.returns-then-has_late_table-clause-keeps
@@ -85,9 +85,9 @@ returns-then-has_late_table-clause-keeps g c =
     let old = c.args.disk.now in
     let mid = c.read_folder.new.disk in
     let new = c.list.new.self in
-    both D.files D.changes D.leaves D.moment D.since D.read_at D.faults old mid new
+    both D.files D.changes D.leaves D.moment D.since D.read_at D.lasted_at D.faults old mid new
     c.read_folder.ensures.keeps
-    (one_call D.files D.changes D.leaves D.moment D.since D.read_at D.faults mid new
+    (one_call D.files D.changes D.leaves D.moment D.since D.read_at D.lasted_at D.faults mid new
     c.list.ensures.same c.list.ensures.quiet c.list.ensures.time c.list.ensures.cause.later)
 
 pub returns-in-Ok-base_of-clause-keeps : goal.returns-in-Ok-base_of-clause-keeps
@@ -96,9 +96,9 @@ returns-in-Ok-base_of-clause-keeps g c =
     let old = c.args.disk.now in
     let mid = c.read_folder.new.disk in
     let new = c.list.new.self in
-    both D.files D.changes D.leaves D.moment D.since D.read_at D.faults old mid new
+    both D.files D.changes D.leaves D.moment D.since D.read_at D.lasted_at D.faults old mid new
     c.read_folder.ensures.keeps
-    (one_call D.files D.changes D.leaves D.moment D.since D.read_at D.faults mid new
+    (one_call D.files D.changes D.leaves D.moment D.since D.read_at D.lasted_at D.faults mid new
     c.list.ensures.same c.list.ensures.quiet c.list.ensures.time c.list.ensures.cause.later)
 
 pub returns-in-Err-base_of-clause-keeps : goal.returns-in-Err-base_of-clause-keeps
@@ -107,7 +107,7 @@ returns-in-Err-base_of-clause-keeps g c =
     let old = c.args.disk.now in
     let mid = c.read_folder.new.disk in
     let new = c.list.new.self in
-    both D.files D.changes D.leaves D.moment D.since D.read_at D.faults old mid new
+    both D.files D.changes D.leaves D.moment D.since D.read_at D.lasted_at D.faults old mid new
     c.read_folder.ensures.keeps
-    (one_call D.files D.changes D.leaves D.moment D.since D.read_at D.faults mid new
+    (one_call D.files D.changes D.leaves D.moment D.since D.read_at D.lasted_at D.faults mid new
     c.list.ensures.same c.list.ensures.quiet c.list.ensures.time c.list.ensures.cause.later)

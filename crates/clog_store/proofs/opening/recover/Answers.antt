@@ -47,7 +47,7 @@ returns-in-Err-clause-any_moment g c first is lasts =
     let D = g.D.Disk in
     let old = c.args.disk.now in
     let mid = c.look.new.disk in
-    one_call D.moment D.since D.leaves D.read_at old mid (KeepsFolder first)
+    one_call D.moment D.since D.leaves D.read_at D.lasted_at old mid (KeepsFolder first)
     (g.met.D.Disk.only_now old) (image_keeps first (D.leaves old) lasts)
     c.look.ensures.keeps.time
     (image_keeps first (D.leaves mid) (lasts_on first (D.leaves old) (D.leaves mid) lasts
@@ -67,7 +67,8 @@ returns-in-Ok-recover_folder-clause-told g c =
 pub returns-in-Ok-recover_folder-clause-later : goal.returns-in-Ok-recover_folder-clause-later
 returns-in-Ok-recover_folder-clause-later g c =
     let D = g.D.Disk in
-    later_still D.moment D.read_at c.args.disk.now c.look.new.disk c.recover_folder.new.disk
+    later_still D.moment D.read_at D.lasted_at c.args.disk.now c.look.new.disk
+    c.recover_folder.new.disk
     c.look.ensures.keeps.time.later c.recover_folder.ensures.later
 
 pub returns-in-Ok-recover_folder-clause-no_fewer : goal.returns-in-Ok-recover_folder-clause-no_fewer
@@ -87,7 +88,7 @@ returns-in-Ok-recover_folder-clause-any_moment g c first is lasts =
     let mid = c.look.new.disk in
     let new = c.recover_folder.new.disk in
     goes_on_by D.moment D.since old mid new (KeepsFolder first)
-    (one_call D.moment D.since D.leaves D.read_at old mid (KeepsFolder first)
+    (one_call D.moment D.since D.leaves D.read_at D.lasted_at old mid (KeepsFolder first)
     (g.met.D.Disk.only_now old) (image_keeps first (D.leaves old) lasts)
     c.look.ensures.keeps.time
     (image_keeps first (D.leaves mid) (lasts_on first (D.leaves old) (D.leaves mid) lasts
@@ -113,7 +114,8 @@ returns-clause-told g c =
 pub returns-clause-later : goal.returns-clause-later
 returns-clause-later g c =
     let D = g.D.Disk in
-    later_still D.moment D.read_at c.args.disk.now c.look.new.disk c.recover_folder.new.disk
+    later_still D.moment D.read_at D.lasted_at c.args.disk.now c.look.new.disk
+    c.recover_folder.new.disk
     c.look.ensures.keeps.time.later c.recover_folder.ensures.later
 
 pub returns-clause-no_fewer : goal.returns-clause-no_fewer
@@ -132,7 +134,7 @@ returns-clause-any_moment g c first is lasts =
     let mid = c.look.new.disk in
     let new = c.recover_folder.new.disk in
     goes_on_by D.moment D.since old mid new (KeepsFolder first)
-    (one_call D.moment D.since D.leaves D.read_at old mid (KeepsFolder first)
+    (one_call D.moment D.since D.leaves D.read_at D.lasted_at old mid (KeepsFolder first)
     (g.met.D.Disk.only_now old) (image_keeps first (D.leaves old) lasts)
     c.look.ensures.keeps.time
     (image_keeps first (D.leaves mid) (lasts_on first (D.leaves old) (D.leaves mid) lasts

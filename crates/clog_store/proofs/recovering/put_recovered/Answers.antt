@@ -30,7 +30,7 @@ returns-clause-any_moment g c first file table_is may =
     let after = c.publish.new.self in
     let name_is = c.table_name.ensures
     ∙ ap (λ (t : Table). table_name_of t.0 c.args.sequence) (sym table_is) in
-    one_call D.moment D.since D.leaves D.read_at before after (IsSameFolder first)
+    one_call D.moment D.since D.leaves D.read_at D.lasted_at before after (IsSameFolder first)
     (g.met.D.Disk.only_now before)
     (here_show first (D.files before) (D.leaves before) []
     (here_for_file first (D.files before) (D.leaves before) file c.args.sequence c.args.bytes.now

@@ -37,7 +37,11 @@ loop-segment-init g c =
     let old = c.args.disk.now in
     record {
       told = same_told_self (D.files old);
-      later = record { no_sooner = omega arith; remembers = λ t le. refl };
+      later = record {
+        no_sooner = omega arith;
+        remembers = λ t le. refl;
+        lasted_then = λ t le. (λ has. has, λ has. has);
+      };
       faults = refl;
       there = c.requires.there;
       removed = removed_none (D.changes old);
@@ -77,7 +81,8 @@ loop-segment-preserved g c =
     record {
       told = same_told_then (D.files old) (D.files before) (D.files after)
           c.loop-segment.invariant.told c.take_recovered.ensures.told;
-      later = later_still D.moment D.read_at old before after c.loop-segment.invariant.later
+      later = later_still D.moment D.read_at D.lasted_at old before after
+          c.loop-segment.invariant.later
           c.take_recovered.ensures.later;
       faults = c.in_ok-take_recovered.ensures.cause.quiet (λ e. cc)
           ∙ c.loop-segment.invariant.faults;

@@ -9,7 +9,7 @@ use Rattle.clog_store.proofs.recovering.take_all_recovered.Given as goal
 abbrev pub invariant-loop-segment : goal.invariant-loop-segment
 invariant-loop-segment g l = record {
   told : SameTold (g.D.Disk.files l.fn.disk) (g.D.Disk.files l.disk);
-  later : IsLater g.D.Disk.moment g.D.Disk.read_at l.fn.disk l.disk;
+  later : IsLater g.D.Disk.moment g.D.Disk.read_at g.D.Disk.lasted_at l.fn.disk l.disk;
   faults : g.D.Disk.faults l.disk ≡ g.D.Disk.faults l.fn.disk;
   there : IfSome (g.D.Disk.files l.disk) (λ f. AreThere f (drop l.segment-index l.segments));
   removed : HaveRemoved (take l.segment-index l.segments) (g.D.Disk.changes l.fn.disk)

@@ -23,7 +23,7 @@ returns-clause-any_moment g c first others may =
     let D = g.D.Disk in
     let before = c.args.disk.now in
     let after = c.remove.new.self in
-    one_call D.moment D.since D.leaves D.read_at before after (IsSameFolder first)
+    one_call D.moment D.since D.leaves D.read_at D.lasted_at before after (IsSameFolder first)
     (g.met.D.Disk.only_now before)
     (here_show first (D.files before) (D.leaves before) (c.args.segment ∷ others) may)
     c.remove.ensures.time

@@ -12,7 +12,11 @@ loop-number-init g c =
     let old = c.args.disk.now in
     record {
       told = same_told_self (D.files old);
-      later = record { no_sooner = omega arith; remembers = λ t le. refl };
+      later = record {
+        no_sooner = omega arith;
+        remembers = λ t le. refl;
+        lasted_then = λ t le. (λ has. has, λ has. has);
+      };
       faults = refl;
       puts = λ first ready filed. put_none first (D.changes old) (D.changes old) refl;
       files = λ first ready filed. filed;
@@ -32,7 +36,7 @@ loop-number-preserved g c =
     record {
       told = same_told_then (D.files old) (D.files before) (D.files after) i.told
           c.put_table_of.ensures.told;
-      later = later_still D.moment D.read_at old before after i.later
+      later = later_still D.moment D.read_at D.lasted_at old before after i.later
           c.put_table_of.ensures.later;
       faults = c.in-Ok.ensures.cause ∙ i.faults;
       puts = λ first ready filed.
@@ -56,7 +60,8 @@ returns-in-Err-clause-told g c =
 pub returns-in-Err-clause-later : goal.returns-in-Err-clause-later
 returns-in-Err-clause-later g c =
     let D = g.D.Disk in
-    later_still D.moment D.read_at c.args.disk.now c.loop-number.disk c.put_table_of.new.disk
+    later_still D.moment D.read_at D.lasted_at c.args.disk.now c.loop-number.disk
+    c.put_table_of.new.disk
     c.loop-number.invariant.later c.put_table_of.ensures.later
 
 pub returns-in-Err-clause-no_fewer : goal.returns-in-Err-clause-no_fewer

@@ -9,7 +9,7 @@ use Rattle.clog_store.proofs.recovery_files.put_tables.Given as goal
 abbrev pub invariant-loop-number : goal.invariant-loop-number
 invariant-loop-number g l = record {
   told : SameTold (g.D.Disk.files l.fn.disk) (g.D.Disk.files l.disk);
-  later : IsLater g.D.Disk.moment g.D.Disk.read_at l.fn.disk l.disk;
+  later : IsLater g.D.Disk.moment g.D.Disk.read_at g.D.Disk.lasted_at l.fn.disk l.disk;
   faults : g.D.Disk.faults l.disk ≡ g.D.Disk.faults l.fn.disk;
   puts : (first : Files) → IsReady first l.names l.cells l.top
       → FiledNow first l.cells 0 (g.D.Disk.files l.fn.disk)

@@ -24,7 +24,8 @@ returns-clause-refused g c other r past old kept rests =
     let now = rests_on (D.files before) (D.files after) (D.leaves before) (D.leaves after) r past
     id old kept unchanged.files unchanged.images.fewer rests in (
       now,
-      one_call D.moment D.since D.leaves D.read_at before after (ShowsBehind r past id old kept)
+      one_call D.moment D.since D.leaves D.read_at D.lasted_at before after
+          (ShowsBehind r past id old kept)
           (g.met.D.Disk.only_now before)
           (rests_show (D.files before) (D.leaves before) r past id old kept rests)
           c.append_at.ensures.time
@@ -36,7 +37,7 @@ returns-clause-any_moment g c r past old kept new brings rests =
     let D = g.D.Disk in
     let before = c.args.disk.now in
     let after = c.append_at.new.self in
-    one_call D.moment D.since D.leaves D.read_at before after
+    one_call D.moment D.since D.leaves D.read_at D.lasted_at before after
     (ShowsBehind r past c.args.id old (kept ++ new)) (g.met.D.Disk.only_now before)
     (rests_show_more (D.files before) (D.leaves before) r past c.args.id old kept new rests)
     c.append_at.ensures.time

@@ -27,7 +27,7 @@ returns-clause-any_moment g c r past old kept rests =
     let D = g.D.Disk in
     let before = c.args.disk.now in
     let after = c.sync.new.self in
-    one_call D.moment D.since D.leaves D.read_at before after
+    one_call D.moment D.since D.leaves D.read_at D.lasted_at before after
     (ShowsBehind r past c.args.id old kept) (g.met.D.Disk.only_now before)
     (rests_show (D.files before) (D.leaves before) r past c.args.id old kept rests)
     c.sync.ensures.time

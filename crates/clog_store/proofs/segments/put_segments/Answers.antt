@@ -50,7 +50,11 @@ loop-part-init g c =
     let parts = c.args.parts.now in
     record {
       told = same_told_self (D.files old);
-      later = record { no_sooner = omega arith; remembers = λ t le. refl };
+      later = record {
+        no_sooner = omega arith;
+        remembers = λ t le. refl;
+        lasted_then = λ t le. (λ has. has, λ has. has);
+      };
       faults = refl;
       going = λ r past id s ss ws rests are.
           going_first (D.files old) (D.leaves old) r past id s ss ws parts rests are;
@@ -141,7 +145,7 @@ loop-part-preserved g c =
     record {
       told = same_told_then (D.files old) (D.files mid) (D.files c.put_sections.new.disk)
           c.loop-part.invariant.told c.put_sections.ensures.told;
-      later = later_still D.moment D.read_at old mid c.put_sections.new.disk
+      later = later_still D.moment D.read_at D.lasted_at old mid c.put_sections.new.disk
           c.loop-part.invariant.later c.put_sections.ensures.later;
       faults = c.in_ok-put_sections.ensures.cause.quiet (λ e. cc)
           ∙ c.loop-part.invariant.faults;

@@ -13,7 +13,7 @@ use Rattle.clog_store.proofs.segments.put_segments.Given as goal
 abbrev pub invariant-loop-part : goal.invariant-loop-part
 invariant-loop-part g l = record {
   told : SameTold (g.D.Disk.files l.fn.disk) (g.D.Disk.files l.disk);
-  later : IsLater g.D.Disk.moment g.D.Disk.read_at l.fn.disk l.disk;
+  later : IsLater g.D.Disk.moment g.D.Disk.read_at g.D.Disk.lasted_at l.fn.disk l.disk;
   faults : g.D.Disk.faults l.disk ≡ g.D.Disk.faults l.fn.disk;
   going : (r : Reading) (past : List Write) (id : ℕ) (s : Section) (ss : List Section)
       (ws : List NewSegment)

@@ -10,7 +10,8 @@ returns-clause-lives g c rest =
     let D = g.D.Disk in
     let disk = c.args.disk in
     let opened = c.moment_count-opened.result in
-    subst (λ (past : List Write). Lives D.files D.moment D.since D.leaves D.read_at (record {
+    subst (λ (past : List Write). Lives D.files D.moment D.since D.leaves D.read_at D.lasted_at
+    (record {
       disk = disk;
       opened = opened;
       past = past;
@@ -20,7 +21,7 @@ returns-clause-lives g c rest =
       is_stopped = false;
     })) (sym c.new.ensures.items)
     (subst (λ (sections : List Section).
-    Lives D.files D.moment D.since D.leaves D.read_at (record {
+    Lives D.files D.moment D.since D.leaves D.read_at D.lasted_at (record {
       disk = disk;
       opened = opened;
       past = [];
@@ -29,5 +30,5 @@ returns-clause-lives g c rest =
       synced = 0;
       is_stopped = false;
     })) (sym c.new-2.ensures.items)
-    (lives_at_first D.files D.moment D.since D.leaves D.read_at disk opened c.args.id
+    (lives_at_first D.files D.moment D.since D.leaves D.read_at D.lasted_at disk opened c.args.id
     c.moment_count-opened.ensures (g.met.D.Disk.reads_now disk) (g.met.D.Disk.only_now disk) rest))

@@ -27,7 +27,7 @@ use Rattle.clog_store.proofs.store.Store.keep.Goals as goal
 pub returns-then-self-clause-lives : goal.returns-then-self-clause-lives
 returns-then-self-clause-lives g c lives =
     let D = g.D.Disk in
-    lives_still D.files D.moment D.since D.leaves D.read_at c.args.self.now
+    lives_still D.files D.moment D.since D.leaves D.read_at D.lasted_at c.args.self.now
     (g.met.D.Disk.only_now c.args.self.now.disk) lives
 
 pub returns-in_err-push-clause-lives : goal.returns-in_err-push-clause-lives
@@ -44,12 +44,14 @@ returns-in_err-push-clause-lives g c lives =
       synced = s.synced;
       is_stopped = s.is_stopped;
     } in
-    let lived = subst (Lives D.files D.moment D.since D.leaves D.read_at) (sym c.self.view_is)
+    let lived = subst (Lives D.files D.moment D.since D.leaves D.read_at D.lasted_at)
+    (sym c.self.view_is)
     lives in
-    lives_from D.files D.moment D.since D.leaves D.read_at c.self.view_is
-    (subst (λ (l : List Section). LivesOn D.files D.moment D.since D.leaves D.read_at before
+    lives_from D.files D.moment D.since D.leaves D.read_at D.lasted_at c.self.view_is
+    (subst (λ (l : List Section). LivesOn D.files D.moment D.since D.leaves D.read_at D.lasted_at
+    before
     (record before { sections = l })) (sym c.in_err-push.ensures.items)
-    (lives_still D.files D.moment D.since D.leaves D.read_at before
+    (lives_still D.files D.moment D.since D.leaves D.read_at D.lasted_at before
     (g.met.D.Disk.only_now s.disk) lived))
 
 -- it could not be kept
@@ -68,18 +70,21 @@ returns-in-Err-clause-lives g c lives =
       synced = s.synced;
       is_stopped = s.is_stopped;
     } in
-    let lived = subst (Lives D.files D.moment D.since D.leaves D.read_at) (sym c.self.view_is)
+    let lived = subst (Lives D.files D.moment D.since D.leaves D.read_at D.lasted_at)
+    (sym c.self.view_is)
     lives in
     let x = c.args.section in
     let mid = c.keep_sections.new.disk in
     let brings = subst (λ (st : State g.row.D.Denot). Brings st.id (take st.synced st.sections)
     (drop st.synced st.sections) (x ∷ []) c.args.bytes.now) (sym c.self.view_is)
     c.requires.brings in
-    lives_from D.files D.moment D.since D.leaves D.read_at c.self.view_is
-    (subst (λ (l : List Section). LivesOn D.files D.moment D.since D.leaves D.read_at before
+    lives_from D.files D.moment D.since D.leaves D.read_at D.lasted_at c.self.view_is
+    (subst (λ (l : List Section). LivesOn D.files D.moment D.since D.leaves D.read_at D.lasted_at
+    before
     (record before { disk = mid; sections = l; is_stopped = true })) (sym
     c.in_ok-push.ensures.items)
-    (lives_torn D.files D.moment D.since D.leaves D.read_at before mid c.if-self.false lived
+    (lives_torn D.files D.moment D.since D.leaves D.read_at D.lasted_at before mid c.if-self.false
+    lived
     (λ image left. g.met.D.Disk.counts_now mid (D.moment s.disk) image
     c.keep_sections.ensures.later.no_sooner left) c.keep_sections.ensures.told
     c.keep_sections.ensures.later x (λ r rests.
@@ -100,14 +105,17 @@ returns-in-Err-OutOfMemory-clause-lives g c lives =
       synced = s.synced;
       is_stopped = s.is_stopped;
     } in
-    let lived = subst (Lives D.files D.moment D.since D.leaves D.read_at) (sym c.self.view_is)
+    let lived = subst (Lives D.files D.moment D.since D.leaves D.read_at D.lasted_at)
+    (sym c.self.view_is)
     lives in
     let mid = c.keep_sections.new.disk in
-    lives_from D.files D.moment D.since D.leaves D.read_at c.self.view_is
-    (subst (λ (l : List Section). LivesOn D.files D.moment D.since D.leaves D.read_at before
+    lives_from D.files D.moment D.since D.leaves D.read_at D.lasted_at c.self.view_is
+    (subst (λ (l : List Section). LivesOn D.files D.moment D.since D.leaves D.read_at D.lasted_at
+    before
     (record before { disk = mid; sections = l }))
     (sym (c.take_back.ensures ss c.args.section c.in_ok-push.ensures.items))
-    (lives_same D.files D.moment D.since D.leaves D.read_at before mid c.if-self.false lived
+    (lives_same D.files D.moment D.since D.leaves D.read_at D.lasted_at before mid c.if-self.false
+    lived
     (λ image left. g.met.D.Disk.counts_now mid (D.moment s.disk) image
     c.keep_sections.ensures.later.no_sooner left) c.keep_sections.ensures.told
     c.keep_sections.ensures.later
@@ -134,17 +142,19 @@ returns-in-Ok-clause-lives g c lives =
       synced = s.synced;
       is_stopped = s.is_stopped;
     } in
-    let lived = subst (Lives D.files D.moment D.since D.leaves D.read_at) (sym c.self.view_is)
+    let lived = subst (Lives D.files D.moment D.since D.leaves D.read_at D.lasted_at)
+    (sym c.self.view_is)
     lives in
     let x = c.args.section in
     let mid = c.keep_sections.new.disk in
     let brings = subst (λ (st : State g.row.D.Denot). Brings st.id (take st.synced st.sections)
     (drop st.synced st.sections) (x ∷ []) c.args.bytes.now) (sym c.self.view_is)
     c.requires.brings in
-    lives_from D.files D.moment D.since D.leaves D.read_at c.self.view_is
-    (subst (λ (l : List Section). LivesOn D.files D.moment D.since D.leaves D.read_at
+    lives_from D.files D.moment D.since D.leaves D.read_at D.lasted_at c.self.view_is
+    (subst (λ (l : List Section). LivesOn D.files D.moment D.since D.leaves D.read_at D.lasted_at
     before (record before { disk = mid; sections = l })) (sym c.in_ok-push.ensures.items)
-    (lives_kept D.files D.moment D.since D.leaves D.read_at before mid c.if-self.false lived
+    (lives_kept D.files D.moment D.since D.leaves D.read_at D.lasted_at before mid c.if-self.false
+    lived
     (λ image left. g.met.D.Disk.counts_now mid (D.moment s.disk) image
     c.keep_sections.ensures.later.no_sooner left) c.keep_sections.ensures.told
     c.keep_sections.ensures.later x (λ r rests.

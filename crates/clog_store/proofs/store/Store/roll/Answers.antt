@@ -35,7 +35,8 @@ returns-clause-lives g c lives =
       synced = s.synced;
       is_stopped = s.is_stopped;
     } in
-    let lived = subst (Lives D.files D.moment D.since D.leaves D.read_at) (sym c.self.view_is)
+    let lived = subst (Lives D.files D.moment D.since D.leaves D.read_at D.lasted_at)
+    (sym c.self.view_is)
     lives in
     let none : c.replace-sections.new.dest.items ≡ [] =
     ap (λ v. v.items) c.replace-sections.ensures.after ∙ c.new.ensures.items in
@@ -43,17 +44,20 @@ returns-clause-lives g c lives =
     c.push_reserved.ensures.items
     ∙ ap₂ (λ (l : List Write) (x : List Section). l ++ written s.id x ∷ []) c.reserve.ensures.items
     (ap (λ v. v.items) c.replace-sections.ensures.value) in
-    lives_from D.files D.moment D.since D.leaves D.read_at c.self.view_is
-    (subst (λ (l : List Section). LivesOn D.files D.moment D.since D.leaves D.read_at before
+    lives_from D.files D.moment D.since D.leaves D.read_at D.lasted_at c.self.view_is
+    (subst (λ (l : List Section). LivesOn D.files D.moment D.since D.leaves D.read_at D.lasted_at
+    before
     (record before {
       past = c.push_reserved.new.self.items;
       id = c.args.id;
       sections = l;
       synced = 0;
     })) (sym none)
-    (subst (λ (l : List Write). LivesOn D.files D.moment D.since D.leaves D.read_at before
+    (subst (λ (l : List Write). LivesOn D.files D.moment D.since D.leaves D.read_at D.lasted_at
+    before
     (record before { past = l; id = c.args.id; sections = []; synced = 0 })) (sym past)
-    (lives_rolled D.files D.moment D.since D.leaves D.read_at before c.args.id c.if-self.false lived
+    (lives_rolled D.files D.moment D.since D.leaves D.read_at D.lasted_at before c.args.id
+    c.if-self.false lived
     (g.met.D.Disk.only_now s.disk)
     (λ image left. g.met.D.Disk.counts_now s.disk (D.moment s.disk) image (omega arith) left)
     (subst (λ (st : State g.row.D.Denot). st.id < c.args.id) (sym c.self.view_is)

@@ -7,7 +7,7 @@ use Rattle.clog_store.proofs.store.Store.settle.Goals as goal
 pub returns-then-self-clause-lives : goal.returns-then-self-clause-lives
 returns-then-self-clause-lives g c lives =
     let D = g.D.Disk in
-    lives_still D.files D.moment D.since D.leaves D.read_at c.args.self.now
+    lives_still D.files D.moment D.since D.leaves D.read_at D.lasted_at c.args.self.now
     (g.met.D.Disk.only_now c.args.self.now.disk) lives
 
 pub returns-in-Ok-clause-lives : goal.returns-in-Ok-clause-lives
@@ -24,14 +24,16 @@ returns-in-Ok-clause-lives g c lives =
       synced = s.synced;
       is_stopped = s.is_stopped;
     } in
-    let lived = subst (Lives D.files D.moment D.since D.leaves D.read_at) (sym c.self.view_is)
+    let lived = subst (Lives D.files D.moment D.since D.leaves D.read_at D.lasted_at)
+    (sym c.self.view_is)
     lives in
     let new = c.settle_sections.new.disk in
     let told = same_told (D.files s.disk) (D.files new) c.settle_sections.ensures.same in
-    lives_from D.files D.moment D.since D.leaves D.read_at c.self.view_is
-    (subst (λ (k : ℕ). LivesOn D.files D.moment D.since D.leaves D.read_at before
+    lives_from D.files D.moment D.since D.leaves D.read_at D.lasted_at c.self.view_is
+    (subst (λ (k : ℕ). LivesOn D.files D.moment D.since D.leaves D.read_at D.lasted_at before
     (record before { disk = new; synced = k })) (sym (c.len-self-inside.ensures ∙ s.sections.ok.0))
-    (lives_settled D.files D.moment D.since D.leaves D.read_at before new c.if-self.false lived
+    (lives_settled D.files D.moment D.since D.leaves D.read_at D.lasted_at before new
+    c.if-self.false lived
     (λ image left. g.met.D.Disk.counts_now new (D.moment s.disk) image
     c.settle_sections.ensures.later.no_sooner left) told c.settle_sections.ensures.later (λ r rests.
     c.settle_sections.ensures.any_moment r s.past.items (take s.synced ss) (drop s.synced ss)
@@ -53,12 +55,14 @@ returns-in-Err-OutOfMemory-clause-lives g c lives =
       synced = s.synced;
       is_stopped = s.is_stopped;
     } in
-    let lived = subst (Lives D.files D.moment D.since D.leaves D.read_at) (sym c.self.view_is)
+    let lived = subst (Lives D.files D.moment D.since D.leaves D.read_at D.lasted_at)
+    (sym c.self.view_is)
     lives in
     let new = c.settle_sections.new.disk in
     let told = same_told (D.files s.disk) (D.files new) c.settle_sections.ensures.same in
-    lives_from D.files D.moment D.since D.leaves D.read_at c.self.view_is
-    (lives_same D.files D.moment D.since D.leaves D.read_at before new c.if-self.false lived
+    lives_from D.files D.moment D.since D.leaves D.read_at D.lasted_at c.self.view_is
+    (lives_same D.files D.moment D.since D.leaves D.read_at D.lasted_at before new c.if-self.false
+    lived
     (λ image left. g.met.D.Disk.counts_now new (D.moment s.disk) image
     c.settle_sections.ensures.later.no_sooner left) told c.settle_sections.ensures.later (λ r rests.
     c.settle_sections.ensures.any_moment r s.past.items (take s.synced ss) (drop s.synced ss)
@@ -80,12 +84,14 @@ returns-in-Err-clause-lives g c lives =
       synced = s.synced;
       is_stopped = s.is_stopped;
     } in
-    let lived = subst (Lives D.files D.moment D.since D.leaves D.read_at) (sym c.self.view_is)
+    let lived = subst (Lives D.files D.moment D.since D.leaves D.read_at D.lasted_at)
+    (sym c.self.view_is)
     lives in
     let new = c.settle_sections.new.disk in
     let told = same_told (D.files s.disk) (D.files new) c.settle_sections.ensures.same in
-    lives_from D.files D.moment D.since D.leaves D.read_at c.self.view_is
-    (lives_stopped D.files D.moment D.since D.leaves D.read_at before new c.if-self.false lived
+    lives_from D.files D.moment D.since D.leaves D.read_at D.lasted_at c.self.view_is
+    (lives_stopped D.files D.moment D.since D.leaves D.read_at D.lasted_at before new
+    c.if-self.false lived
     (λ image left. g.met.D.Disk.counts_now new (D.moment s.disk) image
     c.settle_sections.ensures.later.no_sooner left) told c.settle_sections.ensures.later (λ r rests.
     c.settle_sections.ensures.any_moment r s.past.items (take s.synced ss) (drop s.synced ss)
