@@ -1,15 +1,12 @@
--- What the end of a sync tells: its steps, and the counts of faults of a keeper that has stopped.
+-- What the end of a sync tells: what its seat did and knows since, and the counts of faults of a
+-- keeper that has stopped.
 use Rattle.std.specs.Prelude.{
   ◌≡◌,
   ◌⊎◌,
   ℕ,
   ◌<◌,
   ◌≤◌,
-  false,
   List,
-  [],
-  ◌∷◌,
-  ◌++◌,
   Option,
   Some,
   Result,
@@ -17,14 +14,20 @@ use Rattle.std.specs.Prelude.{
   Err,
   ⊤,
 }
+use Rattle.std.specs.List.Sorted.{IsPermutation}
 use Rattle.path_core.specs.declared.event.Cursor.TheVariants.{Synced, Stopped as StoppedCursor}
 use Rattle.path_core.specs.declared.event.Event.{Event}
 use Rattle.path_core.specs.declared.event.Event.TheVariants.{Look, Put}
 use Rattle.path_core.specs.declared.event.Place.TheVariants.{CursorWord}
 use Rattle.path_core.specs.declared.keeper.KeeperFault.{KeeperFault}
 use Rattle.path_core.specs.declared.keeper.KeeperFault.TheVariants.{Stopped, OutOfMemory}
-use Rattle.path_core.specs.Keeper.{HasRisen}
-use Rattle.path_rule.specs.declared.view.OwnStep.{OwnStep}
+use Rattle.path_core.specs.declared.note.EntryNote.{EntryNote}
+use Rattle.path_core.specs.Keeper.{HasRisen, IsParted}
+use Rattle.path_rule.specs.declared.view.View.{View}
+use Rattle.path_rule.specs.Calls.{Did, DidAs}
+use Rattle.path_rule.specs.HandsAfter.{with_desk}
+use Rattle.path_rule.specs.Lasts.{more_lasting, refused_lasting}
+use Rattle.path_rule.specs.TurnTold.{IsKeptNow}
 
 -- the count with which a keeper has stopped, behind an answer
 abbrev pub stopped_by : {T : Type 0} → Option ℕ → Result T KeeperFault → Option ℕ
@@ -39,25 +42,41 @@ TellsFaults opened (Ok answer) = ⊤
 TellsFaults opened (Err (Stopped at_open now)) = (at_open ≡ opened) × HasRisen at_open now
 TellsFaults opened (Err OutOfMemory) = ⊤
 
--- a step that gave no file
-abbrev pub own_step : Event → ℕ → OwnStep
-own_step e n = record { event = e; found = n; filed = false }
+-- After a sync up to a key seat w put the synced key there. The keeper on the desk made lasting what
+-- was pending up to the key, and the rest is pending still.
+pub record HasSynced (w upto : ℕ) (v after : View) : Type 0 where
+  pub run : List EntryNote
+  pub left : List EntryNote
+  pub parted : IsParted upto v.hands.pending run left
+  pub did : DidAs v w (Put w Synced upto) upto (with_desk (more_lasting run upto v.hands.lasting)
+      left v.hands.progress v.hands) after
 
--- The steps of seat w at the end of a sync up to a key, behind the look that found the synced key.
--- Where that is not below the key there is none; else the synced key is put there, or the log is
--- stopped with the count that is answered, or there is one look more.
-abbrev pub AreEndSteps : {T : Type 0} → ℕ → ℕ → ℕ → Result T KeeperFault → List OwnStep → Type 0
-AreEndSteps w upto found (Ok answer) steps = ((upto ≤ found) × (steps ≡ []))
-    ⊎ ((found < upto) × (steps ≡ own_step (Put w Synced upto) upto ∷ []))
-AreEndSteps w upto found (Err (Stopped at_open now)) steps =
-    (found < upto) × (steps ≡ own_step (Put w StoppedCursor now) now ∷ [])
-AreEndSteps w upto found (Err OutOfMemory) steps = (found < upto)
-    × ((n : ℕ) × (steps ≡ own_step (Look w (CursorWord StoppedCursor)) n ∷ []))
+-- After one that was refused it made the step e. All is pending still, in some order; the keeper may
+-- have kept a part, and may have stopped with a count.
+pub record HasRefused (w upto : ℕ) (stopped : Option ℕ) (e : Event) (n : ℕ) (v after : View) :
+    Type 0 where
+  pub kept : List EntryNote
+  pub pending : List EntryNote
+  pub all : IsPermutation v.hands.pending pending
+  pub keeps : IsKeptNow upto v.hands kept
+  pub did : DidAs v w e n (with_desk (refused_lasting kept stopped v.hands.lasting) pending
+      v.hands.progress v.hands) after
 
--- Seat w ended a sync up to a key by these steps alone.
-pub record EndsSync {T : Type 0} (w upto : ℕ) (before : List OwnStep) (r : Result T KeeperFault)
-    (after : List OwnStep) : Type 0 where
+-- What seat w knows at the end of a sync up to a key, behind the look that found the synced key.
+-- Where that is not below the key it made no further step; else it put the synced key there, or
+-- stopped the log with the count that is answered, or looked once more.
+abbrev pub EndedAs : {T : Type 0} → ℕ → ℕ → ℕ → View → Result T KeeperFault → View → Type 0
+EndedAs w upto found v (Ok answer) after = ((upto ≤ found) × (after ≡ v))
+    ⊎ ((found < upto) × HasSynced w upto v after)
+EndedAs w upto found v (Err (Stopped at_open now)) after =
+    (found < upto) × HasRefused w upto (Some now) (Put w StoppedCursor now) now v after
+EndedAs w upto found v (Err OutOfMemory) after = (found < upto) × ((n : ℕ)
+    × HasRefused w upto v.hands.lasting.stopped (Look w (CursorWord StoppedCursor)) n v after)
+
+-- Seat w ended a sync up to a key by these steps alone: what it knows is what it knew and they.
+pub record EndsSync {T : Type 0} (w upto : ℕ) (before : View) (r : Result T KeeperFault)
+    (after : View) : Type 0 where
   pub found : ℕ
-  pub steps : List OwnStep
-  pub are : AreEndSteps w upto found r steps
-  pub trail : after ≡ steps ++ own_step (Look w (CursorWord Synced)) found ∷ before
+  pub seen : View
+  pub looked : Did before w (Look w (CursorWord Synced)) found seen
+  pub ended : EndedAs w upto found seen r after

@@ -25,7 +25,8 @@ impl<K: Keeper, A: Allocator> PathTable<K, A> {
             × ((t : SyncTurn) × ((part_of member).sync ≡ Some t) × (t.stopped ≡ Some 0)) }
         requires marker { IsBarred (hands_of member) upto }
         requires desk { CarriesDesk (shows_of K.holds) member.seat.me }
-        ensures same { IsSame member result.0 }
+        ensures same { IsSame member result.0
+            × ((view_of result.0).size ≡ (view_of member).size) }
         ensures give { MayGive (view_of result.0) }
         ensures desk { CarriesDesk (shows_of K.holds) result.0.seat.me }
         ensures synced { OnOk result.1 (IsSyncedTo (view_of result.0) upto) }
@@ -34,8 +35,8 @@ impl<K: Keeper, A: Allocator> PathTable<K, A> {
         ensures counts { TellsFaults (hands_of member).lasting.at_open result.1 }
         ensures stopped { (hands_of result.0).lasting.stopped
             ≡ stopped_by (hands_of member).lasting.stopped result.1 }
-        ensures steps { EndsSync member.number upto (view_of member).trail result.1
-            (view_of result.0).trail }
+        ensures steps { EndsSync member.number upto (view_of member) result.1
+            (view_of result.0) }
     {
         let mut member = member;
         let synced = self.look_lent(&mut member);

@@ -1,4 +1,4 @@
-use Rattle.std.proofs.Common.{[], ◌∷◌, refl, sym, ap, ◌∙◌, subst, arith}
+use Rattle.std.proofs.Common.{ℕ, Some, sym, ap, ◌∙◌, subst, arith}
 use mathlib.Core.Logic.{inr}
 use Rattle.path_core.specs.declared.event.Cursor.TheVariants.{Synced, Stopped}
 use Rattle.path_core.specs.declared.event.Event.TheVariants.{Look, Put}
@@ -6,9 +6,10 @@ use Rattle.path_core.specs.declared.event.Place.TheVariants.{CursorWord}
 use Rattle.path_core.specs.Keeper.{IsParted}
 use Rattle.path_rule.specs.declared.view.Hands.{Hands}
 use Rattle.path_rule.specs.declared.view.View.{View}
-use Rattle.path_rule.specs.Calls.{MayGive}
-use Rattle.path_rule.specs.Lasts.{more_lasting}
-use Rattle.path_rule.specs.SyncEnd.{own_step}
+use Rattle.path_rule.specs.Calls.{DidAs, MayGive}
+use Rattle.path_rule.specs.HandsAfter.{with_desk}
+use Rattle.path_rule.specs.Lasts.{more_lasting, refused_lasting}
+use Rattle.path_rule.specs.SyncEnd.{HasSynced, HasRefused}
 use Rattle.path_rule.specs.Turns.{IsBarred}
 use Rattle.path_rule.proofs.boxes.DeskLent.{ok_holds}
 use Rattle.path_rule.proofs.table.PathTable.end_sync.Goals as goal
@@ -44,31 +45,94 @@ returns-in-Ok-clause-give g c =
     c.put_synced.ensures.give (subst MayGive (sym c.lend-member.ensures.same.1)
     (c.look_lent-synced.ensures.give c.requires.turn.0))
 
+pub returns-in-Ok-clause-same : goal.returns-in-Ok-clause-same
+returns-in-Ok-clause-same g c =
+    let L = c.look_lent-synced.ensures in let M = c.lend-member in let P = c.put_synced.ensures in
+    let S = ok_holds _ M.result.1 c.in-Ok.field-0 c.in-Ok.is M.ensures.synced in
+    let lasting = more_lasting S.0.0 c.args.upto M.result.0.seat.me.0.hands.lasting in (
+      (
+        P.same.0 ∙ (M.ensures.same.0.0 ∙ L.same.0),
+        P.same.1 ∙ (M.ensures.same.0.1 ∙ L.same.1),
+      ),
+      ap (λ (v : View). v.size) (P.step lasting S.0.1 S.0.3).0.view
+          ∙ ap (λ (v : View). v.size) (M.ensures.same.1 ∙ L.step.view),
+    )
+
 pub returns-in-Ok-clause-steps : goal.returns-in-Ok-clause-steps
 returns-in-Ok-clause-steps g c =
-    let L = c.look_lent-synced in let M = c.lend-member in let V = M.ensures.same.1 in
+    let L = c.look_lent-synced in let M = c.lend-member in
     let w = M.ensures.same.0.1 ∙ L.ensures.same.1 in
     let S = ok_holds _ M.result.1 c.in-Ok.field-0 c.in-Ok.is M.ensures.synced in
-    let d = c.put_synced.ensures.step
-    (more_lasting S.0.0 c.args.upto M.result.0.seat.me.0.hands.lasting) S.0.1 S.0.3 in record {
+    let before = M.result.0.seat.me.0 in let after = c.put_synced.new.member.seat.me.0 in
+    let lasting = more_lasting S.0.0 c.args.upto before.hands.lasting in
+    let hands = with_desk lasting S.0.1 before.hands.progress before.hands in
+    let d = (c.put_synced.ensures.step lasting S.0.1 S.0.3).0 in record {
       found = L.result;
-      steps = own_step (Put c.args.member.number Synced c.args.upto) c.args.upto ∷ [];
-      are = inr (omega arith, refl);
-      trail = ap (λ (v : View). v.trail) d.0.view
-          ∙ ((λ j. own_step (Put (w j) Synced c.args.upto) c.args.upto ∷ (V j).trail)
-          ∙ ap (λ (v : View). own_step (Put c.args.member.number Synced c.args.upto) c.args.upto
-          ∷ v.trail) L.ensures.step.view);
+      seen = L.new.member.seat.me.0;
+      looked = L.ensures.step;
+      ended = inr (
+        omega arith,
+        subst (λ (v : View). HasSynced c.args.member.number c.args.upto v
+            after) M.ensures.same.1 (record {
+              run = S.0.0;
+              left = S.0.1;
+              parted = S.0.2;
+              did = subst (λ (k : ℕ). DidAs before k (Put k Synced c.args.upto) c.args.upto hands
+                  after) w d;
+            }),
+      );
+    }
+
+pub returns-in-Err-Stopped-clause-steps : goal.returns-in-Err-Stopped-clause-steps
+returns-in-Err-Stopped-clause-steps g c =
+    let L = c.look_lent-synced in let M = c.lend-member in
+    let w = M.ensures.same.0.1 ∙ L.ensures.same.1 in
+    let S = c.put_stopped.ensures.step in
+    let before = M.result.0.seat.me.0 in let after = c.put_stopped.new.member.seat.me.0 in
+    let now = c.in-Err-Stopped.now in
+    let hands = with_desk (refused_lasting S.0 (Some now) before.hands.lasting) S.1
+    before.hands.progress before.hands in record {
+      found = L.result;
+      seen = L.new.member.seat.me.0;
+      looked = L.ensures.step;
+      ended = (
+        omega arith,
+        subst (λ (v : View). HasRefused c.args.member.number c.args.upto
+            (Some now) (Put c.args.member.number Stopped now) now v after) M.ensures.same.1 (record {
+              kept = S.0;
+              pending = S.1;
+              all = S.2;
+              keeps = S.3;
+              did = subst (λ (k : ℕ). DidAs before k (Put k Stopped now) now hands after) w S.4;
+            }),
+      );
     }
 
 pub returns-in-Err-OutOfMemory-clause-steps : goal.returns-in-Err-OutOfMemory-clause-steps
 returns-in-Err-OutOfMemory-clause-steps g c =
-    let L = c.look_lent-synced in let M = c.lend-member in let V = M.ensures.same.1 in
-    let w = M.ensures.same.0.1 ∙ L.ensures.same.1 in let R = c.keep_refused-found in record {
+    let L = c.look_lent-synced in let M = c.lend-member in
+    let w = M.ensures.same.0.1 ∙ L.ensures.same.1 in
+    let R = c.keep_refused-found in let S = R.ensures.step in
+    let before = M.result.0.seat.me.0 in let after = R.new.member.seat.me.0 in
+    let hands = with_desk (refused_lasting S.0 before.hands.lasting.stopped before.hands.lasting)
+    S.1 before.hands.progress before.hands in record {
       found = L.result;
-      steps = own_step (Look c.args.member.number (CursorWord Stopped)) R.result ∷ [];
-      are = (omega arith, (R.result, refl));
-      trail = ap (λ (v : View). v.trail) R.ensures.step.4.view
-          ∙ ((λ j. own_step (Look (w j) (CursorWord Stopped)) R.result ∷ (V j).trail)
-          ∙ ap (λ (v : View). own_step (Look c.args.member.number (CursorWord Stopped)) R.result
-          ∷ v.trail) L.ensures.step.view);
+      seen = L.new.member.seat.me.0;
+      looked = L.ensures.step;
+      ended = (
+        omega arith,
+        (
+          R.result,
+          subst (λ (v : View). HasRefused c.args.member.number
+              c.args.upto v.hands.lasting.stopped (Look c.args.member.number (CursorWord Stopped))
+              R.result v after) M.ensures.same.1 (record {
+                kept = S.0;
+                pending = S.1;
+                all = S.2;
+                keeps = S.3;
+                did = subst (λ (k : ℕ). DidAs before k (Look k (CursorWord Stopped)) R.result hands
+                    after) w S.4;
+              }),
+        ),
+      );
     }
