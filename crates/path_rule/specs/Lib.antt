@@ -15,3 +15,4 @@ pub mod SyncEnd
 pub mod Members
 pub mod Passes
 pub mod Sharing
+pub mod FirstBoxes

@@ -6,6 +6,7 @@ use Rattle.path_core.specs.declared.event.Event.{Event}
 use Rattle.path_core.specs.declared.seat.Seat.{Seat}
 use Rattle.path_core.specs.declared.state.PathState.{PathState}
 use Rattle.path_core.specs.Keeper.{Holding, HasRisen}
+use Rattle.path_core.specs.Keys.{first_offset}
 use Rattle.path_core.specs.Lawful.{IsLawfulPath}
 use Rattle.path_core.specs.Parts.{seat_of}
 use Rattle.path_core.specs.Runs.{Past}
@@ -16,7 +17,7 @@ use Rattle.path_rule.specs.declared.view.Role.{Role}
 use Rattle.path_rule.specs.declared.view.Role.TheVariants.{Opener, Steps, Spent}
 use Rattle.path_rule.specs.declared.view.View.{View}
 use Rattle.path_rule.specs.Kept.{MayBeKept}
-use Rattle.path_rule.specs.Lasts.{lasting_of, shown}
+use Rattle.path_rule.specs.Lasts.{lasting_of, none_lasting, shown}
 use Rattle.path_rule.specs.Rule.{start_of, event_of, steps_by, fresh_view, new_seat}
 
 -- the view of the opener once it has handed out a seat, and that of the seat
@@ -82,3 +83,7 @@ pub record Ended (size : PathSize) (returned : List Returned) (log : ℕ) (keepe
   pub risen : 0 < core.stopped → HasRisen size.at_open core.stopped
   pub each : (n : ℕ) (b : Returned) → get_elem? returned n ≡ some b
       → (b.part ≡ seat_of core b.number) × (map event_of b.trail ≡ steps_by b.number events)
+
+-- No step was made: the log is at its first key, and the keeper holds that nothing is lasting.
+abbrev pub EndsUnused : PathSize → ℕ → Holding → Type 0
+EndsUnused size log keeper = (log ≡ first_offset) × (lasting_of keeper ≡ none_lasting size)

@@ -1,5 +1,9 @@
 //! Seats are taken in by one of them, and that one closes the table.
-ghost use Rattle.std.specs.Prelude.{◌≡◌, None, [], ◌∷◌, ◌++◌};
+ghost use Rattle.std.specs.Prelude.{◌≡◌, ◌<◌, None, [], ◌∷◌, ◌++◌};
+ghost use Rattle.std.specs.Slots.{slots_items, slots_len, IsFull};
+ghost use mathlib.Core.Option.{some};
+ghost use lib.ListN.{get_elem?};
+ghost use Rattle.path_rule.specs.FirstBoxes.{HasInFront};
 ghost use Rattle.path_rule.specs.Members.{
   view_of,
   part_of,
@@ -14,6 +18,7 @@ use crate::plays::Merge;
 use crate::slot::{Desk, Slot};
 use crate::table::{Member, PathTable};
 use crate::words::LOG;
+use atomic_table::Closed;
 use path_core::Keeper;
 use std::alloc::{Allocator, Global};
 
@@ -40,6 +45,37 @@ fn let_go<S: Drop>(value: S) {
     drop(value);
 }
 
+// The keeper on the desk of a closed table, and the log key.
+pub(crate) fn keeper_and_log<K: Keeper + Drop>(closed: Closed<Slot<K>, Global>) -> (K, u64)
+    requires full { IsFull closed.words × IsFull closed.slots }
+    requires words { 4 < slots_len closed.words }
+    requires boxes { 0 < slots_len closed.slots }
+    requires desk { (keeper : K) × HasInFront keeper (slots_items closed.slots) }
+    ensures keeper { (keeper : K) → HasInFront keeper (slots_items closed.slots)
+        → result.0 ≡ keeper }
+    ensures log { get_elem? (slots_items closed.words) 4 ≡ some result.1 }
+{
+    let mut closed = closed;
+    let log = closed.word(LOG);
+    let first = closed.take(0);
+    for i in 1..closed.slot_count() {
+        let_go(closed.take(i));
+    }
+    closed.free();
+    match first {
+        Slot::Turn(desk) => {
+            let Desk {
+                keeper,
+                lent: _,
+                gathered: _,
+                progress: _,
+            } = desk;
+            (keeper, log)
+        }
+        Slot::Notes(_) => unreachable!(),
+    }
+}
+
 impl<K: Keeper + Drop> PathTable<K, Global> {
     /// Closes the table by a seat that took in all others. It answers the keeper and the log key,
     /// and what the path was: one run of the machine, in which each seat's steps are its own, and
@@ -56,24 +92,6 @@ impl<K: Keeper + Drop> PathTable<K, Global> {
     {
         let PathTable { table, size: _ } = self;
         let Member { seat, number: _ } = member;
-        let mut closed = table.close_with(seat);
-        let log = closed.word(LOG);
-        let first = closed.take(0);
-        for i in 1..closed.slot_count() {
-            let_go(closed.take(i));
-        }
-        closed.free();
-        match first {
-            Slot::Turn(desk) => {
-                let Desk {
-                    keeper,
-                    lent: _,
-                    gathered: _,
-                    progress: _,
-                } = desk;
-                (keeper, log)
-            }
-            Slot::Notes(_) => unreachable!(),
-        }
+        keeper_and_log(table.close_with(seat))
     }
 }

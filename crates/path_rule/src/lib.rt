@@ -26,6 +26,7 @@ mod table;
 mod trying;
 mod turn;
 mod turn_plays;
+mod unused;
 mod view;
 mod waiting;
 mod words;

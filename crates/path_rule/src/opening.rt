@@ -1,7 +1,8 @@
 //! A table is opened, and its seats are handed out.
-ghost use Rattle.std.specs.Prelude.{◌≡◌, ◌+◌, ◌<◌, ◌≤◌, [], length, IfOk};
+ghost use Rattle.std.specs.Prelude.{◌≡◌, ◌+◌, ◌<◌, ◌≤◌, [], length, IfOk, IfErr};
 ghost use Rattle.path_rule.specs.Boxed.{AreFirst};
-ghost use Rattle.path_rule.specs.Boxes.{boxes};
+ghost use Rattle.path_rule.specs.Boxes.{boxes, first_progress};
+ghost use Rattle.path_rule.specs.FirstBoxes.{AreEmpty, HasInFront};
 ghost use Rattle.path_rule.specs.Lasts.{shows_of, IsNew};
 ghost use Rattle.path_rule.specs.Layout.{first_words};
 ghost use Rattle.path_rule.specs.Members.{view_of, boxes_of};
@@ -12,38 +13,79 @@ use crate::slot::{Desk, Slot};
 use crate::table::{Member, Opener, PathTable};
 use crate::view::{PathSize, Progress};
 use crate::words::{FIRST_KEY, LOG, WORDS};
-use atomic_table::Table;
+use atomic_table::{Refused, Table};
+use clog_base::OutOfMemory;
 use path_core::Keeper;
 use std::alloc::{AllocError, Allocator, Global};
 use std::collections::LinkedList;
+
+// The boxes of a new table, without the keeper's desk: each holds no note.
+fn empty_boxes<K: Keeper + Drop>(alloc: Global, size: &PathSize) -> Result<Vec<Slot<K>>, AllocError>
+    requires few { size.now.seats ≤ 64 }
+    ensures { IfOk result (λ v. (length v.items ≡ boxes size.now.seats) × AreEmpty v.items) }
+{
+    let mut boxes = Vec::new(alloc);
+    for _ in 0..1 + 2 * size.seats {
+        boxes.push(Slot::Notes(LinkedList::new(alloc)))?;
+    }
+    Ok(boxes)
+}
+
+// The desk of a new table.
+fn first_desk<K>(alloc: Global, keeper: K) -> Desk<K>
+    ensures { (result.keeper ≡ keeper) × (result.lent.items ≡ []) × (result.gathered ≡ [])
+        × (result.progress ≡ first_progress) }
+{
+    let progress = Progress {
+        gathered: true,
+        marker: None,
+    };
+    Desk {
+        keeper,
+        lent: Vec::new(alloc),
+        gathered: LinkedList::new(alloc),
+        progress,
+    }
+}
 
 // The boxes of a new table: the keeper's desk, and two for each seat.
 fn first_boxes<K: Keeper + Drop>(
     alloc: Global,
     keeper: K,
     size: &PathSize,
-) -> Result<Vec<Slot<K>>, AllocError>
+) -> Result<Vec<Slot<K>>, K>
     requires few { size.now.seats ≤ 64 }
     requires keeper { IsNew size.now (K.holds keeper) }
-    ensures { IfOk result (λ v. (length v.items ≡ boxes size.now.seats)
+    ensures boxes { IfOk result (λ v. (length v.items ≡ boxes size.now.seats)
         × AreFirst (shows_of K.holds) size.now v.items) }
+    ensures front { IfOk result (λ v. HasInFront keeper v.items) }
+    ensures back { IfErr result (λ k. k ≡ keeper) }
 {
-    let mut boxes = Vec::new(alloc);
-    let progress = Progress {
-        gathered: true,
-        marker: None,
+    let Ok(mut boxes) = empty_boxes(alloc, size) else {
+        return Err(keeper);
     };
-    let desk = Desk {
-        keeper,
-        lent: Vec::new(alloc),
-        gathered: LinkedList::new(alloc),
-        progress,
-    };
-    boxes.push(Slot::Turn(desk))?;
-    for _ in 0..2 * size.seats {
-        boxes.push(Slot::Notes(LinkedList::new(alloc)))?;
-    }
+    boxes[0] = Slot::Turn(first_desk(alloc, keeper));
     Ok(boxes)
+}
+
+// The keeper on the desk of a table that was not made.
+fn keeper_back<K: Keeper + Drop>(boxes: Vec<Slot<K>>) -> K
+    requires { (keeper : K) × HasInFront keeper boxes.items }
+    ensures { (keeper : K) → HasInFront keeper boxes.items → result ≡ keeper }
+{
+    let mut boxes = boxes;
+    match boxes.swap_remove(0) {
+        Slot::Turn(desk) => {
+            let Desk {
+                keeper,
+                lent: _,
+                gathered: _,
+                progress: _,
+            } = desk;
+            keeper
+        }
+        Slot::Notes(_) => unreachable!(),
+    }
 }
 
 // The words of a new table: the log is at its first key.
@@ -56,24 +98,31 @@ fn first_words(alloc: Global) -> Result<Vec<u64>, AllocError>
 }
 
 /// Opens a table for a machine of these sizes, over a keeper that was just opened for them. It
-/// answers the table and the seat that hands out the others. It takes 135,240 words.
+/// answers the table and the seat that hands out the others. It takes 135,240 words. Where memory
+/// is refused the keeper comes back.
 pub fn open<K: Keeper + Drop>(
     alloc: Global,
     keeper: K,
     size: PathSize,
-) -> Result<(PathTable<K, Global>, Opener<K>), AllocError>
+) -> Result<(PathTable<K, Global>, Opener<K>), (K, OutOfMemory)>
     requires fit { IsFit size }
     requires keeper { IsNew size (K.holds keeper) }
-    ensures { IfOk result (λ r. (r.0.size ≡ size)
+    ensures opened { IfOk result (λ r. (r.0.size ≡ size)
         × (r.1.seat.table_id ≡ r.0.table.shared.table_id) × (r.1.made ≡ 0)
         × (r.1.seat.me.0 ≡ opener 0 size)) }
+    ensures back { IfErr result (λ r. r.0 ≡ keeper) }
 {
-    let words = first_words(alloc)?;
-    let boxes = first_boxes(alloc, keeper, &size)?;
-    let Ok((table, seat)) = Table::new(alloc, words.as_slice(), boxes, &size) else {
-        return Err(AllocError);
+    let Ok(words) = first_words(alloc) else {
+        return Err((keeper, OutOfMemory));
     };
-    Ok((PathTable { table, size }, Opener { seat, made: 0 }))
+    let boxes = match first_boxes(alloc, keeper, &size) {
+        Ok(boxes) => boxes,
+        Err(keeper) => return Err((keeper, OutOfMemory)),
+    };
+    match Table::new(alloc, words.as_slice(), boxes, &size) {
+        Ok((table, seat)) => Ok((PathTable { table, size }, Opener { seat, made: 0 })),
+        Err(Refused { slots }) => Err((keeper_back(slots), OutOfMemory)),
+    }
 }
 
 impl<K: Keeper, A: Allocator> PathTable<K, A> {

@@ -12,8 +12,10 @@ use Rattle.std.proofs.Common.{
   ◌++◌,
   length,
   replicate,
+  set,
   refl,
   sym,
+  ap,
   ◌∙◌,
   subst,
   ⊎_elim,
@@ -27,19 +29,23 @@ use mathlib.Core.Option.{some, some-injective, some-ne-none}
 use lib.ListN.{get_elem?}
 use Rattle.atomic_table.proofs.Lists.{at_map}
 use Rattle.atomic_table.specs.Table.{opening}
+use Rattle.clog_base.specs.declared.sizes.Sizes.{Sizes}
 use Rattle.op_core.specs.declared.count.Order.{Order}
 use Rattle.op_core.specs.declared.count.Order.TheVariants.{Write, Append}
 use Rattle.path_core.specs.declared.note.EntryNote.{EntryNote}
 use Rattle.path_core.specs.declared.state.TableState.{TableState}
+use Rattle.path_core.specs.Keeper.{Holding}
 use Rattle.path_core.specs.Parts.{groups_of, fresh_seat, fresh_table}
 use Rattle.path_rule.specs.declared.lasting.Lasting.{Lasting}
 use Rattle.path_rule.specs.declared.slot.Slot.{Slot}
-use Rattle.path_rule.specs.declared.slot.Slot.TheVariants.{Notes}
+use Rattle.path_rule.specs.declared.slot.Desk.{Desk}
+use Rattle.path_rule.specs.declared.slot.Slot.TheVariants.{Notes, Turn}
 use Rattle.path_rule.specs.declared.view.PathSize.{PathSize}
 use Rattle.path_rule.specs.declared.view.View.{View}
 use Rattle.path_rule.specs.Boxed.{HandsAs, AreFirst}
 use Rattle.path_rule.specs.Boxes.{first_progress, boxes, DeskIs, NotesAre}
-use Rattle.path_rule.specs.Lasts.{none_lasting}
+use Rattle.path_rule.specs.FirstBoxes.{AreEmpty}
+use Rattle.path_rule.specs.Lasts.{lasting_of, stopped_with, none_lasting, IsNew}
 use Rattle.path_rule.specs.Layout.{first_words}
 use Rattle.path_rule.specs.Rule.{start_of, IsFit, Knows, IsSized, Ruled, opener}
 use Rattle.path_rule.proofs.seats.Dealing.{at_end}
@@ -122,13 +128,46 @@ module _ {K : Type 0} (shows : K → Lasting) where
           (refl, (refl, refl, λ n b e'. absurd (some-ne-none b (sym e'))))
       first_view (suc j) u e = absurd (some-ne-none u (sym e))
 
-  pub first_more : (size : PathSize) (xs : List (Slot K)) (l : List EntryNote) → l ≡ []
-      → 0 < length xs → AreFirst shows size xs → AreFirst shows size (xs ++ Notes l ∷ [])
-  first_more size xs l none_yet more F = record {
-    each = λ b y e. ⊎_elim (λ old. F.each b y old)
-        (λ (t : (Notes l ≡ y) × (b ≡ length xs)). subst
-        (λ z. (b ≡ 0 → DeskIs shows z (none_lasting size) [] first_progress) × (0 < b → NotesAre z
-        []))
-        t.0 ((λ zero_b. absurd (let q = t.1 in omega arith)), (λ _. none_yet)))
-        (at_end xs (Notes l) y b e);
-  }
+  -- A desk is put in front of the boxes, each of which holds no note.
+  pub first_set : (size : PathSize) (xs : List (Slot K)) (desk : Desk K) → AreEmpty xs
+      → DeskIs shows (Turn desk) (none_lasting size) [] first_progress
+      → AreFirst shows size (set xs 0 (Turn desk))
+  first_set size xs desk none_yet is = record { each = λ b y e. each xs none_yet b y e }
+    where
+      each : (xs : List (Slot K)) → AreEmpty xs → (b : ℕ) (y : Slot K)
+          → get_elem? (set xs 0 (Turn desk)) b ≡ some y
+          → (b ≡ 0 → DeskIs shows y (none_lasting size) [] first_progress) × (0 < b → NotesAre y [])
+      each [] no_box b y e = absurd (some-ne-none y (sym e))
+      each (x ∷ xs) no_box zero y e =
+          let same : Turn desk ≡ y = some-injective (Turn desk) y e in (
+            (λ _. subst (λ z. DeskIs shows z (none_lasting size) [] first_progress) same is),
+            (λ l. absurd (omega arith)),
+          )
+      each (x ∷ xs) no_box (suc b) y e =
+          ((λ l. absurd (omega arith)), (λ _. no_box (suc b) y e))
+
+-- A keeper that was just opened shows that nothing is lasting.
+pub new_lasting : (size : PathSize) (h : Holding) → IsNew size h → lasting_of h ≡ none_lasting size
+new_lasting size h n = let f = n.1 in λ i. record {
+  logged = f.nothing_logged i;
+  synced = f.nothing_synced i;
+  dropped = f.none_dropped i;
+  kept = f.nothing_kept i;
+  stopped = stopped_with (f.runs i) h.faults;
+  at_open = n.4 i;
+  capacity = (ap (λ (s : Sizes). s.capacity) f.sizes_are ∙ n.2) i;
+  ordinals = (ap (λ (s : Sizes). s.ordinals) f.sizes_are ∙ n.3) i;
+  base = f.base_is i;
+}
+
+module _ {K : Type 0} where
+  pub empty_more : (xs : List (Slot K)) (l : List EntryNote) → l ≡ [] → AreEmpty xs
+      → AreEmpty (xs ++ Notes l ∷ [])
+  empty_more xs l none_yet E b y e = ⊎_elim (λ old. E b y old)
+      (λ (t : (Notes l ≡ y) × (b ≡ length xs)). subst (λ z. NotesAre z []) t.0 none_yet)
+      (at_end xs (Notes l) y b e)
+
+  pub set_front : (xs : List (Slot K)) (y : Slot K) → 0 < length xs
+      → get_elem? (set xs 0 y) 0 ≡ some y
+  set_front [] y l = absurd (omega arith)
+  set_front (x ∷ xs) y l = refl

@@ -5,11 +5,13 @@ use Rattle.std.proofs.Common.{
   zero,
   suc,
   ◌<◌,
+  cond,
   List,
   [],
   ◌∷◌,
   map,
   is_some,
+  eq-eqb,
   refl,
   sym,
   ap,
@@ -19,26 +21,30 @@ use Rattle.std.proofs.Common.{
   arith,
 }
 use Rattle.std.specs.Prelude.{slice_index}
-use mathlib.Core.Option.{some, some-injective, some-ne-none}
+use mathlib.Core.Option.{some, none, some-injective, some-ne-none}
+use mathlib.Core.Option as maybe
 use lib.ListN.{get_elem?}
 use Rattle.atomic_table.specs.Table.{State, Final, Seen}
+use Rattle.path_core.specs.declared.event.Event.{Event}
 use Rattle.path_core.specs.declared.event.Place.TheVariants.{Log}
-use Rattle.path_core.specs.declared.note.EntryNote.{EntryNote}
+use Rattle.path_core.specs.declared.state.PathState.{PathState}
+use Rattle.path_core.specs.Words.{by_of}
 use Rattle.path_core.specs.Keeper.{Holding, HasRisen}
 use Rattle.path_core.specs.Parts.{seat_of}
 use Rattle.path_core.specs.Runs.{Past}
 use Rattle.path_rule.specs.declared.lasting.Lasting.{Lasting}
 use Rattle.path_rule.specs.declared.slot.Slot.{Slot}
+use Rattle.path_rule.specs.declared.slot.Slot.TheVariants.{Notes, Turn}
 use Rattle.path_rule.specs.declared.view.PathSize.{PathSize}
-use Rattle.path_rule.specs.declared.view.Progress.{Progress}
 use Rattle.path_rule.specs.declared.view.Returned.{Returned}
 use Rattle.path_rule.specs.declared.view.Role.{Role}
 use Rattle.path_rule.specs.declared.view.Role.TheVariants.{Opener, Steps, Spent}
 use Rattle.path_rule.specs.declared.view.View.{View}
 use Rattle.path_rule.specs.Boxes.{HoldsAs, HoldsBox, IsFree, DeskIs}
+use Rattle.path_rule.specs.FirstBoxes.{HasInFront}
 use Rattle.path_rule.specs.Lasts.{lasting_of, shown}
 use Rattle.path_rule.specs.Rule.{start_of, Knows, Ruled, event_of, steps_by}
-use Rattle.path_rule.specs.Sharing.{Ended, HasAll}
+use Rattle.path_rule.specs.Sharing.{Ended, EndsUnused, HasAll}
 use Rattle.path_rule.proofs.moves.Moving.{core_lawful}
 
 module _ {K : Type 0} (shows : K → Lasting) where
@@ -47,10 +53,44 @@ module _ {K : Type 0} (shows : K → Lasting) where
   at_four (x ∷ xs) zero a e = some-injective x a e
   at_four (x ∷ xs) (suc i) a e = at_four xs i a e
 
+  -- Where every box is at home, the keeper lies on the desk in front.
+  pub desk_home : (key : PathSize) (id : ℕ) (v : View)
+      → ((s : State (Slot K) View) → Ruled shows key s → get_elem? s.views id ≡ some v
+      → (b : ℕ) → IsFree s.views b)
+      → (ws : List ℕ) (xs : List (Slot K)) → (f : Final (Seen (Ruled shows key) id v) ws xs)
+      → (keeper : K) × HasInFront keeper xs
+      × (shows keeper ≡ shown key.at_open f.1.0.kept_to f.1.0.core)
+  desk_home key id v free ws xs f = let r : Ruled shows key f.0 = f.1.0 in
+      let y = r.boxed.at_home 0 (omega arith) (free f.0 r f.1.1 0) in
+      found y.0 (f.4 0 y.0 y.1) (y.2.desk refl)
+    where
+      found : (y : Slot K) → get_elem? xs 0 ≡ some y
+          → DeskIs shows y (shown key.at_open f.1.0.kept_to f.1.0.core) f.1.0.boxed.pending
+          f.1.0.boxed.progress → (keeper : K) × HasInFront keeper xs
+          × (shows keeper ≡ shown key.at_open f.1.0.kept_to f.1.0.core)
+      found (Notes kept) e d = absurd d
+      found (Turn desk) e d = (desk.keeper, record { desk = desk; lies = refl; front = e }, d.0)
+
+  -- Where no seat was handed out, every box is at home, and no step was made.
+  pub free_unmade : (key : PathSize) (id : ℕ) (v : View) → v.role ≡ Opener 0
+      → (s : State (Slot K) View) → Ruled shows key s → get_elem? s.views id ≡ some v
+      → (b : ℕ) → IsFree s.views b
+  free_unmade key id v role s r at b j u e h = by_role u.role (r.each_seat j u e).1 h
+    where
+      made : 0 ≡ r.made
+      made = (subst (λ ρ. Knows r.core r.events r.owner r.made r.boss id ρ v.part v.trail
+          v.returned) role (r.each_seat id v at).1).0
+
+      by_role : (ρ : Role) → Knows r.core r.events r.owner r.made r.boss j ρ u.part u.trail
+          u.returned → HoldsAs u.part.append (is_some u.part.sync) u.hands.box_taken b ρ → ⊥
+      by_role (Opener k) kn h = h
+      by_role Spent kn h = h
+      by_role (Steps z) kn h = let l = kn.0.0 in let m = made in absurd (omega arith)
+
   module _ (key : PathSize) (id w : ℕ) (v : View) (role : v.role ≡ Steps w)
       (all : HasAll key.seats w v.returned) (bare : (b : ℕ) → ¬ HoldsBox v b) where
     -- where a seat took in all others, every box is at home
-    free_all : (s : State (Slot K) View) (r : Ruled shows key s) → get_elem? s.views id ≡ some v
+    pub free_all : (s : State (Slot K) View) (r : Ruled shows key s) → get_elem? s.views id ≡ some v
         → (b : ℕ) → IsFree s.views b
     free_all s r at b j u e h = by_role u.role (r.each_seat j u e).1 h
       where
@@ -70,16 +110,6 @@ module _ {K : Type 0} (shows : K → Lasting) where
             (λ (t : (n : ℕ) × (c : Returned) × (get_elem? v.returned n ≡ some c) × (c.number ≡ z)).
             own (sym kn.0.1 ∙ (ap r.owner (sym t.3) ∙ (mine.1 t.0 t.1 t.2).0.1)))
             (all z (let a = kn.0.0 in let c = r.enough in omega arith))
-
-    -- so the keeper is at home
-    pub desk_home : (ws : List ℕ) (xs : List (Slot K)) → Final (Seen (Ruled shows key) id v) ws xs
-        → (y : Slot K) × (get_elem? xs 0 ≡ some y)
-        × ((pending : List EntryNote) × (gathered : Progress)
-        × (f : Final (Seen (Ruled shows key) id v) ws xs)
-        × DeskIs shows y (shown key.at_open f.1.0.kept_to f.1.0.core) pending gathered)
-    desk_home ws xs f = let r : Ruled shows key f.0 = f.1.0 in
-        let y = r.boxed.at_home 0 (omega arith) (free_all f.0 r f.1.1 0) in
-        (y.0, f.4 0 y.0 y.1, (r.boxed.pending, r.boxed.progress, f, y.2.desk refl))
 
   pub ends_by : (size key : PathSize) (id w log : ℕ) (keeper : Holding) (v : View) (ws : List ℕ)
       (xs : List (Slot K)) → key ≡ size → v.role ≡ Steps w
@@ -114,3 +144,32 @@ module _ {K : Type 0} (shows : K → Lasting) where
           subst (λ (c : Returned). (c.part ≡ seat_of r.core c.number)
           × (map event_of c.trail ≡ steps_by c.number r.events)) is (k.0.2, k.0.3)
       one s r k (suc n) b q = let h = (k.1 n b q).0 in (h.2, h.3)
+
+  -- no step is anybody's
+  nobody : (es : List Event) → ((w : ℕ) → steps_by w es ≡ []) → es ≡ []
+  nobody [] none_made = refl
+  nobody (e ∷ es) none_made = absurd (some-ne-none e (ap first_of
+      (ap (λ b. cond b (e ∷ steps_by (by_of e) es) (steps_by (by_of e) es))
+      (sym (eq-eqb (by_of e) (by_of e) refl)) ∙ none_made (by_of e))))
+    where
+      first_of : List Event → maybe.Option Event
+      first_of [] = none
+      first_of (x ∷ xs) = some x
+
+  pub ends_unmade : (size key : PathSize) (id log : ℕ) (keeper : Holding) (v : View) (ws : List ℕ)
+      (xs : List (Slot K)) → key ≡ size → v.role ≡ Opener 0
+      → (f : Final (Seen (Ruled shows key) id v) ws xs) → get_elem? ws 4 ≡ some log
+      → lasting_of keeper ≡ shown key.at_open f.1.0.kept_to f.1.0.core
+      → EndsUnused size log keeper
+  ends_unmade size key id log keeper v ws xs same role f e kept = let s = f.0 in
+      let r : Ruled shows key s = f.1.0 in
+      let made : 0 ≡ r.made = (subst (λ ρ. Knows r.core r.events r.owner r.made r.boss id ρ v.part
+      v.trail v.returned) role (r.each_seat id v f.1.1).1).0 in
+      let no_step : r.events ≡ [] = nobody r.events (λ w. (r.fresh w (omega arith)).0) in
+      let core_is : start_of key ≡ r.core =
+      subst (λ (es : List Event). Past (start_of key) es r.core) no_step r.run in
+      let core : r.core ≡ start_of size = sym core_is ∙ ap start_of same in (
+        sym (at_four ws 4 log e) ∙ (ap (λ (l : List ℕ). slice_index l 4) (sym f.2)
+            ∙ (r.words Log tt ∙ ap (λ (x : PathState). x.log) core)),
+        kept ∙ (λ i. shown ((ap (λ (z : PathSize). z.at_open) same) i) r.kept_to (core i)),
+      )

@@ -1,31 +1,24 @@
-use Rattle.std.proofs.Common.{
-  ◌≡◌,
-  ◌+◌,
-  ◌++◌,
-  [],
-  ◌∷◌,
-  length,
-  length-append,
-  sym,
-  ap,
-  ◌∙◌,
-  subst,
-  arith,
-}
-use Rattle.path_rule.specs.declared.slot.Slot.TheVariants.{Notes}
-use Rattle.path_rule.specs.Boxed.{AreFirst}
-use Rattle.path_rule.proofs.seats.Begins.{first_more}
+use Rattle.std.proofs.Common.{◌++◌, ap, ◌∙◌, arith, length-set}
+use Rattle.path_rule.specs.declared.slot.Slot.TheVariants.{Turn}
 use Rattle.path_rule.specs.Lasts.{shows_of}
+use Rattle.path_rule.proofs.seats.Begins.{first_set, set_front, new_lasting}
 use Rattle.path_rule.proofs.opening.first_boxes.Goals as goal
 
-pub loop-preserved : goal.loop-preserved
-loop-preserved g c = let i = c.loop.invariant in let m = i.many in let l = c.new-in-loop.result in
-    let items : c.push-in-loop.new.self.items ≡ c.loop.boxes.items ++ Notes l ∷ [] =
-    c.in_ok-push-2.ensures.items in record {
-      many = ap length items ∙ (length-append c.loop.boxes.items (Notes l ∷ [])
-          ∙ ap (λ n. n + 1) i.many);
-      first = subst (AreFirst (shows_of g.K.Keeper.holds) c.args.size.now) (sym items)
-          (first_more (shows_of g.K.Keeper.holds) c.args.size.now c.loop.boxes.items l
-          c.new-in-loop.ensures
-          (omega arith) i.first);
-    }
+pub returns-clause-boxes : goal.returns-clause-boxes
+returns-clause-boxes g c = let size = c.args.size.now in let xs = c.in-Ok.boxes.items in
+    let d = c.first_desk.result in let e = c.first_desk.ensures in (
+      length-set xs 0 (Turn d) ∙ c.in-Ok.ensures.0,
+      first_set (shows_of g.K.Keeper.holds) size xs d c.in-Ok.ensures.1 (
+        ap (shows_of g.K.Keeper.holds) e.0
+            ∙ new_lasting size (g.K.Keeper.holds c.args.keeper) c.requires.keeper,
+        (λ i. e.1 i ++ e.2 i),
+        e.3,
+      ),
+    )
+
+pub returns-clause-front : goal.returns-clause-front
+returns-clause-front g c = let xs = c.in-Ok.boxes.items in let d = c.first_desk.result in record {
+  desk = d;
+  lies = c.first_desk.ensures.0;
+  front = set_front xs (Turn d) (let l = c.in-Ok.ensures.0 in omega arith);
+}

@@ -1,0 +1,22 @@
+//! A table of which no seat was handed out is closed by the seat that would have done so.
+ghost use Rattle.std.specs.Prelude.{◌≡◌};
+ghost use Rattle.path_rule.specs.Sharing.{EndsUnused};
+
+use crate::closing::keeper_and_log;
+use crate::table::{Opener, PathTable};
+use path_core::Keeper;
+use std::alloc::Global;
+
+impl<K: Keeper + Drop> PathTable<K, Global> {
+    /// Closes the table where no seat was handed out, so that no step was made. It answers the
+    /// keeper, which holds that nothing is lasting, and the log's first key.
+    pub fn finish_unused(self, opener: Opener<K>) -> (K, u64)
+        requires table { opener.seat.table_id ≡ self.table.shared.table_id }
+        requires unused { opener.made ≡ 0 }
+        ensures { EndsUnused self.size result.1 (K.holds result.0) }
+    {
+        let PathTable { table, size: _ } = self;
+        let Opener { seat, made: _ } = opener;
+        keeper_and_log(table.close_with(seat))
+    }
+}
