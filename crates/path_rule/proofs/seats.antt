@@ -9,6 +9,8 @@ pub mod Merging
 pub mod FirstWords
 pub mod Ends
 pub mod HolderLooks
+pub mod RoundsGo
+pub mod Sweeping
 pub mod HolderIssues
 pub mod MayGives
 pub mod Placing

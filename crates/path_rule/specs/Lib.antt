@@ -14,5 +14,7 @@ pub mod Calls
 pub mod SyncEnd
 pub mod Members
 pub mod Passes
+pub mod Rounds
+pub mod Sweeps
 pub mod Sharing
 pub mod FirstBoxes

@@ -1,12 +1,13 @@
 //! Barriers that wait until all operations before them are closed (`OpOrder.Barrier.await`): of the
 //! write order, and of the append order for the last marker.
-ghost use Rattle.std.specs.Prelude.{◌≡◌, ℕ, suc, ◌+◌, ◌<◌, ◌≤◌, true};
+ghost use Rattle.std.specs.Prelude.{◌≡◌, ℕ, suc, ◌+◌, ◌<◌, ◌≤◌, true, []};
 ghost use Rattle.op_core.specs.declared.count.Order.TheVariants.{Write, Append};
 ghost use Rattle.path_core.specs.declared.seat.Issue.TheVariants.{Rest};
 ghost use Rattle.path_rule.specs.Calls.{Holds, IsPast};
 ghost use Rattle.path_rule.specs.HandsAfter.{issued_hands};
 ghost use Rattle.path_rule.specs.Members.{view_of, part_of, hands_of, IsOf, KeepsSizes};
 ghost use Rattle.path_rule.specs.Passes.{MatchPassed};
+ghost use Rattle.path_rule.specs.Rounds.{RoundSteps};
 ghost use Rattle.path_rule.specs.Turns.{MarkerWaits, TurnSaw, TurnOld, TurnGone, KeepsCurrent};
 
 use crate::table::{Member, PathTable};
@@ -45,6 +46,7 @@ impl<K: Keeper, A: Allocator> PathTable<K, A> {
             × TurnGone order (part_of member.old) oldest }
         requires group { (group ≡ suc oldest) × (group ≤ current) }
         ensures same { KeepsSizes member.old member.new }
+        ensures steps { RoundSteps member.old.number [] (view_of member.old) (view_of member.new) }
         ensures turn { Holds Rest (view_of member.new)
             × KeepsCurrent order (part_of member.old) (part_of member.new) }
         ensures hands { hands_of member.new ≡ hands_of member.old }
@@ -66,6 +68,8 @@ impl<K: Keeper, A: Allocator> PathTable<K, A> {
         requires table { IsOf self.now.table.shared.table_id self.now.size holder.member }
         requires current { TurnSaw order (part_of holder.member) current × (current < 65536) }
         ensures same { KeepsSizes holder.member result.member }
+        ensures steps { RoundSteps holder.member.number [] (view_of holder.member)
+            (view_of result.member) }
         ensures past { (h : ℕ) × TurnOld order (part_of result.member) h × (current ≤ h) }
         ensures hands { hands_of result.member ≡ hands_of holder.member }
     {
@@ -91,6 +95,8 @@ impl<K: Keeper, A: Allocator> PathTable<K, A> {
     pub fn barrier<R: Wait>(&self, rt: &R, holder: Holder<K>) -> (Holder<K>, Passed)
         requires { IsOf self.now.table.shared.table_id self.now.size holder.member }
         ensures same { KeepsSizes holder.member result.0.member }
+        ensures steps { RoundSteps holder.member.number [] (view_of holder.member)
+            (view_of result.0.member) }
         ensures passed { MatchPassed result.1
             (λ g. IsPast Write (view_of result.0.member) g)
             (λ n. (n ≡ 65536) × TurnSaw Write (part_of result.0.member) 65535) }
@@ -116,10 +122,13 @@ impl<K: Keeper, A: Allocator> PathTable<K, A> {
             × MarkerWaits holder.member.number (part_of holder.member) start }
         requires gathered { (hands_of holder.member).progress.gathered ≡ true }
         ensures same { KeepsSizes holder.member result.0.member }
+        ensures steps { RoundSteps holder.member.number [] (view_of holder.member)
+            (view_of result.0.member) }
         ensures passed { MatchPassed result.1
             (λ g. IsPast Append (view_of result.0.member) g
             × (hands_of result.0.member ≡ issued_hands g (hands_of holder.member)))
-            (λ n. (n ≡ 65536) × TurnSaw Append (part_of result.0.member) 65535) }
+            (λ n. (n ≡ 65536) × TurnSaw Append (part_of result.0.member) 65535
+            × (hands_of result.0.member ≡ hands_of holder.member)) }
     {
         let Holder { mut member } = holder;
         let current = self.seek_current(&mut member, Order::Append);

@@ -17,7 +17,7 @@ pub view_columns : (v : View) (e : Event) (n : ℕ) → FitsSeat e v.part
     → Columns e v.part (view_after v e n false).part
 view_columns v e n fits = columns e v.part (reading_at (place_of e) n) (told_by false v.hands) fits
 
-none_is : {A : Type 0} (o : Option A) → is_some o ≡ false → o ≡ None
+pub none_is : {A : Type 0} (o : Option A) → is_some o ≡ false → o ≡ None
 none_is None e = refl
 none_is (Some a) e = absurd (false≢true (sym e))
 

@@ -1,6 +1,7 @@
-use Rattle.std.proofs.Common.{◌≡◌}
+use Rattle.std.proofs.Common.{◌≡◌, []}
 use Rattle.path_core.specs.declared.seat.Issue.TheVariants.{Rest}
 use Rattle.path_rule.specs.Calls.{Holds}
+use Rattle.path_rule.specs.Rounds.{RoundSteps}
 use Rattle.path_rule.specs.Turns.{TurnSaw}
 use Rattle.path_rule.proofs.table.PathTable.advance_to.Given as goal
 
@@ -14,5 +15,6 @@ invariant-loop g l = record {
   boxes : l.member.seat.me.1 ≡ l.initial.member.seat.me.1;
   holds : Holds Rest l.member.seat.me.0;
   saw : TurnSaw l.order l.member.seat.me.0.part l.current;
+  steps : RoundSteps l.initial.member.number [] l.initial.member.seat.me.0 l.member.seat.me.0;
   hands : l.member.seat.me.0.hands ≡ l.initial.member.seat.me.0.hands;
 }

@@ -1,0 +1,34 @@
+use Rattle.std.proofs.Common.{◌+◌, [], refl, ◌∙◌, arith}
+use Rattle.op_core.specs.declared.count.Order.TheVariants.{Write}
+use Rattle.path_core.specs.declared.event.Event.TheVariants.{
+  Look,
+  OpenGroup,
+  MoveCurrent,
+  Expire,
+}
+use Rattle.path_core.specs.declared.event.Place.TheVariants.{Current}
+use Rattle.path_rule.proofs.seats.RoundsGo.{one, next}
+use Rattle.path_rule.proofs.table.PathTable.barrier.Goals as goal
+
+pub returns-then-current-eq-LAST_GROUP-clause-steps : goal.returns-then-current-eq-LAST_GROUP-clause-steps
+returns-then-current-eq-LAST_GROUP-clause-steps g c = let S = c.seek_current-current in
+    one c.args.holder.member.number (Look _ (Current Write)) S.result _ _ refl S.ensures.step
+
+pub returns-clause-steps : goal.returns-clause-steps
+returns-clause-steps g c =
+    let w = c.args.holder.member.number in let S = c.seek_current-current in
+    let cur = S.result in let O = c.open_write.ensures in let M = c.move_write.ensures in
+    let E = c.expire_write in let A = c.advance_to-holder.ensures in
+    let o = O.same.1 ∙ S.ensures.same.1 in let m = M.same.1 ∙ o in
+    let e = E.ensures.same.1 ∙ m in
+    next w _ [] [] _ _ _ e (next w _ [] [] _ _ _ m (next w _ [] [] _ _ _ o
+    (next w _ [] [] _ _ _ S.ensures.same.1
+    (one w (Look w (Current Write)) cur _ _ refl S.ensures.step)
+    (one _ (OpenGroup _ Write (cur + 1)) 0 _ _ refl O.step))
+    (one _ (MoveCurrent _ Write (cur + 1)) cur _ _ refl M.step))
+    (one _ (Expire _ Write cur) E.result _ _ refl E.ensures.step)) A.steps
+
+pub returns-clause-passed : goal.returns-clause-passed
+returns-clause-passed g c =
+    let past = c.advance_to-holder.ensures.past in let high = past.2 in
+    (past.0, past.1, omega arith)
