@@ -6,3 +6,4 @@ pub mod BoxKept
 pub mod Answered
 pub mod LogAfter
 pub mod PlacedAt
+pub mod Handing

@@ -2,3 +2,4 @@ pub mod Claims
 pub mod Tries
 pub mod Writes
 pub mod Ends
+pub mod Opened

@@ -11,7 +11,9 @@ mod entry;
 mod fault;
 mod finishing;
 mod laws;
+mod opening;
 mod prepared;
+mod resting;
 mod seats;
 
 pub use claimed::Claimed;

@@ -24,20 +24,27 @@ ghost use Rattle.path_rule.specs.declared.slot.Slot.TheVariants.{Notes};
 ghost use Rattle.path_rule.specs.Boxes.{box_of};
 ghost use Rattle.path_rule.specs.Calls.{Started};
 ghost use Rattle.path_rule.specs.Members.{view_of, IsOf, Stepped};
+ghost use Rattle.path_rule.specs.declared.table.Opener.{Opener};
+ghost use Rattle.write_path.specs.declared.resting.Resting.{Resting};
+ghost use Rattle.write_path.specs.Opened.{IsUnused};
 ghost use Rattle.write_path.specs.Tries.{Stays, Joined, OnlyLooked};
 
+use crate::resting::Resting;
 use path_core::Keeper;
-use path_rule::{Begun, Member, PathSeat, PathTable, Seen};
+use path_rule::{Begun, Member, Opener, PathSeat, PathTable, Seen};
 use std::alloc::Allocator;
 
 /// The highest bit of a count, which marks an expired group.
 const EXPIRED: u64 = 0x8000_0000_0000_0000;
 
-/// A path that threads share.
+/// A path that threads share: its words and boxes, and the seat that hands out the others until
+/// they are handed out, which rests there.
 #[derive(Drop)]
 pub struct WritePath<K: Keeper, A: Allocator> {
-    /// Its words and boxes.
-    pub table: PathTable<K, A>,
+    pub(crate) table: PathTable<K, A>,
+    pub(crate) opener: Option<Resting<Opener<K>>>,
+    pub ghost rests: { (o : Resting (Opener K)) → opener ≡ Some o
+        → IsUnused table.table.shared.table_id table.size o.table.shared.key.value },
 }
 
 /// A seat in a group of the write order and in one of the append order, before its claim. It has

@@ -1,0 +1,136 @@
+//! A path is opened over a keeper that was just opened, and its seats are handed out once.
+ghost use Rattle.std.specs.Prelude.{
+  ◌≡◌,
+  ◌+◌,
+  ◌<◌,
+  ◌≤◌,
+  [],
+  None,
+  vec_capacity,
+  IfOk,
+  IfErr,
+  OnOk,
+  OnErr,
+  IsSome,
+};
+ghost use Rattle.path_core.specs.Keeper.{IsFresh};
+ghost use Rattle.write_path.specs.Opened.{
+  size_of,
+  ShowsAsBefore,
+  IsUnused,
+  IsNewSeat,
+  AreNew,
+};
+
+use crate::resting::Resting;
+use crate::seats::WritePath;
+use clog_base::{OutOfMemory, Sizes};
+use path_core::Keeper;
+use path_rule::{Opener, PathSeat, PathSize, PathTable};
+use std::alloc::{Allocator, Global};
+
+// What a path is told of its sizes and of its keeper's.
+fn size_of(sizes: Sizes, base: u64, at_open: u64) -> PathSize
+    ensures { result ≡ size_of sizes base at_open }
+{
+    PathSize {
+        tables: u64::from(sizes.tables),
+        seats: u64::from(sizes.writers),
+        capacity: u64::from(sizes.capacity),
+        ordinals: u64::from(sizes.ordinals),
+        base,
+        at_open,
+    }
+}
+
+impl<K: Keeper + Drop> WritePath<K, Global> {
+    /// Opens a path over a keeper of this base and these sizes that was just opened. Its seats are
+    /// not handed out yet. Where memory is refused the keeper comes back, and shows what it did.
+    pub fn open(
+        alloc: Global,
+        keeper: K,
+        sizes: Sizes,
+        base: u64,
+    ) -> Result<WritePath<K, Global>, (K, OutOfMemory)>
+        requires { IsFresh base sizes (K.holds keeper) }
+        ensures opened { IfOk result (λ p. (IsSome p.opener)
+            × (p.table.size ≡ size_of sizes base (K.holds keeper).at_open)) }
+        ensures back { IfErr result (λ r. ShowsAsBefore (K.holds keeper) (K.holds r.0)) }
+    {
+        let size = size_of(sizes, base, keeper.at_open());
+        let (table, opener) = match path_rule::open(alloc, keeper, size) {
+            Ok(opened) => opened,
+            Err(refused) => return Err(refused),
+        };
+        match Resting::lay(alloc, opener) {
+            Ok(opener) => Ok(WritePath {
+                table,
+                opener: Some(opener),
+            }),
+            Err(opener) => {
+                let (keeper, _log) = table.finish_unused(opener);
+                Err((keeper, OutOfMemory))
+            }
+        }
+    }
+}
+
+// The next seat, which has made no step.
+fn next_seat<K: Keeper, A: Allocator>(
+    table: &PathTable<K, A>,
+    opener: &mut Opener<K>,
+) -> PathSeat<K>
+    requires table { (opener.old.seat.table_id ≡ table.now.table.shared.table_id)
+        × (opener.old.seat.me.0.size ≡ table.now.size) }
+    requires left { opener.old.made < table.now.size.seats }
+    ensures opener { (opener.new.seat.table_id ≡ opener.old.seat.table_id)
+        × (opener.new.made ≡ opener.old.made + 1)
+        × (opener.new.seat.me.0.size ≡ opener.old.seat.me.0.size) }
+    ensures number { result.member.number ≡ opener.old.made }
+    ensures seat { IsNewSeat table.now.table.shared.table_id table.now.size result }
+{
+    PathSeat {
+        member: table.seat(opener),
+    }
+}
+
+// Hands out all seats.
+fn hand_out<K: Keeper, A: Allocator>(
+    table: &PathTable<K, A>,
+    opener: Opener<K>,
+    seats: &mut Vec<PathSeat<K>>,
+)
+    requires opener { IsUnused table.now.table.shared.table_id table.now.size opener }
+    requires room { table.now.size.seats ≤ vec_capacity seats.old }
+    requires void { seats.old.items ≡ [] }
+    ensures { AreNew table.now.table.shared.table_id table.now.size table.now.size.seats
+        seats.new.items }
+{
+    let mut opener = opener;
+    for _ in 0..table.size().seats {
+        let seat = next_seat(table, &mut opener);
+        if seats.push(seat).is_err() {
+            unreachable!()
+        }
+    }
+}
+
+impl<K: Keeper, A: Allocator> WritePath<K, A> {
+    /// Hands out the seats, one for each writer, in order. It may be asked for once; where memory
+    /// is refused nothing has changed, and it may be asked again.
+    pub fn seats(&mut self, alloc: Global) -> Result<Vec<PathSeat<K>>, OutOfMemory>
+        requires { IsSome self.old.opener }
+        ensures seats { IfOk result (λ v. AreNew self.old.table.table.shared.table_id
+            self.old.table.size self.old.table.size.seats v.items) }
+        ensures path { self.new.table ≡ self.old.table }
+        ensures made { OnOk result (self.new.opener ≡ None) }
+        ensures refused { OnErr result (self.new ≡ self.old) }
+    {
+        let mut seats = Vec::with_capacity(alloc, self.table.size().seats as usize)?;
+        match self.opener.take() {
+            Some(opener) => hand_out(&self.table, opener.take(), &mut seats),
+            None => unreachable!(),
+        }
+        Ok(seats)
+    }
+}
