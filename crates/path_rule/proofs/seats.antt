@@ -5,6 +5,7 @@ pub mod Refusals
 pub mod HolderKnows
 pub mod CursorKnows
 pub mod Staying
+pub mod Untaken
 pub mod Merging
 pub mod FirstWords
 pub mod Ends

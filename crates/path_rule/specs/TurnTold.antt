@@ -15,6 +15,7 @@ use Rattle.std.specs.Prelude.{
   length,
   Option,
   Some,
+  None,
 }
 use Rattle.std.specs.List.Sorted.{IsPermutation}
 use Rattle.atomic_table.specs.Table.{Me, Step, rest}
@@ -161,10 +162,11 @@ module _ {K : Type 0} (shows : K → Lasting) where
   TookDesk m m' = (y : Slot K) × (m'.1 ≡ (desk_box, y) ∷ m.1)
       × DeskIs shows y m'.0.hands.lasting m'.0.hands.pending m'.0.hands.progress
 
-  -- the seat has the Sync turn, with the desk; or another had it, and this was a look
+  -- The seat has the Sync turn, with the desk; or another had it, and this was a look. It had no
+  -- box of another seat.
   abbrev pub SyncTaken : Step (Slot K) → Me (Slot K) View → ℕ → Me (Slot K) View → Type 0
-  SyncTaken st m n m' = (w : ℕ) → m.0.role ≡ Steps w
-      → (n ≡ 0 → ((lasting : Lasting) × (pending : List EntryNote) × (progress : Progress)
+  SyncTaken st m n m' = (w : ℕ) → m.0.role ≡ Steps w → (m.0.hands.box_taken ≡ None)
+      × (n ≡ 0 → ((lasting : Lasting) × (pending : List EntryNote) × (progress : Progress)
       × MadeAs w (TakeTurn w Sync) 1 (with_desk lasting pending progress m.0.hands) m.0 m'.0
       × (lasting.at_open ≡ m.0.size.at_open)) × TookDesk m m')
       × (n ≢ 0 → Made w (Look w (TurnWord Sync)) n m m')

@@ -7,7 +7,6 @@ ghost use Rattle.path_rule.specs.FirstBoxes.{HasInFront};
 ghost use Rattle.path_rule.specs.Members.{
   view_of,
   part_of,
-  hands_of,
   boxes_of,
   returned_of,
   IsSame,
@@ -27,12 +26,14 @@ impl<K: Keeper, A: Allocator> PathTable<K, A> {
     pub fn merge(&self, first: &mut Member<K>, other: Member<K>)
         requires first { first.old.seat.table_id ≡ self.now.table.shared.table_id }
         requires other { (other.seat.table_id ≡ self.now.table.shared.table_id)
-            × (boxes_of other ≡ []) × ((hands_of other).box_taken ≡ None) }
+            × (boxes_of other ≡ []) }
         requires idle { ((part_of other).append ≡ None) × ((part_of other).sync ≡ None) }
         ensures same { (first.new.seat.table_id ≡ first.old.seat.table_id)
             × (first.new.number ≡ first.old.number)
             × ((view_of first.new).trail ≡ (view_of first.old).trail)
-            × (part_of first.new ≡ part_of first.old) }
+            × (part_of first.new ≡ part_of first.old)
+            × (boxes_of first.new ≡ boxes_of first.old)
+            × ((view_of first.new).size ≡ (view_of first.old).size) }
         ensures returned { (view_of first.new).returned
             ≡ (view_of first.old).returned ++ returned_of other ∷ [] }
     {
@@ -85,8 +86,7 @@ impl<K: Keeper + Drop> PathTable<K, Global> {
         requires table { (member.seat.table_id ≡ self.table.shared.table_id)
             × (boxes_of member ≡ []) }
         requires all { HasAll self.size.seats member.number (view_of member).returned }
-        requires idle { ((part_of member).append ≡ None) × ((part_of member).sync ≡ None)
-            × ((hands_of member).box_taken ≡ None) }
+        requires idle { ((part_of member).append ≡ None) × ((part_of member).sync ≡ None) }
         ensures { Ended self.size (returned_of member ∷ (view_of member).returned) result.1
             (K.holds result.0) }
     {

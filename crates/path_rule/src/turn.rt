@@ -39,8 +39,9 @@ impl<K: Keeper, A: Allocator> PathTable<K, A> {
     /// is not 0, another seat has the turn, and this was a look.
     pub fn take_sync(&self, member: &mut Member<K>) -> u64
         requires table { IsOf self.now.table.shared.table_id self.now.size member.old }
-        requires idle { IsIdle (part_of member.old) × ((hands_of member.old).box_taken ≡ None) }
+        requires idle { IsIdle (part_of member.old) × ((part_of member.old).sync ≡ None) }
         ensures same { IsSame member.old member.new }
+        ensures empty { (hands_of member.new).box_taken ≡ None }
         ensures hit { result ≡ 0
             → ((lasting : Lasting) × (pending : List EntryNote) × (progress : Progress)
             × SteppedAs member.old (TakeTurn member.old.number Sync) 1

@@ -57,13 +57,15 @@ use Rattle.path_rule.proofs.boxes.OneHolder.{desk_free}
 use Rattle.path_rule.proofs.moves.Looks.{Owes, as_part, within, own_part, look_owes, each_seat_name}
 use Rattle.path_rule.proofs.moves.Moving.{core_lawful, known, was, plays}
 use Rattle.path_rule.proofs.places.ReadBack.{rows_stay}
+use Rattle.path_rule.proofs.seats.Untaken.{untaken}
 
 module _ {K : Type 0} (shows : K → Lasting) (size : PathSize) (slots id : ℕ) (m : Me (Slot K) View)
     (w : ℕ) (mine : m.0.role ≡ Steps w) where
-  pub takes_sync : IsIdle m.0.part → m.0.hands.box_taken ≡ None
+  pub takes_sync : IsIdle m.0.part → m.0.part.sync ≡ None
       → Allows (Ruled shows size) slots id m 7 (λ n. either (eqb n 0) 1 n)
       (SyncTaken shows (step slots 7 0 1 none) m)
-  takes_sync idle empty s r _ there _ = let n = slice_index s.words 7 in let x = r.core in
+  takes_sync idle bare s r _ there _ = let n = slice_index s.words 7 in let x = r.core in
+      let empty = untaken shows size s r id w m.0 there mine bare in
       let then = SyncTaken shows (step slots 7 0 1 none) m n in
       exchanged n 0 1 (λ z. Owes shows size slots id m w mine s 7 z then)
       (λ hit. let e = TakeTurn w Sync in let is = as_part shows size slots id m w mine s r there in
@@ -92,11 +94,12 @@ module _ {K : Type 0} (shows : K → Lasting) (size : PathSize) (slots id : ℕ)
             refl
             idle.append idle.append empty empty refl refl (refl, refl, refl)),
         each_seat_name shows size slots id m w mine
-            (λ z. (n ≡ 0 → ((lasting : Lasting) × (pending : List EntryNote) × (marks : Progress)
+            (λ z. (m.0.hands.box_taken ≡ None) × (n ≡ 0 → ((lasting : Lasting) × (pending : List EntryNote) × (marks : Progress)
             × MadeAs z (TakeTurn z Sync) 1 (with_desk lasting pending marks m.0.hands) m.0 v'
             × (lasting.at_open ≡ m.0.size.at_open))
             × TookDesk shows m (v', (desk_box, home.0) ∷ m.1))
             × (n ≢ 0 → Made z (Look z (TurnWord Sync)) n m (v', (desk_box, home.0) ∷ m.1))) (
+              empty,
               (λ _. (
                 (
                   shown size.at_open r.kept_to x,
@@ -114,11 +117,11 @@ module _ {K : Type 0} (shows : K → Lasting) (size : PathSize) (slots id : ℕ)
       (λ miss. let v' = view_after m.0 (Look w (TurnWord Sync)) n false in
       look_owes shows size slots id m w mine s r there (TurnWord Sync) tt tt then (λ made _.
       each_seat_name shows size slots id m w mine
-      (λ z. (n ≡ 0 → ((lasting : Lasting) × (pending : List EntryNote) × (marks : Progress)
+      (λ z. (m.0.hands.box_taken ≡ None) × (n ≡ 0 → ((lasting : Lasting) × (pending : List EntryNote) × (marks : Progress)
       × MadeAs z (TakeTurn z Sync) 1 (with_desk lasting pending marks m.0.hands) m.0 v'
       × (lasting.at_open ≡ m.0.size.at_open)) × TookDesk shows m (v', m.1))
       × (n ≢ 0 → Made z (Look z (TurnWord Sync)) n m (v', m.1)))
-      ((λ hit. absurd (miss hit)), (λ _. made))))
+      (empty, (λ hit. absurd (miss hit)), (λ _. made))))
 
   pub gives_sync : (y : Slot K) (cs : List (ℕ × Slot K)) → IsTrue (is_some m.0.part.sync)
       → issue_of m.0.part ≡ Rest → m.0.hands.box_taken ≡ None → has_filed m.0.part ≡ false

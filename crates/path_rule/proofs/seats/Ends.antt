@@ -10,6 +10,7 @@ use Rattle.std.proofs.Common.{
   [],
   ◌∷◌,
   map,
+  None,
   is_some,
   eq-eqb,
   refl,
@@ -45,7 +46,9 @@ use Rattle.path_rule.specs.FirstBoxes.{HasInFront}
 use Rattle.path_rule.specs.Lasts.{lasting_of, shown}
 use Rattle.path_rule.specs.Rule.{start_of, Knows, Ruled, event_of, steps_by}
 use Rattle.path_rule.specs.Sharing.{Ended, EndsUnused, HasAll}
+use Rattle.path_rule.proofs.boxes.SameBoxes.{holds_none}
 use Rattle.path_rule.proofs.moves.Moving.{core_lawful}
+use Rattle.path_rule.proofs.seats.Untaken.{untaken}
 
 module _ {K : Type 0} (shows : K → Lasting) where
   at_four : (l : List ℕ) (i a : ℕ) → get_elem? l i ≡ some a → slice_index l i ≡ a
@@ -88,7 +91,8 @@ module _ {K : Type 0} (shows : K → Lasting) where
       by_role (Steps z) kn h = let l = kn.0.0 in let m = made in absurd (omega arith)
 
   module _ (key : PathSize) (id w : ℕ) (v : View) (role : v.role ≡ Steps w)
-      (all : HasAll key.seats w v.returned) (bare : (b : ℕ) → ¬ HoldsBox v b) where
+      (all : HasAll key.seats w v.returned) (outside : v.part.append ≡ None)
+      (unheld : v.part.sync ≡ None) where
     -- where a seat took in all others, every box is at home
     pub free_all : (s : State (Slot K) View) (r : Ruled shows key s) → get_elem? s.views id ≡ some v
         → (b : ℕ) → IsFree s.views b
@@ -99,7 +103,8 @@ module _ {K : Type 0} (shows : K → Lasting) where
             v.returned) role (r.each_seat id v at).1
 
         own : j ≡ id → ⊥
-        own same = bare b (subst (λ z. HoldsBox z b)
+        own same = holds_none v outside unheld
+            (untaken shows key s r id w v at role unheld) b (subst (λ z. HoldsBox z b)
             (some-injective u v (sym e ∙ (ap (get_elem? s.views) same ∙ at))) h)
 
         by_role : (ρ : Role) → Knows r.core r.events r.owner r.made r.boss j ρ u.part u.trail

@@ -1,5 +1,5 @@
 -- A seat takes in another: it keeps its own number, and knows what the other knew.
-use Rattle.std.proofs.Common.{◌≡◌, ◌≢◌, ℕ, List, ◌++◌, length, set, sym, ap, ◌∙◌, subst, ⊎_elim}
+use Rattle.std.proofs.Common.{◌≡◌, ◌≢◌, ℕ, None, List, ◌++◌, length, set, sym, ap, ◌∙◌, subst, ⊎_elim}
 use mathlib.Core.Logic.{dite}
 use mathlib.Core.Option.{some, some-injective}
 use native.Mathlib.Decide.{ℕ_discrete}
@@ -21,12 +21,13 @@ use Rattle.path_rule.specs.Lasts.{shown}
 use Rattle.path_rule.specs.Rule.{IsSeat, Knows, IsSized, Ruled}
 use Rattle.path_rule.specs.Sharing.{spent, told_by, taking}
 use Rattle.path_rule.proofs.boxes.AtHome.{inside_list}
-use Rattle.path_rule.proofs.boxes.SameBoxes.{reboxed}
+use Rattle.path_rule.proofs.boxes.SameBoxes.{reboxed, holds_none}
+use Rattle.path_rule.proofs.seats.Untaken.{untaken}
 use Rattle.path_rule.proofs.seats.Dealing.{at_end, with_owner, owner_here, owner_else}
 
 module _ {K : Type 0} (shows : K → Lasting) (size : PathSize) (id : ℕ) (v : View) (q : ℕ)
     (role : v.role ≡ Steps q) (other w : ℕ) (u : View) (seat_is : u.role ≡ Steps w)
-    (bare : (b : ℕ) → ¬ HoldsBox u b) where
+    (outside : u.part.append ≡ None) (free : u.part.sync ≡ None) where
   merged : (s : State (Slot K) View) (r : Ruled shows size s) → get_elem? s.views id ≡ some v
       → other ≢ id → get_elem? s.views other ≡ some u
       → Ruled shows size (record {
@@ -35,7 +36,9 @@ module _ {K : Type 0} (shows : K → Lasting) (size : PathSize) (id : ℕ) (v : 
         views = set
             (set s.views id (taking v u)) other spent;
       })
-  merged s r at apart there = let mine =
+  merged s r at apart there =
+      let bare : (b : ℕ) → ¬ HoldsBox u b =
+      holds_none u outside free (untaken shows size s r other w u there seat_is free) in let mine =
       subst (λ ρ. Knows r.core r.events r.owner r.made r.boss id ρ v.part v.trail v.returned) role
       (r.each_seat id v at).1 in
       let theirs : IsSeat r.core r.events r.owner r.made r.boss other w u.part u.trail =
@@ -73,16 +76,16 @@ module _ {K : Type 0} (shows : K → Lasting) (size : PathSize) (id : ℕ) (v : 
         boxed = reboxed shows size.seats r.core.notes
             (shown size.at_open r.kept_to r.core) r.core.claims r.core.append s.homes s.views
             (set (set s.views id (taking v u)) other spent) r.boxed
-            (λ b free j x e h. dite (ℕ_discrete j other)
+            (λ b at_home j x e h. dite (ℕ_discrete j other)
             (λ same. bare b (subst (λ z. HoldsBox z b)
             (some-injective x u (sym e ∙ (ap (get_elem? s.views) same ∙ there))) h))
             (λ far. dite (ℕ_discrete j id)
-            (λ same. free id (taking v u) (set_else (set s.views id (taking v u)) other id spent
+            (λ same. at_home id (taking v u) (set_else (set s.views id (taking v u)) other id spent
             (λ e'. apart (sym e')) ∙ set_here s.views id (taking v u)
             (inside_list s.views id v at))
             (subst (λ z. HoldsBox z b) (some-injective x v
             (sym e ∙ (ap (get_elem? s.views) same ∙ at))) h))
-            (λ apart'. free j x (set_else (set s.views id (taking v u)) other j spent far
+            (λ apart'. at_home j x (set_else (set s.views id (taking v u)) other j spent far
             ∙ (set_else s.views id j (taking v u) apart' ∙ e)) h)))
             (λ j x e. let Hand : View → Type 0 = λ y. HandsAs r.boxed.contents
             (shown size.at_open r.kept_to r.core) r.boxed.pending r.boxed.progress r.core.append

@@ -3,7 +3,6 @@ use Rattle.std.specs.Slots.{slots_items}
 use Rattle.path_rule.specs.declared.view.PathSize.{PathSize}
 use Rattle.path_rule.specs.Lasts.{shows_of}
 use Rattle.path_rule.specs.Sharing.{HasAll}
-use Rattle.path_rule.proofs.boxes.SameBoxes.{holds_none}
 use Rattle.path_rule.proofs.seats.Ends.{ends_by, desk_home, free_all}
 use Rattle.path_rule.proofs.closing.PathTable+K+Global.finish.Goals as goal
 
@@ -13,7 +12,7 @@ keeper_and_log-requires g c = let t = c.args.self in let b = c.args.member in
     let d = desk_home (shows_of g.K.Keeper.holds) t.table.shared.key b.seat.id b.seat.me.0
     (free_all (shows_of g.K.Keeper.holds) t.table.shared.key b.seat.id b.number b.seat.me.0 b.role
     (subst (λ (z : PathSize). HasAll z.seats b.number b.seat.me.0.returned) (sym t.keyed)
-    c.requires.all) (holds_none b.seat.me.0 i.0 i.1 i.2))
+    c.requires.all) i.0 i.1)
     (slots_items closed.words) (slots_items closed.slots) v.values.2 in record {
       full = (v.values.0, v.values.1);
       words = let w = v.counts.0 in let wide = t.wide in omega arith;
@@ -27,7 +26,7 @@ returns g c = let t = c.args.self in let b = c.args.member in
     let d = desk_home (shows_of g.K.Keeper.holds) t.table.shared.key b.seat.id b.seat.me.0
     (free_all (shows_of g.K.Keeper.holds) t.table.shared.key b.seat.id b.number b.seat.me.0 b.role
     (subst (λ (z : PathSize). HasAll z.seats b.number b.seat.me.0.returned) (sym t.keyed)
-    c.requires.all) (holds_none b.seat.me.0 i.0 i.1 i.2))
+    c.requires.all) i.0 i.1)
     (slots_items closed.words) (slots_items closed.slots) c.close_with.ensures.values.2 in
     ends_by (shows_of g.K.Keeper.holds) t.size t.table.shared.key b.seat.id b.number
     c.keeper_and_log.result.1 (g.K.Keeper.holds c.keeper_and_log.result.0) b.seat.me.0

@@ -1,5 +1,4 @@
 use Rattle.std.proofs.Common.{arith}
-use Rattle.path_rule.proofs.boxes.SameBoxes.{holds_none}
 use Rattle.path_rule.proofs.seats.Merging.{merges}
 use Rattle.path_rule.specs.Lasts.{shows_of}
 use Rattle.path_rule.proofs.table.PathTable.merge.Goals as goal
@@ -14,5 +13,5 @@ join_seat-requires g c = let t = c.args.self.now in let m = c.args.first.now in
       omega arith,
       merges (shows_of g.K.Keeper.holds) t.table.shared.key m.seat.id
           m.seat.me.0 m.number m.role o.seat.id o.number o.seat.me.0 o.role
-          (holds_none o.seat.me.0 i.0 i.1 q.2),
+          i.0 i.1,
     )
