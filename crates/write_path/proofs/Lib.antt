@@ -7,3 +7,6 @@ pub mod Answered
 pub mod LogAfter
 pub mod PlacedAt
 pub mod Handing
+pub mod Histories
+pub mod Accounted
+pub mod Outcomes

@@ -1,5 +1,19 @@
 -- A write that is accepted at one table after another.
-use Rattle.std.proofs.Common.{◌≡◌, ◌≢◌, ℕ, suc, false, Some, IsTrue, refl, sym, ap, ◌∙◌, subst, arith}
+use Rattle.std.proofs.Common.{
+  ◌≡◌,
+  ◌≢◌,
+  ℕ,
+  suc,
+  false,
+  Some,
+  IsTrue,
+  refl,
+  sym,
+  ap,
+  ◌∙◌,
+  subst,
+  arith,
+}
 use Rattle.std.proofs.lemmas.Bool.{false≢true}
 use mathlib.Core.Logic.{dite}
 use native.Mathlib.Decide.{ℕ_discrete}

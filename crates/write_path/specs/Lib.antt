@@ -3,3 +3,4 @@ pub mod Tries
 pub mod Writes
 pub mod Ends
 pub mod Opened
+pub mod Closed

@@ -1,10 +1,12 @@
-//! The write path as its callers use it: what a write takes before it commits, so that a commit
-//! takes no memory, and the seats that begin a write.
+//! The write path as its callers use it: a path is opened, its seats are handed out, and it is
+//! closed; what a write takes before it commits, so that a commit takes no memory; and the single
+//! tries of a write.
 #![tactic(auto)]
 
 mod allocating;
 mod claimed;
 mod claiming;
+mod closing;
 mod deposited;
 mod depositing;
 mod entry;
@@ -18,6 +20,7 @@ mod seats;
 
 pub use claimed::Claimed;
 pub use claiming::TryClaim;
+pub use closing::Outcome;
 pub use deposited::Deposited;
 pub use fault::PrepareFault;
 pub use finishing::Accept;

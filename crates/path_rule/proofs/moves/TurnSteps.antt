@@ -94,7 +94,8 @@ module _ {K : Type 0} (shows : K → Lasting) (size : PathSize) (slots id : ℕ)
             refl
             idle.append idle.append empty empty refl refl (refl, refl, refl)),
         each_seat_name shows size slots id m w mine
-            (λ z. (m.0.hands.box_taken ≡ None) × (n ≡ 0 → ((lasting : Lasting) × (pending : List EntryNote) × (marks : Progress)
+            (λ z. (m.0.hands.box_taken ≡ None)
+            × (n ≡ 0 → ((lasting : Lasting) × (pending : List EntryNote) × (marks : Progress)
             × MadeAs z (TakeTurn z Sync) 1 (with_desk lasting pending marks m.0.hands) m.0 v'
             × (lasting.at_open ≡ m.0.size.at_open))
             × TookDesk shows m (v', (desk_box, home.0) ∷ m.1))
@@ -117,7 +118,8 @@ module _ {K : Type 0} (shows : K → Lasting) (size : PathSize) (slots id : ℕ)
       (λ miss. let v' = view_after m.0 (Look w (TurnWord Sync)) n false in
       look_owes shows size slots id m w mine s r there (TurnWord Sync) tt tt then (λ made _.
       each_seat_name shows size slots id m w mine
-      (λ z. (m.0.hands.box_taken ≡ None) × (n ≡ 0 → ((lasting : Lasting) × (pending : List EntryNote) × (marks : Progress)
+      (λ z. (m.0.hands.box_taken ≡ None)
+      × (n ≡ 0 → ((lasting : Lasting) × (pending : List EntryNote) × (marks : Progress)
       × MadeAs z (TakeTurn z Sync) 1 (with_desk lasting pending marks m.0.hands) m.0 v'
       × (lasting.at_open ≡ m.0.size.at_open)) × TookDesk shows m (v', m.1))
       × (n ≢ 0 → Made z (Look z (TurnWord Sync)) n m (v', m.1)))

@@ -1,5 +1,19 @@
 -- A seat takes in another: it keeps its own number, and knows what the other knew.
-use Rattle.std.proofs.Common.{◌≡◌, ◌≢◌, ℕ, None, List, ◌++◌, length, set, sym, ap, ◌∙◌, subst, ⊎_elim}
+use Rattle.std.proofs.Common.{
+  ◌≡◌,
+  ◌≢◌,
+  ℕ,
+  None,
+  List,
+  ◌++◌,
+  length,
+  set,
+  sym,
+  ap,
+  ◌∙◌,
+  subst,
+  ⊎_elim,
+}
 use mathlib.Core.Logic.{dite}
 use mathlib.Core.Option.{some, some-injective}
 use native.Mathlib.Decide.{ℕ_discrete}

@@ -1,0 +1,163 @@
+-- What a run leaves behind when a path is closed.
+use Rattle.std.proofs.Common.{
+  ◌≡◌,
+  ℕ,
+  zero,
+  suc,
+  ◌<◌,
+  Bool,
+  true,
+  false,
+  List,
+  [],
+  ◌∷◌,
+  ◌++◌,
+  map,
+  length,
+  Some,
+  None,
+  refl,
+  sym,
+  ap,
+  ◌∙◌,
+  subst,
+  arith,
+}
+use Rattle.std.specs.List.{All, filter, range_with_len}
+use Rattle.std.specs.List.Sorted.{IsPermutation}
+use Rattle.std.proofs.lemmas.Bool.{false≢true}
+use Rattle.std.proofs.lemmas.List.{get_or_default, length-replicate}
+use Rattle.std.proofs.lemmas.List.Elements.{All-head, All-tail}
+use Rattle.std.proofs.lemmas.List.Sorted.{
+  IsPermutation-refl,
+  IsPermutation-sym,
+  IsPermutation-trans,
+}
+use Rattle.path_core.specs.declared.event.Event.{Event}
+use Rattle.path_core.specs.declared.note.EntryNote.{EntryNote}
+use Rattle.path_core.specs.declared.state.Claim.{Claim}
+use Rattle.path_core.specs.History.{IsHistory}
+use Rattle.path_core.specs.Keeper.{Holding, HasRisen}
+use Rattle.path_core.specs.LawfulLog.{claim_in, entry_claim, is_at_most}
+use Rattle.path_core.specs.Next.{is_between}
+use Rattle.path_core.specs.Parts.{fresh_seat, no_claim}
+use Rattle.path_core.proofs.frame.Runs.{past_sizes}
+use Rattle.path_core.proofs.log.History.{is_history}
+use Rattle.path_rule.specs.declared.lasting.Lasting.{Lasting}
+use Rattle.path_rule.specs.declared.trying.PathSeat.{PathSeat}
+use Rattle.path_rule.specs.declared.view.PathSize.{PathSize}
+use Rattle.path_rule.specs.Lasts.{lasting_of, shown, none_lasting, stopped_with, fault_count}
+use Rattle.path_rule.specs.Members.{view_of}
+use Rattle.path_rule.specs.Rule.{start_of, event_of, steps_by}
+use Rattle.path_rule.specs.Sharing.{EndsUnused}
+use Rattle.write_path.specs.Closed.{EndsBy, IsOfSize, IsOutcome, all_writes}
+use Rattle.write_path.specs.Opened.{numbers_of}
+use Rattle.write_path.proofs.Accounted.{each_once}
+use Rattle.write_path.proofs.Histories.{noted, writes_are, run_notes, by_all, all_noted}
+
+-- ---- where a keeper has stopped, it tells the count of a stopped log
+
+told_count : (stopped : Bool) (faults n : ℕ) → stopped ≡ true
+    → stopped_with stopped faults ≡ fault_count n → (0 < n) × (n ≡ faults)
+told_count false faults n is e = absurd (false≢true is)
+told_count true faults zero is e = absurd (let q : Some faults ≡ None = e in cc)
+told_count true faults (suc n) is e =
+    (omega arith, sym (let q : Some faults ≡ Some (suc n) = e in some_is faults (suc n) q))
+  where
+    some_is : (a b : ℕ) → Some a ≡ Some b → a ≡ b
+    some_is a b q = cc
+
+none_told : (stopped : Bool) (faults : ℕ) → stopped ≡ true → stopped_with stopped faults ≡ None → ⊥
+none_told false faults is e = false≢true is
+none_told true faults is e = absurd (let q : Some faults ≡ None = e in cc)
+
+sized_as : (size : PathSize) (l : Lasting) (h : Holding) → lasting_of h ≡ l
+    → l.base ≡ size.base → l.capacity ≡ size.capacity → l.ordinals ≡ size.ordinals
+    → l.at_open ≡ size.at_open → IsOfSize size h
+sized_as size l h same base capacity ordinals at_open = record {
+  base_is = ap (λ (k : Lasting). k.base) same ∙ base;
+  capacity_is = ap (λ (k : Lasting). k.capacity) same ∙ capacity;
+  ordinals_are = ap (λ (k : Lasting). k.ordinals) same ∙ ordinals;
+  at_open_is = ap (λ (k : Lasting). k.at_open) same ∙ at_open;
+}
+
+module _ {K : Type 0} (size : PathSize) where
+  -- what the seats wrote is what steps of their numbers deposited
+  writes_as : (events : List Event) (seats : List (PathSeat K))
+      → All (λ (s : PathSeat K). map event_of (view_of s.member).trail
+      ≡ steps_by s.member.number events) seats
+      → all_writes seats ≡ by_all (numbers_of seats) events
+  writes_as events [] own = refl
+  writes_as events (s ∷ seats) own =
+      let P = λ (p : PathSeat K). map event_of (view_of p.member).trail
+      ≡ steps_by p.member.number events in
+      let first = writes_are (view_of s.member).trail
+      ∙ ap (λ (l : List Event). noted l) (All-head P s seats own) in
+      let others = writes_as events seats (All-tail P s seats own) in
+      λ i. first i ++ others i
+
+  pub outcome : (seats : List (PathSeat K)) (end : ℕ) (h : Holding) → EndsBy size seats end h
+      → IsPermutation (range_with_len 0 size.seats) (numbers_of seats)
+      → IsOutcome size (all_writes seats) end h
+  outcome seats end h E all = let e = E.ended in let x = e.core in let L = e.lawful in
+      let z = past_sizes e.events (start_of size) x e.run in
+      let same = e.lasting_is in
+      let synced : h.synced ≡ x.synced = ap (λ (k : Lasting). k.synced) same in
+      let many : length (start_of size).seats ≡ size.seats = length-replicate size.seats fresh_seat
+      in record {
+        history = x.notes;
+        of_writes = subst (λ (l : List EntryNote). IsPermutation l x.notes)
+            (sym (writes_as e.events seats E.own))
+            (IsPermutation-trans (by_all (numbers_of seats) e.events) (noted e.events) x.notes
+            (IsPermutation-sym (noted e.events) (by_all (numbers_of seats) e.events)
+            (all_noted (numbers_of seats) e.events (start_of size) x e.run
+            (λ w l. each_once size.seats (numbers_of seats) all w (omega arith))))
+            (run_notes e.events (start_of size) x refl e.run));
+        lawful = subst (λ c. IsHistory c x.notes) z.capacity
+            (is_history x L.claims_tile_the_log L.notes_are_claims);
+        whole = λ n m. (L.notes_are_claims.each n m).whole;
+        below = λ n m. let c = (L.notes_are_claims.each n m).claim in
+            let read : claim_in x.claims c.0 ≡ entry_claim n.writer.0 n.start.0 n.end.0 =
+            get_or_default x.claims c.0 no_claim _ c.1 ∙ c.2 in
+            let low = L.claims_tile_the_log.below_log c.0 c.1 in
+            let ends = ap (λ (d : Claim). d.end) read in let log = e.log_is in omega arith;
+        synced_below = let low = L.synced_below_the_log.below_log in let log = e.log_is in
+            omega arith;
+        logged = subst (λ k. h.logged ≡ filter (is_at_most k) x.notes) (sym synced)
+            (ap (λ (k : Lasting). k.logged) same);
+        kept_to = e.kept_to;
+        kept = subst (λ k. h.kept ≡ filter (is_between k e.kept_to) x.notes) (sym synced)
+            (ap (λ (k : Lasting). k.kept) same);
+        stopped = λ is. let t = told_count h.stopped h.faults x.stopped is
+            (ap (λ (k : Lasting). k.stopped) same) in
+            subst (λ (q : ℕ × ℕ). HasRisen q.0 q.1)
+            (λ i. (sym (ap (λ (k : Lasting). k.at_open) same) i, t.1 i)) (e.risen t.0);
+        sized = sized_as size (shown size.at_open e.kept_to x) h same z.base z.capacity z.ordinals
+            refl;
+      }
+
+  no_seat : (seats : List (PathSeat K)) → numbers_of seats ≡ [] → seats ≡ []
+  no_seat [] e = refl
+  no_seat (s ∷ seats) e = absurd (let q = ap (λ (l : List ℕ). length l) e in omega arith)
+
+  pub unused_outcome : (seats : List (PathSeat K)) (end : ℕ) (h : Holding) → numbers_of seats ≡ []
+      → EndsUnused size end h → IsOutcome size (all_writes seats) end h
+  unused_outcome seats end h none_there U = let same = U.1 in
+      let synced : h.synced ≡ 0 = ap (λ (k : Lasting). k.synced) same in record {
+        history = [];
+        of_writes = subst (λ (l : List (PathSeat K)). IsPermutation (all_writes l) [])
+            (sym (no_seat seats none_there)) (IsPermutation-refl []);
+        lawful = record {
+          each = λ n m. absurd (let l = m.1 in omega arith);
+          apart = λ i j d l m. absurd (omega arith);
+        };
+        whole = λ n m. absurd (let l = m.1 in omega arith);
+        below = λ n m. absurd (let l = m.1 in omega arith);
+        synced_below = omega arith;
+        logged = ap (λ (k : Lasting). k.logged) same;
+        kept_to = 0;
+        kept = ap (λ (k : Lasting). k.kept) same;
+        stopped = λ is. absurd (none_told h.stopped h.faults is
+            (ap (λ (k : Lasting). k.stopped) same));
+        sized = sized_as size (none_lasting size) h same refl refl refl refl;
+      }

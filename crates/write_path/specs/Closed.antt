@@ -1,0 +1,73 @@
+-- What a path tells when it is closed.
+use Rattle.std.specs.Prelude.{◌≡◌, ℕ, ◌≤◌, true, List, [], map, Option, Some, None}
+use Rattle.std.specs.List.{All, Contains, filter, flat_map, range_with_len}
+use Rattle.std.specs.List.Sorted.{IsPermutation}
+use Rattle.atomic_table.specs.Seated.{TableId}
+use Rattle.path_core.specs.declared.note.EntryNote.{EntryNote}
+use Rattle.path_core.specs.History.{IsHistory}
+use Rattle.path_core.specs.Keeper.{Holding, HasRisen}
+use Rattle.path_core.specs.LawfulLog.{is_at_most}
+use Rattle.path_core.specs.Next.{is_between}
+use Rattle.path_core.specs.Whole.{IsWhole}
+use Rattle.path_rule.specs.declared.table.Opener.{Opener}
+use Rattle.path_rule.specs.declared.trying.PathSeat.{PathSeat}
+use Rattle.path_rule.specs.declared.view.PathSize.{PathSize}
+use Rattle.path_rule.specs.declared.view.Returned.{Returned}
+use Rattle.path_rule.specs.Members.{view_of, IsOf, returned_of}
+use Rattle.path_rule.specs.Rule.{event_of, steps_by}
+use Rattle.path_rule.specs.Sharing.{Ended}
+use Rattle.write_path.specs.declared.resting.Resting.{Resting}
+use Rattle.write_path.specs.Ends.{writes_of}
+
+-- A path is closed with all of its seats, in whatever order, or with none where they were not
+-- handed out.
+abbrev pub AreAll : {K : Type 0} → Option (Resting (Opener K)) → ℕ → List ℕ → Type 0
+AreAll (Some opener) count numbers = numbers ≡ []
+AreAll None count numbers = IsPermutation (range_with_len 0 count) numbers
+
+module _ {K : Type 0} where
+  -- they are seats of the path
+  abbrev pub AreOf : TableId → PathSize → List (PathSeat K) → Type 0
+  AreOf id size seats = All (λ (s : PathSeat K). IsOf id size s.member) seats
+
+  -- what seats tell the one that takes them in
+  abbrev pub returned_by : List (PathSeat K) → List Returned
+  returned_by seats = map (λ (s : PathSeat K). returned_of s.member) seats
+
+  -- the seats' lists of their own writes, together
+  abbrev pub all_writes : List (PathSeat K) → List EntryNote
+  all_writes seats = flat_map (λ (s : PathSeat K). writes_of s.member.seat.me.0.trail) seats
+
+-- The path ended in one run of the machine, in which each of these seats' steps are its own.
+pub record EndsBy {K : Type 0} (size : PathSize) (seats : List (PathSeat K)) (end : ℕ)
+    (h : Holding) : Type 0 where
+  pub returned : List Returned
+  pub ended : Ended size returned end h
+  pub own : All (λ (s : PathSeat K). map event_of (view_of s.member).trail
+      ≡ steps_by s.member.number ended.events) seats
+
+-- The keeper is of these sizes, and of the opening with this count of faults.
+pub record IsOfSize (size : PathSize) (h : Holding) : Type 0 where
+  pub base_is : h.base ≡ size.base
+  pub capacity_is : h.sizes.capacity ≡ size.capacity
+  pub ordinals_are : h.sizes.ordinals ≡ size.ordinals
+  pub at_open_is : h.at_open ≡ size.at_open
+
+-- These writes, in the order of the log, are a lawful history, and the keeper has its part up to
+-- the synced key.
+pub record IsOutcome (size : PathSize) (writes : List EntryNote) (end : ℕ) (h : Holding) :
+    Type 0 where
+  pub history : List EntryNote
+  pub of_writes : IsPermutation writes history
+  pub lawful : IsHistory size.capacity history
+  pub whole : (n : EntryNote) → Contains history n → IsWhole n
+  -- it ends at or below the log's end
+  pub below : (n : EntryNote) → Contains history n → n.end.0 ≤ end
+  pub synced_below : h.synced ≤ end
+  -- what is lasting, and what a refused sync kept above it
+  pub logged : h.logged ≡ filter (is_at_most h.synced) history
+  pub kept_to : ℕ
+  pub kept : h.kept ≡ filter (is_between h.synced kept_to) history
+  -- it has stopped only with a count of faults that has risen since it was opened
+  pub stopped : h.stopped ≡ true → HasRisen h.at_open h.faults
+  pub sized : IsOfSize size h

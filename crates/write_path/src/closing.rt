@@ -1,0 +1,84 @@
+//! A path is closed: its seats are joined into one, which closes the table.
+ghost use Rattle.std.specs.Prelude.{◌≡◌, ◌++◌, reverse};
+ghost use Rattle.std.specs.List.{range_with_len};
+ghost use Rattle.std.specs.List.Sorted.{IsPermutation};
+ghost use Rattle.path_rule.specs.Members.{view_of, part_of, boxes_of, IsOf};
+ghost use Rattle.write_path.specs.Closed.{
+  AreAll,
+  AreOf,
+  EndsBy,
+  all_writes,
+  returned_by,
+  IsOutcome,
+};
+ghost use Rattle.write_path.specs.Opened.{numbers_of};
+
+use crate::seats::WritePath;
+use clog_base::Key;
+use path_core::Keeper;
+use path_rule::{Member, PathSeat, PathTable};
+use std::alloc::{Allocator, Global};
+
+/// What a path tells when it is closed, beside its keeper.
+#[derive(Clone, Copy, Debug, PartialEq, Eq)]
+pub struct Outcome {
+    /// Where the log ends.
+    pub end: Key,
+}
+
+// A seat takes in others, the last one first.
+fn join_all<K: Keeper, A: Allocator>(
+    table: &PathTable<K, A>,
+    first: Member<K>,
+    seats: Vec<PathSeat<K>>,
+) -> Member<K>
+    requires table { IsOf table.now.table.shared.table_id table.now.size first }
+    requires seats { AreOf table.now.table.shared.table_id table.now.size seats.items }
+    ensures same { (result.seat.table_id ≡ first.seat.table_id)
+        × (result.number ≡ first.number) × ((view_of result).trail ≡ (view_of first).trail)
+        × (part_of result ≡ part_of first) × (boxes_of result ≡ boxes_of first) }
+    ensures returned { (view_of result).returned
+        ≡ (view_of first).returned ++ returned_by (reverse seats.items) }
+{
+    let mut first = first;
+    let mut seats = seats;
+    while let Some(PathSeat { member }) = seats.pop() {
+        table.merge(&mut first, member);
+    }
+    first
+}
+
+// Joins all seats into one, and closes the table by it.
+fn close_by_all<K: Keeper + Drop>(table: PathTable<K, Global>, seats: Vec<PathSeat<K>>) -> (K, u64)
+    requires seats { AreOf table.table.shared.table_id table.size seats.items }
+    requires all { IsPermutation (range_with_len 0 table.size.seats) (numbers_of seats.items) }
+    ensures { EndsBy table.size seats.items result.1 (K.holds result.0) }
+{
+    let mut seats = seats;
+    match seats.pop() {
+        Some(PathSeat { member }) => {
+            let member = join_all(&table, member, seats);
+            table.finish(member)
+        }
+        None => unreachable!(),
+    }
+}
+
+impl<K: Keeper + Drop> WritePath<K, Global> {
+    /// Closes the path with all of its seats, or with none where they were not handed out. It gives
+    /// the keeper back: what the seats wrote, together, is a lawful history, and the keeper has its
+    /// part up to the synced key.
+    pub fn close(self, seats: Vec<PathSeat<K>>) -> (K, Outcome)
+        requires seats { AreOf self.table.table.shared.table_id self.table.size seats.items }
+        requires all { AreAll self.opener self.table.size.seats (numbers_of seats.items) }
+        ensures { IsOutcome self.table.size (all_writes seats.items) result.1.end.0
+            (K.holds result.0) }
+    {
+        let WritePath { table, opener } = self;
+        let (keeper, end) = match opener {
+            Some(opener) => table.finish_unused(opener.take()),
+            None => close_by_all(table, seats),
+        };
+        (keeper, Outcome { end: Key(end) })
+    }
+}
