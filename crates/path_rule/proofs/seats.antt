@@ -16,3 +16,4 @@ pub mod HolderIssues
 pub mod MayGives
 pub mod Placing
 pub mod Accepting
+pub mod OldestBelow

@@ -169,7 +169,7 @@ module _ {K : Type 0} (shows : K → Lasting) where
       × (n ≡ 0 → ((lasting : Lasting) × (pending : List EntryNote) × (progress : Progress)
       × MadeAs w (TakeTurn w Sync) 1 (with_desk lasting pending progress m.0.hands) m.0 m'.0
       × (lasting.at_open ≡ m.0.size.at_open)) × TookDesk m m')
-      × (n ≢ 0 → Made w (Look w (TurnWord Sync)) n m m')
+      × (n ≢ 0 → Made w (Look w (TurnWord Sync)) n m m' × (n ≡ 1))
 
   -- the desk was taken last, with what the seat knows in it
   abbrev pub CarriesDesk : Me (Slot K) View → Type 0

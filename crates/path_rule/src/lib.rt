@@ -7,6 +7,7 @@
 #![tactic(auto)]
 
 mod accepting;
+mod advancing;
 mod append_barrier;
 mod appending;
 mod claiming;
@@ -35,6 +36,7 @@ mod words;
 mod write_barrier;
 mod writing;
 
+pub use advancing::Advance;
 pub use lasting::Lasting;
 pub use laws::{
     a_stopped_log_tells_a_count_that_has_risen, each_box_has_one_holder,

@@ -1,7 +1,7 @@
 //! What the holder of the Sync turn looks at for a barrier of either order. What it finds is exact
 //! while it holds the turn: the current group (`TurnSaw`), the oldest one (`TurnOld`), and one
 //! whose count is finished (`TurnGone`).
-ghost use Rattle.std.specs.Prelude.{◌≡◌, ◌<◌, ◌^◌};
+ghost use Rattle.std.specs.Prelude.{◌≡◌, ℕ, ◌<◌, ◌^◌};
 ghost use Rattle.path_core.specs.declared.event.Event.TheVariants.{Look};
 ghost use Rattle.path_core.specs.declared.event.Place.TheVariants.{Count, Current, Oldest};
 ghost use Rattle.path_core.specs.declared.seat.Issue.TheVariants.{Rest};
@@ -98,6 +98,8 @@ impl<K: Keeper, A: Allocator> PathTable<K, A> {
             × KeepsCurrent order (part_of member.old) (part_of member.new)
             × KeepsOldest order (part_of member.old) (part_of member.new) }
         ensures gone { result ≡ 2 ^ 63 → TurnGone order (part_of member.new) group }
+        ensures below { (c : ℕ) → result ≡ 2 ^ 63 → TurnSaw order (part_of member.old) c
+            → group < c }
         ensures hands { hands_of member.new ≡ hands_of member.old }
     {
         self.table

@@ -36,7 +36,7 @@ use std::alloc::Allocator;
 
 impl<K: Keeper, A: Allocator> PathTable<K, A> {
     /// Takes the Sync turn, with the desk, where nobody has it. Returns what it found: where that
-    /// is not 0, another seat has the turn, and this was a look.
+    /// is not 0, another seat has the turn: it is 1, and this was a look.
     pub fn take_sync(&self, member: &mut Member<K>) -> u64
         requires table { IsOf self.now.table.shared.table_id self.now.size member.old }
         requires idle { IsIdle (part_of member.old) × ((part_of member.old).sync ≡ None) }
@@ -50,7 +50,7 @@ impl<K: Keeper, A: Allocator> PathTable<K, A> {
             × TookDesk (shows_of K.holds) member.old.seat.me member.new.seat.me }
         ensures miss { result ≢ 0
             → Stepped member.old (Look member.old.number (TurnWord Sync)) result member.new
-            × (boxes_of member.new ≡ boxes_of member.old) }
+            × (boxes_of member.new ≡ boxes_of member.old) × (result ≡ 1) }
     {
         self.table
             .shared

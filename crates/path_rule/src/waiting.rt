@@ -2,10 +2,18 @@
 //! write order, and of the append order for the last marker.
 ghost use Rattle.std.specs.Prelude.{◌≡◌, ℕ, suc, ◌+◌, ◌<◌, ◌≤◌, true, []};
 ghost use Rattle.op_core.specs.declared.count.Order.TheVariants.{Write, Append};
+ghost use Rattle.path_core.specs.declared.event.Event.TheVariants.{Advance};
 ghost use Rattle.path_core.specs.declared.seat.Issue.TheVariants.{Rest};
 ghost use Rattle.path_rule.specs.Calls.{Holds, IsPast};
 ghost use Rattle.path_rule.specs.HandsAfter.{issued_hands};
-ghost use Rattle.path_rule.specs.Members.{view_of, part_of, hands_of, IsOf, KeepsSizes};
+ghost use Rattle.path_rule.specs.Members.{
+  view_of,
+  part_of,
+  hands_of,
+  IsOf,
+  KeepsSizes,
+  Stepped,
+};
 ghost use Rattle.path_rule.specs.Passes.{MatchPassed};
 ghost use Rattle.path_rule.specs.Rounds.{RoundSteps};
 ghost use Rattle.path_rule.specs.Turns.{MarkerWaits, TurnSaw, TurnOld, TurnGone, KeepsCurrent};
@@ -38,7 +46,14 @@ pub enum Passed {
 
 impl<K: Keeper, A: Allocator> PathTable<K, A> {
     // Moves the oldest group of an order over one whose count was found finished.
-    fn advance(&self, member: &mut Member<K>, order: Order, group: u64, oldest: u64, current: u64)
+    pub(crate) fn advance(
+        &self,
+        member: &mut Member<K>,
+        order: Order,
+        group: u64,
+        oldest: u64,
+        current: u64,
+    )
         requires table { IsOf self.now.table.shared.table_id self.now.size member.old }
         requires turn { Holds Rest (view_of member.old)
             × TurnSaw order (part_of member.old) current
@@ -46,6 +61,8 @@ impl<K: Keeper, A: Allocator> PathTable<K, A> {
             × TurnGone order (part_of member.old) oldest }
         requires group { (group ≡ suc oldest) × (group ≤ current) }
         ensures same { KeepsSizes member.old member.new }
+        ensures step { Stepped member.old (Advance member.old.number order group) group
+            member.new }
         ensures steps { RoundSteps member.old.number [] (view_of member.old) (view_of member.new) }
         ensures turn { Holds Rest (view_of member.new)
             × KeepsCurrent order (part_of member.old) (part_of member.new) }

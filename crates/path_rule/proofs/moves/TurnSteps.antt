@@ -23,6 +23,7 @@ use Rattle.std.proofs.Common.{
   arith,
 }
 use Rattle.std.specs.Prelude.{slice_index}
+use Rattle.std.specs.List.{list_any}
 use mathlib.Core.Option.{none}
 use prog.Atomic.{either}
 use Rattle.atomic_table.proofs.Lists.{exchanged}
@@ -36,7 +37,7 @@ use Rattle.path_core.specs.declared.seat.Issue.TheVariants.{Rest}
 use Rattle.path_core.specs.declared.seat.Seat.{Seat}
 use Rattle.path_core.specs.Allowed.{IsStep}
 use Rattle.path_core.specs.Next.{next_of, has_filed, newly_dropped}
-use Rattle.path_core.specs.Parts.{issue_of, IsIdle}
+use Rattle.path_core.specs.Parts.{issue_of, holds_turn, IsIdle}
 use Rattle.path_core.specs.SeatAfter.{seat_after}
 use Rattle.path_core.proofs.frame.Turns.{unheld}
 use Rattle.path_rule.specs.declared.lasting.Lasting.{Lasting}
@@ -58,6 +59,11 @@ use Rattle.path_rule.proofs.moves.Looks.{Owes, as_part, within, own_part, look_o
 use Rattle.path_rule.proofs.moves.Moving.{core_lawful, known, was, plays}
 use Rattle.path_rule.proofs.places.ReadBack.{rows_stay}
 use Rattle.path_rule.proofs.seats.Untaken.{untaken}
+
+-- the word of a turn is 0 or 1
+one_held : (n : ℕ) (b : Bool) → n ≡ cond b 1 0 → n ≢ 0 → n ≡ 1
+one_held n true is miss = is
+one_held n false is miss = absurd (miss is)
 
 module _ {K : Type 0} (shows : K → Lasting) (size : PathSize) (slots id : ℕ) (m : Me (Slot K) View)
     (w : ℕ) (mine : m.0.role ≡ Steps w) where
@@ -99,7 +105,8 @@ module _ {K : Type 0} (shows : K → Lasting) (size : PathSize) (slots id : ℕ)
             × MadeAs z (TakeTurn z Sync) 1 (with_desk lasting pending marks m.0.hands) m.0 v'
             × (lasting.at_open ≡ m.0.size.at_open))
             × TookDesk shows m (v', (desk_box, home.0) ∷ m.1))
-            × (n ≢ 0 → Made z (Look z (TurnWord Sync)) n m (v', (desk_box, home.0) ∷ m.1))) (
+            × (n ≢ 0 → Made z (Look z (TurnWord Sync)) n m (v', (desk_box, home.0) ∷ m.1)
+            × (n ≡ 1))) (
               empty,
               (λ _. (
                 (
@@ -122,8 +129,16 @@ module _ {K : Type 0} (shows : K → Lasting) (size : PathSize) (slots id : ℕ)
       × (n ≡ 0 → ((lasting : Lasting) × (pending : List EntryNote) × (marks : Progress)
       × MadeAs z (TakeTurn z Sync) 1 (with_desk lasting pending marks m.0.hands) m.0 v'
       × (lasting.at_open ≡ m.0.size.at_open)) × TookDesk shows m (v', m.1))
-      × (n ≢ 0 → Made z (Look z (TurnWord Sync)) n m (v', m.1)))
-      (empty, (λ hit. absurd (miss hit)), (λ _. made))))
+      × (n ≢ 0 → Made z (Look z (TurnWord Sync)) n m (v', m.1) × (n ≡ 1))) (
+        empty,
+        (λ hit. absurd (miss hit)),
+        (λ _. (
+          made,
+          one_held n
+              (list_any (λ (p : Seat). holds_turn p Sync) x.seats)
+              (r.words (TurnWord Sync) tt) miss,
+        )),
+      )))
 
   pub gives_sync : (y : Slot K) (cs : List (ℕ × Slot K)) → IsTrue (is_some m.0.part.sync)
       → issue_of m.0.part ≡ Rest → m.0.hands.box_taken ≡ None → has_filed m.0.part ≡ false

@@ -8,6 +8,7 @@ use Rattle.path_rule.specs.Turns.{TurnSaw, TurnOld, TurnGone}
 use Rattle.path_rule.proofs.moves.Looks.{looks_at}
 use Rattle.path_rule.proofs.places.SamePlace.{in_rows}
 use Rattle.path_rule.proofs.seats.HolderLooks as know
+use Rattle.path_rule.proofs.seats.OldestBelow.{gone_below}
 use Rattle.path_rule.specs.Lasts.{shows_of}
 use Rattle.path_rule.proofs.table.PathTable.seek_count.Goals as goal
 
@@ -69,3 +70,10 @@ returns-clause-gone g c = λ full. let m = c.args.member.now in let v = m.seat.m
     subst (λ (z : View). TurnGone c.args.order z.part c.args.group) (sym q.0.0.0)
     (know.count_gone v m.number c.load.result c.args.order c.args.group full
     c.requires.turn.0.held)
+
+pub returns-clause-below : goal.returns-clause-below
+returns-clause-below g c k full saw = let m = c.args.member.now in
+    let q = c.load.ensures.2 m.number (Count c.args.order c.args.group) m.role c.requires.turn.2
+    c.count_word.ensures in let was = q.1.0 in
+    gone_below was.core was.lawful m.number m.seat.me.0.part was.part c.args.order c.args.group k
+    (q.1.1 ∙ full) c.requires.turn.1 saw

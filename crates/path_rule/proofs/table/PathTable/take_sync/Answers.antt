@@ -21,7 +21,7 @@ invariant_of-member g c = let m = c.args.member.now in
     let e = c.compare_exchange.ensures.2 m.number m.role in
     dite (ℕ_discrete c.compare_exchange.result 0)
     (λ hit. let d = e.1 hit in record { role = ap (λ (v : View). v.role) d.0.3.0 ∙ m.role })
-    (λ miss. let d = e.2 miss in record { role = ap (λ (v : View). v.role) d.0.0 ∙ m.role })
+    (λ miss. let d = e.2 miss in record { role = ap (λ (v : View). v.role) d.0.0.0 ∙ m.role })
 
 pub returns-clause-hit : goal.returns-clause-hit
 returns-clause-hit g c = let m = c.args.member.now in
@@ -39,11 +39,11 @@ returns-clause-hit g c = let m = c.args.member.now in
 pub returns-clause-miss : goal.returns-clause-miss
 returns-clause-miss g c = let m = c.args.member.now in
     λ miss. let e = c.compare_exchange.ensures.2 m.number m.role in let d = e.2 miss in
-    (record { view = d.0.0; was = d.0.1 }, d.1)
+    (record { view = d.0.0.0; was = d.0.0.1 }, d.0.1, d.1)
 
 pub returns-clause-empty : goal.returns-clause-empty
 returns-clause-empty g c = let m = c.args.member.now in
     let e = c.compare_exchange.ensures.2 m.number m.role in
     dite (ℕ_discrete c.compare_exchange.result 0)
     (λ hit. ap (λ (v : View). v.hands.box_taken) (e.1 hit).0.3.0 ∙ e.0)
-    (λ miss. ap (λ (v : View). v.hands.box_taken) (e.2 miss).0.0 ∙ e.0)
+    (λ miss. ap (λ (v : View). v.hands.box_taken) (e.2 miss).0.0.0 ∙ e.0)
