@@ -4,3 +4,4 @@ pub mod Writes
 pub mod Ends
 pub mod Opened
 pub mod Closed
+pub mod Turned

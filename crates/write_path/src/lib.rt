@@ -17,6 +17,7 @@ mod opening;
 mod prepared;
 mod resting;
 mod seats;
+mod turning;
 
 pub use claimed::Claimed;
 pub use claiming::TryClaim;
@@ -25,6 +26,7 @@ pub use deposited::Deposited;
 pub use fault::PrepareFault;
 pub use finishing::Accept;
 pub use laws::note_laws;
-pub use path_rule::{Begun, PathSeat, Seen};
+pub use path_rule::{Advance, Begun, PathSeat, Seen};
 pub use prepared::Prepared;
 pub use seats::{Appending, WritePath};
+pub use turning::TurnSeat;
