@@ -2,3 +2,4 @@
 pub mod BuiltSteps
 pub mod Lending
 pub mod KeptStays
+pub mod OwnWrites

@@ -11,6 +11,8 @@ pub mod FirstWords
 pub mod Ends
 pub mod HolderLooks
 pub mod RoundsGo
+pub mod Answering
+pub mod Marking
 pub mod Sweeping
 pub mod HolderIssues
 pub mod MayGives

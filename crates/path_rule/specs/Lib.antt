@@ -16,5 +16,7 @@ pub mod Members
 pub mod Passes
 pub mod Rounds
 pub mod Sweeps
+pub mod SyncAnswers
+pub mod Marks
 pub mod Sharing
 pub mod FirstBoxes

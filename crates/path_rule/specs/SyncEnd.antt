@@ -63,18 +63,19 @@ pub record HasRefused (w upto : ℕ) (stopped : Option ℕ) (e : Event) (n : ℕ
       v.hands.progress v.hands) after
 
 -- What seat w knows at the end of a sync up to a key, behind the look that found the synced key.
--- Where that is not below the key it made no further step; else it put the synced key there, or
+-- Where that is not below the key it is answered, and no further step is made; else the seat put it
+-- there, or
 -- stopped the log with the count that is answered, or looked once more.
-abbrev pub EndedAs : {T : Type 0} → ℕ → ℕ → ℕ → View → Result T KeeperFault → View → Type 0
-EndedAs w upto found v (Ok answer) after = ((upto ≤ found) × (after ≡ v))
-    ⊎ ((found < upto) × HasSynced w upto v after)
+abbrev pub EndedAs : ℕ → ℕ → ℕ → View → Result ℕ KeeperFault → View → Type 0
+EndedAs w upto found v (Ok synced) after = ((upto ≤ found) × (synced ≡ found) × (after ≡ v))
+    ⊎ ((found < upto) × (synced ≡ upto) × HasSynced w upto v after)
 EndedAs w upto found v (Err (Stopped at_open now)) after =
     (found < upto) × HasRefused w upto (Some now) (Put w StoppedCursor now) now v after
 EndedAs w upto found v (Err OutOfMemory) after = (found < upto) × ((n : ℕ)
     × HasRefused w upto v.hands.lasting.stopped (Look w (CursorWord StoppedCursor)) n v after)
 
 -- Seat w ended a sync up to a key by these steps alone: what it knows is what it knew and they.
-pub record EndsSync {T : Type 0} (w upto : ℕ) (before : View) (r : Result T KeeperFault)
+pub record EndsSync (w upto : ℕ) (before : View) (r : Result ℕ KeeperFault)
     (after : View) : Type 0 where
   pub found : ℕ
   pub seen : View

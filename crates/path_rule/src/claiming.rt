@@ -1,5 +1,5 @@
 //! The steps on the log key: a look, the claim of an entry, and the claim of a marker.
-ghost use Rattle.std.specs.Prelude.{◌≡◌, ◌≢◌, ◌<◌, None, IsSome, is_some, IsTrue};
+ghost use Rattle.std.specs.Prelude.{◌≡◌, ◌≢◌, ◌<◌, ◌^◌, None, IsSome, is_some, IsTrue};
 ghost use Rattle.path_core.specs.declared.event.ClaimKind.TheVariants.{Entry, Marker};
 ghost use Rattle.path_core.specs.declared.event.Event.TheVariants.{Look, Claim};
 ghost use Rattle.path_core.specs.declared.event.Place.TheVariants.{Log};
@@ -15,6 +15,7 @@ ghost use Rattle.path_rule.specs.Members.{
   SteppedAs,
 };
 ghost use Rattle.path_core.specs.Holders.{behind_last};
+ghost use Rattle.path_rule.specs.Rule.{Was};
 
 use crate::plays::{ClaimAt, LookAt};
 use crate::table::{Member, PathTable};
@@ -29,6 +30,9 @@ impl<K: Keeper, A: Allocator> PathTable<K, A> {
         requires { IsOf self.now.table.shared.table_id self.now.size member.old }
         ensures same { KeepsBoxes member.old member.new }
         ensures step { Stepped member.old (Look member.old.number Log) result member.new }
+        ensures found { (was : Was (view_of member.old) member.old.number
+            (Look member.old.number Log)) × (was.core.log ≡ result) }
+        ensures below { result < 2 ^ 62 }
     {
         self.table.shared.load::<LookAt<K>>(&mut member.seat, LOG)
     }

@@ -1,10 +1,11 @@
 //! A sync is brought to its end, in the hand of the holder of the Sync turn.
 ghost use Rattle.std.specs.Prelude.{◌≡◌, true, Some, OnOk, OnErr};
 ghost use Rattle.std.specs.List.Sorted.{IsPermutation};
+ghost use Rattle.atomic_table.specs.Table.{rest};
 ghost use Rattle.path_core.specs.declared.seat.SyncTurn.{SyncTurn};
 ghost use Rattle.path_rule.specs.Calls.{MayGive, IsSyncedTo};
 ghost use Rattle.path_rule.specs.Lasts.{shows_of};
-ghost use Rattle.path_rule.specs.Members.{view_of, part_of, hands_of, IsOf, IsSame};
+ghost use Rattle.path_rule.specs.Members.{view_of, part_of, hands_of, boxes_of, IsOf, IsSame};
 ghost use Rattle.path_rule.specs.SyncEnd.{stopped_by, EndsSync, TellsFaults};
 ghost use Rattle.path_rule.specs.TurnTold.{CarriesDesk};
 ghost use Rattle.path_rule.specs.Turns.{IsBarred};
@@ -16,17 +17,19 @@ use std::alloc::Allocator;
 impl<K: Keeper, A: Allocator> PathTable<K, A> {
     /// Ends a sync up to the last marker, once all boxes behind its barrier are gathered and the
     /// log was found running. The keeper is lent what is pending, and the synced key is put at the
-    /// marker; where the keeper has stopped, the log is, with the count of faults that the keeper
-    /// shows and that is answered. After each answer the turn may be given back, and after a
-    /// refusal all is pending still. It makes two steps at most, of which at most one is no look.
-    pub fn end_sync(&self, member: Member<K>, upto: u64) -> (Member<K>, Result<(), KeeperFault>)
+    /// marker; it is answered. Where the keeper has stopped, the log is, with the count of faults
+    /// that the keeper shows and that is answered. After each answer the turn may be given back,
+    /// and after a refusal all is pending still. It makes two steps at most, of which at most one
+    /// is no look.
+    pub fn end_sync(&self, member: Member<K>, upto: u64) -> (Member<K>, Result<u64, KeeperFault>)
         requires table { IsOf self.now.table.shared.table_id self.now.size member }
         requires turn { MayGive (view_of member) × ((hands_of member).progress.gathered ≡ true)
             × ((t : SyncTurn) × ((part_of member).sync ≡ Some t) × (t.stopped ≡ Some 0)) }
         requires marker { IsBarred (hands_of member) upto }
         requires desk { CarriesDesk (shows_of K.holds) member.seat.me }
         ensures same { IsSame member result.0
-            × ((view_of result.0).size ≡ (view_of member).size) }
+            × ((view_of result.0).size ≡ (view_of member).size)
+            × (rest (boxes_of result.0) ≡ rest (boxes_of member)) }
         ensures give { MayGive (view_of result.0) }
         ensures desk { CarriesDesk (shows_of K.holds) result.0.seat.me }
         ensures synced { OnOk result.1 (IsSyncedTo (view_of result.0) upto) }
@@ -41,13 +44,13 @@ impl<K: Keeper, A: Allocator> PathTable<K, A> {
         let mut member = member;
         let synced = self.look_lent(&mut member);
         if upto <= synced {
-            return (member, Ok(()));
+            return (member, Ok(synced));
         }
         let (mut member, done) = self.lend(member, upto);
         match done {
             Ok(()) => {
                 self.put_synced(&mut member, upto);
-                (member, Ok(()))
+                (member, Ok(upto))
             }
             Err(KeeperFault::Stopped { at_open, now }) => {
                 self.put_stopped(&mut member, now, upto);

@@ -8,6 +8,7 @@
 
 mod accepting;
 mod advancing;
+mod answer;
 mod append_barrier;
 mod appending;
 mod claiming;
@@ -18,8 +19,12 @@ mod gathering;
 mod lasting;
 mod laws;
 mod lending;
+mod marker_keys;
+mod marking;
 mod opening;
 mod plays;
+mod round_ends;
+mod rounding;
 mod rule;
 mod seeking;
 mod slot;
@@ -37,6 +42,7 @@ mod write_barrier;
 mod writing;
 
 pub use advancing::Advance;
+pub use answer::SyncAnswer;
 pub use lasting::Lasting;
 pub use laws::{
     a_stopped_log_tells_a_count_that_has_risen, each_box_has_one_holder,

@@ -14,6 +14,8 @@ ghost use Rattle.path_rule.specs.Turns.{TurnSaw};
 
 use crate::table::{Member, PathTable};
 use crate::view::Progress;
+use crate::waiting::Holder;
+use op_core::Order;
 use path_core::Keeper;
 use std::alloc::{Allocator, Global};
 use std::sync::Wait;
@@ -97,5 +99,32 @@ impl<K: Keeper, A: Allocator> PathTable<K, A> {
             }
         }
         unreachable!()
+    }
+
+    /// Waits until the last barrier of the append order is passed, and gathers all boxes behind it.
+    pub fn settle<R: Wait>(
+        &self,
+        rt: &R,
+        alloc: Global,
+        member: Member<K>,
+        progress: Progress,
+    ) -> Member<K>
+        requires table { IsOf self.now.table.shared.table_id self.now.size member }
+        requires turn { Holds Rest (view_of member) }
+        requires fresh { ((hands_of member).swept ≡ 0)
+            × (progress ≡ (hands_of member).progress) }
+        requires desk { HasDesk (shows_of K.holds) (hands_of member).lasting
+            (hands_of member).pending (hands_of member).progress (boxes_of member) }
+        ensures same { IsSame member result }
+        ensures steps { RoundSteps member.number [] (view_of member) (view_of result) }
+        ensures turn { Holds Rest (view_of result) }
+        ensures swept { SweptAll (hands_of member) (hands_of result) }
+        ensures desk { HasDesk (shows_of K.holds) (hands_of result).lasting
+            (hands_of result).pending (hands_of result).progress (boxes_of result) }
+    {
+        let mut member = member;
+        let current = self.seek_current(&mut member, Order::Append);
+        let holder = self.advance_to(rt, Holder { member }, Order::Append, current);
+        self.gather_all(rt, alloc, holder.member, progress, current)
     }
 }

@@ -75,7 +75,7 @@ impl<K: Keeper, A: Allocator> PathTable<K, A> {
     }
 
     // Moves the oldest group up to the current one, and waits until it is there.
-    fn advance_to<R: Wait>(
+    pub(crate) fn advance_to<R: Wait>(
         &self,
         rt: &R,
         holder: Holder<K>,
@@ -88,6 +88,7 @@ impl<K: Keeper, A: Allocator> PathTable<K, A> {
         ensures steps { RoundSteps holder.member.number [] (view_of holder.member)
             (view_of result.member) }
         ensures past { (h : ℕ) × TurnOld order (part_of result.member) h × (current ≤ h) }
+        ensures saw { TurnSaw order (part_of result.member) current }
         ensures hands { hands_of result.member ≡ hands_of holder.member }
     {
         let Holder { mut member } = holder;

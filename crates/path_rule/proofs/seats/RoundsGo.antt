@@ -288,3 +288,10 @@ pub next : (w z : ℕ) (ps qs : List Event) (v u after : View) → z ≡ w → R
     → RoundSteps z qs u after → RoundSteps w (qs ++ ps) v after
 next w z ps qs v u after same A B =
     both w ps qs v u after A (subst (λ k. RoundSteps k qs u after) same B)
+
+-- the same steps, where the number and the view before are told otherwise
+pub from : (w z : ℕ) (ps : List Event) (v u after : View) → z ≡ w → u ≡ v
+    → RoundSteps z ps u after → RoundSteps w ps v after
+from w z ps v u after number view A =
+    subst (λ (x : View). RoundSteps w ps x after) view
+    (subst (λ k. RoundSteps k ps u after) number A)

@@ -1,8 +1,9 @@
-use Rattle.std.proofs.Common.{ℕ, Some, sym, ap, ◌∙◌, subst, arith}
+use Rattle.std.proofs.Common.{ℕ, Some, refl, sym, ap, ◌∙◌, subst, arith}
 use mathlib.Core.Logic.{inr}
 use Rattle.path_core.specs.declared.event.Cursor.TheVariants.{Synced, Stopped}
 use Rattle.path_core.specs.declared.event.Event.TheVariants.{Look, Put}
 use Rattle.path_core.specs.declared.event.Place.TheVariants.{CursorWord}
+use Rattle.atomic_table.specs.Table.{rest}
 use Rattle.path_core.specs.Keeper.{IsParted}
 use Rattle.path_rule.specs.declared.view.Hands.{Hands}
 use Rattle.path_rule.specs.declared.view.View.{View}
@@ -56,6 +57,7 @@ returns-in-Ok-clause-same g c =
       ),
       ap (λ (v : View). v.size) (P.step lasting S.0.1 S.0.3).0.view
           ∙ ap (λ (v : View). v.size) (M.ensures.same.1 ∙ L.step.view),
+      ap (λ l. rest l) P.same.2 ∙ (S.1 ∙ ap (λ l. rest l) L.same.2),
     )
 
 pub returns-in-Ok-clause-steps : goal.returns-in-Ok-clause-steps
@@ -72,6 +74,7 @@ returns-in-Ok-clause-steps g c =
       looked = L.ensures.step;
       ended = inr (
         omega arith,
+        refl,
         subst (λ (v : View). HasSynced c.args.member.number c.args.upto v
             after) M.ensures.same.1 (record {
               run = S.0.0;

@@ -2,6 +2,7 @@ use Rattle.std.proofs.Common.{refl, ap, ◌∙◌, arith}
 use Rattle.path_core.specs.declared.event.Place.TheVariants.{Log}
 use Rattle.path_rule.specs.declared.view.View.{View}
 use Rattle.path_rule.proofs.moves.Looks.{looks}
+use Rattle.path_rule.proofs.places.ReadBack.{log_small}
 use Rattle.path_rule.specs.Lasts.{shows_of}
 use Rattle.path_rule.proofs.table.PathTable.look_log.Goals as goal
 
@@ -27,3 +28,12 @@ pub returns-clause-step : goal.returns-clause-step
 returns-clause-step g c = let m = c.args.member.now in
     let d = c.load.ensures.2 m.number (Log) m.role tt refl in
     record { view = d.0.0.0; was = d.0.0.1 }
+
+pub returns-clause-found : goal.returns-clause-found
+returns-clause-found g c = let m = c.args.member.now in
+    (c.load.ensures.2 m.number (Log) m.role tt refl).1
+
+pub returns-clause-below : goal.returns-clause-below
+returns-clause-below g c = let m = c.args.member.now in
+    let q = (c.load.ensures.2 m.number (Log) m.role tt refl).1 in
+    let small = log_small q.0.core q.0.lawful in let is = q.1 in omega arith

@@ -1,0 +1,216 @@
+-- What is so behind the answers of a sync.
+use Rattle.std.proofs.Common.{
+  ◌≡◌,
+  ℕ,
+  ◌<◌,
+  ◌≤◌,
+  List,
+  [],
+  ◌∷◌,
+  ◌++◌,
+  Option,
+  Some,
+  None,
+  Result,
+  Ok,
+  Err,
+  refl,
+  sym,
+  ap,
+  ◌∙◌,
+  subst,
+  ⊎_elim,
+  arith,
+}
+use Rattle.std.proofs.lemmas.List.{append-nil}
+use mathlib.Core.Logic.{inl, inr}
+use Rattle.path_core.specs.declared.event.Carried.TheVariants.{Nothing, Deposit, Applied}
+use Rattle.path_core.specs.declared.event.Cursor.TheVariants.{Synced, Stopped as StoppedCursor}
+use Rattle.path_core.specs.declared.event.Event.{Event}
+use Rattle.path_core.specs.declared.event.Event.TheVariants.{
+  Look,
+  Register,
+  Close,
+  OpenGroup,
+  MoveCurrent,
+  Expire,
+  Advance,
+  Claim,
+  Switch,
+  Raise,
+  Finalise,
+  TakeTurn,
+  GiveTurn,
+  Put,
+}
+use Rattle.path_core.specs.declared.event.Place.TheVariants.{CursorWord}
+use Rattle.path_core.specs.declared.keeper.KeeperFault.{KeeperFault}
+use Rattle.path_core.specs.declared.keeper.KeeperFault.TheVariants.{
+  Stopped as KeeperStopped,
+  OutOfMemory as KeeperOutOfMemory,
+}
+use Rattle.path_core.specs.declared.seat.Found.{Found}
+use Rattle.path_core.specs.Keeper.{HasRisen}
+use Rattle.path_rule.specs.declared.answer.SyncAnswer.{SyncAnswer}
+use Rattle.path_rule.specs.declared.answer.SyncAnswer.TheVariants.{
+  Done,
+  Stopped,
+  OutOfMemory,
+  Rows,
+}
+use Rattle.path_rule.specs.declared.view.OwnStep.{OwnStep}
+use Rattle.path_rule.specs.declared.view.View.{View}
+use Rattle.path_rule.specs.Calls.{Did}
+use Rattle.path_rule.specs.Rounds.{RoundSteps, EndsBelow, WroteBelow}
+use Rattle.path_rule.specs.SyncAnswers.{IsAnswer, Answers, MayAnswer, said_by}
+use Rattle.path_rule.specs.SyncEnd.{HasSynced, EndsSync, TellsFaults}
+use Rattle.path_rule.proofs.seats.RoundsGo.{one, one_as, both, still_wrote}
+
+-- ---- what ends below a key ends below a later one
+
+ends_more : (k l : ℕ) → k ≤ l → (e : Event) → EndsBelow k e → EndsBelow l e
+ends_more k l up (Close by o g (Deposit note)) B = omega arith
+ends_more k l up (Close by o g Nothing) B = tt
+ends_more k l up (Close by o g (Applied places)) B = tt
+ends_more k l up (Look by at) B = tt
+ends_more k l up (Register by o g) B = tt
+ends_more k l up (OpenGroup by o g) B = tt
+ends_more k l up (MoveCurrent by o g) B = tt
+ends_more k l up (Expire by o g) B = tt
+ends_more k l up (Advance by o g) B = tt
+ends_more k l up (Claim by from to what) B = tt
+ends_more k l up (Switch by t m part) B = tt
+ends_more k l up (Raise by t m to) B = tt
+ends_more k l up (Finalise by t m) B = tt
+ends_more k l up (TakeTurn by turn) B = tt
+ends_more k l up (GiveTurn by turn) B = tt
+ends_more k l up (Put by cursor value) B = tt
+
+pub wrote_more : (k l : ℕ) → k ≤ l → (ts : List OwnStep) → WroteBelow k ts → WroteBelow l ts
+wrote_more k l up [] B = tt
+wrote_more k l up (t ∷ ts) B = (ends_more k l up t.event B.0, wrote_more k l up ts B.1)
+
+-- ---- steps before an answer, and behind it
+
+pub answers_after : (w opened : ℕ) (a : SyncAnswer) (v u after : View) → RoundSteps w [] v u
+    → Answers w opened u a after → Answers w opened v a after
+answers_after w opened a v u after S A = record {
+  puts = A.puts;
+  steps = subst (λ ps. RoundSteps w ps v after) (append-nil A.puts)
+      (both w [] A.puts v u after S A.steps);
+  is = A.is;
+}
+
+is_still : (w opened : ℕ) (a : SyncAnswer) (ps : List Event) (u after : View)
+    → RoundSteps w [] u after → after.part.found ≡ u.part.found → IsAnswer w opened a ps u
+    → IsAnswer w opened a ps after
+is_still w opened (Done s) ps u after S same I = (
+  ap (λ (f : Found). f.synced) same ∙ I.0,
+  still_wrote w s [] u after S I.1,
+  I.2,
+)
+is_still w opened (Stopped at_open now) ps u after S same I =
+    (I.0, I.1, ap (λ (f : Found). f.stopped) same ∙ I.2, I.3)
+is_still w opened OutOfMemory ps u after S same I = I
+is_still w opened (Rows n) ps u after S same I = I
+
+pub answers_still : (w opened : ℕ) (a : SyncAnswer) (v u after : View) → Answers w opened v a u
+    → RoundSteps w [] u after → after.part.found ≡ u.part.found → Answers w opened v a after
+answers_still w opened a v u after A S same = record {
+  puts = A.puts;
+  steps = both w A.puts [] v u after A.steps S;
+  is = is_still w opened a A.puts u after S same A.is;
+}
+
+-- ---- answers of a keeper
+
+done_answers : (w opened upto s : ℕ) (v after : View) → WroteBelow upto v.trail
+    → EndsSync w upto v (Ok s) after → Answers w opened v (Done s) after
+done_answers w opened upto s v after B E =
+    let first = one w (Look w (CursorWord Synced)) E.found v E.seen refl E.looked in
+    ⊎_elim (λ (old : (upto ≤ E.found) × (s ≡ E.found) × (after ≡ E.seen)).
+    let steps = subst (λ (u : View). RoundSteps w [] v u) (sym old.2) first in record {
+      puts = [];
+      steps = steps;
+      is = (
+        ap (λ (u : View). u.part.found.synced) old.2
+            ∙ (ap (λ (u : View). u.part.found.synced) E.looked.view
+            ∙ ap (λ (k : ℕ). Some k) (sym old.1)),
+        wrote_more upto s (let up = old.0 in let is = old.1 in omega arith) after.trail
+            (still_wrote w upto [] v after steps B),
+        inl refl,
+      );
+    })
+    (λ (new : (E.found < upto) × (s ≡ upto) × HasSynced w upto E.seen after).
+    let steps = both w [] (Put w Synced upto ∷ []) v E.seen after first
+    (one_as w (Put w Synced upto) upto _ E.seen after refl new.2.did) in record {
+      puts = Put w Synced upto ∷ [];
+      steps = steps;
+      is = (
+        ap (λ (u : View). u.part.found.synced) new.2.did.view
+            ∙ ap (λ (k : ℕ). Some k) (sym new.1),
+        wrote_more upto s (let is = new.1 in omega arith) after.trail
+            (still_wrote w upto (Put w Synced upto ∷ []) v after steps B),
+        inr (ap (λ (k : ℕ). Put w Synced k ∷ []) (sym new.1)),
+      );
+    }) E.ended
+
+stopped_answers : (w opened upto at_open now : ℕ) (v after : View) → at_open ≡ opened
+    → HasRisen at_open now → EndsSync w upto v (Err (KeeperStopped at_open now)) after
+    → Answers w opened v (Stopped at_open now) after
+stopped_answers w opened upto at_open now v after at risen E = record {
+  puts = Put w StoppedCursor now ∷ [];
+  steps = both w [] (Put w StoppedCursor now ∷ []) v E.seen after
+      (one w (Look w (CursorWord Synced)) E.found v E.seen refl E.looked)
+      (one_as w (Put w StoppedCursor now) now _ E.seen after refl E.ended.1.did);
+  is = (at, risen, ap (λ (u : View). u.part.found.stopped) E.ended.1.did.view, inr refl);
+}
+
+refused_answers : (w opened upto : ℕ) (v after : View)
+    → EndsSync w upto v (Err KeeperOutOfMemory) after → Answers w opened v OutOfMemory after
+refused_answers w opened upto v after E = record {
+  puts = [];
+  steps = both w [] [] v E.seen after
+      (one w (Look w (CursorWord Synced)) E.found v E.seen refl E.looked)
+      (one_as w (Look w (CursorWord StoppedCursor)) E.ended.1.0 _ E.seen after refl
+      E.ended.1.1.did);
+  is = refl;
+}
+
+pub ends_answers : (w opened upto : ℕ) (v after : View) (r : Result ℕ KeeperFault)
+    → TellsFaults opened r → WroteBelow upto v.trail → EndsSync w upto v r after
+    → Answers w opened v (said_by r) after
+ends_answers w opened upto v after (Ok s) T B E = done_answers w opened upto s v after B E
+ends_answers w opened upto v after (Err (KeeperStopped at_open now)) T B E =
+    stopped_answers w opened upto at_open now v after T.0 T.1 E
+ends_answers w opened upto v after (Err KeeperOutOfMemory) T B E =
+    refused_answers w opened upto v after E
+
+-- the log was found stopped
+pub halted_answers : (w opened now : ℕ) (v after : View) → HasRisen opened now
+    → Did v w (Look w (CursorWord StoppedCursor)) now after
+    → Answers w opened v (Stopped opened now) after
+halted_answers w opened now v after risen D = record {
+  puts = [];
+  steps = one w (Look w (CursorWord StoppedCursor)) now v after refl D;
+  is = (refl, risen, ap (λ (u : View). u.part.found.stopped) D.view, inl refl);
+}
+
+-- the synced key was found, at or above one below which all that the seat wrote ends
+pub found_answers : (w opened upto s : ℕ) (v after : View) → upto ≤ s → WroteBelow upto v.trail
+    → Did v w (Look w (CursorWord Synced)) s after → Answers w opened v (Done s) after
+found_answers w opened upto s v after up B D =
+    let steps = one w (Look w (CursorWord Synced)) s v after refl D in record {
+      puts = [];
+      steps = steps;
+      is = (
+        ap (λ (u : View). u.part.found.synced) D.view,
+        wrote_more upto s up after.trail (still_wrote w upto [] v after steps B),
+        inl refl,
+      );
+    }
+
+pub may_after : (w opened : ℕ) (a : Option SyncAnswer) (v u after : View) → RoundSteps w [] v u
+    → MayAnswer w opened u a after → MayAnswer w opened v a after
+may_after w opened (Some a) v u after S A = answers_after w opened a v u after S A
+may_after w opened None v u after S A = both w [] [] v u after S A

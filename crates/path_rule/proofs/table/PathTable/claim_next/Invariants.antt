@@ -1,0 +1,16 @@
+use Rattle.std.proofs.Common.{◌≡◌, []}
+use Rattle.path_rule.specs.Calls.{MayGive}
+use Rattle.path_rule.specs.Rounds.{RoundSteps}
+use Rattle.path_rule.proofs.table.PathTable.claim_next.Given as goal
+
+abbrev pub invariant-loop : goal.invariant-loop
+invariant-loop g l = record {
+  next : (goal.iterator-loop g).can_next l.iterator';
+  finite : (goal.iterator-loop g).is_finite l.iterator';
+  table : l.member.seat.table_id ≡ l.initial.member.seat.table_id;
+  number : l.member.number ≡ l.initial.member.number;
+  boxes : l.member.seat.me.1 ≡ l.initial.member.seat.me.1;
+  steps : RoundSteps l.initial.member.number [] l.initial.member.seat.me.0 l.member.seat.me.0;
+  give : MayGive l.member.seat.me.0;
+  hands : l.member.seat.me.0.hands ≡ l.initial.member.seat.me.0.hands;
+}

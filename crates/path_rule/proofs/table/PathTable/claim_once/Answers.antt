@@ -1,0 +1,44 @@
+use Rattle.std.proofs.Common.{[], is_some, refl, ap, ◌∙◌, subst}
+use Rattle.path_core.specs.declared.event.ClaimKind.TheVariants.{Marker}
+use Rattle.path_core.specs.declared.event.Event.TheVariants.{Look, Claim}
+use Rattle.path_core.specs.declared.event.Place.TheVariants.{Log}
+use Rattle.path_rule.specs.declared.view.View.{View}
+use Rattle.path_rule.specs.HandsAfter.{with_marker}
+use Rattle.path_rule.specs.Marks.{HasMarked}
+use Rattle.path_rule.proofs.seats.Marking.{marked}
+use Rattle.path_rule.proofs.seats.RoundsGo.{one, one_as, next}
+use Rattle.path_rule.proofs.table.PathTable.claim_once.Goals as goal
+
+pub returns-then-not-is_entry_since-clause-steps :
+    goal.returns-then-not-is_entry_since-clause-steps
+returns-then-not-is_entry_since-clause-steps g c = let L = c.look_log-from in
+    one c.args.member.now.number (Look _ Log) L.result _ _ refl L.ensures.step
+
+pub returns-then-claim_marker-from-clause-steps : goal.returns-then-claim_marker-from-clause-steps
+returns-then-claim_marker-from-clause-steps g c =
+    let w = c.args.member.now.number in let L = c.look_log-from in
+    next w _ [] [] _ _ _ L.ensures.same.1 (one w (Look w Log) L.result _ _ refl L.ensures.step)
+    (one_as _ (Claim _ (record { 0 = L.result }) (record { 0 = c.key_behind_marker-to.result })
+    Marker) c.key_behind_marker-to.result _ _ _ refl
+    (c.claim_marker.ensures.hit c.if-claim_marker-from.true))
+
+pub returns-then-claim_marker-from-clause-claim : goal.returns-then-claim_marker-from-clause-claim
+returns-then-claim_marker-from-clause-claim g c =
+    let w = c.args.member.now.number in let L = c.look_log-from in
+    let after = c.claim_marker.new.member.seat.me.0 in let u = L.new.member.seat.me.0 in
+    let held = ap (λ (v : View). is_some v.part.sync) L.ensures.step.view
+    ∙ c.requires.turn.0.holds.held in
+    let H = subst (λ k. HasMarked k u L.result after) L.ensures.same.1
+    (marked u after L.new.member.number L.result c.key_behind_marker-to.result
+    (c.claim_marker.ensures.hit c.if-claim_marker-from.true) held) in record {
+      hands = H.hands ∙ ap (λ (v : View). with_marker w L.result v.hands) L.ensures.step.view;
+      waits = H.waits;
+      wrote = H.wrote;
+    }
+
+pub returns-else-claim_marker-from-clause-steps : goal.returns-else-claim_marker-from-clause-steps
+returns-else-claim_marker-from-clause-steps g c =
+    let w = c.args.member.now.number in let L = c.look_log-from in
+    next w _ [] [] _ _ _ L.ensures.same.1 (one w (Look w Log) L.result _ _ refl L.ensures.step)
+    (one _ (Look _ Log) c.claim_marker.result _ _ refl
+    (c.claim_marker.ensures.miss c.if-claim_marker-from.false))

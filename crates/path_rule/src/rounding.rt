@@ -1,0 +1,155 @@
+//! A round of a sync, in the hand of the holder of the Sync turn, which has the desk alone: from the
+//! marker over its barrier and the boxes to the end.
+ghost use Rattle.std.specs.Prelude.{◌≡◌, true, Some, None, []};
+ghost use Rattle.path_rule.specs.Calls.{MayGive};
+ghost use Rattle.path_rule.specs.Desks.{HasDesk};
+ghost use Rattle.path_rule.specs.Lasts.{shows_of};
+ghost use Rattle.path_rule.specs.Members.{view_of, part_of, hands_of, boxes_of, IsOf, IsSame};
+ghost use Rattle.path_rule.specs.Rounds.{RoundSteps, WroteBelow};
+ghost use Rattle.path_rule.specs.Sweeps.{SweptAll};
+ghost use Rattle.path_rule.specs.SyncAnswers.{KnowsMarker, Answers, MayAnswer};
+ghost use Rattle.path_rule.specs.Turns.{MarkerWaits};
+
+use crate::answer::SyncAnswer;
+use crate::marking::progress_with;
+use crate::table::{Member, PathTable};
+use crate::view::Progress;
+use crate::waiting::{Holder, Passed};
+use crate::words::LAST_GROUP;
+use op_core::Order;
+use path_core::Keeper;
+use std::alloc::{Allocator, Global};
+use std::sync::Wait;
+
+impl<K: Keeper, A: Allocator> PathTable<K, A> {
+    /// Issues the barrier of the seat's own marker, which is the last one, waits until it is passed,
+    /// gathers all boxes behind it, and ends the sync.
+    pub fn bar_round<R: Wait>(
+        &self,
+        rt: &R,
+        alloc: Global,
+        member: Member<K>,
+        start: u64,
+    ) -> (Member<K>, SyncAnswer)
+        requires table { IsOf self.now.table.shared.table_id self.now.size member }
+        requires turn { MayGive (view_of member)
+            × ((hands_of member).progress.gathered ≡ true) }
+        requires marker { MarkerWaits member.number (part_of member) start
+            × ((hands_of member).progress.marker
+            ≡ Some (record { by = member.number; start = start; barrier = None })) }
+        requires desk { HasDesk (shows_of K.holds) (hands_of member).lasting
+            (hands_of member).pending (hands_of member).progress (boxes_of member) }
+        requires opened { (hands_of member).lasting.at_open ≡ self.now.size.at_open }
+        requires wrote { WroteBelow start (view_of member).trail }
+        ensures same { IsSame member result.0 }
+        ensures give { MayGive (view_of result.0) }
+        ensures desk { HasDesk (shows_of K.holds) (hands_of result.0).lasting
+            (hands_of result.0).pending (hands_of result.0).progress (boxes_of result.0) }
+        ensures answer { Answers member.number self.now.size.at_open (view_of member) result.1
+            (view_of result.0) }
+    {
+        let (member, progress) = self.progress(member);
+        let (holder, passed) = self.marker_barrier(rt, Holder { member });
+        let Holder { member } = holder;
+        let group = match passed {
+            Passed::Rows(groups) => return (member, SyncAnswer::Rows(groups)),
+            Passed::Passed(group) => group,
+        };
+        let told = progress_with(progress, member.number, start, Some(group));
+        let member = self.note_progress(member, told);
+        let member = self.settle(rt, alloc, member, told);
+        self.end_round(member, start)
+    }
+
+    // Settles the last barrier, unless its boxes are gathered already.
+    fn settled<R: Wait>(
+        &self,
+        rt: &R,
+        alloc: Global,
+        member: Member<K>,
+        progress: Progress,
+    ) -> Member<K>
+        requires table { IsOf self.now.table.shared.table_id self.now.size member }
+        requires turn { MayGive (view_of member) }
+        requires fresh { ((hands_of member).swept ≡ 0)
+            × (progress ≡ (hands_of member).progress) }
+        requires desk { HasDesk (shows_of K.holds) (hands_of member).lasting
+            (hands_of member).pending (hands_of member).progress (boxes_of member) }
+        ensures same { IsSame member result }
+        ensures steps { RoundSteps member.number [] (view_of member) (view_of result) }
+        ensures give { MayGive (view_of result) }
+        ensures swept { SweptAll (hands_of member) (hands_of result) }
+        ensures desk { HasDesk (shows_of K.holds) (hands_of result).lasting
+            (hands_of result).pending (hands_of result).progress (boxes_of result) }
+    {
+        if progress.gathered {
+            member
+        } else {
+            self.settle(rt, alloc, member, progress)
+        }
+    }
+
+    // Where an entry was claimed since the last marker, and all boxes are gathered: a further marker
+    // is claimed, unless there is no group left for its barrier. `None` where no entry was.
+    fn new_round<R: Wait>(
+        &self,
+        rt: &R,
+        alloc: Global,
+        member: Member<K>,
+    ) -> (Member<K>, Option<SyncAnswer>)
+        requires table { IsOf self.now.table.shared.table_id self.now.size member }
+        requires turn { MayGive (view_of member)
+            × ((hands_of member).progress.gathered ≡ true) }
+        requires desk { HasDesk (shows_of K.holds) (hands_of member).lasting
+            (hands_of member).pending (hands_of member).progress (boxes_of member) }
+        requires opened { (hands_of member).lasting.at_open ≡ self.now.size.at_open }
+        ensures same { IsSame member result.0 }
+        ensures give { MayGive (view_of result.0) }
+        ensures desk { HasDesk (shows_of K.holds) (hands_of result.0).lasting
+            (hands_of result.0).pending (hands_of result.0).progress (boxes_of result.0) }
+        ensures answer { MayAnswer member.number self.now.size.at_open (view_of member) result.1
+            (view_of result.0) }
+    {
+        let (mut member, progress) = self.progress(member);
+        if self.seek_current(&mut member, Order::Append) == LAST_GROUP {
+            return (member, Some(SyncAnswer::Rows(LAST_GROUP + 1)));
+        }
+        let (member, claimed) = self.claim_next(rt, member, progress);
+        let Some(start) = claimed else {
+            return (member, None);
+        };
+        let (member, answer) = self.bar_round(rt, alloc, member, start);
+        (member, Some(answer))
+    }
+
+    /// A round of a sync by a seat that has just taken the Sync turn. `None` where the last marker
+    /// was left without a barrier by the seat that claimed it, and no entry stands behind it.
+    pub fn sync_round<R: Wait>(
+        &self,
+        rt: &R,
+        alloc: Global,
+        member: Member<K>,
+    ) -> (Member<K>, Option<SyncAnswer>)
+        requires table { IsOf self.now.table.shared.table_id self.now.size member }
+        requires turn { MayGive (view_of member) × KnowsMarker (view_of member)
+            × ((hands_of member).swept ≡ 0) }
+        requires desk { HasDesk (shows_of K.holds) (hands_of member).lasting
+            (hands_of member).pending (hands_of member).progress (boxes_of member) }
+        requires opened { (hands_of member).lasting.at_open ≡ self.now.size.at_open }
+        ensures same { IsSame member result.0 }
+        ensures give { MayGive (view_of result.0) }
+        ensures desk { HasDesk (shows_of K.holds) (hands_of result.0).lasting
+            (hands_of result.0).pending (hands_of result.0).progress (boxes_of result.0) }
+        ensures answer { MayAnswer member.number self.now.size.at_open (view_of member) result.1
+            (view_of result.0) }
+    {
+        let (mut member, progress) = self.progress(member);
+        let since = self.look_since(&mut member, progress.marker);
+        let member = self.settled(rt, alloc, member, progress);
+        if since {
+            self.new_round(rt, alloc, member)
+        } else {
+            self.old_round(member, progress.marker)
+        }
+    }
+}
