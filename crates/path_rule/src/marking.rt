@@ -38,11 +38,7 @@ pub enum MarkerClaim {
 impl<K: Keeper, A: Allocator> PathTable<K, A> {
     // Whether an entry was claimed since the last marker. Where none was, all that the seat wrote
     // ends at or below where that marker starts.
-    pub(crate) fn look_since(
-        &self,
-        member: &mut Member<K>,
-        marker: Option<LastMarker>,
-    ) -> bool
+    pub(crate) fn look_since(&self, member: &mut Member<K>, marker: Option<LastMarker>) -> bool
         requires table { IsOf self.now.table.shared.table_id self.now.size member.old }
         requires marker { KnowsMarker (view_of member.old)
             × (marker ≡ (hands_of member.old).progress.marker) }

@@ -1,36 +1,6 @@
 -- Where the notes end that a seat deposited: each is a note of the state, so all end at or below the
 -- log key; and where no entry was claimed since the last marker, at or below where that one starts.
-use Rattle.std.proofs.Common.{
-  ◌≡◌,
-  ◌≢◌,
-  ℕ,
-  zero,
-  suc,
-  ◌-◌,
-  ◌<◌,
-  ◌≤◌,
-  ◌==◌,
-  cond,
-  not,
-  Bool,
-  true,
-  false,
-  List,
-  [],
-  ◌∷◌,
-  map,
-  length,
-  Option,
-  Some,
-  None,
-  IsTrue,
-  refl,
-  sym,
-  ap,
-  ◌∙◌,
-  subst,
-  arith,
-}
+use Rattle.std.proofs.Common.{◌≡◌, ◌≢◌, ℕ, ◌-◌, ◌≤◌, ◌==◌, cond, not, Bool, true, false, List, [], ◌∷◌, map, length, Option, Some, None, refl, sym, ap, ◌∙◌, subst, arith}
 use Rattle.std.specs.List.{Contains}
 use Rattle.std.specs.Option.{option_map, option_map_or}
 use Rattle.std.proofs.lemmas.Bool.{false≢true}
@@ -58,12 +28,11 @@ use Rattle.path_core.specs.declared.event.Event.TheVariants.{
 }
 use Rattle.path_core.specs.declared.note.EntryNote.{EntryNote}
 use Rattle.path_core.specs.declared.seat.LastMarker.{LastMarker}
-use Rattle.path_core.specs.declared.seat.SyncTurn.{SyncTurn}
 use Rattle.path_core.specs.declared.state.Claim.{Claim as ClaimOf}
 use Rattle.path_core.specs.declared.state.PathState.{PathState}
 use Rattle.path_core.specs.Allowed.{is_entry_last}
 use Rattle.path_core.specs.Holders.{behind_last}
-use Rattle.path_core.specs.Keys.{behind_marker, first_offset, offset_of}
+use Rattle.path_core.specs.Keys.{behind_marker, first_offset}
 use Rattle.path_core.specs.Lawful.{IsLawfulPath}
 use Rattle.path_core.specs.LawfulLog.{claim_in}
 use Rattle.path_core.specs.Next.{next_of}
@@ -71,7 +40,6 @@ use Rattle.path_core.specs.Parts.{no_claim, is_marker, is_marker_kind, kept_of, 
 use Rattle.path_core.specs.Runs.{Past}
 use Rattle.path_core.specs.Words.{by_of}
 use Rattle.path_core.proofs.lent.Beginnings.{note_at, entries_long}
-use Rattle.path_core.proofs.lent.Numbers.{IsEntryAt}
 use Rattle.path_core.proofs.lists.Inserted.{insert_new}
 use Rattle.path_core.proofs.log.EntrySinceMarker.{entry_since_marker, at_last}
 use Rattle.path_core.proofs.log.OwnNotes.{notes_stay}
