@@ -10,3 +10,4 @@ pub mod Handing
 pub mod Histories
 pub mod Accounted
 pub mod Outcomes
+pub mod SyncLists

@@ -5,3 +5,4 @@ pub mod Ends
 pub mod Opened
 pub mod Closed
 pub mod Turned
+pub mod Syncs

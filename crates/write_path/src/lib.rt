@@ -17,6 +17,7 @@ mod opening;
 mod prepared;
 mod resting;
 mod seats;
+mod syncing;
 mod turning;
 
 pub use claimed::Claimed;

@@ -39,7 +39,7 @@ use Rattle.path_rule.specs.declared.answer.SyncAnswer.TheVariants.{
 use Rattle.path_rule.specs.declared.view.OwnStep.{OwnStep}
 use Rattle.path_rule.specs.declared.view.View.{View}
 use Rattle.path_rule.specs.Calls.{Did}
-use Rattle.path_rule.specs.Rounds.{RoundSteps, EndsBelow, WroteBelow}
+use Rattle.path_rule.specs.Rounds.{RoundSteps, EndsBelow, WroteBelow, IsAtRest}
 use Rattle.path_rule.specs.SyncAnswers.{IsAnswer, Answers, MayAnswer, said_by}
 use Rattle.path_rule.specs.SyncEnd.{HasSynced, EndsSync, TellsFaults}
 use Rattle.path_rule.proofs.seats.RoundsGo.{one, one_as, both, still_wrote}
@@ -192,3 +192,21 @@ pub may_after : (w opened : ℕ) (a : Option SyncAnswer) (v u after : View) → 
     → MayAnswer w opened u a after → MayAnswer w opened v a after
 may_after w opened (Some a) v u after S A = answers_after w opened a v u after S A
 may_after w opened None v u after S A = both w [] [] v u after S A
+
+pub may_still : (w opened : ℕ) (a : Option SyncAnswer) (v u after : View)
+    → MayAnswer w opened v a u → RoundSteps w [] u after → after.part.found ≡ u.part.found
+    → MayAnswer w opened v a after
+may_still w opened (Some a) v u after A S same = answers_still w opened a v u after A S same
+may_still w opened None v u after A S same = both w [] [] v u after A S
+
+-- a seat at rest is so behind an answer
+pub may_rest : (w opened : ℕ) (a : Option SyncAnswer) (v after : View)
+    → MayAnswer w opened v a after → IsAtRest v.part → IsAtRest after.part
+may_rest w opened (Some a) v after A R = A.steps.rests R
+may_rest w opened None v after A R = A.rests R
+
+-- and what it tells stays of one size
+pub may_size : (w opened : ℕ) (a : Option SyncAnswer) (v after : View)
+    → MayAnswer w opened v a after → after.size ≡ v.size
+may_size w opened (Some a) v after A = A.steps.size
+may_size w opened None v after A = A.size

@@ -1,0 +1,67 @@
+use Rattle.std.proofs.Common.{refl, ap, ◌∙◌}
+use Rattle.atomic_table.specs.Table.{rest}
+use Rattle.path_core.specs.declared.event.Event.TheVariants.{Look}
+use Rattle.path_core.specs.declared.event.Place.TheVariants.{TurnWord}
+use Rattle.path_core.specs.declared.event.Turn.TheVariants.{Sync}
+use Rattle.path_rule.specs.declared.view.View.{View}
+use Rattle.path_rule.proofs.seats.Answering.{may_rest, may_size}
+use Rattle.path_rule.proofs.seats.RoundsGo.{one}
+use Rattle.path_rule.proofs.seats.SyncTaken.{taken_gives, taken_knows, taken_unswept}
+use Rattle.write_path.proofs.SyncLists.{tried}
+use Rattle.write_path.proofs.seats.WritePath.try_sync.Goals as goal
+
+pub returns-then-take_sync-ne0-clause-answer : goal.returns-then-take_sync-ne0-clause-answer
+returns-then-take_sync-ne0-clause-answer g c = let w = c.args.seat.member.number in
+    one w (Look w (TurnWord Sync)) c.take_sync.result _ _ refl
+    (c.take_sync.ensures.miss c.if-take_sync-ne0.true).0
+
+pub sync_round-member-requires-clause-turn : goal.sync_round-member-requires-clause-turn
+sync_round-member-requires-clause-turn g c =
+    let h = (c.take_sync.ensures.hit c.if-take_sync-ne0.false).0 in
+    let v = c.args.seat.member.seat.me.0 in let w = c.args.seat.member.number in (
+      taken_gives v _ w h.0 h.1 h.2 h.3 c.take_sync.ensures.empty,
+      taken_knows v _ w h.0 h.1 h.2 h.3,
+      taken_unswept v _ w h.0 h.1 h.2 h.3,
+    )
+
+pub invariant_of-result-2 : goal.invariant_of-result-2
+invariant_of-result-2 g c =
+    let h = (c.take_sync.ensures.hit c.if-take_sync-ne0.false).0 in
+    let T = c.take_sync.ensures in let S = c.sync_round-member in let G = c.give_sync.ensures in
+    let seat = c.args.seat in let opened = c.args.self.now.table.size.at_open in
+    let R = may_rest seat.member.number opened S.result.1 seat.member.seat.me.0 _
+    (tried seat.member.number _ _ opened _ _ S.result.1 _ _ _ _ h.3 T.same.1 S.ensures.answer
+    (S.ensures.same.1 ∙ T.same.1) G.step) (record {
+      idle = seat.idle;
+      unclaimed = seat.unclaimed;
+      flush = seat.free.flush;
+    }) in record {
+      idle = R.idle;
+      unclaimed = R.unclaimed;
+      free = record {
+        sync = ap (λ (u : View). u.part.sync) G.step.view;
+        flush = R.flush;
+      };
+      bare = G.same.2 ∙ ap (λ l. rest l) S.ensures.desk.1;
+    }
+
+pub returns-clause-same : goal.returns-clause-same
+returns-clause-same g c =
+    let h = (c.take_sync.ensures.hit c.if-take_sync-ne0.false).0 in
+    let T = c.take_sync.ensures in let S = c.sync_round-member in let G = c.give_sync.ensures in
+    let seat = c.args.seat in let opened = c.args.self.now.table.size.at_open in (
+      (
+        G.same.0 ∙ (S.ensures.same.0 ∙ (T.same.0 ∙ c.requires.0)),
+        may_size seat.member.number opened S.result.1 seat.member.seat.me.0 _
+            (tried seat.member.number _ _ opened _ _ S.result.1 _ _ _ _ h.3 T.same.1
+            S.ensures.answer (S.ensures.same.1 ∙ T.same.1) G.step) ∙ c.requires.1,
+      ),
+      G.same.1 ∙ (S.ensures.same.1 ∙ T.same.1),
+    )
+
+pub returns-clause-answer : goal.returns-clause-answer
+returns-clause-answer g c =
+    let h = (c.take_sync.ensures.hit c.if-take_sync-ne0.false).0 in
+    let T = c.take_sync.ensures in let S = c.sync_round-member in
+    tried c.args.seat.member.number _ _ c.args.self.now.table.size.at_open _ _ S.result.1 _ _ _ _
+    h.3 T.same.1 S.ensures.answer (S.ensures.same.1 ∙ T.same.1) c.give_sync.ensures.step
