@@ -1,4 +1,5 @@
 mod AllGo
+mod Begun
 mod Beside
 mod Changed
 mod Due

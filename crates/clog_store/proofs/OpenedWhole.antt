@@ -134,11 +134,12 @@ base_fits P moment base is low = elim is.base.one [
 pub at_rest : (first : Files) (files : Option Files) (moment : ℕ) (known : Known)
     → IsKnown files moment known → moment < 2 ^ 62 → (told : Option Files)
     (leaves : List ℕ → Option (List ℕ) → Type 0) → Told told (IsRecovered first known.base)
-    → Told told (λ now. IsSettled now leaves)
-    → Told told (λ now. IsAtRest now leaves known.base [] [])
-at_rest first files moment known is_known low None leaves recovered settled = absurd settled
-at_rest first files moment known is_known low (Some now) leaves recovered settled =
-    at_opening now leaves known.base (base_fits _ moment known.base is_known.base_is low) settled
+    → Told told (IsSameFolder first)
+    → Told told (λ now. LastsAll now leaves → IsAtRest now leaves known.base [] [])
+at_rest first files moment known is_known low None leaves recovered same = absurd same
+at_rest first files moment known is_known low (Some now) leaves recovered same = λ lasts.
+    at_opening now leaves known.base (base_fits _ moment known.base is_known.base_is low)
+    (record { exact = lasts; undamaged = same.undamaged })
     recovered.no_segment recovered.below
 
 pub exact_told : (told : Option Files) (leaves : List ℕ → Option (List ℕ) → Type 0)

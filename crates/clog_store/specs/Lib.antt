@@ -5,6 +5,7 @@ pub mod Filing
 pub mod Life
 pub mod Live
 pub mod Named
+pub mod NoteLog
 pub mod Notes
 pub mod OnDisk
 pub mod Opened

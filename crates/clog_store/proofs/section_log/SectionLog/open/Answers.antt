@@ -1,5 +1,5 @@
 use Rattle.clog_store.proofs.Ends.{end_opened}
-use Rattle.clog_store.proofs.store.Store.open.Goals as goal
+use Rattle.clog_store.proofs.section_log.SectionLog.open.Goals as goal
 
 pub begin-requires : goal.begin-requires
 begin-requires g c =

@@ -20,7 +20,7 @@ use Rattle.clog_store.proofs.Ends.{end_more}
 use Rattle.clog_store.proofs.Lived.{lives_from, lives_still}
 use Rattle.clog_store.proofs.LivedCalls.{lives_kept, lives_same, lives_torn}
 use Rattle.clog_store.proofs.Outcomes.{no_failure}
-use Rattle.clog_store.proofs.store.Store.keep.Goals as goal
+use Rattle.clog_store.proofs.section_log.SectionLog.keep.Goals as goal
 
 -- the disk is not called
 

@@ -19,7 +19,7 @@ use Rattle.clog_store.specs.Life.{Lives, LivesOn, State}
 use Rattle.clog_store.specs.Several.{written}
 use Rattle.clog_store.proofs.Lived.{lives_from}
 use Rattle.clog_store.proofs.LivedRolls.{lives_rolled}
-use Rattle.clog_store.proofs.store.Store.roll.Goals as goal
+use Rattle.clog_store.proofs.section_log.SectionLog.roll.Goals as goal
 
 pub returns-clause-lives : goal.returns-clause-lives
 returns-clause-lives g c lives =

@@ -2,7 +2,7 @@ use Rattle.std.proofs.Common.{◌∙◌, ℕ, take, drop, sym, subst}
 use Rattle.clog_store.specs.Life.{Lives, LivesOn, State}
 use Rattle.clog_store.proofs.Lived.{lives_from, lives_still, same_told}
 use Rattle.clog_store.proofs.LivedCalls.{lives_same, lives_settled, lives_stopped}
-use Rattle.clog_store.proofs.store.Store.settle.Goals as goal
+use Rattle.clog_store.proofs.section_log.SectionLog.settle.Goals as goal
 
 pub returns-then-self-clause-lives : goal.returns-then-self-clause-lives
 returns-then-self-clause-lives g c lives =

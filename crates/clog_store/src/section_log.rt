@@ -1,11 +1,12 @@
-//! A store of a log: sections of one segment after another. Where all that was there lasted before
-//! its opening, each image of a crash since then restores what the folder restored, and the first
-//! of the entries that the store was handed: `Lives`, which its opening begins and each call keeps.
-//! Each image since a call began restores all that lasted before it: `Outlives`. From the first
-//! fault of the disk on a store writes nothing.
+//! The log of a store: sections of one segment after another. Where all lasted at its opening, each
+//! image of a crash since then restores what the folder restored, and the first of the entries that
+//! the log was handed: `Lives`, which is an invariant of the type. Each image since a call began
+//! restores all that lasted before it: `Outlives`. From the first fault of the disk on it writes
+//! nothing.
 ghost use Rattle.std.specs.Prelude.{◌≡◌, ◌<◌, ◌^◌, ◌++◌, List, [], ◌∷◌, take, drop, length};
 ghost use Rattle.std.specs.Prelude.{IfErr, IfOk, IfSome, OnErr, OnOk, Some};
-ghost use Rattle.std.specs.Prelude.{Err, true, false};
+ghost use Rattle.std.specs.Prelude.{Err, true, false, option_map};
+ghost use Rattle.clog_spec.specs.Names.{segment_name_of};
 ghost use Rattle.clog_store.specs.declared.written.StoreFault.TheVariants.{Stopped as stopped};
 ghost use Rattle.clog_scan.specs.Cut.{Section};
 ghost use Rattle.clog_disk.specs.Files.{Files, SameTold, Told};
@@ -14,7 +15,12 @@ ghost use Rattle.clog_crash.specs.Rest.{IsAtRest};
 ghost use Rattle.clog_crash.specs.Sections.{Brings};
 ghost use Rattle.clog_folder.specs.Passing.{IsUntouched, TellsFault};
 ghost use Rattle.clog_store.specs.Life.{HasEnd, LastsNow, Lives, LivesOn, ShownSince};
-ghost use Rattle.clog_store.specs.Stepped.{Keeps, Settles, Writes};
+ghost use Rattle.clog_store.specs.Stepped.{
+  AddsBytes,
+  HasLogCause,
+  Keeps,
+  Settles,
+};
 ghost use Rattle.clog_store.specs.Opened.{
   HandsOn,
   KeepsFolder,
@@ -34,9 +40,9 @@ use std::alloc::Global;
 use std::marker::Model;
 use std::mem;
 
-/// A store of a log of several segments.
+/// A log of several segments over a disk.
 #[derive(Drop)]
-pub struct Store<D: Disk> {
+pub struct SectionLog<D: Disk> {
     disk: D,
     /// The disk's moment at the opening.
     opened: u64,
@@ -51,7 +57,7 @@ pub struct Store<D: Disk> {
     is_stopped: bool,
 }
 
-impl<D: Disk> Model for Store<D> {
+impl<D: Disk> Model for SectionLog<D> {
     ghost use Rattle.clog_store.specs.Life.{State, HasBegun};
 
     ghost Value = { State D };
@@ -66,8 +72,16 @@ impl<D: Disk> Model for Store<D> {
       is_stopped = s.is_stopped;
     } };
 
-    ghost invariant = { λ s. HasBegun D.files D.moment s.disk s.opened s.id s.size s.sections.items
-        s.synced s.is_stopped };
+    ghost invariant = { λ s. HasBegun D.files D.moment D.since D.leaves D.read_at D.lasted_at
+        (record {
+          disk = s.disk;
+          opened = s.opened;
+          past = s.past.items;
+          id = s.id;
+          sections = s.sections.items;
+          synced = s.synced;
+          is_stopped = s.is_stopped;
+        }) s.size };
 }
 
 // The last section goes, since nothing of it came onto the disk.
@@ -78,10 +92,12 @@ fn take_back(sections: &mut Vec<Written>)
     sections.pop();
 }
 
-impl<D: Disk> Store<D> {
-    // A store for a segment above all that the folder names.
-    fn begin(alloc: Global, disk: D, id: u64) -> Store<D>
+impl<D: Disk> SectionLog<D> {
+    // A log that begins with a segment above all that the folder names.
+    fn begin(alloc: Global, disk: D, id: u64) -> SectionLog<D>
         requires none { HasEnd (D.files disk) id 0 [] }
+        requires rests { IfSome (D.files disk) (λ f. LastsAll f (D.leaves disk)
+            → IsAtRest f (D.leaves disk) id [] []) }
         ensures disk { result.disk ≡ disk }
         ensures opened { result.opened ≡ D.moment disk }
         ensures past { result.past ≡ [] }
@@ -89,11 +105,9 @@ impl<D: Disk> Store<D> {
         ensures sections { result.sections ≡ [] }
         ensures synced { result.synced ≡ 0 }
         ensures runs { result.is_stopped ≡ false }
-        ensures lives { IfSome (D.files disk) (λ f. IsAtRest f (D.leaves disk) id [] [])
-            → Lives D.files D.moment D.since D.leaves D.read_at D.lasted_at result }
     {
         let opened = disk.moment_count();
-        Store {
+        SectionLog {
             disk,
             opened,
             past: Vec::new(alloc),
@@ -105,23 +119,28 @@ impl<D: Disk> Store<D> {
         }
     }
 
-    /// Opens a store: its folder is read and recovered, and its log goes on at the base. The moment
-    /// is one in milliseconds. For each refusal see `recover`; the disk comes back then.
+    /// Opens a folder: it is read and recovered, and its log goes on at the base. The moment is one
+    /// in milliseconds. For each refusal see `recover`; the disk comes back then.
     ///
     /// Whatever is answered, the folder restores the same, and so does each image of a crash
-    /// meanwhile where all that was there lasted before. From such an opening on the store lives.
-    pub fn open(alloc: Global, disk: D, moment: u64) -> Result<Store<D>, (D, OpenFault)>
+    /// meanwhile where all that was there lasted before; then all lasts at the opening too.
+    pub fn open(
+        alloc: Global,
+        disk: D,
+        moment: u64,
+    ) -> Result<SectionLog<D>, (D, OpenFault)>
         requires moment { moment < 2 ^ 62 }
-        ensures opens { IfOk result (λ store. OpensAs (D.files disk) (D.files store.disk) moment
-            store.id) }
-        ensures opened { IfOk result (λ store. store.opened ≡ D.moment store.disk) }
-        ensures past { IfOk result (λ store. store.past ≡ []) }
-        ensures sections { IfOk result (λ store. store.sections ≡ []) }
-        ensures synced { IfOk result (λ store. store.synced ≡ 0) }
-        ensures runs { IfOk result (λ store. store.is_stopped ≡ false) }
-        ensures quiet { IfOk result (λ store. D.faults store.disk ≡ D.faults disk) }
-        ensures lives { IfSome (D.files disk) (λ f. LastsAll f (D.leaves disk))
-            → IfOk result (Lives D.files D.moment D.since D.leaves D.read_at D.lasted_at) }
+        ensures opens { IfOk result (λ log. OpensAs (D.files disk) (D.files log.disk) moment
+            log.id) }
+        ensures opened { IfOk result (λ log. log.opened ≡ D.moment log.disk) }
+        ensures past { IfOk result (λ log. log.past ≡ []) }
+        ensures sections { IfOk result (λ log. log.sections ≡ []) }
+        ensures synced { IfOk result (λ log. log.synced ≡ 0) }
+        ensures runs { IfOk result (λ log. log.is_stopped ≡ false) }
+        ensures quiet { IfOk result (λ log. D.faults log.disk ≡ D.faults disk) }
+        ensures lasted { (first : Files) → D.files disk ≡ Some first
+            → LastsAll first (D.leaves disk)
+            → IfOk result (λ log. D.lasted_at log.disk log.opened) }
         ensures refused { IfErr result (λ back.
             OpenRefused (D.files disk) (D.faults disk) (D.faults back.0) back.1) }
         ensures alone { IfErr result (λ back. LeftAlone (IsUntouched D.files D.changes D.leaves
@@ -131,7 +150,7 @@ impl<D: Disk> Store<D> {
         ensures changes { (first : Files) → D.files disk ≡ Some first
             → HandsOn (λ now. RecoversFirst first (D.changes disk) (D.changes now)) result }
         ensures recovers { (first : Files) → D.files disk ≡ Some first
-            → IfOk result (λ store. RecoversAll first (D.changes disk) (D.changes store.disk)) }
+            → IfOk result (λ log. RecoversAll first (D.changes disk) (D.changes log.disk)) }
         ensures told { HandsOn (λ now. SameTold (D.files disk) (D.files now)) result }
         ensures later { HandsOn (IsLater D.moment D.read_at D.lasted_at disk) result }
         ensures keeps { (first : Files) → D.files disk ≡ Some first
@@ -142,19 +161,30 @@ impl<D: Disk> Store<D> {
     {
         let mut disk = disk;
         match recover(alloc, &mut disk, moment) {
-            Ok(base) => Ok(Store::begin(alloc, disk, base)),
+            Ok(base) => Ok(SectionLog::begin(alloc, disk, base)),
             Err(fault) => Err((disk, fault)),
         }
     }
 
-    // Puts one section more, whose bytes these are, behind those of the segment at hand. It is
-    // kept, and does not last yet.
-    fn keep(&mut self, section: Written, bytes: &[u8]) -> Result<(), StoreFault>
+    /// The disk's count of faults.
+    pub fn fault_count(&self) -> u64
+        ensures { result ≡ D.faults self.now.disk }
+    {
+        self.disk.fault_count()
+    }
+
+    /// Puts one section more, whose bytes these are, behind those of the segment at hand. It is
+    /// kept, and does not last yet.
+    pub fn keep(&mut self, section: Written, bytes: &[u8]) -> Result<(), StoreFault>
         requires brings { Brings self.old.id (take self.old.synced self.old.sections)
             (drop self.old.synced self.old.sections) (section ∷ []) bytes.now }
         ensures keeps { Keeps self.old self.new section result }
-        ensures stays { self.old.is_stopped ≡ true → (result ≡ Err stopped)
-            × (self.new.disk ≡ self.old.disk) }
+        ensures adds { AddsBytes (D.files self.old.disk) (D.files self.new.disk)
+            (D.changes self.old.disk) (D.changes self.new.disk) (segment_name_of 6 self.old.id)
+            bytes.now result }
+        ensures later { IsLater D.moment D.read_at D.lasted_at self.old.disk self.new.disk }
+        ensures cause { HasLogCause self.old.is_stopped (D.faults self.old.disk)
+            (D.faults self.new.disk) result }
         ensures lives { Lives D.files D.moment D.since D.leaves D.read_at D.lasted_at self.old
             → LivesOn D.files D.moment D.since D.leaves D.read_at D.lasted_at self.old self.new }
     {
@@ -178,9 +208,14 @@ impl<D: Disk> Store<D> {
         }
     }
 
-    // Makes the sections last that are kept.
-    fn settle(&mut self) -> Result<(), StoreFault>
+    /// Makes the sections last that are kept.
+    pub fn settle(&mut self) -> Result<(), StoreFault>
         ensures settles { Settles self.old self.new result }
+        ensures same { D.files self.new.disk ≡ D.files self.old.disk }
+        ensures quiet { D.changes self.new.disk ≡ D.changes self.old.disk }
+        ensures later { IsLater D.moment D.read_at D.lasted_at self.old.disk self.new.disk }
+        ensures cause { HasLogCause self.old.is_stopped (D.faults self.old.disk)
+            (D.faults self.new.disk) result }
         ensures lives { Lives D.files D.moment D.since D.leaves D.read_at D.lasted_at self.old
             → LivesOn D.files D.moment D.since D.leaves D.read_at D.lasted_at self.old self.new }
     {
@@ -200,23 +235,6 @@ impl<D: Disk> Store<D> {
         }
     }
 
-    /// Writes one section more, whose bytes these are, and makes it last, with those that were
-    /// kept. Where memory is refused the section is kept, or is not there.
-    pub fn write(&mut self, section: Written, bytes: &[u8]) -> Result<(), StoreFault>
-        requires brings { Brings self.old.id (take self.old.synced self.old.sections)
-            (drop self.old.synced self.old.sections) (section ∷ []) bytes.now }
-        ensures writes { Writes self.old self.new section result }
-        ensures lives { Lives D.files D.moment D.since D.leaves D.read_at D.lasted_at self.old
-            → LivesOn D.files D.moment D.since D.leaves D.read_at D.lasted_at self.old self.new }
-        ensures stays { self.old.is_stopped ≡ true → (result ≡ Err stopped)
-            × (self.new.disk ≡ self.old.disk) }
-    {
-        match self.keep(section, bytes) {
-            Ok(()) => self.settle(),
-            Err(fault) => Err(fault),
-        }
-    }
-
     /// The log goes on in a further segment, above the one at hand, all of whose sections last.
     pub fn roll(&mut self, alloc: Global, id: u64) -> Result<(), StoreFault>
         requires above { self.old.id < id }
@@ -230,7 +248,8 @@ impl<D: Disk> Store<D> {
           synced = 0;
         }) }
         ensures refused { OnErr result (self.new ≡ self.old) }
-        ensures stays { self.old.is_stopped ≡ true → result ≡ Err stopped }
+        ensures cause { HasLogCause self.old.is_stopped (D.faults self.old.disk)
+            (D.faults self.new.disk) result }
         ensures lives { Lives D.files D.moment D.since D.leaves D.read_at D.lasted_at self.old
             → OnOk result
             (LivesOn D.files D.moment D.since D.leaves D.read_at D.lasted_at self.old self.new) }
@@ -250,15 +269,14 @@ impl<D: Disk> Store<D> {
         Ok(())
     }
 
-    /// Gives the disk back. Of a store that lives each image since the opening restores what the
+    /// Gives the disk back. Where all lasted at the opening, each image since restores what the
     /// folder restored then and the first of the entries, and each image of now all that last.
     pub fn into_disk(self) -> D
         ensures disk { result ≡ self.disk }
-        ensures shown { Lives D.files D.moment D.since D.leaves D.read_at D.lasted_at self
-            → ShownSince D.files D.moment D.since D.read_at D.lasted_at result self.opened self.past
-            self.id
-            self.sections }
-        ensures lasts { Lives D.files D.moment D.since D.leaves D.read_at D.lasted_at self
+        ensures shown { D.lasted_at result self.opened
+            → ShownSince D.files D.moment D.since D.read_at D.lasted_at result self.opened
+            self.past self.id self.sections }
+        ensures lasts { D.lasted_at result self.opened
             → LastsNow D.files D.leaves D.read_at D.lasted_at self }
     {
         self.disk

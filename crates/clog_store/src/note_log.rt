@@ -1,0 +1,59 @@
+//! A log of notes: it makes the entries lasting that it is lent, in sections over segments, and
+//! keeps them in mind. Its sections hold just those notes, each at its place (`IsNoteLog`).
+//!
+//! After a sync that was refused for memory it keeps copies of what it was lent, since some of it
+//! may stand in its sections: the next sync begins with these and goes on behind what was written.
+ghost use Rattle.std.specs.Prelude.{◌≡◌, ◌<◌, ◌^◌, [], OnErr, OnOk, false};
+ghost use Rattle.clog_disk.specs.Images.{IsLater};
+ghost use Rattle.clog_store.specs.Life.{Lives, LivesOn};
+ghost use Rattle.clog_store.specs.NoteLog.{HasRefused, HasSynced, LeavesOthers, MayLog};
+ghost use Rattle.clog_store.specs.Stepped.{HasLogCause};
+
+use crate::section_log::SectionLog;
+use crate::written::StoreFault;
+use clog_base::{Key, Sizes};
+use clog_disk::Disk;
+use path_core::EntryNote;
+use std::marker::Model;
+
+/// A log of notes over a disk (what Cassandra's `AbstractCommitLogSegmentManager` writes).
+#[derive(Drop)]
+pub(crate) struct NoteLog<D: Disk> {
+    log: SectionLog<D>,
+    /// The id of the segment of ordinal 0.
+    base: u64,
+    sizes: Sizes,
+    /// The start of the last sync's marker, 0 before the first.
+    synced: u64,
+    logged: Vec<EntryNote>,
+    /// Copies of the notes of a sync that was refused.
+    kept: Vec<EntryNote>,
+    /// How many of these stand in the log's sections.
+    written: usize,
+}
+
+impl<D: Disk> Model for NoteLog<D> {
+    ghost use Rattle.clog_store.specs.NoteLog.{IsNoteLog, NoteState};
+
+    ghost Value = { NoteState D };
+
+    ghost view = { λ s. record {
+      log = s.log;
+      base = s.base;
+      sizes = s.sizes;
+      synced = s.synced;
+      logged = s.logged.items;
+      kept = s.kept.items;
+      written = s.written;
+    } };
+
+    ghost invariant = { λ s. IsNoteLog (record {
+      log = s.log;
+      base = s.base;
+      sizes = s.sizes;
+      synced = s.synced;
+      logged = s.logged.items;
+      kept = s.kept.items;
+      written = s.written;
+    }) };
+}
