@@ -6,6 +6,7 @@ pub mod Life
 pub mod Live
 pub mod Named
 pub mod NoteLog
+pub mod NoteSections
 pub mod Notes
 pub mod OnDisk
 pub mod Opened

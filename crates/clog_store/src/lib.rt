@@ -11,14 +11,15 @@ mod log_cells;
 mod naming;
 mod next;
 mod note_log;
+mod note_sections;
 mod noting;
 mod opening;
 mod publishing;
 mod recovering;
 mod recovery_files;
+mod section_log;
 mod sections;
 mod segments;
-mod section_log;
 mod table_log;
 #[cfg(test)]
 mod tests;
@@ -33,7 +34,7 @@ pub use noting::{a_note_tells_its_place, four_notes_are_three_sections, notes_ar
 pub use opening::recover;
 pub use publishing::{Published, publish_file, what_may_be_published_is_true};
 pub use recovering::{put_recovered, take_all_recovered, take_recovered};
+pub use section_log::SectionLog;
 pub use sections::{keep_sections, put_sections, settle_sections};
 pub use segments::{Part, put_all, put_segments};
-pub use section_log::SectionLog;
 pub use written::{PastSegment, StoreFault, Written};

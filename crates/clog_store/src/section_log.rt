@@ -3,7 +3,7 @@
 //! the log was handed: `Lives`, which is an invariant of the type. Each image since a call began
 //! restores all that lasted before it: `Outlives`. From the first fault of the disk on it writes
 //! nothing.
-ghost use Rattle.std.specs.Prelude.{◌≡◌, ◌<◌, ◌^◌, ◌++◌, List, [], ◌∷◌, take, drop, length};
+ghost use Rattle.std.specs.Prelude.{◌≡◌, ◌<◌, ◌≤◌, ◌^◌, ◌++◌, List, [], ◌∷◌, take, drop, length};
 ghost use Rattle.std.specs.Prelude.{IfErr, IfOk, IfSome, OnErr, OnOk, Some};
 ghost use Rattle.std.specs.Prelude.{Err, true, false, option_map};
 ghost use Rattle.clog_spec.specs.Names.{segment_name_of};
@@ -12,7 +12,7 @@ ghost use Rattle.clog_scan.specs.Cut.{Section};
 ghost use Rattle.clog_disk.specs.Files.{Files, SameTold, Told};
 ghost use Rattle.clog_disk.specs.Images.{IsLater, LastsAll, LeavesOnly};
 ghost use Rattle.clog_crash.specs.Rest.{IsAtRest};
-ghost use Rattle.clog_crash.specs.Sections.{Brings};
+ghost use Rattle.clog_crash.specs.Sections.{Brings, IsStored};
 ghost use Rattle.clog_folder.specs.Passing.{IsUntouched, TellsFault};
 ghost use Rattle.clog_store.specs.Life.{HasEnd, LastsNow, Lives, LivesOn, ShownSince};
 ghost use Rattle.clog_store.specs.Stepped.{
@@ -124,11 +124,7 @@ impl<D: Disk> SectionLog<D> {
     ///
     /// Whatever is answered, the folder restores the same, and so does each image of a crash
     /// meanwhile where all that was there lasted before; then all lasts at the opening too.
-    pub fn open(
-        alloc: Global,
-        disk: D,
-        moment: u64,
-    ) -> Result<SectionLog<D>, (D, OpenFault)>
+    pub fn open(alloc: Global, disk: D, moment: u64) -> Result<SectionLog<D>, (D, OpenFault)>
         requires moment { moment < 2 ^ 62 }
         ensures opens { IfOk result (λ log. OpensAs (D.files disk) (D.files log.disk) moment
             log.id) }
@@ -280,5 +276,22 @@ impl<D: Disk> SectionLog<D> {
             → LastsNow D.files D.leaves D.read_at D.lasted_at self }
     {
         self.disk
+    }
+
+    /// The id of the segment that it writes, which can hold its sections while the disk has not
+    /// failed.
+    pub(crate) fn id(&self) -> u64
+        ensures id { result ≡ self.now.id }
+        ensures few { self.now.synced ≤ length self.now.sections }
+        ensures stored { self.now.is_stopped ≡ false → IsStored self.now.id self.now.sections }
+    {
+        self.id
+    }
+
+    /// Whether the disk has failed.
+    pub(crate) fn is_stopped(&self) -> bool
+        ensures { result ≡ self.now.is_stopped }
+    {
+        self.is_stopped
     }
 }
