@@ -15,26 +15,28 @@ use Rattle.std.proofs.Common.{
   IfSome,
   refl,
   sym,
+  ap,
   subst,
   inl,
   inr,
   arith,
 }
-use Rattle.std.specs.Prelude.{◌↔◌, ◌<◌, Contains, option_map}
+use Rattle.std.specs.Prelude.{◌↔◌, ◌⊎◌, ◌<◌, ◌^◌, Bool, Contains, option_map}
 use Rattle.std.proofs.lemmas.List.Elements.{Contains-push_cases}
 use Rattle.clog_disk.specs.Files.{Files, bytes_at}
-use Rattle.clog_disk.specs.Images.{IsImage, LastsAll}
+use Rattle.clog_disk.specs.Images.{IsImage, IsLater, LastsAll}
 use Rattle.clog_scan.specs.Cut.{Section}
 use Rattle.clog_crash.specs.Log.{Write}
 use Rattle.clog_crash.specs.Readings.{Reading}
 use Rattle.clog_crash.specs.Rest.{IsAtRest}
 use Rattle.clog_crash.specs.Sections.{IsStored}
-use Rattle.clog_store.specs.Life.{HasBegun, HasEnd, Lives}
+use Rattle.clog_store.specs.Life.{HasBegun, HasEnd, Lives, LivesOn, State}
 use Rattle.clog_store.specs.Several.{written}
+use Rattle.clog_store.proofs.Ends.{end_rolled}
 use Rattle.clog_store.proofs.Lived.{lives_at_first, rest_at_first}
 
 none_below : (w : Write) (P : Type 0) → Contains [] w → P
-none_below w P among = elim among [ ]
+none_below w P among = absurd (omega (arith, among.1))
 
 module _ {D : Type 0} (files : D → Option Files) (moment : D → ℕ)
     (since : D → ℕ → Files → Type 0) (leaves : D → List ℕ → Option (List ℕ) → Type 0)
@@ -81,3 +83,74 @@ module _ {D : Type 0} (files : D → Option Files) (moment : D → ℕ)
         synced = 0;
         is_stopped = false;
       })
+
+  -- a call by which the log stays in its segment
+  pub begun_on : (s : State D) (size : ℕ) (disk : D) (sections : List Section) (synced : ℕ)
+      (stopped : Bool) (size_now : ℕ)
+      → HasBegun files moment since leaves read_at lasted_at s size
+      → IsLater moment read_at lasted_at s.disk disk → synced ≤ length sections
+      → (stopped ≡ false → HasEnd (files disk) s.id size_now sections)
+      → (Lives files moment since leaves read_at lasted_at s
+      → LivesOn files moment since leaves read_at lasted_at s (record s {
+        disk = disk;
+        sections = sections;
+        synced = synced;
+        is_stopped = stopped;
+      }))
+      → HasBegun files moment since leaves read_at lasted_at (record s {
+        disk = disk;
+        sections = sections;
+        synced = synced;
+        is_stopped = stopped;
+      }) size_now
+  begun_on s size disk sections synced stopped size_now begun later few ends on = record {
+    began = omega (arith, begun.began, later.no_sooner);
+    few = few;
+    past_below = begun.past_below;
+    past_stored = begun.past_stored;
+    ends = ends;
+    lives = λ lasted. (on (begun.lives ((later.lasted_then s.opened begun.began).0 lasted))).lives;
+  }
+
+  -- it goes on in a further segment
+  pub begun_rolled : (s : State D) (size next : ℕ) (past : List Write) (sections : List Section)
+      → past ≡ s.past ++ written s.id s.sections ∷ [] → sections ≡ [] → s.id < next
+      → next < 2 ^ 63 → s.is_stopped ≡ false
+      → HasBegun files moment since leaves read_at lasted_at s size
+      → (Lives files moment since leaves read_at lasted_at s
+      → LivesOn files moment since leaves read_at lasted_at s (record s {
+        past = past;
+        id = next;
+        sections = sections;
+        synced = 0;
+      }))
+      → HasBegun files moment since leaves read_at lasted_at (record s {
+        past = past;
+        id = next;
+        sections = sections;
+        synced = 0;
+      }) 0
+  begun_rolled s size next past sections past_is none over limit runs begun on = record {
+    began = begun.began;
+    few = omega arith;
+    past_below = λ w among. elim (last_or w among) [
+      | inl before ↦ let low = begun.past_below w before in omega (arith, low, over)
+      | inr same ↦ omega (arith, ap (λ (x : Write). x.id) same, over)
+    ];
+    past_stored = λ w among. elim (last_or w among) [
+      | inl before ↦ begun.past_stored w before
+      | inr same ↦ subst (λ (x : Write). IsStored x.id x.sections) same end.stored
+    ];
+    ends = λ still. subst (λ (l : List Section). HasEnd (files s.disk) next 0 l) (sym none)
+        (end_rolled (files s.disk) s.id next size s.sections over limit end);
+    lives = λ lasted. (on (begun.lives lasted)).lives;
+  }
+    where
+      end : HasEnd (files s.disk) s.id size s.sections
+      end = begun.ends runs
+
+      last_or : (w : Write) → Contains past w
+          → Contains s.past w ⊎ (written s.id s.sections ≡ w)
+      last_or w among =
+          Contains-push_cases s.past (written s.id s.sections) w
+          (subst (λ (l : List Write). Contains l w) past_is among)

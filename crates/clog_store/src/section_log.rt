@@ -197,10 +197,11 @@ impl<D: Disk> SectionLog<D> {
                 take_back(&mut self.sections);
                 Err(StoreFault::OutOfMemory)
             }
-            Err(_) => {
+            Err(DiskFault::Failed) => {
                 self.is_stopped = true;
                 Err(StoreFault::Stopped)
             }
+            Err(DiskFault::NoSuchFile) => unreachable!(),
         }
     }
 
@@ -218,16 +219,20 @@ impl<D: Disk> SectionLog<D> {
         if self.is_stopped {
             return Err(StoreFault::Stopped);
         }
+        if self.synced == self.sections.len() {
+            return Ok(());
+        }
         match settle_sections(&mut self.disk, self.id) {
             Ok(()) => {
                 self.synced = self.sections.len();
                 Ok(())
             }
             Err(DiskFault::OutOfMemory) => Err(StoreFault::OutOfMemory),
-            Err(_) => {
+            Err(DiskFault::Failed) => {
                 self.is_stopped = true;
                 Err(StoreFault::Stopped)
             }
+            Err(DiskFault::NoSuchFile) => unreachable!(),
         }
     }
 
