@@ -7,6 +7,7 @@ pub mod Live
 pub mod Named
 pub mod NoteLog
 pub mod NoteSections
+pub mod NoteSteps
 pub mod Notes
 pub mod OnDisk
 pub mod Opened

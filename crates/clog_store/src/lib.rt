@@ -12,6 +12,7 @@ mod naming;
 mod next;
 mod note_log;
 mod note_sections;
+mod note_steps;
 mod noting;
 mod opening;
 mod publishing;

@@ -1,9 +1,18 @@
 //! Notes of entries as sections: how many of them stand end to end, and their bytes and payloads.
-ghost use Rattle.std.specs.Prelude.{◌≡◌, ◌<◌, IfOk, length};
-ghost use Rattle.clog_store.specs.NoteSections.{AreOneSection, bytes_in, payloads_in};
+ghost use Rattle.std.specs.Prelude.{◌≡◌, ◌+◌, ◌<◌, ◌≤◌, IfOk, length};
+ghost use Rattle.clog_spec.specs.Sizes.{greatest_capacity};
+ghost use Rattle.clog_crash.specs.Sections.{next_bytes};
+ghost use Rattle.clog_store.specs.NoteSections.{
+  AreOneSection,
+  bytes_in,
+  payloads_in,
+  size_before,
+};
 ghost use Rattle.clog_store.specs.Notes.{payload_in};
 
-use clog_base::{Bytes, FRAME_SIZE};
+use crate::next::bytes_of_next;
+use crate::written::Written;
+use clog_base::{Bytes, FRAME_SIZE, FRONT_SIZE, MARKER_SIZE};
 use clog_entry::ENTRY_FRONT_SIZE;
 use path_core::EntryNote;
 use std::alloc::{AllocError, Global};
@@ -74,4 +83,38 @@ pub(crate) fn copies_of(alloc: Global, notes: &[EntryNote]) -> Result<Vec<EntryN
         copies.push(copy_of(alloc, note)?)?;
     }
     Ok(copies)
+}
+
+// ---- the next section
+
+// The length of the segment's file in front of the section.
+fn size_of(at: u32) -> u32
+    ensures { result ≡ size_before at }
+{
+    if at == FRONT_SIZE as u32 {
+        0
+    } else {
+        at.saturating_sub(MARKER_SIZE as u32)
+    }
+}
+
+// The section whose first entry stands at an offset, and the bytes that bring it.
+pub(crate) fn section_of(
+    alloc: Global,
+    id: u64,
+    at: u32,
+    notes: &[EntryNote],
+) -> Result<(Written, Vec<u8>), AllocError>
+    requires room { at + length (bytes_in notes.now) ≤ greatest_capacity }
+    ensures { IfOk result (λ made.
+        (made.0 ≡ record { until = at + length (bytes_in notes.now); payloads = payloads_in notes.now })
+        × (made.1.items ≡ next_bytes id (size_before at) (bytes_in notes.now))) }
+{
+    let entries = bytes_of(alloc, notes)?;
+    let bytes = bytes_of_next(alloc, id, size_of(at), &entries)?;
+    let section = Written {
+        until: u64::from(at) + entries.len() as u64,
+        payloads: payloads_of(alloc, notes)?,
+    };
+    Ok((section, bytes))
 }
