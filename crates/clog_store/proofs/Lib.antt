@@ -15,6 +15,7 @@ mod Lived
 mod LivedCalls
 mod LivedRolls
 pub mod Looking
+mod NoteGoes
 mod NoteRuns
 mod Noted
 mod OnDisk

@@ -41,7 +41,7 @@ use Rattle.clog_spec.proofs.Bytes.{append-IsBytes, bytes-nil}
 use Rattle.clog_spec.proofs.StoredBytes.{entry-IsBytes}
 use Rattle.clog_base.specs.declared.sizes.Sizes.{Sizes}
 use Rattle.clog_base.specs.Positions.{ordinal_of, offset_of}
-use Rattle.clog_base.proofs.Members.{further, here}
+use Rattle.clog_base.proofs.Members.{further, here, nothing_there}
 use Rattle.clog_mutation.specs.declared.mutation.Mutation.{Mutation}
 use Rattle.clog_mutation.specs.Payload.{payload_of}
 use Rattle.clog_mutation.specs.Stored.{IsPayload}
@@ -79,7 +79,7 @@ use Rattle.clog_store.specs.Notes.{payload_in, place_of, places_of}
 use Rattle.clog_store.proofs.Noted.{IsPlaced, is_placed, payload_is}
 
 -- a keeper that has nothing but these sizes
-bare : ℕ → Sizes → Holding
+abbrev pub bare : ℕ → Sizes → Holding
 bare base sizes = record {
   base = base;
   sizes = sizes;
@@ -96,16 +96,13 @@ bare base sizes = record {
   archived = [];
 }
 
-none_among : (k : ℕ) → Contains [] k → ⊥
-none_among k among = elim among [ ]
-
 module _ (base : ℕ) (sizes : Sizes) where
   pub placed_good : (n : EntryNote) → IsGood sizes n → IsPlaced (bare base sizes) n
   placed_good n good = is_placed (bare base sizes) n (record {
     whole = good.whole;
     in_segment = good.in_segment;
     segment_is = good.segment_is;
-    not_dropped = λ among. none_among (ordinal_of n.start.0) among;
+    not_dropped = λ among. nothing_there (ordinal_of n.start.0) among;
   })
 
   abbrev pub AllGood : List EntryNote → Type 0
@@ -192,7 +189,7 @@ module _ (base : ℕ) (sizes : Sizes) where
 
   pub all_said : (notes : List EntryNote) → AllGood notes → (payload : List ℕ)
       → Contains (payloads_in notes) payload → (mutation : Mutation) × IsPayload payload mutation
-  all_said [] good payload among = elim among [ ]
+  all_said [] good payload among = absurd (nothing_there payload among)
   all_said (n ∷ ns) good payload among =
       elim (first_or_later (payload_in n.bytes) payload (payloads_in ns) among) [
         | inl is ↦ subst (λ (p : List ℕ). (mutation : Mutation) × IsPayload p mutation) is
@@ -252,9 +249,9 @@ size_is id (s ∷ ss) at stored behind =
 -- ---- what brings them
 
 pub first_is : (notes : List EntryNote) (n : EntryNote) → 0 < length notes
-    → n ≡ get_or notes 0 n → n.start.0 ≡ first_start notes
-first_is [] n some is = absurd (omega (arith, some))
-first_is (m ∷ ms) n some is = ap (λ (k : EntryNote). k.start.0) is
+    → (get_or notes 0 n).start.0 ≡ first_start notes
+first_is [] n some = absurd (omega (arith, some))
+first_is (m ∷ ms) n some = refl
 
 module _ {D : Type 0} (base : ℕ) (log : State D) (notes : List EntryNote)
     (may : MayBeNext base log notes) (at : ℕ) (starts : at ≡ offset_of (first_start notes)) where

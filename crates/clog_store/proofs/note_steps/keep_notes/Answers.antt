@@ -1,8 +1,9 @@
-use Rattle.std.proofs.Common.{◌≡◌, ◌∙◌, ◌+◌, ap, sym, subst, length}
+use Rattle.std.proofs.Common.{◌≡◌, ◌∙◌, ℕ, ap, subst}
 use Rattle.clog_base.specs.declared.position.Position.{Position}
 use Rattle.clog_base.specs.Positions.{offset_of}
 use Rattle.clog_scan.specs.Cut.{Section}
-use Rattle.clog_store.specs.NoteSections.{bytes_in, first_start, payloads_in}
+use Rattle.clog_crash.specs.Sections.{next_bytes}
+use Rattle.clog_store.specs.NoteSections.{bytes_in, first_start, size_before}
 use Rattle.clog_store.specs.Stepped.{Keeps}
 use Rattle.clog_store.proofs.NoteRuns.{brings, first_is, next_is, room}
 use Rattle.clog_store.proofs.note_steps.keep_notes.Goals as goal
@@ -12,7 +13,7 @@ section_of-requires g c =
     let notes = c.args.notes.now in
     let at : c.position-at.result.offset ≡ offset_of (first_start notes) =
     ap (λ (p : Position). p.offset) c.position-at.ensures
-    ∙ ap offset_of (first_is notes c.index-notes-0.result c.requires.next.some c.index-notes-0.is)
+    ∙ ap offset_of (first_is notes c.index-notes-0.result c.requires.next.some)
     in record {
       room = room c.args.base c.args.log.now notes c.requires.next c.position-at.result.offset at;
     }
@@ -22,12 +23,21 @@ keep-requires g c =
     let notes = c.args.notes.now in
     let at : c.position-at.result.offset ≡ offset_of (first_start notes) =
     ap (λ (p : Position). p.offset) c.position-at.ensures
-    ∙ ap offset_of (first_is notes c.index-notes-0.result c.requires.next.some c.index-notes-0.is)
+    ∙ ap offset_of (first_is notes c.index-notes-0.result c.requires.next.some)
     in record {
       brings = brings c.args.base c.args.log.now notes c.requires.next c.position-at.result.offset at
           c.in-Ok.section c.in-Ok.ensures.0 (c.id.ensures.stored c.requires.runs) c.deref.result.now
-          (c.deref.ensures.value ∙ c.in-Ok.ensures.1 ∙ ?);
+          (c.deref.ensures.value ∙ c.in-Ok.ensures.1
+          ∙ ap (λ (k : ℕ). next_bytes k (size_before c.position-at.result.offset) (bytes_in notes))
+          c.id.ensures.id);
     }
 
 pub returns-in-Ok-clause-keeps : goal.returns-in-Ok-clause-keeps
-returns-in-Ok-clause-keeps g c = ?
+returns-in-Ok-clause-keeps g c =
+    let notes = c.args.notes.now in
+    let at : c.position-at.result.offset ≡ offset_of (first_start notes) =
+    ap (λ (p : Position). p.offset) c.position-at.ensures
+    ∙ ap offset_of (first_is notes c.index-notes-0.result c.requires.next.some) in
+    subst (λ (s : Section). Keeps c.args.log.now c.keep.new.self s c.keep.result)
+    (next_is c.args.base c.args.log.now notes c.requires.next c.position-at.result.offset at
+    c.in-Ok.section c.in-Ok.ensures.0) c.keep.ensures.keeps

@@ -121,11 +121,11 @@ invariant_of-self g c =
     let len = c.len-self-inside.ensures ∙ s.sections.ok.0 in
     begun_on D.files D.moment D.since D.leaves D.read_at D.lasted_at before s.size new ss
     c.len-self-inside.result s.is_stopped s.size c.self.invariant c.settle_sections.ensures.later
-        (omega (arith, len))
+    (omega (arith, len))
     (λ runs. end_same (D.files s.disk) (D.files new) s.id s.size ss
     c.settle_sections.ensures.same (c.self.invariant.ends runs))
     (λ lived. subst (λ (k : ℕ). LivesOn D.files D.moment D.since D.leaves D.read_at D.lasted_at
-        before
+    before
     (record before { disk = new; synced = k })) (sym len)
     (lives_settled D.files D.moment D.since D.leaves D.read_at D.lasted_at before new
     c.if-self.false lived
@@ -154,7 +154,7 @@ invariant_of-self-in-Err-OutOfMemory g c =
     let told = same_told (D.files s.disk) (D.files new) c.settle_sections.ensures.same in
     begun_on D.files D.moment D.since D.leaves D.read_at D.lasted_at before s.size new ss
     s.synced s.is_stopped s.size c.self.invariant c.settle_sections.ensures.later
-        c.self.invariant.few
+    c.self.invariant.few
     (λ runs. end_same (D.files s.disk) (D.files new) s.id s.size ss
     c.settle_sections.ensures.same (c.self.invariant.ends runs))
     (λ lived. lives_same D.files D.moment D.since D.leaves D.read_at D.lasted_at before new
