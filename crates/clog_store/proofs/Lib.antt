@@ -20,6 +20,8 @@ mod NoteRuns
 mod Noted
 mod OnDisk
 pub mod OpenedWhole
+mod OtherFiles
+mod OtherFiles
 mod Outcomes
 mod Picking
 mod Ready

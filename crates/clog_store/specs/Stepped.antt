@@ -74,6 +74,13 @@ pub record AddsBytes {T : Type 0} (told now : Option Files) (before after : Opti
   pub appends : OnOk result (AppendsTo told now name bytes)
   pub same : result ≡ Err OutOfMemory → now ≡ told
 
+-- A call that puts or removes other files changes nothing of the log, but that the disk may have
+-- failed in it.
+abbrev pub Passes : {D T : Type 0} → State D → State D → Result T StoreFault → Type 0
+Passes before now (Ok done) = IsAsBefore before now
+Passes before now (Err OutOfMemory) = IsAsBefore before now
+Passes before now (Err Stopped) = now ≡ record before { disk = now.disk; is_stopped = true }
+
 -- Why a log did not do what it was called for: the disk has failed, in this call or before; of this
 -- its count tells. Else it counted none.
 abbrev pub HasLogCause : {T : Type 0} → Bool → ℕ → ℕ → Result T StoreFault → Type 0

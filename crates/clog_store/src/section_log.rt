@@ -31,6 +31,8 @@ ghost use Rattle.clog_store.specs.Opened.{
   RecoversFirst,
 };
 
+mod files;
+
 use crate::opening::recover;
 use crate::sections::{keep_sections, settle_sections};
 use crate::written::{PastSegment, StoreFault, Written};
