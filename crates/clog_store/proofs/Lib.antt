@@ -15,8 +15,12 @@ mod Lived
 mod LivedCalls
 mod LivedRolls
 pub mod Looking
+mod NoteCuts
 mod NoteGoes
+mod NoteHeld
+mod NoteNext
 mod NoteRuns
+mod NoteSettled
 mod Noted
 mod OnDisk
 pub mod OpenedWhole

@@ -253,17 +253,33 @@ pub first_is : (notes : List EntryNote) (n : EntryNote) → 0 < length notes
 first_is [] n some = absurd (omega (arith, some))
 first_is (m ∷ ms) n some = refl
 
+pub low_start : {D : Type 0} (base : ℕ) (log : State D) (notes : List EntryNote)
+    → MayBeNext base log notes → offset_of (first_start notes) ≤ 33554432
+low_start base log notes may = by notes may.some may.good
+  where
+    by : (ns : List EntryNote) → 0 < length ns
+        → ((n : EntryNote) → Contains ns n → IsGood may.sizes n)
+        → offset_of (first_start ns) ≤ 33554432
+    by [] some good = absurd (omega (arith, some))
+    by (n ∷ ns) some good =
+        omega (arith, (placed_good base may.sizes n (good n (here n ns))).inside)
+
+pub some_bytes : {D : Type 0} (base : ℕ) (log : State D) (notes : List EntryNote)
+    → MayBeNext base log notes → 0 < length (bytes_in notes)
+some_bytes base log notes may = by notes may.some may.good
+  where
+    by : (ns : List EntryNote) → 0 < length ns
+        → ((n : EntryNote) → Contains ns n → IsGood may.sizes n) → 0 < length (bytes_in ns)
+    by [] some good = absurd (omega (arith, some))
+    by (n ∷ ns) some good =
+        let p = placed_good base may.sizes n (good n (here n ns)) in
+        let end = p.end in
+        omega (arith, end, length-append n.bytes (bytes_in ns))
+
 module _ {D : Type 0} (base : ℕ) (log : State D) (notes : List EntryNote)
     (may : MayBeNext base log notes) (at : ℕ) (starts : at ≡ offset_of (first_start notes)) where
   low : offset_of (first_start notes) ≤ 33554432
-  low = by notes may.some may.good
-    where
-      by : (ns : List EntryNote) → 0 < length ns
-          → ((n : EntryNote) → Contains ns n → IsGood may.sizes n)
-          → offset_of (first_start ns) ≤ 33554432
-      by [] some good = absurd (omega (arith, some))
-      by (n ∷ ns) some good =
-          omega (arith, (placed_good base may.sizes n (good n (here n ns))).inside)
+  low = low_start base log notes may
 
   pub room : at + length (bytes_in notes) ≤ 33554432
   room = omega (

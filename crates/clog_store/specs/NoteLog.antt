@@ -17,6 +17,7 @@ use Rattle.std.specs.Prelude.{
   Option,
   Some,
   false,
+  ⊤,
 }
 use Rattle.std.specs.List.{Contains}
 use Rattle.std.specs.List.Sorted.{IsPermutation}
@@ -71,7 +72,7 @@ end_behind key (n ∷ ns) = end_behind n.end.0 ns
 abbrev pub EndsAt : {D : Type 0} → ℕ → State D → ℕ → Type 0
 EndsAt base log key =
     ((log.id ≡ base + ordinal_of key) × (last_until header_size log.sections ≡ offset_of key)
-    × (0 < length log.sections))
+    × (0 < length log.sections) × (0 < key))
     ⊎ ((log.sections ≡ []) × (((key ≡ 0) × (log.id ≡ base)) ⊎ (base + ordinal_of key < log.id)))
 
 -- What lasts of it reaches a key.
@@ -80,6 +81,16 @@ Reaches base log key =
     (base + ordinal_of key < log.id)
     ⊎ ((log.id ≡ base + ordinal_of key)
     × (offset_of key ≤ last_until header_size (take log.synced log.sections)))
+
+-- the first of these notes does not start at a key
+abbrev pub IsApart : ℕ → List EntryNote → Type 0
+IsApart key [] = ⊤
+IsApart key (n ∷ ns) = n.start.0 ≡ key → ⊥
+
+-- the first of these notes stands in the segment of an id
+abbrev pub BeginsIn : ℕ → ℕ → List EntryNote → Type 0
+BeginsIn base id [] = ⊤
+BeginsIn base id (n ∷ ns) = id ≡ base + ordinal_of n.start.0
 
 -- What is true while the disk has not failed.
 pub record IsHeld {D : Type 0} (s : NoteState D) : Type 0 where
@@ -92,7 +103,13 @@ pub record IsHeld {D : Type 0} (s : NoteState D) : Type 0 where
       (s.logged ++ take lasting s.kept)
   pub settled : lasting ≡ s.written → s.log.synced ≡ length s.log.sections
   pub reaches : Reaches s.base s.log s.synced
+  -- the log ends where the last of these notes does
+  pub forward : s.synced ≤ end_behind s.synced (take s.written s.kept)
   pub ends : EndsAt s.base s.log (end_behind s.synced (take s.written s.kept))
+  -- and what is kept besides goes on behind it, with a marker between; where the segment at hand
+  -- has no section, it is the segment of this
+  pub apart : IsApart (end_behind s.synced (take s.written s.kept)) (drop s.written s.kept)
+  pub begins : s.log.sections ≡ [] → BeginsIn s.base s.log.id (drop s.written s.kept)
 
 -- What a log of notes keeps.
 pub record IsNoteLog {D : Type 0} (s : NoteState D) : Type 0 where
@@ -114,15 +131,14 @@ pub record HasLog {D : Type 0} (s : NoteState D) (h : Holding) : Type 0 where
   pub kept_are : h.kept ≡ s.kept
 
 -- The pending notes up to the key may be written, as a keeper with this log is asked to; where the
--- segment at hand has no section, those that are not written yet come in none before it.
+-- segment at hand has no section, the first of those that are not written yet stands in it.
 pub record MayLog {D : Type 0} (s : NoteState D) (upto : ℕ) (pending : List EntryNote)
     : Type 0 where
   pub holding : Holding
   pub has : HasLog s holding
   pub may : MaySync holding upto pending
-  pub beyond : s.log.sections ≡ [] → (run left : List EntryNote) → IsParted upto pending run left
-      → (n : EntryNote) → Contains (drop s.written run) n
-      → s.log.id ≤ s.base + ordinal_of n.start.0
+  pub here : s.log.sections ≡ [] → (run left : List EntryNote) → IsParted upto pending run left
+      → BeginsIn s.base s.log.id (drop s.written run)
 
 -- The notes up to the key are logged, and no longer pending.
 pub record HasSynced {D : Type 0} (before now : NoteState D) (upto : ℕ)

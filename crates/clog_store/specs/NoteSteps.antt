@@ -3,23 +3,35 @@ use Rattle.std.specs.Prelude.{
   ◌≡◌,
   ◌⊎◌,
   ℕ,
+  ◌+◌,
   ◌<◌,
+  ◌≤◌,
+  ◌^◌,
   List,
   [],
   ◌∷◌,
   ◌++◌,
   length,
+  take,
+  drop,
   Option,
   false,
   Result,
   Ok,
   Err,
 }
+use Rattle.std.specs.List.{Contains}
+use Rattle.clog_spec.specs.Sizes.{front_size, marker_size}
+use Rattle.clog_base.specs.declared.sizes.Sizes.{Sizes}
+use Rattle.clog_base.specs.Positions.{ordinal_of, offset_of}
 use Rattle.clog_disk.specs.Files.{Files}
 use Rattle.clog_disk.specs.Images.{IsLater}
 use Rattle.clog_crash.specs.Readings.{Reading}
+use Rattle.path_core.specs.declared.note.EntryNote.{EntryNote}
+use Rattle.path_core.specs.Keeper.{FollowTo}
 use Rattle.clog_store.specs.declared.written.StoreFault.{StoreFault}
 use Rattle.clog_store.specs.Life.{Lives, LivesOn, State}
+use Rattle.clog_store.specs.NoteLog.{IsGood, IsHeld, NoteState, end_behind}
 
 -- From a state of a log to a later one: time has gone on, and a log that lived lives on.
 pub record GoesOn {D : Type 0} (files : D → Option Files) (moment : D → ℕ)
@@ -54,3 +66,61 @@ Enters before now id (Ok done) =
 Enters before now id (Err fault) =
     (now ≡ record before { disk = now.disk; is_stopped = now.is_stopped })
     ⊎ (now ≡ with_all_lasting before now)
+
+-- ---- notes that are to come
+
+-- Where a note may start behind a log that ends at a key: behind the front of a segment, where
+-- nothing was written yet; behind a marker; or behind the front of a later segment.
+abbrev pub StartsBehind : ℕ → ℕ → Type 0
+StartsBehind key start =
+    ((key ≡ 0) × (offset_of start ≡ front_size))
+    ⊎ ((0 < key) × (start ≡ key + marker_size) × (offset_of key + marker_size < 2 ^ 31))
+    ⊎ ((ordinal_of key < ordinal_of start) × (offset_of start ≡ front_size))
+
+-- notes behind such a log, which end at another key
+abbrev pub StandAhead : ℕ → ℕ → List EntryNote → Type 0
+StandAhead upto key [] = key ≡ upto
+StandAhead upto key (n ∷ ns) = StartsBehind key n.start.0 × FollowTo upto n.end.0 ns
+
+-- A log of notes, with all that it is told by.
+abbrev pub standing : {D : Type 0} → Sizes → ℕ → List EntryNote → ℕ → State D → List EntryNote → ℕ
+    → NoteState D
+standing sizes synced logged base log kept written = record {
+  log = log;
+  base = base;
+  sizes = sizes;
+  synced = synced;
+  logged = logged;
+  kept = kept;
+  written = written;
+}
+
+-- So many of the notes stand in the log's sections, and the others may come behind them.
+pub record ReadyAt {D : Type 0} (sizes : Sizes) (synced : ℕ) (logged : List EntryNote) (upto : ℕ)
+    (base : ℕ) (log : State D) (notes : List EntryNote) (written : ℕ) : Type 0 where
+  pub few : written ≤ length notes
+  pub good : (n : EntryNote) → Contains notes n → IsGood sizes n
+  pub held : IsHeld (standing sizes synced logged base log notes written)
+  pub ahead : StandAhead upto (end_behind synced (take written notes)) (drop written notes)
+
+pub record IsReady {D : Type 0} (base : ℕ) (log : State D) (notes : List EntryNote) (written : ℕ)
+    : Type 0 where
+  pub sizes : Sizes
+  pub synced : ℕ
+  pub logged : List EntryNote
+  pub upto : ℕ
+  pub at : ReadyAt sizes synced logged upto base log notes written
+
+-- Further notes were written, whatever the log of notes is told by.
+abbrev pub StaysReady : {D : Type 0} → ℕ → List EntryNote → State D → ℕ → State D → ℕ → Type 0
+StaysReady base notes before written now more =
+    (sizes : Sizes) (synced : ℕ) (logged : List EntryNote) (upto : ℕ)
+    → ReadyAt sizes synced logged upto base before notes written
+    → ReadyAt sizes synced logged upto base now notes more
+
+-- Where the disk has not failed, what is said of the log stays true.
+abbrev pub StaysHeld : {D : Type 0} → ℕ → List EntryNote → State D → ℕ → State D → ℕ → Type 0
+StaysHeld base notes before written now more =
+    (sizes : Sizes) (synced : ℕ) (logged : List EntryNote) (upto : ℕ)
+    → ReadyAt sizes synced logged upto base before notes written → now.is_stopped ≡ false
+    → IsHeld (standing sizes synced logged base now notes more)

@@ -13,6 +13,7 @@ mod next;
 mod note_log;
 mod note_sections;
 mod note_steps;
+mod note_writing;
 mod noting;
 mod opening;
 mod publishing;

@@ -18,7 +18,7 @@ use path_core::EntryNote;
 use std::alloc::{AllocError, Global};
 
 // How many of the notes, from the first on, stand end to end.
-fn section_length(notes: &[EntryNote]) -> usize
+pub(crate) fn section_length(notes: &[EntryNote]) -> usize
     requires some { 0 < length notes.now }
     ensures { AreOneSection notes.now result }
 {

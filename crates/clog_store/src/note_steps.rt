@@ -23,6 +23,7 @@ pub(crate) fn keep_notes<D: Disk>(
     requires fits { base < 2 ^ 62 }
     requires runs { log.old.is_stopped ≡ false }
     requires next { MayBeNext base log.old notes.now }
+    ensures few { log.old.synced ≤ length log.old.sections }
     ensures keeps { Keeps log.old log.new (next_section log.old.sections (payloads_in notes.now))
         result }
     ensures goes { GoesOn D.files D.moment D.since D.leaves D.read_at D.lasted_at log.old log.new }
