@@ -18,6 +18,8 @@ pub mod Looking
 mod NoteCuts
 mod NoteGoes
 mod NoteHeld
+mod NoteLent
+mod NoteLogged
 mod NoteNext
 mod NoteRuns
 mod NoteSettled

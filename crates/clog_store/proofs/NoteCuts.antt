@@ -116,7 +116,7 @@ pub begins_in : (base id : ℕ) (rest : List EntryNote)
 begins_in base id [] is = tt
 begins_in base id (n ∷ ns) is = is
 
-follow_rest : (upto key c : ℕ) (ns : List EntryNote) → FollowTo upto key ns
+pub follow_rest : (upto key c : ℕ) (ns : List EntryNote) → FollowTo upto key ns
     → FollowTo upto (end_behind key (take c ns)) (drop c ns)
 follow_rest upto key zero ns follow = follow
 follow_rest upto key (suc c) [] follow = follow
@@ -133,7 +133,7 @@ apart_starts key start some low follows apart = elim follows [
   ]
 ]
 
-ahead_from : (upto key : ℕ) (ns : List EntryNote) → 0 < key → offset_of key ≤ 33554432
+pub ahead_from : (upto key : ℕ) (ns : List EntryNote) → 0 < key → offset_of key ≤ 33554432
     → FollowTo upto key ns → IsApart key ns → StandAhead upto key ns
 ahead_from upto key [] some low follow apart = follow
 ahead_from upto key (n ∷ ns) some low follow apart =

@@ -28,10 +28,10 @@ use Rattle.clog_disk.specs.Files.{Files}
 use Rattle.clog_disk.specs.Images.{IsLater}
 use Rattle.clog_crash.specs.Readings.{Reading}
 use Rattle.path_core.specs.declared.note.EntryNote.{EntryNote}
-use Rattle.path_core.specs.Keeper.{FollowTo}
+use Rattle.path_core.specs.Keeper.{FollowTo, Holding, MayWrite}
 use Rattle.clog_store.specs.declared.written.StoreFault.{StoreFault}
 use Rattle.clog_store.specs.Life.{Lives, LivesOn, State}
-use Rattle.clog_store.specs.NoteLog.{IsGood, IsHeld, NoteState, end_behind}
+use Rattle.clog_store.specs.NoteLog.{BeginsIn, HasLog, IsGood, IsHeld, NoteState, end_behind}
 
 -- From a state of a log to a later one: time has gone on, and a log that lived lives on.
 pub record GoesOn {D : Type 0} (files : D → Option Files) (moment : D → ℕ)
@@ -124,3 +124,29 @@ StaysHeld base notes before written now more =
     (sizes : Sizes) (synced : ℕ) (logged : List EntryNote) (upto : ℕ)
     → ReadyAt sizes synced logged upto base before notes written → now.is_stopped ≡ false
     → IsHeld (standing sizes synced logged base now notes more)
+
+-- ---- a run is logged
+
+-- The run may be written, as a keeper with this log is asked to; where the segment at hand has no
+-- section, the first note that is not written yet stands in it.
+pub record MayRun {D : Type 0} (s : NoteState D) (upto : ℕ) (run : List EntryNote) : Type 0 where
+  pub holding : Holding
+  pub has : HasLog s holding
+  pub may : MayWrite holding upto run
+  pub here : s.log.sections ≡ [] → BeginsIn s.base s.log.id (drop s.written run)
+
+-- The run is logged.
+abbrev pub Logs : {D : Type 0} → NoteState D → NoteState D → ℕ → List EntryNote → Type 0
+Logs before now upto run =
+    now ≡ record before {
+      log = now.log;
+      synced = upto;
+      logged = before.logged ++ run;
+      kept = [];
+      written = 0;
+    }
+
+-- It is not; what is kept is what was, or the run.
+pub record LogsNot {D : Type 0} (before now : NoteState D) (run : List EntryNote) : Type 0 where
+  pub keeps : (now.kept ≡ before.kept) ⊎ (now.kept ≡ run)
+  pub log_is : now ≡ record before { log = now.log; kept = now.kept; written = now.written }

@@ -11,6 +11,7 @@ mod log_cells;
 mod naming;
 mod next;
 mod note_log;
+mod note_order;
 mod note_sections;
 mod note_steps;
 mod note_writing;

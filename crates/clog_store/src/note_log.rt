@@ -3,22 +3,23 @@
 //!
 //! After a sync that was refused for memory it keeps copies of what it was lent, since some of it
 //! may stand in its sections: the next sync begins with these and goes on behind what was written.
-ghost use Rattle.std.specs.Prelude.{◌≡◌, ◌<◌, ◌^◌, [], OnErr, OnOk, false};
-ghost use Rattle.clog_disk.specs.Images.{IsLater};
-ghost use Rattle.clog_store.specs.Life.{Lives, LivesOn};
-ghost use Rattle.clog_store.specs.NoteLog.{HasRefused, HasSynced, LeavesOthers, MayLog};
+ghost use Rattle.std.specs.Prelude.{◌≡◌, OnErr, OnOk, false};
+ghost use Rattle.clog_store.specs.NoteSteps.{GoesOn, Logs, LogsNot, MayRun};
 ghost use Rattle.clog_store.specs.Stepped.{HasLogCause};
 
+use crate::note_writing::write_all;
 use crate::section_log::SectionLog;
 use crate::written::StoreFault;
-use clog_base::{Key, Sizes};
+use clog_base::Sizes;
 use clog_disk::Disk;
 use path_core::EntryNote;
+use std::alloc::Global;
 use std::marker::Model;
 
 /// A log of notes over a disk (what Cassandra's `AbstractCommitLogSegmentManager` writes).
 #[derive(Drop)]
 pub(crate) struct NoteLog<D: Disk> {
+    alloc: Global,
     log: SectionLog<D>,
     /// The id of the segment of ordinal 0.
     base: u64,
@@ -56,4 +57,32 @@ impl<D: Disk> Model for NoteLog<D> {
       kept = s.kept.items;
       written = s.written;
     }) };
+}
+
+impl<D: Disk> NoteLog<D> {
+    // Logs the run. What was written of it is kept where this is refused.
+    fn log_run(&mut self, run: Vec<EntryNote>, upto: u64) -> Result<(), StoreFault>
+        requires runs { self.old.log.is_stopped ≡ false }
+        requires may { MayRun self.old upto run.items }
+        ensures logs { OnOk result (Logs self.old self.new upto run.items) }
+        ensures refused { OnErr result (LogsNot self.old self.new run.items) }
+        ensures goes { GoesOn D.files D.moment D.since D.leaves D.read_at D.lasted_at self.old.log
+            self.new.log }
+        ensures cause { HasLogCause self.old.log.is_stopped (D.faults self.old.log.disk)
+            (D.faults self.new.log.disk) result }
+    {
+        self.logged.reserve(run.len())?;
+        self.kept = run;
+        write_all(
+            self.alloc,
+            &mut self.log,
+            self.base,
+            &self.kept,
+            &mut self.written,
+        )?;
+        self.logged.append(&mut self.kept)?;
+        self.written = 0;
+        self.synced = upto;
+        Ok(())
+    }
 }
