@@ -21,8 +21,10 @@ mod NoteHeld
 mod NoteLent
 mod NoteLogged
 mod NoteNext
+mod NoteParts
 mod NoteRuns
 mod NoteSettled
+mod NoteSynced
 mod Noted
 mod OnDisk
 pub mod OpenedWhole

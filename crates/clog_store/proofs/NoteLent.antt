@@ -31,7 +31,7 @@ use Rattle.std.proofs.Common.{
   length-append,
 }
 use Rattle.std.specs.Prelude.{◌⊎◌, nat_lt}
-use Rattle.std.specs.List.{Contains}
+use Rattle.std.specs.List.{AllPairs, Contains}
 use Rattle.std.proofs.lemmas.Bool.Decides.{nat_tests}
 use Rattle.std.proofs.lemmas.List.{drop_all, drop-append-le, take-append-le, take_all}
 use Rattle.clog_spec.specs.Sizes.{front_size, marker_size}
@@ -47,6 +47,7 @@ use Rattle.clog_store.specs.NoteSteps.{StandAhead, StartsBehind}
 use Rattle.clog_store.proofs.NoteCuts.{ahead_from, end_behind-append, follow_rest}
 use Rattle.clog_store.proofs.NoteRuns.{placed_good}
 use Rattle.clog_store.proofs.NoteNext.{in_take}
+use Rattle.clog_store.proofs.NoteParts.{Below, pairs_more}
 
 -- ---- behind a marker, or the front
 
@@ -214,6 +215,25 @@ module _ (sizes : Sizes) where
                 let r = rest.1 m later in (omega (arith, first, up, r.0), r.1)
           ],
         )
+
+    follow_ascend : (key : ℕ) (ns : List EntryNote) → AllGood ns → FollowTo upto key ns
+        → AllPairs Below ns
+    follow_ascend key [] all follow = λ i j d l h. absurd (omega (arith, h))
+    follow_ascend key (n ∷ ns) all follow =
+        let later = λ (m : EntryNote) (among : Contains ns m). all m (further n ns m among) in
+        pairs_more n ns (λ m among. ((rises n.end.0 ns later follow.1).1 m among).0)
+        (follow_ascend n.end.0 ns later follow.1)
+
+    pub ascending : AllPairs Below run
+    ascending = by run good tiled
+      where
+        by : (ns : List EntryNote) → AllGood ns → Tile sizes.capacity synced upto ns
+            → AllPairs Below ns
+        by [] all tile = λ i j d l h. absurd (omega (arith, h))
+        by (n ∷ ns) all tile =
+            let later = λ (m : EntryNote) (among : Contains ns m). all m (further n ns m among) in
+            pairs_more n ns (λ m among. ((rises n.end.0 ns later tile.1).1 m among).0)
+            (follow_ascend n.end.0 ns later tile.1)
 
     behind_all : (ns : List EntryNote) → AllGood ns → Tile sizes.capacity synced upto ns
         → (synced ≤ upto) × ((n : EntryNote) → Contains ns n

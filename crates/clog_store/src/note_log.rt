@@ -4,13 +4,16 @@
 //! After a sync that was refused for memory it keeps copies of what it was lent, since some of it
 //! may stand in its sections: the next sync begins with these and goes on behind what was written.
 ghost use Rattle.std.specs.Prelude.{◌≡◌, OnErr, OnOk, false};
+ghost use Rattle.clog_store.specs.NoteLog.{HasRefused, HasSynced, MayLog};
 ghost use Rattle.clog_store.specs.NoteSteps.{GoesOn, Logs, LogsNot, MayRun};
 ghost use Rattle.clog_store.specs.Stepped.{HasLogCause};
 
+use crate::note_order::{drop_front, part_at};
+use crate::note_sections::copies_of;
 use crate::note_writing::write_all;
 use crate::section_log::SectionLog;
 use crate::written::StoreFault;
-use clog_base::Sizes;
+use clog_base::{Key, Sizes};
 use clog_disk::Disk;
 use path_core::EntryNote;
 use std::alloc::Global;
@@ -83,6 +86,30 @@ impl<D: Disk> NoteLog<D> {
         self.logged.append(&mut self.kept)?;
         self.written = 0;
         self.synced = upto;
+        Ok(())
+    }
+
+    /// Makes all pending notes up to a key lasting, and keeps the others pending. Where it is
+    /// refused all are pending; the sections that the disk took stay, and the next call goes on
+    /// behind them.
+    pub(crate) fn sync(&mut self, pending: &mut Vec<EntryNote>, upto: Key) -> Result<(), StoreFault>
+        requires { MayLog self.old upto.0 pending.old.items }
+        ensures syncs { OnOk result (HasSynced self.old self.new upto.0 pending.old.items
+            pending.new.items) }
+        ensures refused { OnErr result (HasRefused self.old self.new upto.0 pending.old.items
+            pending.new.items) }
+        ensures goes { GoesOn D.files D.moment D.since D.leaves D.read_at D.lasted_at self.old.log
+            self.new.log }
+        ensures cause { HasLogCause self.old.log.is_stopped (D.faults self.old.log.disk)
+            (D.faults self.new.log.disk) result }
+    {
+        if self.log.is_stopped() {
+            return Err(StoreFault::Stopped);
+        }
+        let count = part_at(pending, upto.0);
+        let run = copies_of(self.alloc, &pending[..count])?;
+        self.log_run(run, upto.0)?;
+        drop_front(pending, count);
         Ok(())
     }
 }
