@@ -12,6 +12,7 @@ mod landing;
 mod laws;
 mod limits;
 mod ready;
+mod receipts;
 mod refusal;
 mod replaying;
 mod report;
