@@ -15,6 +15,7 @@ mod Lived
 mod LivedCalls
 mod LivedRolls
 pub mod Looking
+mod NoteBegun
 mod NoteCuts
 mod NoteGoes
 mod NoteHeld

@@ -3,7 +3,9 @@
 //!
 //! After a sync that was refused for memory it keeps copies of what it was lent, since some of it
 //! may stand in its sections: the next sync begins with these and goes on behind what was written.
-ghost use Rattle.std.specs.Prelude.{◌≡◌, OnErr, OnOk, false};
+ghost use Rattle.std.specs.Prelude.{◌≡◌, ◌<◌, ◌^◌, [], OnErr, OnOk, false};
+ghost use Rattle.clog_disk.specs.Images.{IsLater};
+ghost use Rattle.clog_store.specs.Life.{Lives, LivesOn};
 ghost use Rattle.clog_store.specs.NoteLog.{HasRefused, HasSynced, MayLog};
 ghost use Rattle.clog_store.specs.NoteSteps.{GoesOn, Logs, LogsNot, MayRun};
 ghost use Rattle.clog_store.specs.Stepped.{HasLogCause};
@@ -63,6 +65,36 @@ impl<D: Disk> Model for NoteLog<D> {
 }
 
 impl<D: Disk> NoteLog<D> {
+    /// A log of notes over a log of sections that was just opened. Its first segment is the one of
+    /// ordinal 0.
+    pub(crate) fn begin(alloc: Global, log: SectionLog<D>, sizes: Sizes) -> NoteLog<D>
+        requires fits { log.id < 2 ^ 62 }
+        requires no_past { log.past ≡ [] }
+        requires none { log.sections ≡ [] }
+        requires none_lasts { log.synced ≡ 0 }
+        ensures { result ≡ record {
+          log = log;
+          base = log.id;
+          sizes = sizes;
+          synced = 0;
+          logged = [];
+          kept = [];
+          written = 0;
+        } }
+    {
+        let base = log.id();
+        NoteLog {
+            alloc,
+            log,
+            base,
+            sizes,
+            synced: 0,
+            logged: Vec::new(alloc),
+            kept: Vec::new(alloc),
+            written: 0,
+        }
+    }
+
     // Logs the run. What was written of it is kept where this is refused.
     fn log_run(&mut self, run: Vec<EntryNote>, upto: u64) -> Result<(), StoreFault>
         requires runs { self.old.log.is_stopped ≡ false }
@@ -98,10 +130,12 @@ impl<D: Disk> NoteLog<D> {
             pending.new.items) }
         ensures refused { OnErr result (HasRefused self.old self.new upto.0 pending.old.items
             pending.new.items) }
-        ensures goes { GoesOn D.files D.moment D.since D.leaves D.read_at D.lasted_at self.old.log
-            self.new.log }
+        ensures later { IsLater D.moment D.read_at D.lasted_at self.old.log.disk self.new.log.disk }
         ensures cause { HasLogCause self.old.log.is_stopped (D.faults self.old.log.disk)
             (D.faults self.new.log.disk) result }
+        ensures lives { Lives D.files D.moment D.since D.leaves D.read_at D.lasted_at self.old.log
+            → LivesOn D.files D.moment D.since D.leaves D.read_at D.lasted_at self.old.log
+            self.new.log }
     {
         if self.log.is_stopped() {
             return Err(StoreFault::Stopped);

@@ -1,15 +1,15 @@
 use Rattle.std.proofs.Common.{◌≡◌, ◌∙◌, List, drop, take, sym, ap, subst}
 use Rattle.path_core.specs.declared.note.EntryNote.{EntryNote}
 use Rattle.path_core.specs.Keeper.{IsParted}
-use Rattle.clog_store.proofs.NoteGoes.{goes_still}
+use Rattle.clog_store.proofs.Lived.{lives_still}
 use Rattle.clog_store.proofs.NoteSynced.{may_run, refused, synced}
 use Rattle.clog_store.proofs.note_log.NoteLog.sync.Goals as goal
 
-pub returns-in_err-run-clause-goes : goal.returns-in_err-run-clause-goes
-returns-in_err-run-clause-goes g c =
+pub returns-in_err-run-clause-lives : goal.returns-in_err-run-clause-lives
+returns-in_err-run-clause-lives g c =
     let D = g.D.Disk in
     let log = c.args.self.now.log in
-    goes_still D.files D.moment D.since D.leaves D.read_at D.lasted_at log
+    lives_still D.files D.moment D.since D.leaves D.read_at D.lasted_at log
     (g.met.D.Disk.only_now log.disk)
 
 pub log_run-requires-clause-may : goal.log_run-requires-clause-may
