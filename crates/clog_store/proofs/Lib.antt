@@ -19,6 +19,7 @@ mod NoteBegun
 mod NoteCuts
 mod NoteGoes
 mod NoteHeld
+mod NoteLeaves
 mod NoteLent
 mod NoteLogged
 mod NoteNext

@@ -170,7 +170,7 @@ pub record LeavesOthers {D : Type 0} (before now : State D) (told told_now : Opt
   pub past : now.past ≡ before.past ++ more
   pub later : (w : Write) → Contains more w → before.id ≤ w.id
   pub others : (f : Files) → told ≡ Some f → Told told_now (λ g. (name : List ℕ)
-      → ((id : ℕ) → before.id ≤ id → name ≡ segment_name_of 6 id → ⊥)
+      → ((id : ℕ) → before.id ≤ id → id < 2 ^ 63 → name ≡ segment_name_of 6 id → ⊥)
       → bytes_at g name ≡ bytes_at f name)
   pub left : (f : Files) → told_now ≡ Some f → (w : Write) → Contains more w
       → bytes_at f (segment_name_of 6 w.id) ≡ segment_bytes w.id w.sections

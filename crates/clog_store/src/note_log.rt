@@ -6,8 +6,8 @@
 ghost use Rattle.std.specs.Prelude.{◌≡◌, ◌<◌, ◌^◌, [], OnErr, OnOk, false};
 ghost use Rattle.clog_disk.specs.Images.{IsLater};
 ghost use Rattle.clog_store.specs.Life.{Lives, LivesOn};
-ghost use Rattle.clog_store.specs.NoteLog.{HasRefused, HasSynced, MayLog};
-ghost use Rattle.clog_store.specs.NoteSteps.{GoesOn, Logs, LogsNot, MayRun};
+ghost use Rattle.clog_store.specs.NoteLog.{HasRefused, HasSynced, LeavesOthers, MayLog};
+ghost use Rattle.clog_store.specs.NoteSteps.{GoesOn, Leaves, Logs, LogsNot, MayRun};
 ghost use Rattle.clog_store.specs.Stepped.{HasLogCause};
 
 use crate::note_order::{drop_front, part_at};
@@ -103,6 +103,8 @@ impl<D: Disk> NoteLog<D> {
         ensures refused { OnErr result (LogsNot self.old self.new run.items) }
         ensures goes { GoesOn D.files D.moment D.since D.leaves D.read_at D.lasted_at self.old.log
             self.new.log }
+        ensures leaves { self.new.log.is_stopped ≡ false
+            → Leaves D.files self.old.log self.new.log }
         ensures cause { HasLogCause self.old.log.is_stopped (D.faults self.old.log.disk)
             (D.faults self.new.log.disk) result }
     {
@@ -130,6 +132,9 @@ impl<D: Disk> NoteLog<D> {
             pending.new.items) }
         ensures refused { OnErr result (HasRefused self.old self.new upto.0 pending.old.items
             pending.new.items) }
+        ensures others { self.new.log.is_stopped ≡ false
+            → LeavesOthers self.old.log self.new.log (D.files self.old.log.disk)
+            (D.files self.new.log.disk) }
         ensures later { IsLater D.moment D.read_at D.lasted_at self.old.log.disk self.new.log.disk }
         ensures cause { HasLogCause self.old.log.is_stopped (D.faults self.old.log.disk)
             (D.faults self.new.log.disk) result }

@@ -12,9 +12,9 @@ ghost use Rattle.clog_scan.specs.Cut.{Section};
 ghost use Rattle.clog_disk.specs.Files.{Files, SameTold, Told};
 ghost use Rattle.clog_disk.specs.Images.{IsLater, LastsAll, LeavesOnly};
 ghost use Rattle.clog_crash.specs.Rest.{IsAtRest};
-ghost use Rattle.clog_crash.specs.Sections.{Brings, IsStored};
+ghost use Rattle.clog_crash.specs.Sections.{Brings, IsStored, segment_bytes};
 ghost use Rattle.clog_folder.specs.Passing.{IsUntouched, TellsFault};
-ghost use Rattle.clog_store.specs.Life.{HasEnd, LastsNow, Lives, LivesOn, ShownSince};
+ghost use Rattle.clog_store.specs.Life.{HasEnd, ReadsAs, LastsNow, Lives, LivesOn, ShownSince};
 ghost use Rattle.clog_store.specs.Stepped.{
   AddsBytes,
   HasLogCause,
@@ -285,12 +285,14 @@ impl<D: Disk> SectionLog<D> {
         self.disk
     }
 
-    /// The id of the segment that it writes, which can hold its sections while the disk has not
-    /// failed.
+    /// The id of the segment that it writes. While the disk has not failed, it can hold its sections,
+    /// and reads so.
     pub(crate) fn id(&self) -> u64
         ensures id { result ≡ self.now.id }
         ensures few { self.now.synced ≤ length self.now.sections }
         ensures stored { self.now.is_stopped ≡ false → IsStored self.now.id self.now.sections }
+        ensures reads { self.now.is_stopped ≡ false → ReadsAs (D.files self.now.disk)
+            (segment_name_of 6 self.now.id) (segment_bytes self.now.id self.now.sections) }
     {
         self.id
     }

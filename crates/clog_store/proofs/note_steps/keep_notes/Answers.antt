@@ -1,10 +1,11 @@
-use Rattle.std.proofs.Common.{◌≡◌, ◌∙◌, ℕ, ap, subst}
+use Rattle.std.proofs.Common.{◌≡◌, ◌∙◌, ℕ, refl, ap, subst}
 use Rattle.clog_base.specs.declared.position.Position.{Position}
 use Rattle.clog_base.specs.Positions.{offset_of}
 use Rattle.clog_scan.specs.Cut.{Section}
 use Rattle.clog_crash.specs.Sections.{next_bytes}
 use Rattle.clog_store.specs.NoteSections.{bytes_in, first_start, size_before}
 use Rattle.clog_store.specs.Stepped.{Keeps}
+use Rattle.clog_store.proofs.NoteLeaves.{leaves_kept, leaves_same}
 use Rattle.clog_store.proofs.NoteRuns.{brings, first_is, next_is, room}
 use Rattle.clog_store.proofs.note_steps.keep_notes.Goals as goal
 
@@ -41,3 +42,16 @@ returns-in-Ok-clause-keeps g c =
     subst (λ (s : Section). Keeps c.args.log.now c.keep.new.self s c.keep.result)
     (next_is c.args.base c.args.log.now notes c.requires.next c.position-at.result.offset at
     c.in-Ok.section c.in-Ok.ensures.0) c.keep.ensures.keeps
+
+pub returns-in-Ok-clause-leaves : goal.returns-in-Ok-clause-leaves
+returns-in-Ok-clause-leaves g c still =
+    let D = g.D.Disk in
+    let a = c.args.log.now in
+    let b = c.keep.new.self in
+    leaves_kept D.files a b c.in-Ok.section c.deref.result.now (D.changes a.disk)
+    (D.changes b.disk) c.keep.result c.keep.ensures.keeps c.keep.ensures.adds c.requires.runs
+    (c.id.ensures.stored c.requires.runs).fits still
+
+pub returns-in-Err-clause-leaves : goal.returns-in-Err-clause-leaves
+returns-in-Err-clause-leaves g c still =
+    leaves_same g.D.Disk.files c.args.log.now c.args.log.now refl refl refl

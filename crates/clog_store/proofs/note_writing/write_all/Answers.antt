@@ -1,4 +1,5 @@
 use Rattle.clog_store.proofs.NoteGoes.{goes_then}
+use Rattle.clog_store.proofs.NoteLeaves.{leaves_settled, leaves_then}
 use Rattle.clog_store.proofs.NoteSettled.{held_after, ready_after}
 use Rattle.clog_store.proofs.note_writing.write_all.Goals as goal
 
@@ -22,3 +23,11 @@ returns-in-Ok-clause-goes g c =
       later = c.settle.ensures.later;
       lives = c.settle.ensures.lives;
     })
+
+pub returns-in-Ok-clause-leaves : goal.returns-in-Ok-clause-leaves
+returns-in-Ok-clause-leaves g c still =
+    let mid = c.write_rest.new.log in
+    leaves_then g.D.Disk.files c.args.log.now mid c.settle.new.self
+    (c.write_rest.ensures.leaves c.in-Ok.ensures.runs)
+    (leaves_settled g.D.Disk.files mid c.settle.new.self c.settle.result c.settle.ensures.settles
+    c.settle.ensures.same)

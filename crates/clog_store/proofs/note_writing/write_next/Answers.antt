@@ -7,6 +7,7 @@ use Rattle.clog_store.specs.NoteSections.{AreOneSection, MayBeNext, payloads_in}
 use Rattle.clog_store.specs.NoteSteps.{Enters}
 use Rattle.clog_store.specs.Stepped.{Keeps}
 use Rattle.clog_store.proofs.NoteGoes.{goes_then}
+use Rattle.clog_store.proofs.NoteLeaves.{leaves_then}
 use Rattle.clog_store.proofs.NoteNext.{
   enters_runs,
   may_be,
@@ -94,3 +95,22 @@ returns-clause-ready g c sizes synced logged upto ready =
 pub returns-clause-held : goal.returns-clause-held
 returns-clause-held g c sizes synced logged upto ready runs =
     (returns-clause-ready g c sizes synced logged upto ready).held
+
+pub returns-in_err-enter-clause-leaves : goal.returns-in_err-enter-clause-leaves
+returns-in_err-enter-clause-leaves g c still = c.enter.ensures.leaves still
+
+pub returns-in_err-keep_notes-clause-leaves : goal.returns-in_err-keep_notes-clause-leaves
+returns-in_err-keep_notes-clause-leaves g c still =
+    let mid = c.enter.new.log in
+    leaves_then g.D.Disk.files c.args.log.now mid c.keep_notes.new.log
+    (c.enter.ensures.leaves (enters_runs c.args.log.now mid c.position.result.id
+    c.in_ok-enter.field-0 c.in_ok-enter.ensures.enters c.requires.runs))
+    (c.keep_notes.ensures.leaves still)
+
+pub returns-clause-leaves : goal.returns-clause-leaves
+returns-clause-leaves g c still =
+    let mid = c.enter.new.log in
+    leaves_then g.D.Disk.files c.args.log.now mid c.keep_notes.new.log
+    (c.enter.ensures.leaves (enters_runs c.args.log.now mid c.position.result.id
+    c.in_ok-enter.field-0 c.in_ok-enter.ensures.enters c.requires.runs))
+    (c.keep_notes.ensures.leaves still)

@@ -1,6 +1,7 @@
 use Rattle.std.proofs.Common.{◌∙◌, refl}
 use Rattle.std.specs.Prelude.{Err}
 use Rattle.clog_store.proofs.NoteGoes.{cause_then, goes_still, goes_then}
+use Rattle.clog_store.proofs.NoteLeaves.{leaves_same, leaves_then}
 use Rattle.clog_store.proofs.note_writing.write_rest.Goals as goal
 
 pub loop-written-init : goal.loop-written-init
@@ -13,6 +14,7 @@ loop-written-init g c =
       ready = λ sizes synced logged upto ready. ready;
       goes = goes_still D.files D.moment D.since D.leaves D.read_at D.lasted_at log
           (g.met.D.Disk.only_now log.disk);
+      leaves = leaves_same D.files log log refl refl refl;
       faults = refl;
     }
 
@@ -39,6 +41,8 @@ loop-written-preserved g c =
           (inv.ready sizes synced logged upto ready);
       goes = goes_then D.files D.moment D.since D.leaves D.read_at D.lasted_at c.args.log.now
           c.loop-written.log c.write_next.new.log inv.goes c.write_next.ensures.goes;
+      leaves = leaves_then D.files c.args.log.now c.loop-written.log c.write_next.new.log
+          inv.leaves (c.write_next.ensures.leaves c.in-Ok.ensures.runs);
       faults = c.in-Ok.ensures.cause.1 ∙ inv.faults;
     }
 
@@ -65,3 +69,8 @@ returns-in-Err-clause-cause g c =
 pub returns-clause-held : goal.returns-clause-held
 returns-clause-held g c sizes synced logged upto ready runs =
     (c.loop-written.invariant.ready sizes synced logged upto ready).held
+
+pub returns-in-Err-clause-leaves : goal.returns-in-Err-clause-leaves
+returns-in-Err-clause-leaves g c still =
+    leaves_then g.D.Disk.files c.args.log.now c.loop-written.log c.write_next.new.log
+    c.loop-written.invariant.leaves (c.write_next.ensures.leaves still)

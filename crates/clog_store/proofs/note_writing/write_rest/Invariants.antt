@@ -1,5 +1,5 @@
 use Rattle.std.proofs.Common.{◌≡◌, ◌≤◌, ◌-◌, false, length}
-use Rattle.clog_store.specs.NoteSteps.{GoesOn, StaysReady}
+use Rattle.clog_store.specs.NoteSteps.{GoesOn, Leaves, StaysReady}
 use Rattle.clog_store.proofs.note_writing.write_rest.Given as goal
 
 -- further notes were written, and the disk has not failed
@@ -11,6 +11,7 @@ invariant-loop-written g l =
       runs : l.log.is_stopped ≡ false;
       ready : StaysReady l.base l.notes l.fn.log l.fn.written l.log l.written;
       goes : GoesOn D.files D.moment D.since D.leaves D.read_at D.lasted_at l.fn.log l.log;
+      leaves : Leaves D.files l.fn.log l.log;
       faults : D.faults l.log.disk ≡ D.faults l.fn.log.disk;
     }
 

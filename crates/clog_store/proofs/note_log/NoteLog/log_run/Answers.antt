@@ -1,7 +1,9 @@
-use Rattle.std.proofs.Common.{◌≡◌, ◌≤◌, ℕ, ◌++◌, ◌∙◌, List, [], false, length, sym, ap, subst}
+use Rattle.std.proofs.Common.{◌≡◌, ◌≤◌, ℕ, ◌++◌, ◌∙◌, List, [], false, length, refl, sym, ap, subst}
 use Rattle.path_core.specs.declared.note.EntryNote.{EntryNote}
+use Rattle.clog_store.specs.Life.{State}
 use Rattle.clog_store.specs.NoteLog.{IsHeld, IsNoteLog, NoteState}
-use Rattle.clog_store.specs.NoteSteps.{IsReady, MayRun, ReadyAt, standing}
+use Rattle.clog_store.specs.NoteSteps.{IsReady, Leaves, MayRun, ReadyAt, standing}
+use Rattle.clog_store.proofs.NoteLeaves.{leaves_same}
 use Rattle.clog_store.proofs.NoteLogged.{logged, ready_of, unlogged}
 use Rattle.clog_store.proofs.note_log.NoteLog.log_run.Goals as goal
 
@@ -117,3 +119,22 @@ invariant_of-self-2 g c =
       kept = [];
       written = 0;
     })) (sym appended) all)
+
+pub returns-in_err-reserve-clause-leaves : goal.returns-in_err-reserve-clause-leaves
+returns-in_err-reserve-clause-leaves g c still =
+    let log = c.self.inside.log in
+    subst (λ (before : State g.row.D.Denot). Leaves g.D.Disk.files before log)
+    (ap (λ (x : NoteState g.row.D.Denot). x.log) c.self.view_is)
+    (leaves_same g.D.Disk.files log log refl refl refl)
+
+pub returns-in_err-write_all-clause-leaves : goal.returns-in_err-write_all-clause-leaves
+returns-in_err-write_all-clause-leaves g c still =
+    subst (λ (log : State g.row.D.Denot). Leaves g.D.Disk.files log c.write_all.new.log)
+    (ap (λ (x : NoteState g.row.D.Denot). x.log) c.self.view_is)
+    (c.write_all.ensures.leaves still)
+
+pub returns-clause-leaves : goal.returns-clause-leaves
+returns-clause-leaves g c still =
+    subst (λ (log : State g.row.D.Denot). Leaves g.D.Disk.files log c.write_all.new.log)
+    (ap (λ (x : NoteState g.row.D.Denot). x.log) c.self.view_is)
+    (c.write_all.ensures.leaves still)
