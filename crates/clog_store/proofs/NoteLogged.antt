@@ -122,6 +122,14 @@ module _ {D : Type 0} (s : NoteState D) (upto : ℕ) (run : List EntryNote) (len
           (λ some. end_above s.sizes s.synced s.kept
           (λ n among. inv.good n (Contains-append_right s.logged s.kept n among)) some))
 
+      -- the first of what is to come stands in a segment without sections
+      begins_by : s.log.is_stopped ≡ false → s.log.sections ≡ [] → (rest : List EntryNote)
+          → drop s.written s.kept ≡ rest → rest ++ lent.more ≡ drop s.written run
+          → BeginsIn s.base s.log.id rest → BeginsIn s.base s.log.id (drop s.written run)
+      begins_by runs none [] all behind begins = lends.here runs none all
+      begins_by runs none (n ∷ ns) some behind begins =
+          subst (BeginsIn s.base s.log.id) behind begins
+
       pub ready_of : s.log.is_stopped ≡ false
           → ReadyAt s.sizes s.synced s.logged upto s.base s.log run s.written
       ready_of runs =
@@ -151,7 +159,8 @@ module _ {D : Type 0} (s : NoteState D) (upto : ℕ) (run : List EntryNote) (len
               forward = omega (arith, h.forward, key);
               ends = subst (EndsAt s.base s.log) key h.ends;
               apart = apart;
-              begins = lends.here;
+              begins = λ none. begins_by runs none (drop s.written s.kept) refl behind
+                  (h.begins none);
             };
             ahead = run_ahead s.sizes s.synced upto run lent.good lent.tiled s.written apart;
           }

@@ -25,7 +25,7 @@ module _ {D : Type 0} (before : NoteState D) (upto : ℕ) (pending run left : Li
         holding = h;
         has = may.has;
         may = subst (MayWrite h upto) (sym same) m.may;
-        here = λ none. may.here none run left parted;
+        here = λ runs none all. may.here runs none all run left parted;
       }
 
   pub synced : (now : NoteState D) → Logs before now upto run

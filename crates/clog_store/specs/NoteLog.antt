@@ -130,14 +130,16 @@ pub record HasLog {D : Type 0} (s : NoteState D) (h : Holding) : Type 0 where
   pub logged_are : h.logged ≡ s.logged
   pub kept_are : h.kept ≡ s.kept
 
--- The pending notes up to the key may be written, as a keeper with this log is asked to; where the
--- segment at hand has no section, the first of those that are not written yet stands in it.
+-- The pending notes up to the key may be written, as a keeper with this log is asked to. Where the
+-- segment at hand has no section, and all that is kept was written, the first of the others stands
+-- in it.
 pub record MayLog {D : Type 0} (s : NoteState D) (upto : ℕ) (pending : List EntryNote)
     : Type 0 where
   pub holding : Holding
   pub has : HasLog s holding
   pub may : MaySync holding upto pending
-  pub here : s.log.sections ≡ [] → (run left : List EntryNote) → IsParted upto pending run left
+  pub here : s.log.is_stopped ≡ false → s.log.sections ≡ [] → drop s.written s.kept ≡ []
+      → (run left : List EntryNote) → IsParted upto pending run left
       → BeginsIn s.base s.log.id (drop s.written run)
 
 -- The notes up to the key are logged, and no longer pending.

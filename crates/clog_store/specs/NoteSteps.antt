@@ -135,13 +135,14 @@ StaysHeld base notes before written now more =
 
 -- ---- a run is logged
 
--- The run may be written, as a keeper with this log is asked to; where the segment at hand has no
--- section, the first note that is not written yet stands in it.
+-- The run may be written, as a keeper with this log is asked to. Where the segment at hand has no
+-- section, and all that is kept was written, the first of the other notes stands in it.
 pub record MayRun {D : Type 0} (s : NoteState D) (upto : ℕ) (run : List EntryNote) : Type 0 where
   pub holding : Holding
   pub has : HasLog s holding
   pub may : MayWrite holding upto run
-  pub here : s.log.sections ≡ [] → BeginsIn s.base s.log.id (drop s.written run)
+  pub here : s.log.is_stopped ≡ false → s.log.sections ≡ [] → drop s.written s.kept ≡ []
+      → BeginsIn s.base s.log.id (drop s.written run)
 
 -- The run is logged.
 abbrev pub Logs : {D : Type 0} → NoteState D → NoteState D → ℕ → List EntryNote → Type 0
