@@ -1,5 +1,22 @@
 -- A log of notes begins.
-use Rattle.std.proofs.Common.{◌≡◌, ℕ, ◌+◌, ◌<◌, ◌≤◌, ◌^◌, inl, inr, List, [], length, take, refl, sym, subst, arith}
+use Rattle.std.proofs.Common.{
+  ◌≡◌,
+  ℕ,
+  ◌+◌,
+  ◌<◌,
+  ◌≤◌,
+  ◌^◌,
+  inl,
+  inr,
+  List,
+  [],
+  length,
+  take,
+  refl,
+  sym,
+  subst,
+  arith,
+}
 use Rattle.std.proofs.lemmas.List.{take_all}
 use Rattle.clog_base.specs.declared.sizes.Sizes.{Sizes}
 use Rattle.clog_base.proofs.Members.{nothing_there}

@@ -8,7 +8,6 @@ use Rattle.std.proofs.Common.{
   ◌-◌,
   ◌<◌,
   ◌≤◌,
-  ◌^◌,
   inl,
   inr,
   List,
@@ -20,14 +19,11 @@ use Rattle.std.proofs.Common.{
   drop,
   get_or,
   refl,
-  sym,
   ◌∙◌,
   ap,
   subst,
   arith,
 }
-use Rattle.std.specs.Prelude.{◌⊎◌}
-use Rattle.clog_spec.specs.Sizes.{front_size, marker_size}
 use Rattle.clog_base.specs.Positions.{ordinal_of, offset_of}
 use Rattle.path_core.specs.declared.note.EntryNote.{EntryNote}
 use Rattle.path_core.specs.Keeper.{FollowTo, Follows}

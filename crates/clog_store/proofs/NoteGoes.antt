@@ -1,23 +1,5 @@
 -- A log of sections goes on from state to state.
-use Rattle.std.proofs.Common.{
-  ◌≡◌,
-  ◌<◌,
-  ℕ,
-  List,
-  [],
-  ◌∷◌,
-  ◌++◌,
-  length,
-  Option,
-  Bool,
-  false,
-  refl,
-  sym,
-  ◌∙◌,
-  ap,
-  subst,
-  arith,
-}
+use Rattle.std.proofs.Common.{◌≡◌, ℕ, List, Option, Bool, false, refl, sym, ◌∙◌, ap, subst, arith}
 use Rattle.std.specs.Prelude.{Result, Ok, Err, OnOk, OnErr}
 use Rattle.clog_disk.specs.Files.{Files}
 use Rattle.clog_disk.specs.Images.{IsImage, IsLater}

@@ -5,7 +5,6 @@ use Rattle.std.proofs.Common.{
   ◌+◌,
   ◌<◌,
   ◌≤◌,
-  ◌^◌,
   inl,
   inr,
   Bool,
@@ -27,14 +26,13 @@ use Rattle.std.proofs.Common.{
   length-append,
   append_assoc,
 }
-use Rattle.std.specs.Prelude.{◌⊎◌, Result, Ok, Err}
-use Rattle.std.specs.List.{Contains}
+use Rattle.std.specs.Prelude.{Ok, Err}
 use Rattle.std.proofs.Math.Seq.{take-add}
 use Rattle.std.proofs.lemmas.List.{drop-drop, map-append, take-append-le, take_all}
 use Rattle.clog_spec.specs.Sizes.{front_size, header_size, marker_size}
 use Rattle.clog_base.specs.declared.sizes.Sizes.{Sizes}
 use Rattle.clog_base.specs.Positions.{ordinal_of, offset_of}
-use Rattle.clog_scan.specs.Cut.{Section, entries_bytes, last_until}
+use Rattle.clog_scan.specs.Cut.{Section, last_until}
 use Rattle.clog_crash.specs.Runs.{Placed, placed_log}
 use Rattle.clog_crash.specs.Sections.{next_section}
 use Rattle.clog_crash.proofs.life.RunLog.{log_rolled}
@@ -51,13 +49,7 @@ use Rattle.clog_store.specs.NoteSections.{
   payloads_in,
 }
 use Rattle.clog_store.specs.Notes.{place_of, places_of}
-use Rattle.clog_store.specs.NoteSteps.{
-  Enters,
-  StandAhead,
-  StartsBehind,
-  standing,
-  with_all_lasting,
-}
+use Rattle.clog_store.specs.NoteSteps.{Enters, StartsBehind, standing, with_all_lasting}
 use Rattle.clog_store.specs.Stepped.{Keeps}
 use Rattle.clog_store.proofs.NoteCuts.{cut_of, end_behind-append, same_start}
 use Rattle.clog_store.proofs.NoteRuns.{
@@ -238,7 +230,8 @@ module _ {D : Type 0} (base : ℕ) (notes : List EntryNote) (sizes : Sizes) (syn
       ]
     ]
 
-    pub last_key : end_behind synced (take (written + count) notes) ≡ start + length (bytes_in first)
+    pub last_key : end_behind synced (take (written + count) notes)
+        ≡ start + length (bytes_in first)
     last_key =
         ends_then ∙ ends_at_start first may.some
         ∙ omega (arith, reached.same, reached.offset, reached.inside)

@@ -14,7 +14,6 @@ use Rattle.std.proofs.Common.{
   Option,
   Some,
   None,
-  Bool,
   true,
   false,
   refl,
@@ -26,14 +25,14 @@ use Rattle.std.proofs.Common.{
   append-nil,
   append_assoc,
 }
-use Rattle.std.specs.Prelude.{Result, Ok, Err, OnOk, OnErr, unwrap_or, Contains, IfSome}
+use Rattle.std.specs.Prelude.{Result, Ok, Err, OnOk, OnErr, unwrap_or}
 use Rattle.std.proofs.lemmas.List.Elements.{Contains-append_cases}
 use Rattle.clog_spec.specs.Names.{segment_name_of}
 use Rattle.clog_base.proofs.Members.{nothing_there, only_one}
 use Rattle.clog_disk.specs.Files.{AppendsTo, Files, SameTold, Told, bytes_at}
 use Rattle.clog_disk.specs.declared.change.Change.{Change}
 use Rattle.clog_disk.proofs.Named.{put_there}
-use Rattle.clog_disk.proofs.Telling.{same_told_self, same_told_then}
+use Rattle.clog_disk.proofs.Telling.{same_told_then}
 use Rattle.clog_scan.specs.Cut.{Section}
 use Rattle.clog_crash.specs.Log.{Write}
 use Rattle.clog_crash.specs.Sections.{segment_bytes}
@@ -41,7 +40,6 @@ use Rattle.clog_crash.proofs.changes.Names.{one_id}
 use Rattle.clog_store.specs.declared.written.StoreFault.{StoreFault}
 use Rattle.clog_store.specs.declared.written.StoreFault.TheVariants.{Stopped, OutOfMemory}
 use Rattle.clog_store.specs.Life.{ReadsAs, State}
-use Rattle.clog_store.specs.NoteLog.{LeavesOthers}
 use Rattle.clog_store.specs.NoteSteps.{Leaves}
 use Rattle.clog_store.specs.Stepped.{AddsBytes, Keeps, Settles}
 use Rattle.clog_store.proofs.Lived.{at_told, same_told, told_before}
@@ -217,7 +215,8 @@ module _ {D : Type 0} (files : D → Option Files) where
   leaves_entered a mid b rolled result same past id sections reads disk rolls above ok err =
       leaves_then a mid b (leaves_same a mid same past id) (by result ok err)
     where
-      there : ReadsAs (files mid.disk) (segment_name_of 6 mid.id) (segment_bytes mid.id mid.sections)
+      there : ReadsAs (files mid.disk) (segment_name_of 6 mid.id)
+          (segment_bytes mid.id mid.sections)
       there =
           subst (λ (o : Option Files). ReadsAs o (segment_name_of 6 mid.id)
           (segment_bytes mid.id mid.sections)) (sym same)

@@ -7,7 +7,6 @@ use Rattle.std.proofs.Common.{
   ◌+◌,
   ◌<◌,
   ◌≤◌,
-  ◌^◌,
   ◌==◌,
   inl,
   inr,
@@ -17,7 +16,6 @@ use Rattle.std.proofs.Common.{
   List,
   [],
   ◌∷◌,
-  ◌++◌,
   length,
   take,
   drop,
@@ -25,18 +23,15 @@ use Rattle.std.proofs.Common.{
   refl,
   sym,
   ◌∙◌,
-  ap,
   subst,
   arith,
-  length-append,
 }
-use Rattle.std.specs.Prelude.{◌⊎◌, nat_lt}
+use Rattle.std.specs.Prelude.{◌⊎◌}
 use Rattle.std.specs.List.{AllPairs, Contains}
 use Rattle.std.proofs.lemmas.Bool.Decides.{nat_tests}
-use Rattle.std.proofs.lemmas.List.{drop_all, drop-append-le, take-append-le, take_all}
 use Rattle.clog_spec.specs.Sizes.{front_size, marker_size}
 use Rattle.clog_base.specs.declared.sizes.Sizes.{Sizes}
-use Rattle.clog_base.specs.Positions.{ordinal_of, offset_of}
+use Rattle.clog_base.specs.Positions.{offset_of}
 use Rattle.clog_base.proofs.Members.{further, here, nothing_there}
 use Rattle.path_core.specs.declared.note.EntryNote.{EntryNote}
 use Rattle.path_core.specs.Keeper.{FollowTo, GoOnBehind, Tile, last_end}
@@ -44,7 +39,7 @@ use Rattle.path_core.specs.Keys.{after, behind_marker, fits, next_segment}
 use Rattle.path_core.proofs.lists.Heads.{first_or_later}
 use Rattle.clog_store.specs.NoteLog.{IsApart, IsGood, end_behind}
 use Rattle.clog_store.specs.NoteSteps.{StandAhead, StartsBehind}
-use Rattle.clog_store.proofs.NoteCuts.{ahead_from, end_behind-append, follow_rest}
+use Rattle.clog_store.proofs.NoteCuts.{ahead_from, follow_rest}
 use Rattle.clog_store.proofs.NoteRuns.{placed_good}
 use Rattle.clog_store.proofs.NoteNext.{in_take}
 use Rattle.clog_store.proofs.NoteParts.{Below, pairs_more}

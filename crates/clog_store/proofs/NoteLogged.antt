@@ -2,10 +2,7 @@
 use Rattle.std.proofs.Common.{
   ◌≡◌,
   ℕ,
-  ◌+◌,
-  ◌<◌,
   ◌≤◌,
-  ◌^◌,
   inl,
   inr,
   false,
@@ -34,13 +31,11 @@ use Rattle.std.proofs.lemmas.List.Elements.{
 }
 use Rattle.clog_spec.specs.Sizes.{header_size}
 use Rattle.clog_base.specs.declared.sizes.Sizes.{Sizes}
-use Rattle.clog_base.specs.Positions.{ordinal_of, offset_of}
-use Rattle.clog_base.proofs.Members.{here, nothing_there}
+use Rattle.clog_base.proofs.Members.{nothing_there}
 use Rattle.clog_scan.specs.Cut.{Section, last_until}
 use Rattle.clog_crash.specs.Runs.{placed_log}
 use Rattle.path_core.specs.declared.note.EntryNote.{EntryNote}
-use Rattle.path_core.specs.Keeper.{GoOnBehind, IsWritable, MayWrite, Tile}
-use Rattle.path_core.specs.Keys.{after}
+use Rattle.path_core.specs.Keeper.{GoOnBehind, Tile}
 use Rattle.clog_store.specs.Life.{State}
 use Rattle.clog_store.specs.NoteLog.{
   BeginsIn,
@@ -73,7 +68,8 @@ record Lent (sizes : Sizes) (synced upto : ℕ) (kept run : List EntryNote) : Ty
   begins : run ≡ kept ++ more
   go_on : GoOnBehind sizes.capacity kept more
 
-module _ {D : Type 0} (s : NoteState D) (upto : ℕ) (run : List EntryNote) (lends : MayRun s upto run)
+module _ {D : Type 0} (s : NoteState D) (upto : ℕ) (run : List EntryNote)
+    (lends : MayRun s upto run)
   where
     lent : Lent s.sizes s.synced upto s.kept run
     lent =

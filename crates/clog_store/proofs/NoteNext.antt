@@ -6,13 +6,11 @@ use Rattle.std.proofs.Common.{
   ◌-◌,
   ◌<◌,
   ◌≤◌,
-  ◌^◌,
   inl,
   inr,
   false,
   List,
   [],
-  ◌∷◌,
   ◌++◌,
   length,
   length-drop,
@@ -140,7 +138,8 @@ module _ {D : Type 0} (base : ℕ) (notes : List EntryNote) (sizes : Sizes) (syn
       enters_some base notes sizes synced logged log written ready.held (first_start rest) begun
       begins
 
-  pub unentered : (now : State D) (fault : StoreFault) → Enters {T = Unit {0}} log now id (Err fault)
+  pub unentered : (now : State D) (fault : StoreFault)
+      → Enters {T = Unit {0}} log now id (Err fault)
       → Held now written
   unentered now fault enters =
       held_unentered base notes sizes synced logged log now written id fault enters ready.held

@@ -4,7 +4,6 @@ use Rattle.std.proofs.Common.{
   ℕ,
   zero,
   suc,
-  ◌+◌,
   ◌<◌,
   ◌≤◌,
   ◌==◌,
@@ -24,12 +23,9 @@ use Rattle.std.proofs.Common.{
   sym,
   ◌∙◌,
   ap,
-  subst,
   arith,
 }
-use Rattle.std.specs.Prelude.{◌⊎◌}
 use Rattle.std.specs.List.{AllPairs, Contains, sum_by}
-use Rattle.std.specs.List.Sorted.{IsPermutation}
 use Rattle.std.proofs.lemmas.Bool.Decides.{nat_tests}
 use Rattle.std.proofs.lemmas.List.{get_or_default}
 use Rattle.std.proofs.lemmas.List.Elements.{

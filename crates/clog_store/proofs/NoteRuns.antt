@@ -6,7 +6,6 @@ use Rattle.std.proofs.Common.{
   ◌-◌,
   ◌<◌,
   ◌≤◌,
-  ◌^◌,
   ◌==◌,
   inl,
   inr,
@@ -35,7 +34,6 @@ use Rattle.std.proofs.Common.{
 use Rattle.std.specs.List.{Contains}
 use Rattle.std.proofs.lemmas.Bool.Decides.{nat_tests}
 use Rattle.clog_spec.specs.Crc.{IsBytes}
-use Rattle.clog_spec.specs.Segment.{entry_bytes}
 use Rattle.clog_spec.specs.Sizes.{frame_size, front_size, header_size, marker_size}
 use Rattle.clog_spec.proofs.Bytes.{append-IsBytes, bytes-nil}
 use Rattle.clog_spec.proofs.StoredBytes.{entry-IsBytes}
@@ -63,7 +61,7 @@ use Rattle.clog_crash.proofs.rest.Nexts.{brings_next, next-IsBytes}
 use Rattle.clog_crash.proofs.rest.Sectioned.{ends_at}
 use Rattle.clog_crash.proofs.torn.Whole.{until_grows}
 use Rattle.path_core.specs.declared.note.EntryNote.{EntryNote}
-use Rattle.path_core.specs.Keeper.{Holding, IsWritable}
+use Rattle.path_core.specs.Keeper.{Holding}
 use Rattle.path_core.proofs.lists.Heads.{first_or_later}
 use Rattle.clog_store.specs.Life.{State}
 use Rattle.clog_store.specs.NoteLog.{IsGood, end_behind}
@@ -75,7 +73,7 @@ use Rattle.clog_store.specs.NoteSections.{
   payloads_in,
   size_before,
 }
-use Rattle.clog_store.specs.Notes.{payload_in, place_of, places_of}
+use Rattle.clog_store.specs.Notes.{payload_in, places_of}
 use Rattle.clog_store.proofs.Noted.{IsPlaced, is_placed, payload_is}
 
 -- a keeper that has nothing but these sizes

@@ -1,5 +1,5 @@
 -- All sections of a log of notes are made to last, or it is refused.
-use Rattle.std.proofs.Common.{◌≡◌, ℕ, List, length, take, drop, sym, ◌∙◌, ap}
+use Rattle.std.proofs.Common.{ℕ, List, length, sym, ◌∙◌, ap}
 use Rattle.std.specs.Prelude.{Result, Ok, Err, OnOk}
 use Rattle.clog_base.specs.declared.sizes.Sizes.{Sizes}
 use Rattle.path_core.specs.declared.note.EntryNote.{EntryNote}
@@ -7,7 +7,7 @@ use Rattle.clog_store.specs.declared.written.StoreFault.{StoreFault}
 use Rattle.clog_store.specs.declared.written.StoreFault.TheVariants.{Stopped, OutOfMemory}
 use Rattle.clog_store.specs.Life.{State}
 use Rattle.clog_store.specs.NoteLog.{IsHeld}
-use Rattle.clog_store.specs.NoteSteps.{ReadyAt, StaysReady, standing}
+use Rattle.clog_store.specs.NoteSteps.{StaysReady, standing}
 use Rattle.clog_store.specs.Stepped.{Settles}
 use Rattle.clog_store.proofs.NoteHeld.{held_same, held_settled}
 

@@ -1,5 +1,5 @@
 -- What a sync is lent is the run of notes that it takes, and what it makes of them.
-use Rattle.std.proofs.Common.{◌≡◌, ℕ, ◌++◌, inl, inr, List, [], length, take, drop, sym, ap, subst}
+use Rattle.std.proofs.Common.{ℕ, inl, inr, List, sym, subst}
 use Rattle.std.specs.List.{AllPairs, Contains}
 use Rattle.std.specs.List.Sorted.{IsPermutation}
 use Rattle.path_core.specs.declared.note.EntryNote.{EntryNote}

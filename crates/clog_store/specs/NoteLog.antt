@@ -1,4 +1,5 @@
--- A log of notes: which entries stand in its sections, where it goes on, and what a sync makes of it.
+-- A log of notes: which entries stand in its sections, where it goes on, and what a sync makes of
+-- it.
 use Rattle.std.specs.Prelude.{
   ◌≡◌,
   ◌⊎◌,

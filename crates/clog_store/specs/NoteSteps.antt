@@ -32,7 +32,15 @@ use Rattle.path_core.specs.declared.note.EntryNote.{EntryNote}
 use Rattle.path_core.specs.Keeper.{FollowTo, Holding, MayWrite}
 use Rattle.clog_store.specs.declared.written.StoreFault.{StoreFault}
 use Rattle.clog_store.specs.Life.{Lives, LivesOn, State}
-use Rattle.clog_store.specs.NoteLog.{BeginsIn, HasLog, IsGood, IsHeld, LeavesOthers, NoteState, end_behind}
+use Rattle.clog_store.specs.NoteLog.{
+  BeginsIn,
+  HasLog,
+  IsGood,
+  IsHeld,
+  LeavesOthers,
+  NoteState,
+  end_behind,
+}
 
 -- From a state of a log to a later one: time has gone on, and a log that lived lives on.
 pub record GoesOn {D : Type 0} (files : D → Option Files) (moment : D → ℕ)

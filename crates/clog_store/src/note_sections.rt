@@ -107,7 +107,10 @@ pub(crate) fn section_of(
 ) -> Result<(Written, Vec<u8>), AllocError>
     requires room { at + length (bytes_in notes.now) ≤ greatest_capacity }
     ensures { IfOk result (λ made.
-        (made.0 ≡ record { until = at + length (bytes_in notes.now); payloads = payloads_in notes.now })
+        (made.0 ≡ record {
+          until = at + length (bytes_in notes.now);
+          payloads = payloads_in notes.now;
+        })
         × (made.1.items ≡ next_bytes id (size_before at) (bytes_in notes.now))) }
 {
     let entries = bytes_of(alloc, notes)?;

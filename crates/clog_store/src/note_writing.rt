@@ -26,7 +26,8 @@ fn write_next<D: Disk>(
     requires some { written.old < length notes.now }
     ensures held { StaysHeld base notes.now log.old written.old log.new written.new }
     ensures few { written.new ≤ length notes.now }
-    ensures ready { OnOk result (StaysReady base notes.now log.old written.old log.new written.new) }
+    ensures ready { OnOk result (StaysReady base notes.now log.old written.old log.new
+        written.new) }
     ensures more { OnOk result (written.old < written.new) }
     ensures runs { OnOk result (log.new.is_stopped ≡ false) }
     ensures goes { GoesOn D.files D.moment D.since D.leaves D.read_at D.lasted_at log.old log.new }
@@ -56,7 +57,8 @@ fn write_rest<D: Disk>(
     requires ready { IsReady base log.old notes.now written.old }
     ensures held { StaysHeld base notes.now log.old written.old log.new written.new }
     ensures few { written.new ≤ length notes.now }
-    ensures ready { OnOk result (StaysReady base notes.now log.old written.old log.new written.new) }
+    ensures ready { OnOk result (StaysReady base notes.now log.old written.old log.new
+        written.new) }
     ensures all { OnOk result (written.new ≡ length notes.now) }
     ensures runs { OnOk result (log.new.is_stopped ≡ false) }
     ensures goes { GoesOn D.files D.moment D.since D.leaves D.read_at D.lasted_at log.old log.new }
@@ -86,7 +88,8 @@ pub(crate) fn write_all<D: Disk>(
     requires ready { IsReady base log.old notes.now written.old }
     ensures held { StaysHeld base notes.now log.old written.old log.new written.new }
     ensures few { written.new ≤ length notes.now }
-    ensures ready { OnOk result (StaysReady base notes.now log.old written.old log.new written.new) }
+    ensures ready { OnOk result (StaysReady base notes.now log.old written.old log.new
+        written.new) }
     ensures all { OnOk result (written.new ≡ length notes.now) }
     ensures lasts { OnOk result (log.new.synced ≡ length log.new.sections) }
     ensures goes { GoesOn D.files D.moment D.since D.leaves D.read_at D.lasted_at log.old log.new }

@@ -26,7 +26,8 @@ keep-requires g c =
     ap (λ (p : Position). p.offset) c.position-at.ensures
     ∙ ap offset_of (first_is notes c.index-notes-0.result c.requires.next.some)
     in record {
-      brings = brings c.args.base c.args.log.now notes c.requires.next c.position-at.result.offset at
+      brings = brings c.args.base c.args.log.now notes c.requires.next
+          c.position-at.result.offset at
           c.in-Ok.section c.in-Ok.ensures.0 (c.id.ensures.stored c.requires.runs) c.deref.result.now
           (c.deref.ensures.value ∙ c.in-Ok.ensures.1
           ∙ ap (λ (k : ℕ). next_bytes k (size_before c.position-at.result.offset) (bytes_in notes))

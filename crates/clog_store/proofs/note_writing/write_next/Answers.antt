@@ -1,5 +1,5 @@
-use Rattle.std.proofs.Common.{◌≡◌, ℕ, ◌∙◌, List, length, take, drop, sym, ap, subst}
-use Rattle.std.specs.Prelude.{Ok, Err}
+use Rattle.std.proofs.Common.{ℕ, ◌∙◌, List, take, sym, ap, subst}
+use Rattle.std.specs.Prelude.{Ok}
 use Rattle.clog_base.specs.declared.position.Position.{Position}
 use Rattle.clog_crash.specs.Sections.{next_section}
 use Rattle.path_core.specs.declared.note.EntryNote.{EntryNote}

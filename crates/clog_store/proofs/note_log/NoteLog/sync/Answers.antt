@@ -2,7 +2,7 @@ use Rattle.std.proofs.Common.{◌≡◌, ◌∙◌, List, drop, take, sym, ap, s
 use Rattle.path_core.specs.declared.note.EntryNote.{EntryNote}
 use Rattle.path_core.specs.Keeper.{IsParted}
 use Rattle.clog_store.proofs.Lived.{lives_still}
-use Rattle.clog_store.proofs.NoteSynced.{may_run, refused, synced}
+use Rattle.clog_store.proofs.NoteSynced.{may_run}
 use Rattle.clog_store.proofs.note_log.NoteLog.sync.Goals as goal
 
 pub returns-in_err-run-clause-lives : goal.returns-in_err-run-clause-lives
