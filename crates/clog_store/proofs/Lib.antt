@@ -18,6 +18,7 @@ pub mod Looking
 mod NoteBegun
 mod NoteCuts
 mod NoteGoes
+mod NoteGrows
 mod NoteHeld
 mod NoteLeaves
 mod NoteLent
@@ -30,7 +31,6 @@ mod NoteSynced
 mod Noted
 mod OnDisk
 pub mod OpenedWhole
-mod OtherFiles
 mod OtherFiles
 mod Outcomes
 mod Picking

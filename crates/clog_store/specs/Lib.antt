@@ -2,6 +2,7 @@ pub mod Coming
 pub mod Discards
 pub mod Dropping
 pub mod Filing
+pub mod Grows
 pub mod Life
 pub mod Live
 pub mod Named

@@ -24,6 +24,7 @@ use Rattle.std.specs.List.{Contains}
 use Rattle.clog_spec.specs.Sizes.{front_size, marker_size}
 use Rattle.clog_base.specs.declared.sizes.Sizes.{Sizes}
 use Rattle.clog_base.specs.Positions.{ordinal_of, offset_of}
+use Rattle.clog_disk.specs.declared.change.Change.{Change}
 use Rattle.clog_disk.specs.Files.{Files, SameTold}
 use Rattle.clog_disk.specs.Images.{IsLater}
 use Rattle.clog_crash.specs.Log.{Write}
@@ -31,6 +32,7 @@ use Rattle.clog_crash.specs.Readings.{Reading}
 use Rattle.path_core.specs.declared.note.EntryNote.{EntryNote}
 use Rattle.path_core.specs.Keeper.{FollowTo, Holding, MayWrite}
 use Rattle.clog_store.specs.declared.written.StoreFault.{StoreFault}
+use Rattle.clog_store.specs.Grows.{Grows}
 use Rattle.clog_store.specs.Life.{Lives, LivesOn, State}
 use Rattle.clog_store.specs.NoteLog.{
   BeginsIn,
@@ -51,12 +53,15 @@ pub record GoesOn {D : Type 0} (files : D → Option Files) (moment : D → ℕ)
     pub lives : Lives files moment since leaves read_at lasted_at before
         → LivesOn files moment since leaves read_at lasted_at before now
 
--- The log goes forward and leaves the other files.
-pub record Leaves {D : Type 0} (files : D → Option Files) (before now : State D) : Type 0 where
+-- The log goes forward and leaves the other files, and the changes of its disk bring what it
+-- writes.
+pub record Leaves {D : Type 0} (files : D → Option Files) (changes : D → Option (List Change))
+    (before now : State D) : Type 0 where
   pub told : SameTold (files before.disk) (files now.disk)
   pub forward : before.id ≤ now.id
   pub rest : LeavesOthers before now (files before.disk) (files now.disk)
   pub below : (w : Write) → Contains rest.more w → w.id < now.id
+  pub brings : Grows changes before now
 
 -- all sections last
 abbrev pub with_all_lasting : {D : Type 0} → State D → State D → State D

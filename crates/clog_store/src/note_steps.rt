@@ -27,7 +27,7 @@ pub(crate) fn keep_notes<D: Disk>(
     ensures keeps { Keeps log.old log.new (next_section log.old.sections (payloads_in notes.now))
         result }
     ensures goes { GoesOn D.files D.moment D.since D.leaves D.read_at D.lasted_at log.old log.new }
-    ensures leaves { log.new.is_stopped ≡ false → Leaves D.files log.old log.new }
+    ensures leaves { log.new.is_stopped ≡ false → Leaves D.files D.changes log.old log.new }
     ensures cause { HasLogCause log.old.is_stopped (D.faults log.old.disk) (D.faults log.new.disk)
         result }
 {
@@ -50,7 +50,7 @@ pub(crate) fn enter<D: Disk>(
     requires some { log.old.id < id → 0 < length log.old.sections }
     ensures enters { Enters log.old log.new id result }
     ensures goes { GoesOn D.files D.moment D.since D.leaves D.read_at D.lasted_at log.old log.new }
-    ensures leaves { log.new.is_stopped ≡ false → Leaves D.files log.old log.new }
+    ensures leaves { log.new.is_stopped ≡ false → Leaves D.files D.changes log.old log.new }
     ensures cause { HasLogCause log.old.is_stopped (D.faults log.old.disk) (D.faults log.new.disk)
         result }
 {

@@ -31,7 +31,7 @@ fn write_next<D: Disk>(
     ensures more { OnOk result (written.old < written.new) }
     ensures runs { OnOk result (log.new.is_stopped ≡ false) }
     ensures goes { GoesOn D.files D.moment D.since D.leaves D.read_at D.lasted_at log.old log.new }
-    ensures leaves { log.new.is_stopped ≡ false → Leaves D.files log.old log.new }
+    ensures leaves { log.new.is_stopped ≡ false → Leaves D.files D.changes log.old log.new }
     ensures cause { HasLogCause log.old.is_stopped (D.faults log.old.disk) (D.faults log.new.disk)
         result }
 {
@@ -62,7 +62,7 @@ fn write_rest<D: Disk>(
     ensures all { OnOk result (written.new ≡ length notes.now) }
     ensures runs { OnOk result (log.new.is_stopped ≡ false) }
     ensures goes { GoesOn D.files D.moment D.since D.leaves D.read_at D.lasted_at log.old log.new }
-    ensures leaves { log.new.is_stopped ≡ false → Leaves D.files log.old log.new }
+    ensures leaves { log.new.is_stopped ≡ false → Leaves D.files D.changes log.old log.new }
     ensures cause { HasLogCause log.old.is_stopped (D.faults log.old.disk) (D.faults log.new.disk)
         result }
 {
@@ -93,7 +93,7 @@ pub(crate) fn write_all<D: Disk>(
     ensures all { OnOk result (written.new ≡ length notes.now) }
     ensures lasts { OnOk result (log.new.synced ≡ length log.new.sections) }
     ensures goes { GoesOn D.files D.moment D.since D.leaves D.read_at D.lasted_at log.old log.new }
-    ensures leaves { log.new.is_stopped ≡ false → Leaves D.files log.old log.new }
+    ensures leaves { log.new.is_stopped ≡ false → Leaves D.files D.changes log.old log.new }
     ensures cause { HasLogCause log.old.is_stopped (D.faults log.old.disk) (D.faults log.new.disk)
         result }
 {

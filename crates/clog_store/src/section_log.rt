@@ -4,13 +4,14 @@
 //! restores all that lasted before it: `Outlives`. From the first fault of the disk on it writes
 //! nothing.
 ghost use Rattle.std.specs.Prelude.{◌≡◌, ◌<◌, ◌≤◌, ◌^◌, ◌++◌, List, [], ◌∷◌, take, drop, length};
-ghost use Rattle.std.specs.Prelude.{IfErr, IfOk, IfSome, OnErr, OnOk, Some};
+ghost use Rattle.std.specs.Prelude.{Contains, IfErr, IfOk, IfSome, OnErr, OnOk, Some};
 ghost use Rattle.std.specs.Prelude.{Err, true, false, option_map};
 ghost use Rattle.clog_spec.specs.Names.{segment_name_of};
 ghost use Rattle.clog_store.specs.declared.written.StoreFault.TheVariants.{Stopped as stopped};
 ghost use Rattle.clog_scan.specs.Cut.{Section};
 ghost use Rattle.clog_disk.specs.Files.{Files, SameTold, Told};
 ghost use Rattle.clog_disk.specs.Images.{IsLater, LastsAll, LeavesOnly};
+ghost use Rattle.clog_crash.specs.Log.{Write};
 ghost use Rattle.clog_crash.specs.Rest.{IsAtRest};
 ghost use Rattle.clog_crash.specs.Sections.{Brings, IsStored, segment_bytes};
 ghost use Rattle.clog_folder.specs.Passing.{IsUntouched, TellsFault};
@@ -285,12 +286,13 @@ impl<D: Disk> SectionLog<D> {
         self.disk
     }
 
-    /// The id of the segment that it writes. While the disk has not failed, it can hold its sections,
-    /// and reads so.
+    /// The id of the segment that it writes. While the disk has not failed, that segment can hold
+    /// the log's sections, and reads so.
     pub(crate) fn id(&self) -> u64
         ensures id { result ≡ self.now.id }
         ensures few { self.now.synced ≤ length self.now.sections }
         ensures stored { self.now.is_stopped ≡ false → IsStored self.now.id self.now.sections }
+        ensures below { (w : Write) → Contains self.now.past w → w.id < self.now.id }
         ensures reads { self.now.is_stopped ≡ false → ReadsAs (D.files self.now.disk)
             (segment_name_of 6 self.now.id) (segment_bytes self.now.id self.now.sections) }
     {

@@ -19,7 +19,8 @@ returns-clause-goes g c =
 
 pub returns-then-id-clause-leaves : goal.returns-then-id-clause-leaves
 returns-then-id-clause-leaves g c still =
-    leaves_same g.D.Disk.files c.args.log.now c.args.log.now refl refl refl
+    leaves_same g.D.Disk.files g.D.Disk.changes c.args.log.now c.args.log.now refl refl refl refl
+    refl
 
 pub returns-clause-leaves : goal.returns-clause-leaves
 returns-clause-leaves g c still =
@@ -32,12 +33,13 @@ returns-clause-leaves g c still =
     let apart = c.if-id.false in
     let on = c.requires.on in
     grind (arith, nat_tests) in
-    leaves_entered g.D.Disk.files a mid c.roll.new.self _ c.roll.result c.settle.ensures.same
-    (ap (λ s. s.past) settled) (ap (λ s. s.id) settled) (ap (λ s. s.sections) settled)
-    (c.id.ensures.reads c.requires.runs) refl refl above c.roll.ensures.rolls
-    c.roll.ensures.refused
+    leaves_entered g.D.Disk.files g.D.Disk.changes a mid c.roll.new.self _ c.roll.result
+    c.settle.ensures.same c.settle.ensures.quiet (ap (λ s. s.past) settled)
+    (ap (λ s. s.id) settled) (ap (λ s. s.sections) settled)
+    (c.id.ensures.reads c.requires.runs) refl refl above refl c.requires.fits c.id.ensures.below
+    c.roll.ensures.rolls c.roll.ensures.refused
 
 pub returns-in_err-settle-clause-leaves : goal.returns-in_err-settle-clause-leaves
 returns-in_err-settle-clause-leaves g c still =
-    leaves_settled g.D.Disk.files c.args.log.now c.settle.new.self c.settle.result
-    c.settle.ensures.settles c.settle.ensures.same
+    leaves_settled g.D.Disk.files g.D.Disk.changes c.args.log.now c.settle.new.self c.settle.result
+    c.settle.ensures.settles c.settle.ensures.same c.settle.ensures.quiet

@@ -27,7 +27,8 @@ returns-in-Ok-clause-goes g c =
 pub returns-in-Ok-clause-leaves : goal.returns-in-Ok-clause-leaves
 returns-in-Ok-clause-leaves g c still =
     let mid = c.write_rest.new.log in
-    leaves_then g.D.Disk.files c.args.log.now mid c.settle.new.self
+    leaves_then g.D.Disk.files g.D.Disk.changes c.args.log.now mid c.settle.new.self
     (c.write_rest.ensures.leaves c.in-Ok.ensures.runs)
-    (leaves_settled g.D.Disk.files mid c.settle.new.self c.settle.result c.settle.ensures.settles
-    c.settle.ensures.same)
+    (leaves_settled g.D.Disk.files g.D.Disk.changes mid c.settle.new.self c.settle.result
+    c.settle.ensures.settles
+    c.settle.ensures.same c.settle.ensures.quiet)

@@ -102,7 +102,7 @@ returns-in_err-enter-clause-leaves g c still = c.enter.ensures.leaves still
 pub returns-in_err-keep_notes-clause-leaves : goal.returns-in_err-keep_notes-clause-leaves
 returns-in_err-keep_notes-clause-leaves g c still =
     let mid = c.enter.new.log in
-    leaves_then g.D.Disk.files c.args.log.now mid c.keep_notes.new.log
+    leaves_then g.D.Disk.files g.D.Disk.changes c.args.log.now mid c.keep_notes.new.log
     (c.enter.ensures.leaves (enters_runs c.args.log.now mid c.position.result.id
     c.in_ok-enter.field-0 c.in_ok-enter.ensures.enters c.requires.runs))
     (c.keep_notes.ensures.leaves still)
@@ -110,7 +110,7 @@ returns-in_err-keep_notes-clause-leaves g c still =
 pub returns-clause-leaves : goal.returns-clause-leaves
 returns-clause-leaves g c still =
     let mid = c.enter.new.log in
-    leaves_then g.D.Disk.files c.args.log.now mid c.keep_notes.new.log
+    leaves_then g.D.Disk.files g.D.Disk.changes c.args.log.now mid c.keep_notes.new.log
     (c.enter.ensures.leaves (enters_runs c.args.log.now mid c.position.result.id
     c.in_ok-enter.field-0 c.in_ok-enter.ensures.enters c.requires.runs))
     (c.keep_notes.ensures.leaves still)

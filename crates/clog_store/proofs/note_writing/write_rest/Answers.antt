@@ -14,7 +14,7 @@ loop-written-init g c =
       ready = λ sizes synced logged upto ready. ready;
       goes = goes_still D.files D.moment D.since D.leaves D.read_at D.lasted_at log
           (g.met.D.Disk.only_now log.disk);
-      leaves = leaves_same D.files log log refl refl refl;
+      leaves = leaves_same D.files D.changes log log refl refl refl refl refl;
       faults = refl;
     }
 
@@ -41,7 +41,7 @@ loop-written-preserved g c =
           (inv.ready sizes synced logged upto ready);
       goes = goes_then D.files D.moment D.since D.leaves D.read_at D.lasted_at c.args.log.now
           c.loop-written.log c.write_next.new.log inv.goes c.write_next.ensures.goes;
-      leaves = leaves_then D.files c.args.log.now c.loop-written.log c.write_next.new.log
+      leaves = leaves_then D.files D.changes c.args.log.now c.loop-written.log c.write_next.new.log
           inv.leaves (c.write_next.ensures.leaves c.in-Ok.ensures.runs);
       faults = c.in-Ok.ensures.cause.1 ∙ inv.faults;
     }
@@ -72,5 +72,6 @@ returns-clause-held g c sizes synced logged upto ready runs =
 
 pub returns-in-Err-clause-leaves : goal.returns-in-Err-clause-leaves
 returns-in-Err-clause-leaves g c still =
-    leaves_then g.D.Disk.files c.args.log.now c.loop-written.log c.write_next.new.log
+    leaves_then g.D.Disk.files g.D.Disk.changes c.args.log.now c.loop-written.log
+    c.write_next.new.log
     c.loop-written.invariant.leaves (c.write_next.ensures.leaves still)

@@ -11,7 +11,7 @@ invariant-loop-written g l =
       runs : l.log.is_stopped ≡ false;
       ready : StaysReady l.base l.notes l.fn.log l.fn.written l.log l.written;
       goes : GoesOn D.files D.moment D.since D.leaves D.read_at D.lasted_at l.fn.log l.log;
-      leaves : Leaves D.files l.fn.log l.log;
+      leaves : Leaves D.files D.changes l.fn.log l.log;
       faults : D.faults l.log.disk ≡ D.faults l.fn.log.disk;
     }
 

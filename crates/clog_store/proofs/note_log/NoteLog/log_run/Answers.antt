@@ -123,18 +123,20 @@ invariant_of-self-2 g c =
 pub returns-in_err-reserve-clause-leaves : goal.returns-in_err-reserve-clause-leaves
 returns-in_err-reserve-clause-leaves g c still =
     let log = c.self.inside.log in
-    subst (λ (before : State g.row.D.Denot). Leaves g.D.Disk.files before log)
+    subst (λ (before : State g.row.D.Denot). Leaves g.D.Disk.files g.D.Disk.changes before log)
     (ap (λ (x : NoteState g.row.D.Denot). x.log) c.self.view_is)
-    (leaves_same g.D.Disk.files log log refl refl refl)
+    (leaves_same g.D.Disk.files g.D.Disk.changes log log refl refl refl refl refl)
 
 pub returns-in_err-write_all-clause-leaves : goal.returns-in_err-write_all-clause-leaves
 returns-in_err-write_all-clause-leaves g c still =
-    subst (λ (log : State g.row.D.Denot). Leaves g.D.Disk.files log c.write_all.new.log)
+    subst (λ (log : State g.row.D.Denot).
+    Leaves g.D.Disk.files g.D.Disk.changes log c.write_all.new.log)
     (ap (λ (x : NoteState g.row.D.Denot). x.log) c.self.view_is)
     (c.write_all.ensures.leaves still)
 
 pub returns-clause-leaves : goal.returns-clause-leaves
 returns-clause-leaves g c still =
-    subst (λ (log : State g.row.D.Denot). Leaves g.D.Disk.files log c.write_all.new.log)
+    subst (λ (log : State g.row.D.Denot).
+    Leaves g.D.Disk.files g.D.Disk.changes log c.write_all.new.log)
     (ap (λ (x : NoteState g.row.D.Denot). x.log) c.self.view_is)
     (c.write_all.ensures.leaves still)
