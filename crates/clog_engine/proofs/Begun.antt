@@ -7,6 +7,7 @@ use Rattle.std.proofs.Common.{
   ◌<◌,
   ◌≤◌,
   ◌⊎◌,
+  ◌∙◌,
   max,
   List,
   Bool,
@@ -77,9 +78,10 @@ told_base (Some held) reads g now top = is_base (NamesId held reads) g now top
 -- ---- the report
 
 -- a report over cells that are shown is one over them
-pub report_over : (dump : Bool) (before cells : List (CellKey × Cell)) (mutations : List Mutation)
-    (report : List ℕ) → (dump ≡ true → cells ≡ before) → IsReport dump cells mutations report
-    → IsReport dump before mutations report
-report_over false before cells mutations report shown is = is
-report_over true before cells mutations report shown is =
-    subst (λ (l : List (CellKey × Cell)). IsDump l mutations report) (shown refl) is
+pub report_over : (dump : Bool) (text head : List ℕ) (before cells : List (CellKey × Cell))
+    (mutations : List Mutation) (report : List ℕ) → text ≡ head → (dump ≡ true → cells ≡ before)
+    → IsReport dump text cells mutations report → IsReport dump head before mutations report
+report_over false text head before cells mutations report same shown is = is ∙ same
+report_over true text head before cells mutations report same shown is =
+    subst (λ (h : List ℕ). IsDump h before mutations report) same
+    (subst (λ (l : List (CellKey × Cell)). IsDump text l mutations report) (shown refl) is)

@@ -222,7 +222,7 @@ replay_completes ignore (NotBuilt what) o s fit quiet refused = absurd refused
 
 does_complete : (request : Built) (o : Outside) (s : Sinks) (status : Status) → IsFit request o
     → IsQuiet o s → Does (Some request) o (err status) → EndsWell status
-does_complete (Apply dump) o s status fit quiet done =
+does_complete (Apply receipts dump) o s status fit quiet done =
     apply_completes greatest_capacity status o s fit.0 fit.1 quiet done
 does_complete (Replay options) o s status fit quiet done =
     replay_completes options.ignore_errors status o s fit quiet done.0

@@ -119,17 +119,21 @@ fitting_more capacity ms i m inside is fitting fits =
     (sym (take_more ms i m inside ∙ ap (λ (x : Mutation). take i ms ++ x ∷ []) (sym is)))
     (all_more (HasFittingEntry capacity) (take i ms) m fitting fits)
 
-pub sum_more : (ms : List Mutation) (i : ℕ) (m : Mutation) (total size : ℕ) → i < length ms
-    → m ≡ get_or ms i m → size ≡ entry_size m
-    → total + length (entries_of (drop i ms)) ≡ length (entries_of ms)
-    → total + size + length (entries_of (drop (i + 1) ms)) ≡ length (entries_of ms)
-sum_more ms i m total size inside is size_is so_far =
-    let front : drop i ms ≡ m ∷ drop (i + 1) ms =
+-- what is left from a place on begins with what stands there
+pub rest_at : (ms : List Mutation) (i : ℕ) (m : Mutation) → i < length ms → m ≡ get_or ms i m
+    → drop i ms ≡ m ∷ drop (i + 1) ms
+rest_at ms i m inside is =
     drop-cons ms i m inside
     ∙ ap (λ (x : Mutation). x ∷ drop (suc i) ms) (sym is)
-    ∙ ap (λ k. m ∷ drop k ms) (sym (add-one i)) in
+    ∙ ap (λ k. m ∷ drop k ms) (sym (add-one i))
+
+pub sum_more : (ms : List Mutation) (i : ℕ) (m : Mutation) (total size : ℕ) {whole : ℕ}
+    → i < length ms → m ≡ get_or ms i m → size ≡ entry_size m
+    → total + length (entries_of (drop i ms)) ≡ whole
+    → total + size + length (entries_of (drop (i + 1) ms)) ≡ whole
+sum_more ms i m total size inside is size_is so_far =
     let first : length (entries_of (drop i ms))
     ≡ entry_size m + length (entries_of (drop (i + 1) ms)) =
-    ap (λ (l : List Mutation). length (entries_of l)) front
+    ap (λ (l : List Mutation). length (entries_of l)) (rest_at ms i m inside is)
     ∙ length-entries_of-cons m (drop (i + 1) ms) in
     omega (arith, first, size_is, so_far)

@@ -11,9 +11,10 @@ pub mod LogReady
 pub mod Looked
 pub mod Merged
 pub mod PlainReady
+mod PutReceipts
 pub mod Quiet
 pub mod Readied
-pub mod Replays
+mod Replays
 pub mod Restored
 pub mod ScanReports
 pub mod SegmentFiles

@@ -33,8 +33,10 @@ use Rattle.clog_base.specs.declared.fault.Quantity.TheVariants.{
   Ids,
   TableFiles,
 }
+use Rattle.std.specs.FinMap as finmap
 use Rattle.clog_disk.specs.Files.{Files, SameTold, Told}
-use Rattle.clog_disk.specs.Images.{LastsAll, Unchanged, Within}
+use Rattle.clog_disk.specs.Images.{IsImage, LastsAll, Unchanged, Within}
+use Rattle.clog_disk.proofs.Named.{same_files}
 use Rattle.clog_crash.specs.Folder.{HasSegmentFile}
 use Rattle.clog_folder.specs.declared.fault.OpenFault.{OpenFault}
 use Rattle.clog_folder.specs.declared.fault.OpenFault.TheVariants.{
@@ -53,7 +55,7 @@ use Rattle.clog_store.specs.Opened.{
   OpenRefused,
   OpensAs,
 }
-use Rattle.clog_store.proofs.OpenedWhole.{keeps_itself, keeps_same}
+use Rattle.clog_store.proofs.OpenedWhole.{image_keeps, keeps_itself, keeps_same, lasts_on}
 use Rattle.clog_engine.specs.declared.status.Status.{Status}
 use Rattle.clog_engine.specs.declared.status.Status.TheVariants as status
 use Rattle.clog_engine.specs.declared.standing.Found.{Found}
@@ -125,39 +127,50 @@ log_before false (Some first) looked cells same shows rows = record {
 
 pub kept_still : (files now : Option Files) (old new : List ℕ → Option (List ℕ) → Type 0)
     → Unchanged files now old new → IsKept files now old new
-kept_still None now old new same = record { told = same.files; same = tt; plain = tt }
+kept_still None now old new same =
+    record { told = same.files; same = tt; plain = tt; lasting = tt }
 kept_still (Some first) now old new same = record {
   told = subst (λ (o : Option Files). SameTold (Some first) o) (sym same.files) tt;
   same = subst (λ (o : Option Files). Told o (KeepsFolder first)) (sym same.files)
       (keeps_itself first);
   plain = λ none. same;
+  lasting = λ lasts. image_keeps first new (lasts_on first old new lasts same.images.fewer);
 }
 
 pub kept_ready : (files now : Option Files) (old new : List ℕ → Option (List ℕ) → Type 0)
     (moment base : ℕ) → MakesReady files now moment base → LeavesAllReady files now old new
     → IsKept files now old new
 kept_ready None now old new moment base made leaves =
-    record { told = made; same = tt; plain = tt }
+    record { told = made; same = tt; plain = tt; lasting = tt }
 kept_ready (Some first) None old new moment base made leaves = absurd made
 kept_ready (Some first) (Some now) old new moment base made leaves = record {
   told = tt;
   same = keeps_same first now made.opened.recovered.same;
   plain = λ none. record { files = ap Some (made.plain none); images = leaves.plain none };
+  lasting = λ lasts image left.
+      subst (KeepsFolder first) (sym (same_files image now (λ n.
+      leaves.lasting lasts n (finmap.get image n) (left n))))
+      (keeps_same first now made.opened.recovered.same);
 }
 
-pub kept_log : (files looked now : Option Files) (old new : List ℕ → Option (List ℕ) → Type 0)
-    → looked ≡ files → IfSome files HasSegmentFile → SameTold looked now
+pub kept_log : (files looked now : Option Files)
+    (old leaves new : List ℕ → Option (List ℕ) → Type 0) → looked ≡ files → Within old leaves
+    → IfSome files HasSegmentFile → SameTold looked now
     → ((first : Files) → looked ≡ Some first → Told now (KeepsFolder first))
+    → ((first : Files) → looked ≡ Some first → LastsAll first leaves → (image : Files)
+    → IsImage new image → KeepsFolder first image)
     → IsKept files now old new
-kept_log None looked now old new same has told keeps = record {
+kept_log None looked now old leaves new same within has told keeps images = record {
   told = subst (λ (o : Option Files). SameTold o now) same told;
   same = tt;
   plain = tt;
+  lasting = tt;
 }
-kept_log (Some first) looked now old new same has told keeps = record {
+kept_log (Some first) looked now old leaves new same within has told keeps images = record {
   told = subst (λ (o : Option Files). SameTold o now) same told;
   same = keeps first same;
   plain = λ none. absurd (none has);
+  lasting = λ lasts. images first same (lasts_on first old leaves lasts within);
 }
 
 pub unchanged_on : (files looked now : Option Files)

@@ -140,23 +140,23 @@ looked_at files f g (NotBuilt Segment) refused before = refused
 -- nor one that comes of reading a segment's file
 pub read_at : (files : Option Files) (f g : ℕ) (name : List ℕ) (status : Status)
     → ReadRefused files f g name status → IsBeforeDisk status → ⊥
-read_at lasted_at files f g name Good refused before = before
-read_at lasted_at files f g name Usage refused before = refused
-read_at lasted_at files f g name (BadLine number cause) refused before = refused
-read_at lasted_at files f g name (TooLarge number size most) refused before = refused
-read_at lasted_at files f g name ReadFault refused before = refused
-read_at lasted_at files f g name WriteFault refused before = before
-read_at lasted_at files f g name DiskFault refused before = before
-read_at lasted_at files f g name (Damaged other at cause) refused before = before
-read_at lasted_at files f g name (BadTable other fault) refused before = before
-read_at lasted_at files f g name OutOfMemory refused before = before
-read_at lasted_at files f g name (Limit FileBytes most) refused before = refused
-read_at lasted_at files f g name (Limit Lines most) refused before = refused
-read_at lasted_at files f g name (Limit SegmentBytes most) refused before = before
-read_at lasted_at files f g name (Limit Ids most) refused before = before
-read_at lasted_at files f g name (Limit TableFiles most) refused before = before
-read_at lasted_at files f g name (Absent other) refused before = before
-read_at lasted_at files f g name (NotBuilt Segment) refused before = refused
+read_at files f g name Good refused before = before
+read_at files f g name Usage refused before = refused
+read_at files f g name (BadLine number cause) refused before = refused
+read_at files f g name (TooLarge number size most) refused before = refused
+read_at files f g name ReadFault refused before = refused
+read_at files f g name WriteFault refused before = before
+read_at files f g name DiskFault refused before = before
+read_at files f g name (Damaged other at cause) refused before = before
+read_at files f g name (BadTable other fault) refused before = before
+read_at files f g name OutOfMemory refused before = before
+read_at files f g name (Limit FileBytes most) refused before = refused
+read_at files f g name (Limit Lines most) refused before = refused
+read_at files f g name (Limit SegmentBytes most) refused before = before
+read_at files f g name (Limit Ids most) refused before = before
+read_at files f g name (Limit TableFiles most) refused before = before
+read_at files f g name (Absent other) refused before = before
+read_at files f g name (NotBuilt Segment) refused before = refused
 
 -- nor one that comes of replaying the folder
 pub replayed_at : (ignore : Bool) (files : Option Files) (f g : ℕ) (status : Status)

@@ -40,20 +40,20 @@ one_scan r a b p q = let same : Scan a ≡ Scan b = sym p ∙ q in cc
 
 -- a request asks for one thing
 one_built : (r : Request) (a b : Built) → IsBuilt r a → IsBuilt r b → a ≡ b
-one_built r (built.Apply d) (built.Apply d') p q =
-    ap (λ (o : ApplyOptions). built.Apply o.dump)
-    (one_apply r (plain_options d) (plain_options d') p q)
-one_built r (built.Apply d) (built.Replay o) p q =
-    let same : Apply (plain_options d) ≡ Replay o = sym p ∙ q in cc
-one_built r (built.Apply d) (built.Scan id) p q =
-    let same : Apply (plain_options d) ≡ Scan q.0 = sym p ∙ q.1 in cc
-one_built r (built.Replay o) (built.Apply d) p q =
-    let same : Replay o ≡ Apply (plain_options d) = sym p ∙ q in cc
+one_built r (built.Apply e d) (built.Apply e' d') p q =
+    ap (λ (o : ApplyOptions). built.Apply o.receipts o.dump)
+    (one_apply r (plain_options e d) (plain_options e' d') p q)
+one_built r (built.Apply e d) (built.Replay o) p q =
+    let same : Apply (plain_options e d) ≡ Replay o = sym p ∙ q in cc
+one_built r (built.Apply e d) (built.Scan id) p q =
+    let same : Apply (plain_options e d) ≡ Scan q.0 = sym p ∙ q.1 in cc
+one_built r (built.Replay o) (built.Apply e d) p q =
+    let same : Replay o ≡ Apply (plain_options e d) = sym p ∙ q in cc
 one_built r (built.Replay o) (built.Replay o') p q = ap built.Replay (one_replay r o o' p q)
 one_built r (built.Replay o) (built.Scan id) p q =
     let same : Replay o ≡ Scan q.0 = sym p ∙ q.1 in cc
-one_built r (built.Scan id) (built.Apply d) p q =
-    let same : Scan p.0 ≡ Apply (plain_options d) = sym p.1 ∙ q in cc
+one_built r (built.Scan id) (built.Apply e d) p q =
+    let same : Scan p.0 ≡ Apply (plain_options e d) = sym p.1 ∙ q in cc
 one_built r (built.Scan id) (built.Replay o) p q =
     let same : Scan p.0 ≡ Replay o = sym p.1 ∙ q in cc
 one_built r (built.Scan id) (built.Scan id') p q =

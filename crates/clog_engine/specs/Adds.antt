@@ -14,21 +14,23 @@ use Rattle.clog_words.specs.Given.{texts}
 use Rattle.clog_engine.specs.Answering.{Reports}
 use Rattle.clog_engine.specs.Apply.{ReadsToEnd}
 use Rattle.clog_engine.specs.Outside.{Outside, Sinks}
-use Rattle.clog_engine.specs.Report.{report_of}
+use Rattle.clog_engine.specs.Report.{head_of, report_of}
 
 -- The mutations are added to what the files restored to, and the rows of the report are those that
 -- the files restore to now.
-pub record IsAddedAndTold (dump : Bool) (before after : Files) (mutations : List Mutation)
-    (report : List ℕ) : Type 0 where
+pub record IsAddedAndTold (dump : Bool) (head : List ℕ) (before after : Files)
+    (mutations : List Mutation) (report : List ℕ) : Type 0 where
   pub added : IsAdded before after mutations
-  pub told : report ≡ report_of dump mutations added.rows_now
+  pub told : report ≡ report_of dump head added.rows_now
 
--- The bytes say these mutations, which are added and told where the disk tells its files.
-pub record AddsFile (dump : Bool) (o : Outside) (report bytes : List ℕ) : Type 0 where
+-- The bytes say these mutations, which are added and told where the disk tells its files; the
+-- receipts are of the segment of an id, which is the new one (`IsApplied`).
+pub record AddsFile (receipts dump : Bool) (o : Outside) (report bytes : List ℕ) : Type 0 where
   pub mutations : List Mutation
+  pub id : ℕ
   pub said : file_mutations bytes ≡ result.Ok mutations
   pub added : IfSome o.files (λ before. Told o.files_now (λ after.
-      IsAddedAndTold dump before after mutations report))
+      IsAddedAndTold dump (head_of receipts id mutations) before after mutations report))
 
 -- There is a report, and it went out whole or the sink failed at it.
 abbrev pub IsReported : Status → Type 0
@@ -37,5 +39,5 @@ IsReported status = (status ≡ Ok) ⊎ (status ≡ WriteFault)
 -- `apply` that comes to a report has added what the source gave.
 abbrev pub Adds : List (String Global) → Outside → Sinks → Status → Type 0
 Adds words o s status =
-    (dump : Bool) → AsksBuilt (texts words) (Apply dump) → IsReported status
-    → (report : List ℕ) × Reports report status s × ReadsToEnd o (AddsFile dump o report)
+    (receipts dump : Bool) → AsksBuilt (texts words) (Apply receipts dump) → IsReported status
+    → (report : List ℕ) × Reports report status s × ReadsToEnd o (AddsFile receipts dump o report)

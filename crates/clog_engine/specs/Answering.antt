@@ -27,7 +27,7 @@ pub record IsUnread (o : Outside) : Type 0 where
 -- What is asked for is done and reported, or is refused; no request at all is refused.
 abbrev pub Does : Option Built → Outside → Result (List ℕ) Status → Type 0
 Does None o outcome = (outcome ≡ result.Err Usage) × IsUntouched o × IsUnread o
-Does (Some (Apply dump)) o outcome = Applies (options_of dump) o outcome
+Does (Some (Apply receipts dump)) o outcome = Applies (options_of receipts dump) o outcome
 Does (Some (Replay options)) o outcome =
     ReplaysFolder options.ignore_errors o.files o.disk_faults o.disk_faults_now outcome
     × IsUntouched o × IsUnread o

@@ -69,7 +69,7 @@ use Rattle.clog_store.specs.Named.{sequence_limit, id_limit}
 use Rattle.clog_store.specs.Opened.{HasGreatId, HasManyTables}
 use Rattle.clog_engine.specs.Outside.{Outside, IsUntouched}
 use Rattle.clog_engine.specs.Ready.{IsKept, LeavesAllReady, LeavesOneTorn, MakesReady}
-use Rattle.clog_engine.specs.Report.{IsReport}
+use Rattle.clog_engine.specs.Report.{IsReport, head_of}
 
 -- the segment of an id: its header, and one section with all entries
 unfoldable pub segment_of : ℕ → List Mutation → List ℕ
@@ -110,7 +110,7 @@ pub record IsBegun (o : Outside) (ready : Option Files) (id : ℕ) : Type 0 wher
   pub made : MakesReady o.files ready now id
 
 -- The file's mutations each have a payload and stand in a new segment of a folder that was made
--- ready, and the report tells them and what the folder restored to.
+-- ready, and the report tells them, where each stands, and what the folder restored to.
 pub record IsApplied (o : Outside) (options : ApplyOptions) (report bytes : List ℕ) : Type 0 where
   pub mutations : List Mutation
   pub accepted : IsAccepted options.capacity bytes mutations
@@ -122,7 +122,8 @@ pub record IsApplied (o : Outside) (options : ApplyOptions) (report bytes : List
   pub landed : Lands o ready id mutations
   pub before : List (CellKey × Cell)
   pub restored : IfSome o.files (λ files. IsRestored files before)
-  pub reported : IsReport options.dump before mutations report
+  pub reported : IsReport options.dump (head_of options.receipts id mutations) before mutations
+      report
 
 -- All was good, and there are mutations. The folder was made ready, and nothing has changed since
 -- but the new segment, of whose name and bytes the part speaks that may be there; a crash leaves at

@@ -57,7 +57,7 @@ pub record IsReplayable (ignore : Bool) (files : Files) : Type 0 where
 -- What is asked for can be done: `apply` has a good mutation file and a folder that can be opened,
 -- `replay` a folder that can be read, `scan` its file.
 abbrev pub IsFit : Built → Outside → Type 0
-IsFit (Apply dump) o = Tells o.left (IsGood greatest_capacity) × Told o.files IsOpenable
+IsFit (Apply receipts dump) o = Tells o.left (IsGood greatest_capacity) × Told o.files IsOpenable
 IsFit (Replay options) o = Told o.files (IsReplayable options.ignore_errors)
 IsFit (Scan id) o = Told o.files (λ files. IsScannable files (segment_name_of 6 id))
 

@@ -3,7 +3,7 @@
 use Rattle.std.specs.Prelude.{◌≡◌, ℕ, List, Option, Some, None, IfSome}
 use Rattle.std.specs.FinMap as finmap
 use Rattle.clog_disk.specs.Files.{Files, SameTold, Told}
-use Rattle.clog_disk.specs.Images.{LastsAll, SameImages, Tears, Unchanged}
+use Rattle.clog_disk.specs.Images.{IsImage, LastsAll, SameImages, Tears, Unchanged}
 use Rattle.clog_crash.specs.Folder.{HasSegmentFile}
 use Rattle.clog_store.specs.Opened.{IsOpened, KeepsFolder}
 
@@ -57,3 +57,6 @@ pub record IsKept (files now : Option Files) (old new : List ℕ → Option (Lis
   pub told : SameTold files now
   pub same : IfSome files (λ first. Told now (KeepsFolder first))
   pub plain : IfSome files (λ first. ¬ HasSegmentFile first → Unchanged files now old new)
+  -- where all of it lasted, whatever a crash leaves has the same too
+  pub lasting : IfSome files (λ first. LastsAll first old
+      → (image : Files) → IsImage new image → KeepsFolder first image)

@@ -8,8 +8,12 @@ use Rattle.clog_words.specs.Given.{texts}
 use Rattle.clog_engine.specs.declared.words.ApplyOptions.{ApplyOptions}
 
 -- How `apply` is done. No word sets the capacity: it is the greatest.
-abbrev pub options_of : Bool → ApplyOptions
-options_of dump = record { capacity = greatest_capacity; dump = dump }
+abbrev pub options_of : Bool → Bool → ApplyOptions
+options_of receipts dump = record {
+  capacity = greatest_capacity;
+  receipts = receipts;
+  dump = dump;
+}
 
 -- The words, as their letters, ask for this, or for nothing that the program does.
 abbrev pub GivesRequest : List (List ℕ) → Option Built → Type 0

@@ -9,7 +9,7 @@ use crate::input::{bytes_of, mutations_of};
 use crate::landing::land;
 use crate::ready::make_ready;
 use crate::refusal::status_of;
-use crate::report::report;
+use crate::report::{head, report};
 use crate::segment::segment;
 use crate::sizes::entries_size;
 use crate::status::Status;
@@ -62,7 +62,11 @@ pub(crate) fn apply<T: Threads + Sync, S: Source, D: Disk, C: Clock, G: Gate + S
         Ok(segment) => segment,
         Err(OutOfMemory) => return Err(Status::OutOfMemory),
     };
-    let report = match report(alloc, ready.cells, mutations, options.dump) {
+    let head = match head(alloc, ready.base, mutations.as_slice(), options.receipts) {
+        Ok(head) => head,
+        Err(OutOfMemory) => return Err(Status::OutOfMemory),
+    };
+    let report = match report(alloc, head, ready.cells, mutations, options.dump) {
         Ok(report) => report,
         Err(OutOfMemory) => return Err(Status::OutOfMemory),
     };

@@ -52,11 +52,11 @@ fn outcome_of<T: Threads + Sync, R: Source, D: Disk, C: Clock, G: Gate + Sync>(
     ensures uncalled { IsRefusedBefore result → disk.new ≡ disk.old }
 {
     match request_of(alloc, words)? {
-        Some(Built::Apply { dump }) => {
+        Some(Built::Apply { receipts, dump }) => {
             apply(
                 rt,
                 alloc,
-                ApplyOptions::new(dump),
+                ApplyOptions::new(receipts, dump),
                 source,
                 disk,
                 clock,
@@ -97,7 +97,7 @@ fn answer<T: Threads + Sync, R: Source, K: Sink, D: Disk, C: Clock, G: Gate + Sy
 /// (none for an empty file), lasting, whose id is the greater of the clock's moment and one more
 /// than each id that the folder named; that the folder restores to what it restored to before with
 /// the mutations' cells merged in, no file of it damaged; and that the report went out whole, whose
-/// dump is what the folder restores to now. Of `replay` it means that the report has the counts of
+/// receipts are the positions of the entries, and whose dump is what the folder restores to now. Of `replay` it means that the report has the counts of
 /// the folder and what it restores to, and that without `--ignore-errors` nothing of the folder is
 /// damaged; of `scan` that the report tells what the segment's file holds.
 ///

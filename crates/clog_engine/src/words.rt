@@ -11,16 +11,19 @@ use std::alloc::Global;
 pub(crate) struct ApplyOptions {
     /// The capacity of a segment, in bytes. No word asks for another than the greatest yet.
     pub(crate) capacity: u32,
+    /// Whether the position of each line's entry is printed (`--receipts`).
+    pub(crate) receipts: bool,
     /// Whether the cells that the folder then holds are printed (`--dump`).
     pub(crate) dump: bool,
 }
 
 impl ApplyOptions {
-    pub(crate) fn new(dump: bool) -> ApplyOptions
-        ensures { result ≡ options_of dump }
+    pub(crate) fn new(receipts: bool, dump: bool) -> ApplyOptions
+        ensures { result ≡ options_of receipts dump }
     {
         ApplyOptions {
             capacity: GREATEST_CAPACITY,
+            receipts,
             dump,
         }
     }

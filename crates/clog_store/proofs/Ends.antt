@@ -26,17 +26,17 @@ use Rattle.std.proofs.Common.{
   length-append,
   append_assoc,
 }
-use Rattle.std.proofs.lemmas.List.{take-append-drop}
+use Rattle.std.proofs.lemmas.List.{nil_from_length, take-append-drop}
 use Rattle.std.specs.Prelude.{is_some, unwrap_or}
 use Rattle.clog_spec.specs.Names.{segment_name_of}
-use Rattle.clog_disk.specs.Files.{AppendsTo, Files, SameTold, bytes_at}
+use Rattle.clog_disk.specs.Files.{AppendsTo, Files, IsEnd, SameTold, bytes_at}
 use Rattle.clog_disk.proofs.Named.{put_here, put_there}
 use Rattle.clog_scan.specs.Cut.{Section}
 use Rattle.clog_crash.specs.Sections.{Brings, IsStored, segment_bytes}
 use Rattle.clog_crash.proofs.changes.Names.{is_named, one_id}
 use Rattle.clog_crash.proofs.changes.Nothing.{there_or_nothing}
 use Rattle.clog_crash.proofs.rest.Rolling.{none_stored}
-use Rattle.clog_store.specs.Life.{HasEnd}
+use Rattle.clog_store.specs.Life.{HasEnd, ReadsAs}
 use Rattle.clog_store.specs.Opened.{IsRecovered, OpensAs}
 
 -- the disk's files have not changed
@@ -62,6 +62,7 @@ end_kept None now id size sections all bytes appends spelled stored end =
       stored = stored;
       size_is = long;
       here = tt;
+      reads = tt;
       above = λ other over limit. tt;
     })
 end_kept (Some f) now id size sections all bytes appends spelled stored end =
@@ -83,6 +84,8 @@ end_kept (Some f) now id size sections all bytes appends spelled stored end =
         length-append (bytes_at f name) bytes,
         ap (λ (o : Option (List ℕ)). length (unwrap_or o [])) (put_here f name held),
       );
+      reads = ap (λ (o : Option (List ℕ)). unwrap_or o []) (put_here f name held)
+          ∙ ap (λ (l : List ℕ). l ++ bytes) end.reads ∙ spelled;
       above = λ other over limit.
           end.above other over limit
           ∙ ap (λ (o : Option (List ℕ)). length (unwrap_or o []))
@@ -105,6 +108,11 @@ end_more told now id size n sections x bytes appends brings end =
     (ap (λ (l : List ℕ). l ++ bytes) (sym before) ∙ brings.spelled ∙ ap (segment_bytes id) all)
     (subst (IsStored id) all brings.stored) end
 
+-- a file that ends at its front reads as no bytes
+empty_reads : (told : Option Files) (name : List ℕ) → IsEnd told name 0 → ReadsAs told name []
+empty_reads None name end = tt
+empty_reads (Some f) name end = nil_from_length (bytes_at f name) (sym end)
+
 -- the log goes on in a later segment
 pub end_rolled : (told : Option Files) (id next size : ℕ) (sections : List Section) → id < next
     → next < 2 ^ 63 → HasEnd told id size sections → HasEnd told next 0 []
@@ -112,6 +120,7 @@ end_rolled told id next size sections over limit end = record {
   stored = none_stored next limit;
   size_is = refl;
   here = end.above next over limit;
+  reads = empty_reads told (segment_name_of 6 next) (end.above next over limit);
   above = λ other more within. end.above other (omega (arith, over, more)) within;
 }
 
@@ -134,6 +143,7 @@ end_opened None now moment base same opens fits =
       stored = none_stored base fits;
       size_is = refl;
       here = tt;
+      reads = tt;
       above = λ other over limit. tt;
     })
 end_opened (Some f) None moment base same opens fits = absurd same
@@ -141,6 +151,7 @@ end_opened (Some f) (Some g) moment base same opens fits = record {
   stored = none_stored base fits;
   size_is = refl;
   here = sym (ap length (nothing_at f g base opens.recovered base fits));
+  reads = nothing_at f g base opens.recovered base fits;
   above = λ other over limit.
       sym (ap length (nothing_at f g base opens.recovered other limit));
 }

@@ -181,6 +181,8 @@ module _ (first : Files) (names : List (List ℕ)) (cells : Pairs) (top : Positi
         file = file;
         sequence = sequence;
         named = named;
+        next = subst (λ (ns : List (List ℕ)). IsBase (OneHas (HasSequence table) ns) 1 sequence)
+            ready.lists next;
         spelled = spelled;
         free = free_first;
         is_recovery_file = is_recovery_file;

@@ -1,4 +1,5 @@
 mod AllGo
+mod Begun
 mod Beside
 mod Changed
 mod Due
@@ -14,9 +15,23 @@ mod Lived
 mod LivedCalls
 mod LivedRolls
 pub mod Looking
+mod NoteBegun
+mod NoteCuts
+mod NoteGoes
+mod NoteGrows
+mod NoteHeld
+mod NoteLeaves
+mod NoteLent
+mod NoteLogged
+mod NoteNext
+mod NoteParts
+mod NoteRuns
+mod NoteSettled
+mod NoteSynced
 mod Noted
 mod OnDisk
 pub mod OpenedWhole
+mod OtherFiles
 mod Outcomes
 mod Picking
 mod Ready

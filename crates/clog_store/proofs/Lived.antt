@@ -21,10 +21,10 @@ use Rattle.std.proofs.Common.{
   arith,
   append_assoc,
 }
-use Rattle.std.specs.Prelude.{option_map}
+use Rattle.std.specs.Prelude.{◌↔◌, option_map}
 use Rattle.std.proofs.lemmas.List.{take-append-drop}
 use Rattle.clog_disk.specs.Files.{Files, Told, SameTold, bytes_at}
-use Rattle.clog_disk.specs.Images.{IsImage, SinceThen}
+use Rattle.clog_disk.specs.Images.{IsImage, LastsAll, SinceThen}
 use Rattle.clog_disk.proofs.Moments.{goes_on_by, kept_since, later_still, started, weakened}
 use Rattle.clog_disk.proofs.Telling.{same_told_self, same_told_then}
 use Rattle.clog_crash.specs.Log.{HasShown, IsResting}
@@ -68,6 +68,14 @@ pub all_of : {A : Type 0} (n : ℕ) (xs more : List A)
 all_of n xs more =
     sym (append_assoc (take n xs) (drop n xs) more)
     ∙ ap (λ l. l ++ more) (take-append-drop n xs)
+
+-- a folder in which all lasts is at rest
+pub rest_at_first : (told : Option Files) (leaves : List ℕ → Option (List ℕ) → Type 0) (id : ℕ)
+    (lasted : Type 0) → IfSome told (λ f. lasted ↔ LastsAll f leaves)
+    → IfSome told (λ f. LastsAll f leaves → IsAtRest f leaves id [] []) → lasted
+    → IfSome told (λ f. IsAtRest f leaves id [] [])
+rest_at_first None leaves id lasted law rests has = tt
+rest_at_first (Some f) leaves id lasted law rests has = rests (law.0 has)
 
 module _ {D : Type 0} (files : D → Option Files) (moment : D → ℕ)
     (since : D → ℕ → Files → Type 0) (leaves : D → List ℕ → Option (List ℕ) → Type 0)

@@ -20,11 +20,12 @@ use Rattle.std.proofs.Common.{
   inr,
   arith,
 }
-use Rattle.std.specs.Prelude.{Err, false}
+use Rattle.std.specs.Prelude.{◌↔◌, Err, IfSome, false}
+use Rattle.std.proofs.lemmas.Option.{none-some}
 use Rattle.std.specs.FinMap as finmap
 use Rattle.std.specs.List.{flat_map}
 use Rattle.clog_cells.proofs.Made.{merge_of}
-use Rattle.clog_disk.specs.Files.{Files, Lists, Told, bytes_at}
+use Rattle.clog_disk.specs.Files.{Files, Lists, SameTold, Told, bytes_at}
 use Rattle.clog_disk.specs.Images.{IsImage, LastsAll, Within}
 use Rattle.clog_disk.proofs.Named.{same_files}
 use Rattle.clog_crash.specs.Counts.{IsLog}
@@ -134,12 +135,31 @@ base_fits P moment base is low = elim is.base.one [
 pub at_rest : (first : Files) (files : Option Files) (moment : ℕ) (known : Known)
     → IsKnown files moment known → moment < 2 ^ 62 → (told : Option Files)
     (leaves : List ℕ → Option (List ℕ) → Type 0) → Told told (IsRecovered first known.base)
-    → Told told (λ now. IsSettled now leaves)
-    → Told told (λ now. IsAtRest now leaves known.base [] [])
-at_rest first files moment known is_known low None leaves recovered settled = absurd settled
-at_rest first files moment known is_known low (Some now) leaves recovered settled =
-    at_opening now leaves known.base (base_fits _ moment known.base is_known.base_is low) settled
+    → Told told (IsSameFolder first)
+    → Told told (λ now. LastsAll now leaves → IsAtRest now leaves known.base [] [])
+at_rest first files moment known is_known low None leaves recovered same = absurd same
+at_rest first files moment known is_known low (Some now) leaves recovered same = λ lasts.
+    at_opening now leaves known.base (base_fits _ moment known.base is_known.base_is low)
+    (record { exact = lasts; undamaged = same.undamaged })
     recovered.no_segment recovered.below
+
+-- where the folder is told then, it is told first
+pub rests_told : (old now : Option Files) (leaves : List ℕ → Option (List ℕ) → Type 0) (base : ℕ)
+    → SameTold old now
+    → ((first : Files) → old ≡ Some first
+    → Told now (λ f. LastsAll f leaves → IsAtRest f leaves base [] []))
+    → IfSome now (λ f. LastsAll f leaves → IsAtRest f leaves base [] [])
+rests_told old None leaves base same rests = tt
+rests_told None (Some g) leaves base same rests =
+    absurd (none-some g (sym same))
+rests_told (Some f) (Some g) leaves base same rests = rests f refl
+
+-- what lasts now is told of this moment
+pub lasted_now : (now : Option Files) (leaves : List ℕ → Option (List ℕ) → Type 0)
+    (lasted : Type 0) → IfSome now (λ f. lasted ↔ LastsAll f leaves)
+    → Told now (λ f. LastsAll f leaves) → lasted
+lasted_now None leaves lasted law lasts = absurd lasts
+lasted_now (Some f) leaves lasted law lasts = law.1 lasts
 
 pub exact_told : (told : Option Files) (leaves : List ℕ → Option (List ℕ) → Type 0)
     → Told told (λ now. IsSettled now leaves) → Told told (λ now. LastsAll now leaves)

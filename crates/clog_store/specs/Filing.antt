@@ -31,11 +31,13 @@ use Rattle.clog_disk.specs.Files.{Files, Told, bytes_at}
 use Rattle.clog_table.specs.declared.table_file.TableFile.{TableFile}
 use Rattle.clog_table.specs.Refusals.{IsFileOf}
 use Rattle.clog_crash.specs.Flush.{IsSameFolder, IsSettled}
+use Rattle.clog_crash.specs.Folder.{IsBase}
 use Rattle.clog_crash.specs.Readings.{IsLoggedCellIn, IsSkippedIn}
 use Rattle.clog_crash.specs.Recovery.{AreFiled, IsGreatestPosition, IsRecoveryFile}
 use Rattle.clog_crash.specs.Restore.{IsUndamaged}
 use Rattle.clog_folder.specs.declared.fault.OpenFault.{OpenFault}
 use Rattle.clog_folder.specs.declared.fault.OpenFault.TheVariants.{Disk, OutOfMemory}
+use Rattle.clog_store.specs.Named.{HasSequence, OneHas}
 
 -- What is known of a folder that is to be recovered: its names, the cells that its log restores,
 -- and where its log ends if it restores any.
@@ -50,11 +52,12 @@ pub record IsReady (first : Files) (names : List (List ℕ)) (cells : List (Cell
       → IsSkippedIn (bytes_at first) table at ⊎ (¬ IsSkippedIn (bytes_at first) table at)
 
 -- These bytes are put at this name, which is free, by a recovery: a file of one table that stands
--- for the whole log.
+-- for the whole log. Its sequence is 1, or one more than the greatest that the table has.
 pub record IsRecoveryPut (first : Files) (name bytes : List ℕ) : Type 0 where
   pub file : TableFile
   pub sequence : ℕ
   pub named : IsTableName name file.table.0 sequence
+  pub next : IsBase (OneHas (HasSequence file.table) (finmap.keys first)) 1 sequence
   pub spelled : IsFileOf file.table bytes file
   pub free : finmap.get first name ≡ None
   pub is_recovery_file : IsRecoveryFile (bytes_at first) file

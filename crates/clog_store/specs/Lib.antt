@@ -2,9 +2,13 @@ pub mod Coming
 pub mod Discards
 pub mod Dropping
 pub mod Filing
+pub mod Grows
 pub mod Life
 pub mod Live
 pub mod Named
+pub mod NoteLog
+pub mod NoteSections
+pub mod NoteSteps
 pub mod Notes
 pub mod OnDisk
 pub mod Opened

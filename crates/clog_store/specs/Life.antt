@@ -11,12 +11,13 @@ use Rattle.std.specs.Prelude.{
   take,
   drop,
   Option,
+  Contains,
   IfSome,
   Bool,
   false,
 }
 use Rattle.clog_spec.specs.Names.{segment_name_of}
-use Rattle.clog_disk.specs.Files.{Files, IsEnd, SameTold}
+use Rattle.clog_disk.specs.Files.{Files, IsEnd, SameTold, bytes_at}
 use Rattle.clog_disk.specs.Images.{IsImage, IsLater, LeavesOnly, SinceThen}
 use Rattle.clog_scan.specs.Cut.{Section}
 use Rattle.clog_crash.specs.Log.{Write, HasShown, IsResting, logged_in}
@@ -35,21 +36,18 @@ pub record State (D : Type 0) : Type 0 where
   pub synced : ℕ
   pub is_stopped : Bool
 
--- A segment can hold the log's sections. Where the disk tells its files, it ends behind them, and
+-- where the files are told, the name reads so
+abbrev pub ReadsAs : Option Files → List ℕ → List ℕ → Type 0
+ReadsAs told name bytes = IfSome told (λ f. bytes_at f name ≡ bytes)
+
+-- A segment can hold the log's sections. Where the disk tells its files, it holds just these, and
 -- no later segment is there.
 pub record HasEnd (told : Option Files) (id size : ℕ) (sections : List Section) : Type 0 where
   pub stored : IsStored id sections
   pub size_is : size ≡ length (segment_bytes id sections)
   pub here : IsEnd told (segment_name_of 6 id) size
+  pub reads : ReadsAs told (segment_name_of 6 id) (segment_bytes id sections)
   pub above : (other : ℕ) → id < other → other < 2 ^ 63 → IsEnd told (segment_name_of 6 other) 0
-
--- what stands from the opening on, whatever lasted before it
-pub record HasBegun {D : Type 0} (files : D → Option Files) (moment : D → ℕ) (disk : D)
-    (opened id size : ℕ) (sections : List Section) (synced : ℕ) (is_stopped : Bool) : Type 0 where
-  pub began : opened ≤ moment disk
-  pub few : synced ≤ length sections
-  -- until the disk has failed
-  pub ends : is_stopped ≡ false → HasEnd (files disk) id size sections
 
 -- how many entries of its log last
 abbrev pub lasting_in : {D : Type 0} → State D → ℕ
@@ -94,6 +92,20 @@ pub record Lives {D : Type 0} (files : D → Option Files) (moment : D → ℕ)
   pub lasts : LastsNow files leaves read_at lasted_at s
   -- until the disk has failed
   pub rests : s.is_stopped ≡ false → RestsNow files leaves read_at lasted_at s
+
+-- what stands from the opening on
+pub record HasBegun {D : Type 0} (files : D → Option Files) (moment : D → ℕ)
+    (since : D → ℕ → Files → Type 0) (leaves : D → List ℕ → Option (List ℕ) → Type 0)
+    (read_at : D → ℕ → Option Reading) (lasted_at : D → ℕ → Type 0) (s : State D) (size : ℕ)
+    : Type 0 where
+  pub began : s.opened ≤ moment s.disk
+  pub few : s.synced ≤ length s.sections
+  pub past_below : (w : Write) → Contains s.past w → w.id < s.id
+  pub past_stored : (w : Write) → Contains s.past w → IsStored w.id w.sections
+  -- until the disk has failed
+  pub ends : s.is_stopped ≡ false → HasEnd (files s.disk) s.id size s.sections
+  -- where all lasted at the opening
+  pub lives : lasted_at s.disk s.opened → Lives files moment since leaves read_at lasted_at s
 
 -- What an image has shown of the one log it shows of the other, which goes on from it.
 abbrev pub ShowsOn : {D : Type 0} → Reading → State D → State D → Type 0

@@ -1,5 +1,28 @@
--- What a store's calls make of it, one after another.
-use Rattle.std.specs.Prelude.{◌≡◌, ◌⊎◌, [], ◌∷◌, ◌++◌, length, true, false, Result, Ok, Err}
+-- What the calls of a log make of it, one after another.
+use Rattle.std.specs.Prelude.{
+  ◌≡◌,
+  ◌⊎◌,
+  ℕ,
+  ◌≤◌,
+  List,
+  [],
+  ◌∷◌,
+  ◌++◌,
+  length,
+  Bool,
+  true,
+  false,
+  Option,
+  OnOk,
+  Result,
+  Ok,
+  Err,
+}
+use Rattle.clog_io.specs.Causes.{Rose}
+use Rattle.clog_disk.specs.declared.change.Change.{Change}
+use Rattle.clog_disk.specs.declared.change.Change.TheVariants as change
+use Rattle.clog_disk.specs.Changes.{Adds}
+use Rattle.clog_disk.specs.Files.{AppendsTo, Files, SameTold}
 use Rattle.clog_scan.specs.Cut.{Section}
 use Rattle.clog_store.specs.declared.written.StoreFault.{StoreFault}
 use Rattle.clog_store.specs.declared.written.StoreFault.TheVariants.{Stopped, OutOfMemory}
@@ -18,20 +41,18 @@ HasMore before now section =
       is_stopped = false;
     }
 
--- It has stopped: its disk has failed, now or before. A section that was being written is among its
--- sections, since images may show it.
-pub record Stops {D : Type 0} (before now : State D) : Type 0 where
-  pub opened : now.opened ≡ before.opened
-  pub past : now.past ≡ before.past
-  pub id : now.id ≡ before.id
-  pub synced : now.synced ≡ before.synced
-  pub stopped : now.is_stopped ≡ true
-
--- The section is kept; where memory was refused nothing has changed.
+-- The section is kept; where memory was refused nothing has changed. Where the disk has failed in
+-- the call, the section is among the others, since images may show it.
 abbrev pub Keeps : {D T : Type 0} → State D → State D → Section → Result T StoreFault → Type 0
 Keeps before now section (Ok done) = HasMore before now section
 Keeps before now section (Err OutOfMemory) = IsAsBefore before now
-Keeps before now section (Err Stopped) = Stops before now
+Keeps before now section (Err Stopped) =
+    ((before.is_stopped ≡ true) × (now ≡ before))
+    ⊎ (now ≡ record before {
+      disk = now.disk;
+      sections = before.sections ++ section ∷ [];
+      is_stopped = true;
+    })
 
 -- All sections last; where memory was refused nothing has changed.
 abbrev pub Settles : {D T : Type 0} → State D → State D → Result T StoreFault → Type 0
@@ -42,18 +63,29 @@ Settles before now (Ok done) =
       is_stopped = false;
     }
 Settles before now (Err OutOfMemory) = IsAsBefore before now
-Settles before now (Err Stopped) = Stops before now
+Settles before now (Err Stopped) = now ≡ record before { disk = now.disk; is_stopped = true }
 
--- All sections last, and this one is the last of them. Where memory was refused it is kept, or
--- nothing has changed.
-abbrev pub Writes : {D T : Type 0} → State D → State D → Section → Result T StoreFault → Type 0
-Writes before now section (Ok done) =
-    now ≡ record before {
-      disk = now.disk;
-      sections = before.sections ++ section ∷ [];
-      synced = length (before.sections ++ section ∷ []);
-      is_stopped = false;
-    }
-Writes before now section (Err OutOfMemory) =
-    IsAsBefore before now ⊎ HasMore before now section
-Writes before now section (Err Stopped) = Stops before now
+-- What a call makes of the disk that puts bytes behind those of a file: they stand there, by one
+-- change; where memory was refused no file has changed.
+pub record AddsBytes {T : Type 0} (told now : Option Files) (before after : Option (List Change))
+    (name bytes : List ℕ) (result : Result T StoreFault) : Type 0 where
+  pub still_told : SameTold told now
+  pub adds : Adds (change.Append name bytes) before after result
+  pub appends : OnOk result (AppendsTo told now name bytes)
+  pub same : result ≡ Err OutOfMemory → now ≡ told
+
+-- A call that puts or removes other files changes nothing of the log, but that the disk may have
+-- failed in it.
+abbrev pub Passes : {D T : Type 0} → State D → State D → Result T StoreFault → Type 0
+Passes before now (Ok done) = IsAsBefore before now
+Passes before now (Err OutOfMemory) = IsAsBefore before now
+Passes before now (Err Stopped) = now ≡ record before { disk = now.disk; is_stopped = true }
+
+-- Why a log did not do what it was called for: the disk has failed, in this call or before; of this
+-- its count tells. Else it counted none.
+abbrev pub HasLogCause : {T : Type 0} → Bool → ℕ → ℕ → Result T StoreFault → Type 0
+HasLogCause was_stopped faults now (Ok done) = (was_stopped ≡ false) × (now ≡ faults)
+HasLogCause was_stopped faults now (Err OutOfMemory) = (was_stopped ≡ false) × (now ≡ faults)
+HasLogCause was_stopped faults now (Err Stopped) =
+    ((was_stopped ≡ true) × (now ≡ faults))
+    ⊎ ((was_stopped ≡ false) × (faults ≤ now) × Rose faults now)

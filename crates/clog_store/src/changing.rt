@@ -49,6 +49,8 @@ pub fn put_table<D: Disk>(
         (D.changes disk.old) (D.changes disk.new) result }
     ensures later { IsLater D.moment D.read_at D.lasted_at disk.old disk.new }
     ensures found { result ≢ Err no_file }
+    ensures same { result ≢ Err failed → OnErr result (Unchanged (D.files disk.old)
+        (D.files disk.new) (D.leaves disk.old) (D.leaves disk.new)) }
     ensures cause { HasDiskCause (D.faults disk.old) (D.faults disk.new) result }
     ensures comes { (r : Reading) (past : List Write) (id : ℕ) (old kept : List Section)
         (file : TableFile) → file.table ≡ table

@@ -57,7 +57,12 @@ fn first_bytes(alloc: Global, id: u64, entries: &[u8]) -> Result<Vec<u8>, AllocE
     joined(alloc, &write_header(id), &section)
 }
 
-fn bytes_of_next(alloc: Global, id: u64, size: u32, entries: &[u8]) -> Result<Vec<u8>, AllocError>
+pub(crate) fn bytes_of_next(
+    alloc: Global,
+    id: u64,
+    size: u32,
+    entries: &[u8],
+) -> Result<Vec<u8>, AllocError>
     requires room { size + front_size + length entries.now < 2 ^ 31 }
     ensures { IfOk result (λ bytes. bytes.items ≡ next_bytes id size entries.now) }
 {

@@ -153,9 +153,8 @@ pub fn recover<D: Disk>(alloc: Global, disk: &mut D, moment: u64) -> Result<u64,
         → LastsAll first (D.leaves disk.old)
         → OnOk result (Told (D.files disk.new) (λ now. LastsAll now (D.leaves disk.new))) }
     ensures rests { (first : Files) → D.files disk.old ≡ Some first
-        → LastsAll first (D.leaves disk.old)
-        → IfOk result (λ base. Told (D.files disk.new) (λ now.
-        IsAtRest now (D.leaves disk.new) base [] [])) }
+        → IfOk result (λ base. Told (D.files disk.new) (λ now. LastsAll now (D.leaves disk.new)
+        → IsAtRest now (D.leaves disk.new) base [] [])) }
     ensures any_moment { (first : Files) → D.files disk.old ≡ Some first
         → LastsAll first (D.leaves disk.old)
         → LeavesOnly D.moment D.since disk.old disk.new (KeepsFolder first) }

@@ -4,7 +4,7 @@
 ghost use Rattle.std.specs.Prelude.{◌≡◌, ◌≢◌, ℕ, List, Err, OnOk, OnErr};
 ghost use Rattle.clog_disk.specs.Causes.{HasDiskCause};
 ghost use Rattle.clog_disk.specs.Files.{SameTold};
-ghost use Rattle.clog_disk.specs.Images.{IsLater, LeavesOnly};
+ghost use Rattle.clog_disk.specs.Images.{IsLater, LeavesOnly, Unchanged};
 ghost use Rattle.clog_disk.specs.declared.disk.DiskFault.TheVariants.{
   Failed as failed,
   NoSuchFile as no_file,
@@ -55,6 +55,8 @@ pub fn publish_file<D: Disk>(
     ensures comes { OnOk result (HasCome (D.files disk.old) (D.files disk.new)
         (D.changes disk.old) (D.changes disk.new) (file_at base file cells.now) sequence) }
     ensures quiet { OnErr result (D.changes disk.new ≡ D.changes disk.old) }
+    ensures same { result ≢ Err failed → OnErr result (Unchanged (D.files disk.old)
+        (D.files disk.new) (D.leaves disk.old) (D.leaves disk.new)) }
     ensures rests { (r : Reading) (past : List Write) (id : ℕ) (old kept : List Section)
         → MayPut (D.files disk.old) (D.leaves disk.old) r past id old kept
         (file_at base file cells.now) sequence

@@ -2,12 +2,15 @@
 //! then made to last. A store changes its own numbers between the two.
 ghost use Rattle.std.specs.Prelude.{◌≡◌, ◌≢◌, ◌⊎◌, ◌++◌, [], ℕ, List, OnOk, OnErr, Err};
 ghost use Rattle.clog_spec.specs.Names.{segment_name_of};
-ghost use Rattle.clog_disk.specs.Causes.{HasDiskCause};
+ghost use Rattle.clog_disk.specs.Causes.{Finds, HasDiskCause};
 ghost use Rattle.clog_disk.specs.Changes.{Adds};
 ghost use Rattle.clog_disk.specs.Files.{AppendsTo, IsEnd, SameTold};
 ghost use Rattle.clog_disk.specs.Images.{IsLater, LeavesOnly};
 ghost use Rattle.clog_disk.specs.declared.change.Change.TheVariants as change;
-ghost use Rattle.clog_disk.specs.declared.disk.DiskFault.TheVariants.{Failed as failed};
+ghost use Rattle.clog_disk.specs.declared.disk.DiskFault.TheVariants.{
+  Failed as failed,
+  NoSuchFile as no_file,
+};
 ghost use Rattle.clog_scan.specs.Cut.{Section};
 ghost use Rattle.clog_crash.specs.Log.{Write};
 ghost use Rattle.clog_crash.specs.Readings.{Reading};
@@ -33,6 +36,7 @@ pub fn keep_sections<D: Disk>(
         (D.changes disk.new) result }
     ensures later { IsLater D.moment D.read_at D.lasted_at disk.old disk.new }
     ensures cause { HasDiskCause (D.faults disk.old) (D.faults disk.new) result }
+    ensures found { result ≢ Err no_file }
     ensures kept { (r : Reading) (past : List Write) (old kept new : List Section)
         → Brings id old kept new bytes.now
         → RestsAt (D.files disk.old) (D.leaves disk.old) r past id old kept
@@ -60,6 +64,7 @@ pub fn settle_sections<D: Disk>(disk: &mut D, id: u64) -> Result<(), DiskFault>
     ensures quiet { D.changes disk.new ≡ D.changes disk.old }
     ensures later { IsLater D.moment D.read_at D.lasted_at disk.old disk.new }
     ensures cause { HasDiskCause (D.faults disk.old) (D.faults disk.new) result }
+    ensures finds { Finds (D.files disk.old) (segment_name_of 6 id) result }
     ensures lasts { (r : Reading) (past : List Write) (old kept : List Section)
         → RestsAt (D.files disk.old) (D.leaves disk.old) r past id old kept
         → OnOk result

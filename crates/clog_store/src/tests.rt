@@ -1,6 +1,6 @@
 //! The example segment of the formats is recovered. Its bytes, and those of the table file, were
 //! worked out by hand and by Python's struct and zlib.
-use crate::{Store, recover};
+use crate::{SectionLog, recover};
 use clog_base::{Table, segment_name, table_name};
 use clog_disk::{Disk, MemDisk};
 use clog_folder::OpenFault;
@@ -55,7 +55,7 @@ fn a_damaged_folder_is_left_alone(rt: HostRuntime) -> Result<(), Fail> {
 fn a_store_opens_over_what_it_recovers(rt: HostRuntime) -> Result<(), Fail> {
     let mut disk = MemDisk::new(rt.alloc());
     disk.publish(&segment_name(1000), &SEGMENT)?;
-    let Some(store) = Store::open(rt.alloc(), disk, 1000).ok() else {
+    let Some(store) = SectionLog::open(rt.alloc(), disk, 1000).ok() else {
         return Err(Fail::new("no store"));
     };
     let mut disk = store.into_disk();

@@ -9,22 +9,22 @@ use Rattle.clog_words.specs.declared.request.ApplyOptions.{ApplyOptions}
 use Rattle.clog_words.specs.declared.request.Request.{Request}
 use Rattle.clog_words.specs.declared.request.Request.TheVariants.{Apply, Replay, Scan}
 
--- each option of `apply` but `--dump` as it is where it is not given
-abbrev pub plain_options : Bool → ApplyOptions
-plain_options dump = record {
+-- each option of `apply` but `--receipts` and `--dump` as it is where it is not given
+abbrev pub plain_options : Bool → Bool → ApplyOptions
+plain_options receipts dump = record {
   writers = 1;
   sync = Periodic 10000;
   segment_kib = 32768;
   flush_at = None;
   archive = false;
-  receipts = false;
+  receipts = receipts;
   drain = false;
   dump = dump;
 }
 
 -- The request asks for this, which the program does.
 abbrev pub IsBuilt : Request → Built → Type 0
-IsBuilt request (built.Apply dump) = request ≡ Apply (plain_options dump)
+IsBuilt request (built.Apply receipts dump) = request ≡ Apply (plain_options receipts dump)
 IsBuilt request (built.Replay options) = request ≡ Replay options
 IsBuilt request (built.Scan id) =
     (name : List ℕ) × (request ≡ Scan name) × IsSegmentName name 6 id

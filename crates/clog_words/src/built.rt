@@ -11,12 +11,14 @@ use clog_base::Name;
 use std::alloc::Global;
 use sync_core::SyncCore;
 
-/// One thing that the program does. Of `apply` it does what all options but `--dump` ask for by
-/// their defaults, given or not; of `drill` nothing.
+/// One thing that the program does. Of `apply` it does what all options but `--receipts` and
+/// `--dump` ask for by their defaults, given or not; of `drill` nothing.
 #[derive(Clone, Copy, Debug, PartialEq, Eq)]
 pub enum Built {
     /// `apply`: apply the mutation file on standard input.
     Apply {
+        /// `--receipts`: the position of each line's entry is printed.
+        receipts: bool,
         /// `--dump`: the cells are printed at the end.
         dump: bool,
     },
@@ -29,9 +31,9 @@ pub enum Built {
     },
 }
 
-// What `apply` asks for where no option but `--dump` says another than its default.
-fn plain(dump: bool) -> ApplyOptions
-    ensures { result ≡ plain_options dump }
+// What `apply` asks for where no option but these two says another than its default.
+fn plain(receipts: bool, dump: bool) -> ApplyOptions
+    ensures { result ≡ plain_options receipts dump }
 {
     ApplyOptions {
         writers: 1,
@@ -39,7 +41,7 @@ fn plain(dump: bool) -> ApplyOptions
         segment_kib: 32_768,
         flush_at: None,
         archive: false,
-        receipts: false,
+        receipts,
         drain: false,
         dump,
     }
@@ -49,9 +51,9 @@ fn apply(options: ApplyOptions) -> Option<Built>
     ensures { MatchOption result ((built : AskedBuilt) → ¬ IsBuilt (Request.Apply options) built)
         (IsBuilt (Request.Apply options)) }
 {
-    let dump = options.dump;
-    if options == plain(dump) {
-        Some(Built::Apply { dump })
+    let (receipts, dump) = (options.receipts, options.dump);
+    if options == plain(receipts, dump) {
+        Some(Built::Apply { receipts, dump })
     } else {
         None
     }

@@ -188,8 +188,20 @@ fn what_is_built_is_asked_for(rt: HostRuntime) -> Result<(), Fail> {
         ignore_errors: true,
     };
     for (line, built) in [
-        ("apply", Built::Apply { dump: false }),
-        ("apply --dump --writers 1", Built::Apply { dump: true }),
+        (
+            "apply --receipts",
+            Built::Apply {
+                receipts: true,
+                dump: false,
+            },
+        ),
+        (
+            "apply --dump --writers 1",
+            Built::Apply {
+                receipts: false,
+                dump: true,
+            },
+        ),
         ("scan CommitLog-6-1000.log", Built::Scan { id: 1000 }),
         (
             "replay --ignore-errors --workers=64",
@@ -209,7 +221,7 @@ fn what_is_planned_alone_is_refused(rt: HostRuntime) -> Result<(), Fail> {
         "apply --sync batch",
         "apply --segment-kib 4",
         "apply --flush-at 1",
-        "apply --receipts",
+        "apply --drain",
         "drill 7 2",
         "help",
     ] {

@@ -7,6 +7,7 @@ use Rattle.clog_engine.specs.Apply.{Gains, segment_of}
 use Rattle.clog_mutation.specs.declared.mutation.Mutation.{Mutation}
 use Rattle.clog_mutation.specs.Stored.{IsStored}
 use Rattle.clog_engine.specs.Reading.{HasShortSize}
+use Rattle.clog_engine.specs.Report.{head_of}
 use Rattle.clog_engine.proofs.Applied.{
   accepted_as,
   short_size,
@@ -52,6 +53,11 @@ returns-in-Err-segment-clause-applies g c =
     let r = c.in-Ok.ensures.readies in
     inr (inl (kept_ready _ _ _ _ r.moment c.in-Ok.ready.base r.made r.images))
 
+pub returns-in-Err-head-clause-applies : goal.returns-in-Err-head-clause-applies
+returns-in-Err-head-clause-applies g c =
+    let r = c.in-Ok.ensures.readies in
+    inr (inl (kept_ready _ _ _ _ r.moment c.in-Ok.ready.base r.made r.images))
+
 pub returns-in-Err-report-clause-applies : goal.returns-in-Err-report-clause-applies
 returns-in-Err-report-clause-applies g c =
     let r = c.in-Ok.ensures.readies in
@@ -85,8 +91,9 @@ returns-then-lines-eq0-clause-applies g c =
         });
         before = r.before;
         restored = r.restored;
-        reported = report_over c.args.options.dump r.before c.in-Ok.ready.cells mutations
-            c.in-Ok-report.report r.shown c.in-Ok-report.ensures;
+        reported = report_over c.args.options.dump _ _ r.before c.in-Ok.ready.cells mutations
+            c.in-Ok-report.report (c.in-Ok-head.ensures
+            ∙ ap (head_of c.args.options.receipts c.in-Ok.ready.base) c.as_slice-3.ensures) r.shown c.in-Ok-report.ensures;
       },
     )
 
@@ -145,8 +152,9 @@ returns-in-Ok-land-clause-applies g c =
         });
         before = r.before;
         restored = r.restored;
-        reported = report_over c.args.options.dump r.before c.in-Ok.ready.cells mutations
-            c.in-Ok-report.report r.shown c.in-Ok-report.ensures;
+        reported = report_over c.args.options.dump _ _ r.before c.in-Ok.ready.cells mutations
+            c.in-Ok-report.report (c.in-Ok-head.ensures
+            ∙ ap (head_of c.args.options.receipts c.in-Ok.ready.base) c.as_slice-3.ensures) r.shown c.in-Ok-report.ensures;
       },
     )
 

@@ -63,11 +63,14 @@ returns-in-Err-recover-clause-readies g c =
           c.folder_status.ensures ends.alone
           (λ still. unchanged_on (D.files old) (D.files looked) (D.files new) (D.leaves old)
           (D.leaves looked) (D.leaves new) same still.same)
-          (kept_log (D.files old) (D.files looked) (D.files new) (D.leaves old) (D.leaves new)
-          same.files
+          (kept_log (D.files old) (D.files looked) (D.files new) (D.leaves old) (D.leaves looked)
+          (D.leaves new) same.files same.images.fewer
           (subst (λ (f : Found).
           Looks c.args.dump (D.files old) (D.faults old) (D.faults looked) (Ok f))
-          c.in-Ok-Log.field-0-is c.in-Ok-Log.ensures.looks).0 ends.told ends.keeps),
+          c.in-Ok-Log.field-0-is c.in-Ok-Log.ensures.looks).0 ends.told ends.keeps
+          (λ first is lasts image left. let any = ends.any_moment first is lasts in
+          any.each image
+          (g.met.D.Disk.counts_now new (D.moment looked) image any.later left))),
     )
 
 pub returns-in-Err-clause-readies : goal.returns-in-Err-clause-readies

@@ -10,11 +10,11 @@ pub replay_folder-requires : goal.replay_folder-requires
 replay_folder-requires g c =
     let words = c.args.words.now in
     let options = c.in-Some-Replay.options in
-    let is : c.in_ok-dump.field-0 ≡ Some (Replay options) =
+    let is : c.in_ok-receipts.field-0 ≡ Some (Replay options) =
     c.in-Some-Replay.is ∙ ap Some c.in-Some-Replay.field-0-is in (
       c.type_bounds.sync-T,
       (
         record { shared = c.type_bounds.sync-G.shared },
-        workers_within (texts words) options (subst (Asks words) is c.in_ok-dump.ensures),
+        workers_within (texts words) options (subst (Asks words) is c.in_ok-receipts.ensures),
       ),
     )

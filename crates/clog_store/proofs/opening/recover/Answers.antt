@@ -162,19 +162,15 @@ returns-in-Ok-recover_folder-clause-fits g c =
     base_fits _ c.args.moment c.in-Ok.known.base c.in-Ok.ensures.looks.base_is c.requires.moment
 
 pub returns-in-Ok-recover_folder-clause-rests : goal.returns-in-Ok-recover_folder-clause-rests
-returns-in-Ok-recover_folder-clause-rests g c first is lasts =
+returns-in-Ok-recover_folder-clause-rests g c first is =
     let D = g.D.Disk in
-    let old = c.args.disk.now in
-    let mid = c.look.new.disk in
     let is_mid = c.look.ensures.keeps.same.files ∙ is in
-    at_rest first (D.files old) c.args.moment c.in-Ok.known c.in-Ok.ensures.looks
+    at_rest first (D.files c.args.disk.now) c.args.moment c.in-Ok.known c.in-Ok.ensures.looks
     c.requires.moment (D.files c.recover_folder.new.disk) (D.leaves c.recover_folder.new.disk)
     (c.in-Ok-recover_folder.ensures.files first is_mid c.in-Ok.known.base
-    (known_above first (D.files old) is c.args.moment c.in-Ok.known c.in-Ok.ensures.looks))
-    (c.in-Ok-recover_folder.ensures.settles first is_mid
-    (known_settled first (D.files old) is c.args.moment c.in-Ok.known c.in-Ok.ensures.looks
-    (D.leaves mid) (lasts_on first (D.leaves old) (D.leaves mid) lasts
-    c.look.ensures.keeps.same.images.fewer)))
+    (known_above first (D.files c.args.disk.now) is c.args.moment c.in-Ok.known
+    c.in-Ok.ensures.looks))
+    (c.recover_folder.ensures.same first is_mid)
 
 pub returns-in-Ok-recover_folder-clause-lasts : goal.returns-in-Ok-recover_folder-clause-lasts
 returns-in-Ok-recover_folder-clause-lasts g c first is lasts =

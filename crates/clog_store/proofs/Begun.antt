@@ -1,0 +1,156 @@
+-- What a log keeps from its opening on.
+use Rattle.std.proofs.Common.{
+  ◌≡◌,
+  ℕ,
+  ◌≤◌,
+  List,
+  [],
+  ◌∷◌,
+  ◌++◌,
+  length,
+  Option,
+  Some,
+  None,
+  false,
+  IfSome,
+  refl,
+  sym,
+  ap,
+  subst,
+  inl,
+  inr,
+  arith,
+}
+use Rattle.std.specs.Prelude.{◌↔◌, ◌⊎◌, ◌<◌, ◌^◌, Bool, Contains, option_map}
+use Rattle.std.proofs.lemmas.List.Elements.{Contains-push_cases}
+use Rattle.clog_disk.specs.Files.{Files, bytes_at}
+use Rattle.clog_disk.specs.Images.{IsImage, IsLater, LastsAll}
+use Rattle.clog_scan.specs.Cut.{Section}
+use Rattle.clog_crash.specs.Log.{Write}
+use Rattle.clog_crash.specs.Readings.{Reading}
+use Rattle.clog_crash.specs.Rest.{IsAtRest}
+use Rattle.clog_crash.specs.Sections.{IsStored}
+use Rattle.clog_store.specs.Life.{HasBegun, HasEnd, Lives, LivesOn, State}
+use Rattle.clog_store.specs.Several.{written}
+use Rattle.clog_store.proofs.Ends.{end_rolled}
+use Rattle.clog_store.proofs.Lived.{lives_at_first, rest_at_first}
+
+none_below : (w : Write) (P : Type 0) → Contains [] w → P
+none_below w P among = absurd (omega (arith, among.1))
+
+module _ {D : Type 0} (files : D → Option Files) (moment : D → ℕ)
+    (since : D → ℕ → Files → Type 0) (leaves : D → List ℕ → Option (List ℕ) → Type 0)
+    (read_at : D → ℕ → Option Reading) (lasted_at : D → ℕ → Type 0) where
+  pub begun : (disk : D) (opened id : ℕ) (past : List Write) (sections : List Section)
+      → opened ≡ moment disk → past ≡ [] → sections ≡ []
+      → read_at disk (moment disk) ≡ option_map bytes_at (files disk)
+      → ((image : Files) → since disk (moment disk) image → IsImage (leaves disk) image)
+      → IfSome (files disk) (λ f. lasted_at disk (moment disk) ↔ LastsAll f (leaves disk))
+      → HasEnd (files disk) id 0 []
+      → IfSome (files disk) (λ f. LastsAll f (leaves disk) → IsAtRest f (leaves disk) id [] [])
+      → HasBegun files moment since leaves read_at lasted_at (record {
+        disk = disk;
+        opened = opened;
+        past = past;
+        id = id;
+        sections = sections;
+        synced = 0;
+        is_stopped = false;
+      }) 0
+  begun disk opened id past sections now none_past none reads only lasts end rests = record {
+    began = omega (arith, now);
+    few = omega arith;
+    past_below = λ w among. none_below w (w.id < id)
+        (subst (λ (l : List Write). Contains l w) none_past among);
+    past_stored = λ w among. none_below w (IsStored w.id w.sections)
+        (subst (λ (l : List Write). Contains l w) none_past among);
+    ends = λ runs. subst (λ (l : List Section). HasEnd (files disk) id 0 l) (sym none) end;
+    lives = λ lasted.
+        subst (λ (ps : List Write). Living ps sections) (sym none_past)
+        (subst (λ (l : List Section). Living [] l) (sym none)
+        (lives_at_first files moment since leaves read_at lasted_at disk opened id now reads only
+        (rest_at_first (files disk) (leaves disk) id (lasted_at disk (moment disk)) lasts rests
+        (subst (λ (t : ℕ). lasted_at disk t) now lasted))));
+  }
+    where
+      Living : List Write → List Section → Type 0
+      Living ps l = Lives files moment since leaves read_at lasted_at (record {
+        disk = disk;
+        opened = opened;
+        past = ps;
+        id = id;
+        sections = l;
+        synced = 0;
+        is_stopped = false;
+      })
+
+  -- a call by which the log stays in its segment
+  pub begun_on : (s : State D) (size : ℕ) (disk : D) (sections : List Section) (synced : ℕ)
+      (stopped : Bool) (size_now : ℕ)
+      → HasBegun files moment since leaves read_at lasted_at s size
+      → IsLater moment read_at lasted_at s.disk disk → synced ≤ length sections
+      → (stopped ≡ false → HasEnd (files disk) s.id size_now sections)
+      → (Lives files moment since leaves read_at lasted_at s
+      → LivesOn files moment since leaves read_at lasted_at s (record s {
+        disk = disk;
+        sections = sections;
+        synced = synced;
+        is_stopped = stopped;
+      }))
+      → HasBegun files moment since leaves read_at lasted_at (record s {
+        disk = disk;
+        sections = sections;
+        synced = synced;
+        is_stopped = stopped;
+      }) size_now
+  begun_on s size disk sections synced stopped size_now begun later few ends on = record {
+    began = omega (arith, begun.began, later.no_sooner);
+    few = few;
+    past_below = begun.past_below;
+    past_stored = begun.past_stored;
+    ends = ends;
+    lives = λ lasted. (on (begun.lives ((later.lasted_then s.opened begun.began).0 lasted))).lives;
+  }
+
+  -- it goes on in a further segment
+  pub begun_rolled : (s : State D) (size next : ℕ) (past : List Write) (sections : List Section)
+      → past ≡ s.past ++ written s.id s.sections ∷ [] → sections ≡ [] → s.id < next
+      → next < 2 ^ 63 → s.is_stopped ≡ false
+      → HasBegun files moment since leaves read_at lasted_at s size
+      → (Lives files moment since leaves read_at lasted_at s
+      → LivesOn files moment since leaves read_at lasted_at s (record s {
+        past = past;
+        id = next;
+        sections = sections;
+        synced = 0;
+      }))
+      → HasBegun files moment since leaves read_at lasted_at (record s {
+        past = past;
+        id = next;
+        sections = sections;
+        synced = 0;
+      }) 0
+  begun_rolled s size next past sections past_is none over limit runs begun on = record {
+    began = begun.began;
+    few = omega arith;
+    past_below = λ w among. elim (last_or w among) [
+      | inl before ↦ let low = begun.past_below w before in omega (arith, low, over)
+      | inr same ↦ omega (arith, ap (λ (x : Write). x.id) same, over)
+    ];
+    past_stored = λ w among. elim (last_or w among) [
+      | inl before ↦ begun.past_stored w before
+      | inr same ↦ subst (λ (x : Write). IsStored x.id x.sections) same end.stored
+    ];
+    ends = λ still. subst (λ (l : List Section). HasEnd (files s.disk) next 0 l) (sym none)
+        (end_rolled (files s.disk) s.id next size s.sections over limit end);
+    lives = λ lasted. (on (begun.lives lasted)).lives;
+  }
+    where
+      end : HasEnd (files s.disk) s.id size s.sections
+      end = begun.ends runs
+
+      last_or : (w : Write) → Contains past w
+          → Contains s.past w ⊎ (written s.id s.sections ≡ w)
+      last_or w among =
+          Contains-push_cases s.past (written s.id s.sections) w
+          (subst (λ (l : List Write). Contains l w) past_is among)

@@ -1,0 +1,65 @@
+-- A log of notes begins.
+use Rattle.std.proofs.Common.{
+  ◌≡◌,
+  ℕ,
+  ◌+◌,
+  ◌<◌,
+  ◌≤◌,
+  ◌^◌,
+  inl,
+  inr,
+  List,
+  [],
+  length,
+  take,
+  refl,
+  sym,
+  subst,
+  arith,
+}
+use Rattle.std.proofs.lemmas.List.{take_all}
+use Rattle.clog_base.specs.declared.sizes.Sizes.{Sizes}
+use Rattle.clog_base.proofs.Members.{nothing_there}
+use Rattle.clog_scan.specs.Cut.{Section}
+use Rattle.clog_crash.specs.Log.{Write}
+use Rattle.clog_store.specs.Life.{State}
+use Rattle.clog_store.specs.NoteLog.{IsNoteLog}
+use Rattle.clog_store.specs.NoteSteps.{standing}
+
+module _ {D : Type 0} (sizes : Sizes) (log : State D) where
+  begun_bare : log.id < 2 ^ 62
+      → IsNoteLog (standing sizes 0 [] log.id (record log {
+        past = [];
+        sections = [];
+        synced = 0;
+      }) [] 0)
+  begun_bare fits = record {
+    fits = fits;
+    few = omega arith;
+    good = λ n among. absurd (nothing_there n among);
+    below = λ n among. absurd (nothing_there n among);
+    above = λ n among. absurd (nothing_there n among);
+    held = λ runs. record {
+      all = refl;
+      lasting = 0;
+      no_more = omega arith;
+      lasts = refl;
+      settled = λ e. refl;
+      reaches = inr (omega arith, omega arith);
+      forward = omega arith;
+      ends = inr (refl, inl (refl, refl));
+      apart = tt;
+      begins = λ none. tt;
+    };
+  }
+
+  pub begun : log.id < 2 ^ 62 → log.past ≡ [] → log.sections ≡ [] → log.synced ≡ 0
+      → IsNoteLog (standing sizes 0 [] log.id log [] 0)
+  begun fits no_past none none_lasts =
+      let same : record log { past = []; sections = []; synced = 0 } ≡ log = λ i. record log {
+        past = sym no_past i;
+        sections = sym none i;
+        synced = sym none_lasts i;
+      } in
+      subst (λ (s : State D). IsNoteLog (standing sizes 0 [] log.id s [] 0)) same
+      (begun_bare fits)

@@ -1,0 +1,254 @@
+-- The changes of a disk bring what the steps of a log of notes write.
+use Rattle.std.proofs.Common.{
+  ◌≡◌,
+  ℕ,
+  ◌<◌,
+  ◌^◌,
+  inl,
+  inr,
+  List,
+  [],
+  ◌∷◌,
+  ◌++◌,
+  length,
+  take,
+  drop,
+  take-append-drop,
+  Option,
+  Some,
+  None,
+  refl,
+  sym,
+  ◌∙◌,
+  ap,
+  subst,
+  arith,
+  length-append,
+  append-nil,
+  append_assoc,
+}
+use Rattle.std.specs.Prelude.{option_map}
+use Rattle.std.specs.List.{Contains}
+use Rattle.std.proofs.lemmas.List.Elements.{
+  Contains-append_cases,
+  Contains-append_left,
+  Contains-append_right,
+}
+use Rattle.clog_spec.specs.Names.{segment_name_of}
+use Rattle.clog_base.proofs.Members.{further, here, only_one}
+use Rattle.clog_disk.specs.declared.change.Change.{Change}
+use Rattle.clog_disk.specs.declared.change.Change.TheVariants as change
+use Rattle.clog_scan.specs.Cut.{Section}
+use Rattle.clog_crash.specs.Grown.{Append, appends_of, grown}
+use Rattle.clog_crash.specs.Log.{Write}
+use Rattle.clog_crash.specs.Sections.{Brings, segment_bytes}
+use Rattle.clog_crash.proofs.changes.Names.{one_id}
+use Rattle.clog_crash.proofs.counts.Growing.{
+  appends_of-append,
+  grown-append,
+  grown_elsewhere,
+  grown_here,
+}
+use Rattle.clog_store.specs.Grows.{Grows, IsGrown, segments_with}
+use Rattle.clog_store.specs.Life.{State}
+
+-- bytes that bring a section stand behind those of the others
+pub spells : (id k : ℕ) (ss : List Section) (x : Section) (bytes : List ℕ)
+    → Brings id (take k ss) (drop k ss) (x ∷ []) bytes
+    → segment_bytes id ss ++ bytes ≡ segment_bytes id (ss ++ x ∷ [])
+spells id k ss x bytes b =
+    let all : take k ss ++ drop k ss ≡ ss = take-append-drop k ss in
+    ap (λ (l : List Section). segment_bytes id l ++ bytes) (sym all) ∙ b.spelled
+    ∙ ap (segment_bytes id)
+    (sym (append_assoc (take k ss) (drop k ss) (x ∷ []))
+    ∙ ap (λ (l : List Section). l ++ x ∷ []) all)
+
+none_grown : (appends : List Append) (name : List ℕ)
+    → ((a : Append) → Contains appends a → a.0 ≡ name → ⊥) → grown appends name ≡ []
+none_grown [] name apart = refl
+none_grown (a ∷ appends) name apart =
+    grown_elsewhere a.0 name a.1 appends (apart a (here a appends))
+    ∙ none_grown appends name (λ b among. apart b (further a appends b among))
+
+-- names of segments with different ids
+apart_names : (id other : ℕ) → other < id → id < 2 ^ 63
+    → segment_name_of 6 id ≡ segment_name_of 6 other → ⊥
+apart_names id other less fits same =
+    let one = one_id other id (omega (arith, less, fits)) fits same in omega (arith, one, less)
+
+module _ (past : List Write) (id : ℕ) (sections : List Section) (appends : List Append)
+    (below : (w : Write) → Contains past w → w.id < id) (g : IsGrown appends past id sections) where
+  abbrev hand : Write
+  hand = record { id = id; sections = sections }
+
+  -- one section more
+  module _ (fits : id < 2 ^ 63) (section : Section) (bytes : List ℕ)
+      (spelled : segment_bytes id sections ++ bytes ≡ segment_bytes id (sections ++ section ∷ []))
+    where
+      abbrev all : List Section
+      all = sections ++ section ∷ []
+
+      abbrev now : Write
+      now = record { id = id; sections = all }
+
+      abbrev more : List Append
+      more = (segment_name_of 6 id, bytes) ∷ []
+
+      there : Contains (segments_with past id all) now
+      there = Contains-append_right past (now ∷ []) now (here now [])
+
+      each_more : (w : Write) → Contains (segments_with past id all) w
+          → grown (appends ++ more) (segment_name_of 6 w.id) ≡ segment_bytes w.id w.sections
+      each_more w among = elim (Contains-append_cases past (now ∷ []) w among) [
+        | inl before ↦
+            grown-append appends more (segment_name_of 6 w.id)
+            ∙ ap (λ (l : List ℕ). grown appends (segment_name_of 6 w.id) ++ l)
+            (grown_elsewhere (segment_name_of 6 id) (segment_name_of 6 w.id) bytes []
+            (apart_names id w.id (below w before) fits))
+            ∙ append-nil (grown appends (segment_name_of 6 w.id))
+            ∙ g.each w (Contains-append_left past (hand ∷ []) w before)
+        | inr last ↦ subst
+            (λ (v : Write). grown (appends ++ more) (segment_name_of 6 v.id)
+            ≡ segment_bytes v.id v.sections) (only_one now w last)
+            (grown-append appends more (segment_name_of 6 id)
+            ∙ ap (λ (l : List ℕ). grown appends (segment_name_of 6 id) ++ l)
+            (grown_here (segment_name_of 6 id) bytes [] ∙ append-nil bytes)
+            ∙ ap (λ (l : List ℕ). l ++ bytes)
+            (g.each hand (Contains-append_right past (hand ∷ []) hand (here hand [])))
+            ∙ spelled)
+      ]
+
+      long : 0 < length all
+      long = omega (arith, length-append sections (section ∷ []))
+
+      only_more : (a : Append) → Contains (appends ++ more) a
+          → (w : Write) × Contains (segments_with past id all) w × (0 < length w.sections)
+          × (a.0 ≡ segment_name_of 6 w.id)
+      only_more a among = elim (Contains-append_cases appends more a among) [
+        | inl before ↦
+            let f = g.only a before in
+            elim (Contains-append_cases past (hand ∷ []) f.0 f.1) [
+              | inl old ↦ (f.0, Contains-append_left past (now ∷ []) f.0 old, f.2, f.3)
+              | inr last ↦ (
+                now,
+                there,
+                long,
+                f.3 ∙ ap (λ (w : Write). segment_name_of 6 w.id) (sym (only_one hand f.0 last)),
+              )
+            ]
+        | inr last ↦ (
+          now,
+          there,
+          long,
+          ap (λ (b : Append). b.0) (sym (only_one (segment_name_of 6 id, bytes) a last)),
+        )
+      ]
+
+      pub grown_more : IsGrown (appends ++ more) past id all
+      grown_more = record { each = each_more; only = only_more }
+
+  -- in a further segment
+  pub grown_rolled : (next : ℕ) → id < next → next < 2 ^ 63
+      → IsGrown appends (segments_with past id sections) next []
+  grown_rolled next above fits =
+      let first = segments_with past id sections in
+      let fresh : Write = record { id = next; sections = [] } in
+      record {
+        each = λ w among. elim (Contains-append_cases first (fresh ∷ []) w among) [
+          | inl before ↦ g.each w before
+          | inr last ↦ subst
+              (λ (v : Write). grown appends (segment_name_of 6 v.id)
+              ≡ segment_bytes v.id v.sections) (only_one fresh w last)
+              (none_grown appends (segment_name_of 6 next) (λ a listed same.
+              let f = g.only a listed in
+              apart_names next f.0.id (low f.0 f.1 next above) fits (sym same ∙ f.3)))
+        ];
+        only = λ a listed.
+            let f = g.only a listed in
+            (f.0, Contains-append_left first (fresh ∷ []) f.0 f.1, f.2, f.3);
+      }
+    where
+      low : (w : Write) → Contains (segments_with past id sections) w → (next : ℕ) → id < next
+          → w.id < next
+      low w among next above = elim (Contains-append_cases past (hand ∷ []) w among) [
+        | inl before ↦ omega (arith, below w before, above)
+        | inr last ↦ subst (λ (v : Write). v.id < next) (only_one hand w last) above
+      ]
+
+-- ---- from state to state
+
+nothing_added : (o : Option (List Change)) → o ≡ option_map (λ made. made ++ []) o
+nothing_added None = refl
+nothing_added (Some made) = ap Some (sym (append-nil made))
+
+added_both : (o : Option (List Change)) (x y : List Change)
+    → option_map (λ made. made ++ y) (option_map (λ made. made ++ x) o)
+    ≡ option_map (λ made. made ++ (x ++ y)) o
+added_both None x y = refl
+added_both (Some made) x y = ap Some (append_assoc made x y)
+
+module _ {D : Type 0} (changes : D → Option (List Change)) where
+  -- nothing was added
+  pub grows_none : (a b : State D) → changes b.disk ≡ changes a.disk
+      → ((appends : List Append) → IsGrown appends a.past a.id a.sections
+      → IsGrown appends b.past b.id b.sections) → Grows changes a b
+  grows_none a b same still = record {
+    added = [];
+    changes_are = same ∙ nothing_added (changes a.disk);
+    grows = λ appends g.
+        subst (λ (l : List Append). IsGrown l b.past b.id b.sections) (sym (append-nil appends))
+        (still appends g);
+  }
+
+  pub grows_same : (a b : State D) → changes b.disk ≡ changes a.disk → b.past ≡ a.past
+      → b.id ≡ a.id → b.sections ≡ a.sections → Grows changes a b
+  grows_same a b same past id sections =
+      grows_none a b same (λ appends g.
+      subst (λ (l : List Write). IsGrown appends l b.id b.sections) (sym past)
+      (subst (λ (k : ℕ). IsGrown appends a.past k b.sections) (sym id)
+      (subst (λ (l : List Section). IsGrown appends a.past a.id l) (sym sections) g)))
+
+  -- one section more
+  pub grows_more : (a b : State D) (section : Section) (bytes : List ℕ)
+      → changes b.disk ≡ option_map (λ made.
+      made ++ change.Append (segment_name_of 6 a.id) bytes ∷ []) (changes a.disk)
+      → b.past ≡ a.past → b.id ≡ a.id → b.sections ≡ a.sections ++ section ∷ []
+      → ((w : Write) → Contains a.past w → w.id < a.id) → a.id < 2 ^ 63
+      → segment_bytes a.id a.sections ++ bytes ≡ segment_bytes a.id (a.sections ++ section ∷ [])
+      → Grows changes a b
+  grows_more a b section bytes adds past id sections below fits spelled = record {
+    added = change.Append (segment_name_of 6 a.id) bytes ∷ [];
+    changes_are = adds;
+    grows = λ appends g.
+        let now = appends ++ (segment_name_of 6 a.id, bytes) ∷ [] in
+        subst (λ (l : List Write). IsGrown now l b.id b.sections) (sym past)
+        (subst (λ (k : ℕ). IsGrown now a.past k b.sections) (sym id)
+        (subst (λ (l : List Section). IsGrown now a.past a.id l) (sym sections)
+        (grown_more a.past a.id a.sections appends below g fits section bytes spelled)));
+  }
+
+  pub grows_rolled : (a b : State D) → changes b.disk ≡ changes a.disk
+      → b.past ≡ segments_with a.past a.id a.sections → b.sections ≡ [] → a.id < b.id
+      → b.id < 2 ^ 63 → ((w : Write) → Contains a.past w → w.id < a.id) → Grows changes a b
+  grows_rolled a b same past sections above fits below =
+      grows_none a b same (λ appends g.
+      subst (λ (l : List Write). IsGrown appends l b.id b.sections) (sym past)
+      (subst (λ (l : List Section). IsGrown appends (segments_with a.past a.id a.sections) b.id l)
+      (sym sections)
+      (grown_rolled a.past a.id a.sections appends below g b.id above fits)))
+
+  pub grows_then : (a b c : State D) → Grows changes a b → Grows changes b c → Grows changes a c
+  grows_then a b c first next =
+      let x = first.added in
+      let y = next.added in
+      record {
+        added = x ++ y;
+        changes_are = next.changes_are
+            ∙ ap (option_map (λ made. made ++ y)) first.changes_are
+            ∙ added_both (changes a.disk) x y;
+        grows = λ appends g.
+            subst (λ (l : List Append). IsGrown l c.past c.id c.sections)
+            (append_assoc appends (appends_of x) (appends_of y)
+            ∙ ap (λ (l : List Append). appends ++ l) (sym (appends_of-append x y)))
+            (next.grows (appends ++ appends_of x) (first.grows appends g));
+      }

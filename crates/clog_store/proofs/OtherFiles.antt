@@ -1,0 +1,150 @@
+-- A log stands while other files come and go: table files, and segments that it has left.
+use Rattle.std.proofs.Common.{
+  ◌≡◌,
+  ℕ,
+  ◌<◌,
+  ◌^◌,
+  List,
+  [],
+  take,
+  drop,
+  length,
+  Option,
+  Some,
+  None,
+  true,
+  false,
+  sym,
+  ◌∙◌,
+  ap,
+  subst,
+  arith,
+}
+use Rattle.std.specs.Prelude.{◌≤◌, IfSome, unwrap_or}
+use Rattle.std.proofs.lemmas.Bool.{true≢false}
+use Rattle.std.specs.FinMap as finmap
+use Rattle.clog_spec.specs.Names.{segment_name_of, IsTableName}
+use Rattle.clog_disk.specs.Files.{Files, SameTold, PutsAt, Told, bytes_at, with_at}
+use Rattle.clog_disk.specs.Images.{IsImage, IsLater, LeavesOnly}
+use Rattle.clog_disk.proofs.Named.{gone_there, put_there}
+use Rattle.clog_scan.specs.Cut.{Section}
+use Rattle.clog_crash.specs.Readings.{Reading}
+use Rattle.clog_crash.proofs.changes.Names.{not_segment}
+use Rattle.clog_store.specs.Life.{HasBegun, HasEnd, Lives, LivesOn, State}
+use Rattle.clog_store.specs.Resting.{RestsAt, ShowsBehind}
+use Rattle.clog_store.proofs.Begun.{begun_on}
+use Rattle.clog_store.proofs.LivedCalls.{lives_same, lives_stopped}
+
+-- ---- the files
+
+-- all names but those that have P stand as before
+abbrev pub StandElse : (List ℕ → Type 0) → Files → Files → Type 0
+StandElse P f g = (name : List ℕ) → (P name → ⊥) → finmap.get g name ≡ finmap.get f name
+
+-- no name of the log's segment, and of none behind it, has P
+abbrev pub IsAside : (List ℕ → Type 0) → ℕ → Type 0
+IsAside P id = (other : ℕ) → id ≤ other → other < 2 ^ 63 → P (segment_name_of 6 other) → ⊥
+
+pub put_else : (f : Files) (name : List ℕ) (what : Option (List ℕ))
+    → StandElse (λ n. n ≡ name) f (with_at f name what)
+put_else f name None other apart = gone_there f name other apart
+put_else f name (Some bytes) other apart = put_there f name bytes other apart
+
+pub end_aside : (P : List ℕ → Type 0) (f g : Files) (id size : ℕ) (sections : List Section)
+    → StandElse P f g → IsAside P id → HasEnd (Some f) id size sections
+    → HasEnd (Some g) id size sections
+end_aside P f g id size sections stand aside end = record {
+  stored = end.stored;
+  size_is = end.size_is;
+  here = end.here ∙ sym (ap length (same id (omega arith) end.stored.fits));
+  reads = same id (omega arith) end.stored.fits ∙ end.reads;
+  above = λ other over limit.
+      end.above other over limit ∙ sym (ap length (same other (omega (arith, over)) limit));
+}
+  where
+    same : (other : ℕ) → id ≤ other → other < 2 ^ 63
+        → bytes_at g (segment_name_of 6 other) ≡ bytes_at f (segment_name_of 6 other)
+    same other from limit =
+        ap (λ (o : Option (List ℕ)). unwrap_or o []) (
+        stand (segment_name_of 6 other) (aside other from limit)
+        )
+
+-- what is put at a name
+pub end_beside : (told now : Option Files) (name : List ℕ) (what : Option (List ℕ)) (id size : ℕ)
+    (sections : List Section) → PutsAt told now name what → IsAside (λ n. n ≡ name) id
+    → HasEnd told id size sections → HasEnd now id size sections
+end_beside None now name what id size sections puts aside end =
+    subst (λ (o : Option Files). HasEnd o id size sections) (sym puts) end
+end_beside (Some f) now name what id size sections puts aside end =
+    subst (λ (o : Option Files). HasEnd o id size sections) (sym puts)
+    (end_aside (λ n. n ≡ name) f (with_at f name what) id size sections (put_else f name what)
+    aside end)
+
+-- what holds where files are told, beside what holds wherever they are
+pub told_with : (told : Option Files) (P Q : Files → Type 0) → Told told P → IfSome told Q
+    → Told told (λ f. P f × Q f)
+told_with None P Q is other = absurd is
+told_with (Some f) P Q is other = (is, other)
+
+-- a table file stands aside
+pub table_aside : (id : ℕ) (name : List ℕ) (table sequence : ℕ) → IsTableName name table sequence
+    → IsAside (λ n. n ≡ name) id
+table_aside id name table sequence named other from limit same =
+    not_segment other name table sequence limit named (sym same)
+
+-- ---- the log
+
+module _ {D : Type 0} (files : D → Option Files) (moment : D → ℕ)
+    (since : D → ℕ → Files → Type 0) (leaves : D → List ℕ → Option (List ℕ) → Type 0)
+    (read_at : D → ℕ → Option Reading) (lasted_at : D → ℕ → Type 0) (s : State D) (size : ℕ)
+    (new : D) (begun : HasBegun files moment since leaves read_at lasted_at s size)
+    (runs : s.is_stopped ≡ false)
+    (counts : (image : Files) → IsImage (leaves new) image → since new (moment s.disk) image)
+    (told : SameTold (files s.disk) (files new))
+    (later : IsLater moment read_at lasted_at s.disk new)
+    (any_moment : (r : Reading)
+    → RestsAt (files s.disk) (leaves s.disk) r s.past s.id (take s.synced s.sections)
+    (drop s.synced s.sections)
+    → LeavesOnly moment since s.disk new (ShowsBehind r s.past s.id (take s.synced s.sections)
+    (drop s.synced s.sections))) where
+  abbrev Living : State D → Type 0
+  Living t = Lives files moment since leaves read_at lasted_at t
+
+  abbrev LivingOn : State D → Type 0
+  LivingOn t = LivesOn files moment since leaves read_at lasted_at s t
+
+  abbrev Begun : State D → Type 0
+  Begun t = HasBegun files moment since leaves read_at lasted_at t size
+
+  -- what it keeps, and that it lives on
+  pub passed : ((r : Reading)
+      → RestsAt (files s.disk) (leaves s.disk) r s.past s.id (take s.synced s.sections)
+      (drop s.synced s.sections)
+      → RestsAt (files new) (leaves new) r s.past s.id (take s.synced s.sections)
+      (drop s.synced s.sections))
+      → (HasEnd (files s.disk) s.id size s.sections → HasEnd (files new) s.id size s.sections)
+      → Begun (record s { disk = new }) × (Living s → LivingOn (record s { disk = new }))
+  passed same end = (
+    begun_on files moment since leaves read_at lasted_at s size new s.sections s.synced
+        s.is_stopped size begun later begun.few (λ going. end (begun.ends going)) on,
+    on,
+  )
+    where
+      on : Living s → LivingOn (record s { disk = new })
+      on lives =
+          lives_same files moment since leaves read_at lasted_at s new runs lives counts told later
+          any_moment same
+
+  -- where the disk has failed
+  pub broken : Begun (record s { disk = new; is_stopped = true })
+      × (Living s → LivingOn (record s { disk = new; is_stopped = true }))
+  broken = (
+    begun_on files moment since leaves read_at lasted_at s size new s.sections s.synced true size
+        begun later begun.few (λ going. absurd (true≢false going)) on,
+    on,
+  )
+    where
+      on : Living s → LivingOn (record s { disk = new; is_stopped = true })
+      on lives =
+          lives_stopped files moment since leaves read_at lasted_at s new runs lives counts told
+          later any_moment

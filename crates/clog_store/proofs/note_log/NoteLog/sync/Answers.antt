@@ -1,0 +1,24 @@
+use Rattle.std.proofs.Common.{◌≡◌, ◌∙◌, List, drop, take, sym, ap, subst}
+use Rattle.path_core.specs.declared.note.EntryNote.{EntryNote}
+use Rattle.path_core.specs.Keeper.{IsParted}
+use Rattle.clog_store.proofs.Lived.{lives_still}
+use Rattle.clog_store.proofs.NoteSynced.{may_run}
+use Rattle.clog_store.proofs.note_log.NoteLog.sync.Goals as goal
+
+pub returns-in_err-run-clause-lives : goal.returns-in_err-run-clause-lives
+returns-in_err-run-clause-lives g c =
+    let D = g.D.Disk in
+    let log = c.args.self.now.log in
+    lives_still D.files D.moment D.since D.leaves D.read_at D.lasted_at log
+    (g.met.D.Disk.only_now log.disk)
+
+pub log_run-requires-clause-may : goal.log_run-requires-clause-may
+log_run-requires-clause-may g c =
+    let pending = c.part_at-count.new.pending.items in
+    let count = c.part_at-count.result in
+    let is : c.in_ok-run.run'.items ≡ take count pending =
+    c.in_ok-run.ensures ∙ ap (take count) c.deref.ensures.value in
+    may_run c.args.self.now c.args.upto.0 c.args.pending.now.items c.in_ok-run.run'.items
+    (drop count pending)
+    (subst (λ (l : List EntryNote). IsParted c.args.upto.0 c.args.pending.now.items l
+    (drop count pending)) (sym is) c.part_at-count.ensures.parted) c.requires

@@ -1,0 +1,45 @@
+use Rattle.std.proofs.Common.{◌<◌, refl, ap, arith}
+use Rattle.std.proofs.lemmas.Bool.Decides.{nat_tests}
+use Rattle.clog_store.proofs.NoteGoes.{goes_rolled, goes_then}
+use Rattle.clog_store.proofs.NoteLeaves.{leaves_entered, leaves_same, leaves_settled}
+use Rattle.clog_store.proofs.note_steps.enter.Goals as goal
+
+pub returns-clause-goes : goal.returns-clause-goes
+returns-clause-goes g c =
+    let D = g.D.Disk in
+    let mid = c.settle.new.self in
+    goes_then D.files D.moment D.since D.leaves D.read_at D.lasted_at c.args.log.now mid
+    c.roll.new.self (record {
+      later = c.settle.ensures.later;
+      lives = c.settle.ensures.lives;
+    })
+    (goes_rolled D.files D.moment D.since D.leaves D.read_at D.lasted_at mid c.roll.new.self _
+    c.roll.result (g.met.D.Disk.only_now mid.disk) refl c.roll.ensures.rolls c.roll.ensures.refused
+    c.roll.ensures.lives)
+
+pub returns-then-id-clause-leaves : goal.returns-then-id-clause-leaves
+returns-then-id-clause-leaves g c still =
+    leaves_same g.D.Disk.files g.D.Disk.changes c.args.log.now c.args.log.now refl refl refl refl
+    refl
+
+pub returns-clause-leaves : goal.returns-clause-leaves
+returns-clause-leaves g c still =
+    let a = c.args.log.now in
+    let mid = c.settle.new.self in
+    let settled = c.in_ok-settle.ensures.settles in
+    let above : mid.id < c.args.id =
+    let same = ap (λ s. s.id) settled in
+    let here = c.id.ensures.id in
+    let apart = c.if-id.false in
+    let on = c.requires.on in
+    grind (arith, nat_tests) in
+    leaves_entered g.D.Disk.files g.D.Disk.changes a mid c.roll.new.self _ c.roll.result
+    c.settle.ensures.same c.settle.ensures.quiet (ap (λ s. s.past) settled)
+    (ap (λ s. s.id) settled) (ap (λ s. s.sections) settled)
+    (c.id.ensures.reads c.requires.runs) refl refl above refl c.requires.fits c.id.ensures.below
+    c.roll.ensures.rolls c.roll.ensures.refused
+
+pub returns-in_err-settle-clause-leaves : goal.returns-in_err-settle-clause-leaves
+returns-in_err-settle-clause-leaves g c still =
+    leaves_settled g.D.Disk.files g.D.Disk.changes c.args.log.now c.settle.new.self c.settle.result
+    c.settle.ensures.settles c.settle.ensures.same c.settle.ensures.quiet

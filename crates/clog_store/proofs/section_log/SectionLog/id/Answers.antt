@@ -1,0 +1,10 @@
+use Rattle.std.proofs.Common.{◌<◌, subst}
+use Rattle.std.specs.Prelude.{Contains}
+use Rattle.clog_crash.specs.Log.{Write}
+use Rattle.clog_store.specs.Life.{State}
+use Rattle.clog_store.proofs.section_log.SectionLog.id.Goals as goal
+
+pub returns-clause-below : goal.returns-clause-below
+returns-clause-below g c =
+    subst (λ (s : State g.row.D.Denot). (w : Write) → Contains s.past w → w.id < s.id)
+    c.self.view_is c.self.invariant.past_below

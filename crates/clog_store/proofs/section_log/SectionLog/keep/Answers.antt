@@ -1,0 +1,289 @@
+use Rattle.std.proofs.Common.{
+  ◌≡◌,
+  List,
+  [],
+  ◌∷◌,
+  ◌+◌,
+  length,
+  take,
+  drop,
+  true,
+  ap,
+  sym,
+  subst,
+  arith,
+  length-append,
+}
+use Rattle.std.proofs.lemmas.Bool.{true≢false}
+use Rattle.clog_scan.specs.Cut.{Section}
+use Rattle.clog_crash.specs.Sections.{Brings}
+use Rattle.clog_store.specs.Life.{HasEnd, Lives, LivesOn, State}
+use Rattle.clog_store.proofs.Begun.{begun_on}
+use Rattle.clog_store.proofs.Ends.{end_more, end_same}
+use Rattle.clog_store.proofs.Lived.{lives_from, lives_still}
+use Rattle.clog_store.proofs.LivedCalls.{lives_kept, lives_same, lives_torn}
+use Rattle.clog_store.proofs.Outcomes.{no_failure}
+use Rattle.clog_store.proofs.section_log.SectionLog.keep.Goals as goal
+
+-- the disk is not called
+
+pub returns-then-self-clause-lives : goal.returns-then-self-clause-lives
+returns-then-self-clause-lives g c lives =
+    let D = g.D.Disk in
+    lives_still D.files D.moment D.since D.leaves D.read_at D.lasted_at c.args.self.now
+    (g.met.D.Disk.only_now c.args.self.now.disk) lives
+
+pub returns-in_err-push-clause-lives : goal.returns-in_err-push-clause-lives
+returns-in_err-push-clause-lives g c lives =
+    let D = g.D.Disk in
+    let s = c.self.inside in
+    let ss = s.sections.items in
+    let before : State g.row.D.Denot = record {
+      disk = s.disk;
+      opened = s.opened;
+      past = s.past.items;
+      id = s.id;
+      sections = ss;
+      synced = s.synced;
+      is_stopped = s.is_stopped;
+    } in
+    let lived = subst (Lives D.files D.moment D.since D.leaves D.read_at D.lasted_at)
+    (sym c.self.view_is)
+    lives in
+    lives_from D.files D.moment D.since D.leaves D.read_at D.lasted_at c.self.view_is
+    (subst (λ (l : List Section). LivesOn D.files D.moment D.since D.leaves D.read_at D.lasted_at
+    before
+    (record before { sections = l })) (sym c.in_err-push.ensures.items)
+    (lives_still D.files D.moment D.since D.leaves D.read_at D.lasted_at before
+    (g.met.D.Disk.only_now s.disk) lived))
+
+-- it could not be kept
+
+pub returns-in-Err-Failed-clause-lives : goal.returns-in-Err-Failed-clause-lives
+returns-in-Err-Failed-clause-lives g c lives =
+    let D = g.D.Disk in
+    let s = c.self.inside in
+    let ss = s.sections.items in
+    let before : State g.row.D.Denot = record {
+      disk = s.disk;
+      opened = s.opened;
+      past = s.past.items;
+      id = s.id;
+      sections = ss;
+      synced = s.synced;
+      is_stopped = s.is_stopped;
+    } in
+    let lived = subst (Lives D.files D.moment D.since D.leaves D.read_at D.lasted_at)
+    (sym c.self.view_is)
+    lives in
+    let x = c.args.section in
+    let mid = c.keep_sections.new.disk in
+    let brings = subst (λ (st : State g.row.D.Denot). Brings st.id (take st.synced st.sections)
+    (drop st.synced st.sections) (x ∷ []) c.args.bytes.now) (sym c.self.view_is)
+    c.requires.brings in
+    lives_from D.files D.moment D.since D.leaves D.read_at D.lasted_at c.self.view_is
+    (subst (λ (l : List Section). LivesOn D.files D.moment D.since D.leaves D.read_at D.lasted_at
+    before
+    (record before { disk = mid; sections = l; is_stopped = true })) (sym
+    c.in_ok-push.ensures.items)
+    (lives_torn D.files D.moment D.since D.leaves D.read_at D.lasted_at before mid c.if-self.false
+    lived
+    (λ image left. g.met.D.Disk.counts_now mid (D.moment s.disk) image
+    c.keep_sections.ensures.later.no_sooner left) c.keep_sections.ensures.told
+    c.keep_sections.ensures.later x (λ r rests.
+    c.keep_sections.ensures.any_moment r s.past.items (take s.synced ss) (drop s.synced ss) (x ∷ [])
+    brings rests)))
+
+pub returns-in-Err-OutOfMemory-clause-lives : goal.returns-in-Err-OutOfMemory-clause-lives
+returns-in-Err-OutOfMemory-clause-lives g c lives =
+    let D = g.D.Disk in
+    let s = c.self.inside in
+    let ss = s.sections.items in
+    let before : State g.row.D.Denot = record {
+      disk = s.disk;
+      opened = s.opened;
+      past = s.past.items;
+      id = s.id;
+      sections = ss;
+      synced = s.synced;
+      is_stopped = s.is_stopped;
+    } in
+    let lived = subst (Lives D.files D.moment D.since D.leaves D.read_at D.lasted_at)
+    (sym c.self.view_is)
+    lives in
+    let mid = c.keep_sections.new.disk in
+    lives_from D.files D.moment D.since D.leaves D.read_at D.lasted_at c.self.view_is
+    (subst (λ (l : List Section). LivesOn D.files D.moment D.since D.leaves D.read_at D.lasted_at
+    before
+    (record before { disk = mid; sections = l }))
+    (sym (c.take_back.ensures ss c.args.section c.in_ok-push.ensures.items))
+    (lives_same D.files D.moment D.since D.leaves D.read_at D.lasted_at before mid c.if-self.false
+    lived
+    (λ image left. g.met.D.Disk.counts_now mid (D.moment s.disk) image
+    c.keep_sections.ensures.later.no_sooner left) c.keep_sections.ensures.told
+    c.keep_sections.ensures.later
+    (λ r rests. (no_failure c.keep_sections.result c.in-Err-OutOfMemory.is
+    c.in-Err-OutOfMemory.field-0-is (λ other. c.keep_sections.ensures.refused other r s.past.items
+    (take s.synced ss) (drop s.synced ss) rests)).1)
+    (λ r rests. (no_failure c.keep_sections.result c.in-Err-OutOfMemory.is
+    c.in-Err-OutOfMemory.field-0-is (λ other. c.keep_sections.ensures.refused other r s.past.items
+    (take s.synced ss) (drop s.synced ss) rests)).0)))
+
+-- it is kept
+
+pub returns-in-Ok-clause-lives : goal.returns-in-Ok-clause-lives
+returns-in-Ok-clause-lives g c lives =
+    let D = g.D.Disk in
+    let s = c.self.inside in
+    let ss = s.sections.items in
+    let before : State g.row.D.Denot = record {
+      disk = s.disk;
+      opened = s.opened;
+      past = s.past.items;
+      id = s.id;
+      sections = ss;
+      synced = s.synced;
+      is_stopped = s.is_stopped;
+    } in
+    let lived = subst (Lives D.files D.moment D.since D.leaves D.read_at D.lasted_at)
+    (sym c.self.view_is)
+    lives in
+    let x = c.args.section in
+    let mid = c.keep_sections.new.disk in
+    let brings = subst (λ (st : State g.row.D.Denot). Brings st.id (take st.synced st.sections)
+    (drop st.synced st.sections) (x ∷ []) c.args.bytes.now) (sym c.self.view_is)
+    c.requires.brings in
+    lives_from D.files D.moment D.since D.leaves D.read_at D.lasted_at c.self.view_is
+    (subst (λ (l : List Section). LivesOn D.files D.moment D.since D.leaves D.read_at D.lasted_at
+    before (record before { disk = mid; sections = l })) (sym c.in_ok-push.ensures.items)
+    (lives_kept D.files D.moment D.since D.leaves D.read_at D.lasted_at before mid c.if-self.false
+    lived
+    (λ image left. g.met.D.Disk.counts_now mid (D.moment s.disk) image
+    c.keep_sections.ensures.later.no_sooner left) c.keep_sections.ensures.told
+    c.keep_sections.ensures.later x (λ r rests.
+    c.keep_sections.ensures.any_moment r s.past.items (take s.synced ss) (drop s.synced ss) (x ∷ [])
+    brings rests) (λ r rests.
+    c.in-Ok.ensures.kept r s.past.items (take s.synced ss) (drop s.synced ss) (x ∷ []) brings
+    rests)))
+
+-- ---- what it keeps
+
+pub invariant_of-self-in-Ok : goal.invariant_of-self-in-Ok
+invariant_of-self-in-Ok g c =
+    let D = g.D.Disk in
+    let s = c.self.inside in
+    let ss = s.sections.items in
+    let before : State g.row.D.Denot = record {
+      disk = s.disk;
+      opened = s.opened;
+      past = s.past.items;
+      id = s.id;
+      sections = ss;
+      synced = s.synced;
+      is_stopped = s.is_stopped;
+    } in
+    let x = c.args.section in
+    let mid = c.keep_sections.new.disk in
+    let more = c.in_ok-push.ensures.items in
+    let brings = subst (λ (st : State g.row.D.Denot). Brings st.id (take st.synced st.sections)
+    (drop st.synced st.sections) (x ∷ []) c.args.bytes.now) (sym c.self.view_is)
+    c.requires.brings in
+    let bytes = c.args.bytes.now in
+    begun_on D.files D.moment D.since D.leaves D.read_at D.lasted_at before s.size mid
+    c.push.new.self.items s.synced s.is_stopped (s.size + length bytes) c.self.invariant
+    c.keep_sections.ensures.later
+    (omega (arith, c.self.invariant.few, ap length more, length-append ss (x ∷ [])))
+    (λ runs. subst (λ (l : List Section). HasEnd (D.files mid) s.id (s.size + length bytes) l)
+    (sym more)
+    (end_more (D.files s.disk) (D.files mid) s.id s.size s.synced ss x bytes
+    c.in-Ok.ensures.appends brings (c.self.invariant.ends runs)))
+    (λ lived. subst (λ (l : List Section). LivesOn D.files D.moment D.since D.leaves D.read_at
+    D.lasted_at before (record before { disk = mid; sections = l })) (sym more)
+    (lives_kept D.files D.moment D.since D.leaves D.read_at D.lasted_at before mid c.if-self.false
+    lived
+    (λ image left. g.met.D.Disk.counts_now mid (D.moment s.disk) image
+    c.keep_sections.ensures.later.no_sooner left) c.keep_sections.ensures.told
+    c.keep_sections.ensures.later x (λ r rests.
+    c.keep_sections.ensures.any_moment r s.past.items (take s.synced ss) (drop s.synced ss) (x ∷ [])
+    brings rests) (λ r rests.
+    c.in-Ok.ensures.kept r s.past.items (take s.synced ss) (drop s.synced ss) (x ∷ []) brings
+    rests)))
+
+pub invariant_of-self-in-Err-OutOfMemory : goal.invariant_of-self-in-Err-OutOfMemory
+invariant_of-self-in-Err-OutOfMemory g c =
+    let D = g.D.Disk in
+    let s = c.self.inside in
+    let ss = s.sections.items in
+    let before : State g.row.D.Denot = record {
+      disk = s.disk;
+      opened = s.opened;
+      past = s.past.items;
+      id = s.id;
+      sections = ss;
+      synced = s.synced;
+      is_stopped = s.is_stopped;
+    } in
+    let x = c.args.section in
+    let mid = c.keep_sections.new.disk in
+    let more = c.in_ok-push.ensures.items in
+    let brings = subst (λ (st : State g.row.D.Denot). Brings st.id (take st.synced st.sections)
+    (drop st.synced st.sections) (x ∷ []) c.args.bytes.now) (sym c.self.view_is)
+    c.requires.brings in
+    let back : c.take_back.new.sections.items ≡ ss =
+    c.take_back.ensures ss x more in
+    begun_on D.files D.moment D.since D.leaves D.read_at D.lasted_at before s.size mid
+    c.take_back.new.sections.items s.synced s.is_stopped s.size c.self.invariant
+    c.keep_sections.ensures.later
+    (omega (arith, c.self.invariant.few, ap length back))
+    (λ runs. subst (λ (l : List Section). HasEnd (D.files mid) s.id s.size l) (sym back)
+    (end_same (D.files s.disk) (D.files mid) s.id s.size ss
+    (no_failure c.keep_sections.result c.in-Err-OutOfMemory.is
+    c.in-Err-OutOfMemory.field-0-is (λ other. c.keep_sections.ensures.same other))
+    (c.self.invariant.ends runs)))
+    (λ lived. subst (λ (l : List Section). LivesOn D.files D.moment D.since D.leaves D.read_at
+    D.lasted_at before (record before { disk = mid; sections = l })) (sym back)
+    (lives_same D.files D.moment D.since D.leaves D.read_at D.lasted_at before mid c.if-self.false
+    lived
+    (λ image left. g.met.D.Disk.counts_now mid (D.moment s.disk) image
+    c.keep_sections.ensures.later.no_sooner left) c.keep_sections.ensures.told
+    c.keep_sections.ensures.later
+    (λ r rests. (no_failure c.keep_sections.result c.in-Err-OutOfMemory.is
+    c.in-Err-OutOfMemory.field-0-is (λ other. c.keep_sections.ensures.refused other r s.past.items
+    (take s.synced ss) (drop s.synced ss) rests)).1)
+    (λ r rests. (no_failure c.keep_sections.result c.in-Err-OutOfMemory.is
+    c.in-Err-OutOfMemory.field-0-is (λ other. c.keep_sections.ensures.refused other r s.past.items
+    (take s.synced ss) (drop s.synced ss) rests)).0)))
+
+pub invariant_of-self-in-Err-Failed : goal.invariant_of-self-in-Err-Failed
+invariant_of-self-in-Err-Failed g c =
+    let D = g.D.Disk in
+    let s = c.self.inside in
+    let ss = s.sections.items in
+    let before : State g.row.D.Denot = record {
+      disk = s.disk;
+      opened = s.opened;
+      past = s.past.items;
+      id = s.id;
+      sections = ss;
+      synced = s.synced;
+      is_stopped = s.is_stopped;
+    } in
+    let x = c.args.section in
+    let mid = c.keep_sections.new.disk in
+    let more = c.in_ok-push.ensures.items in
+    let brings = subst (λ (st : State g.row.D.Denot). Brings st.id (take st.synced st.sections)
+    (drop st.synced st.sections) (x ∷ []) c.args.bytes.now) (sym c.self.view_is)
+    c.requires.brings in
+    begun_on D.files D.moment D.since D.leaves D.read_at D.lasted_at before s.size mid
+    c.push.new.self.items s.synced true s.size c.self.invariant c.keep_sections.ensures.later
+    (omega (arith, c.self.invariant.few, ap length more, length-append ss (x ∷ [])))
+    (λ runs. absurd (true≢false runs))
+    (λ lived. subst (λ (l : List Section). LivesOn D.files D.moment D.since D.leaves D.read_at
+    D.lasted_at before (record before { disk = mid; sections = l; is_stopped = true })) (sym more)
+    (lives_torn D.files D.moment D.since D.leaves D.read_at D.lasted_at before mid c.if-self.false
+    lived
+    (λ image left. g.met.D.Disk.counts_now mid (D.moment s.disk) image
+    c.keep_sections.ensures.later.no_sooner left) c.keep_sections.ensures.told
+    c.keep_sections.ensures.later x (λ r rests.
+    c.keep_sections.ensures.any_moment r s.past.items (take s.synced ss) (drop s.synced ss) (x ∷ [])
+    brings rests)))

@@ -1,0 +1,193 @@
+use Rattle.std.proofs.Common.{◌∙◌, ℕ, take, drop, true, sym, subst, arith}
+use Rattle.std.proofs.lemmas.Bool.{true≢false}
+use Rattle.clog_store.specs.Life.{Lives, LivesOn, State}
+use Rattle.clog_store.proofs.Begun.{begun_on}
+use Rattle.clog_store.proofs.Ends.{end_same}
+use Rattle.clog_store.proofs.Lived.{lives_from, lives_still, same_told}
+use Rattle.clog_store.proofs.LivedCalls.{lives_same, lives_settled, lives_stopped}
+use Rattle.clog_store.proofs.section_log.SectionLog.settle.Goals as goal
+
+pub returns-then-self-clause-lives : goal.returns-then-self-clause-lives
+returns-then-self-clause-lives g c lives =
+    let D = g.D.Disk in
+    lives_still D.files D.moment D.since D.leaves D.read_at D.lasted_at c.args.self.now
+    (g.met.D.Disk.only_now c.args.self.now.disk) lives
+
+pub returns-in-Ok-clause-lives : goal.returns-in-Ok-clause-lives
+returns-in-Ok-clause-lives g c lives =
+    let D = g.D.Disk in
+    let s = c.self.inside in
+    let ss = s.sections.items in
+    let before : State g.row.D.Denot = record {
+      disk = s.disk;
+      opened = s.opened;
+      past = s.past.items;
+      id = s.id;
+      sections = ss;
+      synced = s.synced;
+      is_stopped = s.is_stopped;
+    } in
+    let lived = subst (Lives D.files D.moment D.since D.leaves D.read_at D.lasted_at)
+    (sym c.self.view_is)
+    lives in
+    let new = c.settle_sections.new.disk in
+    let told = same_told (D.files s.disk) (D.files new) c.settle_sections.ensures.same in
+    lives_from D.files D.moment D.since D.leaves D.read_at D.lasted_at c.self.view_is
+    (subst (λ (k : ℕ). LivesOn D.files D.moment D.since D.leaves D.read_at D.lasted_at before
+    (record before { disk = new; synced = k })) (sym (c.len-self-inside.ensures ∙ s.sections.ok.0))
+    (lives_settled D.files D.moment D.since D.leaves D.read_at D.lasted_at before new
+    c.if-self.false lived
+    (λ image left. g.met.D.Disk.counts_now new (D.moment s.disk) image
+    c.settle_sections.ensures.later.no_sooner left) told c.settle_sections.ensures.later (λ r rests.
+    c.settle_sections.ensures.any_moment r s.past.items (take s.synced ss) (drop s.synced ss)
+    rests)
+    (λ r rests. c.in-Ok.ensures.lasts r s.past.items (take s.synced ss) (drop s.synced ss)
+    rests)))
+
+pub returns-in-Err-OutOfMemory-clause-lives : goal.returns-in-Err-OutOfMemory-clause-lives
+returns-in-Err-OutOfMemory-clause-lives g c lives =
+    let D = g.D.Disk in
+    let s = c.self.inside in
+    let ss = s.sections.items in
+    let before : State g.row.D.Denot = record {
+      disk = s.disk;
+      opened = s.opened;
+      past = s.past.items;
+      id = s.id;
+      sections = ss;
+      synced = s.synced;
+      is_stopped = s.is_stopped;
+    } in
+    let lived = subst (Lives D.files D.moment D.since D.leaves D.read_at D.lasted_at)
+    (sym c.self.view_is)
+    lives in
+    let new = c.settle_sections.new.disk in
+    let told = same_told (D.files s.disk) (D.files new) c.settle_sections.ensures.same in
+    lives_from D.files D.moment D.since D.leaves D.read_at D.lasted_at c.self.view_is
+    (lives_same D.files D.moment D.since D.leaves D.read_at D.lasted_at before new c.if-self.false
+    lived
+    (λ image left. g.met.D.Disk.counts_now new (D.moment s.disk) image
+    c.settle_sections.ensures.later.no_sooner left) told c.settle_sections.ensures.later (λ r rests.
+    c.settle_sections.ensures.any_moment r s.past.items (take s.synced ss) (drop s.synced ss)
+    rests)
+    (λ r rests. c.in-Err-OutOfMemory.ensures.refused r s.past.items (take s.synced ss)
+    (drop s.synced ss) rests))
+
+pub returns-in-Err-Failed-clause-lives : goal.returns-in-Err-Failed-clause-lives
+returns-in-Err-Failed-clause-lives g c lives =
+    let D = g.D.Disk in
+    let s = c.self.inside in
+    let ss = s.sections.items in
+    let before : State g.row.D.Denot = record {
+      disk = s.disk;
+      opened = s.opened;
+      past = s.past.items;
+      id = s.id;
+      sections = ss;
+      synced = s.synced;
+      is_stopped = s.is_stopped;
+    } in
+    let lived = subst (Lives D.files D.moment D.since D.leaves D.read_at D.lasted_at)
+    (sym c.self.view_is)
+    lives in
+    let new = c.settle_sections.new.disk in
+    let told = same_told (D.files s.disk) (D.files new) c.settle_sections.ensures.same in
+    lives_from D.files D.moment D.since D.leaves D.read_at D.lasted_at c.self.view_is
+    (lives_stopped D.files D.moment D.since D.leaves D.read_at D.lasted_at before new
+    c.if-self.false lived
+    (λ image left. g.met.D.Disk.counts_now new (D.moment s.disk) image
+    c.settle_sections.ensures.later.no_sooner left) told c.settle_sections.ensures.later (λ r rests.
+    c.settle_sections.ensures.any_moment r s.past.items (take s.synced ss) (drop s.synced ss)
+    rests))
+
+-- ---- what it keeps
+
+pub invariant_of-self : goal.invariant_of-self
+invariant_of-self g c =
+    let D = g.D.Disk in
+    let s = c.self.inside in
+    let ss = s.sections.items in
+    let before : State g.row.D.Denot = record {
+      disk = s.disk;
+      opened = s.opened;
+      past = s.past.items;
+      id = s.id;
+      sections = ss;
+      synced = s.synced;
+      is_stopped = s.is_stopped;
+    } in
+    let new = c.settle_sections.new.disk in
+    let told = same_told (D.files s.disk) (D.files new) c.settle_sections.ensures.same in
+    let len = c.len-self-inside.ensures ∙ s.sections.ok.0 in
+    begun_on D.files D.moment D.since D.leaves D.read_at D.lasted_at before s.size new ss
+    c.len-self-inside.result s.is_stopped s.size c.self.invariant c.settle_sections.ensures.later
+    (omega (arith, len))
+    (λ runs. end_same (D.files s.disk) (D.files new) s.id s.size ss
+    c.settle_sections.ensures.same (c.self.invariant.ends runs))
+    (λ lived. subst (λ (k : ℕ). LivesOn D.files D.moment D.since D.leaves D.read_at D.lasted_at
+    before
+    (record before { disk = new; synced = k })) (sym len)
+    (lives_settled D.files D.moment D.since D.leaves D.read_at D.lasted_at before new
+    c.if-self.false lived
+    (λ image left. g.met.D.Disk.counts_now new (D.moment s.disk) image
+    c.settle_sections.ensures.later.no_sooner left) told c.settle_sections.ensures.later (λ r rests.
+    c.settle_sections.ensures.any_moment r s.past.items (take s.synced ss) (drop s.synced ss)
+    rests)
+    (λ r rests. c.in-Ok.ensures.lasts r s.past.items (take s.synced ss) (drop s.synced ss)
+    rests)))
+
+pub invariant_of-self-in-Err-OutOfMemory : goal.invariant_of-self-in-Err-OutOfMemory
+invariant_of-self-in-Err-OutOfMemory g c =
+    let D = g.D.Disk in
+    let s = c.self.inside in
+    let ss = s.sections.items in
+    let before : State g.row.D.Denot = record {
+      disk = s.disk;
+      opened = s.opened;
+      past = s.past.items;
+      id = s.id;
+      sections = ss;
+      synced = s.synced;
+      is_stopped = s.is_stopped;
+    } in
+    let new = c.settle_sections.new.disk in
+    let told = same_told (D.files s.disk) (D.files new) c.settle_sections.ensures.same in
+    begun_on D.files D.moment D.since D.leaves D.read_at D.lasted_at before s.size new ss
+    s.synced s.is_stopped s.size c.self.invariant c.settle_sections.ensures.later
+    c.self.invariant.few
+    (λ runs. end_same (D.files s.disk) (D.files new) s.id s.size ss
+    c.settle_sections.ensures.same (c.self.invariant.ends runs))
+    (λ lived. lives_same D.files D.moment D.since D.leaves D.read_at D.lasted_at before new
+    c.if-self.false lived
+    (λ image left. g.met.D.Disk.counts_now new (D.moment s.disk) image
+    c.settle_sections.ensures.later.no_sooner left) told c.settle_sections.ensures.later (λ r rests.
+    c.settle_sections.ensures.any_moment r s.past.items (take s.synced ss) (drop s.synced ss)
+    rests)
+    (λ r rests. c.in-Err-OutOfMemory.ensures.refused r s.past.items (take s.synced ss)
+    (drop s.synced ss) rests))
+
+pub invariant_of-self-in-Err-Failed : goal.invariant_of-self-in-Err-Failed
+invariant_of-self-in-Err-Failed g c =
+    let D = g.D.Disk in
+    let s = c.self.inside in
+    let ss = s.sections.items in
+    let before : State g.row.D.Denot = record {
+      disk = s.disk;
+      opened = s.opened;
+      past = s.past.items;
+      id = s.id;
+      sections = ss;
+      synced = s.synced;
+      is_stopped = s.is_stopped;
+    } in
+    let new = c.settle_sections.new.disk in
+    let told = same_told (D.files s.disk) (D.files new) c.settle_sections.ensures.same in
+    begun_on D.files D.moment D.since D.leaves D.read_at D.lasted_at before s.size new ss
+    s.synced true s.size c.self.invariant c.settle_sections.ensures.later c.self.invariant.few
+    (λ runs. absurd (true≢false runs))
+    (λ lived. lives_stopped D.files D.moment D.since D.leaves D.read_at D.lasted_at before new
+    c.if-self.false lived
+    (λ image left. g.met.D.Disk.counts_now new (D.moment s.disk) image
+    c.settle_sections.ensures.later.no_sooner left) told c.settle_sections.ensures.later (λ r rests.
+    c.settle_sections.ensures.any_moment r s.past.items (take s.synced ss) (drop s.synced ss)
+    rests))

@@ -1,0 +1,44 @@
+-- What a log's calls add to the changes of its disk: appends that bring its sections, and nothing
+-- else.
+use Rattle.std.specs.Prelude.{
+  ◌≡◌,
+  ℕ,
+  ◌<◌,
+  List,
+  [],
+  ◌∷◌,
+  ◌++◌,
+  length,
+  Option,
+  option_map,
+}
+use Rattle.std.specs.List.{Contains}
+use Rattle.clog_spec.specs.Names.{segment_name_of}
+use Rattle.clog_disk.specs.declared.change.Change.{Change}
+use Rattle.clog_scan.specs.Cut.{Section}
+use Rattle.clog_crash.specs.Grown.{Append, appends_of, grown}
+use Rattle.clog_crash.specs.Log.{Write}
+use Rattle.clog_crash.specs.Sections.{segment_bytes}
+use Rattle.clog_store.specs.Life.{State}
+
+-- earlier segments, and the one with these sections
+abbrev pub segments_with : List Write → ℕ → List Section → List Write
+segments_with past id sections = past ++ record { id = id; sections = sections } ∷ []
+
+-- The appends have brought just the bytes of these segments, and none to another name.
+pub record IsGrown (appends : List Append) (past : List Write) (id : ℕ) (sections : List Section)
+    : Type 0 where
+  pub each : (w : Write) → Contains (segments_with past id sections) w
+      → grown appends (segment_name_of 6 w.id) ≡ segment_bytes w.id w.sections
+  pub only : (a : Append) → Contains appends a
+      → (w : Write) × Contains (segments_with past id sections) w × (0 < length w.sections)
+      × (a.0 ≡ segment_name_of 6 w.id)
+
+-- The disk has made further changes. Where those before had brought just the log's sections, they
+-- have now too.
+pub record Grows {D : Type 0} (changes : D → Option (List Change)) (before now : State D)
+    : Type 0 where
+  pub added : List Change
+  pub changes_are : changes now.disk ≡ option_map (λ made. made ++ added) (changes before.disk)
+  pub grows : (appends : List Append) → IsGrown appends before.past before.id before.sections
+      → IsGrown (appends ++ appends_of added) now.past now.id now.sections

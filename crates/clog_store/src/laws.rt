@@ -1,0 +1,10 @@
+//! What follows from the definitions of a recovery.
+ghost use Rattle.std.specs.Prelude.{◌≡◌, ℕ, List};
+ghost use Rattle.clog_disk.specs.Files.{Files};
+ghost use Rattle.clog_store.specs.Filing.{IsRecoveryPut};
+
+/// A recovery puts one file a table at most: what it puts of one table has one name.
+pub fn a_recovery_puts_one_file_a_table()
+    ensures { (first : Files) (name bytes other more : List ℕ) (a : IsRecoveryPut first name bytes)
+        (b : IsRecoveryPut first other more) → a.file.table ≡ b.file.table → name ≡ other }
+{}

@@ -1,0 +1,157 @@
+//! A log of notes: it makes the entries lasting that it is lent, in sections over segments, and
+//! keeps them in mind. Its sections hold just those notes, each at its place (`IsNoteLog`).
+//!
+//! After a sync that was refused for memory it keeps copies of what it was lent, since some of it
+//! may stand in its sections: the next sync begins with these and goes on behind what was written.
+ghost use Rattle.std.specs.Prelude.{◌≡◌, ◌<◌, ◌^◌, [], OnErr, OnOk, false};
+ghost use Rattle.clog_disk.specs.Images.{IsLater};
+ghost use Rattle.clog_store.specs.Grows.{Grows};
+ghost use Rattle.clog_store.specs.Life.{Lives, LivesOn};
+ghost use Rattle.clog_store.specs.NoteLog.{HasRefused, HasSynced, LeavesOthers, MayLog};
+ghost use Rattle.clog_store.specs.NoteSteps.{GoesOn, Leaves, Logs, LogsNot, MayRun};
+ghost use Rattle.clog_store.specs.Stepped.{HasLogCause};
+
+use crate::note_order::{drop_front, part_at};
+use crate::note_sections::copies_of;
+use crate::note_writing::write_all;
+use crate::section_log::SectionLog;
+use crate::written::StoreFault;
+use clog_base::{Key, Sizes};
+use clog_disk::Disk;
+use path_core::EntryNote;
+use std::alloc::Global;
+use std::marker::Model;
+
+/// A log of notes over a disk (what Cassandra's `AbstractCommitLogSegmentManager` writes).
+#[derive(Drop)]
+pub(crate) struct NoteLog<D: Disk> {
+    alloc: Global,
+    log: SectionLog<D>,
+    /// The id of the segment of ordinal 0.
+    base: u64,
+    sizes: Sizes,
+    /// The start of the last sync's marker, 0 before the first.
+    synced: u64,
+    logged: Vec<EntryNote>,
+    /// Copies of the notes of a sync that was refused.
+    kept: Vec<EntryNote>,
+    /// How many of these stand in the log's sections.
+    written: usize,
+}
+
+impl<D: Disk> Model for NoteLog<D> {
+    ghost use Rattle.clog_store.specs.NoteLog.{IsNoteLog, NoteState};
+
+    ghost Value = { NoteState D };
+
+    ghost view = { λ s. record {
+      log = s.log;
+      base = s.base;
+      sizes = s.sizes;
+      synced = s.synced;
+      logged = s.logged.items;
+      kept = s.kept.items;
+      written = s.written;
+    } };
+
+    ghost invariant = { λ s. IsNoteLog (record {
+      log = s.log;
+      base = s.base;
+      sizes = s.sizes;
+      synced = s.synced;
+      logged = s.logged.items;
+      kept = s.kept.items;
+      written = s.written;
+    }) };
+}
+
+impl<D: Disk> NoteLog<D> {
+    /// A log of notes over a log of sections that was just opened. Its first segment is the one of
+    /// ordinal 0.
+    pub(crate) fn begin(alloc: Global, log: SectionLog<D>, sizes: Sizes) -> NoteLog<D>
+        requires fits { log.id < 2 ^ 62 }
+        requires no_past { log.past ≡ [] }
+        requires none { log.sections ≡ [] }
+        requires none_lasts { log.synced ≡ 0 }
+        ensures { result ≡ record {
+          log = log;
+          base = log.id;
+          sizes = sizes;
+          synced = 0;
+          logged = [];
+          kept = [];
+          written = 0;
+        } }
+    {
+        let base = log.id();
+        NoteLog {
+            alloc,
+            log,
+            base,
+            sizes,
+            synced: 0,
+            logged: Vec::new(alloc),
+            kept: Vec::new(alloc),
+            written: 0,
+        }
+    }
+
+    // Logs the run. What was written of it is kept where this is refused.
+    fn log_run(&mut self, run: Vec<EntryNote>, upto: u64) -> Result<(), StoreFault>
+        requires runs { self.old.log.is_stopped ≡ false }
+        requires may { MayRun self.old upto run.items }
+        ensures logs { OnOk result (Logs self.old self.new upto run.items) }
+        ensures refused { OnErr result (LogsNot self.old self.new run.items) }
+        ensures goes { GoesOn D.files D.moment D.since D.leaves D.read_at D.lasted_at self.old.log
+            self.new.log }
+        ensures leaves { self.new.log.is_stopped ≡ false
+            → Leaves D.files D.changes self.old.log self.new.log }
+        ensures cause { HasLogCause self.old.log.is_stopped (D.faults self.old.log.disk)
+            (D.faults self.new.log.disk) result }
+    {
+        self.logged.reserve(run.len())?;
+        self.kept = run;
+        write_all(
+            self.alloc,
+            &mut self.log,
+            self.base,
+            &self.kept,
+            &mut self.written,
+        )?;
+        self.logged.append(&mut self.kept)?;
+        self.written = 0;
+        self.synced = upto;
+        Ok(())
+    }
+
+    /// Makes all pending notes up to a key lasting, and keeps the others pending. Where it is
+    /// refused all are pending; the sections that the disk took stay, and the next call goes on
+    /// behind them.
+    pub(crate) fn sync(&mut self, pending: &mut Vec<EntryNote>, upto: Key) -> Result<(), StoreFault>
+        requires { MayLog self.old upto.0 pending.old.items }
+        ensures syncs { OnOk result (HasSynced self.old self.new upto.0 pending.old.items
+            pending.new.items) }
+        ensures refused { OnErr result (HasRefused self.old self.new upto.0 pending.old.items
+            pending.new.items) }
+        ensures others { self.new.log.is_stopped ≡ false
+            → LeavesOthers self.old.log self.new.log (D.files self.old.log.disk)
+            (D.files self.new.log.disk) }
+        ensures grows { self.new.log.is_stopped ≡ false
+            → Grows D.changes self.old.log self.new.log }
+        ensures later { IsLater D.moment D.read_at D.lasted_at self.old.log.disk self.new.log.disk }
+        ensures cause { HasLogCause self.old.log.is_stopped (D.faults self.old.log.disk)
+            (D.faults self.new.log.disk) result }
+        ensures lives { Lives D.files D.moment D.since D.leaves D.read_at D.lasted_at self.old.log
+            → LivesOn D.files D.moment D.since D.leaves D.read_at D.lasted_at self.old.log
+            self.new.log }
+    {
+        if self.log.is_stopped() {
+            return Err(StoreFault::Stopped);
+        }
+        let count = part_at(pending, upto.0);
+        let run = copies_of(self.alloc, &pending[..count])?;
+        self.log_run(run, upto.0)?;
+        drop_front(pending, count);
+        Ok(())
+    }
+}

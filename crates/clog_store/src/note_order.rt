@@ -1,0 +1,44 @@
+//! The pending notes that a sync writes: those up to a key, in the order of the log.
+ghost use Rattle.std.specs.Prelude.{◌≡◌, ◌≤◌, ◌<◌, ℕ, IfOk, drop, get_or, length, take};
+ghost use Rattle.std.specs.List.Sorted.{IsNonDecreasingBy, IsPermutation};
+ghost use Rattle.path_core.specs.declared.note.EntryNote.{EntryNote};
+ghost use Rattle.path_core.specs.Keeper.{IsParted};
+
+use crate::note_sections::copies_of;
+use path_core::EntryNote;
+use std::alloc::{AllocError, Global};
+
+// How many notes, in the order of their ends, end at or below a key.
+fn count_up_to(notes: &[EntryNote], upto: u64) -> usize
+    requires { IsNonDecreasingBy (λ (n : EntryNote). n.end.0) notes.now }
+    ensures within { result ≤ length notes.now }
+    ensures low { (k : ℕ) (d : EntryNote) → k < result → (get_or notes.now k d).end.0 ≤ upto }
+    ensures high { (k : ℕ) (d : EntryNote) → result ≤ k → k < length notes.now
+        → upto < (get_or notes.now k d).end.0 }
+{
+    let mut count = 0;
+    while count < notes.len() && notes[count].end.0 <= upto {
+        count += 1;
+    }
+    count
+}
+
+/// Brings the notes into the order of the log, and answers how many end at or below a key.
+pub(crate) fn part_at(pending: &mut Vec<EntryNote>, upto: u64) -> usize
+    ensures within { result ≤ length pending.new.items }
+    ensures same { IsPermutation pending.old.items pending.new.items }
+    ensures parted { IsParted upto pending.old.items (take result pending.new.items)
+        (drop result pending.new.items) }
+{
+    pending.sort_unstable_by_key(|note| note.end.0);
+    count_up_to(pending, upto)
+}
+
+/// Takes so many away from the front.
+pub(crate) fn drop_front(pending: &mut Vec<EntryNote>, count: usize)
+    requires { count ≤ length pending.old.items }
+    ensures { pending.new.items ≡ drop count pending.old.items }
+{
+    pending.rotate_left(count);
+    pending.truncate(pending.len() - count);
+}
