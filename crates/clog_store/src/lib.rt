@@ -35,6 +35,7 @@ pub use droppable::{due_segments, due_segments_are_covered};
 pub use lasting::what_lasts_stays;
 pub use laws::a_recovery_puts_one_file_a_table;
 pub use next::write_section;
+pub use note_log::NoteLog;
 pub use noting::{a_note_tells_its_place, four_notes_are_three_sections, notes_are_runs};
 pub use opening::recover;
 pub use publishing::{Published, publish_file, what_may_be_published_is_true};

@@ -24,7 +24,7 @@ use std::marker::Model;
 
 /// A log of notes over a disk (what Cassandra's `AbstractCommitLogSegmentManager` writes).
 #[derive(Drop)]
-pub(crate) struct NoteLog<D: Disk> {
+pub struct NoteLog<D: Disk> {
     alloc: Global,
     log: SectionLog<D>,
     /// The id of the segment of ordinal 0.
@@ -68,7 +68,7 @@ impl<D: Disk> Model for NoteLog<D> {
 impl<D: Disk> NoteLog<D> {
     /// A log of notes over a log of sections that was just opened. Its first segment is the one of
     /// ordinal 0.
-    pub(crate) fn begin(alloc: Global, log: SectionLog<D>, sizes: Sizes) -> NoteLog<D>
+    pub fn begin(alloc: Global, log: SectionLog<D>, sizes: Sizes) -> NoteLog<D>
         requires fits { log.id < 2 ^ 62 }
         requires no_past { log.past ≡ [] }
         requires none { log.sections ≡ [] }
@@ -127,7 +127,7 @@ impl<D: Disk> NoteLog<D> {
     /// Makes all pending notes up to a key lasting, and keeps the others pending. Where it is
     /// refused all are pending; the sections that the disk took stay, and the next call goes on
     /// behind them.
-    pub(crate) fn sync(&mut self, pending: &mut Vec<EntryNote>, upto: Key) -> Result<(), StoreFault>
+    pub fn sync(&mut self, pending: &mut Vec<EntryNote>, upto: Key) -> Result<(), StoreFault>
         requires { MayLog self.old upto.0 pending.old.items }
         ensures syncs { OnOk result (HasSynced self.old self.new upto.0 pending.old.items
             pending.new.items) }
