@@ -1,4 +1,4 @@
-use Rattle.std.proofs.Common.{ℕ, ◌<◌, ◌^◌, Option, Some, is_some, refl, sym, ap, ◌∙◌, subst}
+use Rattle.std.proofs.Common.{ℕ, ◌<◌, ◌^◌, [], ◌∷◌, false, Option, Some, is_some, refl, sym, ap, ◌∙◌, subst}
 use Rattle.path_core.specs.declared.event.Event.TheVariants.{Look}
 use Rattle.path_core.specs.declared.event.Place.TheVariants.{Bound}
 use Rattle.path_core.specs.Parts.{HoldsNoTurn}
@@ -41,6 +41,17 @@ returns-clause-same g c =
       end = refl;
       tables = refl;
       list = ap (λ (v : View). writes_of v.trail) d.view;
+      tried = record {
+        looks = record {
+          event = Look c.args.seat.now.member.number (Bound c.args.table 0);
+          found = c.look_first_bound-bound.result;
+          filed = false;
+        } ∷ [];
+        are = (refl, tt);
+        trail = ap (λ (v : View). v.trail) d.view;
+        hands = ap (λ (v : View). v.hands) d.view;
+        returned = ap (λ (v : View). v.returned) d.view;
+      };
     }
 
 pub returns-clause-step : goal.returns-clause-step
