@@ -7,8 +7,8 @@ use Rattle.path_rule.specs.HandsAfter.{with_marker}
 use Rattle.path_rule.specs.Rounds.{WroteBelow}
 use Rattle.path_rule.specs.Turns.{MarkerWaits}
 
--- Seat w claimed a marker that starts at a key: it is the last one, and has no barrier yet. All that
--- the seat wrote ends at or below that key.
+-- Seat w claimed a marker that starts at a key: it is the last one, and has no barrier yet. All
+-- that the seat wrote ends at or below that key.
 pub record HasMarked (w : ℕ) (v : View) (start : ℕ) (after : View) : Type 0 where
   pub hands : after.hands ≡ with_marker w start v.hands
   pub waits : MarkerWaits w after.part start

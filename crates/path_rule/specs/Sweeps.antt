@@ -15,8 +15,8 @@ abbrev pub SweepsOne : ℕ → ℕ → Hands → Bool → Hands → Type 0
 SweepsOne seats current h true after = SweptOne seats current h after
 SweepsOne seats current h false after = after ≡ h
 
--- All boxes were gathered: what was in them is pending, behind what was. Nothing else changed on the
--- desk.
+-- All boxes were gathered: what was in them is pending, behind what was. Nothing else changed on
+-- the desk.
 pub record SweptAll (h after : Hands) : Type 0 where
   pub more : List EntryNote
   pub pending : after.pending ≡ h.pending ++ more

@@ -42,8 +42,8 @@ TellsFaults opened (Ok answer) = ⊤
 TellsFaults opened (Err (Stopped at_open now)) = (at_open ≡ opened) × HasRisen at_open now
 TellsFaults opened (Err OutOfMemory) = ⊤
 
--- After a sync up to a key seat w put the synced key there. The keeper on the desk made lasting what
--- was pending up to the key, and the rest is pending still.
+-- After a sync up to a key seat w put the synced key there. The keeper on the desk made lasting
+-- what was pending up to the key, and the rest is pending still.
 pub record HasSynced (w upto : ℕ) (v after : View) : Type 0 where
   pub run : List EntryNote
   pub left : List EntryNote
@@ -51,8 +51,8 @@ pub record HasSynced (w upto : ℕ) (v after : View) : Type 0 where
   pub did : DidAs v w (Put w Synced upto) upto (with_desk (more_lasting run upto v.hands.lasting)
       left v.hands.progress v.hands) after
 
--- After one that was refused it made the step e. All is pending still, in some order; the keeper may
--- have kept a part, and may have stopped with a count.
+-- After one that was refused it made the step e. All is pending still, in some order; the keeper
+-- may have kept a part, and may have stopped with a count.
 pub record HasRefused (w upto : ℕ) (stopped : Option ℕ) (e : Event) (n : ℕ) (v after : View) :
     Type 0 where
   pub kept : List EntryNote

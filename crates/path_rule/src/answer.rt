@@ -5,8 +5,8 @@
 pub enum SyncAnswer {
     /// The log is lasting up to this key.
     Done(u64),
-    /// The keeper has stopped: its count of faults at its opening, and the one with which the log is
-    /// stopped.
+    /// The keeper has stopped: its count of faults at its opening, and the one with which the log
+    /// is stopped.
     Stopped {
         /// The count at its opening.
         at_open: u64,

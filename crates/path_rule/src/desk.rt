@@ -1,6 +1,6 @@
-//! What the desk of the Sync turn tells of the last barrier, in the hand of the turn's holder, which
-//! has no other box. Each step that changes what the holder knows of it is followed by a note of it
-//! on the desk, so that a later holder is told.
+//! What the desk of the Sync turn tells of the last barrier, in the hand of the turn's holder,
+//! which has no other box. Each step that changes what the holder knows of it is followed by a note
+//! of it on the desk, so that a later holder is told.
 ghost use Rattle.std.specs.Prelude.{◌≡◌};
 ghost use Rattle.path_rule.specs.declared.view.Progress.{Progress};
 ghost use Rattle.path_rule.specs.Desks.{HasDesk};

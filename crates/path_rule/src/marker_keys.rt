@@ -45,8 +45,8 @@ fn is_above_marker(capacity: u64, start: u64, log: u64) -> bool
     }
 }
 
-/// Whether an entry was claimed since the last marker, or at all where there is none: the log stands
-/// above the key at which it went on behind that marker.
+/// Whether an entry was claimed since the last marker, or at all where there is none: the log
+/// stands above the key at which it went on behind that marker.
 pub(crate) fn is_entry_since(capacity: u64, marker: Option<LastMarker>, log: u64) -> bool
     ensures { IsTrue result ↔ (behind_last capacity marker < log) }
 {

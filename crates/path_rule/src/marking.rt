@@ -1,5 +1,5 @@
-//! A sync's marker: whether an entry was claimed since the last one, and the claim of the next. What
-//! the seat wrote before ends at or below it.
+//! A sync's marker: whether an entry was claimed since the last one, and the claim of the next.
+//! What the seat wrote before ends at or below it.
 ghost use Rattle.std.specs.Prelude.{◌≡◌, [], false, Some, None, IsSome};
 ghost use Rattle.path_rule.specs.Calls.{MayGive};
 ghost use Rattle.path_rule.specs.Desks.{HasDesk};

@@ -1,5 +1,6 @@
-//! How a round of a sync ends, in the hand of the holder of the Sync turn, which has the desk alone:
-//! by what the keeper answers up to the last marker, behind whose barrier all boxes are gathered.
+//! How a round of a sync ends, in the hand of the holder of the Sync turn, which has the desk
+//! alone: by what the keeper answers up to the last marker, behind whose barrier all boxes are
+//! gathered.
 ghost use Rattle.std.specs.Prelude.{◌≡◌, true};
 ghost use Rattle.path_rule.specs.Calls.{MayGive};
 ghost use Rattle.path_rule.specs.Desks.{HasDesk};

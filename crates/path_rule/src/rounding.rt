@@ -1,5 +1,5 @@
-//! A round of a sync, in the hand of the holder of the Sync turn, which has the desk alone: from the
-//! marker over its barrier and the boxes to the end.
+//! A round of a sync, in the hand of the holder of the Sync turn, which has the desk alone: from
+//! the marker over its barrier and the boxes to the end.
 ghost use Rattle.std.specs.Prelude.{◌≡◌, true, Some, None, []};
 ghost use Rattle.path_rule.specs.Calls.{MayGive};
 ghost use Rattle.path_rule.specs.Desks.{HasDesk};
@@ -22,8 +22,8 @@ use std::alloc::{Allocator, Global};
 use std::sync::Wait;
 
 impl<K: Keeper, A: Allocator> PathTable<K, A> {
-    /// Issues the barrier of the seat's own marker, which is the last one, waits until it is passed,
-    /// gathers all boxes behind it, and ends the sync.
+    /// Issues the barrier of the seat's own marker, which is the last one, waits until it is
+    /// passed, gathers all boxes behind it, and ends the sync.
     pub fn bar_round<R: Wait>(
         &self,
         rt: &R,
@@ -89,8 +89,8 @@ impl<K: Keeper, A: Allocator> PathTable<K, A> {
         }
     }
 
-    // Where an entry was claimed since the last marker, and all boxes are gathered: a further marker
-    // is claimed, unless there is no group left for its barrier. `None` where no entry was.
+    // Where an entry was claimed since the last marker, and all boxes are gathered: a further
+    // marker is claimed, unless there is no group left for its barrier. `None` where no entry was.
     fn new_round<R: Wait>(
         &self,
         rt: &R,

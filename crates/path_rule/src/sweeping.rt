@@ -56,8 +56,8 @@ impl<K: Keeper, A: Allocator> PathTable<K, A> {
     }
 
     /// Gathers the boxes of all seats behind the passed barrier before the current group, and notes
-    /// on the desk that they are. It waits while the barrier is not found passed, and no clause says
-    /// that it returns.
+    /// on the desk that they are. It waits while the barrier is not found passed, and no clause
+    /// says that it returns.
     pub fn gather_all<R: Wait>(
         &self,
         rt: &R,

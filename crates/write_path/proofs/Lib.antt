@@ -11,3 +11,4 @@ pub mod Histories
 pub mod Accounted
 pub mod Outcomes
 pub mod SyncLists
+pub mod OnlyFirst

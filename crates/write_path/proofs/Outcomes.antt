@@ -27,7 +27,7 @@ use Rattle.std.specs.List.{All, filter, range_with_len}
 use Rattle.std.specs.List.Sorted.{IsPermutation}
 use Rattle.std.proofs.lemmas.Bool.{false≢true}
 use Rattle.std.proofs.lemmas.List.{get_or_default, length-replicate}
-use Rattle.std.proofs.lemmas.List.Elements.{All-head, All-tail}
+use Rattle.std.proofs.lemmas.List.Elements.{All-nil, All-head, All-tail}
 use Rattle.std.proofs.lemmas.List.Sorted.{
   IsPermutation-refl,
   IsPermutation-sym,
@@ -98,14 +98,18 @@ module _ {K : Type 0} (size : PathSize) where
 
   pub outcome : (seats : List (PathSeat K)) (end : ℕ) (h : Holding) → EndsBy size seats end h
       → IsPermutation (range_with_len 0 size.seats) (numbers_of seats)
-      → IsOutcome size (all_writes seats) end h
+      → IsOutcome size seats end h
   outcome seats end h E all = let e = E.ended in let x = e.core in let L = e.lawful in
       let z = past_sizes e.events (start_of size) x e.run in
       let same = e.lasting_is in
       let synced : h.synced ≡ x.synced = ap (λ (k : Lasting). k.synced) same in
       let many : length (start_of size).seats ≡ size.seats = length-replicate size.seats fresh_seat
       in record {
-        history = x.notes;
+        core = x;
+        events = e.events;
+        run = e.run;
+        own = E.own;
+        end_is = e.log_is;
         of_writes = subst (λ (l : List EntryNote). IsPermutation l x.notes)
             (sym (writes_as e.events seats E.own))
             (IsPermutation-trans (by_all (numbers_of seats) e.events) (noted e.events) x.notes
@@ -141,10 +145,17 @@ module _ {K : Type 0} (size : PathSize) where
   no_seat (s ∷ seats) e = absurd (let q = ap (λ (l : List ℕ). length l) e in omega arith)
 
   pub unused_outcome : (seats : List (PathSeat K)) (end : ℕ) (h : Holding) → numbers_of seats ≡ []
-      → EndsUnused size end h → IsOutcome size (all_writes seats) end h
+      → EndsUnused size end h → IsOutcome size seats end h
   unused_outcome seats end h none_there U = let same = U.1 in
       let synced : h.synced ≡ 0 = ap (λ (k : Lasting). k.synced) same in record {
-        history = [];
+        core = start_of size;
+        events = [];
+        run = refl;
+        own = subst (λ (l : List (PathSeat K)). All (λ (s : PathSeat K).
+            map event_of (view_of s.member).trail ≡ steps_by s.member.number []) l)
+            (sym (no_seat seats none_there)) (All-nil (λ (s : PathSeat K).
+            map event_of (view_of s.member).trail ≡ steps_by s.member.number []));
+        end_is = U.0;
         of_writes = subst (λ (l : List (PathSeat K)). IsPermutation (all_writes l) [])
             (sym (no_seat seats none_there)) (IsPermutation-refl []);
         lawful = record {

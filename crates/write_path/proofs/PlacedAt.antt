@@ -4,6 +4,10 @@ use Rattle.std.proofs.Common.{
   ◌≢◌,
   ℕ,
   suc,
+  List,
+  [],
+  ◌∷◌,
+  ◌++◌,
   false,
   Some,
   IsTrue,
@@ -15,15 +19,22 @@ use Rattle.std.proofs.Common.{
   arith,
 }
 use Rattle.std.proofs.lemmas.Bool.{false≢true}
+use Rattle.std.proofs.lemmas.List.{append_assoc}
 use mathlib.Core.Logic.{dite}
 use native.Mathlib.Decide.{ℕ_discrete}
 use Rattle.atomic_table.specs.Seated.{TableId}
 use Rattle.path_core.specs.declared.seat.SeatTable.{SeatTable}
 use Rattle.path_core.specs.Parts.{seat_table, touches}
+use Rattle.path_rule.specs.declared.view.OwnStep.{OwnStep}
 use Rattle.path_rule.specs.declared.view.PathSize.{PathSize}
 use Rattle.path_rule.specs.Members.{part_of, IsOf}
 use Rattle.write_path.specs.declared.deposited.Deposited.{Deposited}
-use Rattle.write_path.specs.Ends.{IsPlacedBelow, IsSameWrite}
+use Rattle.write_path.specs.Ends.{AreTryLooks, IsPlacedBelow, IsSameWrite}
+
+are_both : (w : ℕ) (ts us : List OwnStep) → AreTryLooks w ts → AreTryLooks w us
+    → AreTryLooks w (ts ++ us)
+are_both w [] us A B = B
+are_both w (t ∷ ts) us A B = (A.0, are_both w ts us A.1 B)
 
 module _ {K : Type 0} (id : TableId) (size : PathSize) where
   pub same_itself : (s : Deposited K) → IsOf id size s.member → IsSameWrite id size s s
@@ -34,6 +45,7 @@ module _ {K : Type 0} (id : TableId) (size : PathSize) where
     end = refl;
     tables = refl;
     list = refl;
+    tried = record { looks = []; are = tt; trail = refl; hands = refl; returned = refl };
   }
 
   pub same_then : (s t u : Deposited K) → IsSameWrite id size s t → IsSameWrite id size t u
@@ -45,6 +57,15 @@ module _ {K : Type 0} (id : TableId) (size : PathSize) where
     end = B.end ∙ A.end;
     tables = B.tables ∙ A.tables;
     list = B.list ∙ A.list;
+    tried = record {
+      looks = B.tried.looks ++ A.tried.looks;
+      are = are_both s.member.number B.tried.looks A.tried.looks
+          (subst (λ w. AreTryLooks w B.tried.looks) A.member.1 B.tried.are) A.tried.are;
+      trail = B.tried.trail ∙ (ap (λ l. B.tried.looks ++ l) A.tried.trail
+          ∙ sym (append_assoc B.tried.looks A.tried.looks s.member.seat.me.0.trail));
+      hands = B.tried.hands ∙ A.tried.hands;
+      returned = B.tried.returned ∙ A.tried.returned;
+    };
   }
 
 module _ {K : Type 0} (k : ℕ) (s : Deposited K) where

@@ -3,18 +3,21 @@ use Rattle.std.specs.Prelude.{◌≡◌, ℕ, ◌≤◌, true, List, [], map, Op
 use Rattle.std.specs.List.{All, Contains, filter, flat_map, range_with_len}
 use Rattle.std.specs.List.Sorted.{IsPermutation}
 use Rattle.atomic_table.specs.Seated.{TableId}
+use Rattle.path_core.specs.declared.event.Event.{Event}
 use Rattle.path_core.specs.declared.note.EntryNote.{EntryNote}
+use Rattle.path_core.specs.declared.state.PathState.{PathState}
 use Rattle.path_core.specs.History.{IsHistory}
 use Rattle.path_core.specs.Keeper.{Holding, HasRisen}
 use Rattle.path_core.specs.LawfulLog.{is_at_most}
 use Rattle.path_core.specs.Next.{is_between}
+use Rattle.path_core.specs.Runs.{Past}
 use Rattle.path_core.specs.Whole.{IsWhole}
 use Rattle.path_rule.specs.declared.table.Opener.{Opener}
 use Rattle.path_rule.specs.declared.trying.PathSeat.{PathSeat}
 use Rattle.path_rule.specs.declared.view.PathSize.{PathSize}
 use Rattle.path_rule.specs.declared.view.Returned.{Returned}
 use Rattle.path_rule.specs.Members.{view_of, IsOf, returned_of}
-use Rattle.path_rule.specs.Rule.{event_of, steps_by}
+use Rattle.path_rule.specs.Rule.{start_of, event_of, steps_by}
 use Rattle.path_rule.specs.Sharing.{Ended}
 use Rattle.write_path.specs.declared.resting.Resting.{Resting}
 use Rattle.write_path.specs.Ends.{writes_of}
@@ -53,21 +56,28 @@ pub record IsOfSize (size : PathSize) (h : Holding) : Type 0 where
   pub ordinals_are : h.sizes.ordinals ≡ size.ordinals
   pub at_open_is : h.at_open ≡ size.at_open
 
--- These writes, in the order of the log, are a lawful history, and the keeper has its part up to
--- the synced key.
-pub record IsOutcome (size : PathSize) (writes : List EntryNote) (end : ℕ) (h : Holding) :
-    Type 0 where
-  pub history : List EntryNote
-  pub of_writes : IsPermutation writes history
-  pub lawful : IsHistory size.capacity history
-  pub whole : (n : EntryNote) → Contains history n → IsWhole n
-  -- it ends at or below the log's end
-  pub below : (n : EntryNote) → Contains history n → n.end.0 ≤ end
+-- The path was one run of the machine, of which each seat's steps are its own and which ends at
+-- this log key. What the seats wrote, in the order of the log, is a lawful history, and the keeper
+-- has its part up to the synced key.
+pub record IsOutcome {K : Type 0} (size : PathSize) (seats : List (PathSeat K)) (end : ℕ)
+    (h : Holding) : Type 0 where
+  pub core : PathState
+  pub events : List Event
+  pub run : Past (start_of size) events core
+  pub own : All (λ (s : PathSeat K). map event_of (view_of s.member).trail
+      ≡ steps_by s.member.number events) seats
+  pub end_is : end ≡ core.log
+  -- its notes are what the seats wrote
+  pub of_writes : IsPermutation (all_writes seats) core.notes
+  pub lawful : IsHistory size.capacity core.notes
+  pub whole : (n : EntryNote) → Contains core.notes n → IsWhole n
+  -- they end at or below the log's end
+  pub below : (n : EntryNote) → Contains core.notes n → n.end.0 ≤ end
   pub synced_below : h.synced ≤ end
   -- what is lasting, and what a refused sync kept above it
-  pub logged : h.logged ≡ filter (is_at_most h.synced) history
+  pub logged : h.logged ≡ filter (is_at_most h.synced) core.notes
   pub kept_to : ℕ
-  pub kept : h.kept ≡ filter (is_between h.synced kept_to) history
+  pub kept : h.kept ≡ filter (is_between h.synced kept_to) core.notes
   -- it has stopped only with a count of faults that has risen since it was opened
   pub stopped : h.stopped ≡ true → HasRisen h.at_open h.faults
   pub sized : IsOfSize size h

@@ -1,5 +1,5 @@
 -- How a write ends, and the list of a seat's own writes.
-use Rattle.std.specs.Prelude.{◌≡◌, ℕ, ◌<◌, List, [], ◌∷◌, IsTrue, Some}
+use Rattle.std.specs.Prelude.{◌≡◌, ℕ, ◌<◌, List, [], ◌∷◌, ◌++◌, IsTrue, Some}
 use Rattle.atomic_table.specs.Seated.{TableId}
 use Rattle.clog_base.specs.declared.cell.Table.{Table}
 use Rattle.clog_base.specs.declared.sizes.Sizes.{Sizes}
@@ -7,7 +7,9 @@ use Rattle.clog_mutation.specs.declared.mutation.Mutation.{Mutation}
 use Rattle.op_core.specs.declared.count.Order.TheVariants.{Write}
 use Rattle.path_core.specs.declared.event.Carried.TheVariants.{Deposit, Applied}
 use Rattle.path_core.specs.declared.event.Event.{Event}
-use Rattle.path_core.specs.declared.event.Event.TheVariants.{Close}
+use Rattle.path_core.specs.declared.event.Cursor.TheVariants.{OldestLive}
+use Rattle.path_core.specs.declared.event.Event.TheVariants.{Look, Close}
+use Rattle.path_core.specs.declared.event.Place.TheVariants.{Bound, CursorWord}
 use Rattle.path_core.specs.declared.note.EntryNote.{EntryNote}
 use Rattle.path_core.specs.Allowed.{IsItsPlaces}
 use Rattle.path_core.specs.Parts.{seat_table, touches}
@@ -44,6 +46,24 @@ pub record IsListed (before after : List OwnStep) (by start end tables : ℕ)
   pub of : (sizes : Sizes) (line : ℕ) (m : Mutation) → IsPrepared sizes line m prepared
       → IsNoteOf line m note
 
+-- A look of seat w at the oldest live memtable of a table, or at the bound of a memtable.
+abbrev pub IsTryLook : ℕ → Event → Type 0
+IsTryLook w (Look by (CursorWord (OldestLive t))) = by ≡ w
+IsTryLook w (Look by (Bound t m)) = by ≡ w
+IsTryLook w _ = ⊥
+
+abbrev pub AreTryLooks : ℕ → List OwnStep → Type 0
+AreTryLooks w [] = Unit {0}
+AreTryLooks w (t ∷ ts) = IsTryLook w t.event × AreTryLooks w ts
+
+-- Seat w made such looks alone.
+pub record OnlyTried (w : ℕ) (v after : View) : Type 0 where
+  pub looks : List OwnStep
+  pub are : AreTryLooks w looks
+  pub trail : after.trail ≡ looks ++ v.trail
+  pub hands : after.hands ≡ v.hands
+  pub returned : after.returned ≡ v.returned
+
 module _ {K : Type 0} where
   -- It is the same write of the same seat, whose list is as it was.
   pub record IsSameWrite (id : TableId) (size : PathSize) (s s' : Deposited K) : Type 0 where
@@ -53,6 +73,7 @@ module _ {K : Type 0} where
     pub end : s'.end ≡ s.end
     pub tables : s'.tables ≡ s.tables
     pub list : writes_of s'.member.seat.me.0.trail ≡ writes_of s.member.seat.me.0.trail
+    pub tried : OnlyTried s.member.number s.member.seat.me.0 s'.member.seat.me.0
 
   -- The write has its place at each of its tables below a number.
   abbrev pub IsPlacedBelow : ℕ → Deposited K → Type 0
@@ -61,8 +82,9 @@ module _ {K : Type 0} where
 
   -- The write is closed with one place for each of its tables, and the seat's list is as it was.
   pub record EndsWrite (s : Deposited K) (after : Member K) : Type 0 where
-    -- what the seat knew before its last step
+    -- what the seat knew before its last step, behind its looks at the memtables
     pub before : View
+    pub tried : OnlyTried s.member.number s.member.seat.me.0 before
     pub tables : before.part.note ≡ Some s.tables
     pub claim : before.part.claim ≡ Some (record { start = s.start.0; end = s.end.0 })
     pub places : List (Table × ℕ)

@@ -20,8 +20,8 @@ CoversList (Stopped at_open now) v = Unit {0}
 CoversList OutOfMemory v = Unit {0}
 CoversList (Rows n) v = Unit {0}
 
--- A sync by seat w answered this. The seat made steps of barriers and syncs alone, its list is as it
--- was, and what `Answers` says of the keys and counts is so.
+-- A sync by seat w answered this. The seat made steps of barriers and syncs alone, its list is as
+-- it was, and what `Answers` says of the keys and counts is so.
 pub record Syncs (w opened : ℕ) (v : View) (answer : SyncAnswer) (after : View) : Type 0 where
   pub answers : Answers w opened v answer after
   pub list : writes_of after.trail ≡ writes_of v.trail

@@ -7,7 +7,6 @@ ghost use Rattle.write_path.specs.Closed.{
   AreAll,
   AreOf,
   EndsBy,
-  all_writes,
   returned_by,
   IsOutcome,
 };
@@ -66,13 +65,12 @@ fn close_by_all<K: Keeper + Drop>(table: PathTable<K, Global>, seats: Vec<PathSe
 
 impl<K: Keeper + Drop> WritePath<K, Global> {
     /// Closes the path with all of its seats, or with none where they were not handed out. It gives
-    /// the keeper back: what the seats wrote, together, is a lawful history, and the keeper has its
-    /// part up to the synced key.
+    /// the keeper back, and where the log ends: what the seats wrote, together, is a lawful
+    /// history, and the keeper has its part up to the synced key.
     pub fn close(self, seats: Vec<PathSeat<K>>) -> (K, Outcome)
         requires seats { AreOf self.table.table.shared.table_id self.table.size seats.items }
         requires all { AreAll self.opener self.table.size.seats (numbers_of seats.items) }
-        ensures { IsOutcome self.table.size (all_writes seats.items) result.1.end.0
-            (K.holds result.0) }
+        ensures { IsOutcome self.table.size seats.items result.1.end.0 (K.holds result.0) }
     {
         let WritePath { table, opener } = self;
         let (keeper, end) = match opener {

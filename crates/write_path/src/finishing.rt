@@ -62,8 +62,7 @@ impl<K: Keeper, A: Allocator> WritePath<K, A> {
         requires table { IsOf self.now.table.table.shared.table_id self.now.table.size
             seat.old.member }
         requires there { table.0 < self.now.table.size.tables }
-        requires tried { ((seat_table (part_of seat.old.member) table.0).trying ≡ Some memtable)
-            × (memtable ≡ 0) }
+        requires tried { (seat_table (part_of seat.old.member) table.0).trying ≡ Some memtable }
         ensures same { IsSameWrite self.now.table.table.shared.table_id self.now.table.size
             seat.old seat.new }
         ensures step { Stepped seat.old.member

@@ -31,3 +31,6 @@ pub use path_rule::{Advance, Begun, PathSeat, Seen};
 pub use prepared::Prepared;
 pub use seats::{Appending, WritePath};
 pub use turning::TurnSeat;
+
+#[cfg(test)]
+mod tests;

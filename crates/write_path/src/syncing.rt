@@ -1,7 +1,7 @@
-//! A sync of the log by an idle seat (`CommitLog.sync`). It takes the Sync turn, claims a marker where
-//! an entry stands behind the last one, waits for the marker's barrier, gathers all boxes behind it,
-//! and has the keeper make lasting what is pending; then the seat is idle again. Where the keeper
-//! refused the last sync for memory and no entry came since, the same marker serves.
+//! A sync of the log by an idle seat (`CommitLog.sync`). It takes the Sync turn, claims a marker
+//! where an entry stands behind the last one, waits for the marker's barrier, gathers all boxes
+//! behind it, and has the keeper make lasting what is pending; then the seat is idle again. Where
+//! the keeper refused the last sync for memory and no entry came since, the same marker serves.
 ghost use Rattle.std.specs.Prelude.{◌≡◌};
 ghost use Rattle.path_rule.specs.Members.{view_of, IsOf};
 ghost use Rattle.path_rule.specs.SyncAnswers.{MayAnswer};
@@ -40,9 +40,9 @@ impl<K: Keeper, A: Allocator> WritePath<K, A> {
     }
 
     /// Syncs the log, once the Sync turn is found free. `Done` carries the synced key, at or below
-    /// which each write of the seat's list ends; `Stopped` the keeper's count of faults at its opening
-    /// and the count that the log tells; after `OutOfMemory` and `Rows` all is pending still. No
-    /// clause says that it returns.
+    /// which each write of the seat's list ends; `Stopped` the keeper's count of faults at its
+    /// opening and the count that the log tells; after `OutOfMemory` and `Rows` all is pending
+    /// still. No clause says that it returns.
     pub fn sync<R: Wait>(
         &self,
         rt: &R,

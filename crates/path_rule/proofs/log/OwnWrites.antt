@@ -1,6 +1,33 @@
--- Where the notes end that a seat deposited: each is a note of the state, so all end at or below the
--- log key; and where no entry was claimed since the last marker, at or below where that one starts.
-use Rattle.std.proofs.Common.{◌≡◌, ◌≢◌, ℕ, ◌-◌, ◌≤◌, ◌==◌, cond, not, Bool, true, false, List, [], ◌∷◌, map, length, Option, Some, None, refl, sym, ap, ◌∙◌, subst, arith}
+-- Where the notes end that a seat deposited: each is a note of the state, so all end at or below
+-- the log key; and where no entry was claimed since the last marker, at or below where that one
+-- starts.
+use Rattle.std.proofs.Common.{
+  ◌≡◌,
+  ◌≢◌,
+  ℕ,
+  ◌-◌,
+  ◌≤◌,
+  ◌==◌,
+  cond,
+  not,
+  Bool,
+  true,
+  false,
+  List,
+  [],
+  ◌∷◌,
+  map,
+  length,
+  Option,
+  Some,
+  None,
+  refl,
+  sym,
+  ap,
+  ◌∙◌,
+  subst,
+  arith,
+}
 use Rattle.std.specs.List.{Contains}
 use Rattle.std.specs.Option.{option_map, option_map_or}
 use Rattle.std.proofs.lemmas.Bool.{false≢true}
@@ -36,7 +63,14 @@ use Rattle.path_core.specs.Keys.{behind_marker, first_offset}
 use Rattle.path_core.specs.Lawful.{IsLawfulPath}
 use Rattle.path_core.specs.LawfulLog.{claim_in}
 use Rattle.path_core.specs.Next.{next_of}
-use Rattle.path_core.specs.Parts.{no_claim, is_marker, is_marker_kind, kept_of, last_marker, last_kept}
+use Rattle.path_core.specs.Parts.{
+  no_claim,
+  is_marker,
+  is_marker_kind,
+  kept_of,
+  last_marker,
+  last_kept,
+}
 use Rattle.path_core.specs.Runs.{Past}
 use Rattle.path_core.specs.Words.{by_of}
 use Rattle.path_core.proofs.lent.Beginnings.{note_at, entries_long}

@@ -1,5 +1,26 @@
 -- What is so behind the answers of a sync.
-use Rattle.std.proofs.Common.{◌≡◌, ℕ, ◌<◌, ◌≤◌, List, [], ◌∷◌, Option, Some, None, Result, Ok, Err, refl, sym, ap, ◌∙◌, subst, ⊎_elim, arith}
+use Rattle.std.proofs.Common.{
+  ◌≡◌,
+  ℕ,
+  ◌<◌,
+  ◌≤◌,
+  List,
+  [],
+  ◌∷◌,
+  Option,
+  Some,
+  None,
+  Result,
+  Ok,
+  Err,
+  refl,
+  sym,
+  ap,
+  ◌∙◌,
+  subst,
+  ⊎_elim,
+  arith,
+}
 use Rattle.std.proofs.lemmas.List.{append-nil}
 use mathlib.Core.Logic.{inl, inr}
 use Rattle.path_core.specs.declared.event.Carried.TheVariants.{Nothing, Deposit, Applied}

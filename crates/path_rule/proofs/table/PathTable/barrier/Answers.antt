@@ -10,7 +10,8 @@ use Rattle.path_core.specs.declared.event.Place.TheVariants.{Current}
 use Rattle.path_rule.proofs.seats.RoundsGo.{one, next}
 use Rattle.path_rule.proofs.table.PathTable.barrier.Goals as goal
 
-pub returns-then-current-eq-LAST_GROUP-clause-steps : goal.returns-then-current-eq-LAST_GROUP-clause-steps
+pub returns-then-current-eq-LAST_GROUP-clause-steps :
+    goal.returns-then-current-eq-LAST_GROUP-clause-steps
 returns-then-current-eq-LAST_GROUP-clause-steps g c = let S = c.seek_current-current in
     one c.args.holder.member.number (Look _ (Current Write)) S.result _ _ refl S.ensures.step
 

@@ -101,7 +101,8 @@ returns-in-Err-Stopped-clause-steps g c =
       ended = (
         omega arith,
         subst (λ (v : View). HasRefused c.args.member.number c.args.upto
-            (Some now) (Put c.args.member.number Stopped now) now v after) M.ensures.same.1 (record {
+            (Some now) (Put c.args.member.number Stopped now) now v after) M.ensures.same.1
+            (record {
               kept = S.0;
               pending = S.1;
               all = S.2;

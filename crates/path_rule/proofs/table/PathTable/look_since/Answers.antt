@@ -18,7 +18,8 @@ pub returns-clause-none : goal.returns-clause-none
 returns-clause-none g c = λ none.
     let L = c.look_log-log in let w = c.args.member.now.number in
     let v = c.args.member.now.seat.me.0 in let K = c.requires.marker in
-    still_wrote w _ [] v L.new.member.seat.me.0 (one w (Look w Log) L.result v _ refl L.ensures.step)
+    still_wrote w _ [] v L.new.member.seat.me.0
+    (one w (Look w Log) L.result v _ refl L.ensures.step)
     (none_since v w L.result K.0.0 c.args.marker L.ensures.found.0 K.0.1 (K.0.2 ∙ sym K.1)
     (subst (λ (z : PathSize). L.result ≤ behind_last z.capacity c.args.marker)
     (sym c.requires.table.1)

@@ -21,7 +21,8 @@ returns-clause-passed g c =
           (c.open_append.ensures.hands ∙ c.seek_current-current.ensures.hands))),
     )
 
-pub returns-then-current-eq-LAST_GROUP-clause-steps : goal.returns-then-current-eq-LAST_GROUP-clause-steps
+pub returns-then-current-eq-LAST_GROUP-clause-steps :
+    goal.returns-then-current-eq-LAST_GROUP-clause-steps
 returns-then-current-eq-LAST_GROUP-clause-steps g c = let S = c.seek_current-current in
     one c.args.holder.member.number (Look _ (Current Append)) S.result _ _ refl S.ensures.step
 

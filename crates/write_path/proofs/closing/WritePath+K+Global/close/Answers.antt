@@ -1,5 +1,5 @@
 use Rattle.std.proofs.Common.{ℕ, sym, subst}
-use Rattle.write_path.specs.Closed.{AreAll, IsOutcome, all_writes}
+use Rattle.write_path.specs.Closed.{AreAll, IsOutcome}
 use Rattle.write_path.specs.Opened.{numbers_of}
 use Rattle.write_path.proofs.Outcomes.{outcome, unused_outcome}
 use Rattle.write_path.proofs.closing.WritePath+K+Global.close.Goals.{in-Some, in-None}
@@ -8,7 +8,7 @@ use Rattle.write_path.proofs.closing.WritePath+K+Global.close.Goals as goal
 pub returns : goal.returns
 returns g c = let size = c.args.self.table.size in let seats = c.args.seats.items in
     let P : g.row.K.Denot × ℕ → Type 0 =
-    λ r. IsOutcome size (all_writes seats) r.1 (g.K.Keeper.holds r.0) in
+    λ r. IsOutcome size seats r.1 (g.K.Keeper.holds r.0) in
     elim c.match-opener.branch [
       | in-Some w ↦ subst P (sym w.keeper-is) (unused_outcome size seats w.finish_unused.result.1
           (g.K.Keeper.holds w.finish_unused.result.0)

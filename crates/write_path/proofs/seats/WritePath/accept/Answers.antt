@@ -1,4 +1,4 @@
-use Rattle.std.proofs.Common.{ℕ, ◌<◌, ◌^◌, Option, Some, is_some, refl, sym, ap, ◌∙◌, subst}
+use Rattle.std.proofs.Common.{ℕ, ◌<◌, ◌^◌, [], ◌∷◌, false, Option, Some, is_some, refl, sym, ap, ◌∙◌, subst}
 use Rattle.path_core.specs.declared.event.Event.TheVariants.{Look}
 use Rattle.path_core.specs.declared.event.Place.TheVariants.{Bound}
 use Rattle.path_core.specs.Parts.{HoldsNoTurn}
@@ -6,6 +6,7 @@ use Rattle.path_rule.specs.declared.view.View.{View}
 use Rattle.path_rule.specs.Calls.{Did}
 use Rattle.path_rule.proofs.seats.Staying.{view_columns, free_stays}
 use Rattle.write_path.specs.Ends.{writes_of}
+use Rattle.write_path.proofs.OnlyFirst.{only_first}
 use Rattle.write_path.proofs.seats.WritePath.accept.Goals as goal
 
 pub invariant_of-seat : goal.invariant_of-seat
@@ -41,19 +42,35 @@ returns-clause-same g c =
       end = refl;
       tables = refl;
       list = ap (λ (v : View). writes_of v.trail) d.view;
+      tried = record {
+        looks = record {
+          event = Look c.args.seat.now.member.number (Bound c.args.table 0);
+          found = c.look_first_bound-bound.result;
+          filed = false;
+        } ∷ [];
+        are = (refl, tt);
+        trail = ap (λ (v : View). v.trail) d.view;
+        hands = ap (λ (v : View). v.hands) d.view;
+        returned = ap (λ (v : View). v.returned) d.view;
+      };
     }
 
 pub returns-clause-step : goal.returns-clause-step
 returns-clause-step g c =
     let s = c.args.seat.now in
     let L = c.look_first_bound-bound in
+    let none = only_first s.member.seat.me.0 s.member.number
+    (Look s.member.number (Bound c.args.table 0)) L.ensures.step.was c.args.table.0 c.args.memtable
+    _ c.requires.tried s.claims in
     subst (λ (q : ℕ × ℕ). Did s.member.seat.me.0 s.member.number
     (Look s.member.number (Bound c.args.table q.0)) q.1 L.new.member.seat.me.0)
-    (λ i. (sym c.requires.tried.1 i, L.ensures.live i)) L.ensures.step
+    (λ i. (sym none i, L.ensures.live i)) L.ensures.step
 
 pub returns-clause-place : goal.returns-clause-place
 returns-clause-place g c =
     let s = c.args.seat.now in
-    let none = c.requires.tried.1 in
+    let none = only_first s.member.seat.me.0 s.member.number
+    (Look s.member.number (Bound c.args.table 0)) c.look_first_bound-bound.ensures.step.was
+    c.args.table.0 c.args.memtable _ c.requires.tried s.claims in
     c.look_first_bound-bound.ensures.accepts (ap (λ (o : Option ℕ). is_some o) s.noted)
-    (c.requires.tried.0 ∙ ap (λ (n : ℕ). Some n) none) ∙ ap (λ (n : ℕ). Some n) (sym none)
+    (c.requires.tried ∙ ap (λ (n : ℕ). Some n) none) ∙ ap (λ (n : ℕ). Some n) (sym none)

@@ -1,4 +1,4 @@
-use Rattle.std.proofs.Common.{ℕ, ◌<◌, ◌^◌, Option, Some, false, refl, sym, ap, ◌∙◌, subst}
+use Rattle.std.proofs.Common.{ℕ, ◌<◌, ◌^◌, [], ◌∷◌, Option, Some, false, refl, sym, ap, ◌∙◌, subst}
 use Rattle.path_core.specs.declared.event.Event.TheVariants.{Look}
 use Rattle.path_core.specs.declared.event.Cursor.TheVariants.{OldestLive}
 use Rattle.path_core.specs.declared.event.Place.TheVariants.{CursorWord}
@@ -42,6 +42,17 @@ returns-clause-same g c =
       end = refl;
       tables = refl;
       list = ap (λ (v : View). writes_of v.trail) d.view;
+      tried = record {
+        looks = record {
+          event = Look c.args.seat.now.member.number (CursorWord (OldestLive c.args.table));
+          found = c.look_oldest_live.result;
+          filed = false;
+        } ∷ [];
+        are = (refl, tt);
+        trail = ap (λ (v : View). v.trail) d.view;
+        hands = ap (λ (v : View). v.hands) d.view;
+        returned = ap (λ (v : View). v.returned) d.view;
+      };
     }
 
 pub returns-clause-tries : goal.returns-clause-tries
