@@ -112,8 +112,8 @@ pub record IsHeld {D : Type 0} (s : NoteState D) : Type 0 where
   pub apart : IsApart (end_behind s.synced (take s.written s.kept)) (drop s.written s.kept)
   pub begins : s.log.sections ≡ [] → BeginsIn s.base s.log.id (drop s.written s.kept)
 
--- What is true also where the disk has failed: what was logged and the first of what is kept stand in
--- the sections, and of that the former and perhaps some of the latter last.
+-- What is true also where the disk has failed: what was logged and the first of what is kept stand
+-- in the sections, and of that the former and perhaps some of the latter last.
 pub record Stands {D : Type 0} (s : NoteState D) : Type 0 where
   pub shown : ℕ
   pub no_more_shown : shown ≤ length s.kept
