@@ -27,6 +27,7 @@ mod NoteNext
 mod NoteParts
 mod NoteRuns
 mod NoteSettled
+mod NoteStands
 mod NoteSynced
 mod Noted
 mod OnDisk

@@ -39,6 +39,14 @@ module _ {D : Type 0} (sizes : Sizes) (log : State D) where
     good = λ n among. absurd (nothing_there n among);
     below = λ n among. absurd (nothing_there n among);
     above = λ n among. absurd (nothing_there n among);
+    stands = record {
+      shown = 0;
+      no_more_shown = omega arith;
+      all = refl;
+      lasting = 0;
+      no_more = omega arith;
+      lasts = refl;
+    };
     held = λ runs. record {
       all = refl;
       lasting = 0;

@@ -46,6 +46,7 @@ use Rattle.clog_store.specs.NoteLog.{
   IsNoteLog,
   NoteState,
   Reaches,
+  Stands,
   end_behind,
 }
 use Rattle.clog_store.specs.Notes.{places_of}
@@ -170,15 +171,17 @@ module _ {D : Type 0} (s : NoteState D) (upto : ℕ) (run : List EntryNote)
       ]
 
       pub unlogged : (log : State D) (written : ℕ) → written ≤ length run
+          → Stands (standing s.sizes s.synced s.logged s.base log run written)
           → (log.is_stopped ≡ false
           → IsHeld (standing s.sizes s.synced s.logged s.base log run written))
           → IsNoteLog (record s { log = log; kept = run; written = written })
-      unlogged log written few held = record {
+      unlogged log written few stands held = record {
         fits = inv.fits;
         few = few;
         good = all_good;
         below = inv.below;
         above = run_above s.sizes s.synced upto run lent.good lent.tiled;
+        stands = stands;
         held = held;
       }
 
@@ -243,6 +246,14 @@ module _ {D : Type 0} (s : NoteState D) (upto : ℕ) (run : List EntryNote)
             | inr new ↦ run_below s.sizes s.synced upto run lent.good lent.tiled n new
           ];
           above = λ n among. absurd (nothing_there n among);
+          stands = record {
+            shown = 0;
+            no_more_shown = omega arith;
+            all = all;
+            lasting = 0;
+            no_more = omega arith;
+            lasts = ap (λ (l : List Section). placed_log log.past log.id l) all_last ∙ all;
+          };
           held = λ runs. record {
             all = all;
             lasting = 0;

@@ -8,7 +8,9 @@ use Rattle.std.proofs.Common.{
   ◌≤◌,
   inl,
   inr,
+  true,
   false,
+  true≢false,
   List,
   [],
   ◌++◌,
@@ -23,6 +25,7 @@ use Rattle.std.proofs.Common.{
   ap,
   subst,
   arith,
+  ◌∷◌,
 }
 use Rattle.std.specs.Prelude.{Ok, Err}
 use Rattle.std.specs.List.{Contains}
@@ -35,8 +38,9 @@ use Rattle.clog_scan.specs.Cut.{Section, last_until}
 use Rattle.clog_crash.specs.Sections.{next_section}
 use Rattle.path_core.specs.declared.note.EntryNote.{EntryNote}
 use Rattle.clog_store.specs.declared.written.StoreFault.{StoreFault}
+use Rattle.clog_store.specs.declared.written.StoreFault.TheVariants.{Stopped, OutOfMemory}
 use Rattle.clog_store.specs.Life.{State}
-use Rattle.clog_store.specs.NoteLog.{IsApart, IsHeld, end_behind}
+use Rattle.clog_store.specs.NoteLog.{IsApart, IsHeld, Stands, end_behind}
 use Rattle.clog_store.specs.NoteSections.{
   AreOneSection,
   EndToEnd,
@@ -56,6 +60,7 @@ use Rattle.clog_store.proofs.NoteCuts.{
   starts,
 }
 use Rattle.clog_store.proofs.NoteRuns.{first_is}
+use Rattle.clog_store.proofs.NoteStands.{stands_by}
 use Rattle.clog_store.proofs.NoteHeld.{
   enters_behind,
   enters_on,
@@ -180,6 +185,32 @@ module _ {D : Type 0} (base : ℕ) (notes : List EntryNote) (sizes : Sizes) (syn
       unkept now section fault keeps runs still =
           held_unkept base notes sizes synced logged mid now written section fault keeps runs still
           held_mid
+
+      stands_torn : (now : State D) → mid.synced ≤ length mid.sections
+          → now ≡ record mid {
+            disk = now.disk;
+            sections = mid.sections ++ next_section mid.sections (payloads_in first) ∷ [];
+            is_stopped = true;
+          } → Stands (standing sizes synced logged base now notes written)
+      stands_torn now few torn =
+          stands_by base notes sizes synced logged now written (written + count)
+          (omega (arith, one.within, length-drop written notes, some))
+          (held_kept base notes sizes synced logged mid written count one may_be begun now now.disk
+          true torn few held_mid)
+
+      pub stands_unkept : (now : State D) (fault : StoreFault)
+          → Keeps {T = Unit {0}} mid now (next_section mid.sections (payloads_in first)) (Err fault)
+          → mid.is_stopped ≡ false → mid.synced ≤ length mid.sections
+          → Stands (standing sizes synced logged base now notes written)
+      stands_unkept now OutOfMemory keeps runs few =
+          stands_by base notes sizes synced logged now written written ready.few
+          (held_unkept base notes sizes synced logged mid now written
+          (next_section mid.sections (payloads_in first)) OutOfMemory keeps runs
+          (ap (λ (s : State D). s.is_stopped) keeps ∙ runs) held_mid)
+      stands_unkept now Stopped keeps runs few = elim keeps [
+        | inl was ↦ absurd (true≢false (sym was.0 ∙ runs))
+        | inr torn ↦ stands_torn now few torn
+      ]
 
       pub ready_then : (now : State D) (kept : Unit {0})
           → Keeps mid now (next_section mid.sections (payloads_in first)) (Ok kept)

@@ -112,6 +112,17 @@ pub record IsHeld {D : Type 0} (s : NoteState D) : Type 0 where
   pub apart : IsApart (end_behind s.synced (take s.written s.kept)) (drop s.written s.kept)
   pub begins : s.log.sections ≡ [] → BeginsIn s.base s.log.id (drop s.written s.kept)
 
+-- What is true also where the disk has failed: what was logged and the first of what is kept stand
+-- in the sections, and of that the former and perhaps some of the latter last.
+pub record Stands {D : Type 0} (s : NoteState D) : Type 0 where
+  pub shown : ℕ
+  pub no_more_shown : shown ≤ length s.kept
+  pub all : Holds s.base s.log s.log.sections (s.logged ++ take shown s.kept)
+  pub lasting : ℕ
+  pub no_more : lasting ≤ shown
+  pub lasts : Holds s.base s.log (take s.log.synced s.log.sections)
+      (s.logged ++ take lasting s.kept)
+
 -- What a log of notes keeps.
 pub record IsNoteLog {D : Type 0} (s : NoteState D) : Type 0 where
   pub fits : s.base < 2 ^ 62
@@ -119,6 +130,7 @@ pub record IsNoteLog {D : Type 0} (s : NoteState D) : Type 0 where
   pub good : (n : EntryNote) → Contains (s.logged ++ s.kept) n → IsGood s.sizes n
   pub below : (n : EntryNote) → Contains s.logged n → n.end.0 ≤ s.synced
   pub above : (n : EntryNote) → Contains s.kept n → after s.sizes.capacity s.synced < n.end.0
+  pub stands : Stands s
   pub held : s.log.is_stopped ≡ false → IsHeld s
 
 -- ---- a sync

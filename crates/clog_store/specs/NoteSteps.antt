@@ -41,6 +41,7 @@ use Rattle.clog_store.specs.NoteLog.{
   IsHeld,
   LeavesOthers,
   NoteState,
+  Stands,
   end_behind,
 }
 
@@ -145,6 +146,13 @@ StaysHeld base notes before written now more =
     (sizes : Sizes) (synced : ℕ) (logged : List EntryNote) (upto : ℕ)
     → ReadyAt sizes synced logged upto base before notes written → now.is_stopped ≡ false
     → IsHeld (standing sizes synced logged base now notes more)
+
+-- Whatever the disk has done, the first of the notes stand in the log.
+abbrev pub StaysStanding : {D : Type 0} → ℕ → List EntryNote → State D → ℕ → State D → ℕ → Type 0
+StaysStanding base notes before written now more =
+    (sizes : Sizes) (synced : ℕ) (logged : List EntryNote) (upto : ℕ)
+    → ReadyAt sizes synced logged upto base before notes written
+    → Stands (standing sizes synced logged base now notes more)
 
 -- ---- a run is logged
 

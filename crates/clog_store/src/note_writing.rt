@@ -1,7 +1,14 @@
 //! Notes are written behind a log of sections, section by section: what stands in it goes on to be
 //! known (`IsReady`), and where the disk has not failed, what a log of notes keeps stays true.
 ghost use Rattle.std.specs.Prelude.{◌≡◌, ◌<◌, ◌≤◌, ◌^◌, length, false, OnOk};
-ghost use Rattle.clog_store.specs.NoteSteps.{GoesOn, IsReady, Leaves, StaysHeld, StaysReady};
+ghost use Rattle.clog_store.specs.NoteSteps.{
+  GoesOn,
+  IsReady,
+  Leaves,
+  StaysHeld,
+  StaysReady,
+  StaysStanding,
+};
 ghost use Rattle.clog_store.specs.Stepped.{HasLogCause};
 
 use crate::note_sections::section_length;
@@ -25,6 +32,7 @@ fn write_next<D: Disk>(
     requires ready { IsReady base log.old notes.now written.old }
     requires some { written.old < length notes.now }
     ensures held { StaysHeld base notes.now log.old written.old log.new written.new }
+    ensures stands { StaysStanding base notes.now log.old written.old log.new written.new }
     ensures few { written.new ≤ length notes.now }
     ensures ready { OnOk result (StaysReady base notes.now log.old written.old log.new
         written.new) }
@@ -56,6 +64,7 @@ fn write_rest<D: Disk>(
     requires runs { log.old.is_stopped ≡ false }
     requires ready { IsReady base log.old notes.now written.old }
     ensures held { StaysHeld base notes.now log.old written.old log.new written.new }
+    ensures stands { StaysStanding base notes.now log.old written.old log.new written.new }
     ensures few { written.new ≤ length notes.now }
     ensures ready { OnOk result (StaysReady base notes.now log.old written.old log.new
         written.new) }
@@ -87,6 +96,7 @@ pub(crate) fn write_all<D: Disk>(
     requires runs { log.old.is_stopped ≡ false }
     requires ready { IsReady base log.old notes.now written.old }
     ensures held { StaysHeld base notes.now log.old written.old log.new written.new }
+    ensures stands { StaysStanding base notes.now log.old written.old log.new written.new }
     ensures few { written.new ≤ length notes.now }
     ensures ready { OnOk result (StaysReady base notes.now log.old written.old log.new
         written.new) }

@@ -27,7 +27,7 @@ use Rattle.std.specs.List.{All, filter, range_with_len}
 use Rattle.std.specs.List.Sorted.{IsPermutation}
 use Rattle.std.proofs.lemmas.Bool.{false≢true}
 use Rattle.std.proofs.lemmas.List.{get_or_default, length-replicate}
-use Rattle.std.proofs.lemmas.List.Elements.{All-nil, All-head, All-tail}
+use Rattle.std.proofs.lemmas.List.Elements.{All-nil, All-cons, All-head, All-tail}
 use Rattle.std.proofs.lemmas.List.Sorted.{
   IsPermutation-refl,
   IsPermutation-sym,
@@ -40,17 +40,26 @@ use Rattle.path_core.specs.History.{IsHistory}
 use Rattle.path_core.specs.Keeper.{Holding, HasRisen}
 use Rattle.path_core.specs.LawfulLog.{claim_in, entry_claim, is_at_most}
 use Rattle.path_core.specs.Next.{is_between}
-use Rattle.path_core.specs.Parts.{fresh_seat, no_claim}
+use Rattle.path_core.specs.declared.state.PathState.{PathState}
+use Rattle.path_core.specs.declared.seat.Seat.{Seat}
+use Rattle.path_core.specs.Parts.{fresh_seat, no_claim, seat_of}
 use Rattle.path_core.proofs.frame.Runs.{past_sizes}
 use Rattle.path_core.proofs.log.History.{is_history}
 use Rattle.path_rule.specs.declared.lasting.Lasting.{Lasting}
 use Rattle.path_rule.specs.declared.trying.PathSeat.{PathSeat}
 use Rattle.path_rule.specs.declared.view.PathSize.{PathSize}
 use Rattle.path_rule.specs.Lasts.{lasting_of, shown, none_lasting, stopped_with, fault_count}
-use Rattle.path_rule.specs.Members.{view_of}
+use Rattle.path_rule.specs.Members.{view_of, part_of}
 use Rattle.path_rule.specs.Rule.{start_of, event_of, steps_by}
 use Rattle.path_rule.specs.Sharing.{EndsUnused}
-use Rattle.write_path.specs.Closed.{EndsBy, IsOfSize, IsOutcome, all_writes}
+use Rattle.write_path.specs.Closed.{
+  EndsBy,
+  IsOfSize,
+  IsOutcome,
+  IsStoppedFor,
+  IsSyncedFor,
+  all_writes,
+}
 use Rattle.write_path.specs.Opened.{numbers_of}
 use Rattle.write_path.proofs.Accounted.{each_once}
 use Rattle.write_path.proofs.Histories.{noted, writes_are, run_notes, by_all, all_noted}
@@ -66,6 +75,18 @@ told_count true faults (suc n) is e =
   where
     some_is : (a b : ℕ) → Some a ≡ Some b → a ≡ b
     some_is a b q = cc
+
+-- a keeper that tells the count of a stopped log has stopped with it
+stopped_by : (stopped : Bool) (faults n : ℕ) → 0 < n
+    → stopped_with stopped faults ≡ fault_count n → (stopped ≡ true) × (faults ≡ n)
+stopped_by true faults zero some e = absurd (omega arith)
+stopped_by true faults (suc n) some e =
+    (refl, let q : Some faults ≡ Some (suc n) = e in some_same faults (suc n) q)
+  where
+    some_same : (a b : ℕ) → Some a ≡ Some b → a ≡ b
+    some_same a b q = cc
+stopped_by false faults zero some e = absurd (omega arith)
+stopped_by false faults (suc n) some e = absurd (let q : None ≡ Some (suc n) = e in cc)
 
 none_told : (stopped : Bool) (faults : ℕ) → stopped ≡ true → stopped_with stopped faults ≡ None → ⊥
 none_told false faults is e = false≢true is
@@ -96,6 +117,14 @@ module _ {K : Type 0} (size : PathSize) where
       let others = writes_as events seats (All-tail P s seats own) in
       λ i. first i ++ others i
 
+  -- what holds of the machine's part holds of each seat
+  known_of : (x : PathState) (P Q : PathSeat K → Type 0)
+      → ((s : PathSeat K) → P s → Q s) → (seats : List (PathSeat K)) → All P seats → All Q seats
+  known_of x P Q each [] all = All-nil Q
+  known_of x P Q each (s ∷ seats) all =
+      All-cons Q s seats (each s (All-head P s seats all))
+      (known_of x P Q each seats (All-tail P s seats all))
+
   pub outcome : (seats : List (PathSeat K)) (end : ℕ) (h : Holding) → EndsBy size seats end h
       → IsPermutation (range_with_len 0 size.seats) (numbers_of seats)
       → IsOutcome size seats end h
@@ -103,6 +132,8 @@ module _ {K : Type 0} (size : PathSize) where
       let z = past_sizes e.events (start_of size) x e.run in
       let same = e.lasting_is in
       let synced : h.synced ≡ x.synced = ap (λ (k : Lasting). k.synced) same in
+      let stops : stopped_with h.stopped h.faults ≡ fault_count x.stopped =
+      ap (λ (k : Lasting). k.stopped) same in
       let many : length (start_of size).seats ≡ size.seats = length-replicate size.seats fresh_seat
       in record {
         core = x;
@@ -127,6 +158,20 @@ module _ {K : Type 0} (size : PathSize) where
             let ends = ap (λ (d : Claim). d.end) read in let log = e.log_is in omega arith;
         synced_below = let low = L.synced_below_the_log.below_log in let log = e.log_is in
             omega arith;
+        synced_is = synced;
+        dropped_are = ap (λ (k : Lasting). k.dropped) same;
+        stops = stops;
+        found_synced = known_of x
+            (λ (s : PathSeat K). part_of s.member ≡ seat_of x s.member.number) (IsSyncedFor h)
+            (λ s is key found. let low = (L.seats_know s.member.number).words.synced key
+            (ap (λ (p : Seat). p.found.synced) (sym is) ∙ found) in
+            omega (arith, low, synced)) seats E.parts;
+        found_stopped = known_of x
+            (λ (s : PathSeat K). part_of s.member ≡ seat_of x s.member.number) (IsStoppedFor h)
+            (λ s is n found some. let one = (L.seats_know s.member.number).words.stopped n
+            (ap (λ (p : Seat). p.found.stopped) (sym is) ∙ found) some in
+            stopped_by h.stopped h.faults n some
+            (stops ∙ ap fault_count (sym one))) seats E.parts;
         logged = subst (λ k. h.logged ≡ filter (is_at_most k) x.notes) (sym synced)
             (ap (λ (k : Lasting). k.logged) same);
         kept_to = e.kept_to;
@@ -165,6 +210,13 @@ module _ {K : Type 0} (size : PathSize) where
         whole = λ n m. absurd (let l = m.1 in omega arith);
         below = λ n m. absurd (let l = m.1 in omega arith);
         synced_below = omega arith;
+        synced_is = synced;
+        dropped_are = ap (λ (k : Lasting). k.dropped) same;
+        stops = ap (λ (k : Lasting). k.stopped) same;
+        found_synced = subst (λ (l : List (PathSeat K)). All (IsSyncedFor h) l)
+            (sym (no_seat seats none_there)) (All-nil (IsSyncedFor h));
+        found_stopped = subst (λ (l : List (PathSeat K)). All (IsStoppedFor h) l)
+            (sym (no_seat seats none_there)) (All-nil (IsStoppedFor h));
         logged = ap (λ (k : Lasting). k.logged) same;
         kept_to = 0;
         kept = ap (λ (k : Lasting). k.kept) same;

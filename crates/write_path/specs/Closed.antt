@@ -1,5 +1,5 @@
 -- What a path tells when it is closed.
-use Rattle.std.specs.Prelude.{◌≡◌, ℕ, ◌≤◌, true, List, [], map, Option, Some, None}
+use Rattle.std.specs.Prelude.{◌≡◌, ℕ, ◌<◌, ◌≤◌, true, List, [], map, Option, Some, None}
 use Rattle.std.specs.List.{All, Contains, filter, flat_map, range_with_len}
 use Rattle.std.specs.List.Sorted.{IsPermutation}
 use Rattle.atomic_table.specs.Seated.{TableId}
@@ -10,13 +10,15 @@ use Rattle.path_core.specs.History.{IsHistory}
 use Rattle.path_core.specs.Keeper.{Holding, HasRisen}
 use Rattle.path_core.specs.LawfulLog.{is_at_most}
 use Rattle.path_core.specs.Next.{is_between}
+use Rattle.path_core.specs.Parts.{seat_of}
 use Rattle.path_core.specs.Runs.{Past}
 use Rattle.path_core.specs.Whole.{IsWhole}
 use Rattle.path_rule.specs.declared.table.Opener.{Opener}
 use Rattle.path_rule.specs.declared.trying.PathSeat.{PathSeat}
 use Rattle.path_rule.specs.declared.view.PathSize.{PathSize}
 use Rattle.path_rule.specs.declared.view.Returned.{Returned}
-use Rattle.path_rule.specs.Members.{view_of, IsOf, returned_of}
+use Rattle.path_rule.specs.Lasts.{fault_count, stopped_with}
+use Rattle.path_rule.specs.Members.{view_of, part_of, IsOf, returned_of}
 use Rattle.path_rule.specs.Rule.{start_of, event_of, steps_by}
 use Rattle.path_rule.specs.Sharing.{Ended}
 use Rattle.write_path.specs.declared.resting.Resting.{Resting}
@@ -48,6 +50,18 @@ pub record EndsBy {K : Type 0} (size : PathSize) (seats : List (PathSeat K)) (en
   pub ended : Ended size returned end h
   pub own : All (λ (s : PathSeat K). map event_of (view_of s.member).trail
       ≡ steps_by s.member.number ended.events) seats
+  -- and each seat's part is the machine's
+  pub parts : All (λ (s : PathSeat K). part_of s.member
+      ≡ seat_of ended.core s.member.number) seats
+
+-- A seat last found or put this synced key, or none, and the keeper has at least so much.
+abbrev pub IsSyncedFor : {K : Type 0} → Holding → PathSeat K → Type 0
+IsSyncedFor h s = (key : ℕ) → (part_of s.member).found.synced ≡ Some key → key ≤ h.synced
+
+-- Where a seat last found or put that the log is stopped, the keeper has stopped, with that count.
+abbrev pub IsStoppedFor : {K : Type 0} → Holding → PathSeat K → Type 0
+IsStoppedFor h s = (n : ℕ) → (part_of s.member).found.stopped ≡ Some n → 0 < n
+    → (h.stopped ≡ true) × (h.faults ≡ n)
 
 -- The keeper is of these sizes, and of the opening with this count of faults.
 pub record IsOfSize (size : PathSize) (h : Holding) : Type 0 where
@@ -74,6 +88,13 @@ pub record IsOutcome {K : Type 0} (size : PathSize) (seats : List (PathSeat K)) 
   -- they end at or below the log's end
   pub below : (n : EntryNote) → Contains core.notes n → n.end.0 ≤ end
   pub synced_below : h.synced ≤ end
+  -- the keeper has what the run made lasting, dropped and stopped
+  pub synced_is : h.synced ≡ core.synced
+  pub dropped_are : h.dropped ≡ core.dropped
+  pub stops : stopped_with h.stopped h.faults ≡ fault_count core.stopped
+  -- so it has all that a seat knows to be synced, and has stopped where a seat knows that
+  pub found_synced : All (IsSyncedFor h) seats
+  pub found_stopped : All (IsStoppedFor h) seats
   -- what is lasting, and what a refused sync kept above it
   pub logged : h.logged ≡ filter (is_at_most h.synced) core.notes
   pub kept_to : ℕ

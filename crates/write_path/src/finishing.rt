@@ -1,7 +1,8 @@
 //! A write that has deposited its entry is applied and ends, by single tries that are never
 //! refused. At each of its tables it tries the oldest live memtable, which accepts it; then it
 //! leaves the write order, and its seat is idle again.
-ghost use Rattle.std.specs.Prelude.{◌≡◌, ◌≢◌, ℕ, suc, ◌<◌, IsTrue, Some};
+ghost use Rattle.std.specs.Prelude.{◌≡◌, ◌≢◌, ℕ, suc, ◌<◌, List, IsTrue, Some};
+ghost use Rattle.clog_base.specs.declared.cell.Table.{Table as TableOf};
 ghost use Rattle.op_core.specs.declared.count.Order.TheVariants.{Write};
 ghost use Rattle.path_core.specs.declared.event.Carried.TheVariants.{Applied};
 ghost use Rattle.path_core.specs.declared.event.Cursor.TheVariants.{OldestLive};
@@ -9,7 +10,6 @@ ghost use Rattle.path_core.specs.declared.event.Event.TheVariants.{Look, Close};
 ghost use Rattle.path_core.specs.declared.event.Place.TheVariants.{Bound, CursorWord};
 ghost use Rattle.path_core.specs.Allowed.{IsItsPlaces};
 ghost use Rattle.path_core.specs.Parts.{seat_table, touches};
-ghost use Rattle.path_rule.specs.Accepted.{places_of};
 ghost use Rattle.path_rule.specs.Members.{view_of, part_of, IsOf, Stepped};
 ghost use Rattle.write_path.specs.Ends.{writes_of, EndsWrite, IsPlacedBelow, IsSameWrite};
 ghost use Rattle.write_path.specs.Tries.{Stays};
@@ -84,9 +84,9 @@ impl<K: Keeper, A: Allocator> WritePath<K, A> {
         requires placed { IsPlacedBelow self.now.table.size.tables seat }
         ensures same { Stays self.now.table.table.shared.table_id self.now.table.size seat.member
             result.member }
-        ensures step { (n : ℕ) × Stepped seat.member (Close seat.member.number Write seat.writing
-            (Applied (places_of (part_of seat.member)))) n result.member }
-        ensures places { IsItsPlaces (part_of seat.member) (places_of (part_of seat.member)) }
+        ensures step { (places : List (TableOf × ℕ)) × (n : ℕ)
+            × IsItsPlaces (part_of seat.member) places × Stepped seat.member
+            (Close seat.member.number Write seat.writing (Applied places)) n result.member }
         ensures list { writes_of (view_of result.member).trail
             ≡ writes_of (view_of seat.member).trail }
     {

@@ -1,6 +1,7 @@
 use Rattle.clog_store.proofs.NoteGoes.{goes_then}
 use Rattle.clog_store.proofs.NoteLeaves.{leaves_settled, leaves_then}
 use Rattle.clog_store.proofs.NoteSettled.{held_after, ready_after}
+use Rattle.clog_store.proofs.NoteStands.{stands_by}
 use Rattle.clog_store.proofs.note_writing.write_all.Goals as goal
 
 pub returns-in-Ok-clause-held : goal.returns-in-Ok-clause-held
@@ -32,3 +33,13 @@ returns-in-Ok-clause-leaves g c still =
     (leaves_settled g.D.Disk.files g.D.Disk.changes mid c.settle.new.self c.settle.result
     c.settle.ensures.settles
     c.settle.ensures.same c.settle.ensures.quiet)
+
+-- ---- whatever the disk has done
+
+pub returns-in-Ok-clause-stands : goal.returns-in-Ok-clause-stands
+returns-in-Ok-clause-stands g c sizes synced logged upto ready =
+    let then_ = c.in-Ok.ensures.ready sizes synced logged upto ready in
+    let w = c.write_rest.new.written in
+    stands_by c.args.base c.args.notes.now sizes synced logged c.settle.new.self w w then_.few
+    (held_after c.args.base c.args.notes.now c.write_rest.new.log c.settle.new.self w sizes synced
+    logged c.settle.result c.settle.ensures.settles then_.held)

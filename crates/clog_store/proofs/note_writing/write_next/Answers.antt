@@ -1,5 +1,5 @@
-use Rattle.std.proofs.Common.{ℕ, ◌∙◌, List, take, sym, ap, subst}
-use Rattle.std.specs.Prelude.{Ok}
+use Rattle.std.proofs.Common.{ℕ, ◌+◌, ◌∙◌, List, take, sym, ap, subst}
+use Rattle.std.specs.Prelude.{Err, Ok}
 use Rattle.clog_base.specs.declared.position.Position.{Position}
 use Rattle.clog_crash.specs.Sections.{next_section}
 use Rattle.path_core.specs.declared.note.EntryNote.{EntryNote}
@@ -13,10 +13,12 @@ use Rattle.clog_store.proofs.NoteNext.{
   may_be,
   ready_then,
   same_rest,
+  stands_unkept,
   start_in,
   unentered,
   unkept,
 }
+use Rattle.clog_store.proofs.NoteStands.{stands_by}
 use Rattle.clog_store.proofs.note_writing.write_next.Goals as goal
 
 pub returns-in_err-enter-clause-held : goal.returns-in_err-enter-clause-held
@@ -114,3 +116,43 @@ returns-clause-leaves g c still =
     (c.enter.ensures.leaves (enters_runs c.args.log.now mid c.position.result.id
     c.in_ok-enter.field-0 c.in_ok-enter.ensures.enters c.requires.runs))
     (c.keep_notes.ensures.leaves still)
+
+-- ---- whatever the disk has done
+
+pub returns-in_err-enter-clause-stands : goal.returns-in_err-enter-clause-stands
+returns-in_err-enter-clause-stands g c sizes synced logged upto ready =
+    stands_by c.args.base c.args.notes.now sizes synced logged c.enter.new.log c.args.written.now
+    c.args.written.now ready.few
+    (unentered c.args.base c.args.notes.now sizes synced logged upto c.args.log.now
+    c.args.written.now ready c.requires.some c.enter.new.log c.in_err-enter.field-0.0
+    c.in_err-enter.ensures.enters)
+
+pub returns-in_err-keep_notes-clause-stands : goal.returns-in_err-keep_notes-clause-stands
+returns-in_err-keep_notes-clause-stands g c sizes synced logged upto ready =
+    let notes = c.args.notes.now in
+    let w = c.args.written.now in
+    let count = c.section_length-count.result in
+    let mid = c.enter.new.log in
+    let now = c.keep_notes.new.log in
+    let whole = same_rest w notes in
+    let fault = c.in_err-keep_notes.field-0.0 in
+    let id = ap (λ (p : Position). p.id) c.position.ensures
+    ∙ start_in c.args.base w notes c.index-rest-0.result c.requires.some in
+    let enters = subst (λ (k : ℕ). Enters c.args.log.now mid k (Ok c.in_ok-enter.field-0)) id
+    c.in_ok-enter.ensures.enters in
+    stands_unkept c.args.base notes sizes synced logged upto c.args.log.now w ready c.requires.some
+    mid c.in_ok-enter.field-0 enters count
+    (subst (λ (l : List EntryNote). AreOneSection l count) whole c.section_length-count.ensures)
+    now fault
+    (subst (λ (l : List EntryNote). Keeps {T = Unit {0}} mid now
+    (next_section mid.sections (payloads_in (take count l))) (Err fault)) whole
+    c.in_err-keep_notes.ensures.keeps)
+    (enters_runs c.args.log.now mid c.position.result.id c.in_ok-enter.field-0
+    c.in_ok-enter.ensures.enters c.requires.runs) c.keep_notes.ensures.few
+
+pub returns-clause-stands : goal.returns-clause-stands
+returns-clause-stands g c sizes synced logged upto ready =
+    let then_ = returns-clause-ready g c sizes synced logged upto ready in
+    let more = c.args.written.now + c.section_length-count.result in
+    stands_by c.args.base c.args.notes.now sizes synced logged c.keep_notes.new.log more more
+    then_.few then_.held

@@ -2,6 +2,7 @@ use Rattle.std.proofs.Common.{◌∙◌, refl}
 use Rattle.std.specs.Prelude.{Err}
 use Rattle.clog_store.proofs.NoteGoes.{cause_then, goes_still, goes_then}
 use Rattle.clog_store.proofs.NoteLeaves.{leaves_same, leaves_then}
+use Rattle.clog_store.proofs.NoteStands.{stands_by}
 use Rattle.clog_store.proofs.note_writing.write_rest.Goals as goal
 
 pub loop-written-init : goal.loop-written-init
@@ -75,3 +76,16 @@ returns-in-Err-clause-leaves g c still =
     leaves_then g.D.Disk.files g.D.Disk.changes c.args.log.now c.loop-written.log
     c.write_next.new.log
     c.loop-written.invariant.leaves (c.write_next.ensures.leaves still)
+
+-- ---- whatever the disk has done
+
+pub returns-in-Err-clause-stands : goal.returns-in-Err-clause-stands
+returns-in-Err-clause-stands g c sizes synced logged upto ready =
+    c.write_next.ensures.stands sizes synced logged upto
+    (c.loop-written.invariant.ready sizes synced logged upto ready)
+
+pub returns-clause-stands : goal.returns-clause-stands
+returns-clause-stands g c sizes synced logged upto ready =
+    let then_ = c.loop-written.invariant.ready sizes synced logged upto ready in
+    stands_by c.args.base c.args.notes.now sizes synced logged c.loop-written.log
+    c.loop-written.written c.loop-written.written then_.few then_.held

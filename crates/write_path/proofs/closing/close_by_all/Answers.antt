@@ -3,6 +3,7 @@ use Rattle.std.specs.List.{All, Contains}
 use Rattle.std.proofs.lemmas.Bool.{false≢true}
 use Rattle.std.proofs.lemmas.List.{length-map}
 use lib.ListN.{get_elem?}
+use Rattle.path_core.specs.Parts.{seat_of}
 use Rattle.path_rule.specs.declared.trying.PathSeat.{PathSeat}
 use Rattle.path_rule.specs.declared.view.Returned.{Returned}
 use Rattle.path_rule.specs.Members.{view_of, returned_of}
@@ -35,6 +36,7 @@ returns g c = let s = c.in-Some.field-0 in let j = c.join_all-member.ensures in
     let e = c.finish.ensures in let first = (view_of s.member).returned in
     let xs = c.pop.new.self.items in
     let Q : Returned → Type 0 = λ b. map event_of b.trail ≡ steps_by b.number e.events in
+    let S : Returned → Type 0 = λ b. b.part ≡ seat_of e.core b.number in
     let same : returned_of c.join_all-member.result ∷ (view_of c.join_all-member.result).returned
     ≡ returned_of s.member ∷ (first ++ returned_by (reverse xs)) =
     λ i. record { number = j.same.1 i; part = j.same.3 i; trail = j.same.2 i } ∷ j.returned i in
@@ -47,4 +49,9 @@ returns g c = let s = c.in-Some.field-0 in let j = c.join_all-member.ensures in
           (sym c.in-Some.ensures.items)
           (all_own Q first xs s (λ n b q. (e.each n b
           (ap (λ (l : List Returned). get_elem? l n) same ∙ q)).1));
+      parts = subst (λ (l : List (PathSeat g.row.K.Denot)).
+          All (λ (p : PathSeat g.row.K.Denot). S (returned_of p.member)) l)
+          (sym c.in-Some.ensures.items)
+          (all_own S first xs s (λ n b q. (e.each n b
+          (ap (λ (l : List Returned). get_elem? l n) same ∙ q)).0));
     }

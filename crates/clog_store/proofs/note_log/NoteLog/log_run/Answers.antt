@@ -1,7 +1,7 @@
 use Rattle.std.proofs.Common.{◌≡◌, ◌≤◌, ℕ, ◌++◌, ◌∙◌, List, [], false, length, refl, sym, ap, subst}
 use Rattle.path_core.specs.declared.note.EntryNote.{EntryNote}
 use Rattle.clog_store.specs.Life.{State}
-use Rattle.clog_store.specs.NoteLog.{IsHeld, IsNoteLog, NoteState}
+use Rattle.clog_store.specs.NoteLog.{IsHeld, IsNoteLog, NoteState, Stands}
 use Rattle.clog_store.specs.NoteSteps.{IsReady, Leaves, MayRun, ReadyAt, standing}
 use Rattle.clog_store.proofs.NoteLeaves.{leaves_same}
 use Rattle.clog_store.proofs.NoteLogged.{logged, ready_of, unlogged}
@@ -61,6 +61,11 @@ invariant_of-self-in_err-write_all g c =
     })) (sym c.reserve.ensures.items)
     (unlogged s c.args.upto run may c.self.invariant now w
     (subst (λ (l : List EntryNote). w ≤ length l) shown c.write_all.ensures.few)
+    (subst (λ (l : List EntryNote). Stands
+    (standing i.sizes i.synced i.logged.items i.base now l w)) shown
+    (c.write_all.ensures.stands i.sizes i.synced i.logged.items c.args.upto
+    (subst (λ (l : List EntryNote). ReadyAt i.sizes i.synced i.logged.items c.args.upto i.base i.log
+    l i.written) (sym shown) (ready_of s c.args.upto run may c.self.invariant runs))))
     (λ still. subst (λ (l : List EntryNote). IsHeld
     (standing i.sizes i.synced i.logged.items i.base now l w)) shown
     (c.write_all.ensures.held i.sizes i.synced i.logged.items c.args.upto
