@@ -89,3 +89,9 @@ HasLogCause was_stopped faults now (Err OutOfMemory) = (was_stopped ≡ false) �
 HasLogCause was_stopped faults now (Err Stopped) =
     ((was_stopped ≡ true) × (now ≡ faults))
     ⊎ ((was_stopped ≡ false) × (faults ≤ now) × Rose faults now)
+
+-- It has stopped exactly where the answer says so.
+abbrev pub StopsBy : {T : Type 0} → Bool → Result T StoreFault → Type 0
+StopsBy is_stopped (Ok done) = is_stopped ≡ false
+StopsBy is_stopped (Err OutOfMemory) = is_stopped ≡ false
+StopsBy is_stopped (Err Stopped) = is_stopped ≡ true

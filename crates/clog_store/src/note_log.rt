@@ -9,7 +9,7 @@ ghost use Rattle.clog_store.specs.Grows.{Grows};
 ghost use Rattle.clog_store.specs.Life.{Lives, LivesOn};
 ghost use Rattle.clog_store.specs.NoteLog.{HasRefused, HasSynced, LeavesOthers, MayLog};
 ghost use Rattle.clog_store.specs.NoteSteps.{GoesOn, Leaves, Logs, LogsNot, MayRun};
-ghost use Rattle.clog_store.specs.Stepped.{HasLogCause};
+ghost use Rattle.clog_store.specs.Stepped.{HasLogCause, StopsBy};
 
 use crate::note_order::{drop_front, part_at};
 use crate::note_sections::copies_of;
@@ -108,6 +108,7 @@ impl<D: Disk> NoteLog<D> {
             → Leaves D.files D.changes self.old.log self.new.log }
         ensures cause { HasLogCause self.old.log.is_stopped (D.faults self.old.log.disk)
             (D.faults self.new.log.disk) result }
+        ensures stops { StopsBy self.new.log.is_stopped result }
     {
         self.logged.reserve(run.len())?;
         self.kept = run;
@@ -141,6 +142,7 @@ impl<D: Disk> NoteLog<D> {
         ensures later { IsLater D.moment D.read_at D.lasted_at self.old.log.disk self.new.log.disk }
         ensures cause { HasLogCause self.old.log.is_stopped (D.faults self.old.log.disk)
             (D.faults self.new.log.disk) result }
+        ensures stops { StopsBy self.new.log.is_stopped result }
         ensures lives { Lives D.files D.moment D.since D.leaves D.read_at D.lasted_at self.old.log
             → LivesOn D.files D.moment D.since D.leaves D.read_at D.lasted_at self.old.log
             self.new.log }

@@ -4,7 +4,7 @@ ghost use Rattle.std.specs.Prelude.{◌≡◌, ◌<◌, ◌≤◌, ◌^◌, leng
 ghost use Rattle.clog_crash.specs.Sections.{next_section};
 ghost use Rattle.clog_store.specs.NoteSections.{MayBeNext, payloads_in};
 ghost use Rattle.clog_store.specs.NoteSteps.{Enters, GoesOn, Leaves};
-ghost use Rattle.clog_store.specs.Stepped.{HasLogCause, Keeps};
+ghost use Rattle.clog_store.specs.Stepped.{HasLogCause, Keeps, StopsBy};
 
 use crate::note_sections::section_of;
 use crate::section_log::SectionLog;
@@ -30,6 +30,7 @@ pub(crate) fn keep_notes<D: Disk>(
     ensures leaves { log.new.is_stopped ≡ false → Leaves D.files D.changes log.old log.new }
     ensures cause { HasLogCause log.old.is_stopped (D.faults log.old.disk) (D.faults log.new.disk)
         result }
+    ensures stops { StopsBy log.new.is_stopped result }
 {
     let at = notes[0].start.position(base).offset;
     match section_of(alloc, log.id(), at, notes) {
@@ -53,6 +54,7 @@ pub(crate) fn enter<D: Disk>(
     ensures leaves { log.new.is_stopped ≡ false → Leaves D.files D.changes log.old log.new }
     ensures cause { HasLogCause log.old.is_stopped (D.faults log.old.disk) (D.faults log.new.disk)
         result }
+    ensures stops { StopsBy log.new.is_stopped result }
 {
     if log.id() == id {
         return Ok(());

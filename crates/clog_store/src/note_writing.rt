@@ -9,7 +9,7 @@ ghost use Rattle.clog_store.specs.NoteSteps.{
   StaysReady,
   StaysStanding,
 };
-ghost use Rattle.clog_store.specs.Stepped.{HasLogCause};
+ghost use Rattle.clog_store.specs.Stepped.{HasLogCause, StopsBy};
 
 use crate::note_sections::section_length;
 use crate::note_steps::{enter, keep_notes};
@@ -42,6 +42,7 @@ fn write_next<D: Disk>(
     ensures leaves { log.new.is_stopped ≡ false → Leaves D.files D.changes log.old log.new }
     ensures cause { HasLogCause log.old.is_stopped (D.faults log.old.disk) (D.faults log.new.disk)
         result }
+    ensures stops { StopsBy log.new.is_stopped result }
 {
     let rest = &notes[*written..];
     let count = section_length(rest);
@@ -74,6 +75,7 @@ fn write_rest<D: Disk>(
     ensures leaves { log.new.is_stopped ≡ false → Leaves D.files D.changes log.old log.new }
     ensures cause { HasLogCause log.old.is_stopped (D.faults log.old.disk) (D.faults log.new.disk)
         result }
+    ensures stops { StopsBy log.new.is_stopped result }
 {
     while *written < notes.len() {
         match write_next(alloc, log, base, notes, written) {
@@ -106,6 +108,7 @@ pub(crate) fn write_all<D: Disk>(
     ensures leaves { log.new.is_stopped ≡ false → Leaves D.files D.changes log.old log.new }
     ensures cause { HasLogCause log.old.is_stopped (D.faults log.old.disk) (D.faults log.new.disk)
         result }
+    ensures stops { StopsBy log.new.is_stopped result }
 {
     match write_rest(alloc, log, base, notes, written) {
         Ok(()) => log.settle(),

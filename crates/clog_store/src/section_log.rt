@@ -21,6 +21,7 @@ ghost use Rattle.clog_store.specs.Stepped.{
   HasLogCause,
   Keeps,
   Settles,
+  StopsBy,
 };
 ghost use Rattle.clog_store.specs.Opened.{
   HandsOn,
@@ -108,6 +109,8 @@ impl<D: Disk> SectionLog<D> {
         ensures sections { result.sections ≡ [] }
         ensures synced { result.synced ≡ 0 }
         ensures runs { result.is_stopped ≡ false }
+        ensures lives { D.lasted_at disk (D.moment disk)
+            → Lives D.files D.moment D.since D.leaves D.read_at D.lasted_at result }
     {
         let opened = disk.moment_count();
         SectionLog {
@@ -140,6 +143,8 @@ impl<D: Disk> SectionLog<D> {
         ensures lasted { (first : Files) → D.files disk ≡ Some first
             → LastsAll first (D.leaves disk)
             → IfOk result (λ log. D.lasted_at log.disk log.opened) }
+        ensures lives { IfOk result (λ log. D.lasted_at log.disk log.opened
+            → Lives D.files D.moment D.since D.leaves D.read_at D.lasted_at log) }
         ensures refused { IfErr result (λ back.
             OpenRefused (D.files disk) (D.faults disk) (D.faults back.0) back.1) }
         ensures alone { IfErr result (λ back. LeftAlone (IsUntouched D.files D.changes D.leaves
@@ -178,12 +183,14 @@ impl<D: Disk> SectionLog<D> {
         requires brings { Brings self.old.id (take self.old.synced self.old.sections)
             (drop self.old.synced self.old.sections) (section ∷ []) bytes.now }
         ensures keeps { Keeps self.old self.new section result }
+        ensures stays { self.old.is_stopped ≡ true → self.new ≡ self.old }
         ensures adds { AddsBytes (D.files self.old.disk) (D.files self.new.disk)
             (D.changes self.old.disk) (D.changes self.new.disk) (segment_name_of 6 self.old.id)
             bytes.now result }
         ensures later { IsLater D.moment D.read_at D.lasted_at self.old.disk self.new.disk }
         ensures cause { HasLogCause self.old.is_stopped (D.faults self.old.disk)
             (D.faults self.new.disk) result }
+        ensures stops { StopsBy self.new.is_stopped result }
         ensures lives { Lives D.files D.moment D.since D.leaves D.read_at D.lasted_at self.old
             → LivesOn D.files D.moment D.since D.leaves D.read_at D.lasted_at self.old self.new }
     {
@@ -211,11 +218,13 @@ impl<D: Disk> SectionLog<D> {
     /// Makes the sections last that are kept.
     pub fn settle(&mut self) -> Result<(), StoreFault>
         ensures settles { Settles self.old self.new result }
+        ensures stays { self.old.is_stopped ≡ true → self.new ≡ self.old }
         ensures same { D.files self.new.disk ≡ D.files self.old.disk }
         ensures quiet { D.changes self.new.disk ≡ D.changes self.old.disk }
         ensures later { IsLater D.moment D.read_at D.lasted_at self.old.disk self.new.disk }
         ensures cause { HasLogCause self.old.is_stopped (D.faults self.old.disk)
             (D.faults self.new.disk) result }
+        ensures stops { StopsBy self.new.is_stopped result }
         ensures lives { Lives D.files D.moment D.since D.leaves D.read_at D.lasted_at self.old
             → LivesOn D.files D.moment D.since D.leaves D.read_at D.lasted_at self.old self.new }
     {
@@ -254,6 +263,7 @@ impl<D: Disk> SectionLog<D> {
         ensures refused { OnErr result (self.new ≡ self.old) }
         ensures cause { HasLogCause self.old.is_stopped (D.faults self.old.disk)
             (D.faults self.new.disk) result }
+        ensures stops { StopsBy self.new.is_stopped result }
         ensures lives { Lives D.files D.moment D.since D.leaves D.read_at D.lasted_at self.old
             → OnOk result
             (LivesOn D.files D.moment D.since D.leaves D.read_at D.lasted_at self.old self.new) }

@@ -1,11 +1,10 @@
-//! Table files come beside the log of sections, and segments go that it has left. What it promises
-//! of its entries stands meanwhile.
-ghost use Rattle.std.specs.Prelude.{◌≡◌, ◌+◌, Contains, Err, IfSome, OnErr, OnOk, false, take, ℕ};
+//! Table files come beside the log of sections. What it promises of its entries stands meanwhile.
+ghost use Rattle.std.specs.Prelude.{◌≡◌, Err, IfSome, OnErr, OnOk, take, true};
 ghost use Rattle.clog_disk.specs.Files.{SameTold};
 ghost use Rattle.clog_disk.specs.Images.{IsLater};
 ghost use Rattle.clog_store.specs.Life.{Lives, LivesOn};
 ghost use Rattle.clog_store.specs.Publishes.{HasCome, IsNumbered, IsTrueHere, file_at};
-ghost use Rattle.clog_store.specs.Stepped.{HasLogCause, Passes};
+ghost use Rattle.clog_store.specs.Stepped.{HasLogCause, Passes, StopsBy};
 ghost use Rattle.clog_store.specs.declared.written.StoreFault.TheVariants.{
   OutOfMemory as no_memory,
 };
@@ -32,6 +31,7 @@ impl<D: Disk> SectionLog<D> {
         requires may { IfSome (D.files self.old.disk) (λ f. IsTrueHere f self.old.id
             (take self.old.synced self.old.sections) (file_at base file cells.now) sequence) }
         ensures passes { Passes self.old self.new result }
+        ensures stays { self.old.is_stopped ≡ true → self.new ≡ self.old }
         ensures comes { OnOk result (HasCome (D.files self.old.disk) (D.files self.new.disk)
             (D.changes self.old.disk) (D.changes self.new.disk) (file_at base file cells.now)
             sequence) }
@@ -41,6 +41,7 @@ impl<D: Disk> SectionLog<D> {
         ensures later { IsLater D.moment D.read_at D.lasted_at self.old.disk self.new.disk }
         ensures cause { HasLogCause self.old.is_stopped (D.faults self.old.disk)
             (D.faults self.new.disk) result }
+        ensures stops { StopsBy self.new.is_stopped result }
         ensures lives { Lives D.files D.moment D.since D.leaves D.read_at D.lasted_at self.old
             → LivesOn D.files D.moment D.since D.leaves D.read_at D.lasted_at self.old self.new }
     {

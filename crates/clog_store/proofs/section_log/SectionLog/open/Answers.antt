@@ -22,3 +22,11 @@ returns-in-Ok-clause-lasted g c first is lasts =
     (g.met.D.Disk.lasts_now disk) (c.in-Ok.ensures.lasts first is lasts) in
     subst (λ d. D.lasted_at d c.begin.result.opened) (sym c.begin.ensures.disk)
     (subst (λ (t : ℕ). D.lasted_at disk t) (sym c.begin.ensures.opened) has)
+
+pub returns-in-Ok-clause-lives : goal.returns-in-Ok-clause-lives
+returns-in-Ok-clause-lives g c lasted =
+    let D = g.D.Disk in
+    let disk = c.recover.new.disk in
+    c.begin.ensures.lives
+    (subst (λ (t : ℕ). D.lasted_at disk t) c.begin.ensures.opened
+    (subst (λ d. D.lasted_at d c.begin.result.opened) c.begin.ensures.disk lasted))
