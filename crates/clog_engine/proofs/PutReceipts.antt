@@ -10,8 +10,10 @@ use Rattle.std.proofs.Common.{
   ◌∷◌,
   ◌++◌,
   length,
+  map,
   drop,
   get_or,
+  refl,
   sym,
   ap,
   ◌∙◌,
@@ -19,10 +21,27 @@ use Rattle.std.proofs.Common.{
   append_assoc,
 }
 use Rattle.std.proofs.lemmas.List.{append-nil, drop_all}
+use Rattle.clog_spec.specs.Sizes.{frame_size}
 use Rattle.clog_mutation.specs.declared.mutation.Mutation.{Mutation}
+use Rattle.clog_mutation.specs.Payload.{payload_of}
+use Rattle.clog_scan.specs.Segment.{Entry, entries_from}
 use Rattle.clog_engine.specs.Input.{entries_of, entry_size}
-use Rattle.clog_engine.specs.Report.{ends_from, receipt_line, receipts_from}
+use Rattle.clog_engine.specs.Report.{receipt_line, receipts_from}
 use Rattle.clog_engine.proofs.Entries.{length-entries_of-cons, rest_at}
+
+-- where the entries of mutations end that stand end to end from an offset on
+abbrev pub ends_from : ℕ → List Mutation → List ℕ
+ends_from at [] = []
+ends_from at (m ∷ ms) = (at + entry_size m) ∷ ends_from (at + entry_size m) ms
+
+pub ends_are : (at : ℕ) (ms : List Mutation)
+    → ends_from at ms ≡ map (λ (e : Entry). e.end) (entries_from at (map payload_of ms))
+ends_are at [] = refl
+ends_are at (m ∷ ms) =
+    let end : at + entry_size m ≡ at + frame_size + length (payload_of m) = omega arith in
+    ap (λ (k : ℕ). k ∷ ends_from k ms) end
+    ∙ ap (λ (l : List ℕ). (at + frame_size + length (payload_of m)) ∷ l)
+    (ends_are (at + frame_size + length (payload_of m)) ms)
 
 -- an entry ends within what it and those behind it have
 pub ends_within : (ms : List Mutation) (i : ℕ) (m : Mutation) (end whole : ℕ) → i < length ms

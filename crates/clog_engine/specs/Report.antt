@@ -8,6 +8,7 @@ use Rattle.std.specs.Prelude.{
   ◌∷◌,
   ◌++◌,
   length,
+  map,
   codes,
   decimal,
   Bool,
@@ -20,9 +21,9 @@ use Rattle.clog_base.specs.declared.cell.Cell.{Cell}
 use Rattle.clog_base.specs.declared.cell.CellKey.{CellKey}
 use Rattle.clog_cells.specs.Merge.{IsMerge}
 use Rattle.clog_mutation.specs.declared.mutation.Mutation.{Mutation}
-use Rattle.clog_mutation.specs.Payload.{cells_of}
+use Rattle.clog_mutation.specs.Payload.{cells_of, payload_of}
+use Rattle.clog_scan.specs.Segment.{Entry, entries_from}
 use Rattle.clog_text.specs.CellTexts.{row_line}
-use Rattle.clog_engine.specs.Input.{entry_size}
 
 -- a text and 0A
 abbrev pub line : List ℕ → List ℕ
@@ -37,11 +38,6 @@ applied_line lines = line (codes "applied " ++ decimal lines)
 
 -- ---- receipts
 
--- where the entries of mutations end that stand end to end from an offset on
-abbrev pub ends_from : ℕ → List Mutation → List ℕ
-ends_from at [] = []
-ends_from at (m ∷ ms) = (at + entry_size m) ∷ ends_from (at + entry_size m) ms
-
 -- the receipt of a line: its number, the id of its entry's segment, and where the entry ends there
 abbrev pub receipt_line : ℕ → ℕ → ℕ → List ℕ
 receipt_line number id end =
@@ -53,9 +49,14 @@ receipts_from id number [] = []
 receipts_from id number (end ∷ ends) =
     receipt_line number id end ++ receipts_from id (number + 1) ends
 
--- those of all mutations, whose entries are the one section of a segment
+-- where the entries of mutations end that are the one section of a segment
+abbrev pub ends_of : List Mutation → List ℕ
+ends_of mutations =
+    map (λ (e : Entry). e.end) (entries_from front_size (map payload_of mutations))
+
+-- the receipts of all of them
 abbrev pub receipts_of : ℕ → List Mutation → List ℕ
-receipts_of id mutations = receipts_from id 1 (ends_from front_size mutations)
+receipts_of id mutations = receipts_from id 1 (ends_of mutations)
 
 -- ---- the report
 

@@ -29,6 +29,6 @@ mod tests;
 mod words;
 
 pub use fault_line::FaultLine;
-pub use laws::{receipts_tell_where_entries_end, segments_hold_their_mutations};
+pub use laws::segments_hold_their_mutations;
 pub use running::run;
 pub use status::{Status, Unbuilt};

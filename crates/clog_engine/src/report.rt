@@ -68,6 +68,7 @@ pub(crate) fn head(
 {
     let mut out = Vec::new(alloc);
     put_applied(&mut out, mutations.len() as u64)?;
+    // Each way returns by itself, since nothing is known of the two joined.
     if receipts {
         put_receipts(&mut out, id, mutations)?;
         return Ok(out);

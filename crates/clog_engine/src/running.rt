@@ -97,9 +97,11 @@ fn answer<T: Threads + Sync, R: Source, K: Sink, D: Disk, C: Clock, G: Gate + Sy
 /// (none for an empty file), lasting, whose id is the greater of the clock's moment and one more
 /// than each id that the folder named; that the folder restores to what it restored to before with
 /// the mutations' cells merged in, no file of it damaged; and that the report went out whole, whose
-/// receipts are the positions of the entries, and whose dump is what the folder restores to now. Of `replay` it means that the report has the counts of
-/// the folder and what it restores to, and that without `--ignore-errors` nothing of the folder is
-/// damaged; of `scan` that the report tells what the segment's file holds.
+/// receipts are the positions of the entries, and whose dump is what the folder restores to now.
+///
+/// Of `replay` it means that the report has the counts of the folder and what it restores to, and
+/// that without `--ignore-errors` nothing of the folder is damaged; of `scan` that the report tells
+/// what the segment's file holds.
 ///
 /// Where the words ask for what can be done and no fault was counted, it ends with `Ok`, or for
 /// want of memory. A fault of the disk is told: without `DiskFault` none was counted. What the

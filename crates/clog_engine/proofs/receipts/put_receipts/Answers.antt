@@ -1,6 +1,13 @@
-use Rattle.std.proofs.Common.{◌+◌, ap, arith}
+use Rattle.std.proofs.Common.{ℕ, ◌+◌, ◌++◌, ◌∙◌, List, ap, arith}
+use Rattle.clog_spec.specs.Sizes.{front_size}
+use Rattle.clog_engine.specs.Report.{receipts_from}
 use Rattle.clog_engine.proofs.Entries.{sum_more}
-use Rattle.clog_engine.proofs.PutReceipts.{ends_within, receipts_end, receipts_more}
+use Rattle.clog_engine.proofs.PutReceipts.{
+  ends_are,
+  ends_within,
+  receipts_end,
+  receipts_more,
+}
 use Rattle.clog_engine.proofs.receipts.put_receipts.Goals as goal
 
 pub overflow_cast-end : goal.overflow_cast-end
@@ -45,3 +52,5 @@ returns c =
     let l = c.loop-mutation in
     receipts_end c.args.mutations.now l.mutation-index c.args.id (l.number + 1) l.end l.out.items
     (omega (arith, c.loop-mutation-test.false)) l.invariant.text
+    ∙ ap (λ (ends : List ℕ). c.args.out.now.items ++ receipts_from c.args.id 1 ends)
+    (ends_are front_size c.args.mutations.now)

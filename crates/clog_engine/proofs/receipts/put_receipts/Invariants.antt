@@ -1,7 +1,8 @@
 use Rattle.std.proofs.Common.{◌≡◌, ◌+◌, ◌++◌, length, drop}
 use Rattle.clog_spec.specs.Sizes.{front_size}
 use Rattle.clog_engine.specs.Input.{entries_of}
-use Rattle.clog_engine.specs.Report.{ends_from, receipts_from, receipts_of}
+use Rattle.clog_engine.specs.Report.{receipts_from}
+use Rattle.clog_engine.proofs.PutReceipts.{ends_from}
 use Rattle.clog_engine.proofs.receipts.put_receipts.Given as goal
 
 -- What is put and what is left are the whole; the entries that are left stand behind the end.
@@ -12,5 +13,5 @@ invariant-loop-mutation l = record {
       ≡ front_size + length (entries_of l.mutations);
   text : l.out.items
       ++ receipts_from l.id (l.number + 1) (ends_from l.end (drop l.mutation-index l.mutations))
-      ≡ l.fn.out.items ++ receipts_of l.id l.mutations;
+      ≡ l.fn.out.items ++ receipts_from l.id 1 (ends_from front_size l.mutations);
 }
