@@ -128,7 +128,8 @@ applied_adds o options report bytes greatest a = record {
   mutations = a.mutations;
   id = a.id;
   said = a.accepted.sized.read.read;
-  added = adds_landed options.dump (head_of options.receipts a.id a.mutations) o report o.files a.ready a.begun.now a.id a.mutations a.before
+  added = adds_landed options.dump (head_of options.receipts a.id a.mutations) o report o.files
+      a.ready a.begun.now a.id a.mutations a.before
       a.begun.made a.fits a.stored (omega (arith, greatest, a.accepted.room)) a.restored
       a.reported a.landed;
 }

@@ -93,7 +93,8 @@ returns-then-lines-eq0-clause-applies g c =
         restored = r.restored;
         reported = report_over c.args.options.dump _ _ r.before c.in-Ok.ready.cells mutations
             c.in-Ok-report.report (c.in-Ok-head.ensures
-            ∙ ap (head_of c.args.options.receipts c.in-Ok.ready.base) c.as_slice-3.ensures) r.shown c.in-Ok-report.ensures;
+            ∙ ap (head_of c.args.options.receipts c.in-Ok.ready.base) c.as_slice-3.ensures) r.shown
+            c.in-Ok-report.ensures;
       },
     )
 
@@ -154,7 +155,8 @@ returns-in-Ok-land-clause-applies g c =
         restored = r.restored;
         reported = report_over c.args.options.dump _ _ r.before c.in-Ok.ready.cells mutations
             c.in-Ok-report.report (c.in-Ok-head.ensures
-            ∙ ap (head_of c.args.options.receipts c.in-Ok.ready.base) c.as_slice-3.ensures) r.shown c.in-Ok-report.ensures;
+            ∙ ap (head_of c.args.options.receipts c.in-Ok.ready.base) c.as_slice-3.ensures) r.shown
+            c.in-Ok-report.ensures;
       },
     )
 
