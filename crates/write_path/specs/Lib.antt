@@ -6,3 +6,4 @@ pub mod Opened
 pub mod Closed
 pub mod Turned
 pub mod Syncs
+pub mod Commits

@@ -7,6 +7,7 @@ mod allocating;
 mod claimed;
 mod claiming;
 mod closing;
+mod committing;
 mod deposited;
 mod depositing;
 mod entry;
@@ -19,6 +20,7 @@ mod resting;
 mod seats;
 mod syncing;
 mod turning;
+mod writing;
 
 pub use claimed::Claimed;
 pub use claiming::TryClaim;
@@ -27,10 +29,11 @@ pub use deposited::Deposited;
 pub use fault::PrepareFault;
 pub use finishing::Accept;
 pub use laws::note_laws;
-pub use path_rule::{Advance, Begun, PathSeat, Seen};
+pub use path_rule::{Advance, Begun, PathSeat, Seen, SyncAnswer};
 pub use prepared::Prepared;
 pub use seats::{Appending, WritePath};
 pub use turning::TurnSeat;
+pub use writing::Written;
 
 #[cfg(test)]
 mod tests;

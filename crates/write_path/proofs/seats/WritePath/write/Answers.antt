@@ -1,0 +1,32 @@
+use Rattle.std.proofs.Common.{◌/◌, ◌≤◌, ◌∷◌, ap, ◌∙◌, subst, arith}
+use Rattle.write_path.proofs.LeastEntry.{entry_least}
+use Rattle.write_path.proofs.seats.WritePath.write.Goals as goal
+
+pub claim-requires-clause-size : goal.claim-requires-clause-size
+claim-requires-clause-size g c =
+    let P = c.requires.prepared in let least = entry_least P.2 P.3.limits in
+    let size = P.3.size in let fits = P.3.fits in let is = c.size.ensures in (
+      omega arith,
+      subst (λ k. c.size.result ≤ k / 2) P.5 (omega arith),
+    )
+
+pub log_claimed-requires-clause-prepared : goal.log_claimed-requires-clause-prepared
+log_claimed-requires-clause-prepared g c =
+    let P = c.requires.prepared in let size = P.3.size in let is = c.size.ensures in
+    let sum = c.in-Ok.ensures.3 in (P.0, P.1, P.2, P.3, omega arith, P.4)
+
+pub returns-in-Ok-clause-written : goal.returns-in-Ok-clause-written
+returns-in-Ok-clause-written g c =
+    let L = c.log_claimed.ensures.logged in let C = c.in-Ok.ensures.0 in
+    let A = c.append-appending.ensures.0 in let S = c.start-begun.ensures.0 in record {
+      tables = L.tables;
+      listed = record {
+        note = L.listed.note;
+        list = L.listed.list ∙ ap (λ l. L.listed.note ∷ l) (C.1 ∙ (A.1 ∙ S.1));
+        writer = L.listed.writer ∙ (C.0.1 ∙ (A.0.1 ∙ S.0.1));
+        starts = L.listed.starts;
+        ends = L.listed.ends;
+        tables_are = L.listed.tables_are;
+        of = L.listed.of;
+      };
+    }

@@ -1,0 +1,96 @@
+//! A write from its start to its end, by calls that wait.
+ghost use Rattle.std.specs.Prelude.{◌≡◌, ℕ, ◌+◌, ◌<◌};
+ghost use Rattle.clog_base.specs.declared.sizes.Sizes.{Sizes};
+ghost use Rattle.clog_mutation.specs.declared.mutation.Mutation.{Mutation};
+ghost use Rattle.path_rule.specs.Members.{view_of, IsOf};
+ghost use Rattle.write_path.specs.Commits.{HasNoRoom, IsLogged, IsWritten, KeepsList};
+ghost use Rattle.write_path.specs.Tries.{Stays};
+ghost use Rattle.write_path.specs.Writes.{IsPrepared, entry_size};
+
+use crate::claimed::Claimed;
+use crate::prepared::Prepared;
+use crate::seats::{Appending, WritePath};
+use clog_base::Key;
+use path_core::Keeper;
+use path_rule::PathSeat;
+use std::alloc::Allocator;
+use std::sync::Wait;
+
+/// What a write answers.
+#[derive(Drop)]
+pub enum Written {
+    /// It is logged, in this range, and applied. The log need not be lasting up to there.
+    Logged {
+        /// Where its range begins.
+        start: Key,
+        /// Where it ends.
+        end: Key,
+    },
+    /// It was not logged: at this key, which was found, there is no room for it, and no further
+    /// segment. The write comes back.
+    Spent(Prepared, Key),
+}
+
+impl<K: Keeper, A: Allocator> WritePath<K, A> {
+    // A claimed write is logged, applied and ended: the seat's list is the old one and this write.
+    fn log_claimed(&self, seat: Claimed<K>, prepared: Prepared) -> PathSeat<K>
+        requires table { IsOf self.now.table.table.shared.table_id self.now.table.size seat.member }
+        requires groups { (seat.group < 65536) × (seat.writing < 65536) }
+        requires prepared { (sizes : Sizes) × (line : ℕ) × (m : Mutation)
+            × IsPrepared sizes line m prepared × (seat.start.0 + entry_size m ≡ seat.end.0)
+            × (sizes.tables ≡ self.now.table.size.tables) }
+        ensures same { Stays self.now.table.table.shared.table_id self.now.table.size seat.member
+            result.member }
+        ensures logged { IsLogged (view_of seat.member).trail seat.member.number seat.start.0
+            seat.end.0 prepared (view_of result.member).trail }
+    {
+        let (deposited, _rest) = self.deposit(seat, prepared);
+        self.end_write(deposited)
+    }
+
+    // Leaves both orders, before a claim.
+    fn leave(&self, seat: Appending<K>) -> PathSeat<K>
+        requires table { IsOf self.now.table.table.shared.table_id self.now.table.size seat.member }
+        requires groups { (seat.group < 65536) × (seat.writing < 65536) }
+        ensures same { KeepsList self.now.table.table.shared.table_id self.now.table.size
+            seat.member result.member }
+        ensures room { (bytes key : ℕ)
+            → HasNoRoom self.now.table.size bytes key (view_of seat.member)
+            → HasNoRoom self.now.table.size bytes key (view_of result.member) }
+    {
+        let begun = self.stop_append(seat);
+        self.stop(begun)
+    }
+
+    /// Writes what was prepared, unless the log has no room for it. It takes no memory, and after
+    /// its claim it is always applied. No clause says that it returns.
+    pub fn write<R: Wait>(
+        &self,
+        rt: &R,
+        seat: PathSeat<K>,
+        prepared: Prepared,
+    ) -> (PathSeat<K>, Written)
+        requires table { IsOf self.now.table.table.shared.table_id self.now.table.size seat.member }
+        requires prepared { (sizes : Sizes) × (line : ℕ) × (m : Mutation)
+            × IsPrepared sizes line m prepared × (sizes.tables ≡ self.now.table.size.tables)
+            × (sizes.capacity ≡ self.now.table.size.capacity) }
+        ensures same { Stays self.now.table.table.shared.table_id self.now.table.size seat.member
+            result.0.member }
+        ensures written { IsWritten self.now.table.size seat.member.number
+            (view_of seat.member).trail prepared result.1 (view_of result.0.member) }
+    {
+        let begun = self.start(rt, seat);
+        let appending = self.append(rt, begun);
+        match self.claim(rt, appending, prepared.size()) {
+            Ok(claimed) => {
+                let start = claimed.start;
+                let end = claimed.end;
+                (
+                    self.log_claimed(claimed, prepared),
+                    Written::Logged { start, end },
+                )
+            }
+            Err((refused, key)) => (self.leave(refused), Written::Spent(prepared, key)),
+        }
+    }
+}
