@@ -26,8 +26,12 @@ use Rattle.std.proofs.Common.{
   length-append,
   append-nil,
   append_assoc,
+  true,
+  false,
+  true≢false,
+  ◌≤◌,
 }
-use Rattle.std.specs.Prelude.{option_map}
+use Rattle.std.specs.Prelude.{Result, Ok, Err, option_map}
 use Rattle.std.specs.List.{Contains}
 use Rattle.std.proofs.lemmas.List.Elements.{
   Contains-append_cases,
@@ -49,8 +53,12 @@ use Rattle.clog_crash.proofs.counts.Growing.{
   grown_elsewhere,
   grown_here,
 }
-use Rattle.clog_store.specs.Grows.{Grows, IsGrown, segments_with}
+use Rattle.clog_disk.specs.Changes.{Adds}
+use Rattle.clog_store.specs.declared.written.StoreFault.{StoreFault}
+use Rattle.clog_store.specs.declared.written.StoreFault.TheVariants.{Stopped, OutOfMemory}
+use Rattle.clog_store.specs.Grows.{Grows, IsGrown, Writes, segments_with}
 use Rattle.clog_store.specs.Life.{State}
+use Rattle.clog_store.specs.Stepped.{Keeps}
 
 -- bytes that bring a section stand behind those of the others
 pub spells : (id k : ℕ) (ss : List Section) (x : Section) (bytes : List ℕ)
@@ -252,3 +260,78 @@ module _ {D : Type 0} (changes : D → Option (List Change)) where
             ∙ ap (λ (l : List Append). appends ++ l) (sym (appends_of-append x y)))
             (next.grows (appends ++ appends_of x) (first.grows appends g));
       }
+
+  -- ---- whether or not the disk has failed
+
+  pub writes_of : (a b : State D) → Grows changes a b → Writes changes a b
+  writes_of a b grown = record {
+    added = grown.added;
+    changes_are = grown.changes_are;
+    writes = λ appends g. (b.sections, inl refl, grown.grows appends g);
+  }
+
+  pub writes_then : (a b c : State D) → Grows changes a b → Writes changes b c
+      → Writes changes a c
+  writes_then a b c first next =
+      let x = first.added in
+      let y = next.added in
+      record {
+        added = x ++ y;
+        changes_are = next.changes_are
+            ∙ ap (option_map (λ made. made ++ y)) first.changes_are
+            ∙ added_both (changes a.disk) x y;
+        writes = λ appends g.
+            let then_ = next.writes (appends ++ appends_of x) (first.grows appends g) in (
+              then_.0,
+              then_.1,
+              subst (λ (l : List Append). IsGrown l c.past c.id then_.0)
+                  (append_assoc appends (appends_of x) (appends_of y)
+                  ∙ ap (λ (l : List Append). appends ++ l) (sym (appends_of-append x y)))
+                  then_.2,
+            );
+      }
+
+  writes_torn : (a b : State D) (section : Section) → changes b.disk ≡ changes a.disk
+      → a.synced ≤ length a.sections
+      → b ≡ record a {
+        disk = b.disk;
+        sections = a.sections ++ section ∷ [];
+        is_stopped = true;
+      } → Writes changes a b
+  writes_torn a b section same few torn = record {
+    added = [];
+    changes_are = same ∙ nothing_added (changes a.disk);
+    writes = λ appends g. (
+      a.sections,
+      inr (
+        section,
+        ap (λ (s : State D). s.sections) torn,
+        ap (λ (s : State D). s.is_stopped) torn,
+        omega (arith, few, ap (λ (s : State D). s.synced) torn),
+      ),
+      subst (λ (l : List Append). IsGrown l b.past b.id a.sections)
+          (sym (append-nil appends))
+          (subst (λ (l : List Write). IsGrown appends l b.id a.sections)
+          (sym (ap (λ (s : State D). s.past) torn))
+          (subst (λ (k : ℕ). IsGrown appends a.past k a.sections)
+          (sym (ap (λ (s : State D). s.id) torn)) g)),
+    );
+  }
+
+  pub writes_kept : {T : Type 0} (a b : State D) (section : Section) (bytes : List ℕ)
+      (result : Result T StoreFault) → Keeps a b section result
+      → Adds (change.Append (segment_name_of 6 a.id) bytes) (changes a.disk) (changes b.disk)
+      result → a.is_stopped ≡ false → a.id < 2 ^ 63
+      → ((w : Write) → Contains a.past w → w.id < a.id) → a.synced ≤ length a.sections
+      → segment_bytes a.id a.sections ++ bytes ≡ segment_bytes a.id (a.sections ++ section ∷ [])
+      → Writes changes a b
+  writes_kept a b section bytes (Ok done) keeps adds runs fits low few spelled =
+      writes_of a b (grows_more a b section bytes adds (ap (λ (s : State D). s.past) keeps)
+      (ap (λ (s : State D). s.id) keeps) (ap (λ (s : State D). s.sections) keeps) low fits spelled)
+  writes_kept a b section bytes (Err OutOfMemory) keeps adds runs fits low few spelled =
+      writes_of a b (grows_same a b adds (ap (λ (s : State D). s.past) keeps)
+      (ap (λ (s : State D). s.id) keeps) (ap (λ (s : State D). s.sections) keeps))
+  writes_kept a b section bytes (Err Stopped) keeps adds runs fits low few spelled = elim keeps [
+    | inl was ↦ absurd (true≢false (sym was.0 ∙ runs))
+    | inr torn ↦ writes_torn a b section adds few torn
+  ]

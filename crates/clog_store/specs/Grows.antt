@@ -2,8 +2,11 @@
 -- else.
 use Rattle.std.specs.Prelude.{
   ◌≡◌,
+  ◌⊎◌,
   ℕ,
   ◌<◌,
+  ◌≤◌,
+  true,
   List,
   [],
   ◌∷◌,
@@ -42,3 +45,20 @@ pub record Grows {D : Type 0} (changes : D → Option (List Change)) (before now
   pub changes_are : changes now.disk ≡ option_map (λ made. made ++ added) (changes before.disk)
   pub grows : (appends : List Append) → IsGrown appends before.past before.id before.sections
       → IsGrown (appends ++ appends_of added) now.past now.id now.sections
+
+-- These are the sections at hand, or all but the last of them, which does not last and of which the
+-- disk has failed to take all.
+abbrev pub AreBrought : {D : Type 0} → State D → List Section → Type 0
+AreBrought s part =
+    (s.sections ≡ part)
+    ⊎ ((torn : Section) × (s.sections ≡ part ++ torn ∷ []) × (s.is_stopped ≡ true)
+    × (s.synced ≤ length part))
+
+-- The same, whether or not the disk has failed meanwhile.
+pub record Writes {D : Type 0} (changes : D → Option (List Change)) (before now : State D)
+    : Type 0 where
+  pub added : List Change
+  pub changes_are : changes now.disk ≡ option_map (λ made. made ++ added) (changes before.disk)
+  pub writes : (appends : List Append) → IsGrown appends before.past before.id before.sections
+      → (part : List Section) × AreBrought now part
+      × IsGrown (appends ++ appends_of added) now.past now.id part

@@ -5,7 +5,7 @@
 //! may stand in its sections: the next sync begins with these and goes on behind what was written.
 ghost use Rattle.std.specs.Prelude.{◌≡◌, ◌<◌, ◌^◌, [], OnErr, OnOk, false};
 ghost use Rattle.clog_disk.specs.Images.{IsLater};
-ghost use Rattle.clog_store.specs.Grows.{Grows};
+ghost use Rattle.clog_store.specs.Grows.{Writes};
 ghost use Rattle.clog_store.specs.Life.{Lives, LivesOn};
 ghost use Rattle.clog_store.specs.NoteLog.{HasRefused, HasSynced, LeavesOthers, MayLog};
 ghost use Rattle.clog_store.specs.NoteSteps.{GoesOn, Leaves, Logs, LogsNot, MayRun};
@@ -106,6 +106,7 @@ impl<D: Disk> NoteLog<D> {
             self.new.log }
         ensures leaves { self.new.log.is_stopped ≡ false
             → Leaves D.files D.changes self.old.log self.new.log }
+        ensures writes { Writes D.changes self.old.log self.new.log }
         ensures cause { HasLogCause self.old.log.is_stopped (D.faults self.old.log.disk)
             (D.faults self.new.log.disk) result }
         ensures stops { StopsBy self.new.log.is_stopped result }
@@ -137,8 +138,7 @@ impl<D: Disk> NoteLog<D> {
         ensures others { self.new.log.is_stopped ≡ false
             → LeavesOthers self.old.log self.new.log (D.files self.old.log.disk)
             (D.files self.new.log.disk) }
-        ensures grows { self.new.log.is_stopped ≡ false
-            → Grows D.changes self.old.log self.new.log }
+        ensures writes { Writes D.changes self.old.log self.new.log }
         ensures later { IsLater D.moment D.read_at D.lasted_at self.old.log.disk self.new.log.disk }
         ensures cause { HasLogCause self.old.log.is_stopped (D.faults self.old.log.disk)
             (D.faults self.new.log.disk) result }

@@ -1,7 +1,8 @@
-use Rattle.std.proofs.Common.{◌≡◌, ◌∙◌, List, drop, take, sym, ap, subst}
+use Rattle.std.proofs.Common.{◌≡◌, ◌∙◌, List, drop, take, refl, sym, ap, subst}
 use Rattle.path_core.specs.declared.note.EntryNote.{EntryNote}
 use Rattle.path_core.specs.Keeper.{IsParted}
 use Rattle.clog_store.proofs.Lived.{lives_still}
+use Rattle.clog_store.proofs.NoteGrows.{grows_same, writes_of}
 use Rattle.clog_store.proofs.NoteSynced.{may_run}
 use Rattle.clog_store.proofs.note_log.NoteLog.sync.Goals as goal
 
@@ -22,3 +23,15 @@ log_run-requires-clause-may g c =
     (drop count pending)
     (subst (λ (l : List EntryNote). IsParted c.args.upto.0 c.args.pending.now.items l
     (drop count pending)) (sym is) c.part_at-count.ensures.parted) c.requires
+
+-- ---- nothing is written
+
+pub returns-then-is_stopped-clause-writes : goal.returns-then-is_stopped-clause-writes
+returns-then-is_stopped-clause-writes g c =
+    let log = c.args.self.now.log in
+    writes_of g.D.Disk.changes log log (grows_same g.D.Disk.changes log log refl refl refl refl)
+
+pub returns-in_err-run-clause-writes : goal.returns-in_err-run-clause-writes
+returns-in_err-run-clause-writes g c =
+    let log = c.args.self.now.log in
+    writes_of g.D.Disk.changes log log (grows_same g.D.Disk.changes log log refl refl refl refl)
