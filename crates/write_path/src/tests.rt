@@ -73,23 +73,23 @@ fn write_once<K: Keeper>(
 fn one_write_is_the_whole_history(rt: HostRuntime) -> Result<(), Fail> {
     let alloc = rt.alloc();
     let Some(sizes) = Sizes::make(16, 1, 4096, 4) else {
-        return Ok(());
+        return Err(Fail::new("no sizes"));
     };
     let prepared = Prepared::make(alloc, sizes, 1, decode(alloc, DELETION)?)?;
     assert_eq!(&rt; prepared.size(), 32);
     let keeper = ListKeeper::new(alloc, sizes, 7);
     let Ok(mut path) = WritePath::open(alloc, keeper, sizes, 7) else {
-        return Ok(());
+        return Err(Fail::new("no path"));
     };
     crosses(&path);
     let mut seats = path.seats(alloc)?;
     assert_eq!(&rt; seats.len(), 1);
     let Some(seat) = seats.pop() else {
-        return Ok(());
+        return Err(Fail::new("no seat"));
     };
     let (seat, written) = write_once(&path, sizes, seat, prepared);
     let Some(written) = written else {
-        return Ok(());
+        return Err(Fail::new("no write"));
     };
     assert_eq!(&rt; written.start, Key(28));
     assert_eq!(&rt; written.end, Key(60));
@@ -105,26 +105,26 @@ fn one_write_is_the_whole_history(rt: HostRuntime) -> Result<(), Fail> {
 fn one_seat_has_the_turn(rt: HostRuntime) -> Result<(), Fail> {
     let alloc = rt.alloc();
     let Some(sizes) = Sizes::make(1, 2, 4096, 4) else {
-        return Ok(());
+        return Err(Fail::new("no sizes"));
     };
     let keeper = ListKeeper::new(alloc, sizes, 7);
     let Ok(mut path) = WritePath::open(alloc, keeper, sizes, 7) else {
-        return Ok(());
+        return Err(Fail::new("no path"));
     };
     let mut seats = path.seats(alloc)?;
     let (Some(one), Some(zero)) = (seats.pop(), seats.pop()) else {
-        return Ok(());
+        return Err(Fail::new("no two seats"));
     };
     let Ok(holder) = path.try_turn(zero, Turn::Sync) else {
-        return Ok(());
+        return Err(Fail::new("the turn is taken"));
     };
     let Err((one, found)) = path.try_turn(one, Turn::Sync) else {
-        return Ok(());
+        return Err(Fail::new("the turn is free"));
     };
     assert_eq!(&rt; found, 1);
     let _zero = path.give(holder);
     let Ok(holder) = path.try_turn(one, Turn::Sync) else {
-        return Ok(());
+        return Err(Fail::new("the turn is taken still"));
     };
     let _one = path.give(holder);
     Ok(())
