@@ -5,7 +5,7 @@
 //! may stand in its sections: the next sync begins with these and goes on behind what was written.
 ghost use Rattle.std.specs.Prelude.{◌≡◌, ◌<◌, ◌^◌, [], OnErr, OnOk, false};
 ghost use Rattle.clog_disk.specs.Images.{IsLater};
-ghost use Rattle.clog_store.specs.Grows.{Writes};
+ghost use Rattle.clog_store.specs.Grows.{Grows, Writes};
 ghost use Rattle.clog_store.specs.Life.{Lives, LivesOn};
 ghost use Rattle.clog_store.specs.NoteLog.{HasRefused, HasSynced, LeavesOthers, MayLog};
 ghost use Rattle.clog_store.specs.NoteSteps.{GoesOn, Leaves, Logs, LogsNot, MayRun};
@@ -138,6 +138,8 @@ impl<D: Disk> NoteLog<D> {
         ensures others { self.new.log.is_stopped ≡ false
             → LeavesOthers self.old.log self.new.log (D.files self.old.log.disk)
             (D.files self.new.log.disk) }
+        ensures grows { self.new.log.is_stopped ≡ false
+            → Grows D.changes self.old.log self.new.log }
         ensures writes { Writes D.changes self.old.log self.new.log }
         ensures later { IsLater D.moment D.read_at D.lasted_at self.old.log.disk self.new.log.disk }
         ensures cause { HasLogCause self.old.log.is_stopped (D.faults self.old.log.disk)
