@@ -34,6 +34,7 @@ use Rattle.std.specs.Prelude.{
 }
 use Rattle.std.specs.List.{Contains, AllPairs}
 use Rattle.std.specs.List.Sorted.{IsPermutation}
+use base.Stored.{Gv}
 use Rattle.clog_base.specs.declared.cell.Cell.{Cell}
 use Rattle.clog_base.specs.declared.cell.CellKey.{CellKey}
 use Rattle.clog_base.specs.declared.sizes.Sizes.{Sizes}
@@ -53,6 +54,8 @@ use Rattle.path_core.specs.Whole.{IsWhole}
 pub record Opening : Type 0 where
   -- a segment that is dropped gets its archive name first
   pub archives : Bool
+  -- the keeper's disk as it was then, by the code of its type: equal codes are of equal disks
+  pub disk : Gv
   -- the moment of its disk then, by which the disk tells what it was
   pub moment : ℕ
   -- how each name of its disk read then, where the disk tells it

@@ -1,5 +1,6 @@
 -- What a keeper over lists holds.
 use Rattle.std.specs.Prelude.{ℕ, List, [], map, None, false}
+use base.Stored.{gnil}
 use Rattle.clog_base.specs.declared.sizes.Sizes.{Sizes}
 use Rattle.path_core.specs.declared.list_keeper.ListFile.{ListFile}
 use Rattle.path_core.specs.declared.note.EntryNote.{EntryNote}
@@ -18,7 +19,13 @@ abbrev pub listed : ℕ → Sizes → ℕ → List EntryNote → List ListFile �
 listed base sizes synced logged files = record {
   base = base;
   sizes = sizes;
-  opening = record { archives = false; moment = 0; reads = None; changes = None };
+  opening = record {
+    archives = false;
+    disk = gnil;
+    moment = 0;
+    reads = None;
+    changes = None;
+  };
   at_open = 0;
   faults = 0;
   stopped = false;
