@@ -31,6 +31,7 @@ use Rattle.std.proofs.Common.{
   take-append-drop,
   get_or,
 }
+use base.Stored.{gnil}
 use Rattle.std.specs.List.{Contains}
 use Rattle.std.proofs.lemmas.Bool.Decides.{nat_tests}
 use Rattle.clog_spec.specs.Crc.{IsBytes}
@@ -81,7 +82,13 @@ abbrev pub bare : ℕ → Sizes → Holding
 bare base sizes = record {
   base = base;
   sizes = sizes;
-  opening = record { archives = false; moment = 0; reads = None; changes = None };
+  opening = record {
+    archives = false;
+    disk = gnil;
+    moment = 0;
+    reads = None;
+    changes = None;
+  };
   at_open = 0;
   faults = 0;
   stopped = false;
