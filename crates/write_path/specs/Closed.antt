@@ -64,9 +64,8 @@ abbrev pub IsStoppedFor : {K : Type 0} → Holding → PathSeat K → Type 0
 IsStoppedFor h s = (n : ℕ) → (part_of s.member).found.stopped ≡ Some n → 0 < n
     → (h.stopped ≡ true) × (h.faults ≡ n)
 
--- A keeper that a path gives back has beside its log what the one had that the path was opened over:
--- its disk at the opening is the same one, and no table file came and no segment got its archive name
--- where there was none.
+-- The keeper that a path gives back has beside its log what the one had over which it was opened:
+-- the same disk at the opening, and no table file and no archive name where there was none.
 pub record StaysBeside (first h : Holding) : Type 0 where
   pub disk_is : h.opening.disk ≡ first.opening.disk
   pub archives_are : h.opening.archives ≡ first.opening.archives
