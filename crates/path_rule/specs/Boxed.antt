@@ -30,6 +30,7 @@ use Rattle.path_core.specs.declared.state.Claim.{Claim}
 use Rattle.path_core.specs.declared.state.OrderGroups.{OrderGroups}
 use Rattle.path_core.specs.LawfulLog.{claim_in, is_note_at}
 use Rattle.path_core.specs.Parts.{issue_of, is_marker, last_kept}
+use Rattle.path_rule.specs.declared.lasting.Beside.{Beside}
 use Rattle.path_rule.specs.declared.lasting.Lasting.{Lasting}
 use Rattle.path_rule.specs.declared.slot.Slot.{Slot}
 use Rattle.path_rule.specs.declared.view.Hands.{Hands}
@@ -151,7 +152,7 @@ pub record Boxed {K : Type 0} (shows : K → Lasting) (seats : ℕ) (notes : Lis
       n.end.0
 
 -- what the boxes of a new table of these sizes hold
-pub record AreFirst {K : Type 0} (shows : K → Lasting) (size : PathSize) (xs : List (Slot K)) :
-    Type 0 where
+pub record AreFirst {K : Type 0} (shows : K → Lasting) (o : Beside) (size : PathSize)
+    (xs : List (Slot K)) : Type 0 where
   pub each : (b : ℕ) (y : Slot K) → get_elem? xs b ≡ some y
-      → (b ≡ 0 → DeskIs shows y (none_lasting size) [] first_progress) × (0 < b → NotesAre y [])
+      → (b ≡ 0 → DeskIs shows y (none_lasting o size) [] first_progress) × (0 < b → NotesAre y [])

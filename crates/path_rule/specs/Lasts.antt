@@ -10,10 +10,12 @@ use Rattle.std.specs.Prelude.{
   List,
   [],
   ◌++◌,
+  length,
   map,
   Option,
   Some,
   None,
+  is_some,
 }
 use Rattle.std.specs.List.{filter}
 use Rattle.clog_base.specs.declared.sizes.Sizes.{Sizes}
@@ -22,6 +24,7 @@ use Rattle.path_core.specs.declared.state.PathState.{PathState}
 use Rattle.path_core.specs.Keeper.{Holding, IsFresh}
 use Rattle.path_core.specs.LawfulLog.{is_at_most}
 use Rattle.path_core.specs.Next.{is_between}
+use Rattle.path_rule.specs.declared.lasting.Beside.{Beside}
 use Rattle.path_rule.specs.declared.lasting.Lasting.{Lasting}
 use Rattle.path_rule.specs.declared.view.PathSize.{PathSize}
 
@@ -33,6 +36,18 @@ ends l = map (λ (n : EntryNote). n.end.0) l
 abbrev pub stopped_with : Bool → ℕ → Option ℕ
 stopped_with true faults = Some faults
 stopped_with false faults = None
+
+-- what a keeper has beside its log
+abbrev pub beside_of : Holding → Beside
+beside_of h = record {
+  tables = h.sizes.tables;
+  writers = h.sizes.writers;
+  archives = h.opening.archives;
+  files = length h.files;
+  refused = is_some h.refused;
+  archived = length h.archived;
+  disk = h.opening.disk;
+}
 
 -- what a keeper shows by what it holds
 abbrev pub lasting_of : Holding → Lasting
@@ -46,6 +61,7 @@ lasting_of h = record {
   capacity = h.sizes.capacity;
   ordinals = h.sizes.ordinals;
   base = h.base;
+  beside = beside_of h;
 }
 
 abbrev pub shows_of : {K : Type 0} → (K → Holding) → K → Lasting
@@ -56,10 +72,10 @@ abbrev pub fault_count : ℕ → Option ℕ
 fault_count zero = None
 fault_count (suc n) = Some (suc n)
 
--- What it is to show of a state, where its disk had counted so many faults when it was opened. It
--- may have kept the entries of a sync up to a key, which was refused.
-abbrev pub shown : ℕ → ℕ → PathState → Lasting
-shown opened key x = record {
+-- What it is to show of a state, where it has this beside its log, and its disk had counted so many
+-- faults when it was opened. It may have kept the entries of a sync up to a key, which was refused.
+abbrev pub shown : Beside → ℕ → ℕ → PathState → Lasting
+shown o opened key x = record {
   logged = filter (is_at_most x.synced) x.notes;
   synced = x.synced;
   dropped = x.dropped;
@@ -69,11 +85,12 @@ shown opened key x = record {
   capacity = x.capacity;
   ordinals = x.ordinals;
   base = x.base;
+  beside = o;
 }
 
 -- at the opening
-abbrev pub none_lasting : PathSize → Lasting
-none_lasting size = record {
+abbrev pub none_lasting : Beside → PathSize → Lasting
+none_lasting o size = record {
   logged = [];
   synced = 0;
   dropped = [];
@@ -83,6 +100,7 @@ none_lasting size = record {
   capacity = size.capacity;
   ordinals = size.ordinals;
   base = size.base;
+  beside = o;
 }
 
 -- a keeper that was just opened, of the table's sizes

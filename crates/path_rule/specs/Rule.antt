@@ -21,6 +21,7 @@ use Rattle.std.specs.Prelude.{
 }
 use mathlib.Core.Option.{some}
 use lib.ListN.{get_elem?}
+use base.Stored.{gnil}
 use Rattle.atomic_table.specs.Table.{State}
 use Rattle.clog_base.specs.Sizes.{IsWithinLimits}
 use Rattle.op_core.specs.declared.count.Order.{Order}
@@ -38,6 +39,7 @@ use Rattle.path_core.specs.Runs.{opening, Past}
 use Rattle.path_core.specs.SeatAfter.{Told, seat_after}
 use Rattle.path_core.specs.Whole.{CarriesWhole}
 use Rattle.path_core.specs.Words.{reading, by_of, place_of}
+use Rattle.path_rule.specs.declared.lasting.Beside.{Beside}
 use Rattle.path_rule.specs.declared.lasting.Lasting.{Lasting}
 use Rattle.path_rule.specs.declared.slot.Slot.{Slot}
 use Rattle.path_rule.specs.declared.view.Hands.{Hands}
@@ -79,6 +81,18 @@ abbrev pub steps_by : ℕ → List Event → List Event
 steps_by w [] = []
 steps_by w (e ∷ es) = cond (by_of e == w) (e ∷ steps_by w es) (steps_by w es)
 
+-- of a keeper that is not known
+abbrev pub no_beside : Beside
+no_beside = record {
+  tables = 0;
+  writers = 0;
+  archives = false;
+  files = 0;
+  refused = false;
+  archived = 0;
+  disk = gnil;
+}
+
 -- of one that has no box
 abbrev pub no_hands : Hands
 no_hands = record {
@@ -86,7 +100,7 @@ no_hands = record {
   box_taken = None;
   taken = [];
   pending = [];
-  lasting = none_lasting (record {
+  lasting = none_lasting no_beside (record {
     tables = 0;
     seats = 0;
     capacity = 0;
@@ -173,7 +187,7 @@ pub record HasRows (x : PathState) : Type 0 where
 
 -- The rule. It has no law of its own: the law of the machine holds in each state that a run leads
 -- to.
-pub record Ruled {K : Type 0} (shows : K → Lasting) (size : PathSize)
+pub record Ruled {K : Type 0} (shows : K → Lasting) (o : Beside) (size : PathSize)
     (s : State (Slot K) View) : Type 0 where
   -- the state of the machine, and the steps that led to it, the newest first
   pub core : PathState
@@ -199,7 +213,7 @@ pub record Ruled {K : Type 0} (shows : K → Lasting) (size : PathSize)
   pub kept_to : ℕ
   pub may_be_kept : MayBeKept core kept_to
   -- the boxes show the notes that are not yet lasting, and the keeper what is
-  pub boxed : Boxed shows size.seats core.notes (shown size.at_open kept_to core) core.claims
+  pub boxed : Boxed shows size.seats core.notes (shown o size.at_open kept_to core) core.claims
       core.append s.homes
       s.views
   -- a stopped log tells a count of faults that has risen since the keeper was opened

@@ -10,6 +10,7 @@ use Rattle.path_core.specs.Keys.{first_offset}
 use Rattle.path_core.specs.Lawful.{IsLawfulPath}
 use Rattle.path_core.specs.Parts.{seat_of}
 use Rattle.path_core.specs.Runs.{Past}
+use Rattle.path_rule.specs.declared.lasting.Beside.{Beside}
 use Rattle.path_rule.specs.declared.view.OwnStep.{OwnStep}
 use Rattle.path_rule.specs.declared.view.PathSize.{PathSize}
 use Rattle.path_rule.specs.declared.view.Returned.{Returned}
@@ -70,8 +71,8 @@ HasAll seats w returned = (z : ℕ) → z < seats
 -- each seat's steps are those that it made. The keeper holds what is lasting in that state: the
 -- entries, the synced key, what is dropped, and the count of faults with which the log is stopped,
 -- which has risen; and it may have kept the entries of a sync that was refused.
-pub record Ended (size : PathSize) (returned : List Returned) (log : ℕ) (keeper : Holding) :
-    Type 0 where
+pub record Ended (o : Beside) (size : PathSize) (returned : List Returned) (log : ℕ)
+    (keeper : Holding) : Type 0 where
   pub core : PathState
   pub events : List Event
   pub run : Past (start_of size) events core
@@ -79,11 +80,11 @@ pub record Ended (size : PathSize) (returned : List Returned) (log : ℕ) (keepe
   pub log_is : log ≡ core.log
   pub kept_to : ℕ
   pub may_be_kept : MayBeKept core kept_to
-  pub lasting_is : lasting_of keeper ≡ shown size.at_open kept_to core
+  pub lasting_is : lasting_of keeper ≡ shown o size.at_open kept_to core
   pub risen : 0 < core.stopped → HasRisen size.at_open core.stopped
   pub each : (n : ℕ) (b : Returned) → get_elem? returned n ≡ some b
       → (b.part ≡ seat_of core b.number) × (map event_of b.trail ≡ steps_by b.number events)
 
 -- No step was made: the log is at its first key, and the keeper holds that nothing is lasting.
-abbrev pub EndsUnused : PathSize → ℕ → Holding → Type 0
-EndsUnused size log keeper = (log ≡ first_offset) × (lasting_of keeper ≡ none_lasting size)
+abbrev pub EndsUnused : Beside → PathSize → ℕ → Holding → Type 0
+EndsUnused o size log keeper = (log ≡ first_offset) × (lasting_of keeper ≡ none_lasting o size)

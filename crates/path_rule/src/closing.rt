@@ -4,6 +4,7 @@ ghost use Rattle.std.specs.Slots.{slots_items, slots_len, IsFull};
 ghost use mathlib.Core.Option.{some};
 ghost use lib.ListN.{get_elem?};
 ghost use Rattle.path_rule.specs.FirstBoxes.{HasInFront};
+ghost use Rattle.path_rule.specs.Lasts.{beside_of};
 ghost use Rattle.path_rule.specs.Members.{
   view_of,
   part_of,
@@ -81,14 +82,14 @@ impl<K: Keeper + Drop> PathTable<K, Global> {
     /// Closes the table by a seat that took in all others. It answers the keeper and the log key,
     /// and what the path was: one run of the machine, in which each seat's steps are its own, and
     /// which ends in a lawful state with that log key, of which the keeper holds exactly what is
-    /// lasting.
+    /// lasting. Beside its log it has what the keeper had for which the table was opened.
     pub fn finish(self, member: Member<K>) -> (K, u64)
         requires table { (member.seat.table_id ≡ self.table.shared.table_id)
             × (boxes_of member ≡ []) }
         requires all { HasAll self.size.seats member.number (view_of member).returned }
         requires idle { ((part_of member).append ≡ None) × ((part_of member).sync ≡ None) }
-        ensures { Ended self.size (returned_of member ∷ (view_of member).returned) result.1
-            (K.holds result.0) }
+        ensures { Ended (beside_of (K.holds self.table.shared.key.first.value)) self.size
+            (returned_of member ∷ (view_of member).returned) result.1 (K.holds result.0) }
     {
         let PathTable { table, size: _ } = self;
         let Member { seat, number: _ } = member;

@@ -1,6 +1,35 @@
-//! What a keeper shows of the machine.
+//! What a keeper shows of the machine, and what it has beside its log. They are ghosts: no value of
+//! them is made.
+ghost use base.Fml.{ftrue};
+ghost use base.Stored.{Gv};
+ghost use Rattle.path_rule.specs.Codes.{itself};
+
 use path_core::EntryNote;
 use std::collections::LinkedList;
+use std::marker::Model;
+
+/// What a keeper has beside its log. No sync changes it.
+#[derive(Drop)]
+pub struct Beside {
+    /// How many tables there are.
+    pub tables: u64,
+    /// How many writers there may be.
+    pub writers: u64,
+    /// Whether a segment that it drops gets its archive name first.
+    pub archives: bool,
+    /// How many table files it has put.
+    pub files: u64,
+    /// Whether a table file was refused, and none was put since.
+    pub refused: bool,
+    /// How many segments have got their archive names.
+    pub archived: u64,
+    /// Its disk when it was opened, by the code of the disk's type.
+    pub ghost disk: { Gv } by { itself },
+}
+
+impl Model for Beside {
+    ghost also_owns = { λ _. ftrue };
+}
 
 /// What a keeper has made of the log.
 #[derive(Drop)]
@@ -23,4 +52,6 @@ pub struct Lasting {
     pub ordinals: u64,
     /// The id of the first one.
     pub base: u64,
+    /// What it has beside its log.
+    pub beside: Beside,
 }

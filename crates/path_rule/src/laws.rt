@@ -11,6 +11,7 @@ ghost use Rattle.path_core.specs.declared.state.Claim.{Claim};
 ghost use Rattle.path_core.specs.Keeper.{HasRisen};
 ghost use Rattle.path_core.specs.Lawful.{IsLawfulPath};
 ghost use Rattle.path_core.specs.Parts.{holds_turn, last_marker, seat_of};
+ghost use Rattle.path_rule.specs.declared.lasting.Beside.{Beside};
 ghost use Rattle.path_rule.specs.declared.slot.Slot.{Slot};
 ghost use Rattle.path_rule.specs.declared.view.PathSize.{PathSize};
 ghost use Rattle.path_rule.specs.declared.view.View.{View};
@@ -22,30 +23,34 @@ use path_core::Keeper;
 
 /// The state of the machine that the table shows is lawful.
 pub fn the_table_shows_a_lawful_state<K: Keeper>()
-    ensures { (size : PathSize) (s : State (Slot K) View) (r : Ruled (shows_of K.holds) size s)
+    ensures { (o : Beside) (size : PathSize) (s : State (Slot K) View)
+        (r : Ruled (shows_of K.holds) o size s)
         → IsLawfulPath r.core }
 {}
 
 /// While nobody holds the Sync turn, the desk is at home, and the keeper on it shows exactly what
 /// the machine has lasting.
 pub fn the_keeper_at_home_shows_what_is_lasting<K: Keeper>()
-    ensures { (size : PathSize) (s : State (Slot K) View) (r : Ruled (shows_of K.holds) size s)
+    ensures { (o : Beside) (size : PathSize) (s : State (Slot K) View)
+        (r : Ruled (shows_of K.holds) o size s)
         → ((w : ℕ) → holds_turn (seat_of r.core w) Turn.Sync ≡ false)
         → (y : Slot K) × (get_elem? s.homes desk_box ≡ some (some y))
-        × DeskIs (shows_of K.holds) y (shown size.at_open r.kept_to r.core) r.boxed.pending
-        r.boxed.progress }
+        × DeskIs (shows_of K.holds) y (shown o size.at_open r.kept_to r.core)
+        r.boxed.pending r.boxed.progress }
 {}
 
 /// The count of faults that a stopped log tells has risen since its keeper was opened. (That the
 /// keeper at home shows it: `the_keeper_at_home_shows_what_is_lasting`.)
 pub fn a_stopped_log_tells_a_count_that_has_risen<K: Keeper>()
-    ensures { (size : PathSize) (s : State (Slot K) View) (r : Ruled (shows_of K.holds) size s)
+    ensures { (o : Beside) (size : PathSize) (s : State (Slot K) View)
+        (r : Ruled (shows_of K.holds) o size s)
         → 0 < r.core.stopped → HasRisen size.at_open r.core.stopped }
 {}
 
 /// No two seats have one box.
 pub fn each_box_has_one_holder<K: Keeper>()
-    ensures { (size : PathSize) (s : State (Slot K) View) → Ruled (shows_of K.holds) size s
+    ensures { (o : Beside) (size : PathSize) (s : State (Slot K) View)
+        → Ruled (shows_of K.holds) o size s
         → (j i b : ℕ) (u v : View) → get_elem? s.views j ≡ some u → get_elem? s.views i ≡ some v
         → HoldsBox u b → HoldsBox v b → j ≡ i }
 {}
@@ -53,7 +58,8 @@ pub fn each_box_has_one_holder<K: Keeper>()
 /// Once all boxes behind the barrier of the last marker are gathered, each note up to that marker
 /// is lasting or lies on the desk: none is left in a box.
 pub fn gathering_reaches_the_last_marker<K: Keeper>()
-    ensures { (size : PathSize) (s : State (Slot K) View) (r : Ruled (shows_of K.holds) size s)
+    ensures { (o : Beside) (size : PathSize) (s : State (Slot K) View)
+        (r : Ruled (shows_of K.holds) o size s)
         → r.boxed.progress.gathered ≡ true → (c : Claim) (g : ℕ) → last_marker r.core ≡ Some c
         → c.barrier ≡ Some g → (n : EntryNote) → Contains r.core.notes n → n.end.0 ≤ c.start
         → Contains r.core.logged n.end.0 ⊎ Contains r.boxed.pending n }

@@ -43,7 +43,7 @@ mod writing;
 
 pub use advancing::Advance;
 pub use answer::SyncAnswer;
-pub use lasting::Lasting;
+pub use lasting::{Beside, Lasting};
 pub use laws::{
     a_stopped_log_tells_a_count_that_has_risen, each_box_has_one_holder,
     gathering_reaches_the_last_marker, the_keeper_at_home_shows_what_is_lasting,
@@ -54,7 +54,7 @@ pub use rule::PathRule;
 pub use slot::{Desk, Slot};
 pub use table::{Member, Opener, PathTable};
 pub use trying::{Begun, PathSeat, Seen};
-pub use view::{Hands, OwnStep, PathSize, Progress, Returned, Role, View};
+pub use view::{Hands, OwnStep, PathKey, PathSize, Progress, Returned, Role, View};
 pub use waiting::{Holder, Passed};
 
 #[cfg(test)]

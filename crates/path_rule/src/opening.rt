@@ -3,7 +3,7 @@ ghost use Rattle.std.specs.Prelude.{◌≡◌, ◌+◌, ◌<◌, ◌≤◌, [], 
 ghost use Rattle.path_rule.specs.Boxed.{AreFirst};
 ghost use Rattle.path_rule.specs.Boxes.{boxes, first_progress};
 ghost use Rattle.path_rule.specs.FirstBoxes.{AreEmpty, HasInFront};
-ghost use Rattle.path_rule.specs.Lasts.{shows_of, IsNew};
+ghost use Rattle.path_rule.specs.Lasts.{beside_of, shows_of, IsNew};
 ghost use Rattle.path_rule.specs.Layout.{first_words};
 ghost use Rattle.path_rule.specs.Members.{view_of, boxes_of};
 ghost use Rattle.path_rule.specs.Rule.{opener, new_seat, IsFit};
@@ -11,13 +11,14 @@ ghost use Rattle.path_rule.specs.Rule.{opener, new_seat, IsFit};
 use crate::plays::Deal;
 use crate::slot::{Desk, Slot};
 use crate::table::{Member, Opener, PathTable};
-use crate::view::{PathSize, Progress};
+use crate::view::{PathKey, PathSize, Progress};
 use crate::words::{FIRST_KEY, LOG, WORDS};
 use atomic_table::{Refused, Table};
 use clog_base::OutOfMemory;
 use path_core::Keeper;
 use std::alloc::{AllocError, Allocator, Global};
 use std::collections::LinkedList;
+use std::snapshot::Snapshot;
 
 // The boxes of a new table, without the keeper's desk: each holds no note.
 fn empty_boxes<K: Keeper + Drop>(alloc: Global, size: &PathSize) -> Result<Vec<Slot<K>>, AllocError>
@@ -57,7 +58,7 @@ fn first_boxes<K: Keeper + Drop>(
     requires few { size.now.seats ≤ 64 }
     requires keeper { IsNew size.now (K.holds keeper) }
     ensures boxes { IfOk result (λ v. (length v.items ≡ boxes size.now.seats)
-        × AreFirst (shows_of K.holds) size.now v.items) }
+        × AreFirst (shows_of K.holds) (beside_of (K.holds keeper)) size.now v.items) }
     ensures front { IfOk result (λ v. HasInFront keeper v.items) }
     ensures back { IfErr result (λ k. k ≡ keeper) }
 {
@@ -107,6 +108,7 @@ pub fn open<K: Keeper + Drop>(
 ) -> Result<(PathTable<K, Global>, Opener<K>), (K, OutOfMemory)>
     requires fit { IsFit size }
     requires keeper { IsNew size (K.holds keeper) }
+    ensures first { IfOk result (λ r. r.0.table.shared.key.first.value ≡ keeper) }
     ensures opened { IfOk result (λ r. (r.0.size ≡ size)
         × (r.1.seat.table_id ≡ r.0.table.shared.table_id) × (r.1.made ≡ 0)
         × (r.1.seat.me.0 ≡ opener 0 size)) }
@@ -115,11 +117,15 @@ pub fn open<K: Keeper + Drop>(
     let Ok(words) = first_words(alloc) else {
         return Err((keeper, OutOfMemory));
     };
+    let key = PathKey {
+        size,
+        first: Snapshot::of(&keeper),
+    };
     let boxes = match first_boxes(alloc, keeper, &size) {
         Ok(boxes) => boxes,
         Err(keeper) => return Err((keeper, OutOfMemory)),
     };
-    match Table::new(alloc, words.as_slice(), boxes, &size) {
+    match Table::new(alloc, words.as_slice(), boxes, &key) {
         Ok((table, seat)) => Ok((PathTable { table, size }, Opener { seat, made: 0 })),
         Err(Refused { slots }) => Err((keeper_back(slots), OutOfMemory)),
     }

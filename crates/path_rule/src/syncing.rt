@@ -82,9 +82,8 @@ impl<K: Keeper, A: Allocator> PathTable<K, A> {
             member.new
             × ((was : Was (view_of member.old) member.old.number
             (Put member.old.number Synced value))
-            × (shown self.now.size.at_open value (next_of was.core (Put member.old.number Synced
-            value))
-            ≡ lasting)) }
+            × (shown lasting.beside self.now.size.at_open value
+            (next_of was.core (Put member.old.number Synced value)) ≡ lasting)) }
         ensures give { MayGive (view_of member.old) → MayGive (view_of member.new) }
         ensures desk { CarriesDesk (shows_of K.holds) member.new.seat.me }
         ensures synced { IsSyncedTo (view_of member.new) value }

@@ -6,7 +6,7 @@ ghost use Rattle.path_rule.specs.Rule.{IsFit};
 
 use crate::rule::PathRule;
 use crate::slot::Slot;
-use crate::view::{PathSize, View};
+use crate::view::{PathKey, PathSize, View};
 use atomic_table::{Seat, Table};
 use path_core::Keeper;
 use std::alloc::Allocator;
@@ -14,9 +14,9 @@ use std::alloc::Allocator;
 /// The words and the boxes. Threads share it.
 #[derive(Drop)]
 pub struct PathTable<K: Keeper, A: Allocator> {
-    pub(crate) table: Table<Slot<K>, View, PathSize, PathRule<K>, A>,
+    pub(crate) table: Table<Slot<K>, View, PathKey<K>, PathRule<K>, A>,
     pub(crate) size: PathSize,
-    pub ghost keyed: { table.shared.key ≡ size },
+    pub ghost keyed: { table.shared.key.size ≡ size },
     pub ghost wide: { table.shared.table_id.words ≡ 135240 },
     pub ghost deep: { table.shared.table_id.slots ≡ boxes size.seats },
     pub ghost fits: { IsFit size },

@@ -1,5 +1,6 @@
 //! A table of which no seat was handed out is closed by the seat that would have done so.
 ghost use Rattle.std.specs.Prelude.{◌≡◌};
+ghost use Rattle.path_rule.specs.Lasts.{beside_of};
 ghost use Rattle.path_rule.specs.Sharing.{EndsUnused};
 
 use crate::closing::keeper_and_log;
@@ -13,7 +14,8 @@ impl<K: Keeper + Drop> PathTable<K, Global> {
     pub fn finish_unused(self, opener: Opener<K>) -> (K, u64)
         requires table { opener.seat.table_id ≡ self.table.shared.table_id }
         requires unused { opener.made ≡ 0 }
-        ensures { EndsUnused self.size result.1 (K.holds result.0) }
+        ensures { EndsUnused (beside_of (K.holds self.table.shared.key.first.value)) self.size
+            result.1 (K.holds result.0) }
     {
         let PathTable { table, size: _ } = self;
         let Opener { seat, made: _ } = opener;

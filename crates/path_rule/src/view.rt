@@ -3,6 +3,7 @@
 use crate::lasting::Lasting;
 use path_core::{EntryNote, Event, LastMarker, Seat};
 use std::collections::LinkedList;
+use std::snapshot::Snapshot;
 
 /// What a path is told when it is opened: the sizes of the machine, and what its keeper's disk had
 /// counted.
@@ -20,6 +21,15 @@ pub struct PathSize {
     pub base: u64,
     /// The count of faults of the keeper's disk when the keeper was opened.
     pub at_open: u64,
+}
+
+/// What a table is opened for: its sizes, and its keeper as it was then.
+#[derive(Drop)]
+pub struct PathKey<K> {
+    /// The sizes.
+    pub size: PathSize,
+    /// The keeper. Only contracts read it.
+    pub first: Snapshot<K>,
 }
 
 /// What a seat of the table is for.

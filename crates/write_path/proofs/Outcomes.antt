@@ -14,8 +14,10 @@ use Rattle.std.proofs.Common.{
   ◌++◌,
   map,
   length,
+  Option,
   Some,
   None,
+  is_some,
   refl,
   sym,
   ap,
@@ -45,10 +47,18 @@ use Rattle.path_core.specs.declared.seat.Seat.{Seat}
 use Rattle.path_core.specs.Parts.{fresh_seat, no_claim, seat_of}
 use Rattle.path_core.proofs.frame.Runs.{past_sizes}
 use Rattle.path_core.proofs.log.History.{is_history}
+use Rattle.path_rule.specs.declared.lasting.Beside.{Beside}
 use Rattle.path_rule.specs.declared.lasting.Lasting.{Lasting}
 use Rattle.path_rule.specs.declared.trying.PathSeat.{PathSeat}
 use Rattle.path_rule.specs.declared.view.PathSize.{PathSize}
-use Rattle.path_rule.specs.Lasts.{lasting_of, shown, none_lasting, stopped_with, fault_count}
+use Rattle.path_rule.specs.Lasts.{
+  beside_of,
+  lasting_of,
+  shown,
+  none_lasting,
+  stopped_with,
+  fault_count,
+}
 use Rattle.path_rule.specs.Members.{view_of, part_of}
 use Rattle.path_rule.specs.Rule.{start_of, event_of, steps_by}
 use Rattle.path_rule.specs.Sharing.{EndsUnused}
@@ -56,6 +66,7 @@ use Rattle.write_path.specs.Closed.{
   EndsBy,
   IsOfSize,
   IsOutcome,
+  StaysBeside,
   IsStoppedFor,
   IsSyncedFor,
   all_writes,
@@ -125,10 +136,11 @@ module _ {K : Type 0} (size : PathSize) where
       All-cons Q s seats (each s (All-head P s seats all))
       (known_of x P Q each seats (All-tail P s seats all))
 
-  pub outcome : (seats : List (PathSeat K)) (end : ℕ) (h : Holding) → EndsBy size seats end h
+  pub outcome : (o : Beside) (seats : List (PathSeat K)) (end : ℕ) (h : Holding)
+      → EndsBy o size seats end h
       → IsPermutation (range_with_len 0 size.seats) (numbers_of seats)
       → IsOutcome size seats end h
-  outcome seats end h E all = let e = E.ended in let x = e.core in let L = e.lawful in
+  outcome o seats end h E all = let e = E.ended in let x = e.core in let L = e.lawful in
       let z = past_sizes e.events (start_of size) x e.run in
       let same = e.lasting_is in
       let synced : h.synced ≡ x.synced = ap (λ (k : Lasting). k.synced) same in
@@ -181,7 +193,7 @@ module _ {K : Type 0} (size : PathSize) where
             (ap (λ (k : Lasting). k.stopped) same) in
             subst (λ (q : ℕ × ℕ). HasRisen q.0 q.1)
             (λ i. (sym (ap (λ (k : Lasting). k.at_open) same) i, t.1 i)) (e.risen t.0);
-        sized = sized_as size (shown size.at_open e.kept_to x) h same z.base z.capacity z.ordinals
+        sized = sized_as size (shown o size.at_open e.kept_to x) h same z.base z.capacity z.ordinals
             refl;
       }
 
@@ -189,9 +201,9 @@ module _ {K : Type 0} (size : PathSize) where
   no_seat [] e = refl
   no_seat (s ∷ seats) e = absurd (let q = ap (λ (l : List ℕ). length l) e in omega arith)
 
-  pub unused_outcome : (seats : List (PathSeat K)) (end : ℕ) (h : Holding) → numbers_of seats ≡ []
-      → EndsUnused size end h → IsOutcome size seats end h
-  unused_outcome seats end h none_there U = let same = U.1 in
+  pub unused_outcome : (o : Beside) (seats : List (PathSeat K)) (end : ℕ) (h : Holding)
+      → numbers_of seats ≡ [] → EndsUnused o size end h → IsOutcome size seats end h
+  unused_outcome o seats end h none_there U = let same = U.1 in
       let synced : h.synced ≡ 0 = ap (λ (k : Lasting). k.synced) same in record {
         core = start_of size;
         events = [];
@@ -222,5 +234,29 @@ module _ {K : Type 0} (size : PathSize) where
         kept = ap (λ (k : Lasting). k.kept) same;
         stopped = λ is. absurd (none_told h.stopped h.faults is
             (ap (λ (k : Lasting). k.stopped) same));
-        sized = sized_as size (none_lasting size) h same refl refl refl refl;
+        sized = sized_as size (none_lasting o size) h same refl refl refl refl;
       }
+
+-- ---- what a keeper has beside its log
+
+-- None where the other is none.
+none_too : {T : Type 0} (a b : Option T) → is_some b ≡ is_some a → a ≡ None → b ≡ None
+none_too None None same is = refl
+none_too None (Some y) same is = absurd (false≢true (sym same))
+none_too (Some x) b same is = absurd (let q : Some x ≡ None = is in cc)
+
+-- nothing where there was nothing
+void_too : {T : Type 0} (a b : List T) → length b ≡ length a → a ≡ [] → b ≡ []
+void_too [] [] same is = refl
+void_too [] (y ∷ b) same is = absurd (omega arith)
+void_too (x ∷ a) b same is = absurd (let q = ap (λ (l : List _). length l) is in omega arith)
+
+pub stays_beside : (first h : Holding) → beside_of h ≡ beside_of first → StaysBeside first h
+stays_beside first h same = record {
+  disk_is = ap (λ (b : Beside). b.disk) same;
+  archives_are = ap (λ (b : Beside). b.archives) same;
+  tables_are = ap (λ (b : Beside). b.tables) same;
+  no_file = void_too first.files h.files (ap (λ (b : Beside). b.files) same);
+  none_refused = none_too first.refused h.refused (ap (λ (b : Beside). b.refused) same);
+  none_archived = void_too first.archived h.archived (ap (λ (b : Beside). b.archived) same);
+}

@@ -13,6 +13,7 @@ use Rattle.path_core.specs.Next.{is_between}
 use Rattle.path_core.specs.Parts.{seat_of}
 use Rattle.path_core.specs.Runs.{Past}
 use Rattle.path_core.specs.Whole.{IsWhole}
+use Rattle.path_rule.specs.declared.lasting.Beside.{Beside}
 use Rattle.path_rule.specs.declared.table.Opener.{Opener}
 use Rattle.path_rule.specs.declared.trying.PathSeat.{PathSeat}
 use Rattle.path_rule.specs.declared.view.PathSize.{PathSize}
@@ -44,10 +45,10 @@ module _ {K : Type 0} where
   all_writes seats = flat_map (λ (s : PathSeat K). writes_of s.member.seat.me.0.trail) seats
 
 -- The path ended in one run of the machine, in which each of these seats' steps are its own.
-pub record EndsBy {K : Type 0} (size : PathSize) (seats : List (PathSeat K)) (end : ℕ)
-    (h : Holding) : Type 0 where
+pub record EndsBy {K : Type 0} (beside : Beside) (size : PathSize) (seats : List (PathSeat K))
+    (end : ℕ) (h : Holding) : Type 0 where
   pub returned : List Returned
-  pub ended : Ended size returned end h
+  pub ended : Ended beside size returned end h
   pub own : All (λ (s : PathSeat K). map event_of (view_of s.member).trail
       ≡ steps_by s.member.number ended.events) seats
   -- and each seat's part is the machine's
@@ -62,6 +63,16 @@ IsSyncedFor h s = (key : ℕ) → (part_of s.member).found.synced ≡ Some key �
 abbrev pub IsStoppedFor : {K : Type 0} → Holding → PathSeat K → Type 0
 IsStoppedFor h s = (n : ℕ) → (part_of s.member).found.stopped ≡ Some n → 0 < n
     → (h.stopped ≡ true) × (h.faults ≡ n)
+
+-- The keeper that a path gives back has beside its log what the one had over which it was opened:
+-- the same disk at the opening, and no table file and no archive name where there was none.
+pub record StaysBeside (first h : Holding) : Type 0 where
+  pub disk_is : h.opening.disk ≡ first.opening.disk
+  pub archives_are : h.opening.archives ≡ first.opening.archives
+  pub tables_are : h.sizes.tables ≡ first.sizes.tables
+  pub no_file : first.files ≡ [] → h.files ≡ []
+  pub none_refused : first.refused ≡ None → h.refused ≡ None
+  pub none_archived : first.archived ≡ [] → h.archived ≡ []
 
 -- The keeper is of these sizes, and of the opening with this count of faults.
 pub record IsOfSize (size : PathSize) (h : Holding) : Type 0 where

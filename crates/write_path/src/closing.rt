@@ -2,11 +2,13 @@
 ghost use Rattle.std.specs.Prelude.{◌≡◌, ◌++◌, reverse};
 ghost use Rattle.std.specs.List.{range_with_len};
 ghost use Rattle.std.specs.List.Sorted.{IsPermutation};
+ghost use Rattle.path_rule.specs.Lasts.{beside_of};
 ghost use Rattle.path_rule.specs.Members.{view_of, part_of, boxes_of, IsOf};
 ghost use Rattle.write_path.specs.Closed.{
   AreAll,
   AreOf,
   EndsBy,
+  StaysBeside,
   returned_by,
   IsOutcome,
 };
@@ -51,7 +53,8 @@ fn join_all<K: Keeper, A: Allocator>(
 fn close_by_all<K: Keeper + Drop>(table: PathTable<K, Global>, seats: Vec<PathSeat<K>>) -> (K, u64)
     requires seats { AreOf table.table.shared.table_id table.size seats.items }
     requires all { IsPermutation (range_with_len 0 table.size.seats) (numbers_of seats.items) }
-    ensures { EndsBy table.size seats.items result.1 (K.holds result.0) }
+    ensures { EndsBy (beside_of (K.holds table.table.shared.key.first.value)) table.size seats.items
+        result.1 (K.holds result.0) }
 {
     let mut seats = seats;
     match seats.pop() {
@@ -66,11 +69,14 @@ fn close_by_all<K: Keeper + Drop>(table: PathTable<K, Global>, seats: Vec<PathSe
 impl<K: Keeper + Drop> WritePath<K, Global> {
     /// Closes the path with all of its seats, or with none where they were not handed out. It gives
     /// the keeper back, and where the log ends: what the seats wrote, together, is a lawful
-    /// history, and the keeper has its part up to the synced key.
+    /// history, and the keeper has its part up to the synced key. It goes back to the disk of the
+    /// keeper over which the path was opened.
     pub fn close(self, seats: Vec<PathSeat<K>>) -> (K, Outcome)
         requires seats { AreOf self.table.table.shared.table_id self.table.size seats.items }
         requires all { AreAll self.opener self.table.size.seats (numbers_of seats.items) }
-        ensures { IsOutcome self.table.size seats.items result.1.end.0 (K.holds result.0) }
+        ensures outcome { IsOutcome self.table.size seats.items result.1.end.0 (K.holds result.0) }
+        ensures beside { StaysBeside (K.holds self.table.table.shared.key.first.value)
+            (K.holds result.0) }
     {
         let WritePath { table, opener } = self;
         let (keeper, end) = match opener {

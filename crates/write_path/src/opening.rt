@@ -55,6 +55,7 @@ impl<K: Keeper + Drop> WritePath<K, Global> {
         requires { IsFresh base sizes (K.holds keeper) }
         ensures opened { IfOk result (λ p. (IsSome p.opener)
             × (p.table.size ≡ size_of sizes base (K.holds keeper).at_open)) }
+        ensures first { IfOk result (λ p. p.table.table.shared.key.first.value ≡ keeper) }
         ensures back { IfErr result (λ r. ShowsAsBefore (K.holds keeper) (K.holds r.0)) }
     {
         let size = size_of(sizes, base, keeper.at_open());

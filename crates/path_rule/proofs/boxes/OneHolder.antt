@@ -28,6 +28,7 @@ use Rattle.path_core.specs.declared.seat.Seat.{Seat}
 use Rattle.path_core.specs.declared.state.PathState.{PathState}
 use Rattle.path_core.specs.Lawful.{IsLawfulPath}
 use Rattle.path_core.specs.Parts.{seat_of, holds_turn}
+use Rattle.path_rule.specs.declared.lasting.Beside.{Beside}
 use Rattle.path_rule.specs.declared.lasting.Lasting.{Lasting}
 use Rattle.path_rule.specs.declared.slot.Slot.{Slot}
 use Rattle.path_rule.specs.declared.view.Hands.{Hands}
@@ -57,16 +58,16 @@ own_group : (z b : ℕ) (o : Option ℕ) → HasOwn z o b
 own_group z b None h = absurd h
 own_group z b (Some g) h = (g, refl, h)
 
-module _ {K : Type 0} (shows : K → Lasting) (size : PathSize) (s : State (Slot K) View)
-    (r : Ruled shows size s) where
+module _ {K : Type 0} (shows : K → Lasting) (o : Beside) (size : PathSize) (s : State (Slot K) View)
+    (r : Ruled shows o size s) where
   abbrev x : PathState
   x = r.core
 
   abbrev law : IsLawfulPath x
-  law = core_lawful shows size s r
+  law = core_lawful shows o size s r
 
   abbrev KnowsHands : ℕ → Seat → Hands → Type 0
-  KnowsHands z p h = HandsAre r.boxed.contents (shown size.at_open r.kept_to x) r.boxed.pending
+  KnowsHands z p h = HandsAre r.boxed.contents (shown o size.at_open r.kept_to x) r.boxed.pending
       r.boxed.progress
       x.append
       size.seats z p h
@@ -143,7 +144,7 @@ module _ {K : Type 0} (shows : K → Lasting) (size : PathSize) (s : State (Slot
   Told n ρ t = Knows x r.events r.owner r.made r.boss n ρ t.part t.trail t.returned
 
   abbrev Hand : Role → View → Type 0
-  Hand ρ t = HandsAs r.boxed.contents (shown size.at_open r.kept_to x) r.boxed.pending
+  Hand ρ t = HandsAs r.boxed.contents (shown o size.at_open r.kept_to x) r.boxed.pending
       r.boxed.progress x.append
       size.seats t.part t.hands ρ
 

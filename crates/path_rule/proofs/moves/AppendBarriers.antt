@@ -39,6 +39,7 @@ use Rattle.path_core.specs.Allowed.{IsStep}
 use Rattle.path_core.specs.Next.{next_of}
 use Rattle.path_core.specs.Parts.{tally_of, issue_of}
 use Rattle.path_core.proofs.frame.Seats.{current_is_made}
+use Rattle.path_rule.specs.declared.lasting.Beside.{Beside}
 use Rattle.path_rule.specs.declared.lasting.Lasting.{Lasting}
 use Rattle.path_rule.specs.declared.slot.Slot.{Slot}
 use Rattle.path_rule.specs.declared.view.PathSize.{PathSize}
@@ -70,29 +71,29 @@ use Rattle.path_rule.proofs.moves.Moving.{core_lawful, was, plays}
 use Rattle.path_rule.proofs.places.ReadBack.{rows_stay, count_small}
 use Rattle.path_rule.proofs.seats.HolderKnows.{still}
 
-module _ {K : Type 0} (shows : K → Lasting) (size : PathSize) (slots id : ℕ)
+module _ {K : Type 0} (shows : K → Lasting) (o : Beside) (size : PathSize) (slots id : ℕ)
     (m : Me (Slot K) View) (w : ℕ) (mine : m.0.role ≡ Steps w) where
   pub expires : (g c : ℕ) → issue_of m.0.part ≡ Moved Append → TurnSaw Append m.0.part c → suc g ≡ c
       → m.0.hands.box_taken ≡ None → g < 65536
-      → Allows (Ruled shows size) slots id m (73 + 2 * g) (λ n. (n + 2 ^ 63) % 2 ^ 64)
+      → Allows (Ruled shows o size) slots id m (73 + 2 * g) (λ n. (n + 2 ^ 63) % 2 ^ 64)
       (AppendExpired (step slots (73 + 2 * g) (2 ^ 63) 0 none) m)
   expires g c doing saw up empty fits s r _ there low = let n = slice_index s.words (73 + 2 * g) in
       let x = r.core in let k = tally_of x Append g in
       let found : n ≡ tally_word k = r.words (Count Append g) fits in
       let e = Expire w Append g in let v' = view_after m.0 e n false in
-      let law = core_lawful shows size s r in
+      let law = core_lawful shows o size s r in
       let t = at_issue m.0.part (Moved Append) (λ q. cc) doing in
       let held = is_held m.0.part.sync t.0 t.1 in
-      let now = current_is shows size slots id m w mine s r there held c saw in
-      let is = issue_at shows size slots id m w mine s r there held (Moved Append) t.0 t.1 t.2 in
+      let now = current_is shows o size slots id m w mine s r there held c saw in
+      let is = issue_at shows o size slots id m w mine s r there held (Moved Append) t.0 t.1 t.2 in
       let G = (law.orders.counts_stand_for_seats Append).each g in
       let unclosed = G.replaced is (up ∙ now) in let more = current_is_made x law Append in
       let made : g < length x.append.tallies = omega arith in
       let may : IsStep x e = record {
-        seat = within shows size slots id m w mine s r there;
+        seat = within shows o size slots id m w mine s r there;
         is_there = made;
         row = (
-          own_part shows size slots id m w mine s r there issue_of
+          own_part shows o size slots id m w mine s r there issue_of
               (Moved Append) doing,
           up ∙ now,
           unclosed,
@@ -101,35 +102,36 @@ module _ {K : Type 0} (shows : K → Lasting) (size : PathSize) (slots id : ℕ)
       let told = ap (λ z. (z + 2 ^ 63) % 2 ^ 64) found
       ∙ expired_word k unclosed (count_small x law Append g) in
       let rows = rows_stay x e may (λ q. q) r.rows in
-      let out = outside shows size slots id m w mine s r there held in
+      let out = outside shows o size slots id m w mine s r there held in
       let H = hands_of s r there in (
         v',
         keeps,
         tt,
-        plays shows size s r id w m.0 there mine e refl may tt tt fits rows
+        plays shows o size s r id w m.0 there mine e refl may tt tt fits rows
             ((n + 2 ^ 63) % 2 ^ 64) n false m.0.hands told refl m.1 keeps
-            (boxed_goes shows size.seats x.notes (shown size.at_open r.kept_to x) x.claims x.claims
+            (boxed_goes shows size.seats x.notes (shown o size.at_open r.kept_to x) x.claims
+            x.claims
             x.append
             (next_of x e).append s.homes s.views r.boxed id w m.0 v' there mine refl out out
             held (still_held m.0.part held)
-            (others_free shows size slots id m w mine s r there held)
-            (others_near shows size slots id m w mine s r there held)
+            (others_free shows o size slots id m w mine s r there held)
+            (others_near shows o size slots id m w mine s r there held)
             r.boxed.progress empty empty (H.desk held) r.boxed.near r.boxed.all r.boxed.marked
             r.boxed.stamped (λ l. let S = H.swept l in
             record { holds = still_held m.0.part held; passed = S.passed; empty = S.empty })),
-        (λ z q role _ word. each_name shows size slots id m w mine 73 g
+        (λ z q role _ word. each_name shows o size slots id m w mine 73 g
             (λ z q. Made z (Expire z Append q) n m (v', m.1))
-            ((refl, was shows size s r id w m.0 there mine e may tt), refl) z q role word),
+            ((refl, was shows o size s r id w m.0 there mine e may tt), refl) z q role word),
       )
     where
-      hands_of : (s : State (Slot K) View) (r : Ruled shows size s)
+      hands_of : (s : State (Slot K) View) (r : Ruled shows o size s)
           → get_elem? s.views id ≡ some m.0
-          → HandsAre r.boxed.contents (shown size.at_open r.kept_to r.core) r.boxed.pending
+          → HandsAre r.boxed.contents (shown o size.at_open r.kept_to r.core) r.boxed.pending
           r.boxed.progress
           r.core.append
           size.seats w m.0.part m.0.hands
       hands_of s r there = subst (HandsAs r.boxed.contents
-          (shown size.at_open r.kept_to r.core) r.boxed.pending r.boxed.progress r.core.append
+          (shown o size.at_open r.kept_to r.core) r.boxed.pending r.boxed.progress r.core.append
           size.seats
           m.0.part
           m.0.hands) mine (r.boxed.in_hands id m.0 there)
@@ -143,55 +145,57 @@ module _ {K : Type 0} (shows : K → Lasting) (size : PathSize) (slots id : ℕ)
           by None h = h
           by (Some t) h = refl
 
-  pub advances : (g o c : ℕ) (t : SyncTurn) → m.0.part.sync ≡ Some t → t.append.current ≡ Some c
-      → t.append.oldest ≡ Some o → t.append.finished ≡ Some o → g ≡ suc o → g ≤ c
+  pub advances : (g d c : ℕ) (t : SyncTurn) → m.0.part.sync ≡ Some t → t.append.current ≡ Some c
+      → t.append.oldest ≡ Some d → t.append.finished ≡ Some d → g ≡ suc d → g ≤ c
       → m.0.hands.box_taken ≡ None
-      → Allows (Ruled shows size) slots id m 3 (λ _. g)
+      → Allows (Ruled shows o size) slots id m 3 (λ _. g)
       (λ _. AppendAdvanced (step slots 3 g 0 none) m g)
-  advances g o c t sync saw old gone up le empty s r _ there _ = let x = r.core in
+  advances g d c t sync saw old gone up le empty s r _ there _ = let x = r.core in
       let e = Advance w Append g in let v' = view_after m.0 e g false in
-      let law = core_lawful shows size s r in let held = is_held m.0.part.sync t sync in
-      let X = exact shows size slots id m w mine s r there held t sync in
+      let law = core_lawful shows o size s r in let held = is_held m.0.part.sync t sync in
+      let X = exact shows o size slots id m w mine s r there held t sync in
       let now = X.current c saw in
-      let last = X.oldest o old in let more = current_is_made x law Append in
+      let last = X.oldest d old in let more = current_is_made x law Append in
       let made : g < length x.append.tallies = omega arith in
       let may : IsStep x e = record {
-        seat = within shows size slots id m w mine s r there;
+        seat = within shows o size slots id m w mine s r there;
         is_there = made;
         row = (
-          has shows size slots id m w mine s r there held,
+          has shows o size slots id m w mine s r there held,
           up
               ∙ ap suc last,
           (omega arith),
-          ap (tally_of x Append) (sym last) ∙ X.finished o gone,
+          ap (tally_of x Append) (sym last) ∙ X.finished d gone,
         );
       } in
-      let out = outside shows size slots id m w mine s r there held in
-      let H = hands_now shows size slots id m w mine s r there in (
+      let out = outside shows o size slots id m w mine s r there held in
+      let H = hands_now shows o size slots id m w mine s r there in (
         v',
         keeps,
         tt,
-        plays shows size s r id w m.0 there mine e refl may tt tt tt
+        plays shows o size s r id w m.0 there mine e refl may tt tt tt
             (rows_stay x e may (λ q. q) r.rows) g g false m.0.hands refl refl m.1 keeps
-            (boxed_goes shows size.seats x.notes (shown size.at_open r.kept_to x) x.claims x.claims
+            (boxed_goes shows size.seats x.notes (shown o size.at_open r.kept_to x) x.claims
+            x.claims
             x.append
             (next_of x e).append s.homes s.views r.boxed id w m.0 v' there mine refl out out
             held (still _ m.0.part.sync held)
-            (others_free shows size slots id m w mine s r there held)
-            (others_near shows size slots id m w mine s r there held)
+            (others_free shows o size slots id m w mine s r there held)
+            (others_near shows o size slots id m w mine s r there held)
             r.boxed.progress empty empty (H.desk held) (let b = r.boxed.near in omega arith)
             (λ all. absurd (let p = r.boxed.all all in omega arith)) r.boxed.marked
             r.boxed.stamped (λ l. absurd (let p = (H.swept l).passed in omega arith))),
-        each_seat_name shows size slots id m w mine (λ z. Made z (Advance z Append g) g m (v', m.1))
-            ((refl, was shows size s r id w m.0 there mine e may tt), refl),
+        each_seat_name shows o size slots id m w mine (λ z. Made z (Advance z Append g) g m
+            (v', m.1))
+            ((refl, was shows o size s r id w m.0 there mine e may tt), refl),
       )
 
   -- the same, told by what was found
-  pub advances_at : (g o c : ℕ) → TurnSaw Append m.0.part c → TurnOld Append m.0.part o
-      → TurnGone Append m.0.part o → g ≡ suc o → g ≤ c → m.0.hands.box_taken ≡ None
-      → Allows (Ruled shows size) slots id m 3 (λ _. g)
+  pub advances_at : (g d c : ℕ) → TurnSaw Append m.0.part c → TurnOld Append m.0.part d
+      → TurnGone Append m.0.part d → g ≡ suc d → g ≤ c → m.0.hands.box_taken ≡ None
+      → Allows (Ruled shows o size) slots id m 3 (λ _. g)
       (λ _. AppendAdvanced (step slots 3 g 0 none) m g)
-  advances_at g o c saw old gone = advances g o c saw.0 saw.1 saw.2
+  advances_at g d c saw old gone = advances g d c saw.0 saw.1 saw.2
       (ap (λ (t : SyncTurn). t.append.oldest) (same (sym saw.1 ∙ old.1)) ∙ old.2)
       (ap (λ (t : SyncTurn). t.append.finished) (same (sym saw.1 ∙ gone.1)) ∙ gone.2)
     where

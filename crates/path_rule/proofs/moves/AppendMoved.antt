@@ -54,6 +54,7 @@ use Rattle.path_core.proofs.log.MarkerSteps.{
   barred_is_marker,
 }
 use Rattle.path_core.proofs.log.MarkerTells.{marker_exact}
+use Rattle.path_rule.specs.declared.lasting.Beside.{Beside}
 use Rattle.path_rule.specs.declared.lasting.Lasting.{Lasting}
 use Rattle.path_rule.specs.declared.slot.Slot.{Slot}
 use Rattle.path_rule.specs.declared.view.Hands.{Hands}
@@ -85,7 +86,7 @@ use Rattle.path_rule.proofs.moves.Moving.{core_lawful, was, plays}
 use Rattle.path_rule.proofs.places.ReadBack.{rows_stay}
 use Rattle.path_rule.proofs.seats.HolderKnows.{still}
 
-module _ {K : Type 0} (shows : K → Lasting) (size : PathSize) (slots id : ℕ)
+module _ {K : Type 0} (shows : K → Lasting) (o : Beside) (size : PathSize) (slots id : ℕ)
     (m : Me (Slot K) View) (w : ℕ) (mine : m.0.role ≡ Steps w) where
   -- A marker that gets its barrier.
   module _ (group : ℕ) (c : Claim) where
@@ -128,68 +129,69 @@ module _ {K : Type 0} (shows : K → Lasting) (size : PathSize) (slots id : ℕ)
   pub moves : (g c start : ℕ) → MarkerWaits w m.0.part start → issue_of m.0.part ≡ Opened Append
       → TurnSaw Append m.0.part c → g ≡ suc c → m.0.hands.progress.gathered ≡ true
       → m.0.hands.box_taken ≡ None
-      → Allows (Ruled shows size) slots id m 1 (λ _. g)
+      → Allows (Ruled shows o size) slots id m 1 (λ _. g)
       (λ _. AppendMoved (step slots 1 g 0 none) m g)
   moves g c start waits doing saw up all empty s r _ there _ = let x = r.core in
       let e = MoveCurrent w Append g in
       let h = with_desk m.0.hands.lasting m.0.hands.pending
       (barred c m.0.hands.progress) m.0.hands in let v' = view_after (with_hands h m.0) e c false in
-      let law = core_lawful shows size s r in
+      let law = core_lawful shows o size s r in
       let t = at_issue m.0.part (Opened Append) (λ q. cc) doing in
       let held = is_held m.0.part.sync t.0 t.1 in
-      let now = current_is shows size slots id m w mine s r there held c saw in
-      let is = issue_at shows size slots id m w mine s r there held (Opened Append) t.0 t.1 t.2 in
+      let now = current_is shows o size slots id m w mine s r there held c saw in
+      let is = issue_at shows o size slots id m w mine s r there held (Opened Append) t.0 t.1 t.2 in
       let long : length x.append.tallies ≡ suc (suc x.append.current) =
       (law.orders.made_groups Append).made ∙ ap (λ i. made_at i Append x.append.current) is in
       let made : g < length x.append.tallies = omega arith in
       let may : IsStep x e = record {
-        seat = within shows size slots id m w mine s r there;
+        seat = within shows o size slots id m w mine s r there;
         is_there = made;
         row = (
-          own_part shows size slots id m w mine s r there issue_of
+          own_part shows o size slots id m w mine s r there issue_of
               (Opened Append) doing,
           up ∙ ap suc now,
         );
       } in
-      let out = outside shows size slots id m w mine s r there held in
-      let H = hands_now shows size slots id m w mine s r there in let D = H.desk held in
+      let out = outside shows o size slots id m w mine s r there held in
+      let H = hands_now shows o size slots id m w mine s r there in let D = H.desk held in
       let whole : r.boxed.progress.gathered ≡ true =
       ap (λ (k : Progress). k.gathered) (sym D.2) ∙ all in
       let kept = r.boxed.marked ∙ ap (λ (k : Progress). k.marker) (sym D.2) in
       let marked = subst (λ k. last_kept (next_of x e).claims
       ≡ (barred k m.0.hands.progress).marker) (sym now)
       (now_barred x law start g m.0.hands
-      (own_part shows size slots id m w mine s r there marker_of
+      (own_part shows o size slots id m w mine s r there marker_of
       (Some (record { by = w; start = start; barrier = None })) waits) kept) in (
         v',
         keeps,
         tt,
-        plays shows size s r id w m.0 there mine e refl may tt tt tt
+        plays shows o size s r id w m.0 there mine e refl may tt tt tt
             (rows_stay x e may (λ q. q) r.rows) g c false h refl
             (ap (λ k. seat_after m.0.part e (Number k) (told_by false h)) now) m.1 keeps
-            (boxed_goes shows size.seats x.notes (shown size.at_open r.kept_to x) x.claims (next_of
+            (boxed_goes shows size.seats x.notes (shown o size.at_open r.kept_to x) x.claims
+            (next_of
             x e).claims
             x.append
             (next_of x e).append s.homes s.views r.boxed id w m.0 v' there mine refl out out
             held (still _ m.0.part.sync held)
-            (others_free shows size slots id m w mine s r there held)
-            (others_near shows size slots id m w mine s r there held)
+            (others_free shows o size slots id m w mine s r there held)
+            (others_near shows o size slots id m w mine s r there held)
             (barred c m.0.hands.progress) empty empty (D.0, D.1, refl)
             (let p = r.boxed.all whole in omega arith) (λ no. absurd (false≢true no)) marked
             (λ b n q. moved s r g b n (up ∙ ap suc now) whole q) (λ l. absurd (omega arith))),
         (λ z c' role saw'. let same : c ≡ c' = now
-            ∙ sym (current_is shows size slots id m w mine s r there held c' saw') in
-            each_seat_name shows size slots id m w mine
+            ∙ sym (current_is shows o size slots id m w mine s r there held c' saw') in
+            each_seat_name shows o size slots id m w mine
             (λ z. MadeAs z (MoveCurrent z Append g) c'
             (with_desk m.0.hands.lasting m.0.hands.pending
             (barred c' m.0.hands.progress) m.0.hands) m.0 v' × (m.1 ≡ m.1))
             (subst (λ k. MadeAs w (MoveCurrent w Append g) k
             (with_desk m.0.hands.lasting m.0.hands.pending
             (barred k m.0.hands.progress) m.0.hands) m.0 v' × (m.1 ≡ m.1)) same
-            ((refl, was shows size s r id w m.0 there mine e may tt), refl)) z role),
+            ((refl, was shows o size s r id w m.0 there mine e may tt), refl)) z role),
       )
     where
-      moved : (s : State (Slot K) View) (r : Ruled shows size s) (g b : ℕ) (n : EntryNote)
+      moved : (s : State (Slot K) View) (r : Ruled shows o size s) (g b : ℕ) (n : EntryNote)
           → g ≡ suc r.core.append.current → r.boxed.progress.gathered ≡ true
           → Contains (r.boxed.contents b) n
           → Stamped (map (barred_marker w r.core.append.current) r.core.claims) g false b

@@ -34,6 +34,7 @@ use Rattle.path_core.specs.Next.{next_of}
 use Rattle.path_core.specs.Parts.{groups_of, issue_of, marker_of}
 use Rattle.path_core.proofs.frame.Seats.{at_rest}
 use Rattle.path_core.proofs.log.MarkerTells.{own_wants}
+use Rattle.path_rule.specs.declared.lasting.Beside.{Beside}
 use Rattle.path_rule.specs.declared.lasting.Lasting.{Lasting}
 use Rattle.path_rule.specs.declared.slot.Slot.{Slot}
 use Rattle.path_rule.specs.declared.view.PathSize.{PathSize}
@@ -49,56 +50,56 @@ use Rattle.path_rule.proofs.moves.Moving.{core_lawful, was, plays}
 use Rattle.path_rule.proofs.moves.TurnFacts.{now_is, unseen}
 use Rattle.path_rule.proofs.seats.HolderKnows.{still}
 
-module _ {K : Type 0} (shows : K → Lasting) (size : PathSize) (slots id : ℕ)
+module _ {K : Type 0} (shows : K → Lasting) (o : Beside) (size : PathSize) (slots id : ℕ)
     (m : Me (Slot K) View) (w : ℕ) (mine : m.0.role ≡ Steps w) where
   pub opens_append : (g c start : ℕ) → MarkerWaits w m.0.part start → IsTrue (is_some m.0.part.sync)
       → issue_of m.0.part ≡ Rest → TurnSaw Append m.0.part c → g ≡ suc c
       → m.0.hands.box_taken ≡ None → g < 65536
-      → Allows (Ruled shows size) slots id m (73 + 2 * g) (λ _. 0)
+      → Allows (Ruled shows o size) slots id m (73 + 2 * g) (λ _. 0)
       (λ _. AppendOpened (step slots (73 + 2 * g) 0 0 none) m 0)
   opens_append g c start waits held calm saw up empty fits s r _ there _ = let x = r.core in
       let e = OpenGroup w Append g in let v' = view_after m.0 e 0 false in
-      let law = core_lawful shows size s r in
-      let now = now_is shows size slots id m w mine s r there held Append c saw in
+      let law = core_lawful shows o size s r in
+      let now = now_is shows o size slots id m w mine s r there held Append c saw in
       let t = at_rest m.0.part held calm in
-      let is = issue_at shows size slots id m w mine s r there held Rest t.0 t.1 t.2 in
+      let is = issue_at shows o size slots id m w mine s r there held Rest t.0 t.1 t.2 in
       let long : length x.append.tallies ≡ suc x.append.current =
       (law.orders.made_groups Append).made ∙ ap (λ i. made_at i Append x.append.current) is in
       let may : IsStep x e = record {
-        seat = within shows size slots id m w mine s r there;
+        seat = within shows o size slots id m w mine s r there;
         is_there = tt;
         row = (
-          has shows size slots id m w mine s r there held,
-          own_part shows size
+          has shows o size slots id m w mine s r there held,
+          own_part shows o size
               slots id m w mine s r there issue_of Rest calm,
           up ∙ ap suc now,
         );
       } in
       let told = refl in
-      let out = outside shows size slots id m w mine s r there held in (
+      let out = outside shows o size slots id m w mine s r there held in (
         v',
         keeps,
         tt,
-        plays shows size s r id w m.0 there mine e refl may tt tt fits
+        plays shows o size s r id w m.0 there mine e refl may tt tt fits
             (rows s r g (let q = up ∙ ap suc now in omega arith)) 0 0 false m.0.hands told refl m.1
             keeps
-            (unseen shows size slots id m w mine s r there held
+            (unseen shows o size slots id m w mine s r there held
             (next_of x e).append v' refl refl refl out
             (still _ m.0.part.sync held) refl empty),
-        (λ z q role _ word. each_name shows size slots id m w mine 73 g
+        (λ z q role _ word. each_name shows o size slots id m w mine 73 g
             (λ z q. Made z (OpenGroup z Append q) 0 m (v', m.1)
             × ((was : Was m.0 z (OpenGroup z Append q))
             × IsAllowed was.core (OpenGroup z Append q))) (
-              ((refl, was shows size s r id w m.0 there mine e may tt), refl),
+              ((refl, was shows o size s r id w m.0 there mine e may tt), refl),
               (
-                was shows size s r id w m.0 there mine e may tt,
+                was shows o size s r id w m.0 there mine e may tt,
                 record {
                   seat = may.seat;
                   is_there = tt;
                   row = (
                     may.row,
                     (own_wants x law w (record { by = w; start = start; barrier = None })
-                        (own_part shows size slots id m w mine s r there marker_of
+                        (own_part shows o size slots id m w mine s r there marker_of
                         (Some (record { by = w; start = start; barrier = None })) waits) refl refl),
                   );
                 },
@@ -106,7 +107,7 @@ module _ {K : Type 0} (shows : K → Lasting) (size : PathSize) (slots id : ℕ)
             ) z q role word),
       )
     where
-      rows : (s : State (Slot K) View) (r : Ruled shows size s) (g : ℕ)
+      rows : (s : State (Slot K) View) (r : Ruled shows o size s) (g : ℕ)
           → length r.core.append.tallies < 65536 → HasRows (next_of r.core (OpenGroup w Append g))
       rows s r g more = record { groups = λ o. by o; memtables = r.rows.memtables }
         where

@@ -48,6 +48,7 @@ use Rattle.path_core.specs.Lawful.{IsLawfulPath}
 use Rattle.path_core.specs.Next.{next_of}
 use Rattle.path_core.specs.Parts.{tally_of, seat_of, found_of, HoldsNoTurn}
 use Rattle.path_core.proofs.frame.Seats.{some_left, group_made, at_rest, open_is_current}
+use Rattle.path_rule.specs.declared.lasting.Beside.{Beside}
 use Rattle.path_rule.specs.declared.lasting.Lasting.{Lasting}
 use Rattle.path_rule.specs.declared.slot.Slot.{Slot}
 use Rattle.path_rule.specs.declared.view.PathSize.{PathSize}
@@ -76,9 +77,9 @@ use Rattle.path_rule.proofs.moves.Moving.{core_lawful, was, plays, columns_now}
 use Rattle.path_rule.proofs.moves.StepFacts.{more_word, less_word, known_groups}
 use Rattle.path_rule.proofs.places.ReadBack.{rows_stay}
 
-module _ {K : Type 0} (shows : K → Lasting) (size : PathSize) (slots id : ℕ)
+module _ {K : Type 0} (shows : K → Lasting) (o : Beside) (size : PathSize) (slots id : ℕ)
     (m : Me (Slot K) View) (w : ℕ) (mine : m.0.role ≡ Steps w) where
-  module _ (s : State (Slot K) View) (r : Ruled shows size s)
+  module _ (s : State (Slot K) View) (r : Ruled shows o size s)
       (there : get_elem? s.views id ≡ some m.0) where
     -- the own box, of a seat that is outside the append order, is free where its group is open
     pub own_free : (g : ℕ) → m.0.part.append ≡ None → g ≤ r.core.append.current
@@ -87,7 +88,7 @@ module _ {K : Type 0} (shows : K → Lasting) (size : PathSize) (slots id : ℕ)
         by_role u.role (r.each_seat j u e).1 (r.boxed.in_hands j u e) h
       where
         law : IsLawfulPath r.core
-        law = core_lawful shows size s r
+        law = core_lawful shows o size s r
 
         by_own : (z : ℕ) (o : Option ℕ) → (seat_of r.core z).append ≡ o → HasOwn z o (box_of w g)
             → ⊥
@@ -96,12 +97,12 @@ module _ {K : Type 0} (shows : K → Lasting) (size : PathSize) (slots id : ℕ)
             let same : z ≡ w = omega arith in
             let f : Some q ≡ None = sym is ∙
             (ap (λ (k : ℕ). (seat_of r.core k).append) same
-            ∙ own_part shows size slots id m w mine s r there
+            ∙ own_part shows o size slots id m w mine s r there
             (λ (p : SeatOf). p.append) None outside) in cc
 
         by_role : (ρ : Role) → Knows r.core r.events r.owner r.made r.boss j ρ u.part u.trail
             u.returned → HandsAs r.boxed.contents
-            (shown size.at_open r.kept_to r.core) r.boxed.pending r.boxed.progress r.core.append
+            (shown o size.at_open r.kept_to r.core) r.boxed.pending r.boxed.progress r.core.append
             size.seats
             u.part u.hands
             ρ
@@ -119,44 +120,45 @@ module _ {K : Type 0} (shows : K → Lasting) (size : PathSize) (slots id : ℕ)
             G.parity (let q = ap (λ (n : ℕ). n % 2) now in omega arith)) more) h
 
     pub own_low : (g : ℕ) → box_of w g < boxes size.seats
-    own_low g = let l = within shows size slots id m w mine s r there in let k = r.long in
+    own_low g = let l = within shows o size slots id m w mine s r there in let k = r.long in
         omega arith
 
     pub low_seat : w < size.seats
-    low_seat = let l = within shows size slots id m w mine s r there in let k = r.long in
+    low_seat = let l = within shows o size slots id m w mine s r there in let k = r.long in
         omega arith
 
   pub joins : (g k : ℕ) → IsSome m.0.part.write → m.0.part.append ≡ None → m.0.part.claim ≡ None
       → HoldsNoTurn m.0.part → (found_of Append m.0.part).current ≡ Some g → k < 2 ^ 63 → g < 65536
-      → Allows (Ruled shows size) slots id m (73 + 2 * g) (λ n. either (eqb n k) (k + 1) n)
+      → Allows (Ruled shows o size) slots id m (73 + 2 * g) (λ n. either (eqb n k) (k + 1) n)
       (Joined (step slots (73 + 2 * g) k (k + 1) none) m)
   joins g k write outside unclaimed bare saw low fits s r _ there _ = let n =
       slice_index s.words (73 + 2 * g) in let x = r.core in let c = tally_of x Append g in
       let found : n ≡ tally_word c = r.words (Count Append g) fits in
       let then = Joined (step slots (73 + 2 * g) k (k + 1) none) m n in
-      exchanged n k (k + 1) (λ z. Owes shows size slots id m w mine s (73 + 2 * g) z then)
+      exchanged n k (k + 1) (λ z. Owes shows o size slots id m w mine s (73 + 2 * g) z then)
       (λ hit. let e = Register w Append g in
-      let is = as_part shows size slots id m w mine s r there in
+      let is = as_part shows o size slots id m w mine s r there in
       let more = more_word c (omega arith) in let box = box_of w g in
       let ns = r.boxed.contents box in let h = with_notes ns m.0.hands in
       let v' = view_after (with_hands h m.0) e (k + 1) false in
-      let made = below shows size slots id m w mine s r there (Count Append g) (inl saw) in
-      let under = (known_groups x (core_lawful shows size s r) Append w).current g
-      (own_part shows size slots id m w mine s r there (λ (p : SeatOf). (found_of Append p).current)
+      let made = below shows o size slots id m w mine s r there (Count Append g) (inl saw) in
+      let under = (known_groups x (core_lawful shows o size s r) Append w).current g
+      (own_part shows o size slots id m w mine s r there (λ (p : SeatOf).
+      (found_of Append p).current)
       (Some g) saw) in
       let may : IsStep x e = record {
-        seat = within shows size slots id m w mine s r there;
+        seat = within shows o size slots id m w mine s r there;
         is_there = made;
         row = (
           subst HoldsNoTurn is bare,
           (
             subst (λ (p : SeatOf). IsSome p.write) is write,
-            own_part shows size slots id m w mine s r there
+            own_part shows o size slots id m w mine s r there
                 (λ (p : SeatOf). p.append) None outside,
-            own_part shows size slots id m w mine s r there
+            own_part shows o size slots id m w mine s r there
                 (λ (p : SeatOf). p.claim) None unclaimed,
           ),
-          own_part shows size slots id m w mine s r there
+          own_part shows o size slots id m w mine s r there
               (λ (p : SeatOf). (found_of Append p).current) (Some g) saw,
           more.0,
         );
@@ -165,28 +167,30 @@ module _ {K : Type 0} (shows : K → Lasting) (size : PathSize) (slots id : ℕ)
       let rows = rows_stay x e may (λ q. q) r.rows in
       let home = r.boxed.at_home box (own_low s r there g)
       (own_free s r there g outside under more.0) in
-      let few : length ns ≤ 2 ^ 62 = (let f = few_kept shows size.seats x (core_lawful shows size s
+      let few : length ns ≤ 2 ^ 62 = (let f = few_kept shows size.seats x
+      (core_lawful shows o size s
       r)
-      (shown size.at_open r.kept_to x)
+      (shown o size.at_open r.kept_to x)
       x.claims x.append s.homes s.views r.boxed box in omega arith) in
-      let C = columns_now shows size s r id w m.0 there mine e refl may tt tt fits rows (k + 1)
+      let C = columns_now shows o size s r id w m.0 there mine e refl may tt tt fits rows (k + 1)
       (k + 1) false h now refl in (
         v',
         takes box home.0,
         home.1,
-        plays shows size s r id w m.0 there mine e refl may tt tt fits rows (k + 1)
+        plays shows o size s r id w m.0 there mine e refl may tt tt fits rows (k + 1)
             (k + 1) false h now refl m.1 (takes box home.0)
-            (boxed_take shows size.seats x.notes (shown size.at_open r.kept_to x) x.claims x.claims
+            (boxed_take shows size.seats x.notes (shown o size.at_open r.kept_to x) x.claims
+            x.claims
             x.append
             (next_of x e).append s.homes s.views r.boxed id w m.0 v' there mine refl refl refl
             (λ i g l _ _. (l, refl)) refl C.issue g outside C.append refl),
-        (λ z q role _ word. each_name shows size slots id m w mine 73 g
+        (λ z q role _ word. each_name shows o size slots id m w mine 73 g
             (λ z q. (n ≡ k → ((notes : List EntryNote)
             × MadeAs z (Register z Append q) (k + 1) (with_notes notes m.0.hands) m.0 v')
             × Took (box_of z q) m (v', (box, home.0) ∷ m.1))
             × (n ≢ k → Made z (Look z (Count Append q)) n m (v', (box, home.0) ∷ m.1))) (
               (λ _. (
-                (ns, (refl, was shows size s r id w m.0 there mine e may tt)),
+                (ns, (refl, was shows o size s r id w m.0 there mine e may tt)),
                 (home.0, refl, home.2.notes (omega arith), few),
               )),
               (λ miss. absurd (miss hit)),
@@ -194,9 +198,9 @@ module _ {K : Type 0} (shows : K → Lasting) (size : PathSize) (slots id : ℕ)
             word),
       ))
       (λ miss. let v' = view_after m.0 (Look w (Count Append g)) n false in
-      look_owes shows size slots id m w mine s r there (Count Append g) fits (inl saw) then
+      look_owes shows o size slots id m w mine s r there (Count Append g) fits (inl saw) then
       (λ made _ z h role _ word.
-      each_name shows size slots id m w mine 73 g (λ z q. (n ≡ k → ((notes : List EntryNote)
+      each_name shows o size slots id m w mine 73 g (λ z q. (n ≡ k → ((notes : List EntryNote)
       × MadeAs z (Register z Append q) (k + 1) (with_notes notes m.0.hands) m.0 v')
       × Took (box_of z q) m (v', m.1))
       × (n ≢ k → Made z (Look z (Count Append q)) n m (v', m.1)))
@@ -204,46 +208,47 @@ module _ {K : Type 0} (shows : K → Lasting) (size : PathSize) (slots id : ℕ)
 
   pub withdraws : (g : ℕ) (y : Slot K) (cs : List (ℕ × Slot K)) → m.0.part.append ≡ Some g
       → m.0.part.claim ≡ None → m.1 ≡ (box_of w g, y) ∷ cs → NotesAre y m.0.hands.notes → g < 65536
-      → Allows (Ruled shows size) slots id m (73 + 2 * g) (λ n. (n + (2 ^ 64 - 1)) % 2 ^ 64)
+      → Allows (Ruled shows o size) slots id m (73 + 2 * g) (λ n. (n + (2 ^ 64 - 1)) % 2 ^ 64)
       (Withdrew (step slots (73 + 2 * g) 1 0 none) m)
   withdraws g y cs append claim holds kept fits s r _ there low = let n =
       slice_index s.words (73 + 2 * g) in let x = r.core in let c = tally_of x Append g in
       let found : n ≡ tally_word c = r.words (Count Append g) fits in
       let e = Close w Append g Nothing in
-      let here = own_part shows size slots id m w mine s r there (λ (p : SeatOf). p.append)
+      let here = own_part shows o size slots id m w mine s r there (λ (p : SeatOf). p.append)
       (Some g) append in
-      let made = group_made x (core_lawful shows size s r) Append w g here in
+      let made = group_made x (core_lawful shows o size s r) Append w g here in
       let v' = view_after m.0 e n false in
       let may : IsStep x e = record {
-        seat = within shows size slots id m w mine s r there;
+        seat = within shows o size slots id m w mine s r there;
         is_there = made;
         row = (
           here,
-          own_part shows size slots id m w mine s r there
+          own_part shows o size slots id m w mine s r there
               (λ (p : SeatOf). p.claim) None claim,
         );
       } in
       let now = ap (λ z. (z + (2 ^ 64 - 1)) % 2 ^ 64) found
-      ∙ less_word c (some_left x (core_lawful shows size s r) Append w g here)
+      ∙ less_word c (some_left x (core_lawful shows o size s r) Append w g here)
       (subst (λ z. z < 2 ^ 64) found low) in
       let rows = rows_stay x e may (λ q. q) r.rows in
-      let C = columns_now shows size s r id w m.0 there mine e refl may tt tt fits rows
+      let C = columns_now shows o size s r id w m.0 there mine e refl may tt tt fits rows
       ((n + (2 ^ 64 - 1)) % 2 ^ 64) n false m.0.hands now refl in (
         v',
         gives,
         tt,
-        plays shows size s r id w m.0 there mine e refl may tt tt fits rows
+        plays shows o size s r id w m.0 there mine e refl may tt tt fits rows
             ((n + (2 ^ 64 - 1)) % 2 ^ 64) n false m.0.hands now refl m.1 gives
-            (subst (λ l. Boxed shows size.seats x.notes (shown size.at_open r.kept_to x) x.claims
+            (subst (λ l. Boxed shows size.seats x.notes (shown o size.at_open r.kept_to x) x.claims
             (next_of x
             e).append
             (put_back s.homes l) (set s.views id v')) (sym holds)
-            (boxed_give shows size.seats x.notes (shown size.at_open r.kept_to x) x.claims x.claims
+            (boxed_give shows size.seats x.notes (shown o size.at_open r.kept_to x) x.claims
+            x.claims
             x.append
             (next_of x e).append s.homes s.views r.boxed id w m.0 v' there mine refl refl refl
             (λ i g l _ _. (l, refl)) refl C.issue g y append C.append refl kept r.deep
             (low_seat s r there))),
-        (λ z q role _ word. each_name shows size slots id m w mine 73 g
+        (λ z q role _ word. each_name shows o size slots id m w mine 73 g
             (λ z q. MadeAs z (Close z Append q Nothing) n m.0.hands m.0 v' × (rest m.1 ≡ rest m.1))
-            ((refl, was shows size s r id w m.0 there mine e may tt), refl) z q role word),
+            ((refl, was shows o size s r id w m.0 there mine e may tt), refl) z q role word),
       )

@@ -16,6 +16,7 @@ use Rattle.path_core.specs.Keys.{MovesLog}
 use Rattle.path_core.specs.Next.{next_of, claim_of}
 use Rattle.path_core.proofs.frame.Runs.{past_sizes}
 use Rattle.path_core.proofs.log.MarkerSteps.{last_marker_stays}
+use Rattle.path_rule.specs.declared.lasting.Beside.{Beside}
 use Rattle.path_rule.specs.declared.lasting.Lasting.{Lasting}
 use Rattle.path_rule.specs.declared.slot.Slot.{Slot}
 use Rattle.path_rule.specs.declared.view.PathSize.{PathSize}
@@ -39,51 +40,51 @@ use Rattle.path_rule.proofs.moves.Moving.{known}
 use Rattle.path_rule.proofs.moves.StepFacts.{claim_bars}
 use Rattle.path_rule.proofs.places.ReadBack.{rows_stay}
 
-module _ {K : Type 0} (shows : K → Lasting) (size : PathSize) (slots id : ℕ)
+module _ {K : Type 0} (shows : K → Lasting) (o : Beside) (size : PathSize) (slots id : ℕ)
     (m : Me (Slot K) View) (w : ℕ) (mine : m.0.role ≡ Steps w) where
   pub claims : (from to : ℕ) → IsSome m.0.part.write → IsSome m.0.part.append
       → m.0.part.claim ≡ None → MovesLog Entry m.0.size.capacity m.0.size.ordinals from to
-      → Allows (Ruled shows size) slots id m 4 (λ n. either (eqb n from) to n)
+      → Allows (Ruled shows o size) slots id m 4 (λ n. either (eqb n from) to n)
       (Claimed (step slots 4 from to none) m)
   claims from to write append claim moves s r _ there _ = let n = slice_index s.words 4 in
       let x = r.core in let found : n ≡ x.log = r.words Log tt in
       let then = Claimed (step slots 4 from to none) m n in
-      exchanged n from to (λ z. Owes shows size slots id m w mine s 4 z then)
+      exchanged n from to (λ z. Owes shows o size slots id m w mine s 4 z then)
       (λ hit. let e = Claim w (record { 0 = from }) (record { 0 = to }) Entry in
-      let is = as_part shows size slots id m w mine s r there in
+      let is = as_part shows o size slots id m w mine s r there in
       let v' = view_after m.0 e to false in
       let may : IsStep x e = record {
-        seat = within shows size slots id m w mine s r there;
+        seat = within shows o size slots id m w mine s r there;
         is_there = tt;
         row = (
           subst (λ (p : SeatOf). IsSome p.write) is write,
           subst (λ (p : SeatOf). IsSome p.append) is append,
-          own_part shows size slots id m w mine s r there (λ (p : SeatOf). p.claim) None claim,
+          own_part shows o size slots id m w mine s r there (λ (p : SeatOf). p.claim) None claim,
           sym hit ∙ found,
           sized_moves s r there,
         );
       } in
-      acts shows size slots id m w mine s r there e refl may tt tt tt
+      acts shows o size slots id m w mine s r there e refl may tt tt tt
       (rows_stay x e may (λ q. q) r.rows) to to refl refl
-      (λ C. boxed_stay shows size.seats x.notes (shown size.at_open r.kept_to x) x.claims
+      (λ C. boxed_stay shows size.seats x.notes (shown o size.at_open r.kept_to x) x.claims
       (next_of x e).claims x.append x.append s.homes s.views r.boxed id w m.0 v' there mine refl
       refl refl (claim_bars x.claims (claim_of x.capacity w from to Entry) refl)
       (ap (option_map kept_of) (last_marker_stays x e (λ b. b))) C.append C.issue refl)
-      then (λ u. each_seat_name shows size slots id m w mine (λ z. (n ≡ from
+      then (λ u. each_seat_name shows o size slots id m w mine (λ z. (n ≡ from
       → Made z (Claim z (record { 0 = from }) (record { 0 = to }) Entry) to m (v', m.1))
       × (n ≢ from → Made z (Look z Log) n m (v', m.1)))
       ((λ _. ((refl, u), refl)), (λ miss. absurd (miss hit)))))
       (λ miss. let v' = view_after m.0 (Look w Log) n false in
-      look_owes shows size slots id m w mine s r there Log tt tt then (λ made _.
-      each_seat_name shows size slots id m w mine (λ z. (n ≡ from → Made z
+      look_owes shows o size slots id m w mine s r there Log tt tt then (λ made _.
+      each_seat_name shows o size slots id m w mine (λ z. (n ≡ from → Made z
       (Claim z (record { 0 = from }) (record { 0 = to }) Entry) to m (v', m.1))
       × (n ≢ from → Made z (Look z Log) n m (v', m.1)))
       ((λ hit. absurd (miss hit)), (λ _. made))))
     where
-      sized_moves : (s : State (Slot K) View) (r : Ruled shows size s)
+      sized_moves : (s : State (Slot K) View) (r : Ruled shows o size s)
           → get_elem? s.views id ≡ some m.0 → MovesLog Entry r.core.capacity r.core.ordinals from to
       sized_moves s r there = let z = past_sizes r.events (start_of size) r.core r.run in
-          let k = (known shows size s r id w m.0 there mine).0 in
+          let k = (known shows o size s r id w m.0 there mine).0 in
           subst (λ (q : ℕ × ℕ). MovesLog Entry q.0 q.1 from to)
           (λ i. (
             (ap (λ (q : PathSize). q.capacity) k ∙ sym z.capacity) i,

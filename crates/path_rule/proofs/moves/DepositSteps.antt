@@ -54,6 +54,7 @@ use Rattle.path_core.proofs.frame.Runs.{past_sizes}
 use Rattle.path_core.proofs.frame.Seats.{some_left, group_made}
 use Rattle.path_core.proofs.lists.Inserted.{insert_cases, insert_old, insert_new}
 use Rattle.path_core.proofs.lists.Replaced.{counted_in, counted_some}
+use Rattle.path_rule.specs.declared.lasting.Beside.{Beside}
 use Rattle.path_rule.specs.declared.lasting.Lasting.{Lasting}
 use Rattle.path_rule.specs.declared.slot.Slot.{Slot}
 use Rattle.path_rule.specs.declared.slot.Slot.TheVariants.{Notes}
@@ -81,25 +82,25 @@ use Rattle.path_rule.proofs.moves.StepFacts.{
 }
 use Rattle.path_rule.proofs.places.ReadBack.{rows_stay}
 
-module _ {K : Type 0} (shows : K → Lasting) (size : PathSize) (slots id : ℕ)
+module _ {K : Type 0} (shows : K → Lasting) (o : Beside) (size : PathSize) (slots id : ℕ)
     (m : Me (Slot K) View) (w : ℕ) (mine : m.0.role ≡ Steps w) where
   pub deposits : (g : ℕ) (note : EntryNote) (cs : List (ℕ × Slot K)) → m.0.part.append ≡ Some g
       → m.0.part.claim ≡ Some (record { start = note.start.0; end = note.end.0 })
       → note.writer.0 ≡ w → note.tables < 2 ^ m.0.size.tables → IsWhole note
       → m.1 ≡ (box_of w g, Notes (m.0.hands.notes ++ note ∷ [])) ∷ cs → g < 65536
-      → Allows (Ruled shows size) slots id m (73 + 2 * g) (λ n. (n + (2 ^ 64 - 1)) % 2 ^ 64)
+      → Allows (Ruled shows o size) slots id m (73 + 2 * g) (λ n. (n + (2 ^ 64 - 1)) % 2 ^ 64)
       (Deposited (step slots (73 + 2 * g) 1 0 none) m)
   deposits g note cs append claim writer tables whole holds fits s r _ there low = let n =
       slice_index s.words (73 + 2 * g) in let x = r.core in let c = tally_of x Append g in
       let found : n ≡ tally_word c = r.words (Count Append g) fits in
-      let law = core_lawful shows size s r in let e = Close w Append g (Deposit note) in
-      let here = own_part shows size slots id m w mine s r there (λ (p : SeatOf). p.append)
+      let law = core_lawful shows o size s r in let e = Close w Append g (Deposit note) in
+      let here = own_part shows o size slots id m w mine s r there (λ (p : SeatOf). p.append)
       (Some g) append in
-      let range = own_part shows size slots id m w mine s r there (λ (p : SeatOf). p.claim)
+      let range = own_part shows o size slots id m w mine s r there (λ (p : SeatOf). p.claim)
       (Some (record { start = note.start.0; end = note.end.0 })) claim in
       let made = group_made x law Append w g here in let v' = view_after m.0 e n false in
       let may : IsStep x e = record {
-        seat = within shows size slots id m w mine s r there;
+        seat = within shows o size slots id m w mine s r there;
         is_there = made;
         row = (
           here,
@@ -114,27 +115,28 @@ module _ {K : Type 0} (shows : K → Lasting) (size : PathSize) (slots id : ℕ)
       let now = ap (λ z. (z + (2 ^ 64 - 1)) % 2 ^ 64) found
       ∙ less_word c (some_left x law Append w g here) (subst (λ z. z < 2 ^ 64) found low) in
       let rows = rows_stay x e may (λ q. q) r.rows in
-      let C = columns_now shows size s r id w m.0 there mine e refl may whole tt fits rows
+      let C = columns_now shows o size s r id w m.0 there mine e refl may whole tt fits rows
       ((n + (2 ^ 64 - 1)) % 2 ^ 64) n false m.0.hands now refl in (
         v',
         gives,
         tt,
-        plays shows size s r id w m.0 there mine e refl may whole tt fits rows
+        plays shows o size s r id w m.0 there mine e refl may whole tt fits rows
             ((n + (2 ^ 64 - 1)) % 2 ^ 64) n false m.0.hands now refl m.1 gives
             (subst (λ (q : Lasting × List (ℕ × Slot K)). Boxed shows size.seats (next_of x e).notes
             q.0 x.claims (next_of x e).append (put_back s.homes q.1) (set s.views id v'))
             (λ i. (
-              kept_same x law w g note may size.at_open r.kept_to r.may_be_kept i,
+              kept_same x law w g note may o size.at_open r.kept_to r.may_be_kept i,
               sym holds
                   i,
             ))
-            (boxed_put shows size.seats x.notes (next_of x e).notes (shown size.at_open r.kept_to x)
+            (boxed_put shows size.seats x.notes (next_of x e).notes
+            (shown o size.at_open r.kept_to x)
             x.claims
             x.append
             (next_of x e).append s.homes s.views r.boxed id w m.0 v' there mine refl refl refl g
             note append C.append C.issue refl
             (no_turn s r there g append) r.deep
-            (low_seat shows size slots id m w mine s r there) writer
+            (low_seat shows o size slots id m w mine s r there) writer
             (group_low x law Append w g here)
             ((law.orders.counts_stand_for_seats Append).nobody_below w g here)
             (λ i h l mark bar less. law.later_groups_log_above.markers i h g w
@@ -146,39 +148,40 @@ module _ {K : Type 0} (shows : K → Lasting) (size : PathSize) (slots id : ℕ)
             (λ j z u apart at is same. apart
             (sym (subst (λ ρ. Knows x r.events r.owner r.made r.boss j ρ u.part u.trail
             u.returned) is (r.each_seat j u at).1).0.1
-            ∙ (ap r.owner same ∙ (known shows size s r id w m.0 there mine).1.1))))),
+            ∙ (ap r.owner same ∙ (known shows o size s r id w m.0 there mine).1.1))))),
         (λ z q other role _ word has. let same : note
             ≡ other = last_same m.0.hands.notes note other (ap notes_first (sym holds ∙ has)) in
             subst (λ p. MadeAs z (Close z Append q (Deposit p)) n m.0.hands m.0 v'
             × (rest m.1 ≡ rest m.1)) same
-            (each_name shows size slots id m w mine 73 g
+            (each_name shows o size slots id m w mine 73 g
             (λ z q. MadeAs z (Close z Append q (Deposit note)) n m.0.hands m.0 v'
             × (rest m.1 ≡ rest m.1)) (
               (
                 refl,
-                was shows size s r id w m.0 there mine e may
+                was shows o size s r id w m.0 there mine e may
                     whole,
               ),
               refl,
             ) z q role word)),
       )
     where
-      few_bits : (s : State (Slot K) View) (r : Ruled shows size s)
+      few_bits : (s : State (Slot K) View) (r : Ruled shows o size s)
           → get_elem? s.views id ≡ some m.0 → (n : ℕ) → n < 2 ^ m.0.size.tables
           → n < 2 ^ length r.core.tables
       few_bits s r there n l = let z = past_sizes r.events (start_of size) r.core r.run in
-          let k = (known shows size s r id w m.0 there mine).0 in
+          let k = (known shows o size s r id w m.0 there mine).0 in
           subst (λ (t : ℕ). n < 2 ^ t) (ap (λ (q : PathSize). q.tables) k
           ∙ sym (z.tables ∙ length-replicate size.tables fresh_table)) l
 
       -- the entry that the seat has claimed is not noted yet
-      unnoted : (s : State (Slot K) View) (r : Ruled shows size s) → get_elem? s.views id ≡ some m.0
+      unnoted : (s : State (Slot K) View) (r : Ruled shows o size s)
+          → get_elem? s.views id ≡ some m.0
           → (note : EntryNote) → m.0.part.append ≡ Some g
           → m.0.part.claim ≡ Some (record { start = note.start.0; end = note.end.0 })
           → ends_at note.end.0 r.core.notes ≡ 0
-      unnoted s r there note append claim = let law = core_lawful shows size s r in
+      unnoted s r there note append claim = let law = core_lawful shows o size s r in
           let x = r.core in
-          let range = own_part shows size slots id m w mine s r there (λ (p : SeatOf). p.claim)
+          let range = own_part shows o size slots id m w mine s r there (λ (p : SeatOf). p.claim)
           (Some (record { start = note.start.0; end = note.end.0 })) claim in
           let c = law.own_claim w (record { start = note.start.0; end = note.end.0 }) range in
           let one = law.each_claim_noted_once.once
@@ -193,32 +196,33 @@ module _ {K : Type 0} (shows : K → Lasting) (size : PathSize) (slots id : ℕ)
           unwritten : (o : Option ℕ) → (seat_of r.core w).note ≡ o → (seat_of r.core w).note ≡ None
           unwritten None e = e
           unwritten (Some t) e = absurd (let d =
-              ((core_lawful shows size s r).orders.orders_nest w).deposited t e in
-              let q : Some g ≡ None = sym (own_part shows size slots id m w mine s r there
+              ((core_lawful shows o size s r).orders.orders_nest w).deposited t e in
+              let q : Some g ≡ None = sym (own_part shows o size slots id m w mine s r there
               (λ (p : SeatOf). p.append)
               (Some g) append) ∙ d.0 in cc)
 
       -- so it is not lasting either
-      unlogged : (s : State (Slot K) View) (r : Ruled shows size s)
+      unlogged : (s : State (Slot K) View) (r : Ruled shows o size s)
           → get_elem? s.views id ≡ some m.0 → (note : EntryNote) → m.0.part.append ≡ Some g
           → m.0.part.claim ≡ Some (record { start = note.start.0; end = note.end.0 })
           → ¬ Contains (lasting_ends r.core) note.end.0
-      unlogged s r there note append claim h = let law = core_lawful shows size s r in
+      unlogged s r there note append claim h = let law = core_lawful shows o size s r in
           let t = lasting_note r.core note.end.0 h in
           absurd (let c = counted_in (is_note_at note.end.0) r.core.notes t.0 t.1
           (eq-eqb t.0.end.0 note.end.0 t.2) in let z = unnoted s r there note append claim in
           omega arith)
 
-      no_turn : (s : State (Slot K) View) (r : Ruled shows size s) → get_elem? s.views id ≡ some m.0
+      no_turn : (s : State (Slot K) View) (r : Ruled shows o size s)
+          → get_elem? s.views id ≡ some m.0
           → (g : ℕ) → m.0.part.append ≡ Some g → is_some m.0.part.sync ≡ false
       no_turn s r there g append = by (is_some m.0.part.sync) refl
         where
           by : (b : Bool) → is_some m.0.part.sync ≡ b → b ≡ false
           by false e = refl
-          by true e = absurd (let h = (core_lawful shows size s
+          by true e = absurd (let h = (core_lawful shows o size s
               r).orders.one_holder_a_turn.holder_is_idle Sync w
-              (own_part shows size slots id m w mine s r there
+              (own_part shows o size slots id m w mine s r there
               (λ (p : SeatOf). is_some p.sync) true e) in
-              let q : Some g ≡ None = sym (own_part shows size slots id m w mine s r there
+              let q : Some g ≡ None = sym (own_part shows o size slots id m w mine s r there
               (λ (p : SeatOf). p.append)
               (Some g) append) ∙ h.1 in cc)

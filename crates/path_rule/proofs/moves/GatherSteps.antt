@@ -60,6 +60,7 @@ use Rattle.path_core.specs.Allowed.{IsStep}
 use Rattle.path_core.specs.Parts.{issue_of}
 use Rattle.path_core.specs.SeatAfter.{seat_after}
 use Rattle.path_core.proofs.seats.Columns.{Columns}
+use Rattle.path_rule.specs.declared.lasting.Beside.{Beside}
 use Rattle.path_rule.specs.declared.lasting.Lasting.{Lasting}
 use Rattle.path_rule.specs.declared.slot.Slot.{Slot}
 use Rattle.path_rule.specs.declared.view.Hands.{Hands}
@@ -91,9 +92,9 @@ use Rattle.path_rule.proofs.moves.Moving.{core_lawful, known, was, plays, column
 use Rattle.path_rule.proofs.moves.StepFacts.{same_seat}
 use Rattle.path_rule.proofs.places.ReadBack.{rows_stay, is_some_held}
 
-module _ {K : Type 0} (shows : K → Lasting) (size : PathSize) (slots id : ℕ)
+module _ {K : Type 0} (shows : K → Lasting) (o : Beside) (size : PathSize) (slots id : ℕ)
     (m : Me (Slot K) View) (w : ℕ) (mine : m.0.role ≡ Steps w) where
-  module _ (s : State (Slot K) View) (r : Ruled shows size s)
+  module _ (s : State (Slot K) View) (r : Ruled shows o size s)
       (there : get_elem? s.views id ≡ some m.0) (held : IsTrue (is_some m.0.part.sync)) where
     -- behind the passed barrier the boxes of the groups before it are at home
     other_free : (k : ℕ) → m.0.hands.box_taken ≡ None → r.core.append.oldest ≡ r.core.append.current
@@ -114,13 +115,13 @@ module _ {K : Type 0} (shows : K → Lasting) (size : PathSize) (slots id : ℕ)
             (let f : None ≡ Some (box_of k (suc cur)) = t in cc)) q)
             (subst (λ (q : Option ℕ × (Option ℕ × Role)). HoldsAs q.0 (is_some m.0.part.sync) q.1.0
             (box_of k (suc cur)) q.1.1) (λ i.
-            (outside shows size slots id m w mine s r there held i, (empty i, mine i))) h)
+            (outside shows o size slots id m w mine s r there held i, (empty i, mine i))) h)
 
         by_own : (z : ℕ) (o : Option ℕ) → u.part.append ≡ o → j ≢ id → u.role ≡ Steps z
             → HasOwn z o (box_of k (suc cur)) → ⊥
         by_own z None is apart role h = h
         by_own z (Some q) is apart role h = let near =
-            others_near shows size slots id m w mine s r there held j z q u apart e role is in
+            others_near shows o size slots id m w mine s r there held j z q u apart e role is in
             let lo = near.0 in
             let hi = near.1 in let same : q ≡ cur = omega arith in
             absurd (let f : 1 + 2 * k + suc cur % 2 ≡ 1 + 2 * z + q % 2 = h in
@@ -132,12 +133,12 @@ module _ {K : Type 0} (shows : K → Lasting) (size : PathSize) (slots id : ℕ)
         by_role (Opener n) is apart h = h
         by_role Spent is apart h = h
         by_role (Steps z) is apart h = let bare =
-            others_free shows size slots id m w mine s r there held j z u apart e is in
+            others_free shows o size slots id m w mine s r there held j z u apart e is in
             ⊎_elim (λ own. by_own z u.part.append refl apart is own)
             (λ q. ⊎_elim (λ d. false≢true (sym bare ∙ d.0))
             (λ taken. false≢true (sym bare ∙
             ((subst (HandsAs r.boxed.contents
-            (shown size.at_open r.kept_to r.core) r.boxed.pending r.boxed.progress r.core.append
+            (shown o size.at_open r.kept_to r.core) r.boxed.pending r.boxed.progress r.core.append
             size.seats
             u.part
             u.hands) is (r.boxed.in_hands j u e)).other (box_of k (suc cur)) taken).holds)) q) h
@@ -146,34 +147,34 @@ module _ {K : Type 0} (shows : K → Lasting) (size : PathSize) (slots id : ℕ)
     looked : (n : ℕ) → n ≡ r.core.append.oldest → (h : Hands) (a : Act (Slot K)) → let e =
         Look w (Oldest Append) in let v' = view_after (with_hands h m.0) e n false in
         (Columns e m.0.part v'.part → Boxed shows size.seats r.core.notes
-        (shown size.at_open r.kept_to r.core) r.core.claims r.core.append (homes_after s.homes m.1
+        (shown o size.at_open r.kept_to r.core) r.core.claims r.core.append (homes_after s.homes m.1
         a)
         (set s.views id v'))
-        → Ruled shows size (stepped s 3 n id m.1 v' a) × Was m.0 w e
+        → Ruled shows o size (stepped s 3 n id m.1 v' a) × Was m.0 w e
     looked n found h a boxed = let x = r.core in let e = Look w (Oldest Append) in
-        let law = core_lawful shows size s r in
+        let law = core_lawful shows o size s r in
         let may : IsStep x e = record {
-          seat = within shows size slots id m w mine s r there;
+          seat = within shows o size slots id m w mine s r there;
           is_there = tt;
           row = tt;
         } in let rows = rows_stay x e may (λ q. q) r.rows in (
-          plays shows size s r id w m.0 there mine e refl may tt tt tt rows n n false h found
+          plays shows o size s r id w m.0 there mine e refl may tt tt tt rows n n false h found
               (ap (λ k. seat_after m.0.part e (Number k) (told_by false h)) found) m.1 a
-              (boxed (columns_now shows size s r id w m.0 there mine e refl may tt tt tt rows n n
+              (boxed (columns_now shows o size s r id w m.0 there mine e refl may tt tt tt rows n n
               false
               h found (ap (λ k. seat_after m.0.part e (Number k) (told_by false h)) found))),
-          was shows size s r id w m.0 there mine e may tt,
+          was shows o size s r id w m.0 there mine e may tt,
         )
 
   pub gathers : (c : ℕ) → TurnSaw Append m.0.part c → issue_of m.0.part ≡ Rest
       → m.0.hands.box_taken ≡ None → m.0.hands.swept < size.seats
-      → Allows (Ruled shows size) slots id m 3 (λ n. n) (Gathered (step slots 3 0 0 none) m)
+      → Allows (Ruled shows o size) slots id m 3 (λ n. n) (Gathered (step slots 3 0 0 none) m)
   gathers c saw rest_now empty more s r _ there _ = let n = slice_index s.words 3 in
       let x = r.core in let e = Look w (Oldest Append) in
       let held = is_held m.0.part.sync saw.0 saw.1 in
       let found : n ≡ x.append.oldest = r.words (Oldest Append) tt in
-      let now = current_is shows size slots id m w mine s r there held c saw in
-      let out = outside shows size slots id m w mine s r there held in
+      let now = current_is shows o size slots id m w mine s r there held c saw in
+      let out = outside shows o size slots id m w mine s r there held in
       let k = m.0.hands.swept in
       dite (ℕ_discrete n c)
       (λ hit. let passed : x.append.oldest ≡ x.append.current = sym found ∙ (hit ∙ now) in
@@ -182,19 +183,19 @@ module _ {K : Type 0} (shows : K → Lasting) (size : PathSize) (slots id : ℕ)
       let v' = view_after (with_hands h m.0) e n false in
       let home = r.boxed.at_home box (omega arith) (other_free s r there held k empty passed) in
       let few = subst (λ (l : List EntryNote). length l + length ns ≤ 2 ^ 62)
-      (sym ((hands_now shows size slots id m w mine s r there).desk held).1)
-      (few_kept shows size.seats x (core_lawful shows size s r) (shown size.at_open r.kept_to x)
+      (sym ((hands_now shows o size slots id m w mine s r there).desk held).1)
+      (few_kept shows size.seats x (core_lawful shows o size s r) (shown o size.at_open r.kept_to x)
       x.claims
       x.append s.homes s.views r.boxed box) in
       let did = looked s r there held n found h (takes box home.0)
       (λ C. boxed_gather shows size.seats x.notes
-      (shown size.at_open r.kept_to x) x.claims x.claims x.append x.append s.homes s.views r.boxed
+      (shown o size.at_open r.kept_to x) x.claims x.claims x.append x.append s.homes s.views r.boxed
       id w m.0 v'
       there
       mine refl out (C.append ∙ out) held
       (sym (is_some_held v'.part) ∙ (ap (λ (o : Option Issue). is_some o) C.issue
-      ∙ (is_some_held m.0.part ∙ held))) (others_free shows size slots id m w mine s r there held)
-      (others_near shows size slots id m w mine s r there held) k refl refl more empty
+      ∙ (is_some_held m.0.part ∙ held))) (others_free shows o size slots id m w mine s r there held)
+      (others_near shows o size slots id m w mine s r there held) k refl refl more empty
       (issue_known m.0.part v'.part C.issue ∙ rest_now) passed refl) in (
         v',
         takes box home.0,
@@ -222,7 +223,7 @@ module _ {K : Type 0} (shows : K → Lasting) (size : PathSize) (slots id : ℕ)
             )),
       ))
       (λ miss. let v' = view_after m.0 e n false in
-      look_owes shows size slots id m w mine s r there (Oldest Append) tt tt
+      look_owes shows o size slots id m w mine s r there (Oldest Append) tt tt
       (Gathered (step slots 3 0 0 none) m n) (λ made _.
       each_pair c saw (λ z d. (n ≡ d → ((taken : List EntryNote)
       × MadeAs z (Look z (Oldest Append)) n
@@ -249,37 +250,37 @@ module _ {K : Type 0} (shows : K → Lasting) (size : PathSize) (slots id : ℕ)
   pub gives_back : (c : ℕ) (y : Slot K) (cs : List (ℕ × Slot K)) → TurnSaw Append m.0.part c
       → m.0.hands.box_taken ≡ Some (box_of m.0.hands.swept (suc c))
       → m.1 ≡ (box_of m.0.hands.swept (suc c), y) ∷ cs → NotesAre y []
-      → Allows (Ruled shows size) slots id m 3 (λ n. n) (GaveBack (step slots 3 0 0 none) m)
+      → Allows (Ruled shows o size) slots id m 3 (λ n. n) (GaveBack (step slots 3 0 0 none) m)
   gives_back c y cs saw taken holds void s r _ there _ = let n = slice_index s.words 3 in
       let x = r.core in let e = Look w (Oldest Append) in
       let held = is_held m.0.part.sync saw.0 saw.1 in
       let found : n ≡ x.append.oldest = r.words (Oldest Append) tt in
-      let now = current_is shows size slots id m w mine s r there held c saw in
-      let out = outside shows size slots id m w mine s r there held in
+      let now = current_is shows o size slots id m w mine s r there held c saw in
+      let out = outside shows o size slots id m w mine s r there held in
       let k = m.0.hands.swept in
       let h = with_swept m.0.size.seats m.0.hands in
       let v' = view_after (with_hands h m.0) e n false in
-      let sized = (known shows size s r id w m.0 there mine).0 in
+      let sized = (known shows o size s r id w m.0 there mine).0 in
       let box : ℕ → ℕ = λ d. box_of k (suc d) in
       let did = looked s r there held n found h gives
-      (λ C. subst (λ l. Boxed shows size.seats x.notes (shown size.at_open r.kept_to x) x.claims
+      (λ C. subst (λ l. Boxed shows size.seats x.notes (shown o size.at_open r.kept_to x) x.claims
       x.append
       (put_back s.homes l) (set s.views id v')) (sym (holds ∙ (λ i. (box (now i), y) ∷ cs)))
       (boxed_give_back shows size.seats x.notes
-      (shown size.at_open r.kept_to x) x.claims x.claims x.append x.append s.homes s.views r.boxed
+      (shown o size.at_open r.kept_to x) x.claims x.claims x.append x.append s.homes s.views r.boxed
       id w m.0 v'
       there
       mine refl out (C.append ∙ out) held
       (sym (is_some_held v'.part) ∙ (ap (λ (o : Option Issue). is_some o) C.issue
-      ∙ (is_some_held m.0.part ∙ held))) (others_free shows size slots id m w mine s r there held)
-      (others_near shows size slots id m w mine s r there held) y refl refl void
+      ∙ (is_some_held m.0.part ∙ held))) (others_free shows o size slots id m w mine s r there held)
+      (others_near shows o size slots id m w mine s r there held) y refl refl void
       (taken ∙ ap (λ d. Some (box d)) now)
       (ap (λ (z : PathSize). with_swept z.seats m.0.hands) sized) r.deep)) in (
         v',
         gives,
         tt,
         did.0,
-        each_seat_name shows size slots id m w mine
+        each_seat_name shows o size slots id m w mine
             (λ z. MadeAs z (Look z (Oldest Append)) n h m.0 v' × (rest m.1 ≡ rest m.1))
             ((refl, did.1), refl),
       )

@@ -39,6 +39,7 @@ use Rattle.path_core.specs.declared.seat.SyncTurn.{SyncTurn}
 use Rattle.path_core.specs.Lawful.{IsLawfulPath}
 use Rattle.path_core.specs.LawfulSeats.{GroupsExact}
 use Rattle.path_core.specs.Parts.{seat_of, issue_of}
+use Rattle.path_rule.specs.declared.lasting.Beside.{Beside}
 use Rattle.path_rule.specs.declared.lasting.Lasting.{Lasting}
 use Rattle.path_rule.specs.declared.slot.Slot.{Slot}
 use Rattle.path_rule.specs.declared.view.PathSize.{PathSize}
@@ -71,18 +72,19 @@ at_issue p i begun = by p.sync
 pub is_held : (o : Option SyncTurn) (t : SyncTurn) → o ≡ Some t → IsTrue (is_some o)
 is_held o t e = ap (λ q. is_some q) e
 
-module _ {K : Type 0} (shows : K → Lasting) (size : PathSize) (slots id : ℕ) (m : Me (Slot K) View)
+module _ {K : Type 0} (shows : K → Lasting) (o : Beside) (size : PathSize) (slots id : ℕ) (m : Me
+    (Slot K) View)
     (w : ℕ) (mine : m.0.role ≡ Steps w) where
-  module _ (s : State (Slot K) View) (r : Ruled shows size s)
+  module _ (s : State (Slot K) View) (r : Ruled shows o size s)
       (there : get_elem? s.views id ≡ some m.0) (held : IsTrue (is_some m.0.part.sync)) where
     abbrev law : IsLawfulPath r.core
-    law = core_lawful shows size s r
+    law = core_lawful shows o size s r
 
     pub has : IsTrue (is_some (seat_of r.core w).sync)
-    has = own_part shows size slots id m w mine s r there (λ (p : Seat). is_some p.sync) true held
+    has = own_part shows o size slots id m w mine s r there (λ (p : Seat). is_some p.sync) true held
 
     pub outside : m.0.part.append ≡ None
-    outside = ap (λ (p : Seat). p.append) (as_part shows size slots id m w mine s r there)
+    outside = ap (λ (p : Seat). p.append) (as_part shows o size slots id m w mine s r there)
         ∙ (law.orders.one_holder_a_turn.holder_is_idle Sync w has).1
 
     pub known_seat : (j z : ℕ) (u : View) → get_elem? s.views j ≡ some u → u.role ≡ Steps z
@@ -101,7 +103,7 @@ module _ {K : Type 0} (shows : K → Lasting) (size : PathSize) (slots id : ℕ)
             absurd (apart (sym k.0 ∙ (ap r.owner
             (law.orders.one_holder_a_turn.one Sync z w
             (ap (λ (p : Seat). is_some p.sync) (sym k.1) ∙ e) has)
-            ∙ (known shows size s r id w m.0 there mine).1.1)))
+            ∙ (known shows o size s r id w m.0 there mine).1.1)))
 
     pub others_near : (j z g : ℕ) (u : View) → j ≢ id → get_elem? s.views j ≡ some u
         → u.role ≡ Steps z → u.part.append ≡ Some g
@@ -115,7 +117,8 @@ module _ {K : Type 0} (shows : K → Lasting) (size : PathSize) (slots id : ℕ)
     -- what the holder found of the append order while it holds the turn is exact
     pub exact : (t : SyncTurn) → m.0.part.sync ≡ Some t → GroupsExact r.core Append t.append
     exact t e = ((law.seats_know w).sync t
-        (own_part shows size slots id m w mine s r there (λ (p : Seat). p.sync) (Some t) e)).append
+        (own_part shows o size slots id m w mine s r there (λ (p : Seat). p.sync)
+        (Some t) e)).append
 
     pub current_is : (c : ℕ) → TurnSaw Append m.0.part c → c ≡ r.core.append.current
     current_is c saw = (exact saw.0 saw.1).current c saw.2
@@ -123,16 +126,16 @@ module _ {K : Type 0} (shows : K → Lasting) (size : PathSize) (slots id : ℕ)
     pub issue_at : (i : Issue) (t : SyncTurn) → m.0.part.sync ≡ Some t → t.issue ≡ i
         → law.orders.issue ≡ i
     issue_at i t e is = sym (law.orders.one_holder_a_turn.issue_is w t
-        (own_part shows size slots id m w mine s r there (λ (p : Seat). p.sync) (Some t) e)) ∙ is
+        (own_part shows o size slots id m w mine s r there (λ (p : Seat). p.sync) (Some t) e)) ∙ is
 
-  pub hands_now : (s : State (Slot K) View) (r : Ruled shows size s)
+  pub hands_now : (s : State (Slot K) View) (r : Ruled shows o size s)
       → get_elem? s.views id ≡ some m.0
-      → HandsAre r.boxed.contents (shown size.at_open r.kept_to r.core) r.boxed.pending
+      → HandsAre r.boxed.contents (shown o size.at_open r.kept_to r.core) r.boxed.pending
       r.boxed.progress
       r.core.append
       size.seats w m.0.part m.0.hands
   hands_now s r there = subst (HandsAs r.boxed.contents
-      (shown size.at_open r.kept_to r.core) r.boxed.pending r.boxed.progress r.core.append
+      (shown o size.at_open r.kept_to r.core) r.boxed.pending r.boxed.progress r.core.append
       size.seats m.0.part
       m.0.hands)
       mine (r.boxed.in_hands id m.0 there)

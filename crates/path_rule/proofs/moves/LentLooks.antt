@@ -35,6 +35,7 @@ use Rattle.path_core.specs.Lawful.{IsLawfulPath}
 use Rattle.path_core.specs.Lent.{IsKeptOf}
 use Rattle.path_core.specs.Next.{is_between}
 use Rattle.path_core.proofs.lent.Writable.{may_write}
+use Rattle.path_rule.specs.declared.lasting.Beside.{Beside}
 use Rattle.path_rule.specs.declared.lasting.Lasting.{Lasting}
 use Rattle.path_rule.specs.declared.slot.Slot.{Slot}
 use Rattle.path_rule.specs.declared.view.PathSize.{PathSize}
@@ -75,14 +76,14 @@ kept_below x key value kept may last m marked is = ⊎_elim (λ low. nothing low
     nothing low = inl (is ∙ none_kept x.synced key x.notes low)
 
 -- so a keeper that shows what it has made of the state may write what the machine would
-may_be_lent : (x : PathState) → IsLawfulPath x → (w opened key value by group : ℕ)
+may_be_lent : (x : PathState) → IsLawfulPath x → (o : Beside) (w opened key value by group : ℕ)
     → MayBeKept x key
     → last_kept x.claims ≡ Some (record { by = by; start = value; barrier = Some group })
     → IsStep x (Put w Synced value) → (lasting : Lasting) (run : List EntryNote)
-    → lasting ≡ shown opened key x → filter (is_between x.synced value) x.notes ≡ run
+    → lasting ≡ shown o opened key x → filter (is_between x.synced value) x.notes ≡ run
     → MayLend lasting value run
-may_be_lent x L w opened key value by group may marked step lasting run shows is h holds =
-    let E : lasting_of h ≡ shown opened key x = holds ∙ shows in
+may_be_lent x L o w opened key value by group may marked step lasting run shows is h holds =
+    let E : lasting_of h ≡ shown o opened key x = holds ∙ shows in
     subst (λ (l : List EntryNote). MayWrite h value l) is
     (may_write x L w value step h (record {
       capacity = ap (λ (l : Lasting). l.capacity) E;
@@ -98,39 +99,39 @@ may_be_lent x L w opened key value by group may marked step lasting run shows is
     same_marker : {a b : LastMarker} → Some a ≡ Some b → a ≡ b
     same_marker e = cc
 
-module _ {K : Type 0} (shows : K → Lasting) (size : PathSize) (slots id : ℕ)
+module _ {K : Type 0} (shows : K → Lasting) (o : Beside) (size : PathSize) (slots id : ℕ)
     (m : Me (Slot K) View) (w : ℕ) (mine : m.0.role ≡ Steps w) where
   pub looks_lent : (t : SyncTurn) → m.0.part.sync ≡ Some t → t.stopped ≡ Some 0
       → m.0.hands.progress.gathered ≡ true
-      → Allows (Ruled shows size) slots id m 5 (λ n. n) (LentFound (step slots 5 0 0 none) m)
+      → Allows (Ruled shows o size) slots id m 5 (λ n. n) (LentFound (step slots 5 0 0 none) m)
   looks_lent t sync runs all s r _ there _ = let n = slice_index s.words 5 in let x = r.core in
       let e = Look w (CursorWord Synced) in let v' = view_after m.0 e n false in
       let found : n ≡ x.synced = r.words (CursorWord Synced) tt in
       let may : IsStep x e = record {
-        seat = within shows size slots id m w mine s r there;
+        seat = within shows o size slots id m w mine s r there;
         is_there = tt;
         row = tt;
       } in
       let P : ℕ → Type 0 = λ u. (value : ℕ) (run left : List EntryNote) → n < value
       → IsBarred m.0.hands value → IsParted value m.0.hands.pending run left
       → IsLent m.0 u n value run in
-      look_owes shows size slots id m w mine s r there (CursorWord Synced) tt tt
+      look_owes shows o size slots id m w mine s r there (CursorWord Synced) tt tt
       (LentFound (step slots 5 0 0 none) m n) (λ made _.
-      each_seat_name shows size slots id m w mine
+      each_seat_name shows o size slots id m w mine
       (λ u. Made u (Look u (CursorWord Synced)) n m (v', m.1) × P u) (
         made,
         (λ value run left low barred parted.
-            let S = settled shows size slots id m w mine s r there t sync runs all value run left
+            let S = settled shows o size slots id m w mine s r there t sync runs all value run left
             (omega arith) barred parted in
-            let D = (hands_now shows size slots id m w mine s r there).desk
+            let D = (hands_now shows o size slots id m w mine s r there).desk
             (is_held m.0.part.sync t sync) in
             let marked = r.boxed.marked
             ∙ (ap (λ (k : Progress). k.marker) (sym D.2) ∙ barred.2) in (
-              was shows size s r id w m.0 there mine e may tt,
+              was shows o size s r id w m.0 there mine e may tt,
               sym found,
               S.1,
               record { seat = S.0.seat; is_there = S.0.is_there; row = S.0.row },
-              may_be_lent x (core_lawful shows size s r) w size.at_open r.kept_to value barred.0
+              may_be_lent x (core_lawful shows o size s r) o w size.at_open r.kept_to value barred.0
                   barred.1 r.may_be_kept marked S.0 m.0.hands.lasting run D.0 S.1,
             )),
       ))

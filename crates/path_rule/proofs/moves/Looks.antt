@@ -65,6 +65,7 @@ use Rattle.path_core.specs.Words.{reading, by_of, place_of, IsPlace}
 use Rattle.path_core.proofs.frame.Runs.{past_sizes}
 use Rattle.path_core.proofs.frame.Seats.{current_is_made}
 use Rattle.path_core.proofs.seats.Columns.{Columns}
+use Rattle.path_rule.specs.declared.lasting.Beside.{Beside}
 use Rattle.path_rule.specs.declared.lasting.Lasting.{Lasting}
 use Rattle.path_rule.specs.declared.slot.Slot.{Slot}
 use Rattle.path_rule.specs.declared.view.PathSize.{PathSize}
@@ -90,30 +91,31 @@ use Rattle.path_rule.proofs.moves.StepFacts.{same_seat, known_groups}
 use Rattle.path_rule.proofs.places.ReadBack.{rows_stay, read_back}
 use Rattle.path_rule.proofs.places.SamePlace.{same_place}
 
-module _ {K : Type 0} (shows : K → Lasting) (size : PathSize) (slots id : ℕ) (m : Me (Slot K) View)
+module _ {K : Type 0} (shows : K → Lasting) (o : Beside) (size : PathSize) (slots id : ℕ) (m : Me
+    (Slot K) View)
     (w : ℕ) (mine : m.0.role ≡ Steps w) where
   -- the view, the act and what they owe, where n is stored
   abbrev pub Owes : State (Slot K) View → ℕ → ℕ → (Me (Slot K) View → Type 0) → Type 0
   Owes s i n then = (v : View) × (a : Act (Slot K)) × Valid s.homes m.1 a
-      × Ruled shows size (stepped s i n id m.1 v a) × then (v, carried_after m.1 a)
+      × Ruled shows o size (stepped s i n id m.1 v a) × then (v, carried_after m.1 a)
 
-  module _ (s : State (Slot K) View) (r : Ruled shows size s)
+  module _ (s : State (Slot K) View) (r : Ruled shows o size s)
       (there : get_elem? s.views id ≡ some m.0) where
     abbrev pub x : PathState
     x = r.core
 
     abbrev pub L : IsLawfulPath x
-    L = core_lawful shows size s r
+    L = core_lawful shows o size s r
 
     pub as_part : m.0.part ≡ seat_of x w
-    as_part = part_is shows size s r id w m.0 there mine
+    as_part = part_is shows o size s r id w m.0 there mine
 
     pub within : w < length x.seats
-    within = inside shows size s r id w m.0 there mine
+    within = inside shows o size s r id w m.0 there mine
 
     pub few_tables : (t : ℕ) → t < m.0.size.tables → t < length x.tables
     few_tables t l = let z = past_sizes r.events (start_of size) x r.run in
-        let k = (known shows size s r id w m.0 there mine).0 in
+        let k = (known shows o size s r id w m.0 there mine).0 in
         let long = z.tables ∙ length-replicate size.tables fresh_table in
         subst (λ n. t < n) (sym long) (subst (λ (q : PathSize). t < q.tables) k l)
 
@@ -156,7 +158,7 @@ module _ {K : Type 0} (shows : K → Lasting) (size : PathSize) (slots id : ℕ)
         → seat_after m.0.part e (reading_at (place_of e) found) (told_by false m.0.hands)
         ≡ seat_after m.0.part e (reading x (place_of e)) (told_of x e)
         → (Columns e m.0.part (view_after m.0 e found false).part
-        → Boxed shows size.seats (next_of x e).notes (shown size.at_open r.kept_to (next_of x e))
+        → Boxed shows size.seats (next_of x e).notes (shown o size.at_open r.kept_to (next_of x e))
         (next_of x
         e).claims
         (next_of x e).append s.homes (set s.views id (view_after m.0 e found false)))
@@ -167,11 +169,11 @@ module _ {K : Type 0} (shows : K → Lasting) (size : PathSize) (slots id : ℕ)
       view_after m.0 e found false,
       keeps,
       tt,
-      plays shows size s r id w m.0 there mine e by may whole built spot rows n found false
+      plays shows o size s r id w m.0 there mine e by may whole built spot rows n found false
           m.0.hands now
-          told m.1 keeps (boxed (columns_now shows size s r id w m.0 there mine e by may whole
+          told m.1 keeps (boxed (columns_now shows o size s r id w m.0 there mine e by may whole
           built spot rows n found false m.0.hands now told)),
-      ok (was shows size s r id w m.0 there mine e may whole),
+      ok (was shows o size s r id w m.0 there mine e may whole),
     )
 
     pub look_owes : (at : Place) → IsWord at → Sighted m.0 at → (then : Me (Slot K) View → Type 0)
@@ -192,15 +194,16 @@ module _ {K : Type 0} (shows : K → Lasting) (size : PathSize) (slots id : ℕ)
         (ap (λ k. seat_after m.0.part (Look w at) k (told_by false m.0.hands))
         (ap (reading_at at) found ∙ read_back x L at))
         (λ C. boxed_stay shows size.seats x.notes
-        (shown size.at_open r.kept_to x) x.claims x.claims x.append x.append s.homes s.views r.boxed
+        (shown o size.at_open r.kept_to x) x.claims x.claims x.append x.append s.homes s.views
+        r.boxed
         id w m.0
         (view_after m.0 (Look w at) n false) there mine refl refl refl
         (λ i g l _ _. (l, refl)) refl C.append C.issue refl)
         then (λ u. give ((refl, u), refl)
-        (was shows size s r id w m.0 there mine (Look w at) may tt, sym found))
+        (was shows o size s r id w m.0 there mine (Look w at) may tt, sym found))
 
   pub looks : (at : Place) → IsWord at → Sighted m.0 at
-      → Allows (Ruled shows size) slots id m (word_at at) (λ n. n)
+      → Allows (Ruled shows o size) slots id m (word_at at) (λ n. n)
       (Looked (step slots (word_at at) 0 0 none) m)
   looks at spot sighted s r _ there _ = let n = slice_index s.words (word_at at) in
       look_owes s r there at spot sighted (Looked (step slots (word_at at) 0 0 none) m n)
@@ -213,9 +216,9 @@ module _ {K : Type 0} (shows : K → Lasting) (size : PathSize) (slots id : ℕ)
 
   -- the same, where the word is told by an equation
   pub looks_at : (at : Place) → IsWord at → Sighted m.0 at → (i : ℕ) → i ≡ word_at at
-      → Allows (Ruled shows size) slots id m i (λ n. n) (Looked (step slots i 0 0 none) m)
+      → Allows (Ruled shows o size) slots id m i (λ n. n) (Looked (step slots i 0 0 none) m)
   looks_at at spot sighted i is = subst
-      (λ j. Allows (Ruled shows size) slots id m j (λ n. n) (Looked (step slots j 0 0 none) m))
+      (λ j. Allows (Ruled shows o size) slots id m j (λ n. n) (Looked (step slots j 0 0 none) m))
       (sym is) (looks at spot sighted)
 
   -- a step told for every number that the seat and the group may go by
@@ -227,7 +230,7 @@ module _ {K : Type 0} (shows : K → Lasting) (size : PathSize) (slots id : ℕ)
   pub each_seat_name : (P : ℕ → Type 0) → P w → (z : ℕ) → m.0.role ≡ Steps z → P z
   each_seat_name P p z role = subst P (same_seat m.0.role w z mine role) p
 
-  module _ (s : State (Slot K) View) (r : Ruled shows size s)
+  module _ (s : State (Slot K) View) (r : Ruled shows o size s)
       (there : get_elem? s.views id ≡ some m.0) where
     pub own_part : {A : Type 0} (f : SeatOf → A) (a : A) → f m.0.part ≡ a → f (seat_of r.core w) ≡ a
     own_part {A} f a e = ap f (sym (as_part s r there)) ∙ e

@@ -33,6 +33,7 @@ use Rattle.path_core.specs.Next.{next_of, claim_of}
 use Rattle.path_core.proofs.frame.Runs.{past_sizes}
 use Rattle.path_core.proofs.log.MarkerSteps.{last_marker_claimed}
 use Rattle.path_core.proofs.log.MarkerTells.{entry_since}
+use Rattle.path_rule.specs.declared.lasting.Beside.{Beside}
 use Rattle.path_rule.specs.declared.lasting.Lasting.{Lasting}
 use Rattle.path_rule.specs.declared.slot.Slot.{Slot}
 use Rattle.path_rule.specs.declared.view.PathSize.{PathSize}
@@ -55,24 +56,25 @@ use Rattle.path_rule.proofs.moves.StepFacts.{claim_bars}
 use Rattle.path_rule.proofs.places.ReadBack.{rows_stay}
 use Rattle.path_rule.proofs.seats.HolderKnows.{still}
 
-module _ {K : Type 0} (shows : K → Lasting) (size : PathSize) (slots id : ℕ) (m : Me (Slot K) View)
+module _ {K : Type 0} (shows : K → Lasting) (o : Beside) (size : PathSize) (slots id : ℕ) (m : Me
+    (Slot K) View)
     (w : ℕ) (mine : m.0.role ≡ Steps w) where
   pub claims_marker : (from to : ℕ) → IsTrue (is_some m.0.part.sync) → m.0.hands.box_taken ≡ None
       → behind_last m.0.size.capacity m.0.hands.progress.marker < from
       → MovesLog Marker m.0.size.capacity m.0.size.ordinals from to
-      → Allows (Ruled shows size) slots id m 4 (λ n. either (eqb n from) to n)
+      → Allows (Ruled shows o size) slots id m 4 (λ n. either (eqb n from) to n)
       (MarkerClaimed (step slots 4 from to none) m)
   claims_marker from to held empty moved moves s r _ there _ = let n = slice_index s.words 4 in
       let x = r.core in let B = r.boxed in let found : n ≡ x.log = r.words Log tt in
       let then = MarkerClaimed (step slots 4 from to none) m n in
-      exchanged n from to (λ z. Owes shows size slots id m w mine s 4 z then)
+      exchanged n from to (λ z. Owes shows o size slots id m w mine s 4 z then)
       (λ hit. let e = Claim w (record { 0 = from }) (record { 0 = to }) Marker in
-      let c = claim_of x.capacity w from to Marker in let law = core_lawful shows size s r in
+      let c = claim_of x.capacity w from to Marker in let law = core_lawful shows o size s r in
       let h = with_marker w from m.0.hands in let v' = view_after (with_hands h m.0) e to false in
-      let H = hands_now shows size slots id m w mine s r there in let D = H.desk held in
-      let out = outside shows size slots id m w mine s r there held in
+      let H = hands_now shows o size slots id m w mine s r there in let D = H.desk held in
+      let out = outside shows o size slots id m w mine s r there held in
       let z = past_sizes r.events (start_of size) x r.run in
-      let k = (known shows size s r id w m.0 there mine).0 in
+      let k = (known shows o size s r id w m.0 there mine).0 in
       let wide = ap (λ (q : PathSize). q.capacity) k ∙ sym z.capacity in
       let many = ap (λ (q : PathSize). q.ordinals) k ∙ sym z.ordinals in
       let stands : from ≡ x.log = sym hit ∙ found in
@@ -82,10 +84,10 @@ module _ {K : Type 0} (shows : K → Lasting) (size : PathSize) (slots id : ℕ)
       (entry_since x law).1 (subst (λ (q : (ℕ × Option LastMarker) × ℕ). behind_last q.0.0
       q.0.1 < q.1) (λ i. ((wide i, sym kept i), stands i)) moved) in
       let may : IsStep x e = record {
-        seat = within shows size slots id m w mine s r there;
+        seat = within shows o size slots id m w mine s r there;
         is_there = tt;
         row = (
-          has shows size slots id m w mine s r there held,
+          has shows o size slots id m w mine s r there held,
           since,
           stands,
           subst
@@ -95,13 +97,13 @@ module _ {K : Type 0} (shows : K → Lasting) (size : PathSize) (slots id : ℕ)
         v',
         keeps,
         tt,
-        plays shows size s r id w m.0 there mine e refl may tt tt tt
+        plays shows o size s r id w m.0 there mine e refl may tt tt tt
             (rows_stay x e may (λ q. q) r.rows) to to false h refl refl m.1 keeps
-            (boxed_goes shows size.seats x.notes (shown size.at_open r.kept_to x) x.claims
+            (boxed_goes shows size.seats x.notes (shown o size.at_open r.kept_to x) x.claims
             (next_of x e).claims x.append x.append s.homes s.views B id w m.0 v' there mine refl
             out out held (still _ m.0.part.sync held)
-            (others_free shows size slots id m w mine s r there held)
-            (others_near shows size slots id m w mine s r there held)
+            (others_free shows o size slots id m w mine s r there held)
+            (others_near shows o size slots id m w mine s r there held)
             (record {
               gathered = B.progress.gathered;
               marker = Some
@@ -126,17 +128,17 @@ module _ {K : Type 0} (shows : K → Lasting) (size : PathSize) (slots id : ℕ)
               passed = S.passed;
               empty = S.empty;
             })),
-        each_seat_name shows size slots id m w mine
+        each_seat_name shows o size slots id m w mine
             (λ z. (n ≡ from → MadeAs z (Claim z (record { 0 = from }) (record { 0 = to }) Marker) to
             (with_marker z from m.0.hands) m.0 v' × (m.1 ≡ m.1))
             × (n ≢ from → Made z (Look z Log) n m (v', m.1))) (
-              (λ _. ((refl, was shows size s r id w m.0 there mine e may tt), refl)),
+              (λ _. ((refl, was shows o size s r id w m.0 there mine e may tt), refl)),
               (λ miss. absurd (miss hit)),
             ),
       ))
       (λ miss. let v' = view_after m.0 (Look w Log) n false in
-      look_owes shows size slots id m w mine s r there Log tt tt then (λ made _.
-      each_seat_name shows size slots id m w mine
+      look_owes shows o size slots id m w mine s r there Log tt tt then (λ made _.
+      each_seat_name shows o size slots id m w mine
       (λ z. (n ≡ from → MadeAs z (Claim z (record { 0 = from }) (record { 0 = to }) Marker) to
       (with_marker z from m.0.hands) m.0 v' × (m.1 ≡ m.1))
       × (n ≢ from → Made z (Look z Log) n m (v', m.1)))

@@ -61,6 +61,7 @@ use Rattle.path_core.proofs.frame.Words.{other_seat, columns, same_elsewhere, le
 use Rattle.path_core.proofs.runs.EveryRun.{past_lawful, opening_lawful}
 use Rattle.path_core.proofs.runs.Sizes.{as_many_seats}
 use Rattle.path_core.proofs.seats.Columns.{own_after, Columns}
+use Rattle.path_rule.specs.declared.lasting.Beside.{Beside}
 use Rattle.path_rule.specs.declared.lasting.Lasting.{Lasting}
 use Rattle.path_rule.specs.declared.slot.Slot.{Slot}
 use Rattle.path_rule.specs.declared.view.Hands.{Hands}
@@ -112,8 +113,8 @@ homes_length hs (c ∷ cs) gives = length-set hs c.0 (some c.1)
 homes_length hs cs (chain a b) = homes_length (homes_after hs cs a) (carried_after cs a) b
     ∙ homes_length hs cs a
 
-module _ {K : Type 0} (shows : K → Lasting) (size : PathSize) (s : State (Slot K) View)
-    (r : Ruled shows size s) where
+module _ {K : Type 0} (shows : K → Lasting) (o : Beside) (size : PathSize) (s : State (Slot K) View)
+    (r : Ruled shows o size s) where
   pub core_lawful : IsLawfulPath r.core
   core_lawful = past_lawful r.events (start_of size) r.core
       (opening_lawful size.tables size.seats size.capacity size.ordinals size.base r.fit) r.run
@@ -225,9 +226,9 @@ module _ {K : Type 0} (shows : K → Lasting) (size : PathSize) (s : State (Slot
 
       -- with what the keeper may have kept up to a key
       pub plays_to : (key : ℕ) → MayBeKept x' key → (cs : List (ℕ × Slot K)) (a : Act (Slot K))
-          → Boxed shows size.seats x'.notes (shown size.at_open key x') x'.claims x'.append
+          → Boxed shows size.seats x'.notes (shown o size.at_open key x') x'.claims x'.append
           (homes_after s.homes cs a) (set s.views id v')
-          → Ruled shows size (stepped s (word_at (place_of e)) n id cs v' a)
+          → Ruled shows o size (stepped s (word_at (place_of e)) n id cs v' a)
       plays_to key may_be cs a boxed = record {
         core = x';
         events = es';
@@ -282,8 +283,8 @@ module _ {K : Type 0} (shows : K → Lasting) (size : PathSize) (s : State (Slot
 
       -- with what it may have kept before
       pub plays : (cs : List (ℕ × Slot K)) (a : Act (Slot K))
-          → Boxed shows size.seats x'.notes (shown size.at_open r.kept_to x') x'.claims x'.append
+          → Boxed shows size.seats x'.notes (shown o size.at_open r.kept_to x') x'.claims x'.append
           (homes_after s.homes cs a) (set s.views id v')
-          → Ruled shows size (stepped s (word_at (place_of e)) n id cs v' a)
+          → Ruled shows o size (stepped s (word_at (place_of e)) n id cs v' a)
       plays cs a boxed = plays_to r.kept_to
           (kept_stays r.core core_lawful e may r.kept_to r.may_be_kept) cs a boxed

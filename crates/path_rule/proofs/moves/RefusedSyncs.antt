@@ -53,6 +53,7 @@ use Rattle.path_core.specs.SeatAfter.{seat_after}
 use Rattle.path_core.specs.Steps.{HasPassedMarker}
 use Rattle.path_core.proofs.log.Deposited.{all_deposited}
 use Rattle.path_core.proofs.runs.EveryRun.{log_of}
+use Rattle.path_rule.specs.declared.lasting.Beside.{Beside}
 use Rattle.path_rule.specs.declared.lasting.Lasting.{Lasting}
 use Rattle.path_rule.specs.declared.slot.Slot.{Slot}
 use Rattle.path_rule.specs.declared.view.Hands.{Hands}
@@ -124,7 +125,8 @@ deposited_to x L value by group P marked = record {
       };
     }
 
-module _ {K : Type 0} (shows : K → Lasting) (size : PathSize) (slots id : ℕ) (m : Me (Slot K) View)
+module _ {K : Type 0} (shows : K → Lasting) (o : Beside) (size : PathSize) (slots id : ℕ) (m : Me
+    (Slot K) View)
     (w : ℕ) (mine : m.0.role ≡ Steps w) (upto : ℕ) (turn : TurnRuns m.0.part upto)
     (all : m.0.hands.progress.gathered ≡ true) (empty : m.0.hands.box_taken ≡ None)
     (barred : IsBarred m.0.hands upto) (kept pending : List EntryNote)
@@ -136,25 +138,26 @@ module _ {K : Type 0} (shows : K → Lasting) (size : PathSize) (slots id : ℕ)
   abbrev held : IsTrue (is_some m.0.part.sync)
   held = is_held m.0.part.sync turn.0 turn.2
 
-  module _ (s : State (Slot K) View) (r : Ruled shows size s)
+  module _ (s : State (Slot K) View) (r : Ruled shows o size s)
       (there : get_elem? s.views id ≡ some m.0) where
     low : r.core.synced < upto
-    low = let X = turn_exact shows size slots id m w mine s r there turn.0 turn.2 in
+    low = let X = turn_exact shows o size slots id m w mine s r there turn.0 turn.2 in
         let q = X.synced turn.1 turn.4 in let k = turn.5 in omega arith
 
     running : r.core.stopped ≡ 0
-    running = let X = turn_exact shows size slots id m w mine s r there turn.0 turn.2 in
+    running = let X = turn_exact shows o size slots id m w mine s r there turn.0 turn.2 in
         sym (X.stopped 0 turn.3)
 
     -- up to which key the keeper may have kept entries now
     abbrev kept_key : (key : ℕ) × MayBeKept r.core key
         × (kept ≡ filter (is_between r.core.synced key) r.core.notes)
-    kept_key = let D = (hands_now shows size slots id m w mine s r there).desk held in ⊎_elim
+    kept_key = let D = (hands_now shows o size slots id m w mine s r there).desk held in ⊎_elim
         (λ same. (r.kept_to, r.may_be_kept, same ∙ ap (λ (l : Lasting). l.kept) D.0))
-        (λ (P : (left : List EntryNote) × _). let S = settled shows size slots id m w mine s r there
+        (λ (P : (left : List EntryNote) × _). let S = settled shows o size slots id m w mine s r
+        there
         turn.0 turn.2 turn.3 all upto kept P.0 low barred P.1 in (
           upto,
-          inr (deposited_to r.core (core_lawful shows size s r) upto barred.0 barred.1 S.0.row.3
+          inr (deposited_to r.core (core_lawful shows o size s r) upto barred.0 barred.1 S.0.row.3
               (r.boxed.marked ∙ (ap (λ (k : Progress). k.marker) (sym D.2) ∙ barred.2))),
           sym S.1,
         )) now
@@ -168,17 +171,17 @@ module _ {K : Type 0} (shows : K → Lasting) (size : PathSize) (slots id : ℕ)
         (set s.views id v')
     boxed_now stopped after v' role out on hands logged shows_after = let x = r.core in
         let B = r.boxed in
-        let D = (hands_now shows size slots id m w mine s r there).desk held in
+        let D = (hands_now shows o size slots id m w mine s r there).desk held in
         let P : IsPermutation B.pending pending =
         subst (λ (l : List EntryNote). IsPermutation l pending) D.1 perm in
         let back : (n : EntryNote) → Contains pending n → Contains B.pending n =
         λ n a. Contains-permutation pending B.pending n (IsPermutation-sym B.pending pending P) a in
-        boxed_desk_turns shows size.seats x.notes (shown size.at_open r.kept_to x) after x.claims
+        boxed_desk_turns shows size.seats x.notes (shown o size.at_open r.kept_to x) after x.claims
         x.append
         s.homes s.views B id w m.0 v' there mine role
-        (outside shows size slots id m w mine s r there held) out held on empty
+        (outside shows o size slots id m w mine s r there held) out held on empty
         (ap (λ (h : Hands). h.box_taken) hands ∙ empty)
-        (others_free shows size slots id m w mine s r there held) pending (
+        (others_free shows o size slots id m w mine s r there held) pending (
           ap (λ (h : Hands). h.lasting) hands ∙ shows_after,
           ap (λ (h : Hands). h.pending) hands,
           ap (λ (h : Hands). h.progress) hands ∙ D.2,
@@ -197,7 +200,7 @@ module _ {K : Type 0} (shows : K → Lasting) (size : PathSize) (slots id : ℕ)
 
   pub keeps_refused : CarriesAs shows (refused_lasting kept m.0.hands.lasting.stopped
       m.0.hands.lasting) pending m.0.hands.progress m
-      → Allows (Ruled shows size) slots id m 6 (λ n. n)
+      → Allows (Ruled shows o size) slots id m 6 (λ n. n)
       (RefusedKept shows (step slots 6 0 0 none) m)
   keeps_refused C s r _ there _ = let n = slice_index s.words 6 in let x = r.core in
       let e = Look w (CursorWord Stopped) in
@@ -205,36 +208,36 @@ module _ {K : Type 0} (shows : K → Lasting) (size : PathSize) (slots id : ℕ)
       let h = hands_with stopped in
       let v' = view_after (with_hands h m.0) e n false in
       let found : n ≡ x.stopped = r.words (CursorWord Stopped) tt in
-      let D = (hands_now shows size slots id m w mine s r there).desk held in
+      let D = (hands_now shows o size slots id m w mine s r there).desk held in
       let k = kept_key s r there in
       let may : IsStep x e = record {
-        seat = within shows size slots id m w mine s r there;
+        seat = within shows o size slots id m w mine s r there;
         is_there = tt;
         row = tt;
       } in
-      let after_is : refused_lasting kept stopped m.0.hands.lasting ≡ shown size.at_open k.0 x =
+      let after_is : refused_lasting kept stopped m.0.hands.lasting ≡ shown o size.at_open k.0 x =
       (λ j. refused_lasting (k.2 j) ((ap (λ (l : Lasting). l.stopped) D.0) j) (D.0 j)) in (
         v',
         keeps,
         tt,
-        plays_to shows size s r id w m.0 there mine e refl may tt tt tt
+        plays_to shows o size s r id w m.0 there mine e refl may tt tt tt
             (rows_stay x e may (λ q. q) r.rows) n n false h found
             (ap (λ q. seat_after m.0.part e (Number q) (told_by false h)) found) k.0
-            (kept_stays x (core_lawful shows size s r) e may k.0 k.1) m.1 keeps
-            (boxed_now s r there stopped (shown size.at_open k.0 x) v' refl
-            (outside shows size slots id m w mine s r there held)
+            (kept_stays x (core_lawful shows o size s r) e may k.0 k.1) m.1 keeps
+            (boxed_now s r there stopped (shown o size.at_open k.0 x) v' refl
+            (outside shows o size slots id m w mine s r there held)
             (still _ m.0.part.sync held) refl refl after_is),
         (λ z u role bar. subst
             (λ (q : ℕ). MadeRefused shows q stopped z (Look z (CursorWord Stopped)) n m (v', m.1))
             (one_start m.0.hands upto u barred bar)
-            (each_seat_name shows size slots id m w mine
+            (each_seat_name shows o size slots id m w mine
             (λ y. MadeRefused shows upto stopped y (Look y (CursorWord Stopped)) n m (v', m.1)) (
               (
                 kept,
                 pending,
                 perm,
                 now,
-                (refl, was shows size s r id w m.0 there mine e may tt),
+                (refl, was shows o size s r id w m.0 there mine e may tt),
                 C,
               ),
               refl,
@@ -245,47 +248,47 @@ module _ {K : Type 0} (shows : K → Lasting) (size : PathSize) (slots id : ℕ)
   pub halts : (value : ℕ) → HasRisen m.0.hands.lasting.at_open value
       → CarriesAs shows (refused_lasting kept (Some value) m.0.hands.lasting) pending
       m.0.hands.progress m
-      → Allows (Ruled shows size) slots id m 6 (λ _. value)
+      → Allows (Ruled shows o size) slots id m 6 (λ _. value)
       (λ _. StoppedPut shows (step slots 6 value 0 none) m value)
   halts value risen C s r _ there _ = let x = r.core in let e = Put w Stopped value in
       let above = risen_above m.0.hands.lasting.at_open value risen in
       let h = hands_with (Some value) in
       let v' = view_after (with_hands h m.0) e value false in
-      let D = (hands_now shows size slots id m w mine s r there).desk held in
+      let D = (hands_now shows o size slots id m w mine s r there).desk held in
       let k = kept_key s r there in
       let may : IsStep x e = record {
-        seat = within shows size slots id m w mine s r there;
+        seat = within shows o size slots id m w mine s r there;
         is_there = tt;
         row = (
-          has shows size slots id m w mine s r there held,
+          has shows o size slots id m w mine s r there held,
           above,
           running s r there,
         );
       } in
       let built = subst (λ (k : ℕ). HasRisen k value) (ap (λ (l : Lasting). l.at_open) D.0) risen in
-      let after_is : refused_lasting kept (Some value) m.0.hands.lasting ≡ shown size.at_open k.0
+      let after_is : refused_lasting kept (Some value) m.0.hands.lasting ≡ shown o size.at_open k.0
       (next_of x e) =
       (λ j. refused_lasting (k.2 j) (sym (counts_fault value above) j) (D.0 j)) in (
         v',
         keeps,
         tt,
-        plays_to shows size s r id w m.0 there mine e refl may tt built tt
+        plays_to shows o size s r id w m.0 there mine e refl may tt built tt
             (rows_stay x e may (λ q. q) r.rows) value value false h refl refl k.0
-            (kept_stays x (core_lawful shows size s r) e may k.0 k.1) m.1 keeps
-            (boxed_now s r there (Some value) (shown size.at_open k.0 (next_of x e)) v' refl
-            (outside shows size slots id m w mine s r there held)
+            (kept_stays x (core_lawful shows o size s r) e may k.0 k.1) m.1 keeps
+            (boxed_now s r there (Some value) (shown o size.at_open k.0 (next_of x e)) v' refl
+            (outside shows o size slots id m w mine s r there held)
             (still _ m.0.part.sync held) refl refl after_is),
         (λ z u role bar. subst
             (λ (q : ℕ). MadeRefused shows q (Some value) z (Put z Stopped value) value m (v', m.1))
             (one_start m.0.hands upto u barred bar)
-            (each_seat_name shows size slots id m w mine
+            (each_seat_name shows o size slots id m w mine
             (λ y. MadeRefused shows upto (Some value) y (Put y Stopped value) value m (v', m.1)) (
               (
                 kept,
                 pending,
                 perm,
                 now,
-                (refl, was shows size s r id w m.0 there mine e may tt),
+                (refl, was shows o size s r id w m.0 there mine e may tt),
                 C,
               ),
               refl,

@@ -23,6 +23,7 @@ use Rattle.path_core.specs.Next.{is_between}
 use Rattle.path_core.specs.Parts.{last_marker}
 use Rattle.path_core.proofs.frame.Seats.{current_is_made}
 use Rattle.path_core.proofs.log.MarkerTells.{last_synced, claim_of_kept}
+use Rattle.path_rule.specs.declared.lasting.Beside.{Beside}
 use Rattle.path_rule.specs.declared.lasting.Lasting.{Lasting}
 use Rattle.path_rule.specs.declared.slot.Slot.{Slot}
 use Rattle.path_rule.specs.declared.view.PathSize.{PathSize}
@@ -38,17 +39,18 @@ use Rattle.path_rule.proofs.moves.HolderFacts.{has, is_held, hands_now}
 use Rattle.path_rule.proofs.moves.Looks.{within, own_part}
 use Rattle.path_rule.proofs.moves.Moving.{core_lawful}
 
-module _ {K : Type 0} (shows : K → Lasting) (size : PathSize) (slots id : ℕ) (m : Me (Slot K) View)
+module _ {K : Type 0} (shows : K → Lasting) (o : Beside) (size : PathSize) (slots id : ℕ) (m : Me
+    (Slot K) View)
     (w : ℕ) (mine : m.0.role ≡ Steps w) where
-  module _ (s : State (Slot K) View) (r : Ruled shows size s)
+  module _ (s : State (Slot K) View) (r : Ruled shows o size s)
       (there : get_elem? s.views id ≡ some m.0) where
     -- what the holder found of the cursors while it holds the turn is exact
     pub turn_exact : (t : SyncTurn) → m.0.part.sync ≡ Some t → SyncExact r.core t
-    turn_exact t e = ((core_lawful shows size s r).seats_know w).sync t
-        (own_part shows size slots id m w mine s r there (λ (p : Seat). p.sync) (Some t) e)
+    turn_exact t e = ((core_lawful shows o size s r).seats_know w).sync t
+        (own_part shows o size slots id m w mine s r there (λ (p : Seat). p.sync) (Some t) e)
 
   -- What the holder of the turn has gathered is what the machine would make lasting.
-  module _ (s : State (Slot K) View) (r : Ruled shows size s)
+  module _ (s : State (Slot K) View) (r : Ruled shows o size s)
       (there : get_elem? s.views id ≡ some m.0) (t : SyncTurn) (sync : m.0.part.sync ≡ Some t)
       (runs : t.stopped ≡ Some 0) (all : m.0.hands.progress.gathered ≡ true)
       (value : ℕ) (run left : List EntryNote) (low : r.core.synced < value)
@@ -57,10 +59,10 @@ module _ {K : Type 0} (shows : K → Lasting) (size : PathSize) (slots id : ℕ)
     pub settled : IsStep r.core (Put w Synced value)
         × (filter (is_between r.core.synced value) r.core.notes ≡ run)
         × ((b : ℕ) (n : EntryNote) → Contains (r.boxed.contents b) n → value < n.end.0)
-    settled = let x = r.core in let B = r.boxed in let law = core_lawful shows size s r in
+    settled = let x = r.core in let B = r.boxed in let law = core_lawful shows o size s r in
         let held = is_held m.0.part.sync t sync in
         let X = turn_exact s r there t sync in
-        let H = hands_now shows size slots id m w mine s r there in let D = H.desk held in
+        let H = hands_now shows o size slots id m w mine s r there in let D = H.desk held in
         let whole : B.progress.gathered ≡ true =
         ap (λ (k : Progress). k.gathered) (sym D.2) ∙ all in
         let by : ℕ = barred.0 in let group : ℕ = barred.1 in
@@ -83,10 +85,10 @@ module _ {K : Type 0} (shows : K → Lasting) (size : PathSize) (slots id : ℕ)
         let point : IsSyncPoint x value =
         subst (λ k. IsSyncPoint x k) start (last_synced x c C.1 group issued gone) in (
           record {
-            seat = within shows size slots id m w mine s r there;
+            seat = within shows o size slots id m w mine s r there;
             is_there = tt;
             row = (
-              has shows size slots id m w mine s r there held,
+              has shows o size slots id m w mine s r there held,
               sym
                   (X.stopped 0 runs),
               low,
@@ -97,7 +99,7 @@ module _ {K : Type 0} (shows : K → Lasting) (size : PathSize) (slots id : ℕ)
               (λ n h. B.sound n (inl h)) (λ n h. B.unlogged n (inl h))
               (λ k. let a = B.alone k 0 1 (λ q. absurd (omega arith)) in omega arith)
               (λ n h le. gathered_all shows size.seats x.notes
-              (shown size.at_open r.kept_to x) x.claims x.append s.homes s.views B whole M.number
+              (shown o size.at_open r.kept_to x) x.claims x.append s.homes s.views B whole M.number
               group M.inside
               M.marker
               M.barrier below n h

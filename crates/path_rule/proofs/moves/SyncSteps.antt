@@ -46,6 +46,7 @@ use Rattle.path_core.specs.Next.{next_of}
 use Rattle.path_core.proofs.lists.Inserted.{map_old, map_from}
 use Rattle.path_core.proofs.log.Between.{between}
 use Rattle.path_core.proofs.log.KeepsNotes.{note_long}
+use Rattle.path_rule.specs.declared.lasting.Beside.{Beside}
 use Rattle.path_rule.specs.declared.lasting.Lasting.{Lasting}
 use Rattle.path_rule.specs.declared.slot.Slot.{Slot}
 use Rattle.path_rule.specs.declared.slot.Slot.TheVariants.{Notes, Turn}
@@ -84,23 +85,23 @@ abbrev pub top_box : {K : Type 0} → Slot K → List (ℕ × Slot K) → Slot K
 top_box d [] = d
 top_box d (c ∷ cs) = c.1
 
-module _ {K : Type 0} (shows : K → Lasting) (size : PathSize) (slots id : ℕ)
+module _ {K : Type 0} (shows : K → Lasting) (o : Beside) (size : PathSize) (slots id : ℕ)
     (m : Me (Slot K) View) (w : ℕ) (mine : m.0.role ≡ Steps w) where
   pub syncs : (value : ℕ) (run left : List EntryNote) (y : Slot K) (cs : List (ℕ × Slot K))
       → TurnRuns m.0.part value → m.0.hands.progress.gathered ≡ true → m.0.hands.box_taken ≡ None
       → IsBarred m.0.hands value
       → IsParted value m.0.hands.pending run left → m.1 ≡ (desk_box, y) ∷ cs
       → DeskIs shows y (more_lasting run value m.0.hands.lasting) left m.0.hands.progress
-      → Allows (Ruled shows size) slots id m 5 (λ _. value)
+      → Allows (Ruled shows o size) slots id m 5 (λ _. value)
       (λ _. SyncedPut shows (step slots 5 value 0 none) m value)
   syncs value run left y cs turn all empty barred parted holds fits s r _ there _ = let x =
       r.core in let B = r.boxed in let e = Put w Synced value in
-      let law = core_lawful shows size s r in let t = turn.0 in
+      let law = core_lawful shows o size s r in let t = turn.0 in
       let held = is_held m.0.part.sync t turn.2 in
-      let X = turn_exact shows size slots id m w mine s r there t turn.2 in
-      let H = hands_now shows size slots id m w mine s r there in let D = H.desk held in
+      let X = turn_exact shows o size slots id m w mine s r there t turn.2 in
+      let H = hands_now shows o size slots id m w mine s r there in let D = H.desk held in
       let low : x.synced < value = (let q = X.synced turn.1 turn.4 in let k = turn.5 in
-      omega arith) in let S = settled shows size slots id m w mine s r there t turn.2 turn.3 all
+      omega arith) in let S = settled shows o size slots id m w mine s r there t turn.2 turn.3 all
       value run left low barred
       parted in let may = S.0 in let is = S.1 in let above = S.2 in
       let P : IsParted value B.pending run left =
@@ -119,29 +120,31 @@ module _ {K : Type 0} (shows : K → Lasting) (size : PathSize) (slots id : ℕ)
       law.each_claim_noted_once law.notes_are_claims k h) in
       let both : ends (old ++ run) ≡ lasting_ends x ++ ends run =
       map-append (λ (k : EntryNote). k.end.0) old run in
-      let now_is : more_lasting run value (shown size.at_open r.kept_to x) ≡ shown size.at_open
+      let now_is : more_lasting run value (shown o size.at_open r.kept_to x) ≡ shown o size.at_open
       value (next_of x e) =
-      (λ j. record (more_lasting run value (shown size.at_open r.kept_to x)) {
+      (λ j. record (more_lasting run value (shown o size.at_open r.kept_to x)) {
         logged = lasts j;
         kept = sym (none_kept value value x.notes (omega arith)) j;
       }) in
-      let now : shown size.at_open value (next_of x e) ≡ more_lasting run value m.0.hands.lasting =
+      let now : shown o size.at_open value (next_of x e) ≡ more_lasting run value m.0.hands.lasting
+      =
       sym now_is ∙ (λ j. more_lasting run value (sym D.0 j)) in
       let h = with_desk (more_lasting run value m.0.hands.lasting) left m.0.hands.progress
       m.0.hands in let v' = view_after (with_hands h m.0) e value false in
-      let out = outside shows size slots id m w mine s r there held in
+      let out = outside shows o size slots id m w mine s r there held in
       let grown : (q : EntryNote) → Contains (ends (old ++ run)) q.end.0
       → Contains (lasting_ends x) q.end.0 ⊎ (q.end.0 ≤ value) = λ q h. ⊎_elim (λ a. inl a)
       (λ b. let o = map_from (λ (n : EntryNote). n.end.0) run q.end.0 b in
       inr (let k = P.low o.0 o.1 in let z = o.2 in omega arith))
       (Contains-append_cases (lasting_ends x) (ends run) q.end.0
       (subst (λ (l : List ℕ). Contains l q.end.0) both h)) in
-      let boxed = boxed_desk_turns shows size.seats x.notes (shown size.at_open r.kept_to x)
-      (more_lasting run value (shown size.at_open r.kept_to x)) x.claims x.append s.homes s.views B
+      let boxed = boxed_desk_turns shows size.seats x.notes (shown o size.at_open r.kept_to x)
+      (more_lasting run value (shown o size.at_open r.kept_to x)) x.claims x.append s.homes s.views
+      B
       id w
       m.0 v'
       there mine refl out out held (still_some m.0.part.sync held) empty empty
-      (others_free shows size slots id m w mine s r there held) left
+      (others_free shows o size slots id m w mine s r there held) left
       ((λ j. more_lasting run value (D.0 j)), refl, D.2) refl
       (λ n q. ⊎_elim (λ a. inl (subst (λ (l : List ℕ). Contains l n.end.0) (sym both)
       (Contains-append_left (lasting_ends x) (ends run) n.end.0 a)))
@@ -160,7 +163,7 @@ module _ {K : Type 0} (shows : K → Lasting) (size : PathSize) (slots id : ℕ)
         v',
         keeps,
         tt,
-        plays_to shows size s r id w m.0 there mine e refl may tt tt tt
+        plays_to shows o size s r id w m.0 there mine e refl may tt tt tt
             (rows_stay x e may (λ q. q) r.rows) value value false h refl refl value
             (inl (omega arith)) m.1 keeps
             (subst (λ q. Boxed shows size.seats x.notes q x.claims x.append s.homes
@@ -172,15 +175,18 @@ module _ {K : Type 0} (shows : K → Lasting) (size : PathSize) (slots id : ℕ)
             λ z lasting pending. MadeAs z (Put z Synced value) value
             (with_desk lasting pending m.0.hands.progress m.0.hands) m.0 v' × (m.1 ≡ m.1)
             × ((was : Was m.0 z (Put z Synced value))
-            × (shown m.0.size.at_open value (next_of was.core (Put z Synced value)) ≡ lasting)) in
-            each_seat_name shows size slots id m w mine (λ z. Q z lasting pending)
+            × (shown lasting.beside m.0.size.at_open value (next_of was.core (Put z Synced value))
+            ≡ lasting)) in
+            each_seat_name shows o size slots id m w mine (λ z. Q z lasting pending)
             (subst (λ (q : Lasting × List EntryNote). Q w q.0 q.1) (λ j. (d.0 j, d.1 j)) (
-              (refl, was shows size s r id w m.0 there mine e may tt),
+              (refl, was shows o size s r id w m.0 there mine e may tt),
               refl,
               (
-                was shows size s r id w m.0 there mine e may tt,
-                ap (λ (z : PathSize). shown z.at_open value (next_of x e))
-                    (known shows size s r id w m.0 there mine).0 ∙ now,
+                was shows o size s r id w m.0 there mine e may tt,
+                ap (λ (z : PathSize). shown m.0.hands.lasting.beside z.at_open value (next_of x e))
+                    (known shows o size s r id w m.0 there mine).0
+                    ∙ (ap (λ (b : Beside). shown b size.at_open value (next_of x e))
+                    (ap (λ (l : Lasting). l.beside) D.0) ∙ now),
               ),
             )) z role),
       )

@@ -27,6 +27,7 @@ use Rattle.path_core.specs.declared.seat.SyncTurn.{SyncTurn}
 use Rattle.path_core.specs.declared.state.OrderGroups.{OrderGroups}
 use Rattle.path_core.specs.LawfulSeats.{GroupsExact}
 use Rattle.path_core.specs.Parts.{groups_of}
+use Rattle.path_rule.specs.declared.lasting.Beside.{Beside}
 use Rattle.path_rule.specs.declared.lasting.Lasting.{Lasting}
 use Rattle.path_rule.specs.declared.slot.Slot.{Slot}
 use Rattle.path_rule.specs.declared.view.Hands.{Hands}
@@ -43,16 +44,18 @@ use Rattle.path_rule.proofs.moves.HolderFacts.{outside, others_free, others_near
 use Rattle.path_rule.proofs.moves.Looks.{own_part}
 use Rattle.path_rule.proofs.moves.Moving.{core_lawful}
 
-module _ {K : Type 0} (shows : K → Lasting) (size : PathSize) (slots id : ℕ) (m : Me (Slot K) View)
+module _ {K : Type 0} (shows : K → Lasting) (o : Beside) (size : PathSize) (slots id : ℕ) (m : Me
+    (Slot K) View)
     (w : ℕ) (mine : m.0.role ≡ Steps w) where
-  module _ (s : State (Slot K) View) (r : Ruled shows size s)
+  module _ (s : State (Slot K) View) (r : Ruled shows o size s)
       (there : get_elem? s.views id ≡ some m.0) (held : IsTrue (is_some m.0.part.sync)) where
     pub exact_of : (o : Order) (t : SyncTurn) → m.0.part.sync ≡ Some t
         → GroupsExact r.core o (turn_groups o t)
-    exact_of Write t e = (((core_lawful shows size s r).seats_know w).sync t
-        (own_part shows size slots id m w mine s r there (λ (p : Seat). p.sync) (Some t) e)).write
-    exact_of Append t e = (((core_lawful shows size s r).seats_know w).sync t
-        (own_part shows size slots id m w mine s r there (λ (p : Seat). p.sync) (Some t) e)).append
+    exact_of Write t e = (((core_lawful shows o size s r).seats_know w).sync t
+        (own_part shows o size slots id m w mine s r there (λ (p : Seat). p.sync) (Some t) e)).write
+    exact_of Append t e = (((core_lawful shows o size s r).seats_know w).sync t
+        (own_part shows o size slots id m w mine s r there (λ (p : Seat). p.sync)
+        (Some t) e)).append
 
     pub now_is : (o : Order) (c : ℕ) → TurnSaw o m.0.part c → c ≡ (groups_of r.core o).current
     now_is o c saw = (exact_of o saw.0 saw.1).current c saw.2
@@ -61,21 +64,21 @@ module _ {K : Type 0} (shows : K → Lasting) (size : PathSize) (slots id : ℕ)
     pub unseen : (groups : OrderGroups) (v' : View) → groups.current ≡ r.core.append.current
         → groups.oldest ≡ r.core.append.oldest → v'.role ≡ m.0.role → v'.part.append ≡ None
         → IsTrue (is_some v'.part.sync) → v'.hands ≡ m.0.hands → m.0.hands.box_taken ≡ None
-        → Boxed shows size.seats r.core.notes (shown size.at_open r.kept_to r.core) r.core.claims
+        → Boxed shows size.seats r.core.notes (shown o size.at_open r.kept_to r.core) r.core.claims
         groups s.homes
         (set s.views id v')
     unseen groups v' current oldest role out still same empty = let H =
-        hands_now shows size slots id m w mine s r there in
+        hands_now shows o size slots id m w mine s r there in
         boxed_goes shows size.seats r.core.notes
-        (shown size.at_open r.kept_to r.core) r.core.claims r.core.claims r.core.append groups
+        (shown o size.at_open r.kept_to r.core) r.core.claims r.core.claims r.core.append groups
         s.homes s.views
         r.boxed
-        id w m.0 v' there mine role (outside shows size slots id m w mine s r there held) out
+        id w m.0 v' there mine role (outside shows o size slots id m w mine s r there held) out
         held still
-        (others_free shows size slots id m w mine s r there held)
-        (others_near shows size slots id m w mine s r there held) r.boxed.progress empty
+        (others_free shows o size slots id m w mine s r there held)
+        (others_near shows o size slots id m w mine s r there held) r.boxed.progress empty
         (ap (λ (h : Hands). h.box_taken) same ∙ empty)
-        (subst (λ (h : Hands). (h.lasting ≡ shown size.at_open r.kept_to r.core) × (h.pending ≡
+        (subst (λ (h : Hands). (h.lasting ≡ shown o size.at_open r.kept_to r.core) × (h.pending ≡
         r.boxed.pending)
         × (h.progress ≡ r.boxed.progress)) (sym same) (H.desk held))
         (let n = r.boxed.near in omega arith)

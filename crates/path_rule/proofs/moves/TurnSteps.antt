@@ -40,6 +40,7 @@ use Rattle.path_core.specs.Next.{next_of, has_filed, newly_dropped}
 use Rattle.path_core.specs.Parts.{issue_of, holds_turn, IsIdle}
 use Rattle.path_core.specs.SeatAfter.{seat_after}
 use Rattle.path_core.proofs.frame.Turns.{unheld}
+use Rattle.path_rule.specs.declared.lasting.Beside.{Beside}
 use Rattle.path_rule.specs.declared.lasting.Lasting.{Lasting}
 use Rattle.path_rule.specs.declared.slot.Slot.{Slot}
 use Rattle.path_rule.specs.declared.view.PathSize.{PathSize}
@@ -65,41 +66,44 @@ one_held : (n : ℕ) (b : Bool) → n ≡ cond b 1 0 → n ≢ 0 → n ≡ 1
 one_held n true is miss = is
 one_held n false is miss = absurd (miss is)
 
-module _ {K : Type 0} (shows : K → Lasting) (size : PathSize) (slots id : ℕ) (m : Me (Slot K) View)
+module _ {K : Type 0} (shows : K → Lasting) (o : Beside) (size : PathSize) (slots id : ℕ) (m : Me
+    (Slot K) View)
     (w : ℕ) (mine : m.0.role ≡ Steps w) where
   pub takes_sync : IsIdle m.0.part → m.0.part.sync ≡ None
-      → Allows (Ruled shows size) slots id m 7 (λ n. either (eqb n 0) 1 n)
+      → Allows (Ruled shows o size) slots id m 7 (λ n. either (eqb n 0) 1 n)
       (SyncTaken shows (step slots 7 0 1 none) m)
   takes_sync idle bare s r _ there _ = let n = slice_index s.words 7 in let x = r.core in
-      let empty = untaken shows size s r id w m.0 there mine bare in
+      let empty = untaken shows o size s r id w m.0 there mine bare in
       let then = SyncTaken shows (step slots 7 0 1 none) m n in
-      exchanged n 0 1 (λ z. Owes shows size slots id m w mine s 7 z then)
-      (λ hit. let e = TakeTurn w Sync in let is = as_part shows size slots id m w mine s r there in
-      let h = with_desk (shown size.at_open r.kept_to x) r.boxed.pending r.boxed.progress m.0.hands
+      exchanged n 0 1 (λ z. Owes shows o size slots id m w mine s 7 z then)
+      (λ hit. let e = TakeTurn w Sync in let is = as_part shows o size slots id m w mine s r there
+      in
+      let h = with_desk (shown o size.at_open r.kept_to x) r.boxed.pending r.boxed.progress
+      m.0.hands
       in
       let v' = view_after (with_hands h m.0) e 1 false in
       let free = unheld x Sync (ap Number (sym (r.words (TurnWord Sync) tt) ∙ hit)) in
-      let in_it = within shows size slots id m w mine s r there in
+      let in_it = within shows o size slots id m w mine s r there in
       let may : IsStep x e = record {
         seat = in_it;
         is_there = tt;
         row =
             (subst IsIdle is idle, free);
       } in
-      let home = r.boxed.at_home desk_box (omega arith) (desk_free shows size s r free) in (
+      let home = r.boxed.at_home desk_box (omega arith) (desk_free shows o size s r free) in (
         v',
         takes desk_box home.0,
         home.1,
-        plays shows size s r id w m.0 there mine e refl may tt tt tt
+        plays shows o size s r id w m.0 there mine e refl may tt tt tt
             (rows_stay x e may (λ q. q) r.rows) 1 1 false h refl
             (ap (λ k. seat_after m.0.part e (Number 1) (record { files = false; marker = k }))
             (sym r.boxed.marked)) m.1 (takes desk_box home.0)
             (boxed_desk_take shows size.seats x.notes
-            (shown size.at_open r.kept_to x) x.claims x.append s.homes s.views r.boxed id w m.0 v'
+            (shown o size.at_open r.kept_to x) x.claims x.append s.homes s.views r.boxed id w m.0 v'
             there mine
             refl
             idle.append idle.append empty empty refl refl (refl, refl, refl)),
-        each_seat_name shows size slots id m w mine
+        each_seat_name shows o size slots id m w mine
             (λ z. (m.0.hands.box_taken ≡ None)
             × (n ≡ 0 → ((lasting : Lasting) × (pending : List EntryNote) × (marks : Progress)
             × MadeAs z (TakeTurn z Sync) 1 (with_desk lasting pending marks m.0.hands) m.0 v'
@@ -110,12 +114,12 @@ module _ {K : Type 0} (shows : K → Lasting) (size : PathSize) (slots id : ℕ)
               empty,
               (λ _. (
                 (
-                  shown size.at_open r.kept_to x,
+                  shown o size.at_open r.kept_to x,
                   r.boxed.pending,
                   r.boxed.progress,
-                  (refl, was shows size s r id w m.0 there mine e may tt),
+                  (refl, was shows o size s r id w m.0 there mine e may tt),
                   ap (λ (z : PathSize). z.at_open)
-                      (sym (known shows size s r id w m.0 there mine).0),
+                      (sym (known shows o size s r id w m.0 there mine).0),
                 ),
                 (home.0, refl, home.2.desk refl),
               )),
@@ -123,8 +127,8 @@ module _ {K : Type 0} (shows : K → Lasting) (size : PathSize) (slots id : ℕ)
             ),
       ))
       (λ miss. let v' = view_after m.0 (Look w (TurnWord Sync)) n false in
-      look_owes shows size slots id m w mine s r there (TurnWord Sync) tt tt then (λ made _.
-      each_seat_name shows size slots id m w mine
+      look_owes shows o size slots id m w mine s r there (TurnWord Sync) tt tt then (λ made _.
+      each_seat_name shows o size slots id m w mine
       (λ z. (m.0.hands.box_taken ≡ None)
       × (n ≡ 0 → ((lasting : Lasting) × (pending : List EntryNote) × (marks : Progress)
       × MadeAs z (TakeTurn z Sync) 1 (with_desk lasting pending marks m.0.hands) m.0 v'
@@ -144,42 +148,44 @@ module _ {K : Type 0} (shows : K → Lasting) (size : PathSize) (slots id : ℕ)
       → issue_of m.0.part ≡ Rest → m.0.hands.box_taken ≡ None → has_filed m.0.part ≡ false
       → m.1 ≡ (desk_box, y) ∷ cs → DeskIs shows y m.0.hands.lasting m.0.hands.pending
       m.0.hands.progress
-      → Allows (Ruled shows size) slots id m 7 (λ _. 0) (λ _. SyncGiven (step slots 7 0 0 none) m 0)
+      → Allows (Ruled shows o size) slots id m 7 (λ _. 0) (λ _. SyncGiven
+      (step slots 7 0 0 none) m 0)
   gives_sync y cs held rest_now empty unfiled holds fits s r _ there _ = let x = r.core in
-      let law = core_lawful shows size s r in let e = GiveTurn w Sync in
+      let law = core_lawful shows o size s r in let e = GiveTurn w Sync in
       let h = unswept_hands m.0.hands in let v' = view_after (with_hands h m.0) e 0 false in
-      let in_it = within shows size slots id m w mine s r there in
-      let has = own_part shows size slots id m w mine s r there
+      let in_it = within shows o size slots id m w mine s r there in
+      let has = own_part shows o size slots id m w mine s r there
       (λ (p : Seat). is_some p.sync) true held in
       let may : IsStep x e = record {
         seat = in_it;
         is_there = tt;
         row =
-            (has, own_part shows size slots id m w mine s r there issue_of Rest rest_now);
+            (has, own_part shows o size slots id m w mine s r there issue_of Rest rest_now);
       } in
-      let same : shown size.at_open r.kept_to x ≡ shown size.at_open r.kept_to (next_of x e) =
-      ap (λ (b : Bool). record (shown size.at_open r.kept_to x) {
+      let same : shown o size.at_open r.kept_to x ≡ shown o size.at_open r.kept_to (next_of x e) =
+      ap (λ (b : Bool). record (shown o size.at_open r.kept_to x) {
         dropped = cond b
             (x.dropped ++ newly_dropped x) x.dropped;
       })
-      (sym (own_part shows size slots id m w mine s r there has_filed false unfiled)) in
-      let out = ap (λ (p : Seat). p.append) (as_part shows size slots id m w mine s r there)
+      (sym (own_part shows o size slots id m w mine s r there has_filed false unfiled)) in
+      let out = ap (λ (p : Seat). p.append) (as_part shows o size slots id m w mine s r there)
       ∙ (law.orders.one_holder_a_turn.holder_is_idle Sync w has).1 in (
         v',
         gives,
         tt,
-        plays shows size s r id w m.0 there mine e refl may tt tt tt
+        plays shows o size s r id w m.0 there mine e refl may tt tt tt
             (rows_stay x e may (λ q. q) r.rows) 0 0 false h refl refl m.1 gives
             (subst (λ q. Boxed shows size.seats x.notes q x.claims x.append (put_back s.homes m.1)
             (set s.views id v')) same (subst
-            (λ l. Boxed shows size.seats x.notes (shown size.at_open r.kept_to x) x.claims x.append
+            (λ l. Boxed shows size.seats x.notes (shown o size.at_open r.kept_to x) x.claims
+            x.append
             (put_back s.homes l) (set s.views id v')) (sym holds)
             (boxed_desk_give shows size.seats x.notes
-            (shown size.at_open r.kept_to x) x.claims x.append s.homes s.views r.boxed id w m.0 v'
+            (shown o size.at_open r.kept_to x) x.claims x.append s.homes s.views r.boxed id w m.0 v'
             there mine
             refl out
             out empty empty refl y refl held fits r.deep))),
-        each_seat_name shows size slots id m w mine
+        each_seat_name shows o size slots id m w mine
             (λ z. MadeAs z (GiveTurn z Sync) 0 h m.0 v' × (rest m.1 ≡ rest m.1))
-            ((refl, was shows size s r id w m.0 there mine e may tt), refl),
+            ((refl, was shows o size s r id w m.0 there mine e may tt), refl),
       )

@@ -47,6 +47,7 @@ use Rattle.path_core.specs.Next.{next_of}
 use Rattle.path_core.specs.Parts.{groups_of, tally_of, issue_of}
 use Rattle.path_core.specs.SeatAfter.{seat_after}
 use Rattle.path_core.proofs.frame.Seats.{current_is_made, at_rest}
+use Rattle.path_rule.specs.declared.lasting.Beside.{Beside}
 use Rattle.path_rule.specs.declared.lasting.Lasting.{Lasting}
 use Rattle.path_rule.specs.declared.slot.Slot.{Slot}
 use Rattle.path_rule.specs.declared.view.PathSize.{PathSize}
@@ -71,47 +72,47 @@ use Rattle.path_rule.proofs.moves.TurnFacts.{exact_of, now_is, unseen}
 use Rattle.path_rule.proofs.places.ReadBack.{rows_stay, count_small}
 use Rattle.path_rule.proofs.seats.HolderKnows.{still}
 
-module _ {K : Type 0} (shows : K → Lasting) (size : PathSize) (slots id : ℕ)
+module _ {K : Type 0} (shows : K → Lasting) (o : Beside) (size : PathSize) (slots id : ℕ)
     (m : Me (Slot K) View) (w : ℕ) (mine : m.0.role ≡ Steps w) where
   pub opens_write : (g c : ℕ) → IsTrue (is_some m.0.part.sync) → issue_of m.0.part ≡ Rest
       → TurnSaw Write m.0.part c → g ≡ suc c → m.0.hands.box_taken ≡ None → g < 65536
-      → Allows (Ruled shows size) slots id m (72 + 2 * g) (λ _. 0)
+      → Allows (Ruled shows o size) slots id m (72 + 2 * g) (λ _. 0)
       (λ _. WriteOpened (step slots (72 + 2 * g) 0 0 none) m 0)
   opens_write g c held calm saw up empty fits s r _ there _ = let x = r.core in
       let e = OpenGroup w Write g in let v' = view_after m.0 e 0 false in
-      let law = core_lawful shows size s r in
-      let now = now_is shows size slots id m w mine s r there held Write c saw in
+      let law = core_lawful shows o size s r in
+      let now = now_is shows o size slots id m w mine s r there held Write c saw in
       let t = at_rest m.0.part held calm in
-      let is = issue_at shows size slots id m w mine s r there held Rest t.0 t.1 t.2 in
+      let is = issue_at shows o size slots id m w mine s r there held Rest t.0 t.1 t.2 in
       let long : length x.write.tallies ≡ suc x.write.current =
       (law.orders.made_groups Write).made ∙ ap (λ i. made_at i Write x.write.current) is in
       let may : IsStep x e = record {
-        seat = within shows size slots id m w mine s r there;
+        seat = within shows o size slots id m w mine s r there;
         is_there = tt;
         row = (
-          has shows size slots id m w mine s r there held,
-          own_part shows size
+          has shows o size slots id m w mine s r there held,
+          own_part shows o size
               slots id m w mine s r there issue_of Rest calm,
           up ∙ ap suc now,
         );
       } in
       let told = refl in
-      let out = outside shows size slots id m w mine s r there held in (
+      let out = outside shows o size slots id m w mine s r there held in (
         v',
         keeps,
         tt,
-        plays shows size s r id w m.0 there mine e refl may tt tt fits
+        plays shows o size s r id w m.0 there mine e refl may tt tt fits
             (rows s r g (let q = up ∙ ap suc now in omega arith)) 0 0 false m.0.hands told refl m.1
             keeps
-            (unseen shows size slots id m w mine s r there held
+            (unseen shows o size slots id m w mine s r there held
             (next_of x e).append v' refl refl refl out
             (still _ m.0.part.sync held) refl empty),
-        (λ z q role _ word. each_name shows size slots id m w mine 72 g
+        (λ z q role _ word. each_name shows o size slots id m w mine 72 g
             (λ z q. Made z (OpenGroup z Write q) 0 m (v', m.1))
-            ((refl, was shows size s r id w m.0 there mine e may tt), refl) z q role word),
+            ((refl, was shows o size s r id w m.0 there mine e may tt), refl) z q role word),
       )
     where
-      rows : (s : State (Slot K) View) (r : Ruled shows size s) (g : ℕ)
+      rows : (s : State (Slot K) View) (r : Ruled shows o size s) (g : ℕ)
           → length r.core.write.tallies < 65536 → HasRows (next_of r.core (OpenGroup w Write g))
       rows s r g more = record { groups = λ o. by o; memtables = r.rows.memtables }
         where
@@ -122,65 +123,65 @@ module _ {K : Type 0} (shows : K → Lasting) (size : PathSize) (slots id : ℕ)
 
   pub moves_write : (g c : ℕ) → issue_of m.0.part ≡ Opened Write → TurnSaw Write m.0.part c
       → g ≡ suc c → m.0.hands.box_taken ≡ None
-      → Allows (Ruled shows size) slots id m 0 (λ _. g)
+      → Allows (Ruled shows o size) slots id m 0 (λ _. g)
       (λ _. WriteMoved (step slots 0 g 0 none) m g)
   moves_write g c doing saw up empty s r _ there _ = let x = r.core in
       let e = MoveCurrent w Write g in let v' = view_after m.0 e c false in
-      let law = core_lawful shows size s r in
+      let law = core_lawful shows o size s r in
       let t = at_issue m.0.part (Opened Write) (λ q. cc) doing in
       let held = is_held m.0.part.sync t.0 t.1 in
-      let now = now_is shows size slots id m w mine s r there held Write c saw in
-      let is = issue_at shows size slots id m w mine s r there held (Opened Write) t.0 t.1 t.2 in
+      let now = now_is shows o size slots id m w mine s r there held Write c saw in
+      let is = issue_at shows o size slots id m w mine s r there held (Opened Write) t.0 t.1 t.2 in
       let long : length x.write.tallies ≡ suc (suc x.write.current) =
       (law.orders.made_groups Write).made ∙ ap (λ i. made_at i Write x.write.current) is in
       let made : g < length x.write.tallies = omega arith in
       let may : IsStep x e = record {
-        seat = within shows size slots id m w mine s r there;
+        seat = within shows o size slots id m w mine s r there;
         is_there = made;
         row = (
-          own_part shows size slots id m w mine s r there issue_of
+          own_part shows o size slots id m w mine s r there issue_of
               (Opened Write) doing,
           up ∙ ap suc now,
         );
       } in
-      let out = outside shows size slots id m w mine s r there held in (
+      let out = outside shows o size slots id m w mine s r there held in (
         v',
         keeps,
         tt,
-        plays shows size s r id w m.0 there mine e refl may tt tt tt
+        plays shows o size s r id w m.0 there mine e refl may tt tt tt
             (rows_stay x e may (λ q. q) r.rows) g c false m.0.hands refl
             (ap (λ k. seat_after m.0.part e (Number k) (told_by false m.0.hands)) now) m.1 keeps
-            (unseen shows size slots id m w mine s r there held x.append v' refl refl refl out
+            (unseen shows o size slots id m w mine s r there held x.append v' refl refl refl out
             (still _ m.0.part.sync held) refl empty),
         (λ z c' role saw'. let same : c ≡ c' = now
-            ∙ sym (now_is shows size slots id m w mine s r there held Write c' saw') in
-            each_seat_name shows size slots id m w mine
+            ∙ sym (now_is shows o size slots id m w mine s r there held Write c' saw') in
+            each_seat_name shows o size slots id m w mine
             (λ z. Made z (MoveCurrent z Write g) c' m (v', m.1))
             (subst (λ k. Made w (MoveCurrent w Write g) k m (view_after m.0 e c false, m.1)) same
-            ((refl, was shows size s r id w m.0 there mine e may tt), refl)) z role),
+            ((refl, was shows o size s r id w m.0 there mine e may tt), refl)) z role),
       )
 
   pub expires_write : (g c : ℕ) → issue_of m.0.part ≡ Moved Write → TurnSaw Write m.0.part c
       → suc g ≡ c → m.0.hands.box_taken ≡ None → g < 65536
-      → Allows (Ruled shows size) slots id m (72 + 2 * g) (λ n. (n + 2 ^ 63) % 2 ^ 64)
+      → Allows (Ruled shows o size) slots id m (72 + 2 * g) (λ n. (n + 2 ^ 63) % 2 ^ 64)
       (WriteExpired (step slots (72 + 2 * g) (2 ^ 63) 0 none) m)
   expires_write g c doing saw up empty fits s r _ there low = let n =
       slice_index s.words (72 + 2 * g) in let x = r.core in let k = tally_of x Write g in
       let found : n ≡ tally_word k = r.words (Count Write g) fits in
       let e = Expire w Write g in let v' = view_after m.0 e n false in
-      let law = core_lawful shows size s r in
+      let law = core_lawful shows o size s r in
       let t = at_issue m.0.part (Moved Write) (λ q. cc) doing in
       let held = is_held m.0.part.sync t.0 t.1 in
-      let now = now_is shows size slots id m w mine s r there held Write c saw in
-      let is = issue_at shows size slots id m w mine s r there held (Moved Write) t.0 t.1 t.2 in
+      let now = now_is shows o size slots id m w mine s r there held Write c saw in
+      let is = issue_at shows o size slots id m w mine s r there held (Moved Write) t.0 t.1 t.2 in
       let G = (law.orders.counts_stand_for_seats Write).each g in
       let unclosed = G.replaced is (up ∙ now) in let more = current_is_made x law Write in
       let made : g < length x.write.tallies = omega arith in
       let may : IsStep x e = record {
-        seat = within shows size slots id m w mine s r there;
+        seat = within shows o size slots id m w mine s r there;
         is_there = made;
         row = (
-          own_part shows size slots id m w mine s r there issue_of
+          own_part shows o size slots id m w mine s r there issue_of
               (Moved Write) doing,
           up ∙ now,
           unclosed,
@@ -188,61 +189,62 @@ module _ {K : Type 0} (shows : K → Lasting) (size : PathSize) (slots id : ℕ)
       } in
       let told = ap (λ z. (z + 2 ^ 63) % 2 ^ 64) found
       ∙ expired_word k unclosed (count_small x law Write g) in
-      let out = outside shows size slots id m w mine s r there held in (
+      let out = outside shows o size slots id m w mine s r there held in (
         v',
         keeps,
         tt,
-        plays shows size s r id w m.0 there mine e refl may tt tt fits
+        plays shows o size s r id w m.0 there mine e refl may tt tt fits
             (rows_stay x e may (λ q. q) r.rows)
             ((n + 2 ^ 63) % 2 ^ 64) n false m.0.hands told refl m.1 keeps
-            (unseen shows size slots id m w mine s r there held x.append v' refl refl refl out
+            (unseen shows o size slots id m w mine s r there held x.append v' refl refl refl out
             (still _ m.0.part.sync held) refl empty),
-        (λ z q role _ word. each_name shows size slots id m w mine 72 g
+        (λ z q role _ word. each_name shows o size slots id m w mine 72 g
             (λ z q. Made z (Expire z Write q) n m (v', m.1))
-            ((refl, was shows size s r id w m.0 there mine e may tt), refl) z q role word),
+            ((refl, was shows o size s r id w m.0 there mine e may tt), refl) z q role word),
       )
 
-  pub advances_write : (g o c : ℕ) (t : SyncTurn) → m.0.part.sync ≡ Some t
-      → t.write.current ≡ Some c → t.write.oldest ≡ Some o → t.write.finished ≡ Some o → g ≡ suc o
+  pub advances_write : (g d c : ℕ) (t : SyncTurn) → m.0.part.sync ≡ Some t
+      → t.write.current ≡ Some c → t.write.oldest ≡ Some d → t.write.finished ≡ Some d → g ≡ suc d
       → g ≤ c → m.0.hands.box_taken ≡ None
-      → Allows (Ruled shows size) slots id m 2 (λ _. g)
+      → Allows (Ruled shows o size) slots id m 2 (λ _. g)
       (λ _. WriteAdvanced (step slots 2 g 0 none) m g)
-  advances_write g o c t sync saw old gone up le empty s r _ there _ = let x = r.core in
+  advances_write g d c t sync saw old gone up le empty s r _ there _ = let x = r.core in
       let e = Advance w Write g in let v' = view_after m.0 e g false in
-      let law = core_lawful shows size s r in let held = is_held m.0.part.sync t sync in
-      let X = exact_of shows size slots id m w mine s r there held Write t sync in
+      let law = core_lawful shows o size s r in let held = is_held m.0.part.sync t sync in
+      let X = exact_of shows o size slots id m w mine s r there held Write t sync in
       let now = X.current c saw in
-      let last = X.oldest o old in let more = current_is_made x law Write in
+      let last = X.oldest d old in let more = current_is_made x law Write in
       let made : g < length x.write.tallies = omega arith in
       let may : IsStep x e = record {
-        seat = within shows size slots id m w mine s r there;
+        seat = within shows o size slots id m w mine s r there;
         is_there = made;
         row = (
-          has shows size slots id m w mine s r there held,
+          has shows o size slots id m w mine s r there held,
           up
               ∙ ap suc last,
           (omega arith),
-          ap (tally_of x Write) (sym last) ∙ X.finished o gone,
+          ap (tally_of x Write) (sym last) ∙ X.finished d gone,
         );
       } in
-      let out = outside shows size slots id m w mine s r there held in (
+      let out = outside shows o size slots id m w mine s r there held in (
         v',
         keeps,
         tt,
-        plays shows size s r id w m.0 there mine e refl may tt tt tt
+        plays shows o size s r id w m.0 there mine e refl may tt tt tt
             (rows_stay x e may (λ q. q) r.rows) g g false m.0.hands refl refl m.1 keeps
-            (unseen shows size slots id m w mine s r there held x.append v' refl refl refl out
+            (unseen shows o size slots id m w mine s r there held x.append v' refl refl refl out
             (still _ m.0.part.sync held) refl empty),
-        each_seat_name shows size slots id m w mine (λ z. Made z (Advance z Write g) g m (v', m.1))
-            ((refl, was shows size s r id w m.0 there mine e may tt), refl),
+        each_seat_name shows o size slots id m w mine (λ z. Made z (Advance z Write g) g m
+            (v', m.1))
+            ((refl, was shows o size s r id w m.0 there mine e may tt), refl),
       )
 
   -- the same, told by what was found
-  pub advances_at : (g o c : ℕ) → TurnSaw Write m.0.part c → TurnOld Write m.0.part o
-      → TurnGone Write m.0.part o → g ≡ suc o → g ≤ c → m.0.hands.box_taken ≡ None
-      → Allows (Ruled shows size) slots id m 2 (λ _. g)
+  pub advances_at : (g d c : ℕ) → TurnSaw Write m.0.part c → TurnOld Write m.0.part d
+      → TurnGone Write m.0.part d → g ≡ suc d → g ≤ c → m.0.hands.box_taken ≡ None
+      → Allows (Ruled shows o size) slots id m 2 (λ _. g)
       (λ _. WriteAdvanced (step slots 2 g 0 none) m g)
-  advances_at g o c saw old gone = advances_write g o c saw.0 saw.1 saw.2
+  advances_at g d c saw old gone = advances_write g d c saw.0 saw.1 saw.2
       (ap (λ (t : SyncTurn). t.write.oldest) (same (sym saw.1 ∙ old.1)) ∙ old.2)
       (ap (λ (t : SyncTurn). t.write.finished) (same (sym saw.1 ∙ gone.1)) ∙ gone.2)
     where

@@ -34,6 +34,7 @@ use Rattle.path_core.specs.declared.seat.Seat.{Seat as SeatOf}
 use Rattle.path_core.specs.Allowed.{IsStep}
 use Rattle.path_core.specs.Parts.{tally_of, found_of, HoldsNoTurn, IsIdle}
 use Rattle.path_core.proofs.frame.Seats.{some_left, group_made}
+use Rattle.path_rule.specs.declared.lasting.Beside.{Beside}
 use Rattle.path_rule.specs.declared.lasting.Lasting.{Lasting}
 use Rattle.path_rule.specs.declared.slot.Slot.{Slot}
 use Rattle.path_rule.specs.declared.view.PathSize.{PathSize}
@@ -49,23 +50,23 @@ use Rattle.path_rule.proofs.moves.Moving.{core_lawful}
 use Rattle.path_rule.proofs.moves.StepFacts.{more_word, less_word}
 use Rattle.path_rule.proofs.places.ReadBack.{rows_stay}
 
-module _ {K : Type 0} (shows : K → Lasting) (size : PathSize) (slots id : ℕ)
+module _ {K : Type 0} (shows : K → Lasting) (o : Beside) (size : PathSize) (slots id : ℕ)
     (m : Me (Slot K) View) (w : ℕ) (mine : m.0.role ≡ Steps w) where
   pub registers : (g k : ℕ) → IsIdle m.0.part → HoldsNoTurn m.0.part
       → (found_of Write m.0.part).current ≡ Some g → k < 2 ^ 63 → g < 65536
-      → Allows (Ruled shows size) slots id m (72 + 2 * g) (λ n. either (eqb n k) (k + 1) n)
+      → Allows (Ruled shows o size) slots id m (72 + 2 * g) (λ n. either (eqb n k) (k + 1) n)
       (Registered (step slots (72 + 2 * g) k (k + 1) none) m)
   registers g k idle bare saw low fits s r _ there _ = let n = slice_index s.words (72 + 2 * g) in
       let x = r.core in let c = tally_of x Write g in
       let found : n ≡ tally_word c = r.words (Count Write g) fits in
       let then = Registered (step slots (72 + 2 * g) k (k + 1) none) m n in
-      exchanged n k (k + 1) (λ z. Owes shows size slots id m w mine s (72 + 2 * g) z then)
+      exchanged n k (k + 1) (λ z. Owes shows o size slots id m w mine s (72 + 2 * g) z then)
       (λ hit. let e = Register w Write g in
-      let is = as_part shows size slots id m w mine s r there in
+      let is = as_part shows o size slots id m w mine s r there in
       let more = more_word c (omega arith) in let v' = view_after m.0 e (k + 1) false in
-      let made = below shows size slots id m w mine s r there (Count Write g) (inl saw) in
+      let made = below shows o size slots id m w mine s r there (Count Write g) (inl saw) in
       let may : IsStep x e = record {
-        seat = within shows size slots id m w mine s r there;
+        seat = within shows o size slots id m w mine s r there;
         is_there = made;
         row = (
           subst HoldsNoTurn is bare,
@@ -75,39 +76,40 @@ module _ {K : Type 0} (shows : K → Lasting) (size : PathSize) (slots id : ℕ)
           more.0,
         );
       } in
-      acts shows size slots id m w mine s r there e refl may tt tt fits
+      acts shows o size slots id m w mine s r there e refl may tt tt fits
       (rows_stay x e may (λ q. q) r.rows) (k + 1) (k + 1)
       (sym (more.1 ∙ ap (λ z. z + 1) (sym found ∙ hit))) refl
       (λ C. boxed_stay shows size.seats x.notes
-      (shown size.at_open r.kept_to x) x.claims x.claims x.append x.append s.homes s.views r.boxed
+      (shown o size.at_open r.kept_to x) x.claims x.claims x.append x.append s.homes s.views r.boxed
       id w m.0 v'
       there
       mine refl refl refl (λ i g l _ _. (l, refl)) refl C.append C.issue refl)
-      then (λ u z h role _ word. each_name shows size slots id m w mine 72 g
+      then (λ u z h role _ word. each_name shows o size slots id m w mine 72 g
       (λ z h. (n ≡ k → Made z (Register z Write h) (k + 1) m (v', m.1))
       × (n ≢ k → Made z (Look z (Count Write h)) n m (v', m.1)))
       ((λ _. ((refl, u), refl)), (λ miss. absurd (miss hit))) z h role word))
       (λ miss. let v' = view_after m.0 (Look w (Count Write g)) n false in
-      look_owes shows size slots id m w mine s r there (Count Write g) fits (inl saw) then
+      look_owes shows o size slots id m w mine s r there (Count Write g) fits (inl saw) then
       (λ made _ z h role _ word.
-      each_name shows size slots id m w mine 72 g
+      each_name shows o size slots id m w mine 72 g
       (λ z h. (n ≡ k → Made z (Register z Write h) (k + 1) m (v', m.1))
       × (n ≢ k → Made z (Look z (Count Write h)) n m (v', m.1)))
       ((λ hit. absurd (miss hit)), (λ _. made)) z h role word))
 
   pub stops : (g : ℕ) → m.0.part.write ≡ Some g → m.0.part.append ≡ None → m.0.part.claim ≡ None
       → g < 65536
-      → Allows (Ruled shows size) slots id m (72 + 2 * g) (λ n. (n + (2 ^ 64 - 1)) % 2 ^ 64)
+      → Allows (Ruled shows o size) slots id m (72 + 2 * g) (λ n. (n + (2 ^ 64 - 1)) % 2 ^ 64)
       (StoppedBy (step slots (72 + 2 * g) 1 0 none) m)
   stops g write append claim fits s r _ there low = let n = slice_index s.words (72 + 2 * g) in
       let x = r.core in let c = tally_of x Write g in
       let found : n ≡ tally_word c = r.words (Count Write g) fits in
-      let e = Close w Write g Nothing in let is = as_part shows size slots id m w mine s r there in
+      let e = Close w Write g Nothing in let is = as_part shows o size slots id m w mine s r there
+      in
       let here = ap (λ (p : SeatOf). p.write) (sym is) ∙ write in
-      let made = group_made x (core_lawful shows size s r) Write w g here in
+      let made = group_made x (core_lawful shows o size s r) Write w g here in
       let v' = view_after m.0 e n false in
       let may : IsStep x e = record {
-        seat = within shows size slots id m w mine s r there;
+        seat = within shows o size slots id m w mine s r there;
         is_there = made;
         row = (
           here,
@@ -118,18 +120,18 @@ module _ {K : Type 0} (shows : K → Lasting) (size : PathSize) (slots id : ℕ)
           ),
         );
       } in
-      acts shows size slots id m w mine s r there e refl may tt tt fits
+      acts shows o size slots id m w mine s r there e refl may tt tt fits
       (rows_stay x e may (λ q. q) r.rows)
       ((n + (2 ^ 64 - 1)) % 2 ^ 64) n
       (ap (λ z. (z + (2 ^ 64 - 1)) % 2 ^ 64) found
-      ∙ less_word c (some_left x (core_lawful shows size s r) Write w g here)
+      ∙ less_word c (some_left x (core_lawful shows o size s r) Write w g here)
       (subst (λ z. z < 2 ^ 64) found low)) refl
       (λ C. boxed_stay shows size.seats x.notes
-      (shown size.at_open r.kept_to x) x.claims x.claims x.append x.append s.homes s.views r.boxed
+      (shown o size.at_open r.kept_to x) x.claims x.claims x.append x.append s.homes s.views r.boxed
       id w m.0 v'
       there
       mine refl refl refl (λ i g l _ _. (l, refl)) refl C.append C.issue refl)
       (StoppedBy (step slots (72 + 2 * g) 1 0 none) m n)
-      (λ u z h role _ word. each_name shows size slots id m w mine 72 g
+      (λ u z h role _ word. each_name shows o size slots id m w mine 72 g
       (λ z h. Made z (Close z Write h Nothing) n m (v', m.1))
       ((refl, u), refl) z h role word)

@@ -36,6 +36,7 @@ use Rattle.path_core.specs.declared.note.EntryNote.{EntryNote}
 use Rattle.path_core.specs.declared.state.TableState.{TableState}
 use Rattle.path_core.specs.Keeper.{Holding}
 use Rattle.path_core.specs.Parts.{groups_of, fresh_seat, fresh_table}
+use Rattle.path_rule.specs.declared.lasting.Beside.{Beside}
 use Rattle.path_rule.specs.declared.lasting.Lasting.{Lasting}
 use Rattle.path_rule.specs.declared.slot.Slot.{Slot}
 use Rattle.path_rule.specs.declared.slot.Desk.{Desk}
@@ -45,20 +46,20 @@ use Rattle.path_rule.specs.declared.view.View.{View}
 use Rattle.path_rule.specs.Boxed.{HandsAs, AreFirst}
 use Rattle.path_rule.specs.Boxes.{first_progress, boxes, DeskIs, NotesAre}
 use Rattle.path_rule.specs.FirstBoxes.{AreEmpty}
-use Rattle.path_rule.specs.Lasts.{lasting_of, stopped_with, none_lasting, IsNew}
+use Rattle.path_rule.specs.Lasts.{beside_of, lasting_of, stopped_with, none_lasting, IsNew}
 use Rattle.path_rule.specs.Layout.{first_words}
 use Rattle.path_rule.specs.Rule.{start_of, IsFit, Knows, IsSized, Ruled, opener}
 use Rattle.path_rule.proofs.seats.Dealing.{at_end}
 use Rattle.path_rule.proofs.seats.FirstWords.{same_all, first_word}
 
-module _ {K : Type 0} (shows : K → Lasting) where
+module _ {K : Type 0} (shows : K → Lasting) (o : Beside) where
   some_at : (ys : List (Slot K)) (b : ℕ) → b < length ys → (y : Slot K) × (get_elem? ys b ≡ some y)
   some_at [] b l = absurd (omega arith)
   some_at (y ∷ ys) zero l = (y, refl)
   some_at (y ∷ ys) (suc b) l = some_at ys b (omega arith)
 
   pub begins : (size : PathSize) (xs : List (Slot K)) → IsFit size → length xs ≡ boxes size.seats
-      → AreFirst shows size xs → Ruled shows size (opening first_words xs (opener 0 size))
+      → AreFirst shows o size xs → Ruled shows o size (opening first_words xs (opener 0 size))
   begins size xs fit long first = record {
     core = start_of size;
     events = [];
@@ -110,10 +111,10 @@ module _ {K : Type 0} (shows : K → Lasting) where
       few Append = omega arith
 
       first_hands : (j : ℕ) (u : View) → get_elem? (opener 0 size ∷ []) j ≡ some u
-          → HandsAs (λ _. []) (none_lasting size) [] first_progress
+          → HandsAs (λ _. []) (none_lasting o size) [] first_progress
           (start_of size).append size.seats u.part u.hands u.role
       first_hands zero u e = let P : View → Type 0 =
-          λ y. HandsAs (λ _. []) (none_lasting size) [] first_progress
+          λ y. HandsAs (λ _. []) (none_lasting o size) [] first_progress
           (start_of size).append size.seats y.part y.hands y.role in
           subst P (some-injective (opener 0 size) u e) tt
       first_hands (suc j) u e = absurd (some-ne-none u (sym e))
@@ -130,24 +131,26 @@ module _ {K : Type 0} (shows : K → Lasting) where
 
   -- A desk is put in front of the boxes, each of which holds no note.
   pub first_set : (size : PathSize) (xs : List (Slot K)) (desk : Desk K) → AreEmpty xs
-      → DeskIs shows (Turn desk) (none_lasting size) [] first_progress
-      → AreFirst shows size (set xs 0 (Turn desk))
+      → DeskIs shows (Turn desk) (none_lasting o size) [] first_progress
+      → AreFirst shows o size (set xs 0 (Turn desk))
   first_set size xs desk none_yet is = record { each = λ b y e. each xs none_yet b y e }
     where
       each : (xs : List (Slot K)) → AreEmpty xs → (b : ℕ) (y : Slot K)
           → get_elem? (set xs 0 (Turn desk)) b ≡ some y
-          → (b ≡ 0 → DeskIs shows y (none_lasting size) [] first_progress) × (0 < b → NotesAre y [])
+          → (b ≡ 0 → DeskIs shows y (none_lasting o size) [] first_progress) × (0 < b
+          → NotesAre y [])
       each [] no_box b y e = absurd (some-ne-none y (sym e))
       each (x ∷ xs) no_box zero y e =
           let same : Turn desk ≡ y = some-injective (Turn desk) y e in (
-            (λ _. subst (λ z. DeskIs shows z (none_lasting size) [] first_progress) same is),
+            (λ _. subst (λ z. DeskIs shows z (none_lasting o size) [] first_progress) same is),
             (λ l. absurd (omega arith)),
           )
       each (x ∷ xs) no_box (suc b) y e =
           ((λ l. absurd (omega arith)), (λ _. no_box (suc b) y e))
 
 -- A keeper that was just opened shows that nothing is lasting.
-pub new_lasting : (size : PathSize) (h : Holding) → IsNew size h → lasting_of h ≡ none_lasting size
+pub new_lasting : (size : PathSize) (h : Holding) → IsNew size h
+    → lasting_of h ≡ none_lasting (beside_of h) size
 new_lasting size h n = let f = n.1 in λ i. record {
   logged = f.nothing_logged i;
   synced = f.nothing_synced i;
@@ -158,6 +161,7 @@ new_lasting size h n = let f = n.1 in λ i. record {
   capacity = (ap (λ (s : Sizes). s.capacity) f.sizes_are ∙ n.2) i;
   ordinals = (ap (λ (s : Sizes). s.ordinals) f.sizes_are ∙ n.3) i;
   base = f.base_is i;
+  beside = beside_of h;
 }
 
 module _ {K : Type 0} where

@@ -38,6 +38,7 @@ use Rattle.atomic_table.specs.Table.{State, Splits}
 use Rattle.path_core.specs.declared.event.Event.{Event}
 use Rattle.path_core.specs.declared.seat.Seat.{Seat}
 use Rattle.path_core.specs.declared.state.PathState.{PathState}
+use Rattle.path_rule.specs.declared.lasting.Beside.{Beside}
 use Rattle.path_rule.specs.declared.lasting.Lasting.{Lasting}
 use Rattle.path_rule.specs.declared.slot.Slot.{Slot}
 use Rattle.path_rule.specs.declared.view.OwnStep.{OwnStep}
@@ -69,9 +70,10 @@ at_end [] a b (suc j) e = absurd (some-ne-none b (sym e))
 at_end (x ∷ xs) a b zero e = inl e
 at_end (x ∷ xs) a b (suc j) e = ⊎_elim (λ h. inl h) (λ h. inr (h.0, ap suc h.1)) (at_end xs a b j e)
 
-module _ {K : Type 0} (shows : K → Lasting) (size : PathSize) (id : ℕ) (v : View) (k : ℕ)
+module _ {K : Type 0} (shows : K → Lasting) (o : Beside) (size : PathSize) (id : ℕ) (v : View)
+    (k : ℕ)
     (role : v.role ≡ Opener k) where
-  module _ (s : State (Slot K) View) (r : Ruled shows size s)
+  module _ (s : State (Slot K) View) (r : Ruled shows o size s)
       (at : get_elem? s.views id ≡ some v) where
     mine : Knows r.core r.events r.owner r.made r.boss id (Opener k) v.part v.trail v.returned
     mine = subst (λ ρ. Knows r.core r.events r.owner r.made r.boss id ρ v.part v.trail v.returned)
@@ -81,7 +83,7 @@ module _ {K : Type 0} (shows : K → Lasting) (size : PathSize) (id : ℕ) (v : 
     sized = subst (λ ρ. SizedAs size ρ v.size) role (r.each_seat id v at).0
 
     abbrev Hand : View → Type 0
-    Hand y = HandsAs r.boxed.contents (shown size.at_open r.kept_to r.core) r.boxed.pending
+    Hand y = HandsAs r.boxed.contents (shown o size.at_open r.kept_to r.core) r.boxed.pending
         r.boxed.progress
         r.core.append
         size.seats y.part y.hands y.role
@@ -94,7 +96,7 @@ module _ {K : Type 0} (shows : K → Lasting) (size : PathSize) (id : ℕ) (v : 
       swept = λ l. absurd (omega arith);
     }
 
-    handed_out : k < size.seats → Ruled shows size
+    handed_out : k < size.seats → Ruled shows o size
         (record {
           words = s.words;
           homes = s.homes;
@@ -123,7 +125,7 @@ module _ {K : Type 0} (shows : K → Lasting) (size : PathSize) (id : ℕ) (v : 
           risen = r.risen;
           unswitched = r.unswitched;
           boxed = reboxed shows size.seats r.core.notes
-              (shown size.at_open r.kept_to r.core) r.core.claims r.core.append s.homes s.views
+              (shown o size.at_open r.kept_to r.core) r.core.claims r.core.append s.homes s.views
               (set s.views id (handing v) ++ handed v ∷ []) r.boxed
               (λ b free j u e h. dite (ℕ_discrete j id)
               (λ same. let u_is : u ≡ v = some-injective u v
@@ -136,7 +138,7 @@ module _ {K : Type 0} (shows : K → Lasting) (size : PathSize) (id : ℕ) (v : 
               (λ old. ⊎_elim
               (λ (t : (j ≡ id) × (handing v ≡ u)). subst Hand t.1
               (subst (HandsAs r.boxed.contents
-              (shown size.at_open r.kept_to r.core) r.boxed.pending r.boxed.progress r.core.append
+              (shown o size.at_open r.kept_to r.core) r.boxed.pending r.boxed.progress r.core.append
               size.seats
               v.part
               v.hands) (sym (ap one_on role)) tt))
@@ -218,5 +220,5 @@ module _ {K : Type 0} (shows : K → Lasting) (size : PathSize) (id : ℕ) (v : 
               ),
             )
 
-  pub deals : k < size.seats → Splits (Ruled shows size) id v (handing v) (handed v)
+  pub deals : k < size.seats → Splits (Ruled shows o size) id v (handing v) (handed v)
   deals more s r at = handed_out s r at more

@@ -33,6 +33,7 @@ use Rattle.path_core.specs.Words.{by_of}
 use Rattle.path_core.specs.Keeper.{Holding, HasRisen}
 use Rattle.path_core.specs.Parts.{seat_of}
 use Rattle.path_core.specs.Runs.{Past}
+use Rattle.path_rule.specs.declared.lasting.Beside.{Beside}
 use Rattle.path_rule.specs.declared.lasting.Lasting.{Lasting}
 use Rattle.path_rule.specs.declared.slot.Slot.{Slot}
 use Rattle.path_rule.specs.declared.slot.Slot.TheVariants.{Notes, Turn}
@@ -50,7 +51,7 @@ use Rattle.path_rule.proofs.boxes.SameBoxes.{holds_none}
 use Rattle.path_rule.proofs.moves.Moving.{core_lawful}
 use Rattle.path_rule.proofs.seats.Untaken.{untaken}
 
-module _ {K : Type 0} (shows : K → Lasting) where
+module _ {K : Type 0} (shows : K → Lasting) (o : Beside) where
   at_four : (l : List ℕ) (i a : ℕ) → get_elem? l i ≡ some a → slice_index l i ≡ a
   at_four [] i a e = absurd (some-ne-none a (sym e))
   at_four (x ∷ xs) zero a e = some-injective x a e
@@ -58,25 +59,25 @@ module _ {K : Type 0} (shows : K → Lasting) where
 
   -- Where every box is at home, the keeper lies on the desk in front.
   pub desk_home : (key : PathSize) (id : ℕ) (v : View)
-      → ((s : State (Slot K) View) → Ruled shows key s → get_elem? s.views id ≡ some v
+      → ((s : State (Slot K) View) → Ruled shows o key s → get_elem? s.views id ≡ some v
       → (b : ℕ) → IsFree s.views b)
-      → (ws : List ℕ) (xs : List (Slot K)) → (f : Final (Seen (Ruled shows key) id v) ws xs)
+      → (ws : List ℕ) (xs : List (Slot K)) → (f : Final (Seen (Ruled shows o key) id v) ws xs)
       → (keeper : K) × HasInFront keeper xs
-      × (shows keeper ≡ shown key.at_open f.1.0.kept_to f.1.0.core)
-  desk_home key id v free ws xs f = let r : Ruled shows key f.0 = f.1.0 in
+      × (shows keeper ≡ shown o key.at_open f.1.0.kept_to f.1.0.core)
+  desk_home key id v free ws xs f = let r : Ruled shows o key f.0 = f.1.0 in
       let y = r.boxed.at_home 0 (omega arith) (free f.0 r f.1.1 0) in
       found y.0 (f.4 0 y.0 y.1) (y.2.desk refl)
     where
       found : (y : Slot K) → get_elem? xs 0 ≡ some y
-          → DeskIs shows y (shown key.at_open f.1.0.kept_to f.1.0.core) f.1.0.boxed.pending
+          → DeskIs shows y (shown o key.at_open f.1.0.kept_to f.1.0.core) f.1.0.boxed.pending
           f.1.0.boxed.progress → (keeper : K) × HasInFront keeper xs
-          × (shows keeper ≡ shown key.at_open f.1.0.kept_to f.1.0.core)
+          × (shows keeper ≡ shown o key.at_open f.1.0.kept_to f.1.0.core)
       found (Notes kept) e d = absurd d
       found (Turn desk) e d = (desk.keeper, record { desk = desk; lies = refl; front = e }, d.0)
 
   -- Where no seat was handed out, every box is at home, and no step was made.
   pub free_unmade : (key : PathSize) (id : ℕ) (v : View) → v.role ≡ Opener 0
-      → (s : State (Slot K) View) → Ruled shows key s → get_elem? s.views id ≡ some v
+      → (s : State (Slot K) View) → Ruled shows o key s → get_elem? s.views id ≡ some v
       → (b : ℕ) → IsFree s.views b
   free_unmade key id v role s r at b j u e h = by_role u.role (r.each_seat j u e).1 h
     where
@@ -94,7 +95,8 @@ module _ {K : Type 0} (shows : K → Lasting) where
       (all : HasAll key.seats w v.returned) (outside : v.part.append ≡ None)
       (unheld : v.part.sync ≡ None) where
     -- where a seat took in all others, every box is at home
-    pub free_all : (s : State (Slot K) View) (r : Ruled shows key s) → get_elem? s.views id ≡ some v
+    pub free_all : (s : State (Slot K) View) (r : Ruled shows o key s)
+        → get_elem? s.views id ≡ some v
         → (b : ℕ) → IsFree s.views b
     free_all s r at b j u e h = by_role u.role (r.each_seat j u e).1 h
       where
@@ -104,7 +106,7 @@ module _ {K : Type 0} (shows : K → Lasting) where
 
         own : j ≡ id → ⊥
         own same = holds_none v outside unheld
-            (untaken shows key s r id w v at role unheld) b (subst (λ z. HoldsBox z b)
+            (untaken shows o key s r id w v at role unheld) b (subst (λ z. HoldsBox z b)
             (some-injective u v (sym e ∙ (ap (get_elem? s.views) same ∙ at))) h)
 
         by_role : (ρ : Role) → Knows r.core r.events r.owner r.made r.boss j ρ u.part u.trail
@@ -118,28 +120,28 @@ module _ {K : Type 0} (shows : K → Lasting) where
 
   pub ends_by : (size key : PathSize) (id w log : ℕ) (keeper : Holding) (v : View) (ws : List ℕ)
       (xs : List (Slot K)) → key ≡ size → v.role ≡ Steps w
-      → (f : Final (Seen (Ruled shows key) id v) ws xs) → get_elem? ws 4 ≡ some log
-      → lasting_of keeper ≡ shown key.at_open f.1.0.kept_to f.1.0.core
-      → Ended size (record { number = w; part = v.part; trail = v.trail } ∷ v.returned) log keeper
+      → (f : Final (Seen (Ruled shows o key) id v) ws xs) → get_elem? ws 4 ≡ some log
+      → lasting_of keeper ≡ shown o key.at_open f.1.0.kept_to f.1.0.core
+      → Ended o size (record { number = w; part = v.part; trail = v.trail } ∷ v.returned) log keeper
   ends_by size key id w log keeper v ws xs same role f e kept = let s = f.0 in
-      let r : Ruled shows key s = f.1.0 in
+      let r : Ruled shows o key s = f.1.0 in
       let k = subst (λ ρ. Knows r.core r.events r.owner r.made r.boss id ρ v.part v.trail
       v.returned) role (r.each_seat id v f.1.1).1 in record {
         core = r.core;
         events = r.events;
         run = subst (λ (z : PathSize). Past (start_of z) r.events r.core) same r.run;
-        lawful = core_lawful shows key s r;
+        lawful = core_lawful shows o key s r;
         log_is = sym (at_four ws 4 log e) ∙
             (ap (λ (l : List ℕ). slice_index l 4) (sym f.2) ∙ r.words Log tt);
         kept_to = r.kept_to;
         may_be_kept = r.may_be_kept;
-        lasting_is = kept ∙ ap (λ (z : PathSize). shown z.at_open r.kept_to r.core) same;
+        lasting_is = kept ∙ ap (λ (z : PathSize). shown o z.at_open r.kept_to r.core) same;
         risen = subst (λ (z : PathSize). 0 < r.core.stopped → HasRisen z.at_open r.core.stopped)
             same r.risen;
         each = one s r k;
       }
     where
-      one : (s : State (Slot K) View) (r : Ruled shows key s)
+      one : (s : State (Slot K) View) (r : Ruled shows o key s)
           → Knows r.core r.events r.owner r.made r.boss id (Steps w) v.part v.trail v.returned
           → (n : ℕ) (b : Returned) → get_elem?
           (record { number = w; part = v.part; trail = v.trail } ∷ v.returned) n ≡ some b
@@ -163,11 +165,11 @@ module _ {K : Type 0} (shows : K → Lasting) where
 
   pub ends_unmade : (size key : PathSize) (id log : ℕ) (keeper : Holding) (v : View) (ws : List ℕ)
       (xs : List (Slot K)) → key ≡ size → v.role ≡ Opener 0
-      → (f : Final (Seen (Ruled shows key) id v) ws xs) → get_elem? ws 4 ≡ some log
-      → lasting_of keeper ≡ shown key.at_open f.1.0.kept_to f.1.0.core
-      → EndsUnused size log keeper
+      → (f : Final (Seen (Ruled shows o key) id v) ws xs) → get_elem? ws 4 ≡ some log
+      → lasting_of keeper ≡ shown o key.at_open f.1.0.kept_to f.1.0.core
+      → EndsUnused o size log keeper
   ends_unmade size key id log keeper v ws xs same role f e kept = let s = f.0 in
-      let r : Ruled shows key s = f.1.0 in
+      let r : Ruled shows o key s = f.1.0 in
       let made : 0 ≡ r.made = (subst (λ ρ. Knows r.core r.events r.owner r.made r.boss id ρ v.part
       v.trail v.returned) role (r.each_seat id v f.1.1).1).0 in
       let no_step : r.events ≡ [] = nobody r.events (λ w. (r.fresh w (omega arith)).0) in
@@ -176,5 +178,5 @@ module _ {K : Type 0} (shows : K → Lasting) where
       let core : r.core ≡ start_of size = sym core_is ∙ ap start_of same in (
         sym (at_four ws 4 log e) ∙ (ap (λ (l : List ℕ). slice_index l 4) (sym f.2)
             ∙ (r.words Log tt ∙ ap (λ (x : PathState). x.log) core)),
-        kept ∙ (λ i. shown ((ap (λ (z : PathSize). z.at_open) same) i) r.kept_to (core i)),
+        kept ∙ (λ i. shown o ((ap (λ (z : PathSize). z.at_open) same) i) r.kept_to (core i)),
       )

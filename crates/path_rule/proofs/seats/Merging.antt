@@ -21,6 +21,7 @@ use lib.ListN.{get_elem?}
 use Rattle.atomic_table.proofs.Lists.{at_set, set_here, set_else}
 use Rattle.atomic_table.specs.Table.{State, Joins}
 use Rattle.path_core.specs.declared.seat.Seat.{Seat}
+use Rattle.path_rule.specs.declared.lasting.Beside.{Beside}
 use Rattle.path_rule.specs.declared.lasting.Lasting.{Lasting}
 use Rattle.path_rule.specs.declared.slot.Slot.{Slot}
 use Rattle.path_rule.specs.declared.view.OwnStep.{OwnStep}
@@ -39,12 +40,13 @@ use Rattle.path_rule.proofs.boxes.SameBoxes.{reboxed, holds_none}
 use Rattle.path_rule.proofs.seats.Untaken.{untaken}
 use Rattle.path_rule.proofs.seats.Dealing.{at_end, with_owner, owner_here, owner_else}
 
-module _ {K : Type 0} (shows : K → Lasting) (size : PathSize) (id : ℕ) (v : View) (q : ℕ)
+module _ {K : Type 0} (shows : K → Lasting) (o : Beside) (size : PathSize) (id : ℕ) (v : View)
+    (q : ℕ)
     (role : v.role ≡ Steps q) (other w : ℕ) (u : View) (seat_is : u.role ≡ Steps w)
     (outside : u.part.append ≡ None) (free : u.part.sync ≡ None) where
-  merged : (s : State (Slot K) View) (r : Ruled shows size s) → get_elem? s.views id ≡ some v
+  merged : (s : State (Slot K) View) (r : Ruled shows o size s) → get_elem? s.views id ≡ some v
       → other ≢ id → get_elem? s.views other ≡ some u
-      → Ruled shows size (record {
+      → Ruled shows o size (record {
         words = s.words;
         homes = s.homes;
         views = set
@@ -52,7 +54,8 @@ module _ {K : Type 0} (shows : K → Lasting) (size : PathSize) (id : ℕ) (v : 
       })
   merged s r at apart there =
       let bare : (b : ℕ) → ¬ HoldsBox u b =
-      holds_none u outside free (untaken shows size s r other w u there seat_is free) in let mine =
+      holds_none u outside free (untaken shows o size s r other w u there seat_is free) in let mine
+      =
       subst (λ ρ. Knows r.core r.events r.owner r.made r.boss id ρ v.part v.trail v.returned) role
       (r.each_seat id v at).1 in
       let theirs : IsSeat r.core r.events r.owner r.made r.boss other w u.part u.trail =
@@ -88,7 +91,7 @@ module _ {K : Type 0} (shows : K → Lasting) (size : PathSize) (id : ℕ) (v : 
         risen = r.risen;
         unswitched = r.unswitched;
         boxed = reboxed shows size.seats r.core.notes
-            (shown size.at_open r.kept_to r.core) r.core.claims r.core.append s.homes s.views
+            (shown o size.at_open r.kept_to r.core) r.core.claims r.core.append s.homes s.views
             (set (set s.views id (taking v u)) other spent) r.boxed
             (λ b at_home j x e h. dite (ℕ_discrete j other)
             (λ same. bare b (subst (λ z. HoldsBox z b)
@@ -102,7 +105,7 @@ module _ {K : Type 0} (shows : K → Lasting) (size : PathSize) (id : ℕ) (v : 
             (λ apart'. at_home j x (set_else (set s.views id (taking v u)) other j spent far
             ∙ (set_else s.views id j (taking v u) apart' ∙ e)) h)))
             (λ j x e. let Hand : View → Type 0 = λ y. HandsAs r.boxed.contents
-            (shown size.at_open r.kept_to r.core) r.boxed.pending r.boxed.progress r.core.append
+            (shown o size.at_open r.kept_to r.core) r.boxed.pending r.boxed.progress r.core.append
             size.seats
             y.part
             y.hands y.role in ⊎_elim
@@ -148,7 +151,8 @@ module _ {K : Type 0} (shows : K → Lasting) (size : PathSize) (id : ℕ) (v : 
             (at_set (set s.views id (taking v u)) other j spent x e);
       }
     where
-      rest_still : (s : State (Slot K) View) (r : Ruled shows size s) (j : ℕ) (x : View) → j ≢ other
+      rest_still : (s : State (Slot K) View) (r : Ruled shows o size s) (j : ℕ) (x : View)
+          → j ≢ other
           → ((z : ℕ) (p : Seat) (t : List OwnStep) → j ≢ other
           → IsSeat r.core r.events r.owner r.made r.boss j z p t
           → IsSeat r.core r.events (with_owner r.owner w id) r.made r.boss j z p t)
@@ -168,6 +172,6 @@ module _ {K : Type 0} (shows : K → Lasting) (size : PathSize) (id : ℕ) (v : 
                 (still b.number b.part b.trail m h.0, h.1),
           )
 
-  pub merges : Joins (Ruled shows size) id v other u (taking v u) spent
+  pub merges : Joins (Ruled shows o size) id v other u (taking v u) spent
   merges s r at apart there = merged s r at apart
       (⊎_elim (λ t. absurd (apart t.0)) (λ t. t.1) (at_set s.views id other (taking v u) u there))

@@ -4,6 +4,7 @@ use Rattle.std.proofs.lemmas.Bool.{false≢true}
 use mathlib.Core.Option.{some}
 use lib.ListN.{get_elem?}
 use Rattle.atomic_table.specs.Table.{State}
+use Rattle.path_rule.specs.declared.lasting.Beside.{Beside}
 use Rattle.path_rule.specs.declared.lasting.Lasting.{Lasting}
 use Rattle.path_rule.specs.declared.slot.Slot.{Slot}
 use Rattle.path_rule.specs.declared.view.PathSize.{PathSize}
@@ -13,8 +14,8 @@ use Rattle.path_rule.specs.Boxed.{HandsAs}
 use Rattle.path_rule.specs.Lasts.{shown}
 use Rattle.path_rule.specs.Rule.{Ruled}
 
-module _ {K : Type 0} (shows : K → Lasting) (size : PathSize) (s : State (Slot K) View)
-    (r : Ruled shows size s) (id w : ℕ) (v : View) where
+module _ {K : Type 0} (shows : K → Lasting) (o : Beside) (size : PathSize) (s : State (Slot K) View)
+    (r : Ruled shows o size s) (id w : ℕ) (v : View) where
   pub untaken : get_elem? s.views id ≡ some v → v.role ≡ Steps w → v.part.sync ≡ None
       → v.hands.box_taken ≡ None
   untaken at role free = by_box v.hands.box_taken refl
@@ -22,6 +23,6 @@ module _ {K : Type 0} (shows : K → Lasting) (size : PathSize) (s : State (Slot
       by_box : (o : Option ℕ) → v.hands.box_taken ≡ o → v.hands.box_taken ≡ None
       by_box None e = e
       by_box (Some b) e = let h = subst (λ ρ. HandsAs r.boxed.contents
-          (shown size.at_open r.kept_to r.core) r.boxed.pending r.boxed.progress r.core.append
+          (shown o size.at_open r.kept_to r.core) r.boxed.pending r.boxed.progress r.core.append
           size.seats v.part v.hands ρ) role (r.boxed.in_hands id v at) in
           absurd (false≢true (subst (λ q. IsTrue (is_some q)) free (h.other b e).holds))

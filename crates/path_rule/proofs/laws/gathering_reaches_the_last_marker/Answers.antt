@@ -4,6 +4,6 @@ use Rattle.path_rule.specs.Lasts.{shows_of}
 use Rattle.path_rule.proofs.laws.gathering_reaches_the_last_marker.Goals as goal
 
 pub returns : goal.returns
-returns g c = λ size s r. gathered_up_to_last (shows_of g.K.Keeper.holds) size size.at_open
+returns g c = λ o size s r. gathered_up_to_last (shows_of g.K.Keeper.holds) o size size.at_open
     r.kept_to s.homes s.views r.core
-    (core_lawful (shows_of g.K.Keeper.holds) size s r) r.boxed
+    (core_lawful (shows_of g.K.Keeper.holds) o size s r) r.boxed

@@ -5,7 +5,7 @@ use Rattle.path_rule.specs.Lasts.{shows_of}
 use Rattle.path_rule.proofs.laws.the_keeper_at_home_shows_what_is_lasting.Goals as goal
 
 pub returns : goal.returns
-returns g c = λ size s r free.
+returns g c = λ o size s r free.
     let home = r.boxed.at_home desk_box (omega arith)
-    (desk_free (shows_of g.K.Keeper.holds) size s r free) in
+    (desk_free (shows_of g.K.Keeper.holds) o size s r free) in
     (home.0, home.1, home.2.desk refl)

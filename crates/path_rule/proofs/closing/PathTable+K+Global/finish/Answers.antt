@@ -1,16 +1,18 @@
 use Rattle.std.proofs.Common.{sym, ap, ◌∙◌, subst, arith}
 use Rattle.std.specs.Slots.{slots_items}
 use Rattle.path_rule.specs.declared.view.PathSize.{PathSize}
-use Rattle.path_rule.specs.Lasts.{shows_of}
+use Rattle.path_rule.specs.Lasts.{beside_of, shows_of}
 use Rattle.path_rule.specs.Sharing.{HasAll}
 use Rattle.path_rule.proofs.seats.Ends.{ends_by, desk_home, free_all}
 use Rattle.path_rule.proofs.closing.PathTable+K+Global.finish.Goals as goal
 
 pub keeper_and_log-requires : goal.keeper_and_log-requires
 keeper_and_log-requires g c = let t = c.args.self in let b = c.args.member in
+    let k = t.table.shared.key.size in
+    let o = beside_of (g.K.Keeper.holds t.table.shared.key.first.value) in
     let closed = c.close_with.result in let i = c.requires.idle in let v = c.close_with.ensures in
-    let d = desk_home (shows_of g.K.Keeper.holds) t.table.shared.key b.seat.id b.seat.me.0
-    (free_all (shows_of g.K.Keeper.holds) t.table.shared.key b.seat.id b.number b.seat.me.0 b.role
+    let d = desk_home (shows_of g.K.Keeper.holds) o k b.seat.id b.seat.me.0
+    (free_all (shows_of g.K.Keeper.holds) o k b.seat.id b.number b.seat.me.0 b.role
     (subst (λ (z : PathSize). HasAll z.seats b.number b.seat.me.0.returned) (sym t.keyed)
     c.requires.all) i.0 i.1)
     (slots_items closed.words) (slots_items closed.slots) v.values.2 in record {
@@ -22,13 +24,15 @@ keeper_and_log-requires g c = let t = c.args.self in let b = c.args.member in
 
 pub returns : goal.returns
 returns g c = let t = c.args.self in let b = c.args.member in
+    let k = t.table.shared.key.size in
+    let o = beside_of (g.K.Keeper.holds t.table.shared.key.first.value) in
     let closed = c.close_with.result in let i = c.requires.idle in
-    let d = desk_home (shows_of g.K.Keeper.holds) t.table.shared.key b.seat.id b.seat.me.0
-    (free_all (shows_of g.K.Keeper.holds) t.table.shared.key b.seat.id b.number b.seat.me.0 b.role
+    let d = desk_home (shows_of g.K.Keeper.holds) o k b.seat.id b.seat.me.0
+    (free_all (shows_of g.K.Keeper.holds) o k b.seat.id b.number b.seat.me.0 b.role
     (subst (λ (z : PathSize). HasAll z.seats b.number b.seat.me.0.returned) (sym t.keyed)
     c.requires.all) i.0 i.1)
     (slots_items closed.words) (slots_items closed.slots) c.close_with.ensures.values.2 in
-    ends_by (shows_of g.K.Keeper.holds) t.size t.table.shared.key b.seat.id b.number
+    ends_by (shows_of g.K.Keeper.holds) o t.size k b.seat.id b.number
     c.keeper_and_log.result.1 (g.K.Keeper.holds c.keeper_and_log.result.0) b.seat.me.0
     (slots_items closed.words) (slots_items closed.slots) t.keyed b.role
     c.close_with.ensures.values.2 c.keeper_and_log.ensures.log

@@ -6,15 +6,16 @@ use Rattle.path_rule.specs.Calls.{Holds}
 use Rattle.path_rule.specs.Turns.{TurnSaw}
 use Rattle.path_rule.proofs.moves.AppendBarriers.{advances_at}
 use Rattle.path_rule.proofs.seats.HolderIssues as know
-use Rattle.path_rule.specs.Lasts.{shows_of}
+use Rattle.path_rule.specs.Lasts.{beside_of, shows_of}
 use Rattle.path_rule.proofs.table.PathTable.advance_append.Goals as goal
 
 pub store-requires : goal.store-requires
 store-requires g c = let t = c.args.self.now in let m = c.args.member.now in
-    let k = t.table.shared.key in let wide = t.wide in (
+    let k = t.table.shared.key.size in
+    let o = beside_of (g.K.Keeper.holds t.table.shared.key.first.value) in let wide = t.wide in (
       c.requires.table.0,
       omega arith,
-      advances_at (shows_of g.K.Keeper.holds) k t.table.shared.table_id.slots m.seat.id m.seat.me
+      advances_at (shows_of g.K.Keeper.holds) o k t.table.shared.table_id.slots m.seat.id m.seat.me
           m.number
           m.role c.args.group c.args.oldest c.args.current c.requires.turn.1 c.requires.turn.2
           c.requires.turn.3 c.requires.group.0 c.requires.group.1 c.requires.turn.0.empty,

@@ -1,17 +1,19 @@
 use Rattle.std.proofs.Common.{refl, ap, ◌∙◌, arith}
 use Rattle.atomic_table.specs.Table.{rest}
 use Rattle.path_rule.specs.declared.view.View.{View}
-use Rattle.path_rule.specs.Lasts.{shows_of}
+use Rattle.path_rule.specs.Lasts.{beside_of, shows_of}
 use Rattle.path_rule.proofs.moves.DepositSteps.{deposits}
 use Rattle.path_rule.proofs.table.PathTable.deposit.Goals as goal
 
 pub fetch_sub-requires : goal.fetch_sub-requires
 fetch_sub-requires g c = let t = c.args.self.now in let m = c.args.member.now in
-    let k = t.table.shared.key in let wide = t.wide in let f = c.requires.group.0 in
+    let k = t.table.shared.key.size in
+    let o = beside_of (g.K.Keeper.holds t.table.shared.key.first.value) in let wide = t.wide in let
+    f = c.requires.group.0 in
     let n = c.requires.note in (
       c.requires.table.0,
       omega arith,
-      deposits (shows_of g.K.Keeper.holds) k t.table.shared.table_id.slots
+      deposits (shows_of g.K.Keeper.holds) o k t.table.shared.table_id.slots
           m.seat.id m.seat.me m.number m.role c.args.group n.0
           (rest m.seat.me.1) c.requires.group.1 n.1 n.2 n.3 n.4 n.5 c.requires.group.0,
     )

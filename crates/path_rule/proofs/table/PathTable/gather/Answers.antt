@@ -4,17 +4,18 @@ use native.Mathlib.Decide.{ℕ_discrete}
 use Rattle.path_rule.specs.declared.view.PathSize.{PathSize}
 use Rattle.path_rule.specs.declared.view.View.{View}
 use Rattle.path_rule.proofs.moves.GatherSteps.{gathers}
-use Rattle.path_rule.specs.Lasts.{shows_of}
+use Rattle.path_rule.specs.Lasts.{beside_of, shows_of}
 use Rattle.path_rule.proofs.table.PathTable.gather.Goals as goal
 
 pub load-requires : goal.load-requires
 load-requires g c = let t = c.args.self.now in let m = c.args.member.now in
-    let k = t.table.shared.key in let wide = t.wide in
+    let k = t.table.shared.key.size in
+    let o = beside_of (g.K.Keeper.holds t.table.shared.key.first.value) in let wide = t.wide in
     let same : k.seats ≡ t.size.seats = ap (λ (z : PathSize). z.seats) t.keyed in
     let more = c.requires.more in (
       c.requires.table.0,
       omega arith,
-      gathers (shows_of g.K.Keeper.holds) k
+      gathers (shows_of g.K.Keeper.holds) o k
           t.table.shared.table_id.slots m.seat.id m.seat.me m.number m.role c.args.current
           c.requires.turn.0 c.requires.turn.1 c.requires.turn.2 (omega arith),
     )

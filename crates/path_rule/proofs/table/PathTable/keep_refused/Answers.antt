@@ -2,17 +2,19 @@ use Rattle.std.proofs.Common.{Some, refl, sym, ap, ◌∙◌, subst, arith}
 use Rattle.path_core.specs.declared.seat.SyncTurn.{SyncTurn}
 use Rattle.path_rule.specs.declared.view.View.{View}
 use Rattle.path_rule.specs.Calls.{MayGive}
-use Rattle.path_rule.specs.Lasts.{shows_of, refused_lasting}
+use Rattle.path_rule.specs.Lasts.{beside_of, shows_of, refused_lasting}
 use Rattle.path_rule.proofs.moves.RefusedSyncs.{keeps_refused}
 use Rattle.path_rule.proofs.seats.MayGives.{gives_still, carries_on}
 use Rattle.path_rule.proofs.table.PathTable.keep_refused.Goals as goal
 
 pub load-requires : goal.load-requires
 load-requires g c = let t = c.args.self.now in let m = c.args.member.now in
-    let k = t.table.shared.key in let wide = t.wide in let d = c.requires.desk in (
+    let k = t.table.shared.key.size in
+    let o = beside_of (g.K.Keeper.holds t.table.shared.key.first.value) in let wide = t.wide in let
+    d = c.requires.desk in (
       c.requires.table.0,
       omega arith,
-      keeps_refused (shows_of g.K.Keeper.holds) k t.table.shared.table_id.slots
+      keeps_refused (shows_of g.K.Keeper.holds) o k t.table.shared.table_id.slots
           m.seat.id m.seat.me m.number m.role c.args.upto c.requires.turn.0 c.requires.turn.1
           c.requires.turn.2 c.requires.marker d.0 d.1 d.2 d.3 d.4,
     )

@@ -4,15 +4,16 @@ use Rattle.path_core.specs.declared.event.Place.TheVariants.{Current}
 use Rattle.path_rule.specs.declared.view.View.{View}
 use Rattle.path_rule.proofs.moves.Looks.{looks}
 use Rattle.path_rule.proofs.moves.StepFacts.{current_below}
-use Rattle.path_rule.specs.Lasts.{shows_of}
+use Rattle.path_rule.specs.Lasts.{beside_of, shows_of}
 use Rattle.path_rule.proofs.table.PathTable.look_append.Goals as goal
 
 pub load-requires : goal.load-requires
 load-requires g c = let t = c.args.self.now in let m = c.args.member.now in
-    let k = t.table.shared.key in let wide = t.wide in (
+    let k = t.table.shared.key.size in
+    let o = beside_of (g.K.Keeper.holds t.table.shared.key.first.value) in let wide = t.wide in (
       c.requires.0,
       omega arith,
-      looks (shows_of g.K.Keeper.holds) k t.table.shared.table_id.slots m.seat.id
+      looks (shows_of g.K.Keeper.holds) o k t.table.shared.table_id.slots m.seat.id
           m.seat.me m.number m.role (Current Append) tt tt,
     )
 

@@ -5,7 +5,7 @@ use Rattle.path_core.specs.declared.event.Place.TheVariants.{Bound}
 use Rattle.path_core.specs.Parts.{seat_table}
 use Rattle.path_rule.specs.declared.view.PathSize.{PathSize}
 use Rattle.path_rule.specs.declared.view.View.{View}
-use Rattle.path_rule.specs.Lasts.{shows_of}
+use Rattle.path_rule.specs.Lasts.{beside_of, shows_of}
 use Rattle.path_rule.specs.Rule.{view_after}
 use Rattle.path_rule.proofs.moves.Looks.{looks_at}
 use Rattle.path_rule.proofs.seats.Accepting.{bound_is_live, bound_leaves, accepts_first}
@@ -13,11 +13,12 @@ use Rattle.path_rule.proofs.table.PathTable.look_first_bound.Goals as goal
 
 pub load-requires : goal.load-requires
 load-requires g c = let t = c.args.self.now in let m = c.args.member.now in
-    let k = t.table.shared.key in let wide = t.wide in
+    let k = t.table.shared.key.size in
+    let o = beside_of (g.K.Keeper.holds t.table.shared.key.first.value) in let wide = t.wide in
     let few = t.fits.few_tables in let there = c.requires.there in (
       c.requires.table.0,
       omega arith,
-      looks_at (shows_of g.K.Keeper.holds) k t.table.shared.table_id.slots m.seat.id
+      looks_at (shows_of g.K.Keeper.holds) o k t.table.shared.table_id.slots m.seat.id
           m.seat.me m.number m.role (Bound c.args.table 0) (
             (let few = c.args.self.now.fits.few_tables in let there = c.requires.there in omega
                 arith),

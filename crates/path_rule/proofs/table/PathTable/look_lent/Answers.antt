@@ -6,16 +6,17 @@ use Rattle.path_rule.specs.Calls.{MayGive, IsSyncedTo}
 use Rattle.path_rule.specs.Turns.{TurnRuns}
 use Rattle.path_rule.proofs.moves.LentLooks.{looks_lent}
 use Rattle.path_rule.proofs.seats.CursorKnows.{synced_seen}
-use Rattle.path_rule.specs.Lasts.{shows_of}
+use Rattle.path_rule.specs.Lasts.{beside_of, shows_of}
 use Rattle.path_rule.proofs.seats.MayGives.{gives_still}
 use Rattle.path_rule.proofs.table.PathTable.look_lent.Goals as goal
 
 pub load-requires : goal.load-requires
 load-requires g c = let t = c.args.self.now in let m = c.args.member.now in
-    let k = t.table.shared.key in let wide = t.wide in (
+    let k = t.table.shared.key.size in
+    let o = beside_of (g.K.Keeper.holds t.table.shared.key.first.value) in let wide = t.wide in (
       c.requires.table.0,
       omega arith,
-      looks_lent (shows_of g.K.Keeper.holds) k t.table.shared.table_id.slots
+      looks_lent (shows_of g.K.Keeper.holds) o k t.table.shared.table_id.slots
           m.seat.id m.seat.me m.number m.role c.requires.turn.0.0 c.requires.turn.0.1
           c.requires.turn.0.2
           c.requires.turn.1,

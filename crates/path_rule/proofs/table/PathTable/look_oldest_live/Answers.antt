@@ -6,7 +6,7 @@ use Rattle.path_core.specs.declared.event.Place.TheVariants.{CursorWord}
 use Rattle.path_core.specs.Parts.{seat_table}
 use Rattle.path_rule.specs.declared.view.PathSize.{PathSize}
 use Rattle.path_rule.specs.declared.view.View.{View}
-use Rattle.path_rule.specs.Lasts.{shows_of}
+use Rattle.path_rule.specs.Lasts.{beside_of, shows_of}
 use Rattle.path_rule.specs.Rule.{view_after}
 use Rattle.path_rule.proofs.moves.Looks.{looks}
 use Rattle.path_rule.proofs.seats.Accepting.{oldest_is_first, oldest_leaves, tries_first}
@@ -14,11 +14,12 @@ use Rattle.path_rule.proofs.table.PathTable.look_oldest_live.Goals as goal
 
 pub load-requires : goal.load-requires
 load-requires g c = let t = c.args.self.now in let m = c.args.member.now in
-    let k = t.table.shared.key in let wide = t.wide in
+    let k = t.table.shared.key.size in
+    let o = beside_of (g.K.Keeper.holds t.table.shared.key.first.value) in let wide = t.wide in
     let few = t.fits.few_tables in let there = c.requires.there in (
       c.requires.table.0,
       omega arith,
-      looks (shows_of g.K.Keeper.holds) k t.table.shared.table_id.slots m.seat.id
+      looks (shows_of g.K.Keeper.holds) o k t.table.shared.table_id.slots m.seat.id
           m.seat.me m.number m.role (CursorWord (OldestLive c.args.table))
           (let few = c.args.self.now.fits.few_tables in let there = c.requires.there in omega arith)
           (subst (λ (z : PathSize). c.args.table.0 < z.tables) (sym c.requires.table.1)

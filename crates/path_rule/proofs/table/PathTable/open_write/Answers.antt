@@ -6,16 +6,17 @@ use Rattle.path_rule.specs.Calls.{Holds}
 use Rattle.path_rule.specs.Turns.{TurnSaw}
 use Rattle.path_rule.proofs.moves.WriteBarriers.{opens_write}
 use Rattle.path_rule.proofs.seats.HolderIssues as know
-use Rattle.path_rule.specs.Lasts.{shows_of}
+use Rattle.path_rule.specs.Lasts.{beside_of, shows_of}
 use Rattle.path_rule.proofs.table.PathTable.open_write.Goals as goal
 
 pub store-requires : goal.store-requires
 store-requires g c = let t = c.args.self.now in let m = c.args.member.now in
-    let k = t.table.shared.key in let wide = t.wide in (
+    let k = t.table.shared.key.size in
+    let o = beside_of (g.K.Keeper.holds t.table.shared.key.first.value) in let wide = t.wide in (
       c.requires.table.0,
       let f = c.requires.turn.3 in
           omega arith,
-      opens_write (shows_of g.K.Keeper.holds) k t.table.shared.table_id.slots m.seat.id m.seat.me
+      opens_write (shows_of g.K.Keeper.holds) o k t.table.shared.table_id.slots m.seat.id m.seat.me
           m.number m.role c.args.group c.args.current c.requires.turn.0.held c.requires.turn.0.issue
           c.requires.turn.1 c.requires.turn.2 c.requires.turn.0.empty c.requires.turn.3,
     )

@@ -8,17 +8,19 @@ use Rattle.path_core.specs.Next.{next_of}
 use Rattle.path_rule.specs.declared.view.PathSize.{PathSize}
 use Rattle.path_rule.specs.declared.view.View.{View}
 use Rattle.path_rule.specs.Calls.{MayGive, IsSyncedTo}
-use Rattle.path_rule.specs.Lasts.{more_lasting, shown, shows_of}
+use Rattle.path_rule.specs.Lasts.{beside_of, more_lasting, shown, shows_of}
 use Rattle.path_rule.proofs.moves.SyncSteps.{syncs}
 use Rattle.path_rule.proofs.seats.MayGives.{gives_still, carries_on}
 use Rattle.path_rule.proofs.table.PathTable.put_synced.Goals as goal
 
 pub store-requires : goal.store-requires
 store-requires g c = let t = c.args.self.now in let m = c.args.member.now in
-    let k = t.table.shared.key in let wide = t.wide in let d = c.requires.desk in (
+    let k = t.table.shared.key.size in
+    let o = beside_of (g.K.Keeper.holds t.table.shared.key.first.value) in let wide = t.wide in let
+    d = c.requires.desk in (
       c.requires.table.0,
       omega arith,
-      syncs (shows_of g.K.Keeper.holds) k t.table.shared.table_id.slots
+      syncs (shows_of g.K.Keeper.holds) o k t.table.shared.table_id.slots
           m.seat.id m.seat.me m.number m.role c.args.value d.0 d.1 d.3.0
           (rest m.seat.me.1) c.requires.turn.0 c.requires.turn.1 c.requires.turn.2 c.requires.marker
           d.2
@@ -43,7 +45,7 @@ returns-clause-step g c = let m = c.args.member.now in
       record { view = d.0.0; was = d.0.1 },
       (
         d.2.0,
-        ap (λ (z : PathSize). shown z.at_open c.args.value
+        ap (λ (z : PathSize). shown lasting.beside z.at_open c.args.value
             (next_of d.2.0.core (Put m.number Synced c.args.value))) (sym c.requires.table.1)
             ∙ d.2.1,
       ),

@@ -8,18 +8,19 @@ use Rattle.path_rule.proofs.moves.Looks.{looks_at}
 use Rattle.path_rule.proofs.moves.StepFacts.{oldest_below}
 use Rattle.path_rule.proofs.places.SamePlace.{in_rows}
 use Rattle.path_rule.proofs.seats.HolderLooks as know
-use Rattle.path_rule.specs.Lasts.{shows_of}
+use Rattle.path_rule.specs.Lasts.{beside_of, shows_of}
 use Rattle.path_rule.proofs.table.PathTable.seek_oldest.Goals as goal
 
 pub load-requires : goal.load-requires
 load-requires g c = let t = c.args.self.now in let m = c.args.member.now in
-    let k = t.table.shared.key in
+    let k = t.table.shared.key.size in
+    let o = beside_of (g.K.Keeper.holds t.table.shared.key.first.value) in
     let wide = t.wide in
     let low = in_rows (Oldest c.args.order) tt in
     let word = c.oldest_word.ensures in (
       c.requires.table.0,
       omega arith,
-      looks_at (shows_of g.K.Keeper.holds) k t.table.shared.table_id.slots m.seat.id m.seat.me
+      looks_at (shows_of g.K.Keeper.holds) o k t.table.shared.table_id.slots m.seat.id m.seat.me
           m.number m.role
           (Oldest c.args.order) tt tt c.oldest_word.result word,
     )

@@ -4,15 +4,16 @@ use native.Mathlib.Decide.{ℕ_discrete}
 use Rattle.path_rule.specs.declared.view.PathSize.{PathSize}
 use Rattle.path_rule.specs.declared.view.View.{View}
 use Rattle.path_rule.proofs.moves.TurnSteps.{takes_sync}
-use Rattle.path_rule.specs.Lasts.{shows_of}
+use Rattle.path_rule.specs.Lasts.{beside_of, shows_of}
 use Rattle.path_rule.proofs.table.PathTable.take_sync.Goals as goal
 
 pub compare_exchange-requires : goal.compare_exchange-requires
 compare_exchange-requires g c = let t = c.args.self.now in let m = c.args.member.now in
-    let k = t.table.shared.key in let wide = t.wide in (
+    let k = t.table.shared.key.size in
+    let o = beside_of (g.K.Keeper.holds t.table.shared.key.first.value) in let wide = t.wide in (
       c.requires.table.0,
       omega arith,
-      takes_sync (shows_of g.K.Keeper.holds) k t.table.shared.table_id.slots
+      takes_sync (shows_of g.K.Keeper.holds) o k t.table.shared.table_id.slots
           m.seat.id m.seat.me m.number m.role c.requires.idle.0 c.requires.idle.1,
     )
 

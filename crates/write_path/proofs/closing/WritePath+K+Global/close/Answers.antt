@@ -1,20 +1,37 @@
-use Rattle.std.proofs.Common.{ℕ, sym, subst}
-use Rattle.write_path.specs.Closed.{AreAll, IsOutcome}
+use Rattle.std.proofs.Common.{ℕ, sym, ap, subst}
+use Rattle.path_rule.specs.declared.lasting.Lasting.{Lasting}
+use Rattle.path_rule.specs.Lasts.{beside_of}
+use Rattle.write_path.specs.Closed.{AreAll, IsOutcome, StaysBeside}
 use Rattle.write_path.specs.Opened.{numbers_of}
-use Rattle.write_path.proofs.Outcomes.{outcome, unused_outcome}
+use Rattle.write_path.proofs.Outcomes.{outcome, stays_beside, unused_outcome}
 use Rattle.write_path.proofs.closing.WritePath+K+Global.close.Goals.{in-Some, in-None}
 use Rattle.write_path.proofs.closing.WritePath+K+Global.close.Goals as goal
 
-pub returns : goal.returns
-returns g c = let size = c.args.self.table.size in let seats = c.args.seats.items in
+pub returns-clause-outcome : goal.returns-clause-outcome
+returns-clause-outcome g c = let size = c.args.self.table.size in
+    let seats = c.args.seats.items in
+    let o = beside_of (g.K.Keeper.holds c.args.self.table.table.shared.key.first.value) in
     let P : g.row.K.Denot × ℕ → Type 0 =
     λ r. IsOutcome size seats r.1 (g.K.Keeper.holds r.0) in
     elim c.match-opener.branch [
-      | in-Some w ↦ subst P (sym w.keeper-is) (unused_outcome size seats w.finish_unused.result.1
+      | in-Some w ↦ subst P (sym w.keeper-is) (unused_outcome size o seats w.finish_unused.result.1
           (g.K.Keeper.holds w.finish_unused.result.0)
           (subst (λ o. AreAll o size.seats (numbers_of seats)) w.in-Some.is c.requires.all)
           w.finish_unused.ensures)
-      | in-None w ↦ subst P (sym w.keeper-is) (outcome size seats w.close_by_all.result.1
+      | in-None w ↦ subst P (sym w.keeper-is) (outcome size o seats w.close_by_all.result.1
           (g.K.Keeper.holds w.close_by_all.result.0) w.close_by_all.ensures
           (subst (λ o. AreAll o size.seats (numbers_of seats)) w.in-None.is c.requires.all))
+    ]
+
+pub returns-clause-beside : goal.returns-clause-beside
+returns-clause-beside g c =
+    let first = g.K.Keeper.holds c.args.self.table.table.shared.key.first.value in
+    let P : g.row.K.Denot × ℕ → Type 0 = λ r. StaysBeside first (g.K.Keeper.holds r.0) in
+    elim c.match-opener.branch [
+      | in-Some w ↦ subst P (sym w.keeper-is)
+          (stays_beside first (g.K.Keeper.holds w.finish_unused.result.0)
+          (ap (λ (l : Lasting). l.beside) w.finish_unused.ensures.1))
+      | in-None w ↦ subst P (sym w.keeper-is)
+          (stays_beside first (g.K.Keeper.holds w.close_by_all.result.0)
+          (ap (λ (l : Lasting). l.beside) w.close_by_all.ensures.ended.lasting_is))
     ]
