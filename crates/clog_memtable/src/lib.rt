@@ -1,0 +1,12 @@
+//! What a memtable holds when it is flushed: the newest cells of its table among the entries of the
+//! log that end within its interval (Cassandra's `Memtable`, as `Flush` writes it out).
+#![tactic(auto)]
+
+mod filling;
+mod flushing;
+mod memtable;
+#[cfg(test)]
+mod tests;
+
+pub use flushing::{Memtable, flush_all};
+pub use memtable::{Interval, cells_within};

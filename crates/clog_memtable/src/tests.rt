@@ -1,0 +1,15 @@
+//! A memtable to which nothing was written. (That a filled one is what it should be is the contract.)
+use crate::{Interval, cells_within};
+use clog_base::{Key, OutOfMemory, Table};
+
+#[test]
+fn no_entries_fill_no_cell(rt: HostRuntime) -> Result<(), OutOfMemory> {
+    let interval = Interval {
+        table: Table(15),
+        lower: Key(0),
+        upper: Key(100),
+    };
+    let cells = cells_within(rt.alloc(), &[], interval)?;
+    assert_eq!(rt; cells.len(), 0);
+    Ok(())
+}
