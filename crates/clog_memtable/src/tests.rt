@@ -1,4 +1,4 @@
-//! A memtable to which nothing was written. (That a filled one is what it should be is the contract.)
+//! A memtable to which nothing was written. What a filled one holds is the contract.
 use crate::{Interval, cells_within};
 use clog_base::{Key, OutOfMemory, Table};
 

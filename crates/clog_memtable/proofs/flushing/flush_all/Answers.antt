@@ -56,7 +56,8 @@ returns-in-Err-clause-cause g c = let l = c.loop-memtable in
 
 pub returns-clause-flushes : goal.returns-clause-flushes
 returns-clause-flushes g c = let l = c.loop-memtable in
-    let before = g.K.Keeper.holds c.args.keeper.now in let now = g.K.Keeper.holds l.keeper in record {
+    let before = g.K.Keeper.holds c.args.keeper.now in
+    let now = g.K.Keeper.holds l.keeper in record {
       runs = l.invariant.runs ∙ sym c.requires.runs;
       put = subst (λ (ms : List Memtable). HasPutFiles before now (files_of ms))
           (take_all l.memtable-index c.args.memtables.now
