@@ -1,0 +1,10 @@
+pub mod Covered
+pub mod Limits
+pub mod Lines
+pub mod Lists
+pub mod Logs
+pub mod Merged
+pub mod Opened
+pub mod Ordered
+pub mod Whole
+pub mod rows

@@ -1,0 +1,6 @@
+-- Worked rows.
+pub mod Bytes
+pub mod Drained
+pub mod Empty
+pub mod Synced
+pub mod Wrong

@@ -1,0 +1,12 @@
+pub mod Appended
+pub mod Applied
+pub mod Asked
+pub mod Closed
+pub mod Early
+pub mod Filed
+pub mod Flushed
+pub mod History
+pub mod Log
+pub mod Opening
+pub mod Printed
+pub mod Worked

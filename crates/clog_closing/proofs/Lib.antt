@@ -1,0 +1,6 @@
+pub mod Dropping
+pub mod Following
+pub mod Logs
+pub mod Openings
+pub mod Segments
+pub mod Tables

@@ -1,0 +1,109 @@
+//! What a store's calls say, in the words of a run.
+ghost use Rattle.std.specs.Prelude.{
+  ◌≡◌,
+  ◌↔◌,
+  ◌+◌,
+  ◌++◌,
+  ℕ,
+  List,
+  [],
+  map,
+  Option,
+  Some,
+  Contains,
+};
+ghost use Rattle.clog_cells.specs.Merge.{IsMergeOf};
+ghost use Rattle.clog_base.specs.declared.cell.Table.{Table};
+ghost use Rattle.clog_base.specs.declared.sizes.Sizes.{Sizes};
+ghost use Rattle.clog_disk.specs.declared.change.Change.{Change};
+ghost use Rattle.clog_disk.specs.Files.{Files};
+ghost use Rattle.clog_scan.specs.Cut.{Section};
+ghost use Rattle.clog_scan.specs.Laws.{IsFile};
+ghost use Rattle.clog_crash.specs.Droppable.{IsDroppable};
+ghost use Rattle.clog_crash.specs.Grown.{appends_of};
+ghost use Rattle.clog_crash.specs.Log.{Write};
+ghost use Rattle.clog_crash.specs.Runs.{placed_log};
+ghost use Rattle.path_core.specs.declared.note.EntryNote.{EntryNote};
+ghost use Rattle.path_core.specs.History.{IsHistory};
+ghost use Rattle.path_core.specs.Keeper.{
+  Holding,
+  IsFresh,
+  IsLoggedCell,
+  MayDrop,
+  MayPublish,
+  Publishes,
+  PutFile,
+};
+ghost use Rattle.path_core.specs.Whole.{IsWhole};
+ghost use Rattle.clog_store.specs.Grows.{IsGrown, segments_with};
+ghost use Rattle.clog_store.specs.Notes.{places_of};
+ghost use Rattle.clog_store.specs.OnDisk.{file_on};
+ghost use Rattle.clog_store.specs.Opened.{IsOpened, RecoversAll};
+ghost use Rattle.clog_applied.specs.Appended.{IsAppended, appended, entries_in};
+ghost use Rattle.clog_applied.specs.Filed.{FollowFrom, IsTrueFor, files_of, first_of};
+ghost use Rattle.clog_applied.specs.History.{LoggedLine};
+ghost use Rattle.clog_applied.specs.Opening.{IsOpening, IsRecoveryChange};
+ghost use Rattle.clog_layout.specs.Logged.{AreNotesOf};
+ghost use Rattle.clog_closing.specs.Logs.{AreStoredInOrder, written_ids};
+ghost use Rattle.clog_closing.specs.Sequence.{AreInSequence};
+
+/// What a recovery has added to a disk's changes are table files of the folder's own log and
+/// removals of its segments. A folder that was opened by such changes is opened for a run.
+pub fn openings_are_those_of_runs()
+    ensures changes { (first : Files) (made : List Change) (now : Option (List Change))
+        → RecoversAll first (Some made) now
+        → (recovery : List Change) × (now ≡ Some (made ++ recovery))
+        × ((c : Change) → Contains recovery c → IsRecoveryChange first c) }
+    ensures opening { (first now : Files) (moment base : ℕ) (recovery : List Change)
+        → IsOpened first moment base now
+        → ((c : Change) → Contains recovery c → IsRecoveryChange first c)
+        → IsOpening first now recovery base }
+{}
+
+/// Where a disk's changes have brought just the sections of a log, and these hold just the entries
+/// of notes, what was appended is the history of the notes.
+pub fn logs_of_notes_are_appended()
+    ensures is_appended { (changes : List Change) (base : ℕ) (past : List Write) (id : ℕ)
+        (sections : List Section) (notes : List EntryNote) (history : List LoggedLine)
+        → IsGrown (appends_of changes) past id sections
+        → AreStoredInOrder (segments_with past id sections)
+        → placed_log past id sections ≡ places_of base notes → AreNotesOf base notes history
+        → IsAppended changes (written_ids (segments_with past id sections)) history }
+    ensures are_files { (changes : List Change) (base : ℕ) (past : List Write) (id : ℕ)
+        (sections : List Section) (notes : List EntryNote) (history : List LoggedLine)
+        → IsGrown (appends_of changes) past id sections
+        → AreStoredInOrder (segments_with past id sections)
+        → placed_log past id sections ≡ places_of base notes → AreNotesOf base notes history
+        → (i : ℕ) → Contains (written_ids (segments_with past id sections)) i
+        → IsFile (appended changes i) }
+{}
+
+/// A table file that a keeper has put, and that has the merge of what its interval holds of the
+/// entries that last, is true for their history.
+pub fn put_files_are_true()
+    ensures { (h : Holding) (history : List LoggedLine) (put : PutFile)
+        → IsHistory h.sizes.capacity h.logged → AreNotesOf h.base h.logged history
+        → ((n : EntryNote) → Contains h.logged n → IsWhole n)
+        → IsMergeOf (IsLoggedCell h put) put.cells → IsTrueFor history (file_on h.base put) }
+{}
+
+/// Of a keeper that keeps nothing a segment may be dropped exactly where it is droppable by the
+/// table files that were put, with its entries of the history of the entries that last.
+pub fn segments_may_go_that_are_droppable()
+    ensures { (h : Holding) (history : List LoggedLine) (o : ℕ)
+        → IsHistory h.sizes.capacity h.logged → AreNotesOf h.base h.logged history
+        → h.kept ≡ [] → MayDrop h o
+        ↔ IsDroppable (map (file_on h.base) h.files) (h.base + o)
+        (entries_in (h.base + o) history) }
+{}
+
+/// The table files that a keeper puts are in sequence, from none on; and so they follow one
+/// another, table by table, from the base of the run.
+pub fn put_files_follow_one_another()
+    ensures none { (base : ℕ) (sizes : Sizes) (h : Holding) → IsFresh base sizes h
+        → AreInSequence h.files }
+    ensures more { (before now : Holding) (f : PutFile) → AreInSequence before.files
+        → MayPublish before f → Publishes before now f → AreInSequence now.files }
+    ensures follow { (base : ℕ) (table : Table) (files : List PutFile) → AreInSequence files
+        → FollowFrom (first_of base) (files_of table (map (file_on base) files)) }
+{}

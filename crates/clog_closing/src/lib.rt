@@ -1,0 +1,9 @@
+//! What an opening and a log of notes tell, as parts of a run of `apply` whose path is closed.
+#![tactic(auto)]
+
+mod laws;
+
+pub use laws::{
+    logs_of_notes_are_appended, openings_are_those_of_runs, put_files_are_true,
+    put_files_follow_one_another, segments_may_go_that_are_droppable,
+};
