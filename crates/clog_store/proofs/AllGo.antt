@@ -111,14 +111,14 @@ logged_back name r q id entry others apart l = record {
 
 -- ---- a segment is archived
 
-archive_named : (id : ℕ) → id < 2 ^ 63 → IsArchiveName (archive_name_of id) id
+pub archive_named : (id : ℕ) → id < 2 ^ 63 → IsArchiveName (archive_name_of id) id
 archive_named id fits = record { form = refl; id_fits = fits }
 
 unread : (id : ℕ) → id < 2 ^ 63 → IsUnread (archive_name_of id)
 unread id fits = archives_are_unread (archive_name_of id) id (archive_named id fits)
 
 -- no archive name is that of a segment
-not_archived : (id other : ℕ) → id < 2 ^ 63 → other < 2 ^ 63
+pub not_archived : (id other : ℕ) → id < 2 ^ 63 → other < 2 ^ 63
     → segment_name_of 6 other ≡ archive_name_of id → ⊥
 not_archived id other fits fits' same =
     (unread id fits).no_segment 6 other
@@ -400,15 +400,24 @@ not_missing {T} told name result finds held missing =
     found_there told name held
     (subst (λ (r : Result T DiskFault). Finds told name r) missing finds)
 
--- one has gone, and then the others
-pub all_gone_then : (told mid now : Option Files) (archives : Bool) (base o : ℕ)
-    (others : List ℕ) → mid ≡ option_map (gone_at archives (base + o)) told
-    → now ≡ option_map (all_gone_at archives base others) mid
-    → now ≡ option_map (all_gone_at archives base (o ∷ others)) told
-all_gone_then None mid now archives base o others first next =
-    next ∙ ap (option_map (all_gone_at archives base others)) first
-all_gone_then (Some f) mid now archives base o others first next =
-    next ∙ ap (option_map (all_gone_at archives base others)) first
+-- one more has gone behind others
+all_gone_more : (archives : Bool) (base : ℕ) (front : List ℕ) (o : ℕ) (f : Files)
+    → all_gone_at archives base (front ++ o ∷ []) f
+    ≡ gone_at archives (base + o) (all_gone_at archives base front f)
+all_gone_more archives base [] o f = refl
+all_gone_more archives base (p ∷ front) o f =
+    all_gone_more archives base front o (gone_at archives (base + p) f)
+
+-- others have gone, and then one
+pub all_gone_then : (told mid now : Option Files) (archives : Bool) (base : ℕ) (front : List ℕ)
+    (o : ℕ) → mid ≡ option_map (all_gone_at archives base front) told
+    → now ≡ option_map (gone_at archives (base + o)) mid
+    → now ≡ option_map (all_gone_at archives base (front ++ o ∷ [])) told
+all_gone_then None mid now archives base front o first next =
+    next ∙ ap (option_map (gone_at archives (base + o))) first
+all_gone_then (Some f) mid now archives base front o first next =
+    next ∙ ap (option_map (gone_at archives (base + o))) first
+    ∙ ap Some (sym (all_gone_more archives base front o f))
 
 pub all_gone_none : (told : Option Files) (archives : Bool) (base : ℕ)
     → told ≡ option_map (all_gone_at archives base []) told

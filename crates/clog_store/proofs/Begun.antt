@@ -9,12 +9,10 @@ use Rattle.std.proofs.Common.{
   ◌++◌,
   length,
   Option,
-  Some,
-  None,
   false,
   IfSome,
-  refl,
   sym,
+  ◌∙◌,
   ap,
   subst,
   inl,
@@ -29,8 +27,8 @@ use Rattle.clog_scan.specs.Cut.{Section}
 use Rattle.clog_crash.specs.Log.{Write}
 use Rattle.clog_crash.specs.Readings.{Reading}
 use Rattle.clog_crash.specs.Rest.{IsAtRest}
-use Rattle.clog_crash.specs.Sections.{IsStored}
-use Rattle.clog_store.specs.Life.{HasBegun, HasEnd, Lives, LivesOn, State}
+use Rattle.clog_crash.specs.Sections.{IsStored, segment_bytes}
+use Rattle.clog_store.specs.Life.{HasBegun, HasEnd, Lives, LivesOn, MayGoOnIn, State}
 use Rattle.clog_store.specs.Several.{written}
 use Rattle.clog_store.proofs.Ends.{end_rolled}
 use Rattle.clog_store.proofs.Lived.{lives_at_first, rest_at_first}
@@ -47,7 +45,8 @@ module _ {D : Type 0} (files : D → Option Files) (moment : D → ℕ)
       → ((image : Files) → since disk (moment disk) image → IsImage (leaves disk) image)
       → IfSome (files disk) (λ f. lasted_at disk (moment disk) ↔ LastsAll f (leaves disk))
       → HasEnd (files disk) id 0 []
-      → IfSome (files disk) (λ f. LastsAll f (leaves disk) → IsAtRest f (leaves disk) id [] [])
+      → IfSome (files disk) (λ f. LastsAll f (leaves disk) → (at : ℕ) → MayGoOnIn id [] at
+      → IsAtRest f (leaves disk) at [] [])
       → HasBegun files moment since leaves read_at lasted_at (record {
         disk = disk;
         opened = opened;
@@ -154,3 +153,25 @@ module _ {D : Type 0} (files : D → Option Files) (moment : D → ℕ)
       last_or w among =
           Contains-push_cases s.past (written s.id s.sections) w
           (subst (λ (l : List Write). Contains l w) past_is among)
+
+  -- it goes on in a further segment, where this one has no section
+  pub begun_skipped : (s : State D) (size next : ℕ) → s.sections ≡ [] → s.id < next
+      → next < 2 ^ 63 → s.is_stopped ≡ false
+      → HasBegun files moment since leaves read_at lasted_at s size
+      → (Lives files moment since leaves read_at lasted_at s
+      → LivesOn files moment since leaves read_at lasted_at s (record s { id = next }))
+      → HasBegun files moment since leaves read_at lasted_at (record s { id = next }) size
+  begun_skipped s size next none over limit runs begun on = record {
+    began = begun.began;
+    few = begun.few;
+    past_below = λ w among. let low = begun.past_below w among in omega (arith, low, over);
+    past_stored = begun.past_stored;
+    ends = λ still.
+        let end = begun.ends runs in
+        let empty : size ≡ 0 =
+        end.size_is ∙ ap (λ (l : List Section). length (segment_bytes s.id l)) none in
+        subst (λ (l : List Section). HasEnd (files s.disk) next size l) (sym none)
+        (subst (λ (k : ℕ). HasEnd (files s.disk) next k []) (sym empty)
+        (end_rolled (files s.disk) s.id next size s.sections over limit end));
+    lives = λ lasted. (on (begun.lives lasted)).lives;
+  }

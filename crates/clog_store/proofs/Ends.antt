@@ -27,11 +27,13 @@ use Rattle.std.proofs.Common.{
   append_assoc,
 }
 use Rattle.std.proofs.lemmas.List.{nil_from_length, take-append-drop}
-use Rattle.std.specs.Prelude.{is_some, unwrap_or}
+use Rattle.std.proofs.lemmas.Option.{none-some}
+use Rattle.std.specs.Prelude.{is_some, unwrap_or, ⊤}
 use Rattle.clog_spec.specs.Names.{segment_name_of}
 use Rattle.clog_disk.specs.Files.{AppendsTo, Files, IsEnd, SameTold, bytes_at}
 use Rattle.clog_disk.proofs.Named.{put_here, put_there}
 use Rattle.clog_scan.specs.Cut.{Section}
+use Rattle.clog_crash.specs.Folder.{HasSegmentFile}
 use Rattle.clog_crash.specs.Sections.{Brings, IsStored, segment_bytes}
 use Rattle.clog_crash.proofs.changes.Names.{is_named, one_id}
 use Rattle.clog_crash.proofs.changes.Nothing.{there_or_nothing}
@@ -155,3 +157,15 @@ end_opened (Some f) (Some g) moment base same opens fits = record {
   above = λ other over limit.
       sym (ap length (nothing_at f g base opens.recovered other limit));
 }
+
+-- a folder that was opened has no segment
+pub none_opened : (told now : Option Files) (moment base : ℕ) → OpensAs told now moment base
+    → (f g : Files) → told ≡ Some f → now ≡ Some g → ¬ HasSegmentFile g
+none_opened None now moment base opens f g is here = absurd (none-some f is)
+none_opened (Some h) None moment base opens f g is here = absurd (none-some g here)
+none_opened (Some h) (Some k) moment base opens f g is here =
+    subst (λ (o : Option Files). Lacks o) here opens.recovered.no_segment
+  where
+    Lacks : Option Files → Type 0
+    Lacks None = ⊤
+    Lacks (Some x) = ¬ HasSegmentFile x

@@ -1,10 +1,19 @@
 mod AllGo
+mod Anywhere
 mod Begun
 mod Beside
 mod Changed
 mod Due
 mod Ended
 mod FilePut
+mod FolderBegins
+mod FolderDue
+mod FolderEnds
+mod FolderGoes
+mod FolderNames
+mod FolderPuts
+mod FolderReads
+mod FolderSyncs
 mod Ends
 mod Filed
 mod Going
@@ -38,4 +47,7 @@ mod Picking
 mod Ready
 mod Recovered
 mod Recovery
+mod StoreFolds
+mod StoreKept
+mod SegmentsGo
 mod TableLogs

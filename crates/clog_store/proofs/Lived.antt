@@ -32,7 +32,16 @@ use Rattle.clog_crash.specs.Readings.{Reading}
 use Rattle.clog_crash.specs.Rest.{IsAtRest}
 use Rattle.clog_crash.proofs.life.Resting.{life_begins, resting_shows}
 use Rattle.clog_crash.proofs.life.Shown.{shown_fewer}
-use Rattle.clog_store.specs.Life.{BothTold, Lives, LivesOn, Outlives, ShownSince, State, lasting_in}
+use Rattle.clog_store.specs.Life.{
+  BothTold,
+  Lives,
+  LivesOn,
+  MayGoOnIn,
+  Outlives,
+  ShownSince,
+  State,
+  lasting_in,
+}
 
 -- ---- where files and readings are told
 
@@ -72,8 +81,9 @@ all_of n xs more =
 -- a folder in which all lasts is at rest
 pub rest_at_first : (told : Option Files) (leaves : List ℕ → Option (List ℕ) → Type 0) (id : ℕ)
     (lasted : Type 0) → IfSome told (λ f. lasted ↔ LastsAll f leaves)
-    → IfSome told (λ f. LastsAll f leaves → IsAtRest f leaves id [] []) → lasted
-    → IfSome told (λ f. IsAtRest f leaves id [] [])
+    → IfSome told (λ f. LastsAll f leaves → (at : ℕ) → MayGoOnIn id [] at
+    → IsAtRest f leaves at [] []) → lasted
+    → IfSome told (λ f. (at : ℕ) → MayGoOnIn id [] at → IsAtRest f leaves at [] [])
 rest_at_first None leaves id lasted law rests has = tt
 rest_at_first (Some f) leaves id lasted law rests has = rests (law.0 has)
 
@@ -94,7 +104,8 @@ module _ {D : Type 0} (files : D → Option Files) (moment : D → ℕ)
   pub lives_at_first : (disk : D) (opened id : ℕ) → opened ≡ moment disk
       → read_at disk (moment disk) ≡ option_map bytes_at (files disk)
       → ((image : Files) → since disk (moment disk) image → IsImage (leaves disk) image)
-      → IfSome (files disk) (λ f. IsAtRest f (leaves disk) id [] [])
+      → IfSome (files disk) (λ f. (at : ℕ) → MayGoOnIn id [] at
+      → IsAtRest f (leaves disk) at [] [])
       → Living (record {
         disk = disk;
         opened = opened;
@@ -107,26 +118,28 @@ module _ {D : Type 0} (files : D → Option Files) (moment : D → ℕ)
   lives_at_first disk opened id now reads only rest = record {
     began = omega (arith, now);
     few = omega arith;
-    shown = both (files disk) (read_at disk opened) _ (λ f r is read.
+    shown = both (files disk) (read_at disk opened) _ (λ f r is read at may.
         record {
           later = omega (arith, now);
           each = λ image left.
-              resting_shows f (leaves disk) r [] id [] [] (resting f r is read) image
+              resting_shows f (leaves disk) r [] at [] [] (resting f r is read at may) image
               (only image (subst (λ t. since disk t image) now left));
         });
-    lasts = both (files disk) (read_at disk opened) _ (λ f r is read image left.
-        resting_shows f (leaves disk) r [] id [] [] (resting f r is read) image left);
-    rests = λ going. both (files disk) (read_at disk opened) _ (λ f r is read. resting f r is read);
+    lasts = both (files disk) (read_at disk opened) _ (λ f r is read at may image left.
+        resting_shows f (leaves disk) r [] at [] [] (resting f r is read at may) image left);
+    rests = λ going. both (files disk) (read_at disk opened) _ (λ f r is read at may.
+        resting f r is read at may);
   }
     where
       resting : (f : Files) (r : Reading) → files disk ≡ Some f → read_at disk opened ≡ Some r
-          → IsResting f (leaves disk) r [] id [] []
-      resting f r is read =
+          → (at : ℕ) → MayGoOnIn id [] at → IsResting f (leaves disk) r [] at [] []
+      resting f r is read at may =
           let same : Some (bytes_at f) ≡ Some r =
           sym (ap (option_map bytes_at) is) ∙ sym reads ∙ ap (read_at disk) (sym now) ∙ read in
-          subst (λ (o : Option Reading). IfSome o (λ q. IsResting f (leaves disk) q [] id [] []))
-          same (life_begins f (leaves disk) id
-          (subst (λ (o : Option Files). IfSome o (λ g. IsAtRest g (leaves disk) id [] [])) is rest))
+          subst (λ (o : Option Reading). IfSome o (λ q. IsResting f (leaves disk) q [] at [] []))
+          same (life_begins f (leaves disk) at
+          (subst (λ (o : Option Files). IfSome o (λ g. (at : ℕ) → MayGoOnIn id [] at
+          → IsAtRest g (leaves disk) at [] [])) is rest at may))
 
   -- ---- from state to state
 
@@ -150,20 +163,26 @@ module _ {D : Type 0} (files : D → Option Files) (moment : D → ℕ)
       told = same_told_then (files a.disk) (files b.disk) (files c.disk) first.told next.told;
       later = later_still moment read_at lasted_at a.disk b.disk c.disk first.later next.later;
       no_fewer = omega (arith, first.no_fewer, next.no_fewer);
-      shown = both (files c.disk) (read_at c.disk c.opened) _ (λ g r is read.
+      shown = both (files c.disk) (read_at c.disk c.opened) _ (λ g r is read at may.
           let before = told_before (files b.disk) (files c.disk) g next.told is in
-          let All = HasShown r (lasting_in a) c.past c.id c.sections in
+          let All = HasShown r (lasting_in a) c.past at c.sections in
+          let two = at_both (files c.disk) (read_at c.disk c.opened) _ g r next.shown is read at may
+          in
+          let mid = two.0.from in
           let one = at_both (files b.disk) (read_at b.disk b.opened) _ before.0 r first.shown
-          before.1 (read_mid r read) in
-          let two = at_both (files c.disk) (read_at c.disk c.opened) _ g r next.shown is read in (
-            λ least image shown. two.0 least image (one.0 least image shown),
+          before.1 (read_mid r read) mid two.0.may in (
+            record {
+              from = one.0.from;
+              may = one.0.may;
+              on = λ least image shown. two.0.on least image (one.0.on least image shown);
+            },
             goes_on_by moment since a.disk b.disk c.disk All
                 (weakened moment since a.disk b.disk
-                (HasShown r (lasting_in a) b.past b.id b.sections) All one.1
-                (λ image shown. two.0 (lasting_in a) image shown))
+                (HasShown r (lasting_in a) b.past mid b.sections) All one.1
+                (λ image shown. two.0.on (lasting_in a) image shown))
                 (weakened moment since b.disk c.disk
-                (HasShown r (lasting_in b) c.past c.id c.sections) All two.1
-                (λ image shown. shown_fewer r (lasting_in a) (lasting_in b) c.past c.id c.sections
+                (HasShown r (lasting_in b) c.past at c.sections) All two.1
+                (λ image shown. shown_fewer r (lasting_in a) (lasting_in b) c.past at c.sections
                 image first.no_fewer shown)),
           ));
     }
@@ -185,19 +204,21 @@ module _ {D : Type 0} (files : D → Option Files) (moment : D → ℕ)
       → ShownSince files moment since read_at lasted_at a.disk a.opened a.past a.id a.sections
       → ShownSince files moment since read_at lasted_at b.disk b.opened b.past b.id b.sections
   shown_on a b began on shown =
-      both (files b.disk) (read_at b.disk b.opened) _ (λ g r is read.
+      both (files b.disk) (read_at b.disk b.opened) _ (λ g r is read at may.
       let before = told_before (files a.disk) (files b.disk) g on.told is in
       let was : read_at a.disk a.opened ≡ Some r =
       sym (on.later.remembers a.opened began) ∙ ap (read_at b.disk) (sym on.opened) ∙ read in
-      let Here = HasShown r 0 b.past b.id b.sections in
-      let now = at_both (files b.disk) (read_at b.disk b.opened) _ g r on.shown is read in
+      let Here = HasShown r 0 b.past at b.sections in
+      let now = at_both (files b.disk) (read_at b.disk b.opened) _ g r on.shown is read at may in
+      let from = now.0.from in
       subst (λ (t : ℕ). SinceThen moment since t b.disk Here) (sym on.opened)
-      (kept_since moment since a.opened a.disk b.disk (HasShown r 0 a.past a.id a.sections)
-      (HasShown r (lasting_in a) b.past b.id b.sections) Here
-      (at_both (files a.disk) (read_at a.disk a.opened) _ before.0 r shown before.1 was)
+      (kept_since moment since a.opened a.disk b.disk (HasShown r 0 a.past from a.sections)
+      (HasShown r (lasting_in a) b.past at b.sections) Here
+      (at_both (files a.disk) (read_at a.disk a.opened) _ before.0 r shown before.1 was from
+      now.0.may)
       now.1
-      (λ image was. now.0 0 image was)
-      (λ image shows. shown_fewer r 0 (lasting_in a) b.past b.id b.sections image (omega arith)
+      (λ image was. now.0.on 0 image was)
+      (λ image shows. shown_fewer r 0 (lasting_in a) b.past at b.sections image (omega arith)
       shows)))
 
   -- a call that does nothing
@@ -215,11 +236,11 @@ module _ {D : Type 0} (files : D → Option Files) (moment : D → ℕ)
         lasted_then = λ t le. (λ has. has, λ has. has);
       };
       no_fewer = omega arith;
-      shown = both (files s.disk) (read_at s.disk s.opened) _ (λ f r is read. (
-        λ least image shown. shown,
-        started moment since s.disk (HasShown r (lasting_in s) s.past s.id s.sections)
+      shown = both (files s.disk) (read_at s.disk s.opened) _ (λ f r is read at may. (
+        record { from = at; may = may; on = λ least image shown. shown },
+        started moment since s.disk (HasShown r (lasting_in s) s.past at s.sections)
             (λ image now. at_both (files s.disk) (read_at s.disk s.opened) _ f r lives.lasts is read
-            image (only image now)),
+            at may image (only image now)),
       ));
     };
   }
@@ -228,10 +249,11 @@ module _ {D : Type 0} (files : D → Option Files) (moment : D → ℕ)
   pub lasts_on : (a b : State D)
       → ((image : Files) → IsImage (leaves b.disk) image → since b.disk (moment a.disk) image)
       → lasting_in b ≤ lasting_in a → Outliving a b
-      → BothTold (files b.disk) (read_at b.disk b.opened) (λ f r. (image : Files)
-      → IsImage (leaves b.disk) image → HasShown r (lasting_in b) b.past b.id b.sections image)
+      → BothTold (files b.disk) (read_at b.disk b.opened) (λ f r. (at : ℕ)
+      → MayGoOnIn b.id b.sections at → (image : Files) → IsImage (leaves b.disk) image
+      → HasShown r (lasting_in b) b.past at b.sections image)
   lasts_on a b counts no_more on =
-      both (files b.disk) (read_at b.disk b.opened) _ (λ f r is read image left.
-      shown_fewer r (lasting_in b) (lasting_in a) b.past b.id b.sections image no_more
-      ((at_both (files b.disk) (read_at b.disk b.opened) _ f r on.shown is read).1.each image
-      (counts image left)))
+      both (files b.disk) (read_at b.disk b.opened) _ (λ f r is read at may image left.
+      shown_fewer r (lasting_in b) (lasting_in a) b.past at b.sections image no_more
+      ((at_both (files b.disk) (read_at b.disk b.opened) _ f r on.shown is read at may).1.each
+      image (counts image left)))

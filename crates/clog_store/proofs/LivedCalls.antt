@@ -2,6 +2,7 @@
 use Rattle.std.proofs.Common.{
   ◌≡◌,
   ℕ,
+  ◌<◌,
   ◌≤◌,
   List,
   [],
@@ -39,8 +40,18 @@ use Rattle.clog_crash.specs.Log.{HasShown, IsResting, logged_in}
 use Rattle.clog_crash.specs.Readings.{Reading}
 use Rattle.clog_crash.proofs.life.Resting.{resting_shows}
 use Rattle.clog_crash.proofs.life.Shown.{logged_more, shown_longer}
-use Rattle.clog_store.specs.Life.{BothTold, Lives, LivesOn, Outlives, State, lasting_in}
+use Rattle.clog_store.specs.Life.{
+  BothTold,
+  Lives,
+  LivesOn,
+  MayGoOnIn,
+  Outlives,
+  ShowsOn,
+  State,
+  lasting_in,
+}
 use Rattle.clog_store.specs.Resting.{RestsAt, ShowsBehind}
+use Rattle.clog_store.proofs.Anywhere.{here_only, went_on}
 use Rattle.clog_store.proofs.Lived.{all_of, at_both, at_told, both, lasts_on, shown_on, told_before}
 
 module _ {D : Type 0} (files : D → Option Files) (moment : D → ℕ)
@@ -70,43 +81,51 @@ module _ {D : Type 0} (files : D → Option Files) (moment : D → ℕ)
     read_before r read = sym (later.remembers s.opened lives.began) ∙ read
 
     rests_by : (f : Files) (r : Reading) → files s.disk ≡ Some f → read_at s.disk s.opened ≡ Some r
-        → RestsAt (files s.disk) (leaves s.disk) r s.past s.id a b
-    rests_by f r is read =
-        subst (λ (o : Option Files). RestsAt o (leaves s.disk) r s.past s.id a b) (sym is)
-        (at_both (files s.disk) (read_at s.disk s.opened) _ f r (lives.rests runs) is read)
+        → (at : ℕ) → MayGoOnIn s.id s.sections at
+        → RestsAt (files s.disk) (leaves s.disk) r s.past at a b
+    rests_by f r is read at may =
+        subst (λ (o : Option Files). RestsAt o (leaves s.disk) r s.past at a b) (sym is)
+        (at_both (files s.disk) (read_at s.disk s.opened) _ f r (lives.rests runs) is read at may)
 
-    rests_then : (a' b' : List Section)
-        → ((r : Reading) → RestsAt (files s.disk) (leaves s.disk) r s.past s.id a b
-        → RestsAt (files new) (leaves new) r s.past s.id a' b')
-        → BothTold (files new) (read_at new s.opened) (λ f r.
-        IsResting f (leaves new) r s.past s.id a' b')
-    rests_then a' b' then =
-        both (files new) (read_at new s.opened) _ (λ g r is read.
-        let before = told_before (files s.disk) (files new) g told is in
-        at_told (files new) g (λ f. IsResting f (leaves new) r s.past s.id a' b') is
-        (then r (rests_by before.0 r before.1 (read_before r read))))
+    rests_then : (a' b' all : List Section)
+        → ((at : ℕ) → MayGoOnIn s.id all at → MayGoOnIn s.id s.sections at)
+        → ((at : ℕ) → MayGoOnIn s.id all at → (r : Reading)
+        → RestsAt (files s.disk) (leaves s.disk) r s.past at a b
+        → RestsAt (files new) (leaves new) r s.past at a' b')
+        → BothTold (files new) (read_at new s.opened) (λ f r. (at : ℕ) → MayGoOnIn s.id all at
+        → IsResting f (leaves new) r s.past at a' b')
+    rests_then a' b' all before then =
+        both (files new) (read_at new s.opened) _ (λ g r is read at may.
+        let was = told_before (files s.disk) (files new) g told is in
+        at_told (files new) g (λ f. IsResting f (leaves new) r s.past at a' b') is
+        (then at may r (rests_by was.0 r was.1 (read_before r read) at (before at may))))
 
     began_still : s.opened ≤ moment new
     began_still = omega (arith, lives.began, later.no_sooner)
 
     -- each image of the call, which writes further sections or none
     shows_all : (more all : List Section) → s.sections ++ more ≡ all
-        → ((r : Reading) → RestsAt (files s.disk) (leaves s.disk) r s.past s.id a b
-        → LeavesOnly moment since s.disk new (ShowsBehind r s.past s.id a (b ++ more)))
-        → BothTold (files new) (read_at new s.opened) (λ f r.
-        ((least : ℕ) (image : Files) → HasShown r least s.past s.id s.sections image
-        → HasShown r least s.past s.id all image)
-        × LeavesOnly moment since s.disk new (HasShown r (lasting_in s) s.past s.id all))
+        → ((at : ℕ) → MayGoOnIn s.id all at → (r : Reading)
+        → RestsAt (files s.disk) (leaves s.disk) r s.past at a b
+        → LeavesOnly moment since s.disk new (ShowsBehind r s.past at a (b ++ more)))
+        → BothTold (files new) (read_at new s.opened) (λ f r. (at : ℕ) → MayGoOnIn s.id all at
+        → ShowsOn r s.past s.id s.sections s.past at all
+        × LeavesOnly moment since s.disk new (HasShown r (lasting_in s) s.past at all))
     shows_all more all are any =
-        both (files new) (read_at new s.opened) _ (λ g r is read.
-        let before = told_before (files s.disk) (files new) g told is in (
-          λ least image shown.
-              subst (λ (l : List Section). HasShown r least s.past s.id l image) are
-              (shown_longer r least s.past s.id s.sections more image shown),
+        both (files new) (read_at new s.opened) _ (λ g r is read at may.
+        let before = told_before (files s.disk) (files new) g told is in
+        let was = went_on s.id s.sections more all are at may in (
+          record {
+            from = at;
+            may = was;
+            on = λ least image shown.
+                subst (λ (l : List Section). HasShown r least s.past at l image) are
+                (shown_longer r least s.past at s.sections more image shown);
+          },
           subst (λ (l : List Section).
-              LeavesOnly moment since s.disk new (HasShown r (lasting_in s) s.past s.id l))
+              LeavesOnly moment since s.disk new (HasShown r (lasting_in s) s.past at l))
               (all_of s.synced s.sections more ∙ are)
-              (any r (rests_by before.0 r before.1 (read_before r read))),
+              (any at may r (rests_by before.0 r before.1 (read_before r read) at was)),
         ))
 
     module _ (x : Section)
@@ -124,6 +143,9 @@ module _ {D : Type 0} (files : D → Option Files) (moment : D → ℕ)
       few_still : s.synced ≤ length longer
       few_still = omega (arith, lives.few, length-append s.sections (x ∷ []))
 
+      some : 0 < length longer
+      some = omega (arith, length-append s.sections (x ∷ []))
+
       outlives_by : (is_stopped : Bool)
           → Outliving s (record s { disk = new; sections = longer; is_stopped = is_stopped })
       outlives_by is_stopped = record {
@@ -134,7 +156,10 @@ module _ {D : Type 0} (files : D → Option Files) (moment : D → ℕ)
           arith,
           ap (λ (l : List Section). length (logged_in s.past l)) front,
         );
-        shown = shows_all (x ∷ []) longer refl any;
+        shown = shows_all (x ∷ []) longer refl (here_only s.id longer (λ at. (r : Reading)
+            → RestsAt (files s.disk) (leaves s.disk) r s.past at a b
+            → LeavesOnly moment since s.disk new (ShowsBehind r s.past at a (b ++ x ∷ []))) some
+            any);
       }
 
       -- the disk has failed
@@ -183,25 +208,32 @@ module _ {D : Type 0} (files : D → Option Files) (moment : D → ℕ)
                 sections = longer;
               }) counts no_more on;
               rests = λ going.
-                  rests_then (take s.synced longer) (drop s.synced longer) (λ r rests.
+                  rests_then (take s.synced longer) (drop s.synced longer) longer
+                  (went_on s.id s.sections (x ∷ []) longer refl)
+                  (here_only s.id longer (λ at. (r : Reading)
+                  → RestsAt (files s.disk) (leaves s.disk) r s.past at a b
+                  → RestsAt (files new) (leaves new) r s.past at (take s.synced longer)
+                  (drop s.synced longer)) some (λ r rests.
                   subst (λ (l : List Section).
                   RestsAt (files new) (leaves new) r s.past s.id (take s.synced longer) l)
                   (sym (drop-append-le s.synced s.sections (x ∷ []) lives.few))
                   (subst (λ (l : List Section).
                   RestsAt (files new) (leaves new) r s.past s.id l (b ++ x ∷ []))
-                  (sym front) (kept r rests)));
+                  (sym front) (kept r rests))));
             };
             outlives = on;
           }
 
-    module _ (any : (r : Reading) → RestsAt (files s.disk) (leaves s.disk) r s.past s.id a b
-        → LeavesOnly moment since s.disk new (ShowsBehind r s.past s.id a b)) where
-      any_more : (r : Reading) → RestsAt (files s.disk) (leaves s.disk) r s.past s.id a b
-          → LeavesOnly moment since s.disk new (ShowsBehind r s.past s.id a (b ++ []))
-      any_more r rests =
+    module _ (any : (at : ℕ) → MayGoOnIn s.id s.sections at → (r : Reading)
+        → RestsAt (files s.disk) (leaves s.disk) r s.past at a b
+        → LeavesOnly moment since s.disk new (ShowsBehind r s.past at a b)) where
+      any_more : (at : ℕ) → MayGoOnIn s.id s.sections at → (r : Reading)
+          → RestsAt (files s.disk) (leaves s.disk) r s.past at a b
+          → LeavesOnly moment since s.disk new (ShowsBehind r s.past at a (b ++ []))
+      any_more at may r rests =
           subst (λ (l : List Section).
-          LeavesOnly moment since s.disk new (ShowsBehind r s.past s.id a l))
-          (sym (append-nil b)) (any r rests)
+          LeavesOnly moment since s.disk new (ShowsBehind r s.past at a l))
+          (sym (append-nil b)) (any at may r rests)
 
       outlives_with : (synced : ℕ) (is_stopped : Bool)
           → length (logged_in s.past a) ≤ length (logged_in s.past (take synced s.sections))
@@ -215,8 +247,9 @@ module _ {D : Type 0} (files : D → Option Files) (moment : D → ℕ)
       }
 
       -- nothing has changed but that time has gone on
-      pub lives_same : ((r : Reading) → RestsAt (files s.disk) (leaves s.disk) r s.past s.id a b
-          → RestsAt (files new) (leaves new) r s.past s.id a b)
+      pub lives_same : ((at : ℕ) → MayGoOnIn s.id s.sections at → (r : Reading)
+          → RestsAt (files s.disk) (leaves s.disk) r s.past at a b
+          → RestsAt (files new) (leaves new) r s.past at a b)
           → LivingOn s (record s { disk = new })
       lives_same same =
           let on = outlives_with s.synced s.is_stopped (omega arith) in
@@ -230,7 +263,7 @@ module _ {D : Type 0} (files : D → Option Files) (moment : D → ℕ)
               lasts = lasts_on files moment since leaves read_at lasted_at s
                   (record s { disk = new }) counts
                   (omega arith) on;
-              rests = λ going. rests_then a b same;
+              rests = λ going. rests_then a b s.sections (λ at may. may) same;
             };
             outlives = on;
           }
@@ -273,21 +306,26 @@ module _ {D : Type 0} (files : D → Option Files) (moment : D → ℕ)
       )
 
       -- all sections last
-      module _ (lasts : (r : Reading)
+      module _ (some : 0 < length s.sections) (lasts : (r : Reading)
           → RestsAt (files s.disk) (leaves s.disk) r s.past s.id a b
           → RestsAt (files new) (leaves new) r s.past s.id (a ++ b) []) where
         abbrev all : ℕ
         all = length s.sections
 
-        rests_settled : BothTold (files new) (read_at new s.opened) (λ f r.
-            IsResting f (leaves new) r s.past s.id (take all s.sections) (drop all s.sections))
+        rests_settled : BothTold (files new) (read_at new s.opened) (λ f r. (at : ℕ)
+            → MayGoOnIn s.id s.sections at
+            → IsResting f (leaves new) r s.past at (take all s.sections) (drop all s.sections))
         rests_settled =
-            rests_then (take all s.sections) (drop all s.sections) (λ r rests.
+            rests_then (take all s.sections) (drop all s.sections) s.sections (λ at may. may)
+            (here_only s.id s.sections (λ at. (r : Reading)
+            → RestsAt (files s.disk) (leaves s.disk) r s.past at a b
+            → RestsAt (files new) (leaves new) r s.past at (take all s.sections)
+            (drop all s.sections)) some (λ r rests.
             subst (λ (l : List Section).
             RestsAt (files new) (leaves new) r s.past s.id (take all s.sections) l)
             (sym (drop_all all s.sections (omega arith)))
             (subst (λ (l : List Section). RestsAt (files new) (leaves new) r s.past s.id l [])
-            (sym whole) (lasts r rests)))
+            (sym whole) (lasts r rests))))
 
         pub lives_settled : LivingOn s (record s { disk = new; synced = all })
         lives_settled =
@@ -301,15 +339,15 @@ module _ {D : Type 0} (files : D → Option Files) (moment : D → ℕ)
                   synced = all;
                 }) lives.began on
                     lives.shown;
-                lasts = both (files new) (read_at new s.opened) _ (λ f r is read image left.
+                lasts = both (files new) (read_at new s.opened) _ (λ f r is read at may image left.
                     subst (λ (l : List Section).
-                    HasShown r (length (logged_in s.past (take all s.sections))) s.past s.id l
+                    HasShown r (length (logged_in s.past (take all s.sections))) s.past at l
                     image)
                     (take-append-drop all s.sections)
-                    (resting_shows f (leaves new) r s.past s.id (take all s.sections)
+                    (resting_shows f (leaves new) r s.past at (take all s.sections)
                     (drop all s.sections)
-                    (at_both (files new) (read_at new s.opened) _ f r rests_settled is read) image
-                    left));
+                    (at_both (files new) (read_at new s.opened) _ f r rests_settled is read at may)
+                    image left));
                 rests = λ going. rests_settled;
               };
               outlives = on;

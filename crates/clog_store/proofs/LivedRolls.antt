@@ -5,6 +5,8 @@ use Rattle.std.proofs.Common.{
   ◌<◌,
   ◌≤◌,
   ◌^◌,
+  inl,
+  inr,
   List,
   [],
   ◌∷◌,
@@ -32,7 +34,8 @@ use Rattle.clog_crash.specs.Readings.{Reading}
 use Rattle.clog_crash.specs.Sections.{IsStored}
 use Rattle.clog_crash.proofs.life.Resting.{resting_rolls, resting_shows}
 use Rattle.clog_crash.proofs.life.Shown.{logged_rolled, shown_rolled, written}
-use Rattle.clog_store.specs.Life.{Lives, LivesOn, Outlives, State, lasting_in}
+use Rattle.clog_store.specs.Life.{Lives, LivesOn, MayGoOnIn, Outlives, State, lasting_in}
+use Rattle.clog_store.proofs.Anywhere.{further_on}
 use Rattle.clog_store.proofs.Lived.{at_both, both, lasts_on, shown_on}
 
 module _ {D : Type 0} (files : D → Option Files) (moment : D → ℕ)
@@ -74,7 +77,8 @@ module _ {D : Type 0} (files : D → Option Files) (moment : D → ℕ)
           (subst (λ (l : List Section).
           IsResting f (leaves s.disk) r s.past s.id (take s.synced s.sections) l)
           (drop_all s.synced s.sections (omega (arith, all)))
-          (at_both (files s.disk) (read_at s.disk s.opened) _ f r (lives.rests runs) is read))
+          (at_both (files s.disk) (read_at s.disk s.opened) _ f r (lives.rests runs) is read s.id
+          (inl refl)))
 
       stored : (f : Files) (r : Reading)
           → IsResting f (leaves s.disk) r s.past s.id s.sections [] → IsStored s.id s.sections
@@ -111,14 +115,14 @@ module _ {D : Type 0} (files : D → Option Files) (moment : D → ℕ)
           lasted_then = λ t le. (λ has. has, λ has. has);
         };
         no_fewer = omega (arith, same_lasting);
-        shown = both (files s.disk) (read_at s.disk s.opened) _ (λ f r is read.
+        shown = both (files s.disk) (read_at s.disk s.opened) _ (λ f r is read at may.
             let rest = rests_whole f r is read in
             let on = λ (least : ℕ) (image : Files) (shown :
             HasShown r least s.past s.id s.sections image).
-            shown_rolled r least s.past s.id next s.sections image (stored f r rest) shown in (
-              on,
+            shown_rolled r least s.past s.id at s.sections image (stored f r rest) shown in (
+              record { from = s.id; may = inl refl; on = on },
               started moment since s.disk
-                  (HasShown r (lasting_in s) rolled.past rolled.id rolled.sections)
+                  (HasShown r (lasting_in s) rolled.past at rolled.sections)
                   (λ image now. on (lasting_in s) image (shows_now f r rest image now)),
             ));
       }
@@ -135,10 +139,11 @@ module _ {D : Type 0} (files : D → Option Files) (moment : D → ℕ)
               (λ image left. counts image
               left) no_more_rolled
               outlives_rolled;
-          rests = λ going. both (files s.disk) (read_at s.disk s.opened) _ (λ f r is read.
+          rests = λ going. both (files s.disk) (read_at s.disk s.opened) _ (λ f r is read at may.
+              let on = further_on s.id next above fits at may in
               subst (λ (l : List Section).
-              IsResting f (leaves s.disk) r (s.past ++ written s.id l ∷ []) next [] []) (sym are)
-              (resting_rolls f (leaves s.disk) r s.past s.id x xs next above fits
+              IsResting f (leaves s.disk) r (s.past ++ written s.id l ∷ []) at [] []) (sym are)
+              (resting_rolls f (leaves s.disk) r s.past s.id x xs at on.0 on.1
               (subst (λ (l : List Section). IsResting f (leaves s.disk) r s.past s.id l []) are
               (rests_whole f r is read))));
         };
@@ -151,3 +156,51 @@ module _ {D : Type 0} (files : D → Option Files) (moment : D → ℕ)
         by : (ss : List Section) → s.sections ≡ ss → LivingOn s rolled
         by [] none = absurd (omega (arith, some, ap length none))
         by (x ∷ xs) are = rolls_by x xs are all
+
+    -- the log goes on in a further segment, where this one has no section
+    module _ (none : s.sections ≡ []) where
+      abbrev skipped : State D
+      skipped = record s { id = next }
+
+      still : (at : ℕ) → MayGoOnIn next s.sections at → MayGoOnIn s.id s.sections at
+      still at may =
+          let on = further_on s.id next above fits at
+          (subst (λ (l : List Section). MayGoOnIn next l at) none may) in
+          inr (none, on.0, on.1)
+
+      outlives_skipped : Outliving s skipped
+      outlives_skipped = record {
+        opened = refl;
+        told = same_told_self (files s.disk);
+        later = record {
+          no_sooner = omega arith;
+          remembers = λ t le. refl;
+          lasted_then = λ t le. (λ has. has, λ has. has);
+        };
+        no_fewer = omega arith;
+        shown = both (files s.disk) (read_at s.disk s.opened) _ (λ f r is read at may. (
+          record { from = at; may = still at may; on = λ least image shown. shown },
+          started moment since s.disk (HasShown r (lasting_in s) s.past at s.sections)
+              (λ image now. at_both (files s.disk) (read_at s.disk s.opened) _ f r lives.lasts is
+              read at (still at may) image (only image now)),
+        ));
+      }
+
+      pub lives_skipped : LivingOn s skipped
+      lives_skipped = record {
+        lives = record {
+          began = lives.began;
+          few = lives.few;
+          shown = shown_on files moment since leaves read_at lasted_at s skipped lives.began
+              outlives_skipped
+              lives.shown;
+          lasts = lasts_on files moment since leaves read_at lasted_at s skipped
+              (λ image left. counts image
+              left) (omega arith)
+              outlives_skipped;
+          rests = λ going. both (files s.disk) (read_at s.disk s.opened) _ (λ f r is read at may.
+              at_both (files s.disk) (read_at s.disk s.opened) _ f r (lives.rests runs) is read at
+              (still at may));
+        };
+        outlives = outlives_skipped;
+      }

@@ -1,27 +1,7 @@
 -- A log of notes begins.
-use Rattle.std.proofs.Common.{
-  ◌≡◌,
-  ℕ,
-  ◌+◌,
-  ◌<◌,
-  ◌≤◌,
-  ◌^◌,
-  inl,
-  inr,
-  List,
-  [],
-  length,
-  take,
-  refl,
-  sym,
-  subst,
-  arith,
-}
-use Rattle.std.proofs.lemmas.List.{take_all}
+use Rattle.std.proofs.Common.{◌≡◌, ◌<◌, ◌^◌, inl, inr, [], refl, sym, subst, arith}
 use Rattle.clog_base.specs.declared.sizes.Sizes.{Sizes}
 use Rattle.clog_base.proofs.Members.{nothing_there}
-use Rattle.clog_scan.specs.Cut.{Section}
-use Rattle.clog_crash.specs.Log.{Write}
 use Rattle.clog_store.specs.Life.{State}
 use Rattle.clog_store.specs.NoteLog.{IsNoteLog}
 use Rattle.clog_store.specs.NoteSteps.{standing}
@@ -57,7 +37,7 @@ module _ {D : Type 0} (sizes : Sizes) (log : State D) where
       forward = omega arith;
       ends = inr (refl, inl (refl, refl));
       apart = tt;
-      begins = λ none. tt;
+      begins = λ none later. absurd (omega (arith, later));
     };
   }
 

@@ -102,15 +102,15 @@ pub starts : (upto key : ℕ) (rest : List EntryNote) → 0 < length rest → St
 starts upto key [] some ahead = absurd (omega (arith, some))
 starts upto key (n ∷ ns) some ahead = ahead.0
 
-pub begins_at : (base id : ℕ) (rest : List EntryNote) → 0 < length rest → BeginsIn base id rest
+pub begins_at : (base id : ℕ) (rest : List EntryNote) → BeginsIn base id rest
     → id ≡ base + ordinal_of (first_start rest)
-begins_at base id [] some begins = absurd (omega (arith, some))
-begins_at base id (n ∷ ns) some begins = begins
+begins_at base id [] begins = absurd begins
+begins_at base id (n ∷ ns) begins = begins
 
-pub begins_in : (base id : ℕ) (rest : List EntryNote)
+pub begins_in : (base id : ℕ) (rest : List EntryNote) → 0 < length rest
     → id ≡ base + ordinal_of (first_start rest) → BeginsIn base id rest
-begins_in base id [] is = tt
-begins_in base id (n ∷ ns) is = is
+begins_in base id [] some is = absurd (omega (arith, some))
+begins_in base id (n ∷ ns) some is = is
 
 pub follow_rest : (upto key c : ℕ) (ns : List EntryNote) → FollowTo upto key ns
     → FollowTo upto (end_behind key (take c ns)) (drop c ns)

@@ -1,14 +1,31 @@
 -- A log of sections goes on from state to state.
-use Rattle.std.proofs.Common.{◌≡◌, ℕ, List, Option, Bool, false, refl, sym, ◌∙◌, ap, subst, arith}
+use Rattle.std.proofs.Common.{
+  ◌≡◌,
+  ℕ,
+  List,
+  Option,
+  Bool,
+  false,
+  inl,
+  inr,
+  refl,
+  sym,
+  ◌∙◌,
+  ap,
+  subst,
+  arith,
+}
 use Rattle.std.specs.Prelude.{Result, Ok, Err, OnOk, OnErr}
 use Rattle.clog_disk.specs.Files.{Files}
 use Rattle.clog_disk.specs.Images.{IsImage, IsLater}
 use Rattle.clog_disk.proofs.Moments.{later_still}
+use Rattle.clog_scan.specs.Cut.{Section}
 use Rattle.clog_crash.specs.Readings.{Reading}
 use Rattle.clog_store.specs.declared.written.StoreFault.{StoreFault}
+use Rattle.clog_store.specs.declared.written.StoreFault.TheVariants.{Stopped, OutOfMemory}
 use Rattle.clog_store.specs.Life.{Lives, LivesOn, State}
 use Rattle.clog_store.specs.NoteSteps.{GoesOn}
-use Rattle.clog_store.specs.Stepped.{HasLogCause}
+use Rattle.clog_store.specs.Stepped.{HasLogCause, Keeps, Settles}
 use Rattle.clog_store.proofs.Lived.{lives_further, lives_still}
 
 module _ {D : Type 0} (files : D → Option Files) (moment : D → ℕ)
@@ -35,6 +52,7 @@ module _ {D : Type 0} (files : D → Option Files) (moment : D → ℕ)
       → ((image : Files) → since s.disk (moment s.disk) image → IsImage (leaves s.disk) image)
       → Going s s
   goes_still s only = record {
+    opened = refl;
     later = later_same s.disk;
     lives = λ lives.
         lives_still files moment since leaves read_at lasted_at s only lives;
@@ -42,6 +60,7 @@ module _ {D : Type 0} (files : D → Option Files) (moment : D → ℕ)
 
   pub goes_then : (a b c : State D) → Going a b → Going b c → Going a c
   goes_then a b c first next = record {
+    opened = next.opened ∙ first.opened;
     later = later_still moment read_at lasted_at a.disk b.disk c.disk first.later next.later;
     lives = λ lives.
         let on = first.lives lives in
@@ -52,15 +71,33 @@ module _ {D : Type 0} (files : D → Option Files) (moment : D → ℕ)
   -- the disk is not called
   pub goes_rolled : {T : Type 0} (a b : State D) (rolled : State D) (result : Result T StoreFault)
       → ((image : Files) → since a.disk (moment a.disk) image → IsImage (leaves a.disk) image)
-      → rolled.disk ≡ a.disk → OnOk result (b ≡ rolled) → OnErr result (b ≡ a)
+      → rolled.disk ≡ a.disk → rolled.opened ≡ a.opened → OnOk result (b ≡ rolled)
+      → OnErr result (b ≡ a)
       → (Living a → OnOk result (LivingOn a b)) → Going a b
-  goes_rolled a b rolled (Ok done) only same rolls refused lives = record {
+  goes_rolled a b rolled (Ok done) only same opened rolls refused lives = record {
+    opened = ap (λ (s : State D). s.opened) rolls ∙ opened;
     later = subst (λ (d : D). IsLater moment read_at lasted_at a.disk d)
         (sym same ∙ sym (ap (λ (s : State D). s.disk) rolls)) (later_same a.disk);
     lives = lives;
   }
-  goes_rolled a b rolled (Err fault) only same rolls refused lives =
+  goes_rolled a b rolled (Err fault) only same opened rolls refused lives =
       subst (λ (s : State D). Going a s) (sym refused) (goes_still a only)
+
+-- each call is of a log of the same opening
+pub settled_opened : {D T : Type 0} (a b : State D) (result : Result T StoreFault)
+    → Settles a b result → b.opened ≡ a.opened
+settled_opened {D} a b (Ok done) settles = ap (λ (s : State D). s.opened) settles
+settled_opened {D} a b (Err OutOfMemory) settles = ap (λ (s : State D). s.opened) settles
+settled_opened {D} a b (Err Stopped) settles = ap (λ (s : State D). s.opened) settles
+
+pub kept_opened : {D T : Type 0} (a b : State D) (section : Section) (result : Result T StoreFault)
+    → Keeps a b section result → b.opened ≡ a.opened
+kept_opened {D} a b section (Ok done) keeps = ap (λ (s : State D). s.opened) keeps
+kept_opened {D} a b section (Err OutOfMemory) keeps = ap (λ (s : State D). s.opened) keeps
+kept_opened {D} a b section (Err Stopped) keeps = elim keeps [
+  | inl was ↦ ap (λ (s : State D). s.opened) was.1
+  | inr torn ↦ ap (λ (s : State D). s.opened) torn
+]
 
 -- why the second of two calls did not do what it was called for, where the first did
 pub cause_then : {T : Type 0} (stopped mid : Bool) (before between now : ℕ)

@@ -57,7 +57,7 @@ use Rattle.clog_disk.specs.Changes.{Adds}
 use Rattle.clog_store.specs.declared.written.StoreFault.{StoreFault}
 use Rattle.clog_store.specs.declared.written.StoreFault.TheVariants.{Stopped, OutOfMemory}
 use Rattle.clog_store.specs.Grows.{Grows, IsGrown, Writes, segments_with}
-use Rattle.clog_store.specs.Life.{State}
+use Rattle.clog_store.specs.Life.{State, past_with}
 use Rattle.clog_store.specs.Stepped.{Keeps}
 
 -- bytes that bring a section stand behind those of the others
@@ -155,41 +155,72 @@ module _ (past : List Write) (id : ℕ) (sections : List Section) (appends : Lis
       pub grown_more : IsGrown (appends ++ more) past id all
       grown_more = record { each = each_more; only = only_more }
 
-  -- in a further segment
-  pub grown_rolled : (next : ℕ) → id < next → next < 2 ^ 63
-      → IsGrown appends (segments_with past id sections) next []
-  grown_rolled next above fits =
-      let first = segments_with past id sections in
-      let fresh : Write = record { id = next; sections = [] } in
-      record {
-        each = λ w among. elim (Contains-append_cases first (fresh ∷ []) w among) [
-          | inl before ↦ g.each w before
-          | inr last ↦ subst
-              (λ (v : Write). grown appends (segment_name_of 6 v.id)
-              ≡ segment_bytes v.id v.sections) (only_one fresh w last)
-              (none_grown appends (segment_name_of 6 next) (λ a listed same.
+  -- in a further segment, nothing was appended to any later one
+  low : (w : Write) → Contains (segments_with past id sections) w → w.id ≤ id
+  low w among = elim (Contains-append_cases past (hand ∷ []) w among) [
+    | inl before ↦ omega (arith, below w before)
+    | inr last ↦ subst (λ (v : Write). v.id ≤ id) (only_one hand w last) (omega arith)
+  ]
+
+  module _ (next : ℕ) (above : id < next) (fits : next < 2 ^ 63) where
+    abbrev fresh : Write
+    fresh = record { id = next; sections = [] }
+
+    none_yet : (w : Write) → Contains (fresh ∷ []) w
+        → grown appends (segment_name_of 6 w.id) ≡ segment_bytes w.id w.sections
+    none_yet w last = subst
+        (λ (v : Write). grown appends (segment_name_of 6 v.id) ≡ segment_bytes v.id v.sections)
+        (only_one fresh w last)
+        (none_grown appends (segment_name_of 6 next) (λ a listed same.
+        let f = g.only a listed in
+        apart_names next f.0.id (omega (arith, low f.0 f.1, above)) fits (sym same ∙ f.3)))
+
+    pub grown_rolled : IsGrown appends (segments_with past id sections) next []
+    grown_rolled =
+        let first = segments_with past id sections in
+        record {
+          each = λ w among. elim (Contains-append_cases first (fresh ∷ []) w among) [
+            | inl before ↦ g.each w before
+            | inr last ↦ none_yet w last
+          ];
+          only = λ a listed.
               let f = g.only a listed in
-              apart_names next f.0.id (low f.0 f.1 next above) fits (sym same ∙ f.3)))
-        ];
-        only = λ a listed.
-            let f = g.only a listed in
-            (f.0, Contains-append_left first (fresh ∷ []) f.0 f.1, f.2, f.3);
-      }
-    where
-      low : (w : Write) → Contains (segments_with past id sections) w → (next : ℕ) → id < next
-          → w.id < next
-      low w among next above = elim (Contains-append_cases past (hand ∷ []) w among) [
-        | inl before ↦ omega (arith, below w before, above)
-        | inr last ↦ subst (λ (v : Write). v.id < next) (only_one hand w last) above
-      ]
+              (f.0, Contains-append_left first (fresh ∷ []) f.0 f.1, f.2, f.3);
+        }
+
+    -- in its place, where it has no section
+    pub grown_skipped : sections ≡ [] → IsGrown appends past next []
+    grown_skipped none = record {
+      each = λ w among. elim (Contains-append_cases past (fresh ∷ []) w among) [
+        | inl before ↦ g.each w (Contains-append_left past (hand ∷ []) w before)
+        | inr last ↦ none_yet w last
+      ];
+      only = λ a listed.
+          let f = g.only a listed in
+          elim (Contains-append_cases past (hand ∷ []) f.0 f.1) [
+            | inl before ↦ (f.0, Contains-append_left past (fresh ∷ []) f.0 before, f.2, f.3)
+            | inr last ↦
+                let same = ap (λ (w : Write). length w.sections) (only_one hand f.0 last) in
+                absurd (omega (arith, same, f.2, ap length none))
+          ];
+    }
+
+    pub grown_on : IsGrown appends (past_with past id sections) next []
+    grown_on = by sections refl
+      where
+        by : (ss : List Section) → sections ≡ ss → IsGrown appends (past_with past id ss) next []
+        by [] are = grown_skipped are
+        by (x ∷ xs) are =
+            subst (λ (l : List Section). IsGrown appends (segments_with past id l) next []) are
+            grown_rolled
 
 -- ---- from state to state
 
-nothing_added : (o : Option (List Change)) → o ≡ option_map (λ made. made ++ []) o
+pub nothing_added : (o : Option (List Change)) → o ≡ option_map (λ made. made ++ []) o
 nothing_added None = refl
 nothing_added (Some made) = ap Some (sym (append-nil made))
 
-added_both : (o : Option (List Change)) (x y : List Change)
+pub added_both : (o : Option (List Change)) (x y : List Change)
     → option_map (λ made. made ++ y) (option_map (λ made. made ++ x) o)
     ≡ option_map (λ made. made ++ (x ++ y)) o
 added_both None x y = refl
@@ -236,14 +267,14 @@ module _ {D : Type 0} (changes : D → Option (List Change)) where
   }
 
   pub grows_rolled : (a b : State D) → changes b.disk ≡ changes a.disk
-      → b.past ≡ segments_with a.past a.id a.sections → b.sections ≡ [] → a.id < b.id
+      → b.past ≡ past_with a.past a.id a.sections → b.sections ≡ [] → a.id < b.id
       → b.id < 2 ^ 63 → ((w : Write) → Contains a.past w → w.id < a.id) → Grows changes a b
   grows_rolled a b same past sections above fits below =
       grows_none a b same (λ appends g.
       subst (λ (l : List Write). IsGrown appends l b.id b.sections) (sym past)
-      (subst (λ (l : List Section). IsGrown appends (segments_with a.past a.id a.sections) b.id l)
+      (subst (λ (l : List Section). IsGrown appends (past_with a.past a.id a.sections) b.id l)
       (sym sections)
-      (grown_rolled a.past a.id a.sections appends below g b.id above fits)))
+      (grown_on a.past a.id a.sections appends below g b.id above fits)))
 
   pub grows_then : (a b c : State D) → Grows changes a b → Grows changes b c → Grows changes a c
   grows_then a b c first next =

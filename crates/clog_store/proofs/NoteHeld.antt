@@ -33,13 +33,14 @@ use Rattle.clog_spec.specs.Sizes.{front_size, header_size, marker_size}
 use Rattle.clog_base.specs.declared.sizes.Sizes.{Sizes}
 use Rattle.clog_base.specs.Positions.{ordinal_of, offset_of}
 use Rattle.clog_scan.specs.Cut.{Section, last_until}
+use Rattle.clog_crash.specs.Log.{Write}
 use Rattle.clog_crash.specs.Runs.{Placed, placed_log}
 use Rattle.clog_crash.specs.Sections.{next_section}
 use Rattle.clog_crash.proofs.life.RunLog.{log_rolled}
 use Rattle.path_core.specs.declared.note.EntryNote.{EntryNote}
 use Rattle.clog_store.specs.declared.written.StoreFault.{StoreFault}
 use Rattle.clog_store.specs.declared.written.StoreFault.TheVariants.{Stopped, OutOfMemory}
-use Rattle.clog_store.specs.Life.{State}
+use Rattle.clog_store.specs.Life.{State, past_with}
 use Rattle.clog_store.specs.NoteLog.{BeginsIn, IsApart, IsHeld, end_behind}
 use Rattle.clog_store.specs.NoteSections.{
   AreOneSection,
@@ -49,7 +50,13 @@ use Rattle.clog_store.specs.NoteSections.{
   payloads_in,
 }
 use Rattle.clog_store.specs.Notes.{place_of, places_of}
-use Rattle.clog_store.specs.NoteSteps.{Enters, StartsBehind, standing, with_all_lasting}
+use Rattle.clog_store.specs.NoteSteps.{
+  Enters,
+  StartsBehind,
+  gone_on,
+  standing,
+  with_all_lasting,
+}
 use Rattle.clog_store.specs.Stepped.{Keeps}
 use Rattle.clog_store.proofs.NoteCuts.{cut_of, end_behind-append, same_start}
 use Rattle.clog_store.proofs.NoteRuns.{
@@ -65,6 +72,12 @@ pub last_until-push : (at : ℕ) (ss : List Section) (s : Section)
     → last_until at (ss ++ s ∷ []) ≡ s.until
 last_until-push at [] s = refl
 last_until-push at (x ∷ ss) s = last_until-push x.until ss s
+
+-- in a further segment, behind the one at hand, or in its place, where it has no section
+past_rolled : (past : List Write) (id next : ℕ) (ss : List Section)
+    → placed_log (past_with past id ss) next [] ≡ placed_log past id ss
+past_rolled past id next [] = refl
+past_rolled past id next (s ∷ ss) = log_rolled past id next (s ∷ ss)
 
 module _ {D : Type 0} (base : ℕ) (notes : List EntryNote) (sizes : Sizes) (synced : ℕ)
     (logged : List EntryNote) where
@@ -132,26 +145,12 @@ module _ {D : Type 0} (base : ℕ) (notes : List EntryNote) (sizes : Sizes) (syn
 
   -- ---- in a further segment
 
-  pub held_rolled : (log now : State D) (written id : ℕ) (disk : D) (stopped : Bool)
-      → now ≡ record log {
-        disk = disk;
-        past = log.past ++ record { id = log.id; sections = log.sections } ∷ [];
-        id = id;
-        sections = [];
-        synced = 0;
-        is_stopped = stopped;
-      } → log.id < id → 0 < length log.sections → BeginsIn base id (drop written notes)
-      → Held log written → Held now written
-  held_rolled log now written id disk stopped is above some begins h =
-      let s : State D = record log {
-        disk = disk;
-        past = log.past ++ record { id = log.id; sections = log.sections } ∷ [];
-        id = id;
-        sections = [];
-        synced = 0;
-        is_stopped = stopped;
-      } in
-      let all = log_rolled log.past log.id id log.sections ∙ h.all in
+  pub held_rolled : (log now : State D) (written id : ℕ) (disk : D)
+      → now ≡ gone_on log (past_with log.past log.id log.sections) id disk → log.id < id
+      → BeginsIn base id (drop written notes) → Held log written → Held now written
+  held_rolled log now written id disk is above begins h =
+      let s : State D = gone_on log (past_with log.past log.id log.sections) id disk in
+      let all = past_rolled log.past log.id id log.sections ∙ h.all in
       let held : Held s written = record {
         all = all;
         lasting = written;
@@ -163,12 +162,18 @@ module _ {D : Type 0} (base : ℕ) (notes : List EntryNote) (sizes : Sizes) (syn
           | inr here ↦ inl (omega (arith, here.0, above))
         ];
         forward = h.forward;
-        ends = elim h.ends [
-          | inl e ↦ inr (refl, inr (omega (arith, e.0, above)))
-          | inr none ↦ absurd (omega (arith, some, ap length none.0))
-        ];
+        ends = inr (
+          refl,
+          inr (elim h.ends [
+            | inl e ↦ omega (arith, e.0, above)
+            | inr none ↦ elim none.1 [
+              | inl first ↦ omega (arith, first.0, first.1, above)
+              | inr later ↦ omega (arith, later, above)
+            ]
+          ]),
+        );
         apart = h.apart;
-        begins = λ none. begins;
+        begins = λ none later. begins;
       } in
       subst (λ (x : State D). Held x written) (sym is) held
 
@@ -308,7 +313,7 @@ module _ {D : Type 0} (base : ℕ) (notes : List EntryNote) (sizes : Sizes) (syn
             last_above,
           );
           apart = last_apart;
-          begins = λ none. absurd (omega (arith, longer, ap length none));
+          begins = λ none later. absurd (omega (arith, longer, ap length none));
         } in
         subst (λ (x : State D). Held x (written + count)) (sym is) held
 
@@ -316,7 +321,9 @@ module _ {D : Type 0} (base : ℕ) (notes : List EntryNote) (sizes : Sizes) (syn
 
   module _ (log : State D) (written : ℕ) (h : Held log written) (start : ℕ)
       (begun : StartsBehind (end_behind synced (take written notes)) start)
-      (begins : log.sections ≡ [] → log.id ≡ base + ordinal_of start) where
+      (begins : log.sections ≡ []
+      → base + ordinal_of (end_behind synced (take written notes)) < log.id
+      → log.id ≡ base + ordinal_of start) where
     abbrev at : ℕ
     at = end_behind synced (take written notes)
 
@@ -332,13 +339,10 @@ module _ {D : Type 0} (base : ℕ) (notes : List EntryNote) (sizes : Sizes) (syn
     pub enters_on : log.id ≤ base + ordinal_of start
     enters_on = elim h.ends [
       | inl e ↦ omega (arith, e.0, not_back)
-      | inr none ↦ omega (arith, begins none.0)
-    ]
-
-    pub enters_some : log.id < base + ordinal_of start → 0 < length log.sections
-    enters_some less = elim h.ends [
-      | inl e ↦ e.2
-      | inr none ↦ absurd (omega (arith, less, begins none.0))
+      | inr none ↦ elim none.1 [
+        | inl first ↦ omega (arith, first.1)
+        | inr later ↦ omega (arith, begins none.0 later)
+      ]
     ]
 
     -- in a later segment than the key's the note stands behind the front
@@ -395,12 +399,15 @@ module _ {D : Type 0} (base : ℕ) (notes : List EntryNote) (sizes : Sizes) (syn
             ∙ ap (λ (s : State D). last_until header_size s.sections + marker_size) (sym same.1),
       )
       | inr rolls ↦ (
-        ap (λ (s : State D). s.id) rolls.2,
-        in_front (elim h.ends [
-          | inl e ↦ omega (arith, e.0, rolls.0)
-          | inr none ↦ absurd (omega (arith, rolls.1, ap length none.0))
+        ap (λ (s : State D). s.id) rolls.1,
+        (elim h.ends [
+          | inl e ↦ in_front (omega (arith, e.0, rolls.0))
+          | inr none ↦ elim none.1 [
+            | inl first ↦ at_first first.0
+            | inr later ↦ in_front (omega (arith, later, rolls.0))
+          ]
         ])
-            ∙ sym (ap (λ (s : State D). last_until header_size s.sections + marker_size) rolls.2),
+            ∙ sym (ap (λ (s : State D). last_until header_size s.sections + marker_size) rolls.1),
       )
     ]
 
@@ -408,8 +415,8 @@ module _ {D : Type 0} (base : ℕ) (notes : List EntryNote) (sizes : Sizes) (syn
         (Ok done) → BeginsIn base (base + ordinal_of start) (drop written notes) → Held now written
     held_entered now done enters next = elim enters [
       | inl same ↦ subst (λ (s : State D). Held s written) (sym same.1) h
-      | inr rolls ↦ held_rolled log now written (base + ordinal_of start) now.disk false rolls.2
-          rolls.0 rolls.1 next h
+      | inr rolls ↦ held_rolled log now written (base + ordinal_of start) now.disk rolls.1
+          rolls.0 next h
     ]
 
   -- ---- where a step is refused

@@ -24,12 +24,20 @@ use Rattle.std.proofs.Common.{
   arith,
   append-nil,
   append_assoc,
+  length,
+  length-append,
 }
 use Rattle.std.specs.Prelude.{Result, Ok, Err, OnOk, OnErr, unwrap_or}
-use Rattle.std.proofs.lemmas.List.Elements.{Contains-append_cases}
+use Rattle.std.proofs.lemmas.List.Elements.{
+  Contains-append_cases,
+  Contains-append_left,
+  Contains-append_right,
+  Contains-push_cases,
+}
+use Rattle.std.specs.FinMap as finmap
 use Rattle.std.specs.List.{Contains}
 use Rattle.clog_spec.specs.Names.{segment_name_of}
-use Rattle.clog_base.proofs.Members.{nothing_there, only_one}
+use Rattle.clog_base.proofs.Members.{here, nothing_there, only_one}
 use Rattle.clog_disk.specs.Files.{AppendsTo, Files, SameTold, Told, bytes_at}
 use Rattle.clog_disk.specs.declared.change.Change.{Change}
 use Rattle.clog_disk.proofs.Named.{put_there}
@@ -41,7 +49,8 @@ use Rattle.clog_crash.proofs.changes.Names.{one_id}
 use Rattle.clog_store.specs.declared.written.StoreFault.{StoreFault}
 use Rattle.clog_store.specs.declared.written.StoreFault.TheVariants.{Stopped, OutOfMemory}
 use Rattle.clog_store.specs.Grows.{Grows}
-use Rattle.clog_store.specs.Life.{ReadsAs, State}
+use Rattle.clog_store.specs.Life.{ReadsAs, State, past_with}
+use Rattle.clog_store.specs.NoteLog.{HasWritten, IsNotOf}
 use Rattle.clog_store.specs.NoteSteps.{Leaves}
 use Rattle.clog_store.specs.Stepped.{AddsBytes, Keeps, Settles}
 use Rattle.clog_store.proofs.NoteGrows.{grows_more, grows_rolled, grows_same, grows_then}
@@ -56,13 +65,69 @@ told_is : (o : Option Files) (P : Files → Type 0) → Told o P → (f : Files)
 told_is None P p = absurd p
 told_is (Some f) P p = (f, refl, p)
 
--- a name of no segment from an id on
-abbrev IsApartFrom : ℕ → List ℕ → Type 0
-IsApartFrom from name = (id : ℕ) → from ≤ id → id < 2 ^ 63 → name ≡ segment_name_of 6 id → ⊥
+-- a further segment at the end of those that were written before
+written_more : (m1 m2 : List Write) (v : Write) (w : Write) → Contains (m2 ++ v ∷ []) w
+    → Contains ((m1 ++ m2) ++ v ∷ []) w
+written_more m1 m2 v w among =
+    subst (λ (l : List Write). Contains l w) (sym (append_assoc m1 m2 (v ∷ [])))
+    (Contains-append_right m1 (m2 ++ v ∷ []) w among)
+
+written_first : (m1 m2 : List Write) (v : Write) (w : Write) → Contains m1 w
+    → Contains ((m1 ++ m2) ++ v ∷ []) w
+written_first m1 m2 v w among =
+    Contains-append_left (m1 ++ m2) (v ∷ []) w (Contains-append_left m1 m2 w among)
+
+-- what a log leaves that goes on in a further segment: the one at hand, where it has a section
+abbrev pub left_behind : List Write → ℕ → List Section → List Write
+left_behind past id [] = []
+left_behind past id (s ∷ ss) = record { id = id; sections = s ∷ ss } ∷ []
+
+pub behind_are : (past : List Write) (id : ℕ) (ss : List Section)
+    → past_with past id ss ≡ past ++ left_behind past id ss
+behind_are past id [] = sym (append-nil past)
+behind_are past id (s ∷ ss) = refl
+
+pub behind_one : (past : List Write) (id : ℕ) (ss : List Section) (P : Write → Type 0)
+    → P (record { id = id; sections = ss }) → (w : Write) → Contains (left_behind past id ss) w
+    → P w
+behind_one past id [] P one w among = absurd (nothing_there w among)
+behind_one past id (s ∷ ss) P one w among =
+    subst P (only_one (record { id = id; sections = s ∷ ss }) w among) one
+
+-- and the one in which it goes on
+pub behind_or_on : (past : List Write) (id : ℕ) (ss : List Section) (v : Write) (P : Write → Type 0)
+    → P (record { id = id; sections = ss }) → P v → (w : Write)
+    → Contains (left_behind past id ss ++ v ∷ []) w → P w
+behind_or_on past id ss v P one on w among =
+    elim (Contains-push_cases (left_behind past id ss) v w among) [
+      | inl h ↦ behind_one past id ss P one w h
+      | inr same ↦ subst P same on
+    ]
+
+pub behind_grown : (past : List Write) (id : ℕ) (ss : List Section) (v : Write) → 0 < length ss
+    → HasWritten id (left_behind past id ss ++ v ∷ [])
+behind_grown past id [] v some = absurd (omega (arith, some))
+behind_grown past id (s ∷ ss) v some = record {
+  segment = record { id = id; sections = s ∷ ss };
+  among = here (record { id = id; sections = s ∷ ss }) (v ∷ []);
+  id_is = refl;
+  some = some;
+}
 
 module _ {D : Type 0} (files : D → Option Files) (changes : D → Option (List Change)) where
   abbrev Leaving : State D → State D → Type 0
   Leaving a b = Leaves files changes a b
+
+  abbrev hand : State D → Write
+  hand s = record { id = s.id; sections = s.sections }
+
+  -- nothing else has changed
+  others_same : (a b : State D) (segments : List Write) → files b.disk ≡ files a.disk
+      → (f : Files) → files a.disk ≡ Some f → Told (files b.disk) (λ g. (name : List ℕ)
+      → IsNotOf segments name → finmap.get g name ≡ finmap.get f name)
+  others_same a b segments same f is =
+      subst (λ (o : Option Files). Told o (λ g. (name : List ℕ) → IsNotOf segments name
+      → finmap.get g name ≡ finmap.get f name)) (sym (same ∙ is)) (λ name apart. refl)
 
   -- the files are the same, and the segment at hand
   pub leaves_same : (a b : State D) → files b.disk ≡ files a.disk
@@ -74,10 +139,15 @@ module _ {D : Type 0} (files : D → Option Files) (changes : D → Option (List
     rest = record {
       more = [];
       past = past ∙ sym (append-nil a.past);
-      later = λ w among. absurd (nothing_there w among);
-      others = λ f is. subst
-          (λ (o : Option Files). Told o (λ g. (name : List ℕ) → IsApartFrom a.id name
-          → bytes_at g name ≡ bytes_at f name)) (sym (same ∙ is)) (λ name apart. refl);
+      later = λ w among. subst (λ (x : Write). a.id ≤ x.id) (only_one (hand b) w among)
+          (omega (arith, id));
+      grown = λ some. record {
+        segment = hand b;
+        among = here (hand b) [];
+        id_is = id;
+        some = subst (λ (l : List Section). 0 < length l) (sym sections) some;
+      };
+      others = others_same a b (hand b ∷ []) same;
       left = λ f is w among. absurd (nothing_there w among);
     };
     below = λ w among. absurd (nothing_there w among);
@@ -87,23 +157,30 @@ module _ {D : Type 0} (files : D → Option Files) (changes : D → Option (List
   -- bytes come behind those of the segment at hand
   pub leaves_more : (a b : State D) (bytes : List ℕ) → SameTold (files a.disk) (files b.disk)
       → AppendsTo (files a.disk) (files b.disk) (segment_name_of 6 a.id) bytes → a.id < 2 ^ 63
-      → b.past ≡ a.past → b.id ≡ a.id → Grows changes a b → Leaving a b
-  leaves_more a b bytes told appends fits past id brings = record {
+      → b.past ≡ a.past → b.id ≡ a.id → 0 < length b.sections → Grows changes a b → Leaving a b
+  leaves_more a b bytes told appends fits past id some brings = record {
     told = told;
     forward = omega (arith, id);
     rest = record {
       more = [];
       past = past ∙ sym (append-nil a.past);
-      later = λ w among. absurd (nothing_there w among);
+      later = λ w among. subst (λ (x : Write). a.id ≤ x.id) (only_one (hand b) w among)
+          (omega (arith, id));
+      grown = λ before. record {
+        segment = hand b;
+        among = here (hand b) [];
+        id_is = id;
+        some = some;
+      };
       others = λ f is.
-          let here = segment_name_of 6 a.id in
-          let now = subst (λ (o : Option Files). AppendsTo o (files b.disk) here bytes) is appends
+          let own = segment_name_of 6 a.id in
+          let now = subst (λ (o : Option Files). AppendsTo o (files b.disk) own bytes) is appends
           in
-          subst (λ (o : Option Files). Told o (λ g. (name : List ℕ) → IsApartFrom a.id name
-          → bytes_at g name ≡ bytes_at f name)) (sym now)
-          (λ name apart. ap (λ (o : Option (List ℕ)). unwrap_or o [])
-          (put_there f here (bytes_at f here ++ bytes) name
-          (λ same. apart a.id (omega arith) fits same)));
+          subst (λ (o : Option Files). Told o (λ g. (name : List ℕ) → IsNotOf (hand b ∷ []) name
+          → finmap.get g name ≡ finmap.get f name)) (sym now)
+          (λ name apart. put_there f own (bytes_at f own ++ bytes) name
+          (λ same. apart (hand b) (here (hand b) []) some (omega (arith, id, fits))
+          (same ∙ ap (segment_name_of 6) (sym id))));
       left = λ f is w among. absurd (nothing_there w among);
     };
     below = λ w among. absurd (nothing_there w among);
@@ -112,75 +189,138 @@ module _ {D : Type 0} (files : D → Option Files) (changes : D → Option (List
 
   -- the log goes on in a further segment
   pub leaves_rolled : (a b : State D) → b.disk ≡ a.disk
-      → b.past ≡ a.past ++ record { id = a.id; sections = a.sections } ∷ [] → a.id < b.id
+      → b.past ≡ past_with a.past a.id a.sections → a.id < b.id
       → ReadsAs (files a.disk) (segment_name_of 6 a.id) (segment_bytes a.id a.sections)
       → b.sections ≡ [] → b.id < 2 ^ 63 → ((w : Write) → Contains a.past w → w.id < a.id)
       → Leaving a b
   leaves_rolled a b disk past above reads none fits low =
       let same : files b.disk ≡ files a.disk = ap files disk in
-      let w : Write = record { id = a.id; sections = a.sections } in
       record {
         told = same_told (files a.disk) (files b.disk) same;
         forward = omega (arith, above);
         rest = record {
-          more = w ∷ [];
-          past = past;
-          later = λ v among. subst (λ (x : Write). a.id ≤ x.id) (only_one w v among)
-              (omega arith);
-          others = λ f is. subst
-              (λ (o : Option Files). Told o (λ g. (name : List ℕ) → IsApartFrom a.id name
-              → bytes_at g name ≡ bytes_at f name)) (sym (same ∙ is)) (λ name apart. refl);
-          left = λ f is v among. subst
+          more = left_behind a.past a.id a.sections;
+          past = past ∙ behind_are a.past a.id a.sections;
+          later = behind_or_on a.past a.id a.sections (hand b) (λ (x : Write). a.id ≤ x.id)
+              (omega arith) (omega (arith, above));
+          grown = behind_grown a.past a.id a.sections (hand b);
+          others = others_same a b (left_behind a.past a.id a.sections ++ hand b ∷ []) same;
+          left = λ f is. behind_one a.past a.id a.sections
               (λ (x : Write). bytes_at f (segment_name_of 6 x.id) ≡ segment_bytes x.id x.sections)
-              (only_one w v among)
               (subst (λ (o : Option Files). ReadsAs o (segment_name_of 6 a.id)
               (segment_bytes a.id a.sections)) (sym same ∙ is) reads);
         };
-        below = λ v among. subst (λ (x : Write). x.id < b.id) (only_one w v among) above;
+        below = behind_one a.past a.id a.sections (λ (x : Write). x.id < b.id) above;
         brings = grows_rolled changes a b (ap changes disk) past none above fits low;
       }
 
   -- one step after another
-  pub leaves_then : (a b c : State D) → Leaving a b → Leaving b c → Leaving a c
-  leaves_then a b c first next =
-      let m1 = first.rest.more in
-      let m2 = next.rest.more in
-      record {
-        told = same_told_then (files a.disk) (files b.disk) (files c.disk) first.told next.told;
-        forward = omega (arith, first.forward, next.forward);
-        rest = record {
-          more = m1 ++ m2;
-          past = next.rest.past ∙ ap (λ (l : List Write). l ++ m2) first.rest.past
-              ∙ append_assoc a.past m1 m2;
-          later = λ w among. elim (Contains-append_cases m1 m2 w among) [
-            | inl h ↦ first.rest.later w h
-            | inr h ↦ omega (arith, first.forward, next.rest.later w h)
-          ];
-          others = λ f is.
-              let mid = told_is (files b.disk) _ (first.rest.others f is) in
-              told_weaker (files c.disk) _ _ (next.rest.others mid.0 mid.1)
-              (λ h same name apart.
-              same name (λ id le fits. apart id (omega (arith, first.forward, le)) fits)
-              ∙ mid.2 name apart);
-          left = λ f is w among. elim (Contains-append_cases m1 m2 w among) [
-            | inl h ↦
-                let mid = told_before (files b.disk) (files c.disk) f next.told is in
-                at_told (files c.disk) f _ is (next.rest.others mid.0 mid.1)
-                (segment_name_of 6 w.id)
-                (λ id le fits same.
-                let low = first.below w h in
-                let one = one_id id w.id fits (omega (arith, low, le, fits)) same in
-                absurd (omega (arith, one, low, le)))
-                ∙ first.rest.left mid.0 mid.1 w h
-            | inr h ↦ next.rest.left f is w h
-          ];
-        };
-        below = λ w among. elim (Contains-append_cases m1 m2 w among) [
-          | inl h ↦ omega (arith, first.below w h, next.forward)
-          | inr h ↦ next.below w h
-        ];
-        brings = grows_then changes a b c first.brings next.brings;
-      }
+  module _ (a b c : State D) (first : Leaving a b) (next : Leaving b c) where
+    abbrev m1 : List Write
+    m1 = first.rest.more
+
+    abbrev m2 : List Write
+    m2 = next.rest.more
+
+    later_both : (w : Write) → Contains ((m1 ++ m2) ++ hand c ∷ []) w → a.id ≤ w.id
+    later_both w among =
+        let parts = subst (λ (l : List Write). Contains l w) (append_assoc m1 m2 (hand c ∷ []))
+        among in
+        elim (Contains-append_cases m1 (m2 ++ hand c ∷ []) w parts) [
+          | inl h ↦ first.rest.later w (Contains-append_left m1 (hand b ∷ []) w h)
+          | inr h ↦ omega (arith, first.forward, next.rest.later w h)
+        ]
+
+    -- the segment that was at hand between has its sections still
+    grown_next : 0 < length b.sections → HasWritten b.id ((m1 ++ m2) ++ hand c ∷ [])
+    grown_next some =
+        let has = next.rest.grown some in
+        record {
+          segment = has.segment;
+          among = written_more m1 m2 (hand c) has.segment has.among;
+          id_is = has.id_is;
+          some = has.some;
+        }
+
+    grown_both : 0 < length a.sections → HasWritten a.id ((m1 ++ m2) ++ hand c ∷ [])
+    grown_both some =
+        let has = first.rest.grown some in
+        elim (Contains-push_cases m1 (hand b) has.segment has.among) [
+          | inl h ↦ record {
+            segment = has.segment;
+            among = written_first m1 m2 (hand c) has.segment h;
+            id_is = has.id_is;
+            some = has.some;
+          }
+          | inr same ↦
+              let last = grown_next (subst (λ (x : Write). 0 < length x.sections) (sym same)
+              has.some) in
+              record {
+                segment = last.segment;
+                among = last.among;
+                id_is = last.id_is ∙ ap (λ (x : Write). x.id) same ∙ has.id_is;
+                some = last.some;
+              }
+        ]
+
+    apart_first : (name : List ℕ) → IsNotOf ((m1 ++ m2) ++ hand c ∷ []) name
+        → IsNotOf (m1 ++ hand b ∷ []) name
+    apart_first name apart w among some fits same =
+        elim (Contains-push_cases m1 (hand b) w among) [
+          | inl h ↦ apart w (written_first m1 m2 (hand c) w h) some fits same
+          | inr is ↦
+              let last = grown_next (subst (λ (x : Write). 0 < length x.sections) (sym is) some) in
+              let ids : last.segment.id ≡ w.id = last.id_is ∙ ap (λ (x : Write). x.id) is in
+              apart last.segment last.among last.some (omega (arith, ids, fits))
+              (same ∙ ap (segment_name_of 6) (sym ids))
+        ]
+
+    others_both : (f : Files) → files a.disk ≡ Some f → Told (files c.disk) (λ g.
+        (name : List ℕ) → IsNotOf ((m1 ++ m2) ++ hand c ∷ []) name
+        → finmap.get g name ≡ finmap.get f name)
+    others_both f is =
+        let mid = told_is (files b.disk) _ (first.rest.others f is) in
+        told_weaker (files c.disk) _ _ (next.rest.others mid.0 mid.1) (λ h same name apart.
+        same name (λ w among some fits is.
+        apart w (written_more m1 m2 (hand c) w among) some fits is)
+        ∙ mid.2 name (apart_first name apart))
+
+    left_both : (f : Files) → files c.disk ≡ Some f → (w : Write) → Contains (m1 ++ m2) w
+        → bytes_at f (segment_name_of 6 w.id) ≡ segment_bytes w.id w.sections
+    left_both f is w among = elim (Contains-append_cases m1 m2 w among) [
+      | inl h ↦
+          let mid = told_before (files b.disk) (files c.disk) f next.told is in
+          ap (λ (o : Option (List ℕ)). unwrap_or o [])
+          (at_told (files c.disk) f _ is (next.rest.others mid.0 mid.1)
+          (segment_name_of 6 w.id)
+          (λ v there some fits same.
+          let low = first.below w h in
+          let le = next.rest.later v there in
+          let one = one_id v.id w.id fits (omega (arith, low, le, fits)) same in
+          absurd (omega (arith, one, low, le))))
+          ∙ first.rest.left mid.0 mid.1 w h
+      | inr h ↦ next.rest.left f is w h
+    ]
+
+    pub leaves_then : Leaving a c
+    leaves_then = record {
+      told = same_told_then (files a.disk) (files b.disk) (files c.disk) first.told next.told;
+      forward = omega (arith, first.forward, next.forward);
+      rest = record {
+        more = m1 ++ m2;
+        past = next.rest.past ∙ ap (λ (l : List Write). l ++ m2) first.rest.past
+            ∙ append_assoc a.past m1 m2;
+        later = later_both;
+        grown = grown_both;
+        others = others_both;
+        left = left_both;
+      };
+      below = λ w among. elim (Contains-append_cases m1 m2 w among) [
+        | inl h ↦ omega (arith, first.below w h, next.forward)
+        | inr h ↦ next.below w h
+      ];
+      brings = grows_then changes a b c first.brings next.brings;
+    }
 
   -- ---- the calls
 
@@ -195,6 +335,8 @@ module _ {D : Type 0} (files : D → Option Files) (changes : D → Option (List
       let past = ap (λ (s : State D). s.past) keeps in
       let id = ap (λ (s : State D). s.id) keeps in
       leaves_more a b bytes adds.still_told adds.appends fits past id
+      (subst (λ (l : List Section). 0 < length l) (sym (ap (λ (s : State D). s.sections) keeps))
+      (omega (arith, length-append a.sections (section ∷ []))))
       (grows_more changes a b section bytes adds.adds past id
       (ap (λ (s : State D). s.sections) keeps) low fits spelled)
   leaves_kept a b section bytes (Err OutOfMemory) keeps adds runs fits low spelled still =
@@ -225,7 +367,7 @@ module _ {D : Type 0} (files : D → Option Files) (changes : D → Option (List
       → mid.id ≡ a.id → mid.sections ≡ a.sections
       → ReadsAs (files a.disk) (segment_name_of 6 a.id) (segment_bytes a.id a.sections)
       → rolled.disk ≡ mid.disk
-      → rolled.past ≡ mid.past ++ record { id = mid.id; sections = mid.sections } ∷ []
+      → rolled.past ≡ past_with mid.past mid.id mid.sections
       → mid.id < rolled.id → rolled.sections ≡ [] → rolled.id < 2 ^ 63
       → ((w : Write) → Contains a.past w → w.id < a.id) → OnOk result (b ≡ rolled)
       → OnErr result (b ≡ mid) → Leaving a b

@@ -64,7 +64,6 @@ use Rattle.clog_store.proofs.NoteStands.{stands_by}
 use Rattle.clog_store.proofs.NoteHeld.{
   enters_behind,
   enters_on,
-  enters_some,
   held_entered,
   held_kept,
   held_unentered,
@@ -105,7 +104,7 @@ pub enters_runs : {D : Type 0} (log mid : State D) (id : ℕ) (done : Unit {0})
     → Enters log mid id (Ok done) → log.is_stopped ≡ false → mid.is_stopped ≡ false
 enters_runs log mid id done enters runs = elim enters [
   | inl same ↦ ap (λ s. s.is_stopped) same.1 ∙ runs
-  | inr rolls ↦ ap (λ s. s.is_stopped) rolls.2
+  | inr rolls ↦ ap (λ s. s.is_stopped) rolls.1
 ]
 
 module _ {D : Type 0} (base : ℕ) (notes : List EntryNote) (sizes : Sizes) (synced : ℕ)
@@ -130,17 +129,12 @@ module _ {D : Type 0} (base : ℕ) (notes : List EntryNote) (sizes : Sizes) (syn
   begun : StartsBehind key (first_start rest)
   begun = starts upto key rest more ready.ahead
 
-  begins : log.sections ≡ [] → log.id ≡ id
-  begins none = begins_at base log.id rest more (ready.held.begins none)
+  begins : log.sections ≡ [] → base + ordinal_of key < log.id → log.id ≡ id
+  begins none later = begins_at base log.id rest (ready.held.begins none later)
 
   pub goes_forward : log.id ≤ id
   goes_forward =
       enters_on base notes sizes synced logged log written ready.held (first_start rest) begun
-      begins
-
-  pub has_sections : log.id < id → 0 < length log.sections
-  has_sections =
-      enters_some base notes sizes synced logged log written ready.held (first_start rest) begun
       begins
 
   pub unentered : (now : State D) (fault : StoreFault)
@@ -154,7 +148,7 @@ module _ {D : Type 0} (base : ℕ) (notes : List EntryNote) (sizes : Sizes) (syn
     held_mid : Held mid written
     held_mid =
         held_entered base notes sizes synced logged log written ready.held (first_start rest) begun
-        begins mid done enters (begins_in base id rest refl)
+        begins mid done enters (begins_in base id rest more refl)
 
     here : (mid.id ≡ id)
         × (offset_of (first_start rest) ≡ last_until header_size mid.sections + marker_size)

@@ -3,7 +3,7 @@ use Rattle.std.proofs.Common.{ℕ, inl, inr, List, sym, subst}
 use Rattle.std.specs.List.{AllPairs, Contains}
 use Rattle.std.specs.List.Sorted.{IsPermutation}
 use Rattle.path_core.specs.declared.note.EntryNote.{EntryNote}
-use Rattle.path_core.specs.Keeper.{IsParted, MayWrite}
+use Rattle.path_core.specs.Keeper.{Holding, IsParted, MaySync, MayWrite}
 use Rattle.clog_store.specs.NoteLog.{HasRefused, HasSynced, IsGood, MayLog, NoteState}
 use Rattle.clog_store.specs.NoteSteps.{Logs, LogsNot, MayRun}
 use Rattle.clog_store.proofs.NoteLent.{ascending}
@@ -11,22 +11,23 @@ use Rattle.clog_store.proofs.NoteParts.{Below, one_run}
 
 module _ {D : Type 0} (before : NoteState D) (upto : ℕ) (pending run left : List EntryNote)
     (parted : IsParted upto pending run left) where
-  pub may_run : MayLog before upto pending → MayRun before upto run
-  may_run may =
-      let m = may.may in
-      let h = may.holding in
+  -- the run is what a keeper is asked to write
+  pub run_writes : (h : Holding) → MaySync h upto pending → MayWrite h upto run
+  run_writes h m =
       let good : (n : EntryNote) → Contains m.run n → IsGood h.sizes n = λ n among.
       let w = m.may.each n among in
       record { whole = w.whole; in_segment = w.in_segment; segment_is = w.segment_is } in
       let order : AllPairs Below m.run =
       ascending h.sizes h.synced upto m.run good m.may.tiled in
       let same = one_run upto pending run left m.run m.left parted m.parted order in
-      record {
-        holding = h;
-        has = may.has;
-        may = subst (MayWrite h upto) (sym same) m.may;
-        here = λ runs none all. may.here runs none all run left parted;
-      }
+      subst (MayWrite h upto) (sym same) m.may
+
+  pub may_run : MayLog before upto pending → MayRun before upto run
+  may_run may = record {
+    holding = may.holding;
+    has = may.has;
+    may = run_writes may.holding may.may;
+  }
 
   pub synced : (now : NoteState D) → Logs before now upto run
       → HasSynced before now upto pending left

@@ -22,6 +22,7 @@ use Rattle.std.proofs.Common.{
 use Rattle.std.specs.Prelude.{◌&&◌, Contains}
 use Rattle.std.specs.Int.{to_be_bytes, w32}
 use Rattle.std.proofs.lemmas.Bool.{cases_lt, eq-eqb}
+use Rattle.std.proofs.lemmas.List.Elements.{Contains-append_cases}
 use Rattle.std.proofs.Math.Seq.{drop-append_seam, take-append_seam}
 use Rattle.clog_spec.specs.Crc.{crc32_of}
 use Rattle.clog_spec.specs.Segment.{entry_bytes, entry_front, size_bytes}
@@ -54,7 +55,6 @@ use Rattle.path_core.specs.Keeper.{
 use Rattle.path_core.specs.Parts.{touches}
 use Rattle.path_core.specs.Whole.{IsWhole, Updates}
 use Rattle.clog_store.specs.OnDisk.{
-  AreStored,
   IsAllOnDisk,
   IsEntryOf,
   IsOnDisk,
@@ -104,7 +104,11 @@ due_is_covered h r closed o on_disk due entry l pair cell =
     let of : is_of o pair.0.table.0 n ≡ true =
     ap (λ (b : _). b && touches n.tables pair.0.table.0) (eq-eqb (ordinal_of n.start.0) o here)
     ∙ touches_cell h.base id entry n is pair cell in
-    let filed = due.1.filed pair.0.table.0 n n noted.1 noted.1 of of n.end.0 (omega arith)
+    let among : Contains h.logged n = elim (Contains-append_cases h.logged h.kept n noted.1) [
+      | inl logged ↦ logged
+      | inr kept ↦ absurd (due.1.none_kept n kept here)
+    ] in
+    let filed = due.1.filed pair.0.table.0 n n among among of of n.end.0 (omega arith)
     (omega arith) in
     let on = on_disk.files filed.file filed.among in
     record {
@@ -123,13 +127,13 @@ due_is_covered h r closed o on_disk due entry l pair cell =
 
 -- ---- a file that may be put is true
 
-below_key_from : (base a b : ℕ) → IsBelow (position_of base a) (position_of base b) → a < b
+pub below_key_from : (base a b : ℕ) → IsBelow (position_of base a) (position_of base b) → a < b
 below_key_from base a b below = elim below [
   | inl lower ↦ omega (arith, lower)
   | inr same ↦ omega (arith, same.0, same.1)
 ]
 
-up_to_key_from : (base a b : ℕ) → IsUpTo (position_of base a) (position_of base b) → a ≤ b
+pub up_to_key_from : (base a b : ℕ) → IsUpTo (position_of base a) (position_of base b) → a ≤ b
 up_to_key_from base a b up_to = elim up_to [
   | inl lower ↦ omega (arith, lower)
   | inr same ↦ omega (arith, same.0, same.1)
@@ -149,11 +153,10 @@ same_payload p q same =
     ∙ ap (λ (b : List ℕ). take (length q) (drop 8 b)) same ∙ payload_back q
 
 module _ (h : Holding) (f : PutFile) (r : Reading) (all : IsAllOnDisk h r)
-    (stored : AreStored h.logged) (may : MayPublish h f) where
-  one_whole : (n : EntryNote) → Contains h.logged n → (w v : IsWhole n)
-      → w.mutation ≡ v.mutation
-  one_whole n among w v =
-      one_mutation w.mutation v.mutation (stored n among w) (stored n among v)
+    (may : MayPublish h f) where
+  one_whole : (n : EntryNote) → (w v : IsWhole n) → w.mutation ≡ v.mutation
+  one_whole n w v =
+      one_mutation w.mutation v.mutation w.stored v.stored
       (same_payload (payload_of w.mutation) (payload_of v.mutation) (sym w.bytes ∙ v.bytes))
 
   -- files of before end where this one begins
@@ -173,17 +176,24 @@ module _ (h : Holding) (f : PutFile) (r : Reading) (all : IsAllOnDisk h r)
       let same : c.mutation ≡ is.whole.mutation =
       one_mutation c.mutation is.whole.mutation c.said.stored is.said.stored
       (sym c.said.spelled ∙ is.said.spelled) in
+      let up_to : noted.0.end.0 ≤ f.upper =
+      up_to_key_from h.base noted.0.end.0 f.upper
+      (subst (λ (p : Position). IsUpTo p (position_of h.base f.upper)) (sym is.place)
+      live.inside.up_to) in
       record {
         note = noted.0;
-        among = noted.1;
+        among = elim (Contains-append_cases h.logged h.kept noted.0 noted.1) [
+          | inl logged ↦ logged
+          | inr kept ↦
+              let beyond = all.kept_beyond noted.0 kept in
+              absurd (omega (arith, beyond, up_to, may.lasting))
+        ];
         whole = is.whole;
         listed = subst (λ (m : Mutation). Contains (cells_of m) pair) same c.listed;
         of_table = sym (ap (λ (t : Table). t.0) live.same_table);
         above = below_key_from h.base f.lower noted.0.end.0
             (subst (IsBelow (position_of h.base f.lower)) (sym is.place) live.inside.above);
-        up_to = up_to_key_from h.base noted.0.end.0 f.upper
-            (subst (λ (p : Position). IsUpTo p (position_of h.base f.upper)) (sym is.place)
-            live.inside.up_to);
+        up_to = up_to;
       }
 
   filed_alone : (pair : CellKey × Cell) (c : IsLoggedCell h f pair)
@@ -216,7 +226,7 @@ module _ (h : Holding) (f : PutFile) (r : Reading) (all : IsAllOnDisk h r)
             mutation = is.whole.mutation;
             said = is.said;
             listed = subst (λ (m : Mutation). Contains (cells_of m) pair)
-                (one_whole c.note c.among c.whole is.whole) c.listed;
+                (one_whole c.note c.whole is.whole) c.listed;
           };
           kept = λ skipped. filed_alone pair c (all.skips pair.0.table c.note.end.0
               (subst (IsSkippedIn r pair.0.table) (sym is.place) skipped));

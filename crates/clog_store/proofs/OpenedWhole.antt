@@ -125,6 +125,13 @@ module _ (first : Files) (files : Option Files) (is : files ≡ Some first) (mom
     recovered = recovered;
   }
 
+pub base_low : (P : ℕ → Type 0) (moment base : ℕ) → IsIdBase P moment base → moment < 2 ^ 62
+    → base < 2 ^ 62
+base_low P moment base is low = elim is.base.one [
+  | inl same ↦ omega (arith, same, low)
+  | inr h ↦ let few = is.few h.0 h.1 in omega (arith, few, h.2)
+]
+
 pub base_fits : (P : ℕ → Type 0) (moment base : ℕ) → IsIdBase P moment base → moment < 2 ^ 62
     → base < 2 ^ 63
 base_fits P moment base is low = elim is.base.one [

@@ -14,6 +14,8 @@ use Rattle.std.proofs.Common.{
   None,
   true,
   false,
+  inl,
+  inr,
   sym,
   ◌∙◌,
   ap,
@@ -22,16 +24,22 @@ use Rattle.std.proofs.Common.{
 }
 use Rattle.std.specs.Prelude.{◌≤◌, IfSome, unwrap_or}
 use Rattle.std.proofs.lemmas.Bool.{true≢false}
+use Rattle.std.proofs.lemmas.List.{nil_from_length}
 use Rattle.std.specs.FinMap as finmap
 use Rattle.clog_spec.specs.Names.{segment_name_of, IsTableName}
-use Rattle.clog_disk.specs.Files.{Files, SameTold, PutsAt, Told, bytes_at, with_at}
+use Rattle.clog_disk.specs.Files.{Files, SameTold, PutsAt, bytes_at, with_at}
 use Rattle.clog_disk.specs.Images.{IsImage, IsLater, LeavesOnly}
 use Rattle.clog_disk.proofs.Named.{gone_there, put_there}
 use Rattle.clog_scan.specs.Cut.{Section}
+use Rattle.clog_table.specs.declared.table_file.TableFile.{TableFile}
+use Rattle.clog_crash.specs.Log.{Write}
 use Rattle.clog_crash.specs.Readings.{Reading}
+use Rattle.clog_crash.specs.Sections.{segment_bytes}
 use Rattle.clog_crash.proofs.changes.Names.{not_segment}
-use Rattle.clog_store.specs.Life.{HasBegun, HasEnd, Lives, LivesOn, State}
+use Rattle.clog_store.specs.Life.{HasBegun, HasEnd, Lives, LivesOn, MayGoOnIn, State}
 use Rattle.clog_store.specs.Resting.{RestsAt, ShowsBehind}
+use Rattle.clog_store.specs.Publishes.{IsTrueHere, MayPut}
+use Rattle.clog_store.proofs.Anywhere.{true_wherever}
 use Rattle.clog_store.proofs.Begun.{begun_on}
 use Rattle.clog_store.proofs.LivedCalls.{lives_same, lives_stopped}
 
@@ -80,11 +88,39 @@ end_beside (Some f) now name what id size sections puts aside end =
     (end_aside (λ n. n ≡ name) f (with_at f name what) id size sections (put_else f name what)
     aside end)
 
--- what holds where files are told, beside what holds wherever they are
-pub told_with : (told : Option Files) (P Q : Files → Type 0) → Told told P → IfSome told Q
-    → Told told (λ f. P f × Q f)
-told_with None P Q is other = absurd is
-told_with (Some f) P Q is other = (is, other)
+-- where the segment at hand has no section, nothing stands there, and wherever else the log may go
+-- on
+pub none_there : (f : Files) (id size : ℕ) (sections : List Section) (at : ℕ)
+    → MayGoOnIn id sections at → HasEnd (Some f) id size sections → sections ≡ []
+    → (bytes_at f (segment_name_of 6 id) ≡ []) × (bytes_at f (segment_name_of 6 at) ≡ [])
+none_there f id size sections at may end none =
+    let here : bytes_at f (segment_name_of 6 id) ≡ [] =
+    end.reads ∙ ap (segment_bytes id) none in (
+      here,
+      elim may [
+        | inl same ↦ subst (λ (k : ℕ). bytes_at f (segment_name_of 6 k) ≡ []) (sym same) here
+        | inr far ↦ nil_from_length (bytes_at f (segment_name_of 6 at))
+            (sym (end.above at far.1 far.2))
+      ],
+    )
+
+-- a table file that is true of what lasts is so wherever the log may go on
+pub put_wherever : (told : Option Files) (leaves : List ℕ → Option (List ℕ) → Type 0)
+    (r : Reading) (past : List Write) (id size : ℕ) (sections : List Section) (synced : ℕ)
+    (kept : List Section) (file : TableFile) (sequence : ℕ) → HasEnd told id size sections
+    → IfSome told (λ f. IsTrueHere f id (take synced sections) file sequence)
+    → (at : ℕ) → MayGoOnIn id sections at
+    → RestsAt told leaves r past at (take synced sections) kept
+    → MayPut told leaves r past at (take synced sections) kept file sequence
+put_wherever None leaves r past id size sections synced kept file sequence end is at may rests =
+    absurd rests
+put_wherever (Some f) leaves r past id size sections synced kept file sequence end is at may
+    rests = (
+      rests,
+      true_wherever f id sections synced at may
+          (λ none. (none_there f id size sections at may end none).0)
+          (λ none. (none_there f id size sections at may end none).1) file sequence is,
+    )
 
 -- a table file stands aside
 pub table_aside : (id : ℕ) (name : List ℕ) (table sequence : ℕ) → IsTableName name table sequence
@@ -102,10 +138,10 @@ module _ {D : Type 0} (files : D → Option Files) (moment : D → ℕ)
     (counts : (image : Files) → IsImage (leaves new) image → since new (moment s.disk) image)
     (told : SameTold (files s.disk) (files new))
     (later : IsLater moment read_at lasted_at s.disk new)
-    (any_moment : (r : Reading)
-    → RestsAt (files s.disk) (leaves s.disk) r s.past s.id (take s.synced s.sections)
+    (any_moment : (at : ℕ) → MayGoOnIn s.id s.sections at → (r : Reading)
+    → RestsAt (files s.disk) (leaves s.disk) r s.past at (take s.synced s.sections)
     (drop s.synced s.sections)
-    → LeavesOnly moment since s.disk new (ShowsBehind r s.past s.id (take s.synced s.sections)
+    → LeavesOnly moment since s.disk new (ShowsBehind r s.past at (take s.synced s.sections)
     (drop s.synced s.sections))) where
   abbrev Living : State D → Type 0
   Living t = Lives files moment since leaves read_at lasted_at t
@@ -117,10 +153,10 @@ module _ {D : Type 0} (files : D → Option Files) (moment : D → ℕ)
   Begun t = HasBegun files moment since leaves read_at lasted_at t size
 
   -- what it keeps, and that it lives on
-  pub passed : ((r : Reading)
-      → RestsAt (files s.disk) (leaves s.disk) r s.past s.id (take s.synced s.sections)
+  pub passed : ((at : ℕ) → MayGoOnIn s.id s.sections at → (r : Reading)
+      → RestsAt (files s.disk) (leaves s.disk) r s.past at (take s.synced s.sections)
       (drop s.synced s.sections)
-      → RestsAt (files new) (leaves new) r s.past s.id (take s.synced s.sections)
+      → RestsAt (files new) (leaves new) r s.past at (take s.synced s.sections)
       (drop s.synced s.sections))
       → (HasEnd (files s.disk) s.id size s.sections → HasEnd (files new) s.id size s.sections)
       → Begun (record s { disk = new }) × (Living s → LivingOn (record s { disk = new }))

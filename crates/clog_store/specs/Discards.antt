@@ -74,6 +74,17 @@ all_gone_at archives base [] files = files
 all_gone_at archives base (o ∷ ordinals) files =
     all_gone_at archives base ordinals (gone_at archives (base + o) files)
 
+-- the next one has its archive name too, where it has got it
+abbrev pub next_named_at : Bool → ℕ → List ℕ → Files → Files
+next_named_at is_named base [] files = files
+next_named_at is_named base (o ∷ ordinals) files = named_at is_named (base + o) files
+
+-- so many of them have gone, and the next one has perhaps its archive name
+abbrev pub first_gone_at : Bool → ℕ → List ℕ → ℕ → Bool → Files → Files
+first_gone_at archives base ordinals n is_named files =
+    next_named_at is_named base (drop n ordinals)
+    (all_gone_at archives base (take n ordinals) files)
+
 -- ---- by which changes
 
 -- a segment gets its archive name

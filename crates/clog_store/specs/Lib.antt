@@ -1,4 +1,5 @@
 pub mod Coming
+pub mod Discarding
 pub mod Discards
 pub mod Dropping
 pub mod Filing
@@ -16,3 +17,5 @@ pub mod Publishes
 pub mod Resting
 pub mod Several
 pub mod Stepped
+pub mod StoreFolder
+pub mod StoreState

@@ -2,11 +2,15 @@
 -- stays in each later one.
 use Rattle.std.specs.Prelude.{
   ◌≡◌,
+  ◌⊎◌,
   ◌<◌,
   ◌≤◌,
   ◌^◌,
   ℕ,
   List,
+  [],
+  ◌∷◌,
+  ◌++◌,
   length,
   take,
   drop,
@@ -57,21 +61,31 @@ lasting_in s = length (logged_in s.past (take s.synced s.sections))
 abbrev pub BothTold : Option Files → Option Reading → (Files → Reading → Type 0) → Type 0
 BothTold told read P = IfSome told (λ f. IfSome read (λ r. P f r))
 
+-- Where a log may go on: in the segment at hand, and where this has no section, in each later one.
+abbrev pub MayGoOnIn : ℕ → List Section → ℕ → Type 0
+MayGoOnIn id sections at = (at ≡ id) ⊎ ((sections ≡ []) × (id < at) × (at < 2 ^ 63))
+
+-- the segments behind a log that goes on in a later one: a segment without sections is not there
+abbrev pub past_with : List Write → ℕ → List Section → List Write
+past_with past id [] = past
+past_with past id (s ∷ ss) = past ++ record { id = id; sections = s ∷ ss } ∷ []
+
 -- Each image since the opening shows what the folder restored then, and the first of the entries of
--- the log, however it goes on.
+-- the log, wherever and however it goes on.
 abbrev pub ShownSince : {D : Type 0} → (D → Option Files) → (D → ℕ) → (D → ℕ → Files → Type 0)
     → (D → ℕ → Option Reading) → (D → ℕ → Type 0) → D → ℕ → List Write → ℕ → List Section → Type 0
 ShownSince files moment since read_at lasted_at disk opened past id sections =
-    BothTold (files disk) (read_at disk opened) (λ f r.
-    SinceThen moment since opened disk (HasShown r 0 past id sections))
+    BothTold (files disk) (read_at disk opened) (λ f r. (at : ℕ) → MayGoOnIn id sections at
+    → SinceThen moment since opened disk (HasShown r 0 past at sections))
 
 -- the disk's files are at rest, with what the folder restored at the opening
 abbrev pub RestsNow : {D : Type 0} → (D → Option Files)
     → (D → List ℕ → Option (List ℕ) → Type 0) → (D → ℕ → Option Reading) → (D → ℕ → Type 0) → State
     D → Type 0
 RestsNow files leaves read_at lasted_at s =
-    BothTold (files s.disk) (read_at s.disk s.opened) (λ f r.
-    IsResting f (leaves s.disk) r s.past s.id (take s.synced s.sections)
+    BothTold (files s.disk) (read_at s.disk s.opened) (λ f r. (at : ℕ)
+    → MayGoOnIn s.id s.sections at
+    → IsResting f (leaves s.disk) r s.past at (take s.synced s.sections)
     (drop s.synced s.sections))
 
 -- Each image of now shows all that lasts.
@@ -79,8 +93,9 @@ abbrev pub LastsNow : {D : Type 0} → (D → Option Files)
     → (D → List ℕ → Option (List ℕ) → Type 0) → (D → ℕ → Option Reading) → (D → ℕ → Type 0) → State
     D → Type 0
 LastsNow files leaves read_at lasted_at s =
-    BothTold (files s.disk) (read_at s.disk s.opened) (λ f r. (image : Files)
-    → IsImage (leaves s.disk) image → HasShown r (lasting_in s) s.past s.id s.sections image)
+    BothTold (files s.disk) (read_at s.disk s.opened) (λ f r. (at : ℕ)
+    → MayGoOnIn s.id s.sections at → (image : Files) → IsImage (leaves s.disk) image
+    → HasShown r (lasting_in s) s.past at s.sections image)
 
 -- What a store keeps true from its opening on, where all that was there before lasted.
 pub record Lives {D : Type 0} (files : D → Option Files) (moment : D → ℕ)
@@ -107,11 +122,14 @@ pub record HasBegun {D : Type 0} (files : D → Option Files) (moment : D → �
   -- where all lasted at the opening
   pub lives : lasted_at s.disk s.opened → Lives files moment since leaves read_at lasted_at s
 
--- What an image has shown of the one log it shows of the other, which goes on from it.
-abbrev pub ShowsOn : {D : Type 0} → Reading → State D → State D → Type 0
-ShowsOn r before now = (least : ℕ) (image : Files)
-    → HasShown r least before.past before.id before.sections image
-    → HasShown r least now.past now.id now.sections image
+-- What an image has shown of the one log, where it may go on in some segment, it shows of the
+-- other, which goes on from it.
+pub record ShowsOn (r : Reading) (past : List Write) (id : ℕ) (sections : List Section)
+    (past_now : List Write) (at : ℕ) (sections_now : List Section) : Type 0 where
+  pub from : ℕ
+  pub may : MayGoOnIn id sections from
+  pub on : (least : ℕ) (image : Files) → HasShown r least past from sections image
+      → HasShown r least past_now at sections_now image
 
 -- From a state of a store to a later one: what lasted lasts, and each image since then restores it,
 -- with what the folder restored at the opening, and the first of the log's further entries.
@@ -123,9 +141,11 @@ pub record Outlives {D : Type 0} (files : D → Option Files) (moment : D → �
   pub told : SameTold (files before.disk) (files now.disk)
   pub later : IsLater moment read_at lasted_at before.disk now.disk
   pub no_fewer : lasting_in before ≤ lasting_in now
-  pub shown : BothTold (files now.disk) (read_at now.disk now.opened) (λ f r.
-      ShowsOn r before now × LeavesOnly moment since before.disk now.disk
-      (HasShown r (lasting_in before) now.past now.id now.sections))
+  pub shown : BothTold (files now.disk) (read_at now.disk now.opened) (λ f r. (at : ℕ)
+      → MayGoOnIn now.id now.sections at
+      → ShowsOn r before.past before.id before.sections now.past at now.sections
+      × LeavesOnly moment since before.disk now.disk
+      (HasShown r (lasting_in before) now.past at now.sections))
 
 -- a call of a store that lives: it lives on, and what lasted before is in each image since
 pub record LivesOn {D : Type 0} (files : D → Option Files) (moment : D → ℕ)

@@ -20,6 +20,7 @@ use Rattle.std.specs.Prelude.{
   false,
   ⊤,
 }
+use Rattle.std.specs.FinMap as finmap
 use Rattle.std.specs.List.{Contains}
 use Rattle.std.specs.List.Sorted.{IsPermutation}
 use Rattle.clog_spec.specs.Names.{segment_name_of}
@@ -36,6 +37,7 @@ use Rattle.path_core.specs.History.{IsInSegment}
 use Rattle.path_core.specs.Keeper.{Holding, IsParted, MaySync}
 use Rattle.path_core.specs.Keys.{after}
 use Rattle.path_core.specs.Whole.{IsWhole}
+use Rattle.clog_store.specs.Grows.{segments_with}
 use Rattle.clog_store.specs.Life.{State}
 use Rattle.clog_store.specs.Notes.{places_of}
 
@@ -88,9 +90,9 @@ abbrev pub IsApart : ℕ → List EntryNote → Type 0
 IsApart key [] = ⊤
 IsApart key (n ∷ ns) = n.start.0 ≡ key → ⊥
 
--- the first of these notes stands in the segment of an id
+-- there is a first of these notes, and it stands in the segment of an id
 abbrev pub BeginsIn : ℕ → ℕ → List EntryNote → Type 0
-BeginsIn base id [] = ⊤
+BeginsIn base id [] = ⊥
 BeginsIn base id (n ∷ ns) = id ≡ base + ordinal_of n.start.0
 
 -- What is true while the disk has not failed.
@@ -108,9 +110,11 @@ pub record IsHeld {D : Type 0} (s : NoteState D) : Type 0 where
   pub forward : s.synced ≤ end_behind s.synced (take s.written s.kept)
   pub ends : EndsAt s.base s.log (end_behind s.synced (take s.written s.kept))
   -- and what is kept besides goes on behind it, with a marker between; where the segment at hand
-  -- has no section, it is the segment of this
+  -- is a later one and has no section, it was entered for the first of this
   pub apart : IsApart (end_behind s.synced (take s.written s.kept)) (drop s.written s.kept)
-  pub begins : s.log.sections ≡ [] → BeginsIn s.base s.log.id (drop s.written s.kept)
+  pub begins : s.log.sections ≡ []
+      → s.base + ordinal_of (end_behind s.synced (take s.written s.kept)) < s.log.id
+      → BeginsIn s.base s.log.id (drop s.written s.kept)
 
 -- What is true also where the disk has failed: what was logged and the first of what is kept stand
 -- in the sections, and of that the former and perhaps some of the latter last.
@@ -143,17 +147,12 @@ pub record HasLog {D : Type 0} (s : NoteState D) (h : Holding) : Type 0 where
   pub logged_are : h.logged ≡ s.logged
   pub kept_are : h.kept ≡ s.kept
 
--- The pending notes up to the key may be written, as a keeper with this log is asked to. Where the
--- segment at hand has no section, and all that is kept was written, the first of the others stands
--- in it.
+-- The pending notes up to the key may be written, as a keeper with this log is asked to.
 pub record MayLog {D : Type 0} (s : NoteState D) (upto : ℕ) (pending : List EntryNote)
     : Type 0 where
   pub holding : Holding
   pub has : HasLog s holding
   pub may : MaySync holding upto pending
-  pub here : s.log.is_stopped ≡ false → s.log.sections ≡ [] → drop s.written s.kept ≡ []
-      → (run left : List EntryNote) → IsParted upto pending run left
-      → BeginsIn s.base s.log.id (drop s.written run)
 
 -- The notes up to the key are logged, and no longer pending.
 pub record HasSynced {D : Type 0} (before now : NoteState D) (upto : ℕ)
@@ -176,16 +175,31 @@ pub record HasRefused {D : Type 0} (before now : NoteState D) (upto : ℕ)
       ⊎ ((rest : List EntryNote) × IsParted upto pending now.kept rest)
   pub log_is : now ≡ record before { log = now.log; kept = now.kept; written = now.written }
 
--- What a sync leaves of the other files, where it tells them and has not failed: all but the log's
--- segments from the one at hand on read as before, and each segment that it has left reads as its
--- sections.
+-- one of these has the id, and sections
+pub record HasWritten (id : ℕ) (segments : List Write) : Type 0 where
+  pub segment : Write
+  pub among : Contains segments segment
+  pub id_is : segment.id ≡ id
+  pub some : 0 < length segment.sections
+
+-- the name is that of none of these that has sections
+abbrev pub IsNotOf : List Write → List ℕ → Type 0
+IsNotOf segments name = (w : Write) → Contains segments w → 0 < length w.sections → w.id < 2 ^ 63
+    → name ≡ segment_name_of 6 w.id → ⊥
+
+-- What a sync leaves of the other files, where it tells them and has not failed: all stand as
+-- before but those of the segments with sections, from the one at hand before on, and each segment
+-- that it has left reads as its sections.
 pub record LeavesOthers {D : Type 0} (before now : State D) (told told_now : Option Files)
     : Type 0 where
   pub more : List Write
   pub past : now.past ≡ before.past ++ more
-  pub later : (w : Write) → Contains more w → before.id ≤ w.id
+  pub later : (w : Write) → Contains (segments_with more now.id now.sections) w
+      → before.id ≤ w.id
+  pub grown : 0 < length before.sections
+      → HasWritten before.id (segments_with more now.id now.sections)
   pub others : (f : Files) → told ≡ Some f → Told told_now (λ g. (name : List ℕ)
-      → ((id : ℕ) → before.id ≤ id → id < 2 ^ 63 → name ≡ segment_name_of 6 id → ⊥)
-      → bytes_at g name ≡ bytes_at f name)
+      → IsNotOf (segments_with more now.id now.sections) name
+      → finmap.get g name ≡ finmap.get f name)
   pub left : (f : Files) → told_now ≡ Some f → (w : Write) → Contains more w
       → bytes_at f (segment_name_of 6 w.id) ≡ segment_bytes w.id w.sections

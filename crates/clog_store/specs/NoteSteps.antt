@@ -33,9 +33,8 @@ use Rattle.path_core.specs.declared.note.EntryNote.{EntryNote}
 use Rattle.path_core.specs.Keeper.{FollowTo, Holding, MayWrite}
 use Rattle.clog_store.specs.declared.written.StoreFault.{StoreFault}
 use Rattle.clog_store.specs.Grows.{Grows}
-use Rattle.clog_store.specs.Life.{Lives, LivesOn, State}
+use Rattle.clog_store.specs.Life.{Lives, LivesOn, State, past_with}
 use Rattle.clog_store.specs.NoteLog.{
-  BeginsIn,
   HasLog,
   IsGood,
   IsHeld,
@@ -45,11 +44,13 @@ use Rattle.clog_store.specs.NoteLog.{
   end_behind,
 }
 
--- From a state of a log to a later one: time has gone on, and a log that lived lives on.
+-- From a state of a log to a later one: it is the log of one opening, time has gone on, and a log
+-- that lived lives on.
 pub record GoesOn {D : Type 0} (files : D → Option Files) (moment : D → ℕ)
     (since : D → ℕ → Files → Type 0) (leaves : D → List ℕ → Option (List ℕ) → Type 0)
     (read_at : D → ℕ → Option Reading) (lasted_at : D → ℕ → Type 0) (before now : State D) : Type 0
   where
+    pub opened : now.opened ≡ before.opened
     pub later : IsLater moment read_at lasted_at before.disk now.disk
     pub lives : Lives files moment since leaves read_at lasted_at before
         → LivesOn files moment since leaves read_at lasted_at before now
@@ -72,19 +73,25 @@ with_all_lasting before now = record before {
   is_stopped = now.is_stopped;
 }
 
--- The log goes on in the segment of an id: the one at hand, or a later one behind it, all of whose
--- sections last. Where it is refused, they may last.
+-- a log that goes on in a later segment, behind these
+abbrev pub gone_on : {D : Type 0} → State D → List Write → ℕ → D → State D
+gone_on before past id disk = record before {
+  disk = disk;
+  past = past;
+  id = id;
+  sections = [];
+  synced = 0;
+  is_stopped = false;
+}
+
+-- The log goes on in the segment of an id: the one at hand; or a later one behind it, all of whose
+-- sections last; or a later one in its place, where it has no section. Where it is refused, they
+-- may last.
 abbrev pub Enters : {D T : Type 0} → State D → State D → ℕ → Result T StoreFault → Type 0
 Enters before now id (Ok done) =
     ((id ≡ before.id) × (now ≡ before))
-    ⊎ ((before.id < id) × (0 < length before.sections) × (now ≡ record before {
-      disk = now.disk;
-      past = before.past ++ record { id = before.id; sections = before.sections } ∷ [];
-      id = id;
-      sections = [];
-      synced = 0;
-      is_stopped = false;
-    }))
+    ⊎ ((before.id < id)
+    × (now ≡ gone_on before (past_with before.past before.id before.sections) id now.disk))
 Enters before now id (Err fault) =
     (now ≡ record before { disk = now.disk; is_stopped = now.is_stopped })
     ⊎ (now ≡ with_all_lasting before now)
@@ -156,14 +163,11 @@ StaysStanding base notes before written now more =
 
 -- ---- a run is logged
 
--- The run may be written, as a keeper with this log is asked to. Where the segment at hand has no
--- section, and all that is kept was written, the first of the other notes stands in it.
+-- The run may be written, as a keeper with this log is asked to.
 pub record MayRun {D : Type 0} (s : NoteState D) (upto : ℕ) (run : List EntryNote) : Type 0 where
   pub holding : Holding
   pub has : HasLog s holding
   pub may : MayWrite holding upto run
-  pub here : s.log.is_stopped ≡ false → s.log.sections ≡ [] → drop s.written s.kept ≡ []
-      → BeginsIn s.base s.log.id (drop s.written run)
 
 -- The run is logged.
 abbrev pub Logs : {D : Type 0} → NoteState D → NoteState D → ℕ → List EntryNote → Type 0

@@ -1,15 +1,16 @@
 -- What a keeper keeps in mind, as a folder holds it: the entries of its segments, and its table
 -- files. The segment of an ordinal has the id `base + ordinal`.
-use Rattle.std.specs.Prelude.{◌≡◌, ◌⊎◌, ℕ, ◌+◌, ◌≤◌, List, Contains, IsTrue}
+use Rattle.std.specs.Prelude.{◌≡◌, ◌⊎◌, ℕ, ◌+◌, ◌<◌, ◌≤◌, ◌++◌, Contains, IsTrue}
 use Rattle.clog_base.specs.declared.cell.Table.{Table}
 use Rattle.clog_base.specs.Positions.{ordinal_of, position_of}
-use Rattle.clog_mutation.specs.Stored.{IsPayload, IsStored}
+use Rattle.clog_mutation.specs.Stored.{IsPayload}
 use Rattle.clog_scan.specs.Segment.{Entry}
 use Rattle.clog_table.specs.declared.table_file.TableFile.{TableFile}
 use Rattle.clog_crash.specs.Readings.{IsLoggedIn, IsSkippedIn, IsTableIn, Reading}
 use Rattle.clog_crash.specs.Restore.{end_position}
 use Rattle.path_core.specs.declared.note.EntryNote.{EntryNote}
 use Rattle.path_core.specs.Keeper.{Holding, IsFiledIn, PutFile, upper_from}
+use Rattle.path_core.specs.Keys.{after}
 use Rattle.path_core.specs.Parts.{touches}
 use Rattle.path_core.specs.Whole.{IsWhole}
 
@@ -26,11 +27,11 @@ pub record IsFileOn (base : ℕ) (put : PutFile) (file : TableFile) : Type 0 whe
   pub lower : file.lower ≡ position_of base put.lower
   pub upper : file.upper ≡ position_of base put.upper
 
--- What a folder logs that reads so the keeper has in its list, and the folder has the keeper's
--- files.
+-- What a folder logs that reads so the keeper has in its list, or a refused sync has kept it; and
+-- the folder has the keeper's files.
 pub record IsOnDisk (h : Holding) (r : Reading) : Type 0 where
   pub entries : (id : ℕ) (entry : Entry) → IsLoggedIn r id entry
-      → (n : EntryNote) × Contains h.logged n × IsEntryOf h.base id entry n
+      → (n : EntryNote) × Contains (h.logged ++ h.kept) n × IsEntryOf h.base id entry n
   pub files : (put : PutFile) → Contains h.files put
       → (file : TableFile) × IsTableIn r file × IsFileOn h.base put file
 
@@ -45,7 +46,8 @@ abbrev pub IsAllFiled : Holding → EntryNote → Type 0
 IsAllFiled h n = (t : ℕ) → IsTrue (touches n.tables t) → IsFiledIn h.files t n.end.0
 
 -- Besides, the folder logs what the keeper has in its list, but for what table files stand for; no
--- other table files stand for a place from the base on; and none reaches above its table's last.
+-- other table files stand for a place from the base on; none reaches above its table's last; and
+-- what is kept ends behind the place where the log goes on.
 pub record IsAllOnDisk (h : Holding) (r : Reading) : Type 0 where
   pub on_disk : IsOnDisk h r
   pub logged : (n : EntryNote) → Contains h.logged n → IsOnIt h r n ⊎ IsAllFiled h n
@@ -53,11 +55,8 @@ pub record IsAllOnDisk (h : Holding) (r : Reading) : Type 0 where
       → IsFiledIn h.files table.0 key
   pub tiled : (put : PutFile) → Contains h.files put
       → put.upper ≤ upper_from put.table 0 h.files
-
--- the mutations of whole notes have texts in UTF-8 and numbers of their widths
-abbrev pub AreStored : List EntryNote → Type 0
-AreStored notes = (n : EntryNote) → Contains notes n → (whole : IsWhole n)
-    → IsStored whole.mutation
+  pub kept_beyond : (n : EntryNote) → Contains h.kept n
+      → after h.sizes.capacity h.synced < n.end.0
 
 -- a table file as a folder holds it
 abbrev pub file_on : ℕ → PutFile → TableFile

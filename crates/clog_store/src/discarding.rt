@@ -41,6 +41,7 @@ ghost use Rattle.clog_store.specs.Discards.{
   NamesNext,
   NamesOnly,
   all_gone_at,
+  first_gone_at,
   gone_at,
   halted_by,
   named_at,
@@ -81,6 +82,7 @@ fn name_archive<D: Disk>(disk: &mut D, id: u64, archives: bool) -> Result<(), Di
     ensures found { result ≢ Err no_file }
     ensures files { OnOk result (D.files disk.new
         ≡ option_map (named_at archives id) (D.files disk.old)) }
+    ensures same { result ≢ Err failed → OnErr result (D.files disk.new ≡ D.files disk.old) }
     ensures changes { NamesBy archives id (D.changes disk.old) (D.changes disk.new) result }
     ensures stays { (r : Reading) (past : List Write) (last : ℕ) (old kept : List Section)
         (base : ℕ) (ordinals : List ℕ)
@@ -120,6 +122,8 @@ fn drop_segment<D: Disk>(
     ensures named { NamesOnly archives result }
     ensures files { OnOk result (D.files disk.new
         ≡ option_map (gone_at archives (base + ordinal)) (D.files disk.old)) }
+    ensures left { refused_by result ≢ Err failed → IfErr result (λ refusal. D.files disk.new
+        ≡ option_map (named_at refusal.is_named (base + ordinal)) (D.files disk.old)) }
     ensures changes { GoesBy archives (base + ordinal) (D.changes disk.old) (D.changes disk.new)
         result }
     ensures goes { (r : Reading) (past : List Write) (last : ℕ) (old kept : List Section)
@@ -173,6 +177,9 @@ pub fn drop_segments<D: Disk>(
     ensures named { NamesNext archives result }
     ensures files { OnOk result (D.files disk.new
         ≡ option_map (all_gone_at archives base ordinals.now) (D.files disk.old)) }
+    ensures left { halted_by result ≢ Err failed → IfErr result (λ halt. D.files disk.new
+        ≡ option_map (first_gone_at archives base ordinals.now halt.dropped halt.is_named)
+        (D.files disk.old)) }
     ensures changes { AllGoBy archives base ordinals.now (D.changes disk.old) (D.changes disk.new)
         result }
     ensures goes { (r : Reading) (past : List Write) (last : ℕ) (old kept : List Section)

@@ -6,6 +6,7 @@
 mod changing;
 mod discarding;
 mod droppable;
+mod folder_laws;
 mod lasting;
 mod laws;
 mod log_cells;
@@ -24,6 +25,7 @@ mod recovery_files;
 mod section_log;
 mod sections;
 mod segments;
+mod store;
 mod table_log;
 #[cfg(test)]
 mod tests;
@@ -32,6 +34,14 @@ mod written;
 pub use changing::{put_table, take_away};
 pub use discarding::{Halt, drop_segments};
 pub use droppable::{due_segments, due_segments_are_covered};
+pub use folder_laws::{
+    a_due_segment_at_hand_lasts, a_folder_after_a_sync_is_a_stores,
+    a_folder_stays_a_stores_in_a_later_segment, a_folder_with_a_put_file_is_a_stores,
+    a_folder_with_some_dropped_is_a_stores, a_folder_without_dropped_segments_is_a_stores,
+    a_store_has_a_next_sequence, a_store_has_all_on_disk, a_store_has_gone_on_far_enough,
+    an_opened_folder_is_a_stores, due_segments_of_a_store_are_covered,
+    due_segments_of_a_store_may_be_dropped, what_a_store_may_publish_is_true,
+};
 pub use lasting::what_lasts_stays;
 pub use laws::a_recovery_puts_one_file_a_table;
 pub use next::write_section;
@@ -40,7 +50,8 @@ pub use noting::{a_note_tells_its_place, four_notes_are_three_sections, notes_ar
 pub use opening::recover;
 pub use publishing::{Published, publish_file, what_may_be_published_is_true};
 pub use recovering::{put_recovered, take_all_recovered, take_recovered};
-pub use section_log::SectionLog;
+pub use section_log::{DropFault, SectionLog};
 pub use sections::{keep_sections, put_sections, settle_sections};
 pub use segments::{Part, put_all, put_segments};
+pub use store::{Store, StoredFile};
 pub use written::{PastSegment, StoreFault, Written};

@@ -119,10 +119,9 @@ fn above_sequence(next: u64, name: &Name, table: Table) -> u64
 
 /// The sequence of a table's next file: 1, or one more than the greatest that the names have.
 pub(crate) fn next_sequence(names: &[Name], table: Table) -> u64
-    requires few { ¬ Any IsLateTable names.now }
     ensures next { IsBase (OneHas (HasSequence table) names.now) 1 result }
     ensures starts { 0 < result }
-    ensures fits { result < 2 ^ 63 }
+    ensures fits { ¬ Any IsLateTable names.now → result < 2 ^ 63 }
 {
     let mut next = 1;
     for name in names {

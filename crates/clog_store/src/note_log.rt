@@ -3,10 +3,13 @@
 //!
 //! After a sync that was refused for memory it keeps copies of what it was lent, since some of it
 //! may stand in its sections: the next sync begins with these and goes on behind what was written.
-ghost use Rattle.std.specs.Prelude.{◌≡◌, ◌<◌, ◌^◌, [], OnErr, OnOk, false};
+ghost use Rattle.std.specs.Prelude.{◌≡◌, ◌<◌, ◌^◌, [], OnErr, OnOk, false, true};
 ghost use Rattle.clog_disk.specs.Images.{IsLater};
 ghost use Rattle.clog_store.specs.Grows.{Grows, Writes};
-ghost use Rattle.clog_store.specs.Life.{Lives, LivesOn};
+ghost use Rattle.clog_spec.specs.Names.{segment_name_of};
+ghost use Rattle.clog_crash.specs.Sections.{segment_bytes};
+ghost use Rattle.clog_store.specs.Life.{Lives, LivesOn, ReadsAs};
+ghost use Rattle.clog_store.specs.StoreFolder.{IsSound};
 ghost use Rattle.clog_store.specs.NoteLog.{HasRefused, HasSynced, LeavesOthers, MayLog};
 ghost use Rattle.clog_store.specs.NoteSteps.{GoesOn, Leaves, Logs, LogsNot, MayRun};
 ghost use Rattle.clog_store.specs.Stepped.{HasLogCause, StopsBy};
@@ -141,6 +144,8 @@ impl<D: Disk> NoteLog<D> {
         ensures grows { self.new.log.is_stopped ≡ false
             → Grows D.changes self.old.log self.new.log }
         ensures writes { Writes D.changes self.old.log self.new.log }
+        ensures stays { self.old.log.is_stopped ≡ true → self.new ≡ self.old }
+        ensures opened { self.new.log.opened ≡ self.old.log.opened }
         ensures later { IsLater D.moment D.read_at D.lasted_at self.old.log.disk self.new.log.disk }
         ensures cause { HasLogCause self.old.log.is_stopped (D.faults self.old.log.disk)
             (D.faults self.new.log.disk) result }
@@ -157,5 +162,32 @@ impl<D: Disk> NoteLog<D> {
         self.log_run(run, upto.0)?;
         drop_front(pending, count);
         Ok(())
+    }
+
+    /// The id of the segment of ordinal 0.
+    pub fn base(&self) -> u64
+        ensures { result ≡ self.now.base }
+    {
+        self.base
+    }
+
+    /// The disk's count of faults. While the disk has not failed, its segments can hold the log's
+    /// sections, and the one at hand reads so.
+    pub fn fault_count(&self) -> u64
+        ensures count { result ≡ D.faults self.now.log.disk }
+        ensures fits { D.faults self.now.log.disk < 2 ^ 64 }
+        ensures sound { self.now.log.is_stopped ≡ false → IsSound self.now.log }
+        ensures reads { self.now.log.is_stopped ≡ false → ReadsAs (D.files self.now.log.disk)
+            (segment_name_of 6 self.now.log.id)
+            (segment_bytes self.now.log.id self.now.log.sections) }
+    {
+        self.log.fault_count()
+    }
+
+    /// The log of sections in which its notes stand.
+    pub fn into_log(self) -> SectionLog<D>
+        ensures { result ≡ self.log }
+    {
+        self.log
     }
 }

@@ -50,7 +50,6 @@ pub(crate) fn enter<D: Disk>(
     requires runs { log.old.is_stopped ≡ false }
     requires fits { id < 2 ^ 63 }
     requires on { log.old.id ≤ id }
-    requires some { log.old.id < id → 0 < length log.old.sections }
     ensures enters { Enters log.old log.new id result }
     ensures goes { GoesOn D.files D.moment D.since D.leaves D.read_at D.lasted_at log.old log.new }
     ensures leaves { log.new.is_stopped ≡ false → Leaves D.files D.changes log.old log.new }

@@ -138,6 +138,7 @@ pub fn recover<D: Disk>(alloc: Global, disk: &mut D, moment: u64) -> Result<u64,
     ensures opens { Opens (D.files disk.old) (D.files disk.new) (D.faults disk.old)
         (D.faults disk.new) moment result }
     ensures fits { IfOk result (λ base. base < 2 ^ 63) }
+    ensures low { IfOk result (λ base. base < 2 ^ 62) }
     ensures alone { LeavesAlone (IsUntouched D.files D.changes D.leaves D.moment D.since D.read_at
         D.lasted_at
         D.faults disk.old disk.new) result }

@@ -14,7 +14,7 @@ ghost use Rattle.clog_crash.specs.Changes.{IsTrueOf};
 ghost use Rattle.clog_crash.specs.Log.{Write};
 ghost use Rattle.clog_crash.specs.Readings.{Reading};
 ghost use Rattle.path_core.specs.Keeper.{Holding, MayPublish, PutFile};
-ghost use Rattle.clog_store.specs.OnDisk.{AreStored, IsAllOnDisk, file_on};
+ghost use Rattle.clog_store.specs.OnDisk.{IsAllOnDisk, file_on};
 ghost use Rattle.clog_store.specs.Publishes.{HasCome, IsNumbered, MayPut, file_at};
 ghost use Rattle.clog_store.specs.Resting.{RestsAt, ShowsBehind};
 
@@ -81,6 +81,6 @@ pub fn publish_file<D: Disk>(
 /// What a keeper may put is true of the folder, where that holds what the keeper has in mind: so
 /// the folder restores the same with it.
 pub fn what_may_be_published_is_true()
-    ensures { (h : Holding) (f : PutFile) (r : Reading) → IsAllOnDisk h r → AreStored h.logged
-        → MayPublish h f → IsTrueOf r (file_on h.base f) }
+    ensures { (h : Holding) (f : PutFile) (r : Reading) → IsAllOnDisk h r → MayPublish h f
+        → IsTrueOf r (file_on h.base f) }
 {}

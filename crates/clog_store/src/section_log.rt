@@ -3,8 +3,8 @@
 //! the log was handed: `Lives`, which is an invariant of the type. Each image since a call began
 //! restores all that lasted before it: `Outlives`. From the first fault of the disk on it writes
 //! nothing.
-ghost use Rattle.std.specs.Prelude.{◌≡◌, ◌<◌, ◌≤◌, ◌^◌, ◌++◌, List, [], ◌∷◌, take, drop, length};
-ghost use Rattle.std.specs.Prelude.{Contains, IfErr, IfOk, IfSome, OnErr, OnOk, Some};
+ghost use Rattle.std.specs.Prelude.{◌≡◌, ◌<◌, ◌≤◌, ◌^◌, ◌++◌, ℕ, List, [], ◌∷◌, take, drop, length};
+ghost use Rattle.std.specs.Prelude.{Contains, IfErr, IfOk, IfSome, Some};
 ghost use Rattle.std.specs.Prelude.{Err, true, false, option_map};
 ghost use Rattle.clog_spec.specs.Names.{segment_name_of};
 ghost use Rattle.clog_store.specs.declared.written.StoreFault.TheVariants.{Stopped as stopped};
@@ -15,7 +15,16 @@ ghost use Rattle.clog_crash.specs.Log.{Write};
 ghost use Rattle.clog_crash.specs.Rest.{IsAtRest};
 ghost use Rattle.clog_crash.specs.Sections.{Brings, IsStored, segment_bytes};
 ghost use Rattle.clog_folder.specs.Passing.{IsUntouched, TellsFault};
-ghost use Rattle.clog_store.specs.Life.{HasEnd, ReadsAs, LastsNow, Lives, LivesOn, ShownSince};
+ghost use Rattle.clog_store.specs.Life.{
+  HasEnd,
+  LastsNow,
+  Lives,
+  LivesOn,
+  MayGoOnIn,
+  ReadsAs,
+  ShownSince,
+};
+ghost use Rattle.clog_store.specs.StoreFolder.{IsSound};
 ghost use Rattle.clog_store.specs.Stepped.{
   AddsBytes,
   HasLogCause,
@@ -33,16 +42,19 @@ ghost use Rattle.clog_store.specs.Opened.{
   RecoversFirst,
 };
 
+mod dropping;
 mod files;
+mod rolling;
 
 use crate::opening::recover;
 use crate::sections::{keep_sections, settle_sections};
 use crate::written::{PastSegment, StoreFault, Written};
 use clog_disk::{Disk, DiskFault};
 use clog_folder::OpenFault;
+pub use dropping::DropFault;
 use std::alloc::Global;
 use std::marker::Model;
-use std::mem;
+use std::snapshot::Snapshot;
 
 /// A log of several segments over a disk.
 #[derive(Drop)]
@@ -100,8 +112,8 @@ impl<D: Disk> SectionLog<D> {
     // A log that begins with a segment above all that the folder names.
     fn begin(alloc: Global, disk: D, id: u64) -> SectionLog<D>
         requires none { HasEnd (D.files disk) id 0 [] }
-        requires rests { IfSome (D.files disk) (λ f. LastsAll f (D.leaves disk)
-            → IsAtRest f (D.leaves disk) id [] []) }
+        requires rests { IfSome (D.files disk) (λ f. LastsAll f (D.leaves disk) → (at : ℕ)
+            → MayGoOnIn id [] at → IsAtRest f (D.leaves disk) at [] []) }
         ensures disk { result.disk ≡ disk }
         ensures opened { result.opened ≡ D.moment disk }
         ensures past { result.past ≡ [] }
@@ -134,6 +146,7 @@ impl<D: Disk> SectionLog<D> {
         requires moment { moment < 2 ^ 62 }
         ensures opens { IfOk result (λ log. OpensAs (D.files disk) (D.files log.disk) moment
             log.id) }
+        ensures low { IfOk result (λ log. log.id < 2 ^ 62) }
         ensures opened { IfOk result (λ log. log.opened ≡ D.moment log.disk) }
         ensures past { IfOk result (λ log. log.past ≡ []) }
         ensures sections { IfOk result (λ log. log.sections ≡ []) }
@@ -170,9 +183,13 @@ impl<D: Disk> SectionLog<D> {
         }
     }
 
-    /// The disk's count of faults.
+    /// The disk's count of faults. While the disk has not failed, its segments can hold the log's
+    /// sections, and the one at hand reads so.
     pub fn fault_count(&self) -> u64
-        ensures { result ≡ D.faults self.now.disk }
+        ensures count { result ≡ D.faults self.now.disk }
+        ensures sound { self.now.is_stopped ≡ false → IsSound self.now }
+        ensures reads { self.now.is_stopped ≡ false → ReadsAs (D.files self.now.disk)
+            (segment_name_of 6 self.now.id) (segment_bytes self.now.id self.now.sections) }
     {
         self.disk.fault_count()
     }
@@ -248,41 +265,6 @@ impl<D: Disk> SectionLog<D> {
         }
     }
 
-    /// The log goes on in a further segment, above the one at hand, all of whose sections last.
-    pub fn roll(&mut self, alloc: Global, id: u64) -> Result<(), StoreFault>
-        requires above { self.old.id < id }
-        requires fits { id < 2 ^ 63 }
-        requires some { 0 < length self.old.sections }
-        requires all { self.old.synced ≡ length self.old.sections }
-        ensures rolls { OnOk result (self.new ≡ record self.old {
-          past = self.old.past ++ record { id = self.old.id; sections = self.old.sections } ∷ [];
-          id = id;
-          sections = [];
-          synced = 0;
-        }) }
-        ensures refused { OnErr result (self.new ≡ self.old) }
-        ensures cause { HasLogCause self.old.is_stopped (D.faults self.old.disk)
-            (D.faults self.new.disk) result }
-        ensures stops { StopsBy self.new.is_stopped result }
-        ensures lives { Lives D.files D.moment D.since D.leaves D.read_at D.lasted_at self.old
-            → OnOk result
-            (LivesOn D.files D.moment D.since D.leaves D.read_at D.lasted_at self.old self.new) }
-    {
-        if self.is_stopped {
-            return Err(StoreFault::Stopped);
-        }
-        self.past.reserve(1)?;
-        let sections = mem::replace(&mut self.sections, Vec::new(alloc));
-        self.past.push_reserved(PastSegment {
-            id: self.id,
-            sections,
-        });
-        self.id = id;
-        self.size = 0;
-        self.synced = 0;
-        Ok(())
-    }
-
     /// Gives the disk back. Where all lasted at the opening, each image since restores what the
     /// folder restored then and the first of the entries, and each image of now all that last.
     pub fn into_disk(self) -> D
@@ -303,10 +285,18 @@ impl<D: Disk> SectionLog<D> {
         ensures few { self.now.synced ≤ length self.now.sections }
         ensures stored { self.now.is_stopped ≡ false → IsStored self.now.id self.now.sections }
         ensures below { (w : Write) → Contains self.now.past w → w.id < self.now.id }
+        ensures sound { self.now.is_stopped ≡ false → IsSound self.now }
         ensures reads { self.now.is_stopped ≡ false → ReadsAs (D.files self.now.disk)
             (segment_name_of 6 self.now.id) (segment_bytes self.now.id self.now.sections) }
     {
         self.id
+    }
+
+    /// The disk as it is now, for contracts alone.
+    pub(crate) fn disk_now(&self) -> Snapshot<D>
+        ensures { result.value ≡ self.now.disk }
+    {
+        Snapshot::of(&self.disk)
     }
 
     /// Whether the disk has failed.

@@ -43,11 +43,11 @@ pub fn keep_sections<D: Disk>(
         → OnOk result
         (RestsAt (D.files disk.new) (D.leaves disk.new) r past id old (kept ++ new)) }
     ensures same { result ≢ Err failed → OnErr result (D.files disk.new ≡ D.files disk.old) }
-    ensures refused { result ≢ Err failed → (r : Reading) (past : List Write)
+    ensures refused { result ≢ Err failed → (r : Reading) (past : List Write) (at : ℕ)
         (old kept : List Section)
-        → RestsAt (D.files disk.old) (D.leaves disk.old) r past id old kept
-        → OnErr result (RestsAt (D.files disk.new) (D.leaves disk.new) r past id old kept
-        × LeavesOnly D.moment D.since disk.old disk.new (ShowsBehind r past id old kept)) }
+        → RestsAt (D.files disk.old) (D.leaves disk.old) r past at old kept
+        → OnErr result (RestsAt (D.files disk.new) (D.leaves disk.new) r past at old kept
+        × LeavesOnly D.moment D.since disk.old disk.new (ShowsBehind r past at old kept)) }
     ensures any_moment { (r : Reading) (past : List Write) (old kept new : List Section)
         → Brings id old kept new bytes.now
         → RestsAt (D.files disk.old) (D.leaves disk.old) r past id old kept

@@ -1,7 +1,7 @@
 //! The example segment of the formats is recovered. Its bytes, and those of the table file, were
 //! worked out by hand and by Python's struct and zlib.
-use crate::{SectionLog, recover};
-use clog_base::{Table, segment_name, table_name};
+use crate::{SectionLog, Store, recover};
+use clog_base::{Key, Sizes, Table, segment_name, table_name};
 use clog_disk::{Disk, MemDisk};
 use clog_folder::OpenFault;
 use clog_scan::Cause;
@@ -58,6 +58,29 @@ fn a_store_opens_over_what_it_recovers(rt: HostRuntime) -> Result<(), Fail> {
     let Some(store) = SectionLog::open(rt.alloc(), disk, 1000).ok() else {
         return Err(Fail::new("no store"));
     };
+    let mut disk = store.into_disk();
+    assert_eq!(rt;
+        disk.list()?.as_slice(),
+        [table_name(Table(0), 1)].as_slice()
+    );
+    Ok(())
+}
+
+#[test]
+fn a_store_with_nothing_pending_writes_nothing(rt: HostRuntime) -> Result<(), Fail> {
+    let Some(sizes) = Sizes::make(1, 1, 4096, 4) else {
+        return Err(Fail::new("no sizes"));
+    };
+    let mut disk = MemDisk::new(rt.alloc());
+    disk.publish(&segment_name(1000), &SEGMENT)?;
+    // A match, since the call of the store has a condition on what it holds.
+    let mut store = match Store::open(rt.alloc(), disk, 1000, sizes, false) {
+        Ok(store) => store,
+        Err(_) => return Err(Fail::new("no store")),
+    };
+    assert_eq!(rt; store.base(), 1001);
+    let mut pending = Vec::new(rt.alloc());
+    assert!(rt; store.make_lasting(&mut pending, Key(0)).is_ok());
     let mut disk = store.into_disk();
     assert_eq!(rt;
         disk.list()?.as_slice(),

@@ -14,7 +14,7 @@ use Rattle.std.proofs.Common.{
   arith,
 }
 use Rattle.std.specs.Prelude.{option_map}
-use Rattle.std.proofs.lemmas.List.{drop_all, drop_more, take_more}
+use Rattle.std.proofs.lemmas.List.{drop_more, take_all, take_more}
 use Rattle.clog_base.proofs.Members.{here}
 use Rattle.clog_disk.proofs.Moments.{goes_on_by, later_still, started}
 use Rattle.clog_disk.proofs.Telling.{same_told_self, same_told_then}
@@ -54,7 +54,7 @@ loop-done-init g c =
         ascending = c.requires.ascending;
         there = c.requires.there;
       };
-      gone = λ now gone. gone;
+      gone = all_gone_none (D.files disk) c.args.archives c.args.base;
       changes = behind_none (D.changes disk) (D.changes disk) refl;
       may = λ r past last old kept may. may;
       only = λ r past last old kept may.
@@ -115,11 +115,11 @@ loop-done-preserved g c =
       droppable = others_there_still (D.files before) (D.files after) c.args.archives base o
           (drop (i + 1) xs) (subst (AreDroppable (D.files before) base) split is.droppable)
           c.in-Ok.ensures.files;
-      gone = λ now gone. is.gone now
-          (subst (λ (l : List ℕ).
-          now ≡ option_map (all_gone_at c.args.archives base l) (D.files before)) (sym split)
-          (all_gone_then (D.files before) (D.files after) now c.args.archives base o
-          (drop (i + 1) xs) c.in-Ok.ensures.files gone));
+      gone = subst (λ (l : List ℕ).
+          D.files after ≡ option_map (all_gone_at c.args.archives base l) (D.files first))
+          (sym (take_more xs i 0 c.loop-done-test.true))
+          (all_gone_then (D.files first) (D.files before) (D.files after) c.args.archives base
+          (take i xs) o is.gone c.in-Ok.ensures.files);
       changes = subst (λ (l : List ℕ).
           AreBehind (all_go_by c.args.archives base l) (D.changes first) (D.changes after))
           (sym (take_more xs i 0 c.loop-done-test.true))
@@ -140,10 +140,8 @@ loop-done-preserved g c =
 pub returns-clause-files : goal.returns-clause-files
 returns-clause-files g c =
     let D = g.D.Disk in
-    let now = D.files c.loop-done.disk in
     let xs = c.args.ordinals.now in
-    c.loop-done.invariant.gone now
-    (subst (λ (l : List ℕ).
-    now ≡ option_map (all_gone_at c.args.archives c.args.base l) now)
-    (sym (drop_all c.loop-done.done xs (omega (arith, c.loop-done-test.false))))
-    (all_gone_none now c.args.archives c.args.base))
+    subst (λ (l : List ℕ). D.files c.loop-done.disk
+    ≡ option_map (all_gone_at c.args.archives c.args.base l) (D.files c.args.disk.now))
+    (take_all c.loop-done.done xs (omega (arith, c.loop-done-test.false)))
+    c.loop-done.invariant.gone

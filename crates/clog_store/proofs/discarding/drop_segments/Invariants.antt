@@ -1,6 +1,6 @@
-use Rattle.std.proofs.Common.{◌≡◌, ℕ, List, Option, drop, take}
+use Rattle.std.proofs.Common.{◌≡◌, ℕ, List, drop, take}
 use Rattle.std.specs.Prelude.{option_map}
-use Rattle.clog_disk.specs.Files.{Files, SameTold}
+use Rattle.clog_disk.specs.Files.{SameTold}
 use Rattle.clog_disk.specs.Images.{IsLater, LeavesOnly}
 use Rattle.clog_scan.specs.Cut.{Section}
 use Rattle.clog_crash.specs.Log.{Write}
@@ -24,10 +24,9 @@ invariant-loop-done g l =
       later : IsLater D.moment D.read_at D.lasted_at l.fn.disk l.disk;
       faults : D.faults l.disk ≡ D.faults l.fn.disk;
       droppable : AreDroppable (D.files l.disk) l.base (drop l.done l.ordinals);
-      gone : (now : Option Files)
-          → now ≡ option_map (all_gone_at l.archives l.base (drop l.done l.ordinals))
-          (D.files l.disk)
-          → now ≡ option_map (all_gone_at l.archives l.base l.ordinals) (D.files l.fn.disk);
+      gone : D.files l.disk
+          ≡ option_map (all_gone_at l.archives l.base (take l.done l.ordinals))
+          (D.files l.fn.disk);
       changes : AreBehind (all_go_by l.archives l.base (take l.done l.ordinals))
           (D.changes l.fn.disk) (D.changes l.disk);
       may : (r : Reading) (past : List Write) (last : ℕ) (old kept : List Section)

@@ -24,8 +24,8 @@ pub returns-clause-starts : goal.returns-clause-starts
 returns-clause-starts c = c.loop-name.invariant.moment
 
 pub returns-clause-fits : goal.returns-clause-fits
-returns-clause-fits c =
+returns-clause-fits c few =
     next_fits c.args.names.now c.args.table c.loop-name.next
     (subst (λ (l : List (List ℕ)). IsBase (OneHas (HasSequence c.args.table) l) 1 c.loop-name.next)
     (take_all c.loop-name.name-index c.args.names.now c.loop-name-test.false)
-    c.loop-name.invariant) c.requires.few
+    c.loop-name.invariant) few

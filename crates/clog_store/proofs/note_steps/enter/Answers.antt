@@ -1,6 +1,6 @@
 use Rattle.std.proofs.Common.{◌<◌, refl, ap, arith}
 use Rattle.std.proofs.lemmas.Bool.Decides.{nat_tests}
-use Rattle.clog_store.proofs.NoteGoes.{goes_rolled, goes_then}
+use Rattle.clog_store.proofs.NoteGoes.{goes_rolled, goes_still, goes_then, settled_opened}
 use Rattle.clog_store.proofs.NoteGrows.{writes_of}
 use Rattle.clog_store.proofs.NoteLeaves.{leaves_entered, leaves_same, leaves_settled}
 use Rattle.clog_store.proofs.note_steps.enter.Goals as goal
@@ -11,12 +11,20 @@ returns-clause-goes g c =
     let mid = c.settle.new.self in
     goes_then D.files D.moment D.since D.leaves D.read_at D.lasted_at c.args.log.now mid
     c.roll.new.self (record {
+      opened = settled_opened c.args.log.now mid c.settle.result c.settle.ensures.settles;
       later = c.settle.ensures.later;
       lives = c.settle.ensures.lives;
     })
     (goes_rolled D.files D.moment D.since D.leaves D.read_at D.lasted_at mid c.roll.new.self _
-    c.roll.result (g.met.D.Disk.only_now mid.disk) refl c.roll.ensures.rolls c.roll.ensures.refused
+    c.roll.result (g.met.D.Disk.only_now mid.disk) refl refl c.roll.ensures.rolls
+    c.roll.ensures.refused
     c.roll.ensures.lives)
+
+pub returns-then-id-clause-goes : goal.returns-then-id-clause-goes
+returns-then-id-clause-goes g c =
+    let D = g.D.Disk in
+    goes_still D.files D.moment D.since D.leaves D.read_at D.lasted_at c.args.log.now
+    (g.met.D.Disk.only_now c.args.log.now.disk)
 
 pub returns-then-id-clause-leaves : goal.returns-then-id-clause-leaves
 returns-then-id-clause-leaves g c still =

@@ -5,6 +5,7 @@ use Rattle.clog_scan.specs.Cut.{Section}
 use Rattle.clog_crash.specs.Sections.{next_bytes}
 use Rattle.clog_store.specs.NoteSections.{bytes_in, first_start, size_before}
 use Rattle.clog_store.specs.Stepped.{Keeps}
+use Rattle.clog_store.proofs.NoteGoes.{goes_still, kept_opened}
 use Rattle.clog_store.proofs.NoteGrows.{grows_same, spells, writes_kept, writes_of}
 use Rattle.clog_store.proofs.NoteLeaves.{leaves_kept, leaves_same}
 use Rattle.clog_store.proofs.NoteRuns.{brings, first_is, next_is, room}
@@ -94,3 +95,17 @@ pub returns-in-Err-clause-writes : goal.returns-in-Err-clause-writes
 returns-in-Err-clause-writes g c =
     let a = c.args.log.now in
     writes_of g.D.Disk.changes a a (grows_same g.D.Disk.changes a a refl refl refl refl)
+
+pub returns-in-Ok-clause-goes : goal.returns-in-Ok-clause-goes
+returns-in-Ok-clause-goes g c = record {
+  opened = kept_opened c.args.log.now c.keep.new.self c.in-Ok.section c.keep.result
+      c.keep.ensures.keeps;
+  later = c.keep.ensures.later;
+  lives = c.keep.ensures.lives;
+}
+
+pub returns-in-Err-clause-goes : goal.returns-in-Err-clause-goes
+returns-in-Err-clause-goes g c =
+    let D = g.D.Disk in
+    goes_still D.files D.moment D.since D.leaves D.read_at D.lasted_at c.args.log.now
+    (g.met.D.Disk.only_now c.args.log.now.disk)

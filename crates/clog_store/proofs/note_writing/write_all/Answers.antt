@@ -1,4 +1,4 @@
-use Rattle.clog_store.proofs.NoteGoes.{goes_then}
+use Rattle.clog_store.proofs.NoteGoes.{goes_then, settled_opened}
 use Rattle.clog_store.proofs.NoteGrows.{writes_of, writes_then}
 use Rattle.clog_store.proofs.NoteLeaves.{leaves_settled, leaves_then}
 use Rattle.clog_store.proofs.NoteSettled.{held_after, ready_after}
@@ -22,6 +22,8 @@ returns-in-Ok-clause-goes g c =
     let D = g.D.Disk in
     goes_then D.files D.moment D.since D.leaves D.read_at D.lasted_at c.args.log.now
     c.write_rest.new.log c.settle.new.self c.write_rest.ensures.goes (record {
+      opened = settled_opened c.write_rest.new.log c.settle.new.self c.settle.result
+          c.settle.ensures.settles;
       later = c.settle.ensures.later;
       lives = c.settle.ensures.lives;
     })

@@ -11,6 +11,7 @@ use Rattle.clog_store.proofs.OpenedWhole.{
   alone_of,
   at_rest,
   base_fits,
+  base_low,
   exact_told,
   has_rows,
   image_keeps,
@@ -160,6 +161,10 @@ returns-in-Ok-recover_folder-clause-opens g c =
 pub returns-in-Ok-recover_folder-clause-fits : goal.returns-in-Ok-recover_folder-clause-fits
 returns-in-Ok-recover_folder-clause-fits g c =
     base_fits _ c.args.moment c.in-Ok.known.base c.in-Ok.ensures.looks.base_is c.requires.moment
+
+pub returns-in-Ok-recover_folder-clause-low : goal.returns-in-Ok-recover_folder-clause-low
+returns-in-Ok-recover_folder-clause-low g c =
+    base_low _ c.args.moment c.in-Ok.known.base c.in-Ok.ensures.looks.base_is c.requires.moment
 
 pub returns-in-Ok-recover_folder-clause-rests : goal.returns-in-Ok-recover_folder-clause-rests
 returns-in-Ok-recover_folder-clause-rests g c first is =

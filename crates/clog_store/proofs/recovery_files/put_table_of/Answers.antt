@@ -88,7 +88,8 @@ returns-in-Ok-clause-files g c first ready filed =
     let file = file_of table start c.args.top (part_on table cells) in
     put_filed first c.args.names.now cells c.args.top ready table some
     c.next_sequence.result c.deref.result.now spelled c.next_sequence.ensures.next
-    c.next_sequence.ensures.fits (D.files before) (D.files after) filed c.in-Ok.ensures.puts
+    (c.next_sequence.ensures.fits c.requires.few) (D.files before) (D.files after) filed
+    c.in-Ok.ensures.puts
 
 pub returns-in-Ok-clause-puts : goal.returns-in-Ok-clause-puts
 returns-in-Ok-clause-puts g c first ready filed =
@@ -104,7 +105,8 @@ returns-in-Ok-clause-puts g c first ready filed =
     put_one first (D.changes before) (D.changes after)
     (table_name_of table.0 c.next_sequence.result) c.deref.result.now
     (is_put_now first c.args.names.now cells c.args.top ready table some c.next_sequence.result
-    c.deref.result.now spelled c.next_sequence.ensures.next c.next_sequence.ensures.fits
+    c.deref.result.now spelled c.next_sequence.ensures.next
+    (c.next_sequence.ensures.fits c.requires.few)
     (D.files before) filed) c.in-Ok.ensures.adds
 
 pub returns-in-Ok-clause-settles : goal.returns-in-Ok-clause-settles
@@ -122,13 +124,13 @@ returns-in-Ok-clause-settles g c first ready settled =
     settled_with first cells (table.0 + 1) (D.files after) (D.leaves after)
     (put_filed first c.args.names.now cells c.args.top ready table some
     c.next_sequence.result c.deref.result.now spelled c.next_sequence.ensures.next
-    c.next_sequence.ensures.fits (D.files before) (D.files after)
+    (c.next_sequence.ensures.fits c.requires.few) (D.files before) (D.files after)
     (filed_told first cells table.0 (D.files before) (D.leaves before) settled)
     c.in-Ok.ensures.puts)
     (c.in-Ok.ensures.comes first file refl
     (may_come_here first c.args.names.now cells c.args.top ready table some
     c.next_sequence.result c.deref.result.now spelled c.next_sequence.ensures.next
-    c.next_sequence.ensures.fits (D.files before) (D.leaves before) settled))
+    (c.next_sequence.ensures.fits c.requires.few) (D.files before) (D.leaves before) settled))
 
 pub returns-in-Ok-clause-any_moment : goal.returns-in-Ok-clause-any_moment
 returns-in-Ok-clause-any_moment g c first ready settled =
@@ -145,7 +147,7 @@ returns-in-Ok-clause-any_moment g c first ready settled =
     c.put_recovered.ensures.any_moment first file refl
     (may_come_here first c.args.names.now cells c.args.top ready table some
     c.next_sequence.result c.deref.result.now spelled c.next_sequence.ensures.next
-    c.next_sequence.ensures.fits (D.files before) (D.leaves before) settled)
+    (c.next_sequence.ensures.fits c.requires.few) (D.files before) (D.leaves before) settled)
 
 pub returns-clause-puts : goal.returns-clause-puts
 returns-clause-puts g c first ready filed =
@@ -167,7 +169,7 @@ returns-clause-files g c first ready filed =
     c.put_recovered.ensures.files first file refl
     (may_come_to first c.args.names.now cells c.args.top ready table some
     c.next_sequence.result c.deref.result.now spelled c.next_sequence.ensures.next
-    c.next_sequence.ensures.fits (D.files before) filed)
+    (c.next_sequence.ensures.fits c.requires.few) (D.files before) filed)
 
 pub returns-clause-any_moment : goal.returns-clause-any_moment
 returns-clause-any_moment g c first ready settled =
@@ -184,4 +186,7 @@ returns-clause-any_moment g c first ready settled =
     c.put_recovered.ensures.any_moment first file refl
     (may_come_here first c.args.names.now cells c.args.top ready table some
     c.next_sequence.result c.deref.result.now spelled c.next_sequence.ensures.next
-    c.next_sequence.ensures.fits (D.files before) (D.leaves before) settled)
+    (c.next_sequence.ensures.fits c.requires.few) (D.files before) (D.leaves before) settled)
+
+pub put_recovered-requires-clause-fits : goal.put_recovered-requires-clause-fits
+put_recovered-requires-clause-fits g c = c.next_sequence.ensures.fits c.requires.few

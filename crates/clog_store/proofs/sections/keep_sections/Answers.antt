@@ -15,21 +15,20 @@ returns-clause-kept g c r past old kept new brings rests =
     c.append_at.ensures.crash appends)
 
 pub returns-clause-refused : goal.returns-clause-refused
-returns-clause-refused g c other r past old kept rests =
+returns-clause-refused g c other r past at old kept rests =
     let D = g.D.Disk in
-    let id = c.args.id in
     let before = c.args.disk.now in
     let after = c.append_at.new.self in
     err_then c.append_at.result (c.append_at.ensures.refused other) (λ unchanged.
     let now = rests_on (D.files before) (D.files after) (D.leaves before) (D.leaves after) r past
-    id old kept unchanged.files unchanged.images.fewer rests in (
+    at old kept unchanged.files unchanged.images.fewer rests in (
       now,
       one_call D.moment D.since D.leaves D.read_at D.lasted_at before after
-          (ShowsBehind r past id old kept)
+          (ShowsBehind r past at old kept)
           (g.met.D.Disk.only_now before)
-          (rests_show (D.files before) (D.leaves before) r past id old kept rests)
+          (rests_show (D.files before) (D.leaves before) r past at old kept rests)
           c.append_at.ensures.time
-          (rests_show (D.files after) (D.leaves after) r past id old kept now),
+          (rests_show (D.files after) (D.leaves after) r past at old kept now),
     ))
 
 pub returns-clause-any_moment : goal.returns-clause-any_moment

@@ -3,7 +3,8 @@ use Rattle.path_core.specs.declared.note.EntryNote.{EntryNote}
 use Rattle.clog_store.specs.Grows.{Writes}
 use Rattle.clog_store.specs.Life.{State}
 use Rattle.clog_store.specs.NoteLog.{IsHeld, IsNoteLog, NoteState, Stands}
-use Rattle.clog_store.specs.NoteSteps.{IsReady, Leaves, MayRun, ReadyAt, standing}
+use Rattle.clog_store.specs.NoteSteps.{GoesOn, IsReady, Leaves, MayRun, ReadyAt, standing}
+use Rattle.clog_store.proofs.NoteGoes.{goes_still}
 use Rattle.clog_store.proofs.NoteGrows.{grows_same, writes_of}
 use Rattle.clog_store.proofs.NoteLeaves.{leaves_same}
 use Rattle.clog_store.proofs.NoteLogged.{logged, ready_of, unlogged}
@@ -164,3 +165,13 @@ pub returns-clause-writes : goal.returns-clause-writes
 returns-clause-writes g c =
     subst (λ (log : State g.row.D.Denot). Writes g.D.Disk.changes log c.write_all.new.log)
     (ap (λ (x : NoteState g.row.D.Denot). x.log) c.self.view_is) c.write_all.ensures.writes
+
+pub returns-in_err-reserve-clause-goes : goal.returns-in_err-reserve-clause-goes
+returns-in_err-reserve-clause-goes g c =
+    let D = g.D.Disk in
+    let log = c.self.inside.log in
+    subst (λ (before : State g.row.D.Denot).
+    GoesOn D.files D.moment D.since D.leaves D.read_at D.lasted_at before log)
+    (ap (λ (x : NoteState g.row.D.Denot). x.log) c.self.view_is)
+    (goes_still D.files D.moment D.since D.leaves D.read_at D.lasted_at log
+    (g.met.D.Disk.only_now log.disk))

@@ -3,8 +3,16 @@ use Rattle.path_core.specs.declared.note.EntryNote.{EntryNote}
 use Rattle.path_core.specs.Keeper.{IsParted}
 use Rattle.clog_store.proofs.Lived.{lives_still}
 use Rattle.clog_store.proofs.NoteGrows.{grows_same, writes_of}
+use Rattle.clog_store.proofs.NoteLeaves.{leaves_same}
 use Rattle.clog_store.proofs.NoteSynced.{may_run}
 use Rattle.clog_store.proofs.note_log.NoteLog.sync.Goals as goal
+
+pub returns-then-is_stopped-clause-lives : goal.returns-then-is_stopped-clause-lives
+returns-then-is_stopped-clause-lives g c lives =
+    let D = g.D.Disk in
+    let log = c.args.self.now.log in
+    lives_still D.files D.moment D.since D.leaves D.read_at D.lasted_at log
+    (g.met.D.Disk.only_now log.disk) lives
 
 pub returns-in_err-run-clause-lives : goal.returns-in_err-run-clause-lives
 returns-in_err-run-clause-lives g c =
@@ -30,6 +38,11 @@ pub returns-then-is_stopped-clause-writes : goal.returns-then-is_stopped-clause-
 returns-then-is_stopped-clause-writes g c =
     let log = c.args.self.now.log in
     writes_of g.D.Disk.changes log log (grows_same g.D.Disk.changes log log refl refl refl refl)
+
+pub returns-in_err-run-clause-others : goal.returns-in_err-run-clause-others
+returns-in_err-run-clause-others g c runs =
+    let log = c.args.self.now.log in
+    (leaves_same g.D.Disk.files g.D.Disk.changes log log refl refl refl refl refl).rest
 
 pub returns-in_err-run-clause-writes : goal.returns-in_err-run-clause-writes
 returns-in_err-run-clause-writes g c =

@@ -1,10 +1,20 @@
-use Rattle.std.proofs.Common.{◌<◌, subst}
+use Rattle.std.proofs.Common.{◌≡◌, ◌<◌, false, subst}
 use Rattle.std.specs.Prelude.{Contains}
 use Rattle.clog_crash.specs.Log.{Write}
 use Rattle.clog_store.specs.Life.{State}
+use Rattle.clog_store.specs.StoreFolder.{IsSound}
 use Rattle.clog_store.proofs.section_log.SectionLog.id.Goals as goal
 
 pub returns-clause-below : goal.returns-clause-below
 returns-clause-below g c =
     subst (λ (s : State g.row.D.Denot). (w : Write) → Contains s.past w → w.id < s.id)
     c.self.view_is c.self.invariant.past_below
+
+pub returns-clause-sound : goal.returns-clause-sound
+returns-clause-sound g c =
+    subst (λ (s : State g.row.D.Denot). s.is_stopped ≡ false → IsSound s) c.self.view_is
+    (λ runs. record {
+      below = c.self.invariant.past_below;
+      past_stored = c.self.invariant.past_stored;
+      stored = (c.self.invariant.ends runs).stored;
+    })

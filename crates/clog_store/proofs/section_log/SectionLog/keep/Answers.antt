@@ -122,12 +122,12 @@ returns-in-Err-OutOfMemory-clause-lives g c lives =
     (λ image left. g.met.D.Disk.counts_now mid (D.moment s.disk) image
     c.keep_sections.ensures.later.no_sooner left) c.keep_sections.ensures.told
     c.keep_sections.ensures.later
-    (λ r rests. (no_failure c.keep_sections.result c.in-Err-OutOfMemory.is
+    (λ at may r rests. (no_failure c.keep_sections.result c.in-Err-OutOfMemory.is
     c.in-Err-OutOfMemory.field-0-is (λ other. c.keep_sections.ensures.refused other r s.past.items
-    (take s.synced ss) (drop s.synced ss) rests)).1)
-    (λ r rests. (no_failure c.keep_sections.result c.in-Err-OutOfMemory.is
+    at (take s.synced ss) (drop s.synced ss) rests)).1)
+    (λ at may r rests. (no_failure c.keep_sections.result c.in-Err-OutOfMemory.is
     c.in-Err-OutOfMemory.field-0-is (λ other. c.keep_sections.ensures.refused other r s.past.items
-    (take s.synced ss) (drop s.synced ss) rests)).0)))
+    at (take s.synced ss) (drop s.synced ss) rests)).0)))
 
 -- it is kept
 
@@ -247,12 +247,12 @@ invariant_of-self-in-Err-OutOfMemory g c =
     (λ image left. g.met.D.Disk.counts_now mid (D.moment s.disk) image
     c.keep_sections.ensures.later.no_sooner left) c.keep_sections.ensures.told
     c.keep_sections.ensures.later
-    (λ r rests. (no_failure c.keep_sections.result c.in-Err-OutOfMemory.is
+    (λ at may r rests. (no_failure c.keep_sections.result c.in-Err-OutOfMemory.is
     c.in-Err-OutOfMemory.field-0-is (λ other. c.keep_sections.ensures.refused other r s.past.items
-    (take s.synced ss) (drop s.synced ss) rests)).1)
-    (λ r rests. (no_failure c.keep_sections.result c.in-Err-OutOfMemory.is
+    at (take s.synced ss) (drop s.synced ss) rests)).1)
+    (λ at may r rests. (no_failure c.keep_sections.result c.in-Err-OutOfMemory.is
     c.in-Err-OutOfMemory.field-0-is (λ other. c.keep_sections.ensures.refused other r s.past.items
-    (take s.synced ss) (drop s.synced ss) rests)).0)))
+    at (take s.synced ss) (drop s.synced ss) rests)).0)))
 
 pub invariant_of-self-in-Err-Failed : goal.invariant_of-self-in-Err-Failed
 invariant_of-self-in-Err-Failed g c =

@@ -1,5 +1,6 @@
 use Rattle.std.proofs.Common.{ℕ, sym, subst}
-use Rattle.clog_store.proofs.Ends.{end_opened}
+use Rattle.clog_store.proofs.Anywhere.{rests_wherever}
+use Rattle.clog_store.proofs.Ends.{end_opened, none_opened}
 use Rattle.clog_store.proofs.OpenedWhole.{lasted_now, rests_told}
 use Rattle.clog_store.proofs.section_log.SectionLog.open.Goals as goal
 
@@ -9,9 +10,13 @@ begin-requires g c =
     record {
       none = end_opened (D.files c.args.disk) (D.files c.recover.new.disk) c.args.moment
           c.in-Ok.base c.in-Ok.ensures.told c.in-Ok.ensures.opens c.in-Ok.ensures.fits;
-      rests = rests_told (D.files c.args.disk) (D.files c.recover.new.disk)
+      rests = rests_wherever (D.files c.args.disk) (D.files c.recover.new.disk)
           (D.leaves c.recover.new.disk) c.in-Ok.base c.in-Ok.ensures.told
-          c.in-Ok.ensures.rests;
+          (none_opened (D.files c.args.disk) (D.files c.recover.new.disk) c.args.moment
+          c.in-Ok.base c.in-Ok.ensures.opens)
+          (rests_told (D.files c.args.disk) (D.files c.recover.new.disk)
+          (D.leaves c.recover.new.disk) c.in-Ok.base c.in-Ok.ensures.told
+          c.in-Ok.ensures.rests);
     }
 
 pub returns-in-Ok-clause-lasted : goal.returns-in-Ok-clause-lasted

@@ -1,14 +1,13 @@
-use Rattle.std.proofs.Common.{List, Some, take, drop, refl, sym, subst}
+use Rattle.std.proofs.Common.{ℕ, Some, take, drop, refl, sym, subst}
 use Rattle.std.specs.Prelude.{IfSome}
 use Rattle.clog_spec.specs.Names.{table_name_of}
-use Rattle.clog_crash.specs.Log.{IsResting}
 use Rattle.clog_crash.specs.Readings.{Reading}
-use Rattle.clog_store.specs.Life.{Lives, LivesOn, State}
+use Rattle.clog_store.specs.Life.{Lives, MayGoOnIn, State}
 use Rattle.clog_store.specs.Publishes.{IsTrueHere, MayPut, file_at}
 use Rattle.clog_store.specs.Resting.{RestsAt}
 use Rattle.clog_store.proofs.Ends.{end_same}
-use Rattle.clog_store.proofs.Lived.{lives_from}
-use Rattle.clog_store.proofs.OtherFiles.{broken, end_beside, passed, table_aside, told_with}
+use Rattle.clog_store.proofs.Lived.{lives_from, lives_still}
+use Rattle.clog_store.proofs.OtherFiles.{broken, end_beside, passed, put_wherever, table_aside}
 use Rattle.clog_store.proofs.Outcomes.{no_failure}
 use Rattle.clog_store.proofs.section_log.SectionLog.publish.Goals as goal
 
@@ -34,20 +33,21 @@ invariant_of-self g c =
     let here = subst (λ (st : State g.row.D.Denot). IfSome (D.files st.disk) (λ f.
     IsTrueHere f st.id (take st.synced st.sections) file c.args.sequence)) (sym c.self.view_is)
     c.requires.may in
-    let may : (r : Reading) → RestsAt (D.files s.disk) (D.leaves s.disk) r s.past.items s.id
-    (take s.synced ss) (drop s.synced ss) → MayPut (D.files s.disk) (D.leaves s.disk) r s.past.items
-    s.id (take s.synced ss) (drop s.synced ss) file c.args.sequence =
-    λ r rests. told_with (D.files s.disk)
-    (λ f. IsResting f (D.leaves s.disk) r s.past.items s.id (take s.synced ss) (drop s.synced ss))
-    (λ f. IsTrueHere f s.id (take s.synced ss) file c.args.sequence) rests here in
+    let may : (at : ℕ) → MayGoOnIn s.id ss at → (r : Reading) → RestsAt (D.files s.disk)
+    (D.leaves s.disk) r s.past.items at (take s.synced ss) (drop s.synced ss)
+    → MayPut (D.files s.disk) (D.leaves s.disk) r s.past.items at (take s.synced ss)
+    (drop s.synced ss) file c.args.sequence =
+    λ at on r rests. put_wherever (D.files s.disk) (D.leaves s.disk) r s.past.items s.id s.size ss
+    s.synced (drop s.synced ss) file c.args.sequence (c.self.invariant.ends c.if-self.false) here at
+    on rests in
     (passed D.files D.moment D.since D.leaves D.read_at D.lasted_at before s.size new
     c.self.invariant c.if-self.false
     (λ image left. g.met.D.Disk.counts_now new (D.moment s.disk) image is.later.no_sooner left)
     is.told is.later
-    (λ r rests. is.any_moment r s.past.items s.id (take s.synced ss) (drop s.synced ss)
-    (may r rests))
-    (λ r rests. c.in-Ok.ensures.rests r s.past.items s.id (take s.synced ss) (drop s.synced ss)
-    (may r rests))
+    (λ at on r rests. is.any_moment r s.past.items at (take s.synced ss) (drop s.synced ss)
+    (may at on r rests))
+    (λ at on r rests. c.in-Ok.ensures.rests r s.past.items at (take s.synced ss)
+    (drop s.synced ss) (may at on r rests))
     (end_beside (D.files s.disk) (D.files new)
     (table_name_of c.args.file.table.0 c.args.sequence) (Some c.in-Ok.ensures.comes.bytes) s.id
     s.size ss c.in-Ok.ensures.comes.put
@@ -79,20 +79,21 @@ invariant_of-self-in-Err-OutOfMemory g c =
     let here = subst (λ (st : State g.row.D.Denot). IfSome (D.files st.disk) (λ f.
     IsTrueHere f st.id (take st.synced st.sections) file c.args.sequence)) (sym c.self.view_is)
     c.requires.may in
-    let may : (r : Reading) → RestsAt (D.files s.disk) (D.leaves s.disk) r s.past.items s.id
-    (take s.synced ss) (drop s.synced ss) → MayPut (D.files s.disk) (D.leaves s.disk) r s.past.items
-    s.id (take s.synced ss) (drop s.synced ss) file c.args.sequence =
-    λ r rests. told_with (D.files s.disk)
-    (λ f. IsResting f (D.leaves s.disk) r s.past.items s.id (take s.synced ss) (drop s.synced ss))
-    (λ f. IsTrueHere f s.id (take s.synced ss) file c.args.sequence) rests here in
+    let may : (at : ℕ) → MayGoOnIn s.id ss at → (r : Reading) → RestsAt (D.files s.disk)
+    (D.leaves s.disk) r s.past.items at (take s.synced ss) (drop s.synced ss)
+    → MayPut (D.files s.disk) (D.leaves s.disk) r s.past.items at (take s.synced ss)
+    (drop s.synced ss) file c.args.sequence =
+    λ at on r rests. put_wherever (D.files s.disk) (D.leaves s.disk) r s.past.items s.id s.size ss
+    s.synced (drop s.synced ss) file c.args.sequence (c.self.invariant.ends c.if-self.false) here at
+    on rests in
     (passed D.files D.moment D.since D.leaves D.read_at D.lasted_at before s.size new
     c.self.invariant c.if-self.false
     (λ image left. g.met.D.Disk.counts_now new (D.moment s.disk) image is.later.no_sooner left)
     is.told is.later
-    (λ r rests. is.any_moment r s.past.items s.id (take s.synced ss) (drop s.synced ss)
-    (may r rests))
-    (λ r rests. no_failure c.publish_file.result c.in-Err-OutOfMemory.is
-    c.in-Err-OutOfMemory.field-0-is (λ other. is.refused other r s.past.items s.id
+    (λ at on r rests. is.any_moment r s.past.items at (take s.synced ss) (drop s.synced ss)
+    (may at on r rests))
+    (λ at on r rests. no_failure c.publish_file.result c.in-Err-OutOfMemory.is
+    c.in-Err-OutOfMemory.field-0-is (λ other. is.refused other r s.past.items at
     (take s.synced ss) (drop s.synced ss) rests))
     (end_same (D.files s.disk) (D.files new) s.id s.size ss
     (no_failure c.publish_file.result c.in-Err-OutOfMemory.is c.in-Err-OutOfMemory.field-0-is
@@ -118,20 +119,27 @@ invariant_of-self-in-Err-Failed g c =
     let here = subst (λ (st : State g.row.D.Denot). IfSome (D.files st.disk) (λ f.
     IsTrueHere f st.id (take st.synced st.sections) file c.args.sequence)) (sym c.self.view_is)
     c.requires.may in
-    let may : (r : Reading) → RestsAt (D.files s.disk) (D.leaves s.disk) r s.past.items s.id
-    (take s.synced ss) (drop s.synced ss) → MayPut (D.files s.disk) (D.leaves s.disk) r s.past.items
-    s.id (take s.synced ss) (drop s.synced ss) file c.args.sequence =
-    λ r rests. told_with (D.files s.disk)
-    (λ f. IsResting f (D.leaves s.disk) r s.past.items s.id (take s.synced ss) (drop s.synced ss))
-    (λ f. IsTrueHere f s.id (take s.synced ss) file c.args.sequence) rests here in
+    let may : (at : ℕ) → MayGoOnIn s.id ss at → (r : Reading) → RestsAt (D.files s.disk)
+    (D.leaves s.disk) r s.past.items at (take s.synced ss) (drop s.synced ss)
+    → MayPut (D.files s.disk) (D.leaves s.disk) r s.past.items at (take s.synced ss)
+    (drop s.synced ss) file c.args.sequence =
+    λ at on r rests. put_wherever (D.files s.disk) (D.leaves s.disk) r s.past.items s.id s.size ss
+    s.synced (drop s.synced ss) file c.args.sequence (c.self.invariant.ends c.if-self.false) here at
+    on rests in
     (broken D.files D.moment D.since D.leaves D.read_at D.lasted_at before s.size new
     c.self.invariant c.if-self.false
     (λ image left. g.met.D.Disk.counts_now new (D.moment s.disk) image is.later.no_sooner left)
     is.told is.later
-    (λ r rests. is.any_moment r s.past.items s.id (take s.synced ss) (drop s.synced ss)
-    (may r rests))).0
+    (λ at on r rests. is.any_moment r s.past.items at (take s.synced ss) (drop s.synced ss)
+    (may at on r rests))).0
 
 -- ---- that it lives on
+
+pub returns-then-self-clause-lives : goal.returns-then-self-clause-lives
+returns-then-self-clause-lives g c lives =
+    let D = g.D.Disk in
+    lives_still D.files D.moment D.since D.leaves D.read_at D.lasted_at c.args.self.now
+    (g.met.D.Disk.only_now c.args.self.now.disk) lives
 
 pub returns-in-Ok-clause-lives : goal.returns-in-Ok-clause-lives
 returns-in-Ok-clause-lives g c lives =
@@ -153,21 +161,22 @@ returns-in-Ok-clause-lives g c lives =
     let here = subst (λ (st : State g.row.D.Denot). IfSome (D.files st.disk) (λ f.
     IsTrueHere f st.id (take st.synced st.sections) file c.args.sequence)) (sym c.self.view_is)
     c.requires.may in
-    let may : (r : Reading) → RestsAt (D.files s.disk) (D.leaves s.disk) r s.past.items s.id
-    (take s.synced ss) (drop s.synced ss) → MayPut (D.files s.disk) (D.leaves s.disk) r s.past.items
-    s.id (take s.synced ss) (drop s.synced ss) file c.args.sequence =
-    λ r rests. told_with (D.files s.disk)
-    (λ f. IsResting f (D.leaves s.disk) r s.past.items s.id (take s.synced ss) (drop s.synced ss))
-    (λ f. IsTrueHere f s.id (take s.synced ss) file c.args.sequence) rests here in
+    let may : (at : ℕ) → MayGoOnIn s.id ss at → (r : Reading) → RestsAt (D.files s.disk)
+    (D.leaves s.disk) r s.past.items at (take s.synced ss) (drop s.synced ss)
+    → MayPut (D.files s.disk) (D.leaves s.disk) r s.past.items at (take s.synced ss)
+    (drop s.synced ss) file c.args.sequence =
+    λ at on r rests. put_wherever (D.files s.disk) (D.leaves s.disk) r s.past.items s.id s.size ss
+    s.synced (drop s.synced ss) file c.args.sequence (c.self.invariant.ends c.if-self.false) here at
+    on rests in
     lives_from D.files D.moment D.since D.leaves D.read_at D.lasted_at c.self.view_is
     ((passed D.files D.moment D.since D.leaves D.read_at D.lasted_at before s.size new
     c.self.invariant c.if-self.false
     (λ image left. g.met.D.Disk.counts_now new (D.moment s.disk) image is.later.no_sooner left)
     is.told is.later
-    (λ r rests. is.any_moment r s.past.items s.id (take s.synced ss) (drop s.synced ss)
-    (may r rests))
-    (λ r rests. c.in-Ok.ensures.rests r s.past.items s.id (take s.synced ss) (drop s.synced ss)
-    (may r rests))
+    (λ at on r rests. is.any_moment r s.past.items at (take s.synced ss) (drop s.synced ss)
+    (may at on r rests))
+    (λ at on r rests. c.in-Ok.ensures.rests r s.past.items at (take s.synced ss)
+    (drop s.synced ss) (may at on r rests))
     (end_beside (D.files s.disk) (D.files new)
     (table_name_of c.args.file.table.0 c.args.sequence) (Some c.in-Ok.ensures.comes.bytes) s.id
     s.size ss c.in-Ok.ensures.comes.put
@@ -201,21 +210,22 @@ returns-in-Err-OutOfMemory-clause-lives g c lives =
     let here = subst (λ (st : State g.row.D.Denot). IfSome (D.files st.disk) (λ f.
     IsTrueHere f st.id (take st.synced st.sections) file c.args.sequence)) (sym c.self.view_is)
     c.requires.may in
-    let may : (r : Reading) → RestsAt (D.files s.disk) (D.leaves s.disk) r s.past.items s.id
-    (take s.synced ss) (drop s.synced ss) → MayPut (D.files s.disk) (D.leaves s.disk) r s.past.items
-    s.id (take s.synced ss) (drop s.synced ss) file c.args.sequence =
-    λ r rests. told_with (D.files s.disk)
-    (λ f. IsResting f (D.leaves s.disk) r s.past.items s.id (take s.synced ss) (drop s.synced ss))
-    (λ f. IsTrueHere f s.id (take s.synced ss) file c.args.sequence) rests here in
+    let may : (at : ℕ) → MayGoOnIn s.id ss at → (r : Reading) → RestsAt (D.files s.disk)
+    (D.leaves s.disk) r s.past.items at (take s.synced ss) (drop s.synced ss)
+    → MayPut (D.files s.disk) (D.leaves s.disk) r s.past.items at (take s.synced ss)
+    (drop s.synced ss) file c.args.sequence =
+    λ at on r rests. put_wherever (D.files s.disk) (D.leaves s.disk) r s.past.items s.id s.size ss
+    s.synced (drop s.synced ss) file c.args.sequence (c.self.invariant.ends c.if-self.false) here at
+    on rests in
     lives_from D.files D.moment D.since D.leaves D.read_at D.lasted_at c.self.view_is
     ((passed D.files D.moment D.since D.leaves D.read_at D.lasted_at before s.size new
     c.self.invariant c.if-self.false
     (λ image left. g.met.D.Disk.counts_now new (D.moment s.disk) image is.later.no_sooner left)
     is.told is.later
-    (λ r rests. is.any_moment r s.past.items s.id (take s.synced ss) (drop s.synced ss)
-    (may r rests))
-    (λ r rests. no_failure c.publish_file.result c.in-Err-OutOfMemory.is
-    c.in-Err-OutOfMemory.field-0-is (λ other. is.refused other r s.past.items s.id
+    (λ at on r rests. is.any_moment r s.past.items at (take s.synced ss) (drop s.synced ss)
+    (may at on r rests))
+    (λ at on r rests. no_failure c.publish_file.result c.in-Err-OutOfMemory.is
+    c.in-Err-OutOfMemory.field-0-is (λ other. is.refused other r s.past.items at
     (take s.synced ss) (drop s.synced ss) rests))
     (end_same (D.files s.disk) (D.files new) s.id s.size ss
     (no_failure c.publish_file.result c.in-Err-OutOfMemory.is c.in-Err-OutOfMemory.field-0-is
@@ -243,18 +253,19 @@ returns-in-Err-Failed-clause-lives g c lives =
     let here = subst (λ (st : State g.row.D.Denot). IfSome (D.files st.disk) (λ f.
     IsTrueHere f st.id (take st.synced st.sections) file c.args.sequence)) (sym c.self.view_is)
     c.requires.may in
-    let may : (r : Reading) → RestsAt (D.files s.disk) (D.leaves s.disk) r s.past.items s.id
-    (take s.synced ss) (drop s.synced ss) → MayPut (D.files s.disk) (D.leaves s.disk) r s.past.items
-    s.id (take s.synced ss) (drop s.synced ss) file c.args.sequence =
-    λ r rests. told_with (D.files s.disk)
-    (λ f. IsResting f (D.leaves s.disk) r s.past.items s.id (take s.synced ss) (drop s.synced ss))
-    (λ f. IsTrueHere f s.id (take s.synced ss) file c.args.sequence) rests here in
+    let may : (at : ℕ) → MayGoOnIn s.id ss at → (r : Reading) → RestsAt (D.files s.disk)
+    (D.leaves s.disk) r s.past.items at (take s.synced ss) (drop s.synced ss)
+    → MayPut (D.files s.disk) (D.leaves s.disk) r s.past.items at (take s.synced ss)
+    (drop s.synced ss) file c.args.sequence =
+    λ at on r rests. put_wherever (D.files s.disk) (D.leaves s.disk) r s.past.items s.id s.size ss
+    s.synced (drop s.synced ss) file c.args.sequence (c.self.invariant.ends c.if-self.false) here at
+    on rests in
     lives_from D.files D.moment D.since D.leaves D.read_at D.lasted_at c.self.view_is
     ((broken D.files D.moment D.since D.leaves D.read_at D.lasted_at before s.size new
     c.self.invariant c.if-self.false
     (λ image left. g.met.D.Disk.counts_now new (D.moment s.disk) image is.later.no_sooner left)
     is.told is.later
-    (λ r rests. is.any_moment r s.past.items s.id (take s.synced ss) (drop s.synced ss)
-    (may r rests))).1
+    (λ at on r rests. is.any_moment r s.past.items at (take s.synced ss) (drop s.synced ss)
+    (may at on r rests))).1
     (subst (Lives D.files D.moment D.since D.leaves D.read_at D.lasted_at) (sym c.self.view_is)
     lives))

@@ -1,6 +1,11 @@
-use Rattle.std.proofs.Common.{◌∙◌, ℕ, take, drop, true, sym, subst, arith}
+use Rattle.std.proofs.Common.{◌<◌, ◌∙◌, ℕ, length, take, drop, true, sym, subst, arith}
 use Rattle.std.proofs.lemmas.Bool.{true≢false}
+use Rattle.std.proofs.lemmas.Bool.Decides.{nat_tests}
+use Rattle.clog_disk.specs.Images.{LeavesOnly}
+use Rattle.clog_crash.specs.Readings.{Reading}
 use Rattle.clog_store.specs.Life.{Lives, LivesOn, State}
+use Rattle.clog_store.specs.Resting.{RestsAt, ShowsBehind}
+use Rattle.clog_store.proofs.Anywhere.{here_only}
 use Rattle.clog_store.proofs.Begun.{begun_on}
 use Rattle.clog_store.proofs.Ends.{end_same}
 use Rattle.clog_store.proofs.Lived.{lives_from, lives_still, same_told}
@@ -9,6 +14,12 @@ use Rattle.clog_store.proofs.section_log.SectionLog.settle.Goals as goal
 
 pub returns-then-self-clause-lives : goal.returns-then-self-clause-lives
 returns-then-self-clause-lives g c lives =
+    let D = g.D.Disk in
+    lives_still D.files D.moment D.since D.leaves D.read_at D.lasted_at c.args.self.now
+    (g.met.D.Disk.only_now c.args.self.now.disk) lives
+
+pub returns-then-self-len-clause-lives : goal.returns-then-self-len-clause-lives
+returns-then-self-len-clause-lives g c lives =
     let D = g.D.Disk in
     lives_still D.files D.moment D.since D.leaves D.read_at D.lasted_at c.args.self.now
     (g.met.D.Disk.only_now c.args.self.now.disk) lives
@@ -32,16 +43,26 @@ returns-in-Ok-clause-lives g c lives =
     lives in
     let new = c.settle_sections.new.disk in
     let told = same_told (D.files s.disk) (D.files new) c.settle_sections.ensures.same in
+    let some : 0 < length ss =
+    let few = c.self.invariant.few in
+    let apart = c.if-self-len.false in
+    let len = c.len.ensures ∙ s.sections.ok.0 in
+    grind (arith, nat_tests) in
     lives_from D.files D.moment D.since D.leaves D.read_at D.lasted_at c.self.view_is
     (subst (λ (k : ℕ). LivesOn D.files D.moment D.since D.leaves D.read_at D.lasted_at before
     (record before { disk = new; synced = k })) (sym (c.len-self-inside.ensures ∙ s.sections.ok.0))
     (lives_settled D.files D.moment D.since D.leaves D.read_at D.lasted_at before new
     c.if-self.false lived
     (λ image left. g.met.D.Disk.counts_now new (D.moment s.disk) image
-    c.settle_sections.ensures.later.no_sooner left) told c.settle_sections.ensures.later (λ r rests.
+    c.settle_sections.ensures.later.no_sooner left) told c.settle_sections.ensures.later
+    (here_only s.id ss (λ at. (r : Reading)
+    → RestsAt (D.files s.disk) (D.leaves s.disk) r s.past.items at (take s.synced ss)
+    (drop s.synced ss)
+    → LeavesOnly D.moment D.since s.disk new (ShowsBehind r s.past.items at (take s.synced ss)
+    (drop s.synced ss))) some (λ r rests.
     c.settle_sections.ensures.any_moment r s.past.items (take s.synced ss) (drop s.synced ss)
-    rests)
-    (λ r rests. c.in-Ok.ensures.lasts r s.past.items (take s.synced ss) (drop s.synced ss)
+    rests))
+    some (λ r rests. c.in-Ok.ensures.lasts r s.past.items (take s.synced ss) (drop s.synced ss)
     rests)))
 
 pub returns-in-Err-OutOfMemory-clause-lives : goal.returns-in-Err-OutOfMemory-clause-lives
@@ -63,15 +84,30 @@ returns-in-Err-OutOfMemory-clause-lives g c lives =
     lives in
     let new = c.settle_sections.new.disk in
     let told = same_told (D.files s.disk) (D.files new) c.settle_sections.ensures.same in
+    let some : 0 < length ss =
+    let few = c.self.invariant.few in
+    let apart = c.if-self-len.false in
+    let len = c.len.ensures ∙ s.sections.ok.0 in
+    grind (arith, nat_tests) in
     lives_from D.files D.moment D.since D.leaves D.read_at D.lasted_at c.self.view_is
     (lives_same D.files D.moment D.since D.leaves D.read_at D.lasted_at before new c.if-self.false
     lived
     (λ image left. g.met.D.Disk.counts_now new (D.moment s.disk) image
-    c.settle_sections.ensures.later.no_sooner left) told c.settle_sections.ensures.later (λ r rests.
+    c.settle_sections.ensures.later.no_sooner left) told c.settle_sections.ensures.later
+    (here_only s.id ss (λ at. (r : Reading)
+    → RestsAt (D.files s.disk) (D.leaves s.disk) r s.past.items at (take s.synced ss)
+    (drop s.synced ss)
+    → LeavesOnly D.moment D.since s.disk new (ShowsBehind r s.past.items at (take s.synced ss)
+    (drop s.synced ss))) some (λ r rests.
     c.settle_sections.ensures.any_moment r s.past.items (take s.synced ss) (drop s.synced ss)
-    rests)
+    rests))
+    (here_only s.id ss (λ at. (r : Reading)
+    → RestsAt (D.files s.disk) (D.leaves s.disk) r s.past.items at (take s.synced ss)
+    (drop s.synced ss)
+    → RestsAt (D.files new) (D.leaves new) r s.past.items at (take s.synced ss)
+    (drop s.synced ss)) some
     (λ r rests. c.in-Err-OutOfMemory.ensures.refused r s.past.items (take s.synced ss)
-    (drop s.synced ss) rests))
+    (drop s.synced ss) rests)))
 
 pub returns-in-Err-Failed-clause-lives : goal.returns-in-Err-Failed-clause-lives
 returns-in-Err-Failed-clause-lives g c lives =
@@ -92,13 +128,23 @@ returns-in-Err-Failed-clause-lives g c lives =
     lives in
     let new = c.settle_sections.new.disk in
     let told = same_told (D.files s.disk) (D.files new) c.settle_sections.ensures.same in
+    let some : 0 < length ss =
+    let few = c.self.invariant.few in
+    let apart = c.if-self-len.false in
+    let len = c.len.ensures ∙ s.sections.ok.0 in
+    grind (arith, nat_tests) in
     lives_from D.files D.moment D.since D.leaves D.read_at D.lasted_at c.self.view_is
     (lives_stopped D.files D.moment D.since D.leaves D.read_at D.lasted_at before new
     c.if-self.false lived
     (λ image left. g.met.D.Disk.counts_now new (D.moment s.disk) image
-    c.settle_sections.ensures.later.no_sooner left) told c.settle_sections.ensures.later (λ r rests.
+    c.settle_sections.ensures.later.no_sooner left) told c.settle_sections.ensures.later
+    (here_only s.id ss (λ at. (r : Reading)
+    → RestsAt (D.files s.disk) (D.leaves s.disk) r s.past.items at (take s.synced ss)
+    (drop s.synced ss)
+    → LeavesOnly D.moment D.since s.disk new (ShowsBehind r s.past.items at (take s.synced ss)
+    (drop s.synced ss))) some (λ r rests.
     c.settle_sections.ensures.any_moment r s.past.items (take s.synced ss) (drop s.synced ss)
-    rests))
+    rests)))
 
 -- ---- what it keeps
 
@@ -118,6 +164,11 @@ invariant_of-self g c =
     } in
     let new = c.settle_sections.new.disk in
     let told = same_told (D.files s.disk) (D.files new) c.settle_sections.ensures.same in
+    let some : 0 < length ss =
+    let few = c.self.invariant.few in
+    let apart = c.if-self-len.false in
+    let len = c.len.ensures ∙ s.sections.ok.0 in
+    grind (arith, nat_tests) in
     let len = c.len-self-inside.ensures ∙ s.sections.ok.0 in
     begun_on D.files D.moment D.since D.leaves D.read_at D.lasted_at before s.size new ss
     c.len-self-inside.result s.is_stopped s.size c.self.invariant c.settle_sections.ensures.later
@@ -130,10 +181,15 @@ invariant_of-self g c =
     (lives_settled D.files D.moment D.since D.leaves D.read_at D.lasted_at before new
     c.if-self.false lived
     (λ image left. g.met.D.Disk.counts_now new (D.moment s.disk) image
-    c.settle_sections.ensures.later.no_sooner left) told c.settle_sections.ensures.later (λ r rests.
+    c.settle_sections.ensures.later.no_sooner left) told c.settle_sections.ensures.later
+    (here_only s.id ss (λ at. (r : Reading)
+    → RestsAt (D.files s.disk) (D.leaves s.disk) r s.past.items at (take s.synced ss)
+    (drop s.synced ss)
+    → LeavesOnly D.moment D.since s.disk new (ShowsBehind r s.past.items at (take s.synced ss)
+    (drop s.synced ss))) some (λ r rests.
     c.settle_sections.ensures.any_moment r s.past.items (take s.synced ss) (drop s.synced ss)
-    rests)
-    (λ r rests. c.in-Ok.ensures.lasts r s.past.items (take s.synced ss) (drop s.synced ss)
+    rests))
+    some (λ r rests. c.in-Ok.ensures.lasts r s.past.items (take s.synced ss) (drop s.synced ss)
     rests)))
 
 pub invariant_of-self-in-Err-OutOfMemory : goal.invariant_of-self-in-Err-OutOfMemory
@@ -152,6 +208,11 @@ invariant_of-self-in-Err-OutOfMemory g c =
     } in
     let new = c.settle_sections.new.disk in
     let told = same_told (D.files s.disk) (D.files new) c.settle_sections.ensures.same in
+    let some : 0 < length ss =
+    let few = c.self.invariant.few in
+    let apart = c.if-self-len.false in
+    let len = c.len.ensures ∙ s.sections.ok.0 in
+    grind (arith, nat_tests) in
     begun_on D.files D.moment D.since D.leaves D.read_at D.lasted_at before s.size new ss
     s.synced s.is_stopped s.size c.self.invariant c.settle_sections.ensures.later
     c.self.invariant.few
@@ -160,11 +221,21 @@ invariant_of-self-in-Err-OutOfMemory g c =
     (λ lived. lives_same D.files D.moment D.since D.leaves D.read_at D.lasted_at before new
     c.if-self.false lived
     (λ image left. g.met.D.Disk.counts_now new (D.moment s.disk) image
-    c.settle_sections.ensures.later.no_sooner left) told c.settle_sections.ensures.later (λ r rests.
+    c.settle_sections.ensures.later.no_sooner left) told c.settle_sections.ensures.later
+    (here_only s.id ss (λ at. (r : Reading)
+    → RestsAt (D.files s.disk) (D.leaves s.disk) r s.past.items at (take s.synced ss)
+    (drop s.synced ss)
+    → LeavesOnly D.moment D.since s.disk new (ShowsBehind r s.past.items at (take s.synced ss)
+    (drop s.synced ss))) some (λ r rests.
     c.settle_sections.ensures.any_moment r s.past.items (take s.synced ss) (drop s.synced ss)
-    rests)
+    rests))
+    (here_only s.id ss (λ at. (r : Reading)
+    → RestsAt (D.files s.disk) (D.leaves s.disk) r s.past.items at (take s.synced ss)
+    (drop s.synced ss)
+    → RestsAt (D.files new) (D.leaves new) r s.past.items at (take s.synced ss)
+    (drop s.synced ss)) some
     (λ r rests. c.in-Err-OutOfMemory.ensures.refused r s.past.items (take s.synced ss)
-    (drop s.synced ss) rests))
+    (drop s.synced ss) rests)))
 
 pub invariant_of-self-in-Err-Failed : goal.invariant_of-self-in-Err-Failed
 invariant_of-self-in-Err-Failed g c =
@@ -182,12 +253,22 @@ invariant_of-self-in-Err-Failed g c =
     } in
     let new = c.settle_sections.new.disk in
     let told = same_told (D.files s.disk) (D.files new) c.settle_sections.ensures.same in
+    let some : 0 < length ss =
+    let few = c.self.invariant.few in
+    let apart = c.if-self-len.false in
+    let len = c.len.ensures ∙ s.sections.ok.0 in
+    grind (arith, nat_tests) in
     begun_on D.files D.moment D.since D.leaves D.read_at D.lasted_at before s.size new ss
     s.synced true s.size c.self.invariant c.settle_sections.ensures.later c.self.invariant.few
     (λ runs. absurd (true≢false runs))
     (λ lived. lives_stopped D.files D.moment D.since D.leaves D.read_at D.lasted_at before new
     c.if-self.false lived
     (λ image left. g.met.D.Disk.counts_now new (D.moment s.disk) image
-    c.settle_sections.ensures.later.no_sooner left) told c.settle_sections.ensures.later (λ r rests.
+    c.settle_sections.ensures.later.no_sooner left) told c.settle_sections.ensures.later
+    (here_only s.id ss (λ at. (r : Reading)
+    → RestsAt (D.files s.disk) (D.leaves s.disk) r s.past.items at (take s.synced ss)
+    (drop s.synced ss)
+    → LeavesOnly D.moment D.since s.disk new (ShowsBehind r s.past.items at (take s.synced ss)
+    (drop s.synced ss))) some (λ r rests.
     c.settle_sections.ensures.any_moment r s.past.items (take s.synced ss) (drop s.synced ss)
-    rests))
+    rests)))

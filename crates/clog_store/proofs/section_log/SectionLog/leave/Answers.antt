@@ -6,6 +6,7 @@ use Rattle.std.proofs.Common.{
   ◌∷◌,
   ◌++◌,
   length,
+  false,
   sym,
   ◌∙◌,
   ap,
@@ -20,7 +21,7 @@ use Rattle.clog_store.specs.Several.{written}
 use Rattle.clog_store.proofs.Begun.{begun_rolled}
 use Rattle.clog_store.proofs.Lived.{lives_from}
 use Rattle.clog_store.proofs.LivedRolls.{lives_rolled}
-use Rattle.clog_store.proofs.section_log.SectionLog.roll.Goals as goal
+use Rattle.clog_store.proofs.section_log.SectionLog.leave.Goals as goal
 
 pub returns-clause-lives : goal.returns-clause-lives
 returns-clause-lives g c lives =
@@ -39,6 +40,8 @@ returns-clause-lives g c lives =
     let lived = subst (Lives D.files D.moment D.since D.leaves D.read_at D.lasted_at)
     (sym c.self.view_is)
     lives in
+    let runs = subst (λ (st : State g.row.D.Denot). st.is_stopped ≡ false) (sym c.self.view_is)
+    c.requires.runs in
     let none : c.replace-sections.new.dest.items ≡ [] =
     ap (λ v. v.items) c.replace-sections.ensures.after ∙ c.new.ensures.items in
     let past : c.push_reserved.new.self.items ≡ s.past.items ++ written s.id ss ∷ [] =
@@ -58,7 +61,7 @@ returns-clause-lives g c lives =
     before
     (record before { past = l; id = c.args.id; sections = []; synced = 0 })) (sym past)
     (lives_rolled D.files D.moment D.since D.leaves D.read_at D.lasted_at before c.args.id
-    c.if-self.false lived
+    runs lived
     (g.met.D.Disk.only_now s.disk)
     (λ image left. g.met.D.Disk.counts_now s.disk (D.moment s.disk) image (omega arith) left)
     (subst (λ (st : State g.row.D.Denot). st.id < c.args.id) (sym c.self.view_is)
@@ -82,6 +85,8 @@ invariant_of-self-2 g c =
       synced = s.synced;
       is_stopped = s.is_stopped;
     } in
+    let runs = subst (λ (st : State g.row.D.Denot). st.is_stopped ≡ false) (sym c.self.view_is)
+    c.requires.runs in
     let none : c.replace-sections.new.dest.items ≡ [] =
     ap (λ v. v.items) c.replace-sections.ensures.after ∙ c.new.ensures.items in
     let past : c.push_reserved.new.self.items ≡ s.past.items ++ written s.id ss ∷ [] =
@@ -91,7 +96,7 @@ invariant_of-self-2 g c =
     begun_rolled D.files D.moment D.since D.leaves D.read_at D.lasted_at before s.size c.args.id
     c.push_reserved.new.self.items c.replace-sections.new.dest.items past none
     (subst (λ (st : State g.row.D.Denot). st.id < c.args.id) (sym c.self.view_is)
-    c.requires.above) c.requires.fits c.if-self.false c.self.invariant
+    c.requires.above) c.requires.fits runs c.self.invariant
     (λ lived.
     (subst (λ (l : List Section). LivesOn D.files D.moment D.since D.leaves D.read_at D.lasted_at
     before
@@ -105,7 +110,7 @@ invariant_of-self-2 g c =
     before
     (record before { past = l; id = c.args.id; sections = []; synced = 0 })) (sym past)
     (lives_rolled D.files D.moment D.since D.leaves D.read_at D.lasted_at before c.args.id
-    c.if-self.false lived
+    runs lived
     (g.met.D.Disk.only_now s.disk)
     (λ image left. g.met.D.Disk.counts_now s.disk (D.moment s.disk) image (omega arith) left)
     (subst (λ (st : State g.row.D.Denot). st.id < c.args.id) (sym c.self.view_is)

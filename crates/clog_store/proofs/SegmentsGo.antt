@@ -1,0 +1,253 @@
+-- A log stands while segments go that it has left.
+use Rattle.std.proofs.Common.{
+  ◌≡◌,
+  ◌≢◌,
+  ℕ,
+  ◌+◌,
+  ◌<◌,
+  ◌^◌,
+  List,
+  [],
+  ◌∷◌,
+  ◌++◌,
+  take,
+  drop,
+  Option,
+  Some,
+  None,
+  Contains,
+  IfSome,
+  refl,
+  sym,
+  ap,
+  subst,
+  ◌∙◌,
+  inl,
+  inr,
+  arith,
+}
+use Rattle.std.specs.Prelude.{◌⊎◌, Bool, true, false, Result, Err, option_map}
+use Rattle.std.proofs.lemmas.List.{take-append-drop}
+use Rattle.std.proofs.lemmas.List.Elements.{Contains-append_left, Contains-append_right}
+use Rattle.std.specs.FinMap as finmap
+use Rattle.clog_spec.specs.Names.{archive_name_of, segment_name_of}
+use Rattle.clog_base.proofs.Members.{further, here}
+use Rattle.clog_disk.specs.declared.disk.DiskFault.{DiskFault}
+use Rattle.clog_disk.specs.declared.disk.DiskFault.TheVariants.{Failed, OutOfMemory}
+use Rattle.clog_disk.specs.Files.{Files, SameTold}
+use Rattle.clog_disk.specs.Images.{IsImage, IsLater, LeavesOnly}
+use Rattle.clog_disk.proofs.Named.{gone_there}
+use Rattle.clog_scan.specs.Cut.{Section}
+use Rattle.clog_crash.specs.Flush.{IsCovered}
+use Rattle.clog_crash.specs.Log.{IsResting, Write}
+use Rattle.clog_crash.specs.Readings.{Reading}
+use Rattle.clog_crash.proofs.changes.Names.{one_id}
+use Rattle.clog_store.specs.Discards.{
+  MayAllGo,
+  all_gone_at,
+  first_gone_at,
+  gone_at,
+  named_at,
+  next_named_at,
+}
+use Rattle.clog_store.specs.Life.{HasBegun, HasEnd, Lives, LivesOn, MayGoOnIn, State}
+use Rattle.clog_store.specs.Resting.{RestsAt, ShowsBehind}
+use Rattle.clog_store.proofs.AllGo.{all_rest, not_archived}
+use Rattle.clog_store.proofs.Anywhere.{covered_wherever}
+use Rattle.clog_store.proofs.OtherFiles.{
+  IsAside,
+  StandElse,
+  broken,
+  end_aside,
+  none_there,
+  passed,
+  put_else,
+}
+
+-- want of memory is no failure
+pub not_failed : {A : Type 0} (result : Result A DiskFault) {fault : DiskFault}
+    → result ≡ Err fault → fault ≡ OutOfMemory → result ≢ Err Failed
+not_failed result is memory failed =
+    let refused : result ≡ Err OutOfMemory = is ∙ ap Err memory in
+    let no : Err OutOfMemory ≡ Err Failed = sym refused ∙ failed in
+    cc
+
+-- ---- the files
+
+-- the name is that of one of these segments, or its archive name
+abbrev pub IsOfGone : ℕ → List ℕ → List ℕ → Type 0
+IsOfGone base ordinals name =
+    (o : ℕ) × Contains ordinals o
+    × ((name ≡ segment_name_of 6 (base + o)) ⊎ (name ≡ archive_name_of (base + o)))
+
+named_else : (is_named : Bool) (id : ℕ) (f : Files) (name : List ℕ)
+    → (name ≡ archive_name_of id → ⊥)
+    → finmap.get (named_at is_named id f) name ≡ finmap.get f name
+named_else false id f name apart = refl
+named_else true id f name apart =
+    put_else f (archive_name_of id) (finmap.get f (segment_name_of 6 id)) name apart
+
+gone_else : (archives : Bool) (id : ℕ) (f : Files) (name : List ℕ)
+    → (name ≡ segment_name_of 6 id → ⊥) → (name ≡ archive_name_of id → ⊥)
+    → finmap.get (gone_at archives id f) name ≡ finmap.get f name
+gone_else archives id f name own archive =
+    gone_there (named_at archives id f) (segment_name_of 6 id) name own
+    ∙ named_else archives id f name archive
+
+all_gone_else : (archives : Bool) (base : ℕ) (ordinals : List ℕ) (f : Files)
+    → StandElse (IsOfGone base ordinals) f (all_gone_at archives base ordinals f)
+all_gone_else archives base [] f name apart = refl
+all_gone_else archives base (o ∷ ordinals) f name apart =
+    all_gone_else archives base ordinals (gone_at archives (base + o) f) name
+    (λ of. apart (of.0, further o ordinals of.0 of.1, of.2))
+    ∙ gone_else archives (base + o) f name (λ is. apart (o, here o ordinals, inl is))
+    (λ is. apart (o, here o ordinals, inr is))
+
+next_else : (is_named : Bool) (base : ℕ) (ordinals : List ℕ) (f : Files)
+    → StandElse (IsOfGone base ordinals) f (next_named_at is_named base ordinals f)
+next_else is_named base [] f name apart = refl
+next_else is_named base (o ∷ ordinals) f name apart =
+    named_else is_named (base + o) f name (λ is. apart (o, here o ordinals, inr is))
+
+first_gone_else : (archives : Bool) (base : ℕ) (ordinals : List ℕ) (n : ℕ) (is_named : Bool)
+    (f : Files)
+    → StandElse (IsOfGone base ordinals) f (first_gone_at archives base ordinals n is_named f)
+first_gone_else archives base ordinals n is_named f name apart =
+    let front = take n ordinals in
+    let back = drop n ordinals in
+    let within : (o : ℕ) → Contains (front ++ back) o → Contains ordinals o =
+    λ o listed. subst (λ (l : List ℕ). Contains l o) (take-append-drop n ordinals) listed in
+    next_else is_named base back (all_gone_at archives base front f) name
+    (λ of. apart (of.0, within of.0 (Contains-append_right front back of.0 of.1), of.2))
+    ∙ all_gone_else archives base front f name
+    (λ of. apart (of.0, within of.0 (Contains-append_left front back of.0 of.1), of.2))
+
+-- older segments stand aside
+gone_aside : (base : ℕ) (ordinals : List ℕ) (id : ℕ) → id < 2 ^ 63
+    → ((o : ℕ) → Contains ordinals o → base + o < id) → IsAside (IsOfGone base ordinals) id
+gone_aside base ordinals id fits low other from limit of =
+    let under = low of.0 of.1 in
+    elim of.2 [
+      | inl own ↦
+          let one = one_id (base + of.0) other (omega (arith, under, fits)) limit own in
+          omega (arith, one, under, from)
+      | inr archive ↦
+          not_archived (base + of.0) other (omega (arith, under, fits)) limit archive
+    ]
+
+abbrev CoveredHere : Option Files → ℕ → List Section → ℕ → List ℕ → Type 0
+CoveredHere told id old base ordinals = IfSome told (λ f. (o : ℕ) → Contains ordinals o
+    → IsCovered f id old (base + o))
+
+end_by : (told now : Option Files) (change : Files → Files) (id size : ℕ)
+    (sections old : List Section) (base : ℕ) (ordinals : List ℕ)
+    → CoveredHere told id old base ordinals
+    → ((f : Files) → StandElse (IsOfGone base ordinals) f (change f))
+    → now ≡ option_map change told → HasEnd told id size sections → HasEnd now id size sections
+end_by None now change id size sections old base ordinals covered else same end =
+    subst (λ (o : Option Files). HasEnd o id size sections) (sym same) end
+end_by (Some f) now change id size sections old base ordinals covered else same end =
+    subst (λ (o : Option Files). HasEnd o id size sections) (sym same)
+    (end_aside (IsOfGone base ordinals) f (change f) id size sections (else f)
+    (gone_aside base ordinals id end.stored.fits (λ o listed. (covered o listed).below)) end)
+
+-- segments that may go may do so wherever the log may go on
+go_wherever : (told : Option Files) (leaves : List ℕ → Option (List ℕ) → Type 0) (r : Reading)
+    (past : List Write) (id size : ℕ) (sections : List Section) (synced : ℕ)
+    (kept : List Section) (base : ℕ) (ordinals : List ℕ) → HasEnd told id size sections
+    → CoveredHere told id (take synced sections) base ordinals → (at : ℕ)
+    → MayGoOnIn id sections at → RestsAt told leaves r past at (take synced sections) kept
+    → MayAllGo told leaves r past at (take synced sections) kept base ordinals
+go_wherever None leaves r past id size sections synced kept base ordinals end covered at on rests =
+    absurd rests
+go_wherever (Some f) leaves r past id size sections synced kept base ordinals end covered at on
+    rests = (
+      rests,
+      λ o listed. covered_wherever f id sections synced at on
+          (λ none. (none_there f id size sections at on end none).0)
+          (λ none. (none_there f id size sections at on end none).1) (base + o) (covered o listed),
+    )
+
+-- ---- the log
+
+module _ {D : Type 0} (files : D → Option Files) (moment : D → ℕ)
+    (since : D → ℕ → Files → Type 0) (leaves : D → List ℕ → Option (List ℕ) → Type 0)
+    (read_at : D → ℕ → Option Reading) (lasted_at : D → ℕ → Type 0) (s : State D) (size : ℕ)
+    (new : D) (begun : HasBegun files moment since leaves read_at lasted_at s size)
+    (runs : s.is_stopped ≡ false)
+    (counts : (image : Files) → IsImage (leaves new) image → since new (moment s.disk) image)
+    (told : SameTold (files s.disk) (files new))
+    (later : IsLater moment read_at lasted_at s.disk new) (archives : Bool) (base : ℕ)
+    (ordinals : List ℕ)
+    (covered : CoveredHere (files s.disk) s.id (take s.synced s.sections) base ordinals)
+    (any_moment : (r : Reading) (past : List Write) (last : ℕ) (old kept : List Section)
+    → MayAllGo (files s.disk) (leaves s.disk) r past last old kept base ordinals
+    → LeavesOnly moment since s.disk new (ShowsBehind r past last old kept)) where
+  abbrev old : List Section
+  old = take s.synced s.sections
+
+  abbrev kept : List Section
+  kept = drop s.synced s.sections
+
+  abbrev Living : State D → Type 0
+  Living t = Lives files moment since leaves read_at lasted_at t
+
+  abbrev LivingOn : State D → Type 0
+  LivingOn t = LivesOn files moment since leaves read_at lasted_at s t
+
+  abbrev Begun : State D → Type 0
+  Begun t = HasBegun files moment since leaves read_at lasted_at t size
+
+  may : (at : ℕ) → MayGoOnIn s.id s.sections at → (r : Reading)
+      → RestsAt (files s.disk) (leaves s.disk) r s.past at old kept
+      → MayAllGo (files s.disk) (leaves s.disk) r s.past at old kept base ordinals
+  may at on r rests =
+      go_wherever (files s.disk) (leaves s.disk) r s.past s.id size s.sections s.synced kept base
+      ordinals (begun.ends runs) covered at on rests
+
+  any : (at : ℕ) → MayGoOnIn s.id s.sections at → (r : Reading)
+      → RestsAt (files s.disk) (leaves s.disk) r s.past at old kept
+      → LeavesOnly moment since s.disk new (ShowsBehind r s.past at old kept)
+  any at on r rests = any_moment r s.past at old kept (may at on r rests)
+
+  -- some have gone, and others may still go
+  gone_by : (change : Files → Files) (others : List ℕ)
+      → ((f : Files) → StandElse (IsOfGone base ordinals) f (change f))
+      → ((r : Reading) (past : List Write) (last : ℕ) (old kept : List Section)
+      → MayAllGo (files s.disk) (leaves s.disk) r past last old kept base ordinals
+      → MayAllGo (files new) (leaves new) r past last old kept base others)
+      → files new ≡ option_map change (files s.disk)
+      → Begun (record s { disk = new }) × (Living s → LivingOn (record s { disk = new }))
+  gone_by change others else goes same =
+      passed files moment since leaves read_at lasted_at s size new begun runs counts told later
+      any (λ at on r rests. all_rest (files new) (leaves new) r s.past at old kept base others
+      (goes r s.past at old kept (may at on r rests)))
+      (end_by (files s.disk) (files new) change s.id size s.sections old base ordinals covered
+      else same)
+
+  pub all_went : ((r : Reading) (past : List Write) (last : ℕ) (old kept : List Section)
+      → MayAllGo (files s.disk) (leaves s.disk) r past last old kept base ordinals
+      → MayAllGo (files new) (leaves new) r past last old kept base [])
+      → files new ≡ option_map (all_gone_at archives base ordinals) (files s.disk)
+      → Begun (record s { disk = new }) × (Living s → LivingOn (record s { disk = new }))
+  all_went goes same =
+      gone_by (all_gone_at archives base ordinals) [] (all_gone_else archives base ordinals) goes
+      same
+
+  pub first_went : (n : ℕ) (is_named : Bool)
+      → ((r : Reading) (past : List Write) (last : ℕ) (old kept : List Section)
+      → MayAllGo (files s.disk) (leaves s.disk) r past last old kept base ordinals
+      → MayAllGo (files new) (leaves new) r past last old kept base (drop n ordinals))
+      → files new
+      ≡ option_map (first_gone_at archives base ordinals n is_named) (files s.disk)
+      → Begun (record s { disk = new }) × (Living s → LivingOn (record s { disk = new }))
+  first_went n is_named goes same =
+      gone_by (first_gone_at archives base ordinals n is_named) (drop n ordinals)
+      (first_gone_else archives base ordinals n is_named) goes same
+
+  -- the disk has failed
+  pub some_went : Begun (record s { disk = new; is_stopped = true })
+      × (Living s → LivingOn (record s { disk = new; is_stopped = true }))
+  some_went =
+      broken files moment since leaves read_at lasted_at s size new begun runs counts told later
+      any

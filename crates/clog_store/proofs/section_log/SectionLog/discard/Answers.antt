@@ -1,0 +1,178 @@
+use Rattle.std.proofs.Common.{ℕ, ◌+◌, Err, refl, sym, subst, take}
+use Rattle.std.specs.Prelude.{Contains, IfSome}
+use Rattle.clog_crash.specs.Flush.{IsCovered}
+use Rattle.clog_store.specs.Life.{Lives, State}
+use Rattle.clog_store.proofs.Lived.{lives_from, lives_still}
+use Rattle.clog_store.proofs.SegmentsGo.{all_went, first_went, not_failed, some_went}
+use Rattle.clog_store.proofs.section_log.SectionLog.discard.Goals as goal
+
+-- ---- what it keeps
+
+pub invariant_of-self : goal.invariant_of-self
+invariant_of-self g c =
+    let D = g.D.Disk in
+    let s = c.self.inside in
+    let before : State g.row.D.Denot = record {
+      disk = s.disk;
+      opened = s.opened;
+      past = s.past.items;
+      id = s.id;
+      sections = s.sections.items;
+      synced = s.synced;
+      is_stopped = s.is_stopped;
+    } in
+    let new = c.drop_segments.new.disk in
+    let is = c.drop_segments.ensures in
+    let xs = c.args.ordinals.now in
+    let covered = subst (λ (st : State g.row.D.Denot). IfSome (D.files st.disk) (λ f. (o : ℕ)
+    → Contains xs o → IsCovered f st.id (take st.synced st.sections) (c.args.base + o)))
+    (sym c.self.view_is) c.requires.covered in
+    (all_went D.files D.moment D.since D.leaves D.read_at D.lasted_at before s.size new
+    c.self.invariant c.if-self.false
+    (λ image left. g.met.D.Disk.counts_now new (D.moment s.disk) image is.later.no_sooner left)
+    is.told is.later c.args.archives c.args.base xs covered is.any_moment
+    c.in-Ok.ensures.goes c.in-Ok.ensures.files).0
+
+pub invariant_of-self-in-OutOfMemory : goal.invariant_of-self-in-OutOfMemory
+invariant_of-self-in-OutOfMemory g c =
+    let D = g.D.Disk in
+    let s = c.self.inside in
+    let before : State g.row.D.Denot = record {
+      disk = s.disk;
+      opened = s.opened;
+      past = s.past.items;
+      id = s.id;
+      sections = s.sections.items;
+      synced = s.synced;
+      is_stopped = s.is_stopped;
+    } in
+    let new = c.drop_segments.new.disk in
+    let is = c.drop_segments.ensures in
+    let xs = c.args.ordinals.now in
+    let covered = subst (λ (st : State g.row.D.Denot). IfSome (D.files st.disk) (λ f. (o : ℕ)
+    → Contains xs o → IsCovered f st.id (take st.synced st.sections) (c.args.base + o)))
+    (sym c.self.view_is) c.requires.covered in
+    (first_went D.files D.moment D.since D.leaves D.read_at D.lasted_at before s.size new
+    c.self.invariant c.if-self.false
+    (λ image left. g.met.D.Disk.counts_now new (D.moment s.disk) image is.later.no_sooner left)
+    is.told is.later c.args.archives c.args.base xs covered is.any_moment
+    c.in-Err.halt.dropped c.in-Err.halt.is_named
+    (c.in-Err.ensures.refused (not_failed (Err c.in-Err.halt.fault) refl c.in-OutOfMemory.is))
+    (c.in-Err.ensures.left (not_failed (Err c.in-Err.halt.fault) refl c.in-OutOfMemory.is))).0
+
+pub invariant_of-self-in-Failed : goal.invariant_of-self-in-Failed
+invariant_of-self-in-Failed g c =
+    let D = g.D.Disk in
+    let s = c.self.inside in
+    let before : State g.row.D.Denot = record {
+      disk = s.disk;
+      opened = s.opened;
+      past = s.past.items;
+      id = s.id;
+      sections = s.sections.items;
+      synced = s.synced;
+      is_stopped = s.is_stopped;
+    } in
+    let new = c.drop_segments.new.disk in
+    let is = c.drop_segments.ensures in
+    let xs = c.args.ordinals.now in
+    let covered = subst (λ (st : State g.row.D.Denot). IfSome (D.files st.disk) (λ f. (o : ℕ)
+    → Contains xs o → IsCovered f st.id (take st.synced st.sections) (c.args.base + o)))
+    (sym c.self.view_is) c.requires.covered in
+    (some_went D.files D.moment D.since D.leaves D.read_at D.lasted_at before s.size new
+    c.self.invariant c.if-self.false
+    (λ image left. g.met.D.Disk.counts_now new (D.moment s.disk) image is.later.no_sooner left)
+    is.told is.later c.args.archives c.args.base xs covered is.any_moment).0
+
+-- ---- that it lives on
+
+pub returns-then-self-clause-lives : goal.returns-then-self-clause-lives
+returns-then-self-clause-lives g c lives =
+    let D = g.D.Disk in
+    lives_still D.files D.moment D.since D.leaves D.read_at D.lasted_at c.args.self.now
+    (g.met.D.Disk.only_now c.args.self.now.disk) lives
+
+pub returns-in-Ok-clause-lives : goal.returns-in-Ok-clause-lives
+returns-in-Ok-clause-lives g c lives =
+    let D = g.D.Disk in
+    let s = c.self.inside in
+    let before : State g.row.D.Denot = record {
+      disk = s.disk;
+      opened = s.opened;
+      past = s.past.items;
+      id = s.id;
+      sections = s.sections.items;
+      synced = s.synced;
+      is_stopped = s.is_stopped;
+    } in
+    let new = c.drop_segments.new.disk in
+    let is = c.drop_segments.ensures in
+    let xs = c.args.ordinals.now in
+    let covered = subst (λ (st : State g.row.D.Denot). IfSome (D.files st.disk) (λ f. (o : ℕ)
+    → Contains xs o → IsCovered f st.id (take st.synced st.sections) (c.args.base + o)))
+    (sym c.self.view_is) c.requires.covered in
+    lives_from D.files D.moment D.since D.leaves D.read_at D.lasted_at c.self.view_is
+    ((all_went D.files D.moment D.since D.leaves D.read_at D.lasted_at before s.size new
+    c.self.invariant c.if-self.false
+    (λ image left. g.met.D.Disk.counts_now new (D.moment s.disk) image is.later.no_sooner left)
+    is.told is.later c.args.archives c.args.base xs covered is.any_moment
+    c.in-Ok.ensures.goes c.in-Ok.ensures.files).1
+    (subst (Lives D.files D.moment D.since D.leaves D.read_at D.lasted_at) (sym c.self.view_is)
+    lives))
+
+pub returns-in-OutOfMemory-clause-lives : goal.returns-in-OutOfMemory-clause-lives
+returns-in-OutOfMemory-clause-lives g c lives =
+    let D = g.D.Disk in
+    let s = c.self.inside in
+    let before : State g.row.D.Denot = record {
+      disk = s.disk;
+      opened = s.opened;
+      past = s.past.items;
+      id = s.id;
+      sections = s.sections.items;
+      synced = s.synced;
+      is_stopped = s.is_stopped;
+    } in
+    let new = c.drop_segments.new.disk in
+    let is = c.drop_segments.ensures in
+    let xs = c.args.ordinals.now in
+    let covered = subst (λ (st : State g.row.D.Denot). IfSome (D.files st.disk) (λ f. (o : ℕ)
+    → Contains xs o → IsCovered f st.id (take st.synced st.sections) (c.args.base + o)))
+    (sym c.self.view_is) c.requires.covered in
+    lives_from D.files D.moment D.since D.leaves D.read_at D.lasted_at c.self.view_is
+    ((first_went D.files D.moment D.since D.leaves D.read_at D.lasted_at before s.size new
+    c.self.invariant c.if-self.false
+    (λ image left. g.met.D.Disk.counts_now new (D.moment s.disk) image is.later.no_sooner left)
+    is.told is.later c.args.archives c.args.base xs covered is.any_moment
+    c.in-Err.halt.dropped c.in-Err.halt.is_named
+    (c.in-Err.ensures.refused (not_failed (Err c.in-Err.halt.fault) refl c.in-OutOfMemory.is))
+    (c.in-Err.ensures.left (not_failed (Err c.in-Err.halt.fault) refl c.in-OutOfMemory.is))).1
+    (subst (Lives D.files D.moment D.since D.leaves D.read_at D.lasted_at) (sym c.self.view_is)
+    lives))
+
+pub returns-in-Failed-clause-lives : goal.returns-in-Failed-clause-lives
+returns-in-Failed-clause-lives g c lives =
+    let D = g.D.Disk in
+    let s = c.self.inside in
+    let before : State g.row.D.Denot = record {
+      disk = s.disk;
+      opened = s.opened;
+      past = s.past.items;
+      id = s.id;
+      sections = s.sections.items;
+      synced = s.synced;
+      is_stopped = s.is_stopped;
+    } in
+    let new = c.drop_segments.new.disk in
+    let is = c.drop_segments.ensures in
+    let xs = c.args.ordinals.now in
+    let covered = subst (λ (st : State g.row.D.Denot). IfSome (D.files st.disk) (λ f. (o : ℕ)
+    → Contains xs o → IsCovered f st.id (take st.synced st.sections) (c.args.base + o)))
+    (sym c.self.view_is) c.requires.covered in
+    lives_from D.files D.moment D.since D.leaves D.read_at D.lasted_at c.self.view_is
+    ((some_went D.files D.moment D.since D.leaves D.read_at D.lasted_at before s.size new
+    c.self.invariant c.if-self.false
+    (λ image left. g.met.D.Disk.counts_now new (D.moment s.disk) image is.later.no_sooner left)
+    is.told is.later c.args.archives c.args.base xs covered is.any_moment).1
+    (subst (Lives D.files D.moment D.since D.leaves D.read_at D.lasted_at) (sym c.self.view_is)
+    lives))

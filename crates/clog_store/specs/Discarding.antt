@@ -1,0 +1,76 @@
+-- What becomes of a log and of its disk where segments are to go.
+use Rattle.std.specs.Prelude.{
+  ◌≡◌,
+  ℕ,
+  ◌<◌,
+  ◌≤◌,
+  Bool,
+  true,
+  false,
+  List,
+  ◌++◌,
+  take,
+  drop,
+  Option,
+  option_map,
+  Result,
+  Ok,
+  Err,
+  ⊤,
+}
+use Rattle.clog_disk.specs.declared.change.Change.{Change}
+use Rattle.clog_disk.specs.Files.{Files}
+use Rattle.clog_store.specs.declared.section_log.dropping.DropFault.{DropFault}
+use Rattle.clog_store.specs.declared.written.StoreFault.{StoreFault}
+use Rattle.clog_store.specs.declared.written.StoreFault.TheVariants.{Stopped, OutOfMemory}
+use Rattle.clog_store.specs.Discards.{
+  AreBehind,
+  MayBeNamed,
+  all_go_by,
+  all_gone_at,
+  first_gone_at,
+  next_by,
+}
+
+-- what a log answered where segments were to go
+abbrev pub fault_of : {T : Type 0} → Result T DropFault → Result T StoreFault
+fault_of (Ok x) = Ok x
+fault_of (Err why) = Err why.fault
+
+-- A log that had stopped has dropped none.
+abbrev pub HasDroppedNone : {T : Type 0} → Result T DropFault → Type 0
+HasDroppedNone (Ok x) = ⊤
+HasDroppedNone (Err why) = (why.dropped ≡ 0) × (why.is_named ≡ false)
+
+-- Of so many segments the first have gone; the next one may have its archive name, where segments
+-- get one, and there is one then.
+abbrev pub IsWithin : {T : Type 0} → Bool → ℕ → Result T DropFault → Type 0
+IsWithin archives count (Ok x) = ⊤
+IsWithin archives count (Err why) =
+    (why.dropped ≤ count) × MayBeNamed archives why.is_named
+    × (why.is_named ≡ true → why.dropped < count)
+
+-- what the files are where a call was refused for memory
+abbrev pub IsLeftBy : Bool → ℕ → List ℕ → ℕ → Bool → StoreFault → Option Files → Option Files
+    → Type 0
+IsLeftBy archives base ordinals dropped is_named OutOfMemory told now =
+    now ≡ option_map (first_gone_at archives base ordinals dropped is_named) told
+IsLeftBy archives base ordinals dropped is_named Stopped told now = ⊤
+
+-- All have gone; where memory was refused the first of them, and the next one has perhaps its
+-- archive name. No other file has changed.
+abbrev pub DropsFiles : {T : Type 0} → Bool → ℕ → List ℕ → Option Files → Option Files
+    → Result T DropFault → Type 0
+DropsFiles archives base ordinals told now (Ok x) =
+    now ≡ option_map (all_gone_at archives base ordinals) told
+DropsFiles archives base ordinals told now (Err why) =
+    IsLeftBy archives base ordinals why.dropped why.is_named why.fault told now
+
+-- The same by the disk's changes, whatever was answered.
+abbrev pub DropsBy : {T : Type 0} → Bool → ℕ → List ℕ → Option (List Change)
+    → Option (List Change) → Result T DropFault → Type 0
+DropsBy archives base ordinals before now (Ok x) =
+    AreBehind (all_go_by archives base ordinals) before now
+DropsBy archives base ordinals before now (Err why) =
+    AreBehind (all_go_by archives base (take why.dropped ordinals)
+    ++ next_by why.is_named base (drop why.dropped ordinals)) before now

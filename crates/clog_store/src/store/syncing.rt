@@ -1,0 +1,47 @@
+//! A store makes entries last: a sync of a path.
+ghost use Rattle.std.specs.Prelude.{◌≡◌, OnErr, OnOk};
+ghost use Rattle.clog_disk.specs.Images.{IsLater};
+ghost use Rattle.path_core.specs.Keeper.{HasKeeperCause, MaySync, SyncRefused, Syncs};
+ghost use Rattle.clog_store.specs.Life.{Lives, LivesOn};
+ghost use Rattle.clog_store.specs.StoreState.{holding_of};
+
+use crate::store::{Store, told};
+use clog_base::Key;
+use clog_disk::Disk;
+use path_core::{EntryNote, KeeperFault};
+
+impl<D: Disk> Store<D> {
+    /// Makes all pending entries up to a key lasting, and keeps the others pending: what a keeper's
+    /// `sync` does. Where the store's log lived, it lives on, and what lasted before is in each
+    /// image of a crash meanwhile.
+    pub fn make_lasting(
+        &mut self,
+        pending: &mut Vec<EntryNote>,
+        upto: Key,
+    ) -> Result<(), KeeperFault>
+        requires { MaySync
+            (holding_of D.files D.changes D.moment D.faults D.row.coded.code self.old) upto.0
+            pending.old.items }
+        ensures syncs { OnOk result (Syncs
+            (holding_of D.files D.changes D.moment D.faults D.row.coded.code self.old)
+            (holding_of D.files D.changes D.moment D.faults D.row.coded.code self.new) upto.0
+            pending.old.items pending.new.items) }
+        ensures refused { OnErr result (SyncRefused
+            (holding_of D.files D.changes D.moment D.faults D.row.coded.code self.old)
+            (holding_of D.files D.changes D.moment D.faults D.row.coded.code self.new) upto.0
+            pending.old.items pending.new.items) }
+        ensures cause { HasKeeperCause
+            (holding_of D.files D.changes D.moment D.faults D.row.coded.code self.old)
+            (holding_of D.files D.changes D.moment D.faults D.row.coded.code self.new) result }
+        ensures first { self.new.first ≡ self.old.first }
+        ensures later { IsLater D.moment D.read_at D.lasted_at self.old.notes.log.disk
+            self.new.notes.log.disk }
+        ensures lives { Lives D.files D.moment D.since D.leaves D.read_at D.lasted_at
+            self.old.notes.log
+            → LivesOn D.files D.moment D.since D.leaves D.read_at D.lasted_at self.old.notes.log
+            self.new.notes.log }
+    {
+        let outcome = self.notes.sync(pending, upto);
+        told(self.at_open, self.notes.fault_count(), outcome)
+    }
+}
