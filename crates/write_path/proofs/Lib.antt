@@ -12,3 +12,4 @@ pub mod Accounted
 pub mod Outcomes
 pub mod SyncLists
 pub mod OnlyFirst
+pub mod Acknowledged

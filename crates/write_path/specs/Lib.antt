@@ -7,3 +7,4 @@ pub mod Closed
 pub mod Turned
 pub mod Syncs
 pub mod Commits
+pub mod Receipts

@@ -12,8 +12,8 @@ const FIRST_OFFSET: u64 = 28;
 const SEGMENT_KEYS: u64 = 0x8000_0000;
 
 /// The log key behind an entry of some bytes that is claimed at a key: in its segment, or in the
-/// next one where it does not fit (`CommitLogSegment.allocate`). There is none where the path has no
-/// such segment.
+/// next one where it does not fit (`CommitLogSegment.allocate`). There is none where the path has
+/// no such segment.
 pub(crate) fn log_after(size: &PathSize, key: u64, bytes: u64) -> Option<u64>
     requires sizes { (size.now.capacity ≤ 33554432) × (size.now.ordinals ≤ 2147483647) }
     requires bytes { (30 ≤ bytes) × (bytes ≤ size.now.capacity / 2) }

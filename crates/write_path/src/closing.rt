@@ -78,7 +78,11 @@ impl<K: Keeper + Drop> WritePath<K, Global> {
         ensures beside { StaysBeside (K.holds self.table.table.shared.key.first.value)
             (K.holds result.0) }
     {
-        let WritePath { table, opener } = self;
+        let WritePath {
+            table,
+            opener,
+            mode: _,
+        } = self;
         let (keeper, end) = match opener {
             Some(opener) => table.finish_unused(opener.take()),
             None => close_by_all(table, seats),

@@ -16,7 +16,8 @@ ghost use Rattle.write_path.specs.Tries.{Stays};
 
 use crate::deposited::Deposited;
 use crate::seats::WritePath;
-use clog_base::Table;
+use clog_base::{Table, Writer};
+use clog_io::{Gate, Point};
 use path_core::Keeper;
 use path_rule::PathSeat;
 use std::alloc::Allocator;
@@ -101,8 +102,9 @@ impl<K: Keeper, A: Allocator> WritePath<K, A> {
         PathSeat { member }
     }
 
-    // At one table: a write of the table is accepted by the oldest live memtable.
-    fn place_at(&self, seat: Deposited<K>, table: u8) -> Deposited<K>
+    // At one table: a write of the table is accepted by the oldest live memtable, as the gate is
+    // told.
+    fn place_at<G: Gate>(&self, seat: Deposited<K>, table: u8, gate: &G) -> Deposited<K>
         requires table { IsOf self.now.table.table.shared.table_id self.now.table.size seat.member }
         requires there { table < self.now.table.size.tables }
         ensures same { IsSameWrite self.now.table.table.shared.table_id self.now.table.size
@@ -115,13 +117,15 @@ impl<K: Keeper, A: Allocator> WritePath<K, A> {
         let mut seat = seat;
         let first = self.oldest(&mut seat, Table(table));
         match self.accept(&mut seat, Table(table), first) {
-            Accept::Yes => seat,
+            Accept::Yes => gate.reached(Writer(seat.member.number()), Point::Accepted),
         }
+        seat
     }
 
     /// Applies a write at each of its tables in ascending order, and ends it: the seat is idle
-    /// again, and its list has the write.
-    pub fn end_write(&self, seat: Deposited<K>) -> PathSeat<K>
+    /// again, and its list has the write. The gate is told each time that a memtable has accepted
+    /// it.
+    pub fn end_write<G: Gate>(&self, seat: Deposited<K>, gate: &G) -> PathSeat<K>
         requires table { IsOf self.now.table.table.shared.table_id self.now.table.size seat.member }
         requires group { seat.writing < 65536 }
         ensures same { Stays self.now.table.table.shared.table_id self.now.table.size seat.member
@@ -130,7 +134,7 @@ impl<K: Keeper, A: Allocator> WritePath<K, A> {
     {
         let mut seat = seat;
         for table in 0..self.table.size().tables as u8 {
-            seat = self.place_at(seat, table);
+            seat = self.place_at(seat, table, gate);
         }
         self.finish(seat)
     }

@@ -1,12 +1,14 @@
 //! The write path as its callers use it: a path is opened, its seats are handed out, and it is
-//! closed; what a write takes before it commits, so that a commit takes no memory; and the single
-//! tries of a write.
+//! closed; what a write takes before it commits, so that a periodic commit takes no memory; commits
+//! and syncs; and the single tries of a write.
 #![tactic(auto)]
 
+mod acknowledging;
 mod allocating;
 mod claimed;
 mod claiming;
 mod closing;
+mod commit;
 mod committing;
 mod deposited;
 mod depositing;
@@ -25,6 +27,7 @@ mod writing;
 pub use claimed::Claimed;
 pub use claiming::TryClaim;
 pub use closing::Outcome;
+pub use commit::{Commit, Receipt, SyncFault};
 pub use deposited::Deposited;
 pub use fault::PrepareFault;
 pub use finishing::Accept;
@@ -35,5 +38,7 @@ pub use seats::{Appending, WritePath};
 pub use turning::TurnSeat;
 pub use writing::Written;
 
+#[cfg(test)]
+mod commit_tests;
 #[cfg(test)]
 mod tests;

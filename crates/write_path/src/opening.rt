@@ -4,6 +4,7 @@ ghost use Rattle.std.specs.Prelude.{
   ◌+◌,
   ◌<◌,
   ◌≤◌,
+  ◌^◌,
   [],
   None,
   vec_capacity,
@@ -28,6 +29,7 @@ use clog_base::{OutOfMemory, Sizes};
 use path_core::Keeper;
 use path_rule::{Opener, PathSeat, PathSize, PathTable};
 use std::alloc::{Allocator, Global};
+use sync_core::SyncCore;
 
 // What a path is told of its sizes and of its keeper's.
 fn size_of(sizes: Sizes, base: u64, at_open: u64) -> PathSize
@@ -44,17 +46,21 @@ fn size_of(sizes: Sizes, base: u64, at_open: u64) -> PathSize
 }
 
 impl<K: Keeper + Drop> WritePath<K, Global> {
-    /// Opens a path over a keeper of this base and these sizes that was just opened. Its seats are
-    /// not handed out yet. Where memory is refused the keeper comes back, and shows what it did.
+    /// Opens a path over a keeper of this base and these sizes that was just opened. Its commits
+    /// are made lasting in this mode, and its seats are not handed out yet. Where memory is refused
+    /// the keeper comes back, and shows what it did.
     pub fn open(
         alloc: Global,
         keeper: K,
         sizes: Sizes,
         base: u64,
+        mode: SyncCore,
     ) -> Result<WritePath<K, Global>, (K, OutOfMemory)>
-        requires { IsFresh base sizes (K.holds keeper) }
+        requires fresh { IsFresh base sizes (K.holds keeper) }
+        requires base { base < 2 ^ 62 }
         ensures opened { IfOk result (λ p. (IsSome p.opener)
-            × (p.table.size ≡ size_of sizes base (K.holds keeper).at_open)) }
+            × (p.table.size ≡ size_of sizes base (K.holds keeper).at_open)
+            × (p.mode ≡ mode)) }
         ensures first { IfOk result (λ p. p.table.table.shared.key.first.value ≡ keeper) }
         ensures back { IfErr result (λ r. ShowsAsBefore (K.holds keeper) (K.holds r.0)) }
     {
@@ -67,6 +73,7 @@ impl<K: Keeper + Drop> WritePath<K, Global> {
             Ok(opener) => Ok(WritePath {
                 table,
                 opener: Some(opener),
+                mode,
             }),
             Err(opener) => {
                 let (keeper, _log) = table.finish_unused(opener);
@@ -123,7 +130,7 @@ impl<K: Keeper, A: Allocator> WritePath<K, A> {
         requires { IsSome self.old.opener }
         ensures seats { IfOk result (λ v. AreNew self.old.table.table.shared.table_id
             self.old.table.size self.old.table.size.seats v.items) }
-        ensures path { self.new.table ≡ self.old.table }
+        ensures path { (self.new.table ≡ self.old.table) × (self.new.mode ≡ self.old.mode) }
         ensures made { OnOk result (self.new.opener ≡ None) }
         ensures refused { OnErr result (self.new ≡ self.old) }
     {

@@ -4,6 +4,7 @@ ghost use Rattle.clog_base.specs.declared.sizes.Sizes.{Sizes};
 ghost use Rattle.clog_mutation.specs.declared.mutation.Mutation.{Mutation};
 ghost use Rattle.clog_mutation.specs.Limits.{IsWithinLimits};
 ghost use Rattle.path_core.specs.declared.note.EntryNote.{EntryNote};
+ghost use Rattle.write_path.specs.Receipts.{IsLineOf};
 ghost use Rattle.write_path.specs.Writes.{Prepares, TablesBelow, IsPrepared, IsClaimed};
 
 use crate::entry::{entry_size, note_of};
@@ -66,6 +67,16 @@ impl Prepared {
     {
         match self.notes.front() {
             Some(note) => note.tables,
+            None => 0,
+        }
+    }
+
+    // The line that it was made for.
+    pub(crate) fn line(&self) -> u32
+        ensures { IsLineOf self.now result }
+    {
+        match self.notes.front() {
+            Some(note) => note.line,
             None => 0,
         }
     }

@@ -33,18 +33,21 @@ use crate::resting::Resting;
 use path_core::Keeper;
 use path_rule::{Begun, Member, Opener, PathSeat, PathTable, Seen};
 use std::alloc::Allocator;
+use sync_core::SyncCore;
 
 /// The highest bit of a count, which marks an expired group.
 const EXPIRED: u64 = 0x8000_0000_0000_0000;
 
-/// A path that threads share: its words and boxes, and the seat that hands out the others until
-/// they are handed out, which rests there.
+/// A path that threads share: its words and boxes, the seat that hands out the others until they
+/// are handed out, which rests there, and how its commits are made lasting.
 #[derive(Drop)]
 pub struct WritePath<K: Keeper, A: Allocator> {
     pub(crate) table: PathTable<K, A>,
     pub(crate) opener: Option<Resting<Opener<K>>>,
+    pub(crate) mode: SyncCore,
     pub ghost rests: { (o : Resting (Opener K)) → opener ≡ Some o
         → IsUnused table.table.shared.table_id table.size o.table.shared.key.value },
+    pub ghost based: { table.size.base < 2 ^ 62 },
 }
 
 /// A seat in a group of the write order and in one of the append order, before its claim. It has

@@ -7,10 +7,12 @@ ghost use Rattle.write_path.specs.Writes.{IsPrepared};
 
 use crate::{PathSeat, Prepared, TryClaim, WritePath};
 use clog_base::{Key, OutOfMemory, Sizes, Table};
+use clog_io::OpenGate;
 use clog_mutation::{Mutation, decode};
 use path_core::{Keeper, ListKeeper, Turn};
 use std::alloc::Global;
 use std::test::*;
+use sync_core::SyncCore;
 
 /// Key `ab`, one update: table 0, column `cd`, timestamp 5, a deletion: 20 bytes.
 const DELETION: &[u8] = b"\x00\x02ab\x00\x01\x00\x00\x02cd\x00\x00\x00\x00\x00\x00\x00\x05\x00";
@@ -66,7 +68,7 @@ fn write_once<K: Keeper>(
         tables: deposited.tables,
         first,
     };
-    (path.end_write(deposited), Some(written))
+    (path.end_write(deposited, &OpenGate::new()), Some(written))
 }
 
 #[test]
@@ -78,7 +80,7 @@ fn one_write_is_the_whole_history(rt: HostRuntime) -> Result<(), Fail> {
     let prepared = Prepared::make(alloc, sizes, 1, decode(alloc, DELETION)?)?;
     assert_eq!(&rt; prepared.size(), 32);
     let keeper = ListKeeper::new(alloc, sizes, 7);
-    let Ok(mut path) = WritePath::open(alloc, keeper, sizes, 7) else {
+    let Ok(mut path) = WritePath::open(alloc, keeper, sizes, 7, SyncCore::batch()) else {
         return Err(Fail::new("no path"));
     };
     crosses(&path);
@@ -108,7 +110,7 @@ fn one_seat_has_the_turn(rt: HostRuntime) -> Result<(), Fail> {
         return Err(Fail::new("no sizes"));
     };
     let keeper = ListKeeper::new(alloc, sizes, 7);
-    let Ok(mut path) = WritePath::open(alloc, keeper, sizes, 7) else {
+    let Ok(mut path) = WritePath::open(alloc, keeper, sizes, 7, SyncCore::batch()) else {
         return Err(Fail::new("no path"));
     };
     let mut seats = path.seats(alloc)?;

@@ -10,7 +10,8 @@ ghost use Rattle.write_path.specs.Writes.{IsPrepared, entry_size};
 use crate::claimed::Claimed;
 use crate::prepared::Prepared;
 use crate::seats::{Appending, WritePath};
-use clog_base::Key;
+use clog_base::{Key, Writer};
+use clog_io::{Gate, Point};
 use path_core::Keeper;
 use path_rule::PathSeat;
 use std::alloc::Allocator;
@@ -33,7 +34,7 @@ pub enum Written {
 
 impl<K: Keeper, A: Allocator> WritePath<K, A> {
     // A claimed write is logged, applied and ended: the seat's list is the old one and this write.
-    fn log_claimed(&self, seat: Claimed<K>, prepared: Prepared) -> PathSeat<K>
+    fn log_claimed<G: Gate>(&self, seat: Claimed<K>, prepared: Prepared, gate: &G) -> PathSeat<K>
         requires table { IsOf self.now.table.table.shared.table_id self.now.table.size seat.member }
         requires groups { (seat.group < 65536) × (seat.writing < 65536) }
         requires prepared { (sizes : Sizes) × (line : ℕ) × (m : Mutation)
@@ -44,8 +45,12 @@ impl<K: Keeper, A: Allocator> WritePath<K, A> {
         ensures logged { IsLogged (view_of seat.member).trail seat.member.number seat.start.0
             seat.end.0 prepared (view_of result.member).trail }
     {
+        let writer = Writer(seat.member.number());
         let (deposited, _rest) = self.deposit(seat, prepared);
-        self.end_write(deposited)
+        gate.reached(writer, Point::Deposited);
+        let seat = self.end_write(deposited, gate);
+        gate.reached(writer, Point::Finished);
+        seat
     }
 
     // Leaves both orders, before a claim.
@@ -63,12 +68,14 @@ impl<K: Keeper, A: Allocator> WritePath<K, A> {
     }
 
     /// Writes what was prepared, unless the log has no room for it. It takes no memory, and after
-    /// its claim it is always applied. No clause says that it returns.
-    pub fn write<R: Wait>(
+    /// its claim it is always applied. The gate is told how far it is, up to `Finished`. No clause
+    /// says that it returns.
+    pub fn write<R: Wait, G: Gate>(
         &self,
         rt: &R,
         seat: PathSeat<K>,
         prepared: Prepared,
+        gate: &G,
     ) -> (PathSeat<K>, Written)
         requires table { IsOf self.now.table.table.shared.table_id self.now.table.size seat.member }
         requires prepared { (sizes : Sizes) × (line : ℕ) × (m : Mutation)
@@ -79,14 +86,17 @@ impl<K: Keeper, A: Allocator> WritePath<K, A> {
         ensures written { IsWritten self.now.table.size seat.member.number
             (view_of seat.member).trail prepared result.1 (view_of result.0.member) }
     {
+        let writer = Writer(seat.member.number());
+        gate.reached(writer, Point::Started);
         let begun = self.start(rt, seat);
         let appending = self.append(rt, begun);
         match self.claim(rt, appending, prepared.size()) {
             Ok(claimed) => {
+                gate.reached(writer, Point::Claimed);
                 let start = claimed.start;
                 let end = claimed.end;
                 (
-                    self.log_claimed(claimed, prepared),
+                    self.log_claimed(claimed, prepared, gate),
                     Written::Logged { start, end },
                 )
             }

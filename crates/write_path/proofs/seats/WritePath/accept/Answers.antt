@@ -1,4 +1,19 @@
-use Rattle.std.proofs.Common.{ℕ, ◌<◌, ◌^◌, [], ◌∷◌, false, Option, Some, is_some, refl, sym, ap, ◌∙◌, subst}
+use Rattle.std.proofs.Common.{
+  ℕ,
+  ◌<◌,
+  ◌^◌,
+  [],
+  ◌∷◌,
+  false,
+  Option,
+  Some,
+  is_some,
+  refl,
+  sym,
+  ap,
+  ◌∙◌,
+  subst,
+}
 use Rattle.path_core.specs.declared.event.Event.TheVariants.{Look}
 use Rattle.path_core.specs.declared.event.Place.TheVariants.{Bound}
 use Rattle.path_core.specs.Parts.{HoldsNoTurn}

@@ -6,7 +6,7 @@ returns-clause-logged g c = let L = c.deposit-deposited.ensures.listed in record
   tables = c.deposit-deposited.result.0.tables;
   listed = record {
     note = L.note;
-    list = c.end_write.ensures.ends.list ∙ L.list;
+    list = c.end_write-seat.ensures.ends.list ∙ L.list;
     writer = L.writer;
     starts = L.starts;
     ends = L.ends;

@@ -1,0 +1,88 @@
+-- From a write that was logged, over the sync behind it, to what its commit answers.
+use Rattle.std.proofs.Common.{◌≡◌, ℕ, ◌≤◌, List, refl, sym, ◌∙◌, subst, arith}
+use Rattle.std.specs.List.{Contains}
+use Rattle.clog_base.specs.Positions.{position_of}
+use Rattle.path_core.specs.declared.note.EntryNote.{EntryNote}
+use Rattle.path_rule.specs.declared.answer.SyncAnswer.TheVariants.{Done}
+use Rattle.path_rule.specs.declared.view.OwnStep.{OwnStep}
+use Rattle.path_rule.specs.declared.view.PathSize.{PathSize}
+use Rattle.path_rule.specs.declared.view.View.{View}
+use Rattle.sync_core.specs.declared.SyncCore.TheVariants.{Batch}
+use Rattle.write_path.specs.declared.commit.Commit.{Commit}
+use Rattle.write_path.specs.declared.commit.Commit.TheVariants.{Logged, Durable, Unsynced, Spent}
+use Rattle.write_path.specs.declared.commit.Receipt.{Receipt}
+use Rattle.write_path.specs.declared.commit.SyncFault.TheVariants.{Stopped, OutOfMemory, Rows}
+use Rattle.write_path.specs.declared.prepared.Prepared.{Prepared}
+use Rattle.write_path.specs.Commits.{IsLogged}
+use Rattle.write_path.specs.Ends.{writes_of, IsListed}
+use Rattle.write_path.specs.Receipts.{Acknowledges, HasReceipt, IsCommitted, IsLineOf}
+use Rattle.write_path.specs.Syncs.{CoversList}
+
+-- A synced key that covers a list covers the list's newest write.
+pub reached : (w s start end tables : ℕ) (before : List OwnStep) (p : Prepared) (v : View)
+    → IsListed before v.trail w start end tables p → CoversList (Done s) v → end ≤ s
+reached w s start end tables before p v L covers =
+    subst (λ k. k ≤ s) L.ends
+    (covers L.note (subst (λ (l : List EntryNote). Contains l L.note) (sym L.list)
+    (0, omega arith, refl)))
+
+-- A receipt stands where the list does.
+pub stands : (base w : ℕ) (before : List OwnStep) (p : Prepared) (r x : Receipt) (v after : View)
+    → HasReceipt base w before p r v.trail → writes_of after.trail ≡ writes_of v.trail → x ≡ r
+    → HasReceipt base w before p x after.trail
+stands base w before p r x v after H same is =
+    let L = H.logged.listed in
+    subst (λ (y : Receipt). HasReceipt base w before p y after.trail) (sym is) (record {
+      start = H.start;
+      end = H.end;
+      logged = record {
+        tables = H.logged.tables;
+        listed = record {
+          note = L.note;
+          list = same ∙ L.list;
+          writer = L.writer;
+          starts = L.starts;
+          ends = L.ends;
+          tables_are = L.tables_are;
+          of = L.of;
+        };
+      };
+      position = H.position;
+      line = H.line;
+    })
+
+pub acknowledged : (size : PathSize) (w : ℕ) (before : List OwnStep) (p : Prepared) (r : Receipt)
+    (c : Commit) (v after : View) → HasReceipt size.base w before p r v.trail
+    → Acknowledges w size.at_open v r c after → IsCommitted Batch size w before p c after
+acknowledged size w before p r (Logged x) v after H A = absurd A
+acknowledged size w before p r (Durable x) v after H A = let S = A.1.1 in
+    let K = stands size.base w before p r x v after H S.list A.0 in (
+      K,
+      record {
+        synced = A.1.0;
+        found = S.answers.is.0;
+        reached = reached w A.1.0 K.start K.end K.logged.tables before p after K.logged.listed
+            S.covers;
+        covers = S.covers;
+      },
+    )
+acknowledged size w before p r (Unsynced x (Stopped at_open now)) v after H A =
+    let I = A.1.answers.is in
+    (stands size.base w before p r x v after H A.1.list A.0, (I.0, I.1, I.2))
+acknowledged size w before p r (Unsynced x OutOfMemory) v after H A =
+    (stands size.base w before p r x v after H A.1.list A.0, tt)
+acknowledged size w before p r (Unsynced x (Rows n)) v after H A =
+    (stands size.base w before p r x v after H A.1.list A.0, A.1.answers.is.0)
+acknowledged size w before p r (Spent back key) v after H A = absurd A
+
+-- A write that was logged has the receipt of its line and its end.
+pub receipted : (base w line start end : ℕ) (before after : List OwnStep) (p : Prepared)
+    (r : Receipt) → IsLineOf p line → IsLogged before w start end p after → r.line ≡ line
+    → r.position ≡ position_of base end → HasReceipt base w before p r after
+receipted base w line start end before after p r of L same at = record {
+  start = start;
+  end = end;
+  logged = L;
+  position = at;
+  line = λ sizes l m P. same ∙ of sizes l m P;
+}

@@ -1,0 +1,207 @@
+//! Commits of one seat, by worked values: ranges, receipts, markers between them, a log that is
+//! spent, and what a gate is told.
+ghost use Rattle.std.specs.Prelude.{◌≡◌, ℕ, IfOk};
+ghost use Rattle.clog_mutation.specs.declared.mutation.Mutation.{Mutation};
+ghost use Rattle.path_rule.specs.Members.{IsOf};
+ghost use Rattle.write_path.specs.Writes.{IsPrepared};
+
+use crate::{Commit, PathSeat, Prepared, Receipt, SyncAnswer, WritePath};
+use clog_base::{Key, Position, Sizes, Writer};
+use clog_io::{Gate, OpenGate, Point};
+use clog_mutation::decode;
+use path_core::ListKeeper;
+use std::alloc::Global;
+use std::sync::Wait;
+use std::sync::atomic::{AtomicU64, Ordering};
+use std::test::*;
+use sync_core::SyncCore;
+
+/// Key `ab`, one update: table 0, column `cd`, timestamp 5, a deletion: 20 bytes, an entry of 32.
+const DELETION: &[u8] = b"\x00\x02ab\x00\x01\x00\x00\x02cd\x00\x00\x00\x00\x00\x00\x00\x05\x00";
+
+/// The same for tables 0 and 3: 33 bytes.
+const TWO_TABLES: &[u8] = b"\x00\x02ab\x00\x02\x00\x00\x02cd\x00\x00\x00\x00\x00\x00\x00\x05\x00\
+\x03\x00\x02cd\x00\x00\x00\x00\x00\x00\x00\x05\x00";
+
+/// Before a value of 2014 bytes: key `k`, table 0, column `c`, timestamp 1.
+const BEFORE_VALUE: &[u8] =
+    b"\x00\x01k\x00\x01\x00\x00\x01c\x00\x00\x00\x00\x00\x00\x00\x01\x01\x00\x00\x07\xde";
+
+// A write of a payload.
+fn prepared(alloc: Global, sizes: Sizes, line: u32, payload: &[u8]) -> Result<Prepared, Fail>
+    requires { sizes.tables ≡ 16 }
+    ensures { IfOk result (λ p. (m : Mutation) × IsPrepared sizes line m p) }
+{
+    Ok(Prepared::make(alloc, sizes, line, decode(alloc, payload)?)?)
+}
+
+// 2014 letters behind the front of their payload: an entry of 2048 bytes.
+fn long_payload(alloc: Global) -> Result<Vec<u8>, Fail> {
+    let mut payload = Vec::new(alloc);
+    payload.extend_from_slice(BEFORE_VALUE)?;
+    for _ in 0..2014 {
+        payload.push(b'x')?;
+    }
+    Ok(payload)
+}
+
+// A path with one seat, over a keeper in memory whose first segment is 7, of so many segments.
+fn one_seat(
+    alloc: Global,
+    sizes: Sizes,
+    mode: SyncCore,
+) -> Result<(WritePath<ListKeeper, Global>, PathSeat<ListKeeper>), Fail>
+    ensures of { IfOk result (λ r. IsOf r.0.table.table.shared.table_id r.0.table.size r.1.member) }
+    ensures sized { IfOk result (λ r. (sizes.tables ≡ r.0.table.size.tables)
+        × (sizes.capacity ≡ r.0.table.size.capacity)) }
+{
+    let keeper = ListKeeper::new(alloc, sizes, 7);
+    let Ok(mut path) = WritePath::open(alloc, keeper, sizes, 7, mode) else {
+        return Err(Fail::new("no path"));
+    };
+    let Some(seat) = path.seats(alloc)?.pop() else {
+        return Err(Fail::new("no seat"));
+    };
+    Ok((path, seat))
+}
+
+// Two commits of the same payload, and a sync.
+fn commit_twice<R: Wait, G: Gate>(
+    rt: &R,
+    alloc: Global,
+    segments: u32,
+    mode: SyncCore,
+    payload: &[u8],
+    gate: &G,
+) -> Result<(Commit, Commit, SyncAnswer), Fail> {
+    let Some(sizes) = Sizes::make(16, 1, 4096, segments) else {
+        return Err(Fail::new("no sizes"));
+    };
+    let one = prepared(alloc, sizes, 1, payload)?;
+    let two = prepared(alloc, sizes, 2, payload)?;
+    let (path, seat) = one_seat(alloc, sizes, mode)?;
+    let (seat, first) = path.commit(rt, alloc, seat, one, gate);
+    let (seat, second) = path.commit(rt, alloc, seat, two, gate);
+    let (_seat, answer) = path.sync(rt, alloc, seat);
+    Ok((first, second, answer))
+}
+
+fn receipt(line: u32, offset: u32) -> Option<Receipt> {
+    Some(Receipt {
+        line,
+        position: Position { id: 7, offset },
+    })
+}
+
+fn logged(commit: &Commit) -> Option<Receipt> {
+    match commit {
+        Commit::Logged(receipt) => Some(*receipt),
+        _ => None,
+    }
+}
+
+fn durable(commit: &Commit) -> Option<Receipt> {
+    match commit {
+        Commit::Durable(receipt) => Some(*receipt),
+        _ => None,
+    }
+}
+
+// The bytes of the write that came back, and the key that was found.
+fn spent(commit: &Commit) -> Option<(u32, Key)> {
+    match commit {
+        Commit::Spent(back, key) => Some((back.size(), *key)),
+        _ => None,
+    }
+}
+
+fn done(answer: SyncAnswer) -> Option<u64> {
+    match answer {
+        SyncAnswer::Done(key) => Some(key),
+        _ => None,
+    }
+}
+
+#[test]
+fn periodic_commits_follow_one_another(rt: HostRuntime) -> Result<(), Fail> {
+    let mode = SyncCore::periodic(10);
+    let (first, second, answer) = commit_twice(
+        &rt,
+        rt.alloc(),
+        4,
+        mode,
+        DELETION,
+        &OpenGate::new(),
+    )?;
+    assert_eq!(&rt; logged(&first), receipt(1, 60));
+    assert_eq!(&rt; logged(&second), receipt(2, 92));
+    assert_eq!(&rt; done(answer), Some(92));
+    Ok(())
+}
+
+#[test]
+fn a_marker_stands_between_batch_commits(rt: HostRuntime) -> Result<(), Fail> {
+    let mode = SyncCore::batch();
+    let (first, second, answer) = commit_twice(
+        &rt,
+        rt.alloc(),
+        4,
+        mode,
+        DELETION,
+        &OpenGate::new(),
+    )?;
+    assert_eq!(&rt; durable(&first), receipt(1, 60));
+    assert_eq!(&rt; durable(&second), receipt(2, 100));
+    assert_eq!(&rt; done(answer), Some(100));
+    Ok(())
+}
+
+#[test]
+fn a_spent_log_hands_the_write_back(rt: HostRuntime) -> Result<(), Fail> {
+    let payload = long_payload(rt.alloc())?;
+    let mode = SyncCore::periodic(10);
+    let (first, second, answer) = commit_twice(
+        &rt,
+        rt.alloc(),
+        1,
+        mode,
+        payload.as_slice(),
+        &OpenGate::new(),
+    )?;
+    assert_eq!(&rt; logged(&first), receipt(1, 2076));
+    assert_eq!(&rt; spent(&second), Some((2048, Key(2076))));
+    assert_eq!(&rt; done(answer), Some(2076));
+    Ok(())
+}
+
+/// A gate that notes the points one behind another, each as a digit from 1 on.
+#[derive(Drop)]
+struct Noted {
+    digits: AtomicU64,
+}
+
+impl Gate for Noted {
+    fn reached(&self, _writer: Writer, point: Point) {
+        let digit = match point {
+            Point::Started => 1,
+            Point::Claimed => 2,
+            Point::Deposited => 3,
+            Point::Accepted => 4,
+            Point::Finished => 5,
+            Point::Returned => 6,
+        };
+        let before = self.digits.load(Ordering::SeqCst);
+        let now = before.wrapping_mul(10).wrapping_add(digit);
+        self.digits.store(now, Ordering::SeqCst);
+    }
+}
+
+#[test]
+fn a_gate_is_told_each_point_in_order(rt: HostRuntime) -> Result<(), Fail> {
+    let gate = Noted {
+        digits: AtomicU64::new(0),
+    };
+    let _answers = commit_twice(&rt, rt.alloc(), 4, SyncCore::batch(), TWO_TABLES, &gate)?;
+    assert_eq!(&rt; gate.digits.load(Ordering::SeqCst), 12_344_561_234_456);
+    Ok(())
+}
