@@ -1,0 +1,96 @@
+//! All seats of a path are lent to threads, one to each, and come back.
+ghost use Rattle.std.specs.Prelude.{◌≡◌, IfOk};
+ghost use Rattle.path_threads.specs.Crews.{AreCrew, IsSeated, IsSizedAs, number_of};
+ghost use Rattle.write_path.specs.Closed.{AreOf};
+ghost use Rattle.write_path.specs.Opened.{AreNew, numbers_of};
+ghost use Rattle.std.specs.List.{range_with_len};
+
+use crate::recorder::Recorder;
+use crate::worker::{Answered, Plan, Worker, commit_lines};
+use clog_base::{OutOfMemory, Sizes};
+use std::alloc::Global;
+use std::sync::Wait;
+use std::thread;
+use std::thread::Threads;
+use write_path::{PathSeat, WritePath};
+
+/// A writer for each seat.
+pub fn crew_of(
+    path: &WritePath<Recorder, Global>,
+    alloc: Global,
+    seats: Vec<PathSeat<Recorder>>,
+) -> Result<Vec<Worker>, OutOfMemory>
+    requires { AreNew path.now.table.table.shared.table_id path.now.table.size
+        path.now.table.size.seats seats.items }
+    ensures { IfOk result (λ v. AreCrew path.now.table.table.shared.table_id
+        path.now.table.size v.items) }
+{
+    let mut workers = Vec::new(alloc);
+    for seat in seats {
+        workers.push(Worker {
+            seat: Some(seat),
+            answered: Answered::new(),
+        })?;
+    }
+    Ok(workers)
+}
+
+/// Each writer commits its lines in a thread of its own, where one can be started.
+pub fn commit_all<R: Threads + Wait + Sync>(
+    rt: &R,
+    alloc: Global,
+    path: &WritePath<Recorder, Global>,
+    sizes: Sizes,
+    plan: Plan,
+    workers: &mut [Worker],
+)
+    requires tables { sizes.tables ≡ 16 }
+    requires sized { IsSizedAs path.now.table.size sizes }
+    requires crew { AreCrew path.now.table.table.shared.table_id path.now.table.size workers.old }
+    ensures { AreCrew path.now.table.table.shared.table_id path.now.table.size workers.new }
+{
+    thread::for_each_mut(
+        rt,
+        workers,
+        64,
+        &|place, worker: &mut Worker|
+            requires { (sizes.tables ≡ 16) × IsSizedAs path.now.table.size sizes
+                × IsSeated path.now.table.table.shared.table_id path.now.table.size worker.old }
+            ensures { IsSeated path.entry.now.table.table.shared.table_id
+                path.entry.now.table.size worker.new
+                × (number_of worker.new ≡ number_of worker.old) }
+        {
+            commit_lines(
+                rt,
+                alloc,
+                path,
+                sizes,
+                plan,
+                u32::try_from(place).unwrap_or(u32::MAX),
+                worker,
+            )
+        },
+    );
+}
+
+/// The seats that the writers had.
+pub fn seats_of(
+    path: &WritePath<Recorder, Global>,
+    alloc: Global,
+    workers: Vec<Worker>,
+) -> Result<Vec<PathSeat<Recorder>>, OutOfMemory>
+    requires { AreCrew path.now.table.table.shared.table_id path.now.table.size workers.items }
+    ensures of { IfOk result (λ v. AreOf path.now.table.table.shared.table_id
+        path.now.table.size v.items) }
+    ensures numbers { IfOk result (λ v. numbers_of v.items
+        ≡ range_with_len 0 path.now.table.size.seats) }
+{
+    let mut seats = Vec::new(alloc);
+    for worker in workers {
+        let Worker { seat, answered: _ } = worker;
+        if let Some(seat) = seat {
+            seats.push(seat)?;
+        }
+    }
+    Ok(seats)
+}

@@ -1,0 +1,57 @@
+//! What a run of writers left is counted: each line once, each writer's in order, and no range
+//! within another.
+use crate::recorder::Row;
+use anyhow::{Result, bail};
+
+// Each line from 1 on stands there once.
+fn check_lines(rows: &mut Vec<Row>, count: u32) -> Result<()> {
+    rows.sort_unstable_by_key(|row| row.line);
+    let mut next = 0u32;
+    for row in rows.as_slice() {
+        next = next.saturating_add(1);
+        if row.line != next {
+            bail!("line {} where {} is due", row.line, next);
+        }
+    }
+    if next != count {
+        bail!("{next} lines of {count}");
+    }
+    Ok(())
+}
+
+// In the order of the log no range begins before the one before it has ended.
+fn check_ranges(rows: &mut Vec<Row>) -> Result<()> {
+    rows.sort_unstable_by_key(|row| row.start.0);
+    let mut end = 0;
+    for row in rows.as_slice() {
+        if row.start.0 < end || row.end <= row.start {
+            bail!("line {} overlaps", row.line);
+        }
+        end = row.end.0;
+    }
+    Ok(())
+}
+
+// The lines of a writer, in the order of the log, are its own, and rise.
+fn check_writer(rows: &[Row], writer: u8, writers: u8) -> Result<()> {
+    let mut last = 0;
+    for row in rows.iter().filter(|row| row.writer == writer) {
+        if row.line <= last
+            || row.line.wrapping_sub(1) % u32::from(writers).max(1) != u32::from(writer)
+        {
+            bail!("line {} of writer {writer} behind {last}", row.line);
+        }
+        last = row.line;
+    }
+    Ok(())
+}
+
+/// Checks what was made lasting by so many writers of so many lines each.
+pub fn check(rows: &mut Vec<Row>, writers: u8, lines: u32) -> Result<()> {
+    check_lines(rows, u32::from(writers).wrapping_mul(lines))?;
+    check_ranges(rows)?;
+    for writer in 0..writers {
+        check_writer(rows.as_slice(), writer, writers)?;
+    }
+    Ok(())
+}
