@@ -143,7 +143,7 @@ pub record IsStoreLeft (archive : Bool) (opened after : Files) (later : List Cha
 -- ---- a run
 
 -- A run whose path is closed, over the folder of before: an opening, and then what path and store
--- tell. In batch mode each commit waited for its sync.
+-- tell. In batch mode no section holds two entries of one writer.
 pub record ClosedRun (options : ApplyOptions) (before after : Files) (changes : List Change)
     (mutations : List Mutation) : Type 0 where
   pub base : ℕ

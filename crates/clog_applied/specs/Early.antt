@@ -1,5 +1,5 @@
--- The order of a run's changes: no table file before the log behind it, and no segment gone before
--- table files hold it.
+-- The order of a run's changes: none of its table files before the log behind it, and none of its
+-- segments gone before table files hold it.
 use Rattle.std.specs.Prelude.{
   ◌≡◌,
   ℕ,

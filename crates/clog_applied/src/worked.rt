@@ -42,10 +42,10 @@ pub fn a_drained_line_is_in_a_table_file()
         report_of_one }
 {}
 
-/// Whatever is left and printed, no run has a segment go before the table file comes that holds it,
-/// or a table file come before the log behind it. A line that is logged twice, or not at all, is
-/// refused, and so are two entries of one writer in one section in batch mode, and table files with
-/// a gap between them.
+/// Worked lists that no run leaves. Whatever else is left and printed: a segment that goes before the
+/// table file comes that holds it, and a table file that comes before the log behind it. Besides, a
+/// line that is logged twice, or not at all, two entries of one writer in one section in batch mode,
+/// and table files with a gap between them.
 pub fn wrong_runs_are_refused()
     ensures gone_early { (after : Files) (report : List ℕ) → ¬ IsAppliedRun
         (asked (Periodic 10000) true) no_files after gone_early one_line report }

@@ -84,15 +84,16 @@ fn run_writers<R: Threads + Wait + Clock + Sync>(
 
 // Runs 2, 8 and 64 writers in both modes, checks what each run left, and prints its counts.
 fn count_runs<R: Threads + Wait + Clock + Print + Sync>(rt: &R, alloc: Global) -> Result<()> {
-    let plan = Plan {
-        capacity: 4096,
-        lines: 100,
-        sync_after: 16,
-    };
-    for (name, mode) in [
-        ("periodic", SyncCore::periodic(10)),
-        ("batch", SyncCore::batch()),
+    // In batch mode nothing is synced but by the commits.
+    for (name, mode, sync_after) in [
+        ("periodic", SyncCore::periodic(10), 16),
+        ("batch", SyncCore::batch(), 0),
     ] {
+        let plan = Plan {
+            capacity: 4096,
+            lines: 100,
+            sync_after,
+        };
         for writers in [2u8, 8, 64] {
             let mut ran = run_writers(rt, alloc, writers, mode, plan)?;
             check(&mut ran.rows, writers, plan.lines)?;

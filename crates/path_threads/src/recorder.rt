@@ -60,8 +60,13 @@ impl Keeper for Recorder {
     ghost holds = { λ r. ⟦<ListKeeper as Keeper>⟧.holds r.keeper };
 
     fn sync(&mut self, pending: &mut Vec<EntryNote>, upto: Key) -> Result<(), KeeperFault> {
+        let before = self.rows.len();
         record(&mut self.rows, pending.as_slice(), upto);
-        self.keeper.sync(pending, upto)
+        let synced = self.keeper.sync(pending, upto);
+        if synced.is_err() {
+            self.rows.truncate(before);
+        }
+        synced
     }
 
     fn publish(
