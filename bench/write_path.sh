@@ -1,6 +1,6 @@
 #!/bin/sh
 # Time of a periodic commit beside that of preparing its write, over a keeper in memory: one writer
-# with 10,000 to 1,000,000 lines, and four writers. Needs a built program (`rt run` in
+# with 10,000 to 1,000,000 lines, then 2, 4 and 64 writers. Needs a built program (`rt run` in
 # crates/path_threads). No part of the gate.
 set -e
 top=$(cd "$(dirname "$0")/.." && pwd)
@@ -11,5 +11,9 @@ for lines in 10000 100000 1000000; do
     echo "one writer, $lines lines"
     "$program" 1 $lines
 done
-echo "four writers, 100000 lines each"
-"$program" 4 100000
+for writers in 2 4; do
+    echo "$writers writers, 100000 lines each"
+    "$program" $writers 100000
+done
+echo "64 writers, 10000 lines each"
+"$program" 64 10000
