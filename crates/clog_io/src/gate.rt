@@ -6,7 +6,7 @@ use clog_base::Writer;
 /// How far a writer is in the write that it has in hand.
 #[derive(Clone, Copy, Debug, PartialEq, Eq)]
 pub enum Point {
-    /// The write has begun: it counts in the write order.
+    /// The writer has taken the write up; it has no place in the write order yet.
     Started,
     /// Its range of the log is claimed.
     Claimed,
