@@ -1,5 +1,5 @@
 -- What of the requests the program does today.
-use Rattle.std.specs.Prelude.{◌≡◌, ℕ, List, Bool, false, None}
+use Rattle.std.specs.Prelude.{◌≡◌, ℕ, List, false, None}
 use Rattle.clog_spec.specs.Names.{IsSegmentName}
 use Rattle.sync_core.specs.declared.SyncCore.TheVariants.{Periodic}
 use Rattle.clog_words.specs.Asks.{Asks}
@@ -9,22 +9,24 @@ use Rattle.clog_words.specs.declared.request.ApplyOptions.{ApplyOptions}
 use Rattle.clog_words.specs.declared.request.Request.{Request}
 use Rattle.clog_words.specs.declared.request.Request.TheVariants.{Apply, Replay, Scan}
 
--- each option of `apply` but `--receipts` and `--dump` as it is where it is not given
-abbrev pub plain_options : Bool → Bool → ApplyOptions
-plain_options receipts dump = record {
+-- each option of `apply` but `--segment-kib`, `--receipts` and `--dump` as it is where it is not
+-- given
+abbrev pub plain_options : ApplyOptions → ApplyOptions
+plain_options asked = record {
   writers = 1;
   sync = Periodic 10000;
-  segment_kib = 32768;
+  segment_kib = asked.segment_kib;
   flush_at = None;
   archive = false;
-  receipts = receipts;
+  receipts = asked.receipts;
   drain = false;
-  dump = dump;
+  dump = asked.dump;
 }
 
 -- The request asks for this, which the program does.
 abbrev pub IsBuilt : Request → Built → Type 0
-IsBuilt request (built.Apply receipts dump) = request ≡ Apply (plain_options receipts dump)
+IsBuilt request (built.Apply options) =
+    (request ≡ Apply options) × (options ≡ plain_options options)
 IsBuilt request (built.Replay options) = request ≡ Replay options
 IsBuilt request (built.Scan id) =
     (name : List ℕ) × (request ≡ Scan name) × IsSegmentName name 6 id

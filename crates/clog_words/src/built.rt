@@ -11,17 +11,12 @@ use clog_base::Name;
 use std::alloc::Global;
 use sync_core::SyncCore;
 
-/// One thing that the program does. Of `apply` it does what all options but `--receipts` and
-/// `--dump` ask for by their defaults, given or not; of `drill` nothing.
+/// One thing that the program does. Of `apply` it does what all options but `--segment-kib`,
+/// `--receipts` and `--dump` ask for by their defaults, given or not; of `drill` nothing.
 #[derive(Clone, Copy, Debug, PartialEq, Eq)]
 pub enum Built {
     /// `apply`: apply the mutation file on standard input.
-    Apply {
-        /// `--receipts`: the position of each line's entry is printed.
-        receipts: bool,
-        /// `--dump`: the cells are printed at the end.
-        dump: bool,
-    },
+    Apply(ApplyOptions),
     /// `replay`: tell what the folder holds.
     Replay(ReplayOptions),
     /// `scan`: tell what a segment of version 6 holds.
@@ -31,19 +26,19 @@ pub enum Built {
     },
 }
 
-// What `apply` asks for where no option but these two says another than its default.
-fn plain(receipts: bool, dump: bool) -> ApplyOptions
-    ensures { result ≡ plain_options receipts dump }
+// These options, with the defaults of those of which the program does nothing else.
+fn plain(asked: ApplyOptions) -> ApplyOptions
+    ensures { result ≡ plain_options asked }
 {
     ApplyOptions {
         writers: 1,
         sync: SyncCore::Periodic { period_ms: 10_000 },
-        segment_kib: 32_768,
+        segment_kib: asked.segment_kib,
         flush_at: None,
         archive: false,
-        receipts,
+        receipts: asked.receipts,
         drain: false,
-        dump,
+        dump: asked.dump,
     }
 }
 
@@ -51,9 +46,8 @@ fn apply(options: ApplyOptions) -> Option<Built>
     ensures { MatchOption result ((built : AskedBuilt) → ¬ IsBuilt (Request.Apply options) built)
         (IsBuilt (Request.Apply options)) }
 {
-    let (receipts, dump) = (options.receipts, options.dump);
-    if options == plain(receipts, dump) {
-        Some(Built::Apply { receipts, dump })
+    if options == plain(options) {
+        Some(Built::Apply(options))
     } else {
         None
     }

@@ -189,18 +189,19 @@ fn what_is_built_is_asked_for(rt: HostRuntime) -> Result<(), Fail> {
     };
     for (line, built) in [
         (
-            "apply --receipts",
-            Built::Apply {
+            "apply --receipts --segment-kib 4",
+            Built::Apply(ApplyOptions {
                 receipts: true,
-                dump: false,
-            },
+                segment_kib: 4,
+                ..PLAIN
+            }),
         ),
         (
             "apply --dump --writers 1",
-            Built::Apply {
-                receipts: false,
+            Built::Apply(ApplyOptions {
                 dump: true,
-            },
+                ..PLAIN
+            }),
         ),
         ("scan CommitLog-6-1000.log", Built::Scan { id: 1000 }),
         (
@@ -219,9 +220,9 @@ fn what_is_planned_alone_is_refused(rt: HostRuntime) -> Result<(), Fail> {
     for line in [
         "apply --writers 2",
         "apply --sync batch",
-        "apply --segment-kib 4",
+        "apply --segment-kib 4 --drain",
         "apply --flush-at 1",
-        "apply --drain",
+        "apply --archive",
         "drill 7 2",
         "help",
     ] {
