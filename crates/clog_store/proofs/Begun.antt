@@ -7,7 +7,11 @@ use Rattle.std.proofs.Common.{
   [],
   ◌∷◌,
   ◌++◌,
+  append_assoc,
+  take-append-drop,
+  drop,
   length,
+  take,
   Option,
   false,
   IfSome,
@@ -27,7 +31,7 @@ use Rattle.clog_scan.specs.Cut.{Section}
 use Rattle.clog_crash.specs.Log.{Write}
 use Rattle.clog_crash.specs.Readings.{Reading}
 use Rattle.clog_crash.specs.Rest.{IsAtRest}
-use Rattle.clog_crash.specs.Sections.{IsStored, segment_bytes}
+use Rattle.clog_crash.specs.Sections.{Brings, IsStored, segment_bytes}
 use Rattle.clog_store.specs.Life.{HasBegun, HasEnd, Lives, LivesOn, MayGoOnIn, State}
 use Rattle.clog_store.specs.Several.{written}
 use Rattle.clog_store.proofs.Ends.{end_rolled}
@@ -35,6 +39,14 @@ use Rattle.clog_store.proofs.Lived.{lives_at_first, rest_at_first}
 
 none_below : (w : Write) (P : Type 0) → Contains [] w → P
 none_below w P among = absurd (omega (arith, among.1))
+
+-- sections stand with one more that was brought
+pub stored_more : (id k : ℕ) (ss : List Section) (x : Section) (bytes : List ℕ)
+    → Brings id (take k ss) (drop k ss) (x ∷ []) bytes → IsStored id (ss ++ x ∷ [])
+stored_more id k ss x bytes b =
+    subst (IsStored id)
+    (sym (append_assoc (take k ss) (drop k ss) (x ∷ []))
+    ∙ ap (λ (l : List Section). l ++ x ∷ []) (take-append-drop k ss)) b.stored
 
 module _ {D : Type 0} (files : D → Option Files) (moment : D → ℕ)
     (since : D → ℕ → Files → Type 0) (leaves : D → List ℕ → Option (List ℕ) → Type 0)
@@ -63,6 +75,7 @@ module _ {D : Type 0} (files : D → Option Files) (moment : D → ℕ)
         (subst (λ (l : List Write). Contains l w) none_past among);
     past_stored = λ w among. none_below w (IsStored w.id w.sections)
         (subst (λ (l : List Write). Contains l w) none_past among);
+    stored = subst (IsStored id) (sym none) end.stored;
     ends = λ runs. subst (λ (l : List Section). HasEnd (files disk) id 0 l) (sym none) end;
     lives = λ lasted.
         subst (λ (ps : List Write). Living ps sections) (sym none_past)
@@ -88,6 +101,7 @@ module _ {D : Type 0} (files : D → Option Files) (moment : D → ℕ)
       (stopped : Bool) (size_now : ℕ)
       → HasBegun files moment since leaves read_at lasted_at s size
       → IsLater moment read_at lasted_at s.disk disk → synced ≤ length sections
+      → IsStored s.id sections
       → (stopped ≡ false → HasEnd (files disk) s.id size_now sections)
       → (Lives files moment since leaves read_at lasted_at s
       → LivesOn files moment since leaves read_at lasted_at s (record s {
@@ -102,11 +116,12 @@ module _ {D : Type 0} (files : D → Option Files) (moment : D → ℕ)
         synced = synced;
         is_stopped = stopped;
       }) size_now
-  begun_on s size disk sections synced stopped size_now begun later few ends on = record {
+  begun_on s size disk sections synced stopped size_now begun later few stored ends on = record {
     began = omega (arith, begun.began, later.no_sooner);
     few = few;
     past_below = begun.past_below;
     past_stored = begun.past_stored;
+    stored = stored;
     ends = ends;
     lives = λ lasted. (on (begun.lives ((later.lasted_then s.opened begun.began).0 lasted))).lives;
   }
@@ -140,13 +155,16 @@ module _ {D : Type 0} (files : D → Option Files) (moment : D → ℕ)
       | inl before ↦ begun.past_stored w before
       | inr same ↦ subst (λ (x : Write). IsStored x.id x.sections) same end.stored
     ];
-    ends = λ still. subst (λ (l : List Section). HasEnd (files s.disk) next 0 l) (sym none)
-        (end_rolled (files s.disk) s.id next size s.sections over limit end);
+    stored = subst (IsStored next) (sym none) fresh.stored;
+    ends = λ still. subst (λ (l : List Section). HasEnd (files s.disk) next 0 l) (sym none) fresh;
     lives = λ lasted. (on (begun.lives lasted)).lives;
   }
     where
       end : HasEnd (files s.disk) s.id size s.sections
       end = begun.ends runs
+
+      fresh : HasEnd (files s.disk) next 0 []
+      fresh = end_rolled (files s.disk) s.id next size s.sections over limit end
 
       last_or : (w : Write) → Contains past w
           → Contains s.past w ⊎ (written s.id s.sections ≡ w)
@@ -166,6 +184,8 @@ module _ {D : Type 0} (files : D → Option Files) (moment : D → ℕ)
     few = begun.few;
     past_below = λ w among. let low = begun.past_below w among in omega (arith, low, over);
     past_stored = begun.past_stored;
+    stored = subst (IsStored next) (sym none)
+        (end_rolled (files s.disk) s.id next size s.sections over limit (begun.ends runs)).stored;
     ends = λ still.
         let end = begun.ends runs in
         let empty : size ≡ 0 =

@@ -163,7 +163,7 @@ none_inside : {A : Type 0} (xs : List A) → ((x : A) → Contains xs x → ⊥)
 none_inside [] none = refl
 none_inside (x ∷ xs) none = absurd (none x (here x xs))
 
-none_taken : {A : Type 0} (n : ℕ) (xs : List A) → n ≤ length xs → take n xs ≡ [] → n ≡ 0
+pub none_taken : {A : Type 0} (n : ℕ) (xs : List A) → n ≤ length xs → take n xs ≡ [] → n ≡ 0
 none_taken zero xs few none = refl
 none_taken (suc n) [] few none = absurd (omega (arith, few))
 none_taken (suc n) (x ∷ xs) few none = absurd (omega (arith, ap length none))

@@ -3,6 +3,7 @@ mod Anywhere
 mod Begun
 mod Beside
 mod Changed
+mod DroppedLists
 mod Due
 mod Ended
 mod FilePut
@@ -12,28 +13,33 @@ mod FolderEnds
 mod FolderGoes
 mod FolderNames
 mod FolderPuts
-mod FolderReads
+pub mod FolderReads
 mod FolderSyncs
 mod Ends
 mod Filed
 mod Going
 pub mod Ids
+mod Intervals
 mod Kept
 mod Live
-mod Lived
+pub mod Lived
 mod LivedCalls
 mod LivedRolls
 pub mod Looking
 mod NoteBegun
 mod NoteCuts
+mod NoteDue
 mod NoteGoes
-mod NoteGrows
+pub mod NoteGrows
 mod NoteHeld
 mod NoteLeaves
-mod NoteLent
+pub mod NoteLent
 mod NoteLogged
 mod NoteNext
-mod NoteParts
+pub mod NoteParts
+mod NotePasses
+mod NotePlaced
+mod NoteReaches
 mod NoteRuns
 mod NoteSettled
 mod NoteStands
@@ -42,12 +48,19 @@ mod Noted
 mod OnDisk
 pub mod OpenedWhole
 mod OtherFiles
-mod Outcomes
+mod OneDroppable
+pub mod Outcomes
 mod Picking
 mod Ready
 mod Recovered
 mod Recovery
+mod StoreBeside
+mod StoreDropped
+mod StoreFiles
 mod StoreFolds
 mod StoreKept
+mod StoreLetGo
+mod StorePuts
 mod SegmentsGo
 mod TableLogs
+mod Untouched

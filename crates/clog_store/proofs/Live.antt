@@ -115,7 +115,7 @@ said (p ∷ ps) log l is there =
           (rest.0, further p ps rest.0 rest.1, rest.2, rest.3)
     ]
 
-sized_value : (kind : Kind) (value : List ℕ) → IsStoredValue kind value → IsValueSize kind value
+pub sized_value : (kind : Kind) (value : List ℕ) → IsStoredValue kind value → IsValueSize kind value
 sized_value Deletion value is = is
 sized_value Live value is = is.size
 

@@ -27,7 +27,7 @@ use Rattle.std.proofs.Common.{
 use Rattle.clog_base.specs.Positions.{ordinal_of, offset_of}
 use Rattle.path_core.specs.declared.note.EntryNote.{EntryNote}
 use Rattle.path_core.specs.Keeper.{FollowTo, Follows}
-use Rattle.clog_store.specs.NoteLog.{BeginsIn, IsApart, end_behind}
+use Rattle.clog_store.specs.NoteLog.{BeginsFrom, IsApart, end_behind}
 use Rattle.clog_store.specs.NoteSections.{AreOneSection, EndToEnd, first_start}
 use Rattle.clog_store.specs.NoteSteps.{StandAhead, StartsBehind}
 
@@ -102,15 +102,15 @@ pub starts : (upto key : ℕ) (rest : List EntryNote) → 0 < length rest → St
 starts upto key [] some ahead = absurd (omega (arith, some))
 starts upto key (n ∷ ns) some ahead = ahead.0
 
-pub begins_at : (base id : ℕ) (rest : List EntryNote) → BeginsIn base id rest
-    → id ≡ base + ordinal_of (first_start rest)
-begins_at base id [] begins = absurd begins
-begins_at base id (n ∷ ns) begins = begins
+pub begins_from : (base id : ℕ) (rest : List EntryNote) → 0 < length rest
+    → BeginsFrom base id rest → id ≤ base + ordinal_of (first_start rest)
+begins_from base id [] some begins = absurd (omega (arith, some))
+begins_from base id (n ∷ ns) some begins = begins
 
-pub begins_in : (base id : ℕ) (rest : List EntryNote) → 0 < length rest
-    → id ≡ base + ordinal_of (first_start rest) → BeginsIn base id rest
-begins_in base id [] some is = absurd (omega (arith, some))
-begins_in base id (n ∷ ns) some is = is
+pub begins_in : (base id : ℕ) (rest : List EntryNote) → id ≤ base + ordinal_of (first_start rest)
+    → BeginsFrom base id rest
+begins_in base id [] is = tt
+begins_in base id (n ∷ ns) is = is
 
 pub follow_rest : (upto key c : ℕ) (ns : List EntryNote) → FollowTo upto key ns
     → FollowTo upto (end_behind key (take c ns)) (drop c ns)

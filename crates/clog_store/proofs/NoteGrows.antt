@@ -13,6 +13,7 @@ use Rattle.std.proofs.Common.{
   length,
   take,
   drop,
+  get_or,
   take-append-drop,
   Option,
   Some,
@@ -32,14 +33,16 @@ use Rattle.std.proofs.Common.{
   ◌≤◌,
 }
 use Rattle.std.specs.Prelude.{Result, Ok, Err, option_map}
-use Rattle.std.specs.List.{Contains}
+use Rattle.std.specs.List.{AllPairs, Contains}
+use Rattle.std.proofs.lemmas.List.{get_or_default}
+use Rattle.std.proofs.lemmas.List.Quantifiers.{all_pairs_push}
 use Rattle.std.proofs.lemmas.List.Elements.{
   Contains-append_cases,
   Contains-append_left,
   Contains-append_right,
 }
 use Rattle.clog_spec.specs.Names.{segment_name_of}
-use Rattle.clog_base.proofs.Members.{further, here, only_one}
+use Rattle.clog_base.proofs.Members.{further, here, nothing_there, only_one}
 use Rattle.clog_disk.specs.declared.change.Change.{Change}
 use Rattle.clog_disk.specs.declared.change.Change.TheVariants as change
 use Rattle.clog_scan.specs.Cut.{Section}
@@ -56,7 +59,16 @@ use Rattle.clog_crash.proofs.counts.Growing.{
 use Rattle.clog_disk.specs.Changes.{Adds}
 use Rattle.clog_store.specs.declared.written.StoreFault.{StoreFault}
 use Rattle.clog_store.specs.declared.written.StoreFault.TheVariants.{Stopped, OutOfMemory}
-use Rattle.clog_store.specs.Grows.{Grows, IsGrown, Writes, segments_with}
+use Rattle.clog_store.specs.Grows.{
+  AreAppends,
+  AreFilled,
+  Grows,
+  IsAppend,
+  IsGrown,
+  IsLower,
+  Writes,
+  segments_with,
+}
 use Rattle.clog_store.specs.Life.{State, past_with}
 use Rattle.clog_store.specs.Stepped.{Keeps}
 
@@ -84,6 +96,13 @@ apart_names : (id other : ℕ) → other < id → id < 2 ^ 63
 apart_names id other less fits same =
     let one = one_id other id (omega (arith, less, fits)) fits same in omega (arith, one, less)
 
+-- one segment more, above the others
+pub rises_with : (past : List Write) (w : Write) → AllPairs IsLower past
+    → ((v : Write) → Contains past v → v.id < w.id) → AllPairs IsLower (past ++ w ∷ [])
+rises_with past w rise below =
+    all_pairs_push IsLower past w rise (λ k d inside.
+    let v = get_or past k d in below v (k, inside, get_or_default past k v d inside))
+
 module _ (past : List Write) (id : ℕ) (sections : List Section) (appends : List Append)
     (below : (w : Write) → Contains past w → w.id < id) (g : IsGrown appends past id sections) where
   abbrev hand : Write
@@ -92,68 +111,88 @@ module _ (past : List Write) (id : ℕ) (sections : List Section) (appends : Lis
   -- one section more
   module _ (fits : id < 2 ^ 63) (section : Section) (bytes : List ℕ)
       (spelled : segment_bytes id sections ++ bytes ≡ segment_bytes id (sections ++ section ∷ []))
-    where
-      abbrev all : List Section
-      all = sections ++ section ∷ []
+      (some : 0 < length section.payloads) where
+    abbrev all : List Section
+    all = sections ++ section ∷ []
 
-      abbrev now : Write
-      now = record { id = id; sections = all }
+    abbrev now : Write
+    now = record { id = id; sections = all }
 
-      abbrev more : List Append
-      more = (segment_name_of 6 id, bytes) ∷ []
+    abbrev more : List Append
+    more = (segment_name_of 6 id, bytes) ∷ []
 
-      there : Contains (segments_with past id all) now
-      there = Contains-append_right past (now ∷ []) now (here now [])
+    there : Contains (segments_with past id all) now
+    there = Contains-append_right past (now ∷ []) now (here now [])
 
-      each_more : (w : Write) → Contains (segments_with past id all) w
-          → grown (appends ++ more) (segment_name_of 6 w.id) ≡ segment_bytes w.id w.sections
-      each_more w among = elim (Contains-append_cases past (now ∷ []) w among) [
-        | inl before ↦
-            grown-append appends more (segment_name_of 6 w.id)
-            ∙ ap (λ (l : List ℕ). grown appends (segment_name_of 6 w.id) ++ l)
-            (grown_elsewhere (segment_name_of 6 id) (segment_name_of 6 w.id) bytes []
-            (apart_names id w.id (below w before) fits))
-            ∙ append-nil (grown appends (segment_name_of 6 w.id))
-            ∙ g.each w (Contains-append_left past (hand ∷ []) w before)
-        | inr last ↦ subst
-            (λ (v : Write). grown (appends ++ more) (segment_name_of 6 v.id)
-            ≡ segment_bytes v.id v.sections) (only_one now w last)
-            (grown-append appends more (segment_name_of 6 id)
-            ∙ ap (λ (l : List ℕ). grown appends (segment_name_of 6 id) ++ l)
-            (grown_here (segment_name_of 6 id) bytes [] ∙ append-nil bytes)
-            ∙ ap (λ (l : List ℕ). l ++ bytes)
-            (g.each hand (Contains-append_right past (hand ∷ []) hand (here hand [])))
-            ∙ spelled)
-      ]
+    each_more : (w : Write) → Contains (segments_with past id all) w
+        → grown (appends ++ more) (segment_name_of 6 w.id) ≡ segment_bytes w.id w.sections
+    each_more w among = elim (Contains-append_cases past (now ∷ []) w among) [
+      | inl before ↦
+          grown-append appends more (segment_name_of 6 w.id)
+          ∙ ap (λ (l : List ℕ). grown appends (segment_name_of 6 w.id) ++ l)
+          (grown_elsewhere (segment_name_of 6 id) (segment_name_of 6 w.id) bytes []
+          (apart_names id w.id (below w before) fits))
+          ∙ append-nil (grown appends (segment_name_of 6 w.id))
+          ∙ g.each w (Contains-append_left past (hand ∷ []) w before)
+      | inr last ↦ subst
+          (λ (v : Write). grown (appends ++ more) (segment_name_of 6 v.id)
+          ≡ segment_bytes v.id v.sections) (only_one now w last)
+          (grown-append appends more (segment_name_of 6 id)
+          ∙ ap (λ (l : List ℕ). grown appends (segment_name_of 6 id) ++ l)
+          (grown_here (segment_name_of 6 id) bytes [] ∙ append-nil bytes)
+          ∙ ap (λ (l : List ℕ). l ++ bytes)
+          (g.each hand (Contains-append_right past (hand ∷ []) hand (here hand [])))
+          ∙ spelled)
+    ]
 
-      long : 0 < length all
-      long = omega (arith, length-append sections (section ∷ []))
+    long : 0 < length all
+    long = omega (arith, length-append sections (section ∷ []))
 
-      only_more : (a : Append) → Contains (appends ++ more) a
-          → (w : Write) × Contains (segments_with past id all) w × (0 < length w.sections)
-          × (a.0 ≡ segment_name_of 6 w.id)
-      only_more a among = elim (Contains-append_cases appends more a among) [
-        | inl before ↦
-            let f = g.only a before in
-            elim (Contains-append_cases past (hand ∷ []) f.0 f.1) [
-              | inl old ↦ (f.0, Contains-append_left past (now ∷ []) f.0 old, f.2, f.3)
-              | inr last ↦ (
-                now,
-                there,
-                long,
-                f.3 ∙ ap (λ (w : Write). segment_name_of 6 w.id) (sym (only_one hand f.0 last)),
-              )
-            ]
-        | inr last ↦ (
-          now,
-          there,
-          long,
-          ap (λ (b : Append). b.0) (sym (only_one (segment_name_of 6 id, bytes) a last)),
-        )
-      ]
+    only_more : (a : Append) → Contains (appends ++ more) a
+        → (w : Write) × Contains (segments_with past id all) w × (0 < length w.sections)
+        × (a.0 ≡ segment_name_of 6 w.id)
+    only_more a among = elim (Contains-append_cases appends more a among) [
+      | inl before ↦
+          let f = g.only a before in
+          elim (Contains-append_cases past (hand ∷ []) f.0 f.1) [
+            | inl old ↦ (f.0, Contains-append_left past (now ∷ []) f.0 old, f.2, f.3)
+            | inr last ↦ (
+              now,
+              there,
+              long,
+              f.3 ∙ ap (λ (w : Write). segment_name_of 6 w.id) (sym (only_one hand f.0 last)),
+            )
+          ]
+      | inr last ↦ (
+        now,
+        there,
+        long,
+        ap (λ (b : Append). b.0) (sym (only_one (segment_name_of 6 id, bytes) a last)),
+      )
+    ]
 
-      pub grown_more : IsGrown (appends ++ more) past id all
-      grown_more = record { each = each_more; only = only_more }
+    filled_now : (s : Section) → Contains all s → 0 < length s.payloads
+    filled_now s among = elim (Contains-append_cases sections (section ∷ []) s among) [
+      | inl old ↦ g.filled hand (Contains-append_right past (hand ∷ []) hand (here hand [])) s old
+      | inr last ↦
+          subst (λ (x : Section). 0 < length x.payloads) (only_one section s last) some
+    ]
+
+    filled_more : AreFilled (segments_with past id all)
+    filled_more w among = elim (Contains-append_cases past (now ∷ []) w among) [
+      | inl before ↦ g.filled w (Contains-append_left past (hand ∷ []) w before)
+      | inr last ↦ subst
+          (λ (v : Write). (s : Section) → Contains v.sections s → 0 < length s.payloads)
+          (only_one now w last) filled_now
+    ]
+
+    pub grown_more : IsGrown (appends ++ more) past id all
+    grown_more = record {
+      each = each_more;
+      only = only_more;
+      filled = filled_more;
+      rise = g.rise;
+    }
 
   -- in a further segment, nothing was appended to any later one
   low : (w : Write) → Contains (segments_with past id sections) w → w.id ≤ id
@@ -175,6 +214,12 @@ module _ (past : List Write) (id : ℕ) (sections : List Section) (appends : Lis
         let f = g.only a listed in
         apart_names next f.0.id (omega (arith, low f.0 f.1, above)) fits (sym same ∙ f.3)))
 
+    empty_yet : (w : Write) → Contains (fresh ∷ []) w → (s : Section) → Contains w.sections s
+        → 0 < length s.payloads
+    empty_yet w last = subst
+        (λ (v : Write). (s : Section) → Contains v.sections s → 0 < length s.payloads)
+        (only_one fresh w last) (λ s among. absurd (nothing_there s among))
+
     pub grown_rolled : IsGrown appends (segments_with past id sections) next []
     grown_rolled =
         let first = segments_with past id sections in
@@ -186,6 +231,11 @@ module _ (past : List Write) (id : ℕ) (sections : List Section) (appends : Lis
           only = λ a listed.
               let f = g.only a listed in
               (f.0, Contains-append_left first (fresh ∷ []) f.0 f.1, f.2, f.3);
+          filled = λ w among. elim (Contains-append_cases first (fresh ∷ []) w among) [
+            | inl before ↦ g.filled w before
+            | inr last ↦ empty_yet w last
+          ];
+          rise = rises_with past hand g.rise below;
         }
 
     -- in its place, where it has no section
@@ -203,6 +253,11 @@ module _ (past : List Write) (id : ℕ) (sections : List Section) (appends : Lis
                 let same = ap (λ (w : Write). length w.sections) (only_one hand f.0 last) in
                 absurd (omega (arith, same, f.2, ap length none))
           ];
+      filled = λ w among. elim (Contains-append_cases past (fresh ∷ []) w among) [
+        | inl before ↦ g.filled w (Contains-append_left past (hand ∷ []) w before)
+        | inr last ↦ empty_yet w last
+      ];
+      rise = g.rise;
     }
 
     pub grown_on : IsGrown appends (past_with past id sections) next []
@@ -226,6 +281,19 @@ pub added_both : (o : Option (List Change)) (x y : List Change)
 added_both None x y = refl
 added_both (Some made) x y = ap Some (append_assoc made x y)
 
+pub no_appends : AreAppends []
+no_appends c among = absurd (nothing_there c among)
+
+one_append : (name bytes : List ℕ) → AreAppends (change.Append name bytes ∷ [])
+one_append name bytes c among =
+    subst IsAppend (only_one (change.Append name bytes) c among) tt
+
+pub appends_both : (x y : List Change) → AreAppends x → AreAppends y → AreAppends (x ++ y)
+appends_both x y first next c among = elim (Contains-append_cases x y c among) [
+  | inl h ↦ first c h
+  | inr h ↦ next c h
+]
+
 module _ {D : Type 0} (changes : D → Option (List Change)) where
   -- nothing was added
   pub grows_none : (a b : State D) → changes b.disk ≡ changes a.disk
@@ -234,6 +302,7 @@ module _ {D : Type 0} (changes : D → Option (List Change)) where
   grows_none a b same still = record {
     added = [];
     changes_are = same ∙ nothing_added (changes a.disk);
+    appends = no_appends;
     grows = λ appends g.
         subst (λ (l : List Append). IsGrown l b.past b.id b.sections) (sym (append-nil appends))
         (still appends g);
@@ -254,16 +323,17 @@ module _ {D : Type 0} (changes : D → Option (List Change)) where
       → b.past ≡ a.past → b.id ≡ a.id → b.sections ≡ a.sections ++ section ∷ []
       → ((w : Write) → Contains a.past w → w.id < a.id) → a.id < 2 ^ 63
       → segment_bytes a.id a.sections ++ bytes ≡ segment_bytes a.id (a.sections ++ section ∷ [])
-      → Grows changes a b
-  grows_more a b section bytes adds past id sections below fits spelled = record {
+      → 0 < length section.payloads → Grows changes a b
+  grows_more a b section bytes adds past id sections below fits spelled some = record {
     added = change.Append (segment_name_of 6 a.id) bytes ∷ [];
     changes_are = adds;
+    appends = one_append (segment_name_of 6 a.id) bytes;
     grows = λ appends g.
         let now = appends ++ (segment_name_of 6 a.id, bytes) ∷ [] in
         subst (λ (l : List Write). IsGrown now l b.id b.sections) (sym past)
         (subst (λ (k : ℕ). IsGrown now a.past k b.sections) (sym id)
         (subst (λ (l : List Section). IsGrown now a.past a.id l) (sym sections)
-        (grown_more a.past a.id a.sections appends below g fits section bytes spelled)));
+        (grown_more a.past a.id a.sections appends below g fits section bytes spelled some)));
   }
 
   pub grows_rolled : (a b : State D) → changes b.disk ≡ changes a.disk
@@ -285,6 +355,7 @@ module _ {D : Type 0} (changes : D → Option (List Change)) where
         changes_are = next.changes_are
             ∙ ap (option_map (λ made. made ++ y)) first.changes_are
             ∙ added_both (changes a.disk) x y;
+        appends = appends_both x y first.appends next.appends;
         grows = λ appends g.
             subst (λ (l : List Append). IsGrown l c.past c.id c.sections)
             (append_assoc appends (appends_of x) (appends_of y)
@@ -298,6 +369,7 @@ module _ {D : Type 0} (changes : D → Option (List Change)) where
   writes_of a b grown = record {
     added = grown.added;
     changes_are = grown.changes_are;
+    appends = grown.appends;
     writes = λ appends g. (b.sections, inl refl, grown.grows appends g);
   }
 
@@ -311,6 +383,7 @@ module _ {D : Type 0} (changes : D → Option (List Change)) where
         changes_are = next.changes_are
             ∙ ap (option_map (λ made. made ++ y)) first.changes_are
             ∙ added_both (changes a.disk) x y;
+        appends = appends_both x y first.appends next.appends;
         writes = λ appends g.
             let then_ = next.writes (appends ++ appends_of x) (first.grows appends g) in (
               then_.0,
@@ -332,6 +405,7 @@ module _ {D : Type 0} (changes : D → Option (List Change)) where
   writes_torn a b section same few torn = record {
     added = [];
     changes_are = same ∙ nothing_added (changes a.disk);
+    appends = no_appends;
     writes = λ appends g. (
       a.sections,
       inr (
@@ -355,14 +429,16 @@ module _ {D : Type 0} (changes : D → Option (List Change)) where
       result → a.is_stopped ≡ false → a.id < 2 ^ 63
       → ((w : Write) → Contains a.past w → w.id < a.id) → a.synced ≤ length a.sections
       → segment_bytes a.id a.sections ++ bytes ≡ segment_bytes a.id (a.sections ++ section ∷ [])
-      → Writes changes a b
-  writes_kept a b section bytes (Ok done) keeps adds runs fits low few spelled =
+      → 0 < length section.payloads → Writes changes a b
+  writes_kept a b section bytes (Ok done) keeps adds runs fits low few spelled some =
       writes_of a b (grows_more a b section bytes adds (ap (λ (s : State D). s.past) keeps)
-      (ap (λ (s : State D). s.id) keeps) (ap (λ (s : State D). s.sections) keeps) low fits spelled)
-  writes_kept a b section bytes (Err OutOfMemory) keeps adds runs fits low few spelled =
+      (ap (λ (s : State D). s.id) keeps) (ap (λ (s : State D). s.sections) keeps) low fits spelled
+      some)
+  writes_kept a b section bytes (Err OutOfMemory) keeps adds runs fits low few spelled some =
       writes_of a b (grows_same a b adds (ap (λ (s : State D). s.past) keeps)
       (ap (λ (s : State D). s.id) keeps) (ap (λ (s : State D). s.sections) keeps))
-  writes_kept a b section bytes (Err Stopped) keeps adds runs fits low few spelled = elim keeps [
-    | inl was ↦ absurd (true≢false (sym was.0 ∙ runs))
-    | inr torn ↦ writes_torn a b section adds few torn
-  ]
+  writes_kept a b section bytes (Err Stopped) keeps adds runs fits low few spelled some =
+      elim keeps [
+        | inl was ↦ absurd (true≢false (sym was.0 ∙ runs))
+        | inr torn ↦ writes_torn a b section adds few torn
+      ]

@@ -41,7 +41,7 @@ use Rattle.path_core.specs.declared.note.EntryNote.{EntryNote}
 use Rattle.clog_store.specs.declared.written.StoreFault.{StoreFault}
 use Rattle.clog_store.specs.declared.written.StoreFault.TheVariants.{Stopped, OutOfMemory}
 use Rattle.clog_store.specs.Life.{State, past_with}
-use Rattle.clog_store.specs.NoteLog.{BeginsIn, IsApart, IsHeld, end_behind}
+use Rattle.clog_store.specs.NoteLog.{BeginsFrom, IsApart, IsHeld, end_behind}
 use Rattle.clog_store.specs.NoteSections.{
   AreOneSection,
   MayBeNext,
@@ -147,7 +147,7 @@ module _ {D : Type 0} (base : ℕ) (notes : List EntryNote) (sizes : Sizes) (syn
 
   pub held_rolled : (log now : State D) (written id : ℕ) (disk : D)
       → now ≡ gone_on log (past_with log.past log.id log.sections) id disk → log.id < id
-      → BeginsIn base id (drop written notes) → Held log written → Held now written
+      → BeginsFrom base id (drop written notes) → Held log written → Held now written
   held_rolled log now written id disk is above begins h =
       let s : State D = gone_on log (past_with log.past log.id log.sections) id disk in
       let all = past_rolled log.past log.id id log.sections ∙ h.all in
@@ -323,7 +323,7 @@ module _ {D : Type 0} (base : ℕ) (notes : List EntryNote) (sizes : Sizes) (syn
       (begun : StartsBehind (end_behind synced (take written notes)) start)
       (begins : log.sections ≡ []
       → base + ordinal_of (end_behind synced (take written notes)) < log.id
-      → log.id ≡ base + ordinal_of start) where
+      → log.id ≤ base + ordinal_of start) where
     abbrev at : ℕ
     at = end_behind synced (take written notes)
 
@@ -412,7 +412,8 @@ module _ {D : Type 0} (base : ℕ) (notes : List EntryNote) (sizes : Sizes) (syn
     ]
 
     pub held_entered : (now : State D) (done : Unit {0}) → Enters log now (base + ordinal_of start)
-        (Ok done) → BeginsIn base (base + ordinal_of start) (drop written notes) → Held now written
+        (Ok done) → BeginsFrom base (base + ordinal_of start) (drop written notes)
+        → Held now written
     held_entered now done enters next = elim enters [
       | inl same ↦ subst (λ (s : State D). Held s written) (sym same.1) h
       | inr rolls ↦ held_rolled log now written (base + ordinal_of start) now.disk rolls.1

@@ -330,23 +330,24 @@ module _ {D : Type 0} (files : D → Option Files) (changes : D → Option (List
       (segment_name_of 6 a.id) bytes result → a.is_stopped ≡ false → a.id < 2 ^ 63
       → ((w : Write) → Contains a.past w → w.id < a.id)
       → segment_bytes a.id a.sections ++ bytes ≡ segment_bytes a.id (a.sections ++ section ∷ [])
-      → b.is_stopped ≡ false → Leaving a b
-  leaves_kept a b section bytes (Ok done) keeps adds runs fits low spelled still =
+      → 0 < length section.payloads → b.is_stopped ≡ false → Leaving a b
+  leaves_kept a b section bytes (Ok done) keeps adds runs fits low spelled filled still =
       let past = ap (λ (s : State D). s.past) keeps in
       let id = ap (λ (s : State D). s.id) keeps in
       leaves_more a b bytes adds.still_told adds.appends fits past id
       (subst (λ (l : List Section). 0 < length l) (sym (ap (λ (s : State D). s.sections) keeps))
       (omega (arith, length-append a.sections (section ∷ []))))
       (grows_more changes a b section bytes adds.adds past id
-      (ap (λ (s : State D). s.sections) keeps) low fits spelled)
-  leaves_kept a b section bytes (Err OutOfMemory) keeps adds runs fits low spelled still =
+      (ap (λ (s : State D). s.sections) keeps) low fits spelled filled)
+  leaves_kept a b section bytes (Err OutOfMemory) keeps adds runs fits low spelled filled still =
       leaves_same a b (adds.same refl) adds.adds (ap (λ (s : State D). s.past) keeps)
       (ap (λ (s : State D). s.id) keeps) (ap (λ (s : State D). s.sections) keeps)
-  leaves_kept a b section bytes (Err Stopped) keeps adds runs fits low spelled still = elim keeps [
-    | inl was ↦ absurd (true≢false (sym was.0 ∙ runs))
-    | inr torn ↦
-        absurd (true≢false (sym (ap (λ (s : State D). s.is_stopped) torn) ∙ still))
-  ]
+  leaves_kept a b section bytes (Err Stopped) keeps adds runs fits low spelled filled still =
+      elim keeps [
+        | inl was ↦ absurd (true≢false (sym was.0 ∙ runs))
+        | inr torn ↦
+            absurd (true≢false (sym (ap (λ (s : State D). s.is_stopped) torn) ∙ still))
+      ]
 
   pub leaves_settled : {T : Type 0} (a b : State D) (result : Result T StoreFault)
       → Settles a b result → files b.disk ≡ files a.disk → changes b.disk ≡ changes a.disk

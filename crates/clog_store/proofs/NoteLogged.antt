@@ -2,8 +2,6 @@
 use Rattle.std.proofs.Common.{
   ◌≡◌,
   ℕ,
-  ◌+◌,
-  ◌<◌,
   ◌≤◌,
   inl,
   inr,
@@ -33,7 +31,6 @@ use Rattle.std.proofs.lemmas.List.Elements.{
 }
 use Rattle.clog_spec.specs.Sizes.{header_size}
 use Rattle.clog_base.specs.declared.sizes.Sizes.{Sizes}
-use Rattle.clog_base.specs.Positions.{ordinal_of}
 use Rattle.clog_base.proofs.Members.{nothing_there}
 use Rattle.clog_scan.specs.Cut.{Section, last_until}
 use Rattle.clog_crash.specs.Runs.{placed_log}
@@ -41,7 +38,6 @@ use Rattle.path_core.specs.declared.note.EntryNote.{EntryNote}
 use Rattle.path_core.specs.Keeper.{GoOnBehind, Tile}
 use Rattle.clog_store.specs.Life.{State}
 use Rattle.clog_store.specs.NoteLog.{
-  BeginsIn,
   EndsAt,
   IsApart,
   IsGood,
@@ -122,12 +118,6 @@ module _ {D : Type 0} (s : NoteState D) (upto : ℕ) (run : List EntryNote)
           (λ some. end_above s.sizes s.synced s.kept
           (λ n among. inv.good n (Contains-append_right s.logged s.kept n among)) some))
 
-      -- the first of what is to come, for which a later segment was entered
-      begins_by : (rest : List EntryNote) → rest ++ lent.more ≡ drop s.written run
-          → BeginsIn s.base s.log.id rest → BeginsIn s.base s.log.id (drop s.written run)
-      begins_by [] behind begins = absurd begins
-      begins_by (n ∷ ns) behind begins = subst (BeginsIn s.base s.log.id) behind begins
-
       pub ready_of : s.log.is_stopped ≡ false
           → ReadyAt s.sizes s.synced s.logged upto s.base s.log run s.written
       ready_of runs =
@@ -157,8 +147,7 @@ module _ {D : Type 0} (s : NoteState D) (upto : ℕ) (run : List EntryNote)
               forward = omega (arith, h.forward, key);
               ends = subst (EndsAt s.base s.log) key h.ends;
               apart = apart;
-              begins = λ none later. begins_by (drop s.written s.kept) behind
-                  (h.begins none (omega (arith, later, key)));
+              begins = λ none later. lends.from;
             };
             ahead = run_ahead s.sizes s.synced upto run lent.good lent.tiled s.written apart;
           }
@@ -205,12 +194,6 @@ module _ {D : Type 0} (s : NoteState D) (upto : ℕ) (run : List EntryNote)
 
         ends : EndsAt s.base log upto
         ends = subst (EndsAt s.base log) key_is ready.held.ends
-
-        -- no later segment was entered for a note that is to come
-        nothing_to_come : log.sections ≡ [] → s.base + ordinal_of upto < log.id → ⊥
-        nothing_to_come none later =
-            subst (BeginsIn s.base log.id) (drop_all (length run) run (omega arith))
-            (ready.held.begins none (omega (arith, later, key_is)))
 
         all_last : take log.synced log.sections ≡ log.sections
         all_last = take_all log.synced log.sections (omega (arith, lasts))
@@ -271,6 +254,6 @@ module _ {D : Type 0} (s : NoteState D) (upto : ℕ) (run : List EntryNote)
             forward = omega arith;
             ends = ends;
             apart = tt;
-            begins = λ none later. nothing_to_come none later;
+            begins = λ none later. tt;
           };
         }

@@ -19,7 +19,6 @@ use Rattle.std.proofs.Common.{
   take,
   drop,
   get_or,
-  refl,
   sym,
   ◌∙◌,
   ap,
@@ -52,7 +51,7 @@ use Rattle.clog_store.specs.NoteSteps.{Enters, ReadyAt, StandAhead, StartsBehind
 use Rattle.clog_store.specs.Stepped.{Keeps}
 use Rattle.clog_store.proofs.NoteCuts.{
   ahead_rest,
-  begins_at,
+  begins_from,
   begins_in,
   cut_of,
   end_behind-append,
@@ -129,8 +128,8 @@ module _ {D : Type 0} (base : ℕ) (notes : List EntryNote) (sizes : Sizes) (syn
   begun : StartsBehind key (first_start rest)
   begun = starts upto key rest more ready.ahead
 
-  begins : log.sections ≡ [] → base + ordinal_of key < log.id → log.id ≡ id
-  begins none later = begins_at base log.id rest (ready.held.begins none later)
+  begins : log.sections ≡ [] → base + ordinal_of key < log.id → log.id ≤ id
+  begins none later = begins_from base log.id rest more (ready.held.begins none later)
 
   pub goes_forward : log.id ≤ id
   goes_forward =
@@ -148,7 +147,7 @@ module _ {D : Type 0} (base : ℕ) (notes : List EntryNote) (sizes : Sizes) (syn
     held_mid : Held mid written
     held_mid =
         held_entered base notes sizes synced logged log written ready.held (first_start rest) begun
-        begins mid done enters (begins_in base id rest more refl)
+        begins mid done enters (begins_in base id rest (omega arith))
 
     here : (mid.id ≡ id)
         × (offset_of (first_start rest) ≡ last_until header_size mid.sections + marker_size)

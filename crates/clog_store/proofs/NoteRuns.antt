@@ -332,3 +332,10 @@ module _ {D : Type 0} (base : ℕ) (log : State D) (notes : List EntryNote)
         (ap (λ (l : List Section). next_section l (payloads_in notes)) all ∙ sym next_is)
         (brings_next log.id old kept (payloads_in notes) (size_before at) bytes
         (subst (IsStored log.id) (sym all) stored) fits next)
+
+-- a section of notes has their payloads
+pub some_payloads : (notes : List EntryNote) (section : Section)
+    → section.payloads ≡ payloads_in notes → 0 < length notes → 0 < length section.payloads
+some_payloads [] section is some = absurd (omega (arith, some))
+some_payloads (n ∷ ns) section is some =
+    subst (λ (l : List (List ℕ)). 0 < length l) (sym is) (omega arith)

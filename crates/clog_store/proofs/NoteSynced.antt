@@ -1,10 +1,17 @@
 -- What a sync is lent is the run of notes that it takes, and what it makes of them.
-use Rattle.std.proofs.Common.{ℕ, inl, inr, List, sym, subst}
+use Rattle.std.proofs.Common.{ℕ, inl, inr, List, drop, sym, subst}
 use Rattle.std.specs.List.{AllPairs, Contains}
 use Rattle.std.specs.List.Sorted.{IsPermutation}
 use Rattle.path_core.specs.declared.note.EntryNote.{EntryNote}
 use Rattle.path_core.specs.Keeper.{Holding, IsParted, MaySync, MayWrite}
-use Rattle.clog_store.specs.NoteLog.{HasRefused, HasSynced, IsGood, MayLog, NoteState}
+use Rattle.clog_store.specs.NoteLog.{
+  BeginsFrom,
+  HasRefused,
+  HasSynced,
+  IsGood,
+  MayLog,
+  NoteState,
+}
 use Rattle.clog_store.specs.NoteSteps.{Logs, LogsNot, MayRun}
 use Rattle.clog_store.proofs.NoteLent.{ascending}
 use Rattle.clog_store.proofs.NoteParts.{Below, one_run}
@@ -22,11 +29,13 @@ module _ {D : Type 0} (before : NoteState D) (upto : ℕ) (pending run left : Li
       let same = one_run upto pending run left m.run m.left parted m.parted order in
       subst (MayWrite h upto) (sym same) m.may
 
-  pub may_run : MayLog before upto pending → MayRun before upto run
-  may_run may = record {
+  pub may_run : MayLog before upto pending
+      → BeginsFrom before.base before.log.id (drop before.written run) → MayRun before upto run
+  may_run may from = record {
     holding = may.holding;
     has = may.has;
     may = run_writes may.holding may.may;
+    from = from;
   }
 
   pub synced : (now : NoteState D) → Logs before now upto run

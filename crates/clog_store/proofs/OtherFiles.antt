@@ -162,7 +162,7 @@ module _ {D : Type 0} (files : D → Option Files) (moment : D → ℕ)
       → Begun (record s { disk = new }) × (Living s → LivingOn (record s { disk = new }))
   passed same end = (
     begun_on files moment since leaves read_at lasted_at s size new s.sections s.synced
-        s.is_stopped size begun later begun.few (λ going. end (begun.ends going)) on,
+        s.is_stopped size begun later begun.few begun.stored (λ going. end (begun.ends going)) on,
     on,
   )
     where
@@ -176,7 +176,7 @@ module _ {D : Type 0} (files : D → Option Files) (moment : D → ℕ)
       × (Living s → LivingOn (record s { disk = new; is_stopped = true }))
   broken = (
     begun_on files moment since leaves read_at lasted_at s size new s.sections s.synced true size
-        begun later begun.few (λ going. absurd (true≢false going)) on,
+        begun later begun.few begun.stored (λ going. absurd (true≢false going)) on,
     on,
   )
     where

@@ -39,7 +39,7 @@ use Rattle.clog_disk.specs.Images.{IsImage, IsLater, LeavesOnly}
 use Rattle.clog_disk.proofs.Named.{gone_there}
 use Rattle.clog_scan.specs.Cut.{Section}
 use Rattle.clog_crash.specs.Flush.{IsCovered}
-use Rattle.clog_crash.specs.Log.{IsResting, Write}
+use Rattle.clog_crash.specs.Log.{Write}
 use Rattle.clog_crash.specs.Readings.{Reading}
 use Rattle.clog_crash.proofs.changes.Names.{one_id}
 use Rattle.clog_store.specs.Discards.{

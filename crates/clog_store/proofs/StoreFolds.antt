@@ -3,7 +3,6 @@ use Rattle.std.proofs.Common.{
   ◌≡◌,
   ℕ,
   Bool,
-  true,
   false,
   List,
   [],
@@ -61,7 +60,7 @@ opened_folder (Some h) now moment base archives same opens f is =
     holds_opened h f base moment (at_told now f (IsOpened h moment base) is opens) archives
 
 -- a disk that tells its files now has told them before
-some_told : (before now : Option Files) (made made_now : Option (List Change))
+pub some_told : (before now : Option Files) (made made_now : Option (List Change))
     (added : List Change) → is_some made ≡ is_some before → is_some made_now ≡ is_some now
     → made_now ≡ option_map (λ all. all ++ added) made → (g : Files) → now ≡ Some g
     → (f : Files) × (before ≡ Some f)
@@ -70,7 +69,7 @@ some_told None now None made_now added was tells is g here =
     absurd (true≢false (sym (ap is_some here) ∙ sym tells ∙ ap is_some is))
 some_told None now (Some all) made_now added was tells is g here = absurd (true≢false was)
 
-at_some : (o : Option Files) (P : Files → Type 0) (g : Files) → IfSome o P → o ≡ Some g → P g
+pub at_some : (o : Option Files) (P : Files → Type 0) (g : Files) → IfSome o P → o ≡ Some g → P g
 at_some o P g holds is = subst (λ (x : Option Files). IfSome x P) is holds
 
 module _ {D : Type 0} (files : D → Option Files) (changes : D → Option (List Change))
@@ -87,7 +86,8 @@ module _ {D : Type 0} (files : D → Option Files) (changes : D → Option (List
   abbrev Holds : Type 0
   Holds = HoldsIt files (record s { notes = n })
 
-  folder_with : s.notes.log.is_stopped ≡ false → n.log.is_stopped ≡ false → (run : List EntryNote)
+  pub folder_with : s.notes.log.is_stopped ≡ false → n.log.is_stopped ≡ false
+      → (run : List EntryNote)
       → n.base ≡ s.notes.base → n.logged ≡ s.notes.logged ++ run
       → ((m : EntryNote) → Contains run m → Contains s.dropped (ordinal_of m.start.0) → ⊥) → Holds
   folder_with runs still run base_is logged_is stay first g is here =

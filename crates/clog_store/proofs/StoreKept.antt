@@ -25,6 +25,8 @@ use Rattle.std.proofs.Common.{
 use Rattle.std.specs.Prelude.{
   ◌||◌,
   ◌-◌,
+  Contains,
+  length,
   Err,
   OnErr,
   OnOk,
@@ -78,6 +80,8 @@ use Rattle.clog_store.specs.StoreFolder.{
   no_deeds,
 }
 use Rattle.clog_store.specs.StoreState.{
+  AppendsAlone,
+  HasAppended,
   HasGrown,
   HoldsIt,
   IsStore,
@@ -86,7 +90,7 @@ use Rattle.clog_store.specs.StoreState.{
   store_over,
   told_as,
 }
-use Rattle.clog_store.proofs.NoteGrows.{added_both, nothing_added}
+use Rattle.clog_store.proofs.NoteGrows.{added_both, appends_both, no_appends, nothing_added}
 
 -- ---- faults
 
@@ -98,6 +102,14 @@ fault_later was faults now (Err Stopped) cause = elim cause [
   | inl still ↦ omega (arith, still.1)
   | inr rose ↦ rose.1
 ]
+
+-- none is counted where the disk has not failed
+pub quiet_call : {T : Type 0} (was stopped : Bool) (faults now : ℕ) (r : Result T StoreFault)
+    → HasLogCause was faults now r → StopsBy stopped r → stopped ≡ false → now ≡ faults
+quiet_call was stopped faults now (Ok x) cause stops runs = cause.1
+quiet_call was stopped faults now (Err OutOfMemory) cause stops runs = cause.1
+quiet_call was stopped faults now (Err Stopped) cause stops runs =
+    absurd (true≢false (sym stops ∙ runs))
 
 pub has_risen : (before now : ℕ) → now < 2 ^ 64 → Rose before now → HasRisen before now
 has_risen before now fits rose = by (nat_lt before (2 ^ 64 - 1)) refl
@@ -170,7 +182,7 @@ nothing_to_sync h pending none synced kept = record {
 
 -- ---- what it keeps
 
-some_one : (f g : Files) → Some f ≡ Some g → f ≡ g
+pub some_one : (f g : Files) → Some f ≡ Some g → f ≡ g
 some_one f g same = ap (λ (o : Option Files). unwrap_or o f) same
 
 module _ {D : Type 0} (files : D → Option Files) (changes : D → Option (List Change))
@@ -186,13 +198,28 @@ module _ {D : Type 0} (files : D → Option Files) (changes : D → Option (List
             (λ (v : Write). grown [] (segment_name_of 6 v.id) ≡ segment_bytes v.id v.sections)
             (only_one bare w among) refl;
         only = λ a among. absurd (nothing_there a among);
+        filled = λ w among. subst
+            (λ (v : Write). (s : Section) → Contains v.sections s → 0 < length s.payloads)
+            (only_one bare w among) (λ s there. absurd (nothing_there s there));
+        rise = λ i j d low inside. absurd (omega (arith, inside));
       }
+
+  begun_growth : (log : State D) → log.past ≡ [] → log.sections ≡ []
+      → HasGrown changes log.disk log
+  begun_growth log past none = record {
+    added = [];
+    changes_are = nothing_added (changes log.disk);
+    part = [];
+    brought = inl none;
+    grown = subst (λ (l : List Write). IsGrown [] l log.id []) (sym past) (none_grown log.id);
+  }
 
   pub store_begun : (log : State D) (sizes : Sizes) (archives : Bool) → log.past ≡ []
       → log.sections ≡ [] → log.opened ≡ moment log.disk → log.is_stopped ≡ false → IsSound log
       → ((f : Files) → files log.disk ≡ Some f
       → HoldsStore f (fresh_log log.id) (no_deeds archives) f)
       → Keeping (store_over log sizes archives)
+  unfolding begun_growth
   store_begun log sizes archives past none opened runs sound folder = record {
     opened = opened;
     later = record {
@@ -202,13 +229,8 @@ module _ {D : Type 0} (files : D → Option Files) (changes : D → Option (List
     };
     no_fewer = omega arith;
     risen = λ stopped. absurd (true≢false (sym stopped ∙ runs));
-    grown = record {
-      added = [];
-      changes_are = nothing_added (changes log.disk);
-      part = [];
-      brought = inl none;
-      grown = subst (λ (l : List Write). IsGrown [] l log.id []) (sym past) (none_grown log.id);
-    };
+    grown = begun_growth log past none;
+    appended = λ alone. record { growth = begun_growth log past none; alone = no_appends };
     sound = λ still. sound;
     folder = λ still first now is same.
         let fresh : fresh_log log.id ≡ log_of (store_over log sizes archives).notes = λ i. record {
@@ -244,17 +266,18 @@ module _ {D : Type 0} (files : D → Option Files) (changes : D → Option (List
       (later : IsLater moment read_at lasted_at s.notes.log.disk n.log.disk)
       (writes : Writes changes s.notes.log n.log)
       (stays : s.notes.log.is_stopped ≡ true → n ≡ s.notes) where
-    grown_on : s.notes.log.sections ≡ kept.grown.part → HasGrown changes s.first n.log
-    grown_on all =
-        let before = kept.grown.added in
+    grown_on : (h : HasGrown changes s.first s.notes.log) → s.notes.log.sections ≡ h.part
+        → HasGrown changes s.first n.log
+    grown_on h all =
+        let before = h.added in
         let more = writes.added in
         let then = writes.writes (appends_of before)
         (subst (λ (l : List Section). IsGrown (appends_of before) s.notes.log.past s.notes.log.id l)
-        (sym all) kept.grown.grown) in
+        (sym all) h.grown) in
         record {
           added = before ++ more;
           changes_are = writes.changes_are
-              ∙ ap (option_map (λ made. made ++ more)) kept.grown.changes_are
+              ∙ ap (option_map (λ made. made ++ more)) h.changes_are
               ∙ added_both (changes s.first) before more;
           part = then.0;
           brought = then.1;
@@ -266,9 +289,24 @@ module _ {D : Type 0} (files : D → Option Files) (changes : D → Option (List
     grown_by true is =
         subst (λ (x : NoteState D). HasGrown changes s.first x.log) (sym (stays is)) kept.grown
     grown_by false is = elim kept.grown.brought [
-      | inl all ↦ grown_on all
+      | inl all ↦ grown_on kept.grown all
       | inr torn ↦ absurd (true≢false (sym torn.2 ∙ is))
     ]
+
+    pub appended_by : (b : Bool) → s.notes.log.is_stopped ≡ b → AppendsAlone changes s
+        → AppendsAlone changes (record s { notes = n })
+    unfolding grown_on
+    appended_by true is alone none =
+        subst (λ (x : NoteState D). HasAppended changes s.first x.log) (sym (stays is)) (alone none)
+    appended_by false is alone none =
+        let h = alone none in
+        elim h.growth.brought [
+          | inl all ↦ record {
+            growth = grown_on h.growth all;
+            alone = appends_both h.growth.added writes.added h.alone writes.appends;
+          }
+          | inr torn ↦ absurd (true≢false (sym torn.2 ∙ is))
+        ]
 
     -- a call of its log of notes
     pub store_on : {T : Type 0} (r : Result T StoreFault)
@@ -287,6 +325,7 @@ module _ {D : Type 0} (files : D → Option Files) (changes : D → Option (List
       );
       risen = rose_of s n kept r cause stops;
       grown = grown_by s.notes.log.is_stopped refl;
+      appended = appended_by s.notes.log.is_stopped refl kept.appended;
       sound = sound;
       folder = folder;
     }

@@ -3,9 +3,7 @@ use Rattle.std.specs.Prelude.{
   ◌≡◌,
   ℕ,
   ◌<◌,
-  ◌≤◌,
   Bool,
-  true,
   false,
   List,
   ◌++◌,
@@ -42,13 +40,11 @@ abbrev pub HasDroppedNone : {T : Type 0} → Result T DropFault → Type 0
 HasDroppedNone (Ok x) = ⊤
 HasDroppedNone (Err why) = (why.dropped ≡ 0) × (why.is_named ≡ false)
 
--- Of so many segments the first have gone; the next one may have its archive name, where segments
--- get one, and there is one then.
+-- Of so many segments the first have gone, and not all; the next one may have its archive name,
+-- where segments get one.
 abbrev pub IsWithin : {T : Type 0} → Bool → ℕ → Result T DropFault → Type 0
 IsWithin archives count (Ok x) = ⊤
-IsWithin archives count (Err why) =
-    (why.dropped ≤ count) × MayBeNamed archives why.is_named
-    × (why.is_named ≡ true → why.dropped < count)
+IsWithin archives count (Err why) = (why.dropped < count) × MayBeNamed archives why.is_named
 
 -- what the files are where a call was refused for memory
 abbrev pub IsLeftBy : Bool → ℕ → List ℕ → ℕ → Bool → StoreFault → Option Files → Option Files

@@ -14,10 +14,12 @@ use Rattle.std.specs.Prelude.{
   length,
   Option,
   option_map,
+  ⊤,
 }
-use Rattle.std.specs.List.{Contains}
+use Rattle.std.specs.List.{AllPairs, Contains}
 use Rattle.clog_spec.specs.Names.{segment_name_of}
 use Rattle.clog_disk.specs.declared.change.Change.{Change}
+use Rattle.clog_disk.specs.declared.change.Change.TheVariants as change
 use Rattle.clog_scan.specs.Cut.{Section}
 use Rattle.clog_crash.specs.Grown.{Append, appends_of, grown}
 use Rattle.clog_crash.specs.Log.{Write}
@@ -28,7 +30,26 @@ use Rattle.clog_store.specs.Life.{State}
 abbrev pub segments_with : List Write → ℕ → List Section → List Write
 segments_with past id sections = past ++ record { id = id; sections = sections } ∷ []
 
--- The appends have brought just the bytes of these segments, and none to another name.
+-- the change appends bytes
+abbrev pub IsAppend : Change → Type 0
+IsAppend (change.Append name bytes) = ⊤
+IsAppend other = ⊥
+
+-- each of these changes appends bytes
+abbrev pub AreAppends : List Change → Type 0
+AreAppends added = (c : Change) → Contains added c → IsAppend c
+
+-- each section of these segments has an entry
+abbrev pub AreFilled : List Write → Type 0
+AreFilled segments = (w : Write) → Contains segments w → (s : Section) → Contains w.sections s
+    → 0 < length s.payloads
+
+-- one segment before another
+abbrev pub IsLower : Write → Write → Type 0
+IsLower a b = a.id < b.id
+
+-- The appends have brought just the bytes of these segments, and none to another name. Each section
+-- has an entry, and the earlier segments stand in the order of their ids.
 pub record IsGrown (appends : List Append) (past : List Write) (id : ℕ) (sections : List Section)
     : Type 0 where
   pub each : (w : Write) → Contains (segments_with past id sections) w
@@ -36,13 +57,16 @@ pub record IsGrown (appends : List Append) (past : List Write) (id : ℕ) (secti
   pub only : (a : Append) → Contains appends a
       → (w : Write) × Contains (segments_with past id sections) w × (0 < length w.sections)
       × (a.0 ≡ segment_name_of 6 w.id)
+  pub filled : AreFilled (segments_with past id sections)
+  pub rise : AllPairs IsLower past
 
--- The disk has made further changes. Where those before had brought just the log's sections, they
--- have now too.
+-- The disk has made further changes, which are appends. Where those before had brought just the
+-- log's sections, they have now too.
 pub record Grows {D : Type 0} (changes : D → Option (List Change)) (before now : State D)
     : Type 0 where
   pub added : List Change
   pub changes_are : changes now.disk ≡ option_map (λ made. made ++ added) (changes before.disk)
+  pub appends : AreAppends added
   pub grows : (appends : List Append) → IsGrown appends before.past before.id before.sections
       → IsGrown (appends ++ appends_of added) now.past now.id now.sections
 
@@ -59,6 +83,7 @@ pub record Writes {D : Type 0} (changes : D → Option (List Change)) (before no
     : Type 0 where
   pub added : List Change
   pub changes_are : changes now.disk ≡ option_map (λ made. made ++ added) (changes before.disk)
+  pub appends : AreAppends added
   pub writes : (appends : List Append) → IsGrown appends before.past before.id before.sections
       → (part : List Section) × AreBrought now part
       × IsGrown (appends ++ appends_of added) now.past now.id part

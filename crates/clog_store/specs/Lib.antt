@@ -17,5 +17,6 @@ pub mod Publishes
 pub mod Resting
 pub mod Several
 pub mod Stepped
+pub mod StoreDrops
 pub mod StoreFolder
 pub mod StoreState

@@ -117,6 +117,7 @@ pub record HasBegun {D : Type 0} (files : D → Option Files) (moment : D → �
   pub few : s.synced ≤ length s.sections
   pub past_below : (w : Write) → Contains s.past w → w.id < s.id
   pub past_stored : (w : Write) → Contains s.past w → IsStored w.id w.sections
+  pub stored : IsStored s.id s.sections
   -- until the disk has failed
   pub ends : s.is_stopped ≡ false → HasEnd (files s.disk) s.id size s.sections
   -- where all lasted at the opening

@@ -24,7 +24,7 @@ use Rattle.std.specs.FinMap as finmap
 use Rattle.std.specs.List.{Contains}
 use Rattle.std.specs.List.Sorted.{IsPermutation}
 use Rattle.clog_spec.specs.Names.{segment_name_of}
-use Rattle.clog_spec.specs.Sizes.{header_size}
+use Rattle.clog_spec.specs.Sizes.{header_size, marker_size}
 use Rattle.clog_base.specs.declared.sizes.Sizes.{Sizes}
 use Rattle.clog_base.specs.Positions.{ordinal_of, offset_of}
 use Rattle.clog_disk.specs.Files.{Files, Told, bytes_at}
@@ -90,10 +90,16 @@ abbrev pub IsApart : ℕ → List EntryNote → Type 0
 IsApart key [] = ⊤
 IsApart key (n ∷ ns) = n.start.0 ≡ key → ⊥
 
--- there is a first of these notes, and it stands in the segment of an id
-abbrev pub BeginsIn : ℕ → ℕ → List EntryNote → Type 0
-BeginsIn base id [] = ⊥
-BeginsIn base id (n ∷ ns) = id ≡ base + ordinal_of n.start.0
+-- the first of these notes, where there is one, stands in the segment of an id or in a later one
+abbrev pub BeginsFrom : ℕ → ℕ → List EntryNote → Type 0
+BeginsFrom base id [] = ⊤
+BeginsFrom base id (n ∷ ns) = id ≤ base + ordinal_of n.start.0
+
+-- The log stands in the synced key's segment, and a key lies behind the marker there.
+pub record IsShortOf {D : Type 0} (s : NoteState D) (upper : ℕ) : Type 0 where
+  pub here : s.log.id ≡ s.base + ordinal_of s.synced
+  pub some : 0 < s.synced
+  pub behind : (s.synced + marker_size < upper) ⊎ (ordinal_of s.synced < ordinal_of upper)
 
 -- What is true while the disk has not failed.
 pub record IsHeld {D : Type 0} (s : NoteState D) : Type 0 where
@@ -110,11 +116,12 @@ pub record IsHeld {D : Type 0} (s : NoteState D) : Type 0 where
   pub forward : s.synced ≤ end_behind s.synced (take s.written s.kept)
   pub ends : EndsAt s.base s.log (end_behind s.synced (take s.written s.kept))
   -- and what is kept besides goes on behind it, with a marker between; where the segment at hand
-  -- is a later one and has no section, it was entered for the first of this
+  -- is a later one and has no section, it was entered for the first of this, or for no note, and
+  -- then none of this stands before it
   pub apart : IsApart (end_behind s.synced (take s.written s.kept)) (drop s.written s.kept)
   pub begins : s.log.sections ≡ []
       → s.base + ordinal_of (end_behind s.synced (take s.written s.kept)) < s.log.id
-      → BeginsIn s.base s.log.id (drop s.written s.kept)
+      → BeginsFrom s.base s.log.id (drop s.written s.kept)
 
 -- What is true also where the disk has failed: what was logged and the first of what is kept stand
 -- in the sections, and of that the former and perhaps some of the latter last.

@@ -35,6 +35,7 @@ use Rattle.clog_store.specs.declared.written.StoreFault.{StoreFault}
 use Rattle.clog_store.specs.Grows.{Grows}
 use Rattle.clog_store.specs.Life.{Lives, LivesOn, State, past_with}
 use Rattle.clog_store.specs.NoteLog.{
+  BeginsFrom,
   HasLog,
   IsGood,
   IsHeld,
@@ -163,11 +164,13 @@ StaysStanding base notes before written now more =
 
 -- ---- a run is logged
 
--- The run may be written, as a keeper with this log is asked to.
+-- The run may be written, as a keeper with this log is asked to, and what of it is to come does not
+-- stand before the segment at hand.
 pub record MayRun {D : Type 0} (s : NoteState D) (upto : ℕ) (run : List EntryNote) : Type 0 where
   pub holding : Holding
   pub has : HasLog s holding
   pub may : MayWrite holding upto run
+  pub from : BeginsFrom s.base s.log.id (drop s.written run)
 
 -- The run is logged.
 abbrev pub Logs : {D : Type 0} → NoteState D → NoteState D → ℕ → List EntryNote → Type 0

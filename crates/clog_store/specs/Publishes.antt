@@ -9,6 +9,7 @@ use Rattle.std.specs.Prelude.{
   [],
   ◌∷◌,
   ◌++◌,
+  IfSome,
   Option,
   Some,
   None,
@@ -18,6 +19,7 @@ use Rattle.std.specs.FinMap as finmap
 use Rattle.clog_spec.specs.Names.{table_name_of}
 use Rattle.clog_base.specs.declared.cell.Cell.{Cell}
 use Rattle.clog_base.specs.declared.cell.CellKey.{CellKey}
+use Rattle.clog_base.specs.declared.cell.Table.{Table}
 use Rattle.clog_base.specs.declared.position.Position.{Position}
 use Rattle.clog_base.specs.Positions.{ordinal_of, position_of}
 use Rattle.clog_disk.specs.declared.change.Change.{Change}
@@ -29,10 +31,12 @@ use Rattle.clog_table.specs.Format.{file_of}
 use Rattle.clog_table.specs.Limits.{IsWritable}
 use Rattle.clog_table.specs.Refusals.{IsFileOf}
 use Rattle.clog_crash.specs.Changes.{IsTrueOf}
+use Rattle.clog_crash.specs.Folder.{IsBase}
 use Rattle.clog_crash.specs.Log.{Write, IsResting}
 use Rattle.clog_crash.specs.Readings.{Reading}
 use Rattle.clog_crash.specs.Rest.{IsBeyond, settled}
 use Rattle.clog_crash.specs.Restore.{IsInInterval}
+use Rattle.clog_store.specs.Named.{HasSequence, OneHas}
 use Rattle.clog_store.specs.declared.publishing.Published.{Published}
 
 -- the file of an interval, where the segment of ordinal 0 has the id `base`
@@ -49,6 +53,13 @@ pub record IsNumbered (base sequence : ℕ) (p : Published) (cells : List (CellK
     pub lower_fits : base + ordinal_of p.lower.0 < 2 ^ 64
     pub upper_fits : base + ordinal_of p.upper.0 < 2 ^ 64
     pub writable : IsWritable (file_at base p cells)
+
+-- A sequence that a name can have, and where the disk tells its files, the next one of the table.
+pub record IsNextSequence (told : Option Files) (table : Table) (sequence : ℕ) : Type 0 where
+  pub starts : 0 < sequence
+  pub fits : sequence < 2 ^ 63
+  pub next : IfSome told
+      (λ f. IsBase (OneHas (HasSequence table) (finmap.keys f)) 1 sequence)
 
 -- The file is true of what lasts, its interval ends where the log lasts, and its name is free.
 pub record IsTrueHere (files : Files) (id : ℕ) (old : List Section) (file : TableFile)

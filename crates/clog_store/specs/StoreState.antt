@@ -10,6 +10,7 @@ use Rattle.std.specs.Prelude.{
   [],
   ◌++◌,
   length,
+  take,
   Option,
   Some,
   None,
@@ -19,7 +20,10 @@ use Rattle.std.specs.Prelude.{
   Err,
 }
 use base.Stored.{Gv}
+use Rattle.clog_base.specs.declared.cell.Cell.{Cell}
+use Rattle.clog_base.specs.declared.cell.CellKey.{CellKey}
 use Rattle.clog_base.specs.declared.sizes.Sizes.{Sizes}
+use Rattle.clog_base.specs.Positions.{position_of}
 use Rattle.clog_io.specs.Causes.{Rose}
 use Rattle.clog_disk.specs.declared.change.Change.{Change}
 use Rattle.clog_disk.specs.Files.{Files, bytes_at}
@@ -31,12 +35,20 @@ use Rattle.clog_folder.specs.declared.fault.OpenFault.{OpenFault}
 use Rattle.path_core.specs.declared.keeper.KeeperFault.{KeeperFault}
 use Rattle.path_core.specs.declared.keeper.KeeperFault.TheVariants as keeper
 use Rattle.path_core.specs.Keeper.{Holding, PutFile}
+use Rattle.clog_store.specs.declared.publishing.Published.{Published}
 use Rattle.clog_store.specs.declared.written.StoreFault.{StoreFault}
 use Rattle.clog_store.specs.declared.written.StoreFault.TheVariants.{Stopped, OutOfMemory}
-use Rattle.clog_store.specs.Grows.{AreBrought, IsGrown}
+use Rattle.clog_store.specs.Grows.{AreAppends, AreBrought, IsGrown}
 use Rattle.clog_store.specs.Life.{State}
 use Rattle.clog_store.specs.NoteLog.{NoteState}
-use Rattle.clog_store.specs.StoreFolder.{Deeds, HoldsStore, IsSound, log_of}
+use Rattle.clog_store.specs.StoreFolder.{
+  Deeds,
+  EndsWithin,
+  HoldsStore,
+  IsSound,
+  log_of,
+  no_deeds,
+}
 
 -- A store: its log of notes; whether it archives; the disk at its opening, when recovery was done;
 -- and the table files that it put, the ordinals of the segments that it dropped, and of those that
@@ -86,6 +98,12 @@ pub record HasGrown {D : Type 0} (changes : D → Option (List Change)) (first :
   pub brought : AreBrought log part
   pub grown : IsGrown (appends_of added) log.past log.id part
 
+-- All of these changes are appends.
+pub record HasAppended {D : Type 0} (changes : D → Option (List Change)) (first : D) (log : State D)
+    : Type 0 where
+  pub growth : HasGrown changes first log
+  pub alone : AreAppends growth.added
+
 -- what it has done beside its log
 abbrev pub deeds_by : {D : Type 0} → StoreState D → Deeds
 deeds_by s = record {
@@ -94,6 +112,11 @@ deeds_by s = record {
   dropped = s.dropped;
   archived = s.archived;
 }
+
+-- Where it has put no file, and dropped and archived no segment, it has appended alone.
+abbrev pub AppendsAlone : {D : Type 0} → (D → Option (List Change)) → StoreState D → Type 0
+AppendsAlone changes s =
+    deeds_by s ≡ no_deeds s.archives → HasAppended changes s.first s.notes.log
 
 -- Where its disk tells its files, the folder is that of the store.
 abbrev pub HoldsIt : {D : Type 0} → (D → Option Files) → StoreState D → Type 0
@@ -110,6 +133,7 @@ pub record IsStore {D : Type 0} (files : D → Option Files) (changes : D → Op
   pub no_fewer : faults s.first ≤ faults s.notes.log.disk
   pub risen : s.notes.log.is_stopped ≡ true → Rose (faults s.first) (faults s.notes.log.disk)
   pub grown : HasGrown changes s.first s.notes.log
+  pub appended : AppendsAlone changes s
   -- until the disk has failed
   pub sound : s.notes.log.is_stopped ≡ false → IsSound s.notes.log
   pub folder : s.notes.log.is_stopped ≡ false → HoldsIt files s
@@ -148,3 +172,24 @@ abbrev pub HandsOver : {D : Type 0} → (D → Type 0) → Result (StoreState D)
     → Type 0
 HandsOver P (Ok store) = P store.notes.log.disk
 HandsOver P (Err back) = P back.0
+
+-- its log of sections alone has gone on
+abbrev pub HasMoved : {D : Type 0} → StoreState D → StoreState D → Type 0
+HasMoved before now =
+    now ≡ record before { notes = record before.notes { log = now.notes.log } }
+
+-- ---- table files
+
+-- the table file that is put with these cells
+abbrev pub put_of : Published → List (CellKey × Cell) → PutFile
+put_of p cells = record {
+  table = p.table.0;
+  lower = p.lower.0;
+  upper = p.upper.0;
+  cells = cells;
+}
+
+-- The log lasts up to the key, or the key lies behind the marker that is to come there.
+abbrev pub HasReached : {D : Type 0} → NoteState D → ℕ → Type 0
+HasReached s key =
+    EndsWithin s.log.id (take s.log.synced s.log.sections) (position_of s.base key)

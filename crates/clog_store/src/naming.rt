@@ -26,6 +26,9 @@ const ID_LIMIT: u64 = 4_611_686_018_427_387_903;
 /// The greatest sequence that a table's file may have where a folder is opened.
 pub(crate) const SEQUENCE_LIMIT: u64 = 4_611_686_018_427_387_904;
 
+/// The greatest sequence that a name can have.
+pub(crate) const GREATEST_SEQUENCE: u64 = 9_223_372_036_854_775_807;
+
 /// The id in the name of a segment of any version, or of an archived one.
 fn id_in(name: &Name) -> Option<u64>
     ensures { MatchOption result ((id : ℕ) → ¬ HasId name.now id)

@@ -3,16 +3,42 @@
 //!
 //! After a sync that was refused for memory it keeps copies of what it was lent, since some of it
 //! may stand in its sections: the next sync begins with these and goes on behind what was written.
-ghost use Rattle.std.specs.Prelude.{◌≡◌, ◌<◌, ◌^◌, [], OnErr, OnOk, false, true};
+ghost use Rattle.std.specs.Prelude.{
+  ◌≡◌,
+  ◌↔◌,
+  ◌+◌,
+  ◌<◌,
+  ◌≤◌,
+  ◌^◌,
+  [],
+  IsTrue,
+  OnErr,
+  OnOk,
+  drop,
+  false,
+  true,
+};
+ghost use Rattle.clog_base.specs.Positions.{ordinal_of};
 ghost use Rattle.clog_disk.specs.Images.{IsLater};
 ghost use Rattle.clog_store.specs.Grows.{Grows, Writes};
 ghost use Rattle.clog_spec.specs.Names.{segment_name_of};
 ghost use Rattle.clog_crash.specs.Sections.{segment_bytes};
 ghost use Rattle.clog_store.specs.Life.{Lives, LivesOn, ReadsAs};
 ghost use Rattle.clog_store.specs.StoreFolder.{IsSound};
-ghost use Rattle.clog_store.specs.NoteLog.{HasRefused, HasSynced, LeavesOthers, MayLog};
+ghost use Rattle.clog_store.specs.NoteLog.{
+  BeginsFrom,
+  HasRefused,
+  HasSynced,
+  IsNoteLog,
+  LeavesOthers,
+  MayLog,
+};
 ghost use Rattle.clog_store.specs.NoteSteps.{GoesOn, Leaves, Logs, LogsNot, MayRun};
 ghost use Rattle.clog_store.specs.Stepped.{HasLogCause, StopsBy};
+
+mod dropping;
+mod going;
+mod putting;
 
 use crate::note_order::{drop_front, part_at};
 use crate::note_sections::copies_of;
@@ -66,6 +92,14 @@ impl<D: Disk> Model for NoteLog<D> {
       kept = s.kept.items;
       written = s.written;
     }) };
+}
+
+// Whether a key lies in the segment of an id or in a later one.
+fn is_from(base: u64, id: u64, key: Key) -> bool
+    requires { base < 2 ^ 62 }
+    ensures { IsTrue result ↔ (id ≤ base + ordinal_of key.0) }
+{
+    id <= key.position(base).id
 }
 
 impl<D: Disk> NoteLog<D> {
@@ -129,9 +163,21 @@ impl<D: Disk> NoteLog<D> {
         Ok(())
     }
 
+    // Whether the first of the notes that are to come stands in the segment at hand or a later one.
+    fn may_begin(&self, notes: &[EntryNote]) -> bool
+        ensures { IsTrue result
+            ↔ BeginsFrom self.now.base self.now.log.id (drop self.now.written notes.now) }
+    {
+        if self.written >= notes.len() {
+            return true;
+        }
+        is_from(self.base, self.log.id(), notes[self.written].start)
+    }
+
     /// Makes all pending notes up to a key lasting, and keeps the others pending. Where it is
     /// refused all are pending; the sections that the disk took stay, and the next call goes on
-    /// behind them.
+    /// behind them. Notes of a segment that the log has left for no note are refused like those for
+    /// which there is no memory.
     pub fn sync(&mut self, pending: &mut Vec<EntryNote>, upto: Key) -> Result<(), StoreFault>
         requires { MayLog self.old upto.0 pending.old.items }
         ensures syncs { OnOk result (HasSynced self.old self.new upto.0 pending.old.items
@@ -159,6 +205,9 @@ impl<D: Disk> NoteLog<D> {
         }
         let count = part_at(pending, upto.0);
         let run = copies_of(self.alloc, &pending[..count])?;
+        if !self.may_begin(&run) {
+            return Err(StoreFault::OutOfMemory);
+        }
         self.log_run(run, upto.0)?;
         drop_front(pending, count);
         Ok(())
@@ -166,7 +215,8 @@ impl<D: Disk> NoteLog<D> {
 
     /// The id of the segment of ordinal 0.
     pub fn base(&self) -> u64
-        ensures { result ≡ self.now.base }
+        ensures base { result ≡ self.now.base }
+        ensures fits { self.now.base < 2 ^ 62 }
     {
         self.base
     }
@@ -186,7 +236,8 @@ impl<D: Disk> NoteLog<D> {
 
     /// The log of sections in which its notes stand.
     pub fn into_log(self) -> SectionLog<D>
-        ensures { result ≡ self.log }
+        ensures log { result ≡ self.log }
+        ensures notes { IsNoteLog self }
     {
         self.log
     }

@@ -44,6 +44,7 @@ ghost use Rattle.clog_store.specs.Opened.{
 
 mod dropping;
 mod files;
+mod listing;
 mod rolling;
 
 use crate::opening::recover;
@@ -269,6 +270,7 @@ impl<D: Disk> SectionLog<D> {
     /// folder restored then and the first of the entries, and each image of now all that last.
     pub fn into_disk(self) -> D
         ensures disk { result ≡ self.disk }
+        ensures stored { IsStored self.id self.sections }
         ensures shown { D.lasted_at result self.opened
             → ShownSince D.files D.moment D.since D.read_at D.lasted_at result self.opened
             self.past self.id self.sections }

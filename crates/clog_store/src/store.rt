@@ -3,12 +3,14 @@
 //!
 //! It keeps true (`IsStore`) that its disk goes on from the one of its opening, that it has stopped
 //! only where the disk's count of faults has risen since, and that the appends since have brought
-//! just the sections of its log, so that the log holds each entry once. Until the disk has failed
-//! its folder holds just what the store wrote, and what was there at the opening.
+//! just the sections of its log, so that the log holds each entry once. Until it has put a file or
+//! dropped a segment, the changes since are appends alone. Until the disk has failed its folder
+//! holds just what the store wrote, and what was there at the opening.
 ghost use Rattle.std.specs.Prelude.{◌≡◌, ◌<◌, ◌^◌, [], IfErr, IfOk, Some, false};
 ghost use Rattle.clog_disk.specs.Files.{Files, SameTold, Told};
 ghost use Rattle.clog_disk.specs.Images.{IsLater, LastsAll, LeavesOnly};
 ghost use Rattle.clog_folder.specs.Passing.{IsUntouched, TellsFault};
+ghost use Rattle.clog_crash.specs.Sections.{IsStored};
 ghost use Rattle.path_core.specs.Keeper.{IsFresh};
 ghost use Rattle.clog_store.specs.Life.{LastsNow, Lives, ShownSince};
 ghost use Rattle.clog_store.specs.Opened.{
@@ -19,8 +21,10 @@ ghost use Rattle.clog_store.specs.Opened.{
   RecoversAll,
   RecoversFirst,
 };
-ghost use Rattle.clog_store.specs.StoreFolder.{HoldsStore, fresh_log, no_deeds};
+ghost use Rattle.clog_store.specs.NoteLog.{IsNoteLog};
+ghost use Rattle.clog_store.specs.StoreFolder.{HoldsStore, IsSound, fresh_log, no_deeds};
 ghost use Rattle.clog_store.specs.StoreState.{
+  AppendsAlone,
   HandsOver,
   HasGrown,
   HoldsIt,
@@ -29,6 +33,9 @@ ghost use Rattle.clog_store.specs.StoreState.{
   told_as,
 };
 
+mod discarding;
+mod keeping;
+mod putting;
 mod syncing;
 
 use crate::note_log::NoteLog;
@@ -107,11 +114,11 @@ impl<D: Disk> Model for Store<D> {
 }
 
 // What a path is answered, with the disk's counts of faults at the opening and now.
-fn told(at_open: u64, now: u64, outcome: Result<(), StoreFault>) -> Result<(), KeeperFault>
+fn told<T>(at_open: u64, now: u64, outcome: Result<T, StoreFault>) -> Result<T, KeeperFault>
     ensures { result ≡ told_as at_open now outcome }
 {
     match outcome {
-        Ok(()) => Ok(()),
+        Ok(answer) => Ok(answer),
         Err(StoreFault::Stopped) => Err(KeeperFault::Stopped { at_open, now }),
         Err(StoreFault::OutOfMemory) => Err(KeeperFault::OutOfMemory),
     }
@@ -194,19 +201,25 @@ impl<D: Disk> Store<D> {
 
     /// The id of its first segment.
     pub fn base(&self) -> u64
-        ensures { result ≡ self.now.notes.base }
+        ensures base { result ≡ self.now.notes.base }
+        ensures fits { self.now.notes.base < 2 ^ 62 }
     {
         self.notes.base()
     }
 
     /// Gives the disk back. The appends since the opening have brought just the log's sections, and
     /// where all lasted at the opening, each image since restores what the folder restored then and
-    /// the first of the entries, and each image of now all that last.
+    /// the first of the entries, and each image of now all that last. A store that has put no file
+    /// and dropped no segment has appended alone.
     pub fn into_disk(self) -> D
         ensures disk { result ≡ self.notes.log.disk }
         ensures opened { self.notes.log.opened ≡ D.moment self.first }
         ensures later { IsLater D.moment D.read_at D.lasted_at self.first result }
         ensures grown { HasGrown D.changes self.first self.notes.log }
+        ensures alone { AppendsAlone D.changes self }
+        ensures notes { IsNoteLog self.notes }
+        ensures stored { IsStored self.notes.log.id self.notes.log.sections }
+        ensures sound { self.notes.log.is_stopped ≡ false → IsSound self.notes.log }
         ensures folder { self.notes.log.is_stopped ≡ false → HoldsIt D.files self }
         ensures shown { D.lasted_at result self.notes.log.opened
             → ShownSince D.files D.moment D.since D.read_at D.lasted_at result

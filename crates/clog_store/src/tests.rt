@@ -1,7 +1,8 @@
 //! The example segment of the formats is recovered. Its bytes, and those of the table file, were
 //! worked out by hand and by Python's struct and zlib.
-use crate::{SectionLog, Store, recover};
-use clog_base::{Key, Sizes, Table, segment_name, table_name};
+use crate::{SectionLog, Store, drop_segments, recover};
+use clog_base::{Key, Sizes, Table, archive_name, segment_name, table_name};
+use clog_cells::CellMap;
 use clog_disk::{Disk, MemDisk};
 use clog_folder::OpenFault;
 use clog_scan::Cause;
@@ -85,6 +86,59 @@ fn a_store_with_nothing_pending_writes_nothing(rt: HostRuntime) -> Result<(), Fa
     assert_eq!(rt;
         disk.list()?.as_slice(),
         [table_name(Table(0), 1)].as_slice()
+    );
+    Ok(())
+}
+
+#[test]
+fn a_segment_goes_under_its_archive_name(rt: HostRuntime) -> Result<(), Fail> {
+    let mut disk = MemDisk::new(rt.alloc());
+    disk.publish(&segment_name(1000), &SEGMENT)?;
+    assert!(rt; drop_segments(&mut disk, 1000, true, &[0]).is_ok());
+    let names = disk.list()?;
+    assert_eq!(rt; names.as_slice(), [archive_name(1000)].as_slice());
+    let bytes = disk.read(&archive_name(1000), 0, 100)?;
+    assert_eq!(rt; bytes.as_slice(), SEGMENT.as_slice());
+    Ok(())
+}
+
+#[test]
+fn a_store_without_table_files_drops_nothing(rt: HostRuntime) -> Result<(), Fail> {
+    let Some(sizes) = Sizes::make(1, 1, 4096, 4) else {
+        return Err(Fail::new("no sizes"));
+    };
+    let mut disk = MemDisk::new(rt.alloc());
+    disk.publish(&segment_name(1000), &SEGMENT)?;
+    let Some(mut store) = Store::open(rt.alloc(), disk, 1000, sizes, true).ok() else {
+        return Err(Fail::new("no store"));
+    };
+    assert_eq!(rt; store.drop_due(4).ok(), Some(0));
+    let mut disk = store.into_disk();
+    assert_eq!(rt;
+        disk.list()?.as_slice(),
+        [table_name(Table(0), 1)].as_slice()
+    );
+    Ok(())
+}
+
+#[test]
+fn a_store_puts_a_file_behind_those_of_its_table(rt: HostRuntime) -> Result<(), Fail> {
+    let Some(sizes) = Sizes::make(1, 1, 4096, 4) else {
+        return Err(Fail::new("no sizes"));
+    };
+    let mut disk = MemDisk::new(rt.alloc());
+    disk.publish(&segment_name(1000), &SEGMENT)?;
+    let mut store = match Store::open(rt.alloc(), disk, 1000, sizes, false) {
+        Ok(store) => store,
+        Err(_) => return Err(Fail::new("no store")),
+    };
+    // Nothing was logged since, so the file of what there is has no cells.
+    let cells = CellMap::new(rt.alloc());
+    assert!(rt; store.put_table(Table(0), Key(0), Key(28), &cells).is_ok());
+    let mut disk = store.into_disk();
+    assert_eq!(rt;
+        disk.list()?.as_slice(),
+        [table_name(Table(0), 1), table_name(Table(0), 2)].as_slice()
     );
     Ok(())
 }

@@ -1,7 +1,7 @@
 //! What a store is handed and keeps: sections, the segments that it has left, and why it refuses.
 ghost use Rattle.std.specs.Prelude.{◌≡◌};
 
-use clog_base::Bytes;
+use clog_base::{Bytes, OutOfMemory};
 use std::alloc::{AllocError, AllocFailed};
 use std::marker::Model;
 
@@ -54,6 +54,18 @@ impl From<AllocError> for StoreFault {
     ghost from_gives = { λ _ e. e ≡ OutOfMemory };
 
     fn from(_: AllocError) -> Self {
+        StoreFault::OutOfMemory
+    }
+}
+
+impl From<OutOfMemory> for StoreFault {
+    ghost use Rattle.clog_store.specs.declared.written.StoreFault.TheVariants.{
+      OutOfMemory as no_memory,
+    };
+
+    ghost from_gives = { λ _ e. e ≡ no_memory };
+
+    fn from(_: OutOfMemory) -> Self {
         StoreFault::OutOfMemory
     }
 }

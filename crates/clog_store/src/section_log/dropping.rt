@@ -7,6 +7,7 @@ ghost use Rattle.std.specs.Prelude.{
   Contains,
   IfSome,
   length,
+  false,
   take,
   true,
 };
@@ -51,7 +52,8 @@ impl<D: Disk> SectionLog<D> {
         ensures passes { Passes self.old self.new (fault_of result) }
         ensures stays { self.old.is_stopped ≡ true → self.new ≡ self.old }
         ensures none { self.old.is_stopped ≡ true → HasDroppedNone result }
-        ensures within { IsWithin archives (length ordinals.now) result }
+        ensures within { self.old.is_stopped ≡ false
+            → IsWithin archives (length ordinals.now) result }
         ensures told { SameTold (D.files self.old.disk) (D.files self.new.disk) }
         ensures files { DropsFiles archives base ordinals.now (D.files self.old.disk)
             (D.files self.new.disk) result }

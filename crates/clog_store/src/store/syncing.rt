@@ -1,5 +1,5 @@
 //! A store makes entries last: a sync of a path.
-ghost use Rattle.std.specs.Prelude.{◌≡◌, OnErr, OnOk};
+ghost use Rattle.std.specs.Prelude.{◌≡◌, OnErr, OnOk, false};
 ghost use Rattle.clog_disk.specs.Images.{IsLater};
 ghost use Rattle.path_core.specs.Keeper.{HasKeeperCause, MaySync, SyncRefused, Syncs};
 ghost use Rattle.clog_store.specs.Life.{Lives, LivesOn};
@@ -33,6 +33,8 @@ impl<D: Disk> Store<D> {
         ensures cause { HasKeeperCause
             (holding_of D.files D.changes D.moment D.faults D.row.coded.code self.old)
             (holding_of D.files D.changes D.moment D.faults D.row.coded.code self.new) result }
+        ensures quiet { self.new.notes.log.is_stopped ≡ false
+            → D.faults self.new.notes.log.disk ≡ D.faults self.old.notes.log.disk }
         ensures first { self.new.first ≡ self.old.first }
         ensures later { IsLater D.moment D.read_at D.lasted_at self.old.notes.log.disk
             self.new.notes.log.disk }

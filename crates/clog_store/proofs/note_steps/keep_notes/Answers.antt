@@ -8,7 +8,7 @@ use Rattle.clog_store.specs.Stepped.{Keeps}
 use Rattle.clog_store.proofs.NoteGoes.{goes_still, kept_opened}
 use Rattle.clog_store.proofs.NoteGrows.{grows_same, spells, writes_kept, writes_of}
 use Rattle.clog_store.proofs.NoteLeaves.{leaves_kept, leaves_same}
-use Rattle.clog_store.proofs.NoteRuns.{brings, first_is, next_is, room}
+use Rattle.clog_store.proofs.NoteRuns.{brings, first_is, next_is, room, some_payloads}
 use Rattle.clog_store.proofs.note_steps.keep_notes.Goals as goal
 
 pub section_of-requires : goal.section_of-requires
@@ -64,7 +64,9 @@ returns-in-Ok-clause-leaves g c still =
     c.id.ensures.id) in
     leaves_kept D.files D.changes a b c.in-Ok.section bytes c.keep.result c.keep.ensures.keeps
     c.keep.ensures.adds c.requires.runs stored.fits c.id.ensures.below
-    (spells a.id a.synced a.sections c.in-Ok.section bytes brought) still
+    (spells a.id a.synced a.sections c.in-Ok.section bytes brought)
+    (some_payloads notes c.in-Ok.section (ap (λ (s : Section). s.payloads) c.in-Ok.ensures.0)
+    c.requires.next.some) still
 
 pub returns-in-Err-clause-leaves : goal.returns-in-Err-clause-leaves
 returns-in-Err-clause-leaves g c still =
@@ -90,6 +92,8 @@ returns-in-Ok-clause-writes g c =
     writes_kept D.changes a b c.in-Ok.section bytes c.keep.result c.keep.ensures.keeps
     c.keep.ensures.adds.adds c.requires.runs stored.fits c.id.ensures.below c.id.ensures.few
     (spells a.id a.synced a.sections c.in-Ok.section bytes brought)
+    (some_payloads notes c.in-Ok.section (ap (λ (s : Section). s.payloads) c.in-Ok.ensures.0)
+    c.requires.next.some)
 
 pub returns-in-Err-clause-writes : goal.returns-in-Err-clause-writes
 returns-in-Err-clause-writes g c =

@@ -1,6 +1,7 @@
 use Rattle.std.proofs.Common.{◌≡◌, ◌∙◌, List, drop, take, refl, sym, ap, subst}
 use Rattle.path_core.specs.declared.note.EntryNote.{EntryNote}
 use Rattle.path_core.specs.Keeper.{IsParted}
+use Rattle.clog_store.specs.NoteLog.{BeginsFrom}
 use Rattle.clog_store.proofs.Lived.{lives_still}
 use Rattle.clog_store.proofs.NoteGrows.{grows_same, writes_of}
 use Rattle.clog_store.proofs.NoteLeaves.{leaves_same}
@@ -13,6 +14,13 @@ returns-then-is_stopped-clause-lives g c lives =
     let log = c.args.self.now.log in
     lives_still D.files D.moment D.since D.leaves D.read_at D.lasted_at log
     (g.met.D.Disk.only_now log.disk) lives
+
+pub returns-then-not-may_begin-clause-lives : goal.returns-then-not-may_begin-clause-lives
+returns-then-not-may_begin-clause-lives g c =
+    let D = g.D.Disk in
+    let log = c.args.self.now.log in
+    lives_still D.files D.moment D.since D.leaves D.read_at D.lasted_at log
+    (g.met.D.Disk.only_now log.disk)
 
 pub returns-in_err-run-clause-lives : goal.returns-in_err-run-clause-lives
 returns-in_err-run-clause-lives g c =
@@ -31,6 +39,9 @@ log_run-requires-clause-may g c =
     (drop count pending)
     (subst (λ (l : List EntryNote). IsParted c.args.upto.0 c.args.pending.now.items l
     (drop count pending)) (sym is) c.part_at-count.ensures.parted) c.requires
+    (subst (λ (l : List EntryNote). BeginsFrom c.args.self.now.base c.args.self.now.log.id
+    (drop c.args.self.now.written l)) c.deref-2.ensures.value
+    (c.may_begin.ensures.0 c.if-not-may_begin.false))
 
 -- ---- nothing is written
 
@@ -43,6 +54,16 @@ pub returns-in_err-run-clause-others : goal.returns-in_err-run-clause-others
 returns-in_err-run-clause-others g c runs =
     let log = c.args.self.now.log in
     (leaves_same g.D.Disk.files g.D.Disk.changes log log refl refl refl refl refl).rest
+
+pub returns-then-not-may_begin-clause-others : goal.returns-then-not-may_begin-clause-others
+returns-then-not-may_begin-clause-others g c runs =
+    let log = c.args.self.now.log in
+    (leaves_same g.D.Disk.files g.D.Disk.changes log log refl refl refl refl refl).rest
+
+pub returns-then-not-may_begin-clause-writes : goal.returns-then-not-may_begin-clause-writes
+returns-then-not-may_begin-clause-writes g c =
+    let log = c.args.self.now.log in
+    writes_of g.D.Disk.changes log log (grows_same g.D.Disk.changes log log refl refl refl refl)
 
 pub returns-in_err-run-clause-writes : goal.returns-in_err-run-clause-writes
 returns-in_err-run-clause-writes g c =

@@ -16,9 +16,9 @@ use Rattle.std.proofs.Common.{
 }
 use Rattle.std.proofs.lemmas.Bool.{true≢false}
 use Rattle.clog_scan.specs.Cut.{Section}
-use Rattle.clog_crash.specs.Sections.{Brings}
+use Rattle.clog_crash.specs.Sections.{Brings, IsStored}
 use Rattle.clog_store.specs.Life.{HasEnd, Lives, LivesOn, State}
-use Rattle.clog_store.proofs.Begun.{begun_on}
+use Rattle.clog_store.proofs.Begun.{begun_on, stored_more}
 use Rattle.clog_store.proofs.Ends.{end_more, end_same}
 use Rattle.clog_store.proofs.Lived.{lives_from, lives_still}
 use Rattle.clog_store.proofs.LivedCalls.{lives_kept, lives_same, lives_torn}
@@ -193,6 +193,7 @@ invariant_of-self-in-Ok g c =
     c.push.new.self.items s.synced s.is_stopped (s.size + length bytes) c.self.invariant
     c.keep_sections.ensures.later
     (omega (arith, c.self.invariant.few, ap length more, length-append ss (x ∷ [])))
+    (subst (IsStored s.id) (sym more) (stored_more s.id s.synced ss x c.args.bytes.now brings))
     (λ runs. subst (λ (l : List Section). HasEnd (D.files mid) s.id (s.size + length bytes) l)
     (sym more)
     (end_more (D.files s.disk) (D.files mid) s.id s.size s.synced ss x bytes
@@ -235,6 +236,7 @@ invariant_of-self-in-Err-OutOfMemory g c =
     c.take_back.new.sections.items s.synced s.is_stopped s.size c.self.invariant
     c.keep_sections.ensures.later
     (omega (arith, c.self.invariant.few, ap length back))
+    (subst (IsStored s.id) (sym back) c.self.invariant.stored)
     (λ runs. subst (λ (l : List Section). HasEnd (D.files mid) s.id s.size l) (sym back)
     (end_same (D.files s.disk) (D.files mid) s.id s.size ss
     (no_failure c.keep_sections.result c.in-Err-OutOfMemory.is
@@ -277,6 +279,7 @@ invariant_of-self-in-Err-Failed g c =
     begun_on D.files D.moment D.since D.leaves D.read_at D.lasted_at before s.size mid
     c.push.new.self.items s.synced true s.size c.self.invariant c.keep_sections.ensures.later
     (omega (arith, c.self.invariant.few, ap length more, length-append ss (x ∷ [])))
+    (subst (IsStored s.id) (sym more) (stored_more s.id s.synced ss x c.args.bytes.now brings))
     (λ runs. absurd (true≢false runs))
     (λ lived. subst (λ (l : List Section). LivesOn D.files D.moment D.since D.leaves D.read_at
     D.lasted_at before (record before { disk = mid; sections = l; is_stopped = true })) (sym more)

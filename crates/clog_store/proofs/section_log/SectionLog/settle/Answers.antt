@@ -172,7 +172,7 @@ invariant_of-self g c =
     let len = c.len-self-inside.ensures ∙ s.sections.ok.0 in
     begun_on D.files D.moment D.since D.leaves D.read_at D.lasted_at before s.size new ss
     c.len-self-inside.result s.is_stopped s.size c.self.invariant c.settle_sections.ensures.later
-    (omega (arith, len))
+    (omega (arith, len)) c.self.invariant.stored
     (λ runs. end_same (D.files s.disk) (D.files new) s.id s.size ss
     c.settle_sections.ensures.same (c.self.invariant.ends runs))
     (λ lived. subst (λ (k : ℕ). LivesOn D.files D.moment D.since D.leaves D.read_at D.lasted_at
@@ -215,7 +215,7 @@ invariant_of-self-in-Err-OutOfMemory g c =
     grind (arith, nat_tests) in
     begun_on D.files D.moment D.since D.leaves D.read_at D.lasted_at before s.size new ss
     s.synced s.is_stopped s.size c.self.invariant c.settle_sections.ensures.later
-    c.self.invariant.few
+    c.self.invariant.few c.self.invariant.stored
     (λ runs. end_same (D.files s.disk) (D.files new) s.id s.size ss
     c.settle_sections.ensures.same (c.self.invariant.ends runs))
     (λ lived. lives_same D.files D.moment D.since D.leaves D.read_at D.lasted_at before new
@@ -260,7 +260,7 @@ invariant_of-self-in-Err-Failed g c =
     grind (arith, nat_tests) in
     begun_on D.files D.moment D.since D.leaves D.read_at D.lasted_at before s.size new ss
     s.synced true s.size c.self.invariant c.settle_sections.ensures.later c.self.invariant.few
-    (λ runs. absurd (true≢false runs))
+    c.self.invariant.stored (λ runs. absurd (true≢false runs))
     (λ lived. lives_stopped D.files D.moment D.since D.leaves D.read_at D.lasted_at before new
     c.if-self.false lived
     (λ image left. g.met.D.Disk.counts_now new (D.moment s.disk) image

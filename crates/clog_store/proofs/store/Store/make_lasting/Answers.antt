@@ -1,9 +1,16 @@
-use Rattle.std.proofs.Common.{ℕ, refl, sym, ◌∙◌, ap₂, subst}
+use Rattle.std.proofs.Common.{◌≡◌, ℕ, refl, sym, ◌∙◌, ap₂, subst}
 use Rattle.std.specs.Prelude.{OnErr, OnOk}
 use Rattle.path_core.specs.Keeper.{HasKeeperCause, MaySync, SyncRefused, Syncs}
 use Rattle.clog_store.specs.StoreState.{StoreState, holding_of, told_as}
 use Rattle.clog_store.proofs.StoreFolds.{folder_synced}
-use Rattle.clog_store.proofs.StoreKept.{cause_told, refused_told, rose_of, store_on, syncs_told}
+use Rattle.clog_store.proofs.StoreKept.{
+  cause_told,
+  quiet_call,
+  refused_told,
+  rose_of,
+  store_on,
+  syncs_told,
+}
 use Rattle.clog_store.proofs.store.Store.make_lasting.Goals as goal
 
 pub sync-outcome-requires : goal.sync-outcome-requires
@@ -134,3 +141,14 @@ returns-clause-cause g c =
     (cause_told D.files D.changes D.moment D.faults g.row.D.coded.code s n c.args.upto.0
     c.args.pending.now.items c.sync-outcome.new.pending.items c.sync-outcome.result is.cause
     is.stops c.told.result says risen c.fault_count.ensures.fits)
+
+pub returns-clause-quiet : goal.returns-clause-quiet
+returns-clause-quiet g c still =
+    let D = g.D.Disk in
+    let i = c.self.inside in
+    let is = c.sync-outcome.ensures in
+    let n = c.sync-outcome.new.self in
+    subst (λ (x : StoreState g.row.D.Denot). D.faults n.log.disk ≡ D.faults x.notes.log.disk)
+    c.self.view_is
+    (quiet_call i.notes.log.is_stopped n.log.is_stopped (D.faults i.notes.log.disk)
+    (D.faults n.log.disk) c.sync-outcome.result is.cause is.stops still)

@@ -1,0 +1,295 @@
+-- What a store keeps over the steps in which a table file is put, and what a path is told of them.
+use Rattle.std.proofs.Common.{
+  ◌≡◌,
+  ℕ,
+  inl,
+  inr,
+  Bool,
+  true,
+  false,
+  List,
+  [],
+  ◌∷◌,
+  ◌++◌,
+  length,
+  Option,
+  refl,
+  sym,
+  ◌∙◌,
+  ap,
+  subst,
+  arith,
+  append-nil,
+  length-append,
+}
+use Rattle.std.specs.Prelude.{Err, IfOk, OnOk, Ok, Result, is_some, option_map}
+use Rattle.std.proofs.lemmas.Bool.{true≢false}
+use base.Stored.{Gv}
+use Rattle.clog_spec.specs.Names.{segment_name_of}
+use Rattle.clog_base.specs.declared.cell.Cell.{Cell}
+use Rattle.clog_base.specs.declared.cell.CellKey.{CellKey}
+use Rattle.clog_base.proofs.Members.{nothing_there}
+use Rattle.clog_cells.proofs.Merging.{of_same}
+use Rattle.clog_disk.specs.declared.change.Change.{Change}
+use Rattle.clog_disk.specs.declared.change.Change.TheVariants as change
+use Rattle.clog_disk.specs.Files.{Files}
+use Rattle.clog_disk.specs.Images.{IsLater}
+use Rattle.clog_disk.proofs.Moments.{later_still}
+use Rattle.clog_crash.specs.Grown.{Append, appends_of}
+use Rattle.clog_crash.specs.Readings.{Reading}
+use Rattle.clog_crash.specs.Sections.{segment_bytes}
+use Rattle.clog_crash.proofs.counts.Growing.{appends_of-append}
+use Rattle.path_core.specs.declared.keeper.KeeperFault.{KeeperFault}
+use Rattle.path_core.specs.Keys.{after}
+use Rattle.path_core.specs.Keeper.{Holding, IsLoggedCell, MayPublish, PutFile}
+use Rattle.clog_store.specs.declared.written.StoreFault.{StoreFault}
+use Rattle.clog_store.specs.declared.written.StoreFault.TheVariants.{Stopped, OutOfMemory}
+use Rattle.clog_store.specs.Grows.{IsGrown, Writes}
+use Rattle.clog_store.specs.Life.{ReadsAs, State}
+use Rattle.clog_store.specs.NoteLog.{LeavesOthers, NoteState}
+use Rattle.clog_store.specs.Stepped.{HasLogCause, Passes, StopsBy}
+use Rattle.clog_store.specs.StoreFolder.{Deeds, HoldsStore, IsSound, StoreLog, log_of}
+use Rattle.clog_store.specs.StoreState.{
+  HasGrown,
+  HasMoved,
+  HasReached,
+  HoldsIt,
+  IsStore,
+  StoreState,
+  deeds_by,
+  holding_of,
+  told_as,
+}
+use Rattle.clog_store.proofs.NoteGrows.{added_both, grows_same, writes_of}
+use Rattle.clog_store.proofs.NotePasses.{passes_runs, passes_same}
+use Rattle.clog_store.proofs.StoreFolds.{folder_with}
+use Rattle.clog_store.proofs.StoreKept.{fault_later, rose_of, store_on}
+
+-- ---- its log of sections alone has gone on
+
+module _ {D : Type 0} (files : D → Option Files) (changes : D → Option (List Change))
+    (moment faults : D → ℕ) (code : D → Gv) where
+  abbrev Held : StoreState D → Holding
+  Held x = holding_of files changes moment faults code x
+
+  pub moved_both : (a b c : StoreState D) → HasMoved a b → HasMoved b c → HasMoved a c
+  moved_both a b c first next =
+      next ∙ (λ i. record (first i) {
+        notes = record (first i).notes { log = c.notes.log };
+      })
+
+  pub may_moved : (a b : StoreState D) (put : PutFile) → HasMoved a b → MayPublish (Held a) put
+      → MayPublish (Held b) put
+  may_moved a b put moved may =
+      let there : StoreState D = record a { notes = record a.notes { log = b.notes.log } } in
+      let same : (pair : CellKey × Cell) → IsLoggedCell (Held a) put pair
+      → IsLoggedCell (Held there) put pair = λ pair is. record {
+        note = is.note;
+        among = is.among;
+        whole = is.whole;
+        listed = is.listed;
+        of_table = is.of_table;
+        above = is.above;
+        up_to = is.up_to;
+      } in
+      let back : (pair : CellKey × Cell) → IsLoggedCell (Held there) put pair
+      → IsLoggedCell (Held a) put pair = λ pair is. record {
+        note = is.note;
+        among = is.among;
+        whole = is.whole;
+        listed = is.listed;
+        of_table = is.of_table;
+        above = is.above;
+        up_to = is.up_to;
+      } in
+      let now : MayPublish (Held there) put = record {
+        table_is = may.table_is;
+        lasting = may.lasting;
+        goes_on = may.goes_on;
+        forward = may.forward;
+        merged = of_same (IsLoggedCell (Held a) put) (IsLoggedCell (Held there) put) put.cells
+            (λ pair. (same pair, back pair)) may.merged;
+        few = may.few;
+      } in
+      subst (λ (x : StoreState D). MayPublish (Held x) put) (sym moved) now
+
+-- what it has in mind of its log stays
+pub as_passed : {D T : Type 0} (s : NoteState D) (l : State D) (r : Result T StoreFault)
+    → Passes s.log l r → log_of (record s { log = l }) ≡ log_of s
+as_passed s l r passes = λ i. log_of (record s { log = passes_same s l r passes i })
+
+-- ---- what it keeps
+
+module _ {D : Type 0} (files : D → Option Files) (changes : D → Option (List Change))
+    (moment faults : D → ℕ) (read_at : D → ℕ → Option Reading) (lasted_at : D → ℕ → Type 0)
+    (s : StoreState D) (l : State D)
+    (kept : IsStore files changes moment faults read_at lasted_at s) {T : Type 0}
+    (r : Result T StoreFault) (passes : Passes s.notes.log l r)
+    (later : IsLater moment read_at lasted_at s.notes.log.disk l.disk)
+    (cause : HasLogCause s.notes.log.is_stopped (faults s.notes.log.disk) (faults l.disk) r)
+    (stops : StopsBy l.is_stopped r)
+    (stays : s.notes.log.is_stopped ≡ true → record s.notes { log = l } ≡ s.notes) where
+  abbrev Keeping : StoreState D → Type 0
+  Keeping x = IsStore files changes moment faults read_at lasted_at x
+
+  abbrev n : NoteState D
+  n = record s.notes { log = l }
+
+  abbrev with_files : List PutFile → StoreState D
+  with_files fs = record s { notes = n; files = fs }
+
+  same_log : l ≡ record s.notes.log { disk = l.disk; is_stopped = l.is_stopped }
+  same_log = passes_same s.notes l r passes
+
+  was_running : l.is_stopped ≡ false → s.notes.log.is_stopped ≡ false
+  was_running = passes_runs s.notes l r passes
+
+  pub sound_still : l.is_stopped ≡ false → IsSound l
+  sound_still still =
+      let was = kept.sound (was_running still) in
+      let there : State D = record s.notes.log { disk = l.disk; is_stopped = l.is_stopped } in
+      let sound : IsSound there = record {
+        below = was.below;
+        past_stored = was.past_stored;
+        stored = was.stored;
+      } in
+      subst IsSound (sym same_log) sound
+
+  same_mind : log_of n ≡ log_of s.notes
+  same_mind = as_passed s.notes l r passes
+
+  -- nothing was put
+  pub store_still : changes l.disk ≡ changes s.notes.log.disk
+      → (l.is_stopped ≡ false → files l.disk ≡ files s.notes.log.disk)
+      → Keeping (with_files s.files)
+  store_still quiet same =
+      store_on files changes moment faults read_at lasted_at s n kept
+      (ap (λ (x : State D). x.opened) same_log) later
+      (writes_of changes s.notes.log l (grows_same changes s.notes.log l quiet
+      (ap (λ (x : State D). x.past) same_log) (ap (λ (x : State D). x.id) same_log)
+      (ap (λ (x : State D). x.sections) same_log))) stays r cause stops sound_still
+      (λ still first now is here.
+      subst (λ (x : StoreLog). HoldsStore first x (deeds_by s) now) (sym same_mind)
+      (kept.folder (was_running still) first now is (sym (same still) ∙ here)))
+
+  -- a table file was put
+  module _ (runs : s.notes.log.is_stopped ≡ false) (put : PutFile) (name bytes : List ℕ)
+      (adds : changes l.disk ≡ option_map (λ made. made ++ change.Publish name bytes ∷ [])
+      (changes s.notes.log.disk)) where
+    grown_put : HasGrown changes s.first l
+    grown_put =
+        let h = kept.grown in
+        let last = change.Publish name bytes ∷ [] in
+        let same : appends_of (h.added ++ last) ≡ appends_of h.added =
+        appends_of-append h.added last ∙ append-nil (appends_of h.added) in
+        record {
+          added = h.added ++ last;
+          changes_are = adds ∙ ap (option_map (λ made. made ++ last)) h.changes_are
+              ∙ added_both (changes s.first) h.added last;
+          part = h.part;
+          brought = elim h.brought [
+            | inl all ↦ inl (ap (λ (x : State D). x.sections) same_log ∙ all)
+            | inr torn ↦ absurd (true≢false (sym torn.2 ∙ runs))
+          ];
+          grown = subst (λ (x : State D). IsGrown (appends_of (h.added ++ last)) x.past x.id h.part)
+              (sym same_log)
+              (subst (λ (made : List Append). IsGrown made s.notes.log.past s.notes.log.id h.part)
+              (sym same) h.grown);
+        }
+
+    pub store_put : (l.is_stopped ≡ false → HoldsIt files (with_files (s.files ++ put ∷ [])))
+        → Keeping (with_files (s.files ++ put ∷ []))
+    store_put folder = record {
+      opened = ap (λ (x : State D). x.opened) same_log ∙ kept.opened;
+      later = later_still moment read_at lasted_at s.first s.notes.log.disk l.disk kept.later later;
+      no_fewer = omega (
+        arith,
+        kept.no_fewer,
+        fault_later s.notes.log.is_stopped (faults s.notes.log.disk) (faults l.disk) r cause,
+      );
+      risen = rose_of files changes moment faults read_at lasted_at s n kept r cause stops;
+      grown = grown_put;
+      appended = λ none. absurd (omega (
+        arith,
+        length-append s.files (put ∷ []),
+        ap (λ (d : Deeds). length d.files) none,
+      ));
+      sound = sound_still;
+      folder = folder;
+    }
+
+-- ---- its log goes on in a later segment
+
+pub ran_before : {T : Type 0} (was now : Bool) (before after : ℕ) (r : Result T StoreFault)
+    → HasLogCause was before after r → StopsBy now r → now ≡ false → was ≡ false
+ran_before was now before after (Ok x) cause stops still = cause.0
+ran_before was now before after (Err OutOfMemory) cause stops still = cause.0
+ran_before was now before after (Err Stopped) cause stops still =
+    absurd (true≢false (sym stops ∙ still))
+
+module _ {D : Type 0} (files : D → Option Files) (changes : D → Option (List Change))
+    (moment faults : D → ℕ) (read_at : D → ℕ → Option Reading) (lasted_at : D → ℕ → Type 0)
+    (code : D → Gv) (tells : (d : D) → is_some (changes d) ≡ is_some (files d)) (s : StoreState D)
+    (n : NoteState D) (kept : IsStore files changes moment faults read_at lasted_at s)
+    (same : n ≡ record s.notes { log = n.log })
+    (opened : n.log.opened ≡ s.notes.log.opened)
+    (later : IsLater moment read_at lasted_at s.notes.log.disk n.log.disk)
+    (writes : Writes changes s.notes.log n.log)
+    (others : n.log.is_stopped ≡ false
+    → LeavesOthers s.notes.log n.log (files s.notes.log.disk) (files n.log.disk))
+    (stays : s.notes.log.is_stopped ≡ true → n ≡ s.notes) {T : Type 0} (r : Result T StoreFault)
+    (cause : HasLogCause s.notes.log.is_stopped (faults s.notes.log.disk) (faults n.log.disk) r)
+    (stops : StopsBy n.log.is_stopped r) (sound : n.log.is_stopped ≡ false → IsSound n.log)
+    (reads : n.log.is_stopped ≡ false → ReadsAs (files n.log.disk)
+    (segment_name_of 6 n.log.id) (segment_bytes n.log.id n.log.sections)) where
+  pub store_gone_on : IsStore files changes moment faults read_at lasted_at (record s { notes = n })
+  store_gone_on =
+      store_on files changes moment faults read_at lasted_at s n kept opened later writes stays r
+      cause stops sound (λ still.
+      folder_with files changes moment faults read_at lasted_at code tells s n kept writes others
+      sound reads
+      (ran_before s.notes.log.is_stopped n.log.is_stopped (faults s.notes.log.disk)
+      (faults n.log.disk) r cause stops still) still []
+      (ap (λ (x : NoteState D). x.base) same)
+      (ap (λ (x : NoteState D). x.logged) same ∙ sym (append-nil s.notes.logged))
+      (λ m among. absurd (nothing_there m among)))
+
+-- ---- what a path is told
+
+pub on_told : {T : Type 0} (P : Type 0) (at_open now : ℕ) (r : Result T StoreFault)
+    (result : Result T KeeperFault) → result ≡ told_as at_open now r → OnOk r P → OnOk result P
+on_told {T} P at_open now r result is on =
+    subst (λ (x : Result T KeeperFault). OnOk x P) (sym is) (by r on)
+  where
+    by : (x : Result T StoreFault) → OnOk x P → OnOk (told_as at_open now x) P
+    by (Ok done) h = h
+    by (Err Stopped) h = tt
+    by (Err OutOfMemory) h = tt
+
+pub if_told : {T : Type 0} (P : T → Type 0) (at_open now : ℕ) (r : Result T StoreFault)
+    (result : Result T KeeperFault) → result ≡ told_as at_open now r → IfOk r P → IfOk result P
+if_told {T} P at_open now r result is on =
+    subst (λ (x : Result T KeeperFault). IfOk x P) (sym is) (by r on)
+  where
+    by : (x : Result T StoreFault) → IfOk x P → IfOk (told_as at_open now x) P
+    by (Ok done) h = h
+    by (Err Stopped) h = tt
+    by (Err OutOfMemory) h = tt
+
+-- how far its log has gone stays so while its disk is asked
+pub far_still : {D : Type 0} (s : NoteState D) (l : State D) {T : Type 0} (r : Result T StoreFault)
+    (key : ℕ) → Passes s.log l r → HasReached s key → HasReached (record s { log = l }) key
+far_still s l {T} r key passes far =
+    subst (λ (x : State _). HasReached (record s { log = x }) key)
+    (sym (passes_same s l {T = T} r passes))
+    far
+
+pub on_any : {T E P : Type 0} (r : Result T E) → P → OnOk r P
+on_any (Ok done) p = p
+on_any (Err fault) p = tt
+
+-- a call that was refused while the disk has not failed was so for memory
+pub at_memory : (T : Type 0) {P : Type 0} (now : Bool) (fault : StoreFault)
+    → StopsBy {T = T} now (Err fault) → (fault ≡ OutOfMemory → P) → now ≡ false → P
+at_memory T now Stopped stops holds still = absurd (true≢false (sym stops ∙ still))
+at_memory T now OutOfMemory stops holds still = holds refl

@@ -1,0 +1,64 @@
+-- A log stands while its disk is asked what leaves all files and images as they are.
+use Rattle.std.proofs.Common.{◌≡◌, ℕ, List, Option, take, drop, true, false}
+use Rattle.clog_disk.specs.Files.{Files, SameTold}
+use Rattle.clog_disk.specs.Images.{Elapses, IsImage, LeavesOnly, Unchanged}
+use Rattle.clog_crash.specs.Readings.{Reading}
+use Rattle.clog_store.specs.Life.{HasBegun, Lives, LivesOn, MayGoOnIn, State}
+use Rattle.clog_store.specs.Resting.{RestsAt, ShowsBehind}
+use Rattle.clog_store.proofs.Ends.{end_same}
+use Rattle.clog_store.proofs.Kept.{rests_on, rests_show}
+use Rattle.clog_store.proofs.Lived.{same_told}
+use Rattle.clog_store.proofs.OtherFiles.{broken, passed}
+use Rattle.clog_store.proofs.Outcomes.{one_call}
+
+module _ {D : Type 0} (files : D → Option Files) (moment : D → ℕ)
+    (since : D → ℕ → Files → Type 0) (leaves : D → List ℕ → Option (List ℕ) → Type 0)
+    (read_at : D → ℕ → Option Reading) (lasted_at : D → ℕ → Type 0) (s : State D) (size : ℕ)
+    (new : D) (begun : HasBegun files moment since leaves read_at lasted_at s size)
+    (runs : s.is_stopped ≡ false)
+    (only_now : (image : Files) → since s.disk (moment s.disk) image
+    → IsImage (leaves s.disk) image)
+    (counts : (image : Files) → IsImage (leaves new) image → since new (moment s.disk) image)
+    (same : Unchanged (files s.disk) (files new) (leaves s.disk) (leaves new))
+    (time : Elapses moment since leaves read_at lasted_at s.disk new) where
+  told : SameTold (files s.disk) (files new)
+  told = same_told (files s.disk) (files new) same.files
+
+  rests : (at : ℕ) → (r : Reading) → RestsAt (files s.disk) (leaves s.disk) r s.past at
+      (take s.synced s.sections) (drop s.synced s.sections)
+      → RestsAt (files new) (leaves new) r s.past at (take s.synced s.sections)
+      (drop s.synced s.sections)
+  rests at r was =
+      rests_on (files s.disk) (files new) (leaves s.disk) (leaves new) r s.past at
+      (take s.synced s.sections) (drop s.synced s.sections) same.files same.images.fewer was
+
+  any_moment : (at : ℕ) → MayGoOnIn s.id s.sections at → (r : Reading)
+      → RestsAt (files s.disk) (leaves s.disk) r s.past at (take s.synced s.sections)
+      (drop s.synced s.sections)
+      → LeavesOnly moment since s.disk new (ShowsBehind r s.past at (take s.synced s.sections)
+      (drop s.synced s.sections))
+  any_moment at on r was =
+      one_call moment since leaves read_at lasted_at s.disk new
+      (ShowsBehind r s.past at (take s.synced s.sections) (drop s.synced s.sections)) only_now
+      (rests_show (files s.disk) (leaves s.disk) r s.past at (take s.synced s.sections)
+      (drop s.synced s.sections) was) time
+      (rests_show (files new) (leaves new) r s.past at (take s.synced s.sections)
+      (drop s.synced s.sections) (rests at r was))
+
+  pub untouched : HasBegun files moment since leaves read_at lasted_at
+      (record s { disk = new }) size
+      × (Lives files moment since leaves read_at lasted_at s
+      → LivesOn files moment since leaves read_at lasted_at s (record s { disk = new }))
+  untouched =
+      passed files moment since leaves read_at lasted_at s size new begun runs counts told
+      time.later any_moment (λ at on r was. rests at r was)
+      (end_same (files s.disk) (files new) s.id size s.sections same.files)
+
+  pub failed : HasBegun files moment since leaves read_at lasted_at
+      (record s { disk = new; is_stopped = true }) size
+      × (Lives files moment since leaves read_at lasted_at s
+      → LivesOn files moment since leaves read_at lasted_at s
+      (record s { disk = new; is_stopped = true }))
+  failed =
+      broken files moment since leaves read_at lasted_at s size new begun runs counts told
+      time.later any_moment

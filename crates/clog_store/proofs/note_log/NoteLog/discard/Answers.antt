@@ -1,0 +1,12 @@
+use Rattle.std.proofs.Common.{ℕ, ◌+◌, Contains, sym, subst, take}
+use Rattle.std.specs.Prelude.{IfSome}
+use Rattle.clog_crash.specs.Flush.{IsCovered}
+use Rattle.clog_store.specs.NoteLog.{NoteState}
+use Rattle.clog_store.proofs.note_log.NoteLog.discard.Goals as goal
+
+pub discard-requires-clause-covered : goal.discard-requires-clause-covered
+discard-requires-clause-covered g c =
+    subst (λ (x : NoteState g.row.D.Denot). IfSome (g.D.Disk.files x.log.disk) (λ f. (o : ℕ)
+    → Contains c.args.ordinals.now o
+    → IsCovered f x.log.id (take x.log.synced x.log.sections) (x.base + o))) (sym c.self.view_is)
+    c.requires.covered

@@ -1,0 +1,35 @@
+use Rattle.std.proofs.Common.{◌≡◌, refl, sym, ◌∙◌, subst}
+use Rattle.clog_store.specs.NoteLog.{BeginsFrom, NoteState}
+use Rattle.clog_store.proofs.Lived.{lives_still}
+use Rattle.clog_store.proofs.NoteGrows.{grows_same, writes_of}
+use Rattle.clog_store.proofs.NoteReaches.{noted_on}
+use Rattle.clog_store.proofs.note_log.NoteLog.go_on.Goals as goal
+
+pub returns-then-is_stopped-clause-writes : goal.returns-then-is_stopped-clause-writes
+returns-then-is_stopped-clause-writes g c =
+    let log = c.args.self.now.log in
+    writes_of g.D.Disk.changes log log (grows_same g.D.Disk.changes log log refl refl refl refl)
+
+pub returns-then-is_stopped-clause-lives : goal.returns-then-is_stopped-clause-lives
+returns-then-is_stopped-clause-lives g c lives =
+    let D = g.D.Disk in
+    let log = c.args.self.now.log in
+    lives_still D.files D.moment D.since D.leaves D.read_at D.lasted_at log
+    (g.met.D.Disk.only_now log.disk) lives
+
+pub invariant_of-self : goal.invariant_of-self
+invariant_of-self g c =
+    let i = c.self.inside in
+    let s : NoteState g.row.D.Denot = record {
+      log = i.log;
+      base = i.base;
+      sizes = i.sizes;
+      synced = i.synced;
+      logged = i.logged.items;
+      kept = i.kept.items;
+      written = i.written;
+    } in
+    noted_on s c.enter.new.log c.args.id (sym c.is_stopped.ensures ∙ c.if-is_stopped.false)
+    (subst (λ (x : NoteState g.row.D.Denot). x.written ≡ 0) (sym c.self.view_is) c.requires.none)
+    (subst (λ (x : NoteState g.row.D.Denot). BeginsFrom x.base c.args.id x.kept)
+    (sym c.self.view_is) c.requires.begins) c.self.invariant c.enter.result c.enter.ensures.enters

@@ -1,0 +1,140 @@
+use Rattle.std.proofs.Common.{sym, subst}
+use Rattle.clog_store.specs.Life.{Lives, State}
+use Rattle.clog_store.proofs.Lived.{lives_from, lives_still}
+use Rattle.clog_store.proofs.Untouched.{failed, untouched}
+use Rattle.clog_store.proofs.section_log.SectionLog.names.Goals as goal
+
+pub returns-then-self-clause-lives : goal.returns-then-self-clause-lives
+returns-then-self-clause-lives g c lives =
+    let D = g.D.Disk in
+    lives_still D.files D.moment D.since D.leaves D.read_at D.lasted_at c.args.self.now
+    (g.met.D.Disk.only_now c.args.self.now.disk) lives
+
+pub invariant_of-self : goal.invariant_of-self
+invariant_of-self g c =
+    let D = g.D.Disk in
+    let s = c.self.inside in
+    let before : State g.row.D.Denot = record {
+      disk = s.disk;
+      opened = s.opened;
+      past = s.past.items;
+      id = s.id;
+      sections = s.sections.items;
+      synced = s.synced;
+      is_stopped = s.is_stopped;
+    } in
+    let new = c.list.new.self in
+    let is = c.list.ensures in
+    (untouched D.files D.moment D.since D.leaves D.read_at D.lasted_at before s.size new
+    c.self.invariant c.if-self.false (g.met.D.Disk.only_now s.disk)
+    (λ image left. g.met.D.Disk.counts_now new (D.moment s.disk) image is.time.later.no_sooner left)
+    is.same is.time).0
+
+pub returns-in-Ok-clause-lives : goal.returns-in-Ok-clause-lives
+returns-in-Ok-clause-lives g c lives =
+    let D = g.D.Disk in
+    let s = c.self.inside in
+    let before : State g.row.D.Denot = record {
+      disk = s.disk;
+      opened = s.opened;
+      past = s.past.items;
+      id = s.id;
+      sections = s.sections.items;
+      synced = s.synced;
+      is_stopped = s.is_stopped;
+    } in
+    let new = c.list.new.self in
+    let is = c.list.ensures in
+    lives_from D.files D.moment D.since D.leaves D.read_at D.lasted_at c.self.view_is
+    ((untouched D.files D.moment D.since D.leaves D.read_at D.lasted_at before s.size new
+    c.self.invariant c.if-self.false (g.met.D.Disk.only_now s.disk)
+    (λ image left. g.met.D.Disk.counts_now new (D.moment s.disk) image is.time.later.no_sooner left)
+    is.same is.time).1
+    (subst (Lives D.files D.moment D.since D.leaves D.read_at D.lasted_at) (sym c.self.view_is)
+    lives))
+
+pub invariant_of-self-in-Err-OutOfMemory : goal.invariant_of-self-in-Err-OutOfMemory
+invariant_of-self-in-Err-OutOfMemory g c =
+    let D = g.D.Disk in
+    let s = c.self.inside in
+    let before : State g.row.D.Denot = record {
+      disk = s.disk;
+      opened = s.opened;
+      past = s.past.items;
+      id = s.id;
+      sections = s.sections.items;
+      synced = s.synced;
+      is_stopped = s.is_stopped;
+    } in
+    let new = c.list.new.self in
+    let is = c.list.ensures in
+    (untouched D.files D.moment D.since D.leaves D.read_at D.lasted_at before s.size new
+    c.self.invariant c.if-self.false (g.met.D.Disk.only_now s.disk)
+    (λ image left. g.met.D.Disk.counts_now new (D.moment s.disk) image is.time.later.no_sooner left)
+    is.same is.time).0
+
+pub returns-in-Err-OutOfMemory-clause-lives : goal.returns-in-Err-OutOfMemory-clause-lives
+returns-in-Err-OutOfMemory-clause-lives g c lives =
+    let D = g.D.Disk in
+    let s = c.self.inside in
+    let before : State g.row.D.Denot = record {
+      disk = s.disk;
+      opened = s.opened;
+      past = s.past.items;
+      id = s.id;
+      sections = s.sections.items;
+      synced = s.synced;
+      is_stopped = s.is_stopped;
+    } in
+    let new = c.list.new.self in
+    let is = c.list.ensures in
+    lives_from D.files D.moment D.since D.leaves D.read_at D.lasted_at c.self.view_is
+    ((untouched D.files D.moment D.since D.leaves D.read_at D.lasted_at before s.size new
+    c.self.invariant c.if-self.false (g.met.D.Disk.only_now s.disk)
+    (λ image left. g.met.D.Disk.counts_now new (D.moment s.disk) image is.time.later.no_sooner left)
+    is.same is.time).1
+    (subst (Lives D.files D.moment D.since D.leaves D.read_at D.lasted_at) (sym c.self.view_is)
+    lives))
+
+pub invariant_of-self-in-Err-Failed : goal.invariant_of-self-in-Err-Failed
+invariant_of-self-in-Err-Failed g c =
+    let D = g.D.Disk in
+    let s = c.self.inside in
+    let before : State g.row.D.Denot = record {
+      disk = s.disk;
+      opened = s.opened;
+      past = s.past.items;
+      id = s.id;
+      sections = s.sections.items;
+      synced = s.synced;
+      is_stopped = s.is_stopped;
+    } in
+    let new = c.list.new.self in
+    let is = c.list.ensures in
+    (failed D.files D.moment D.since D.leaves D.read_at D.lasted_at before s.size new
+    c.self.invariant c.if-self.false (g.met.D.Disk.only_now s.disk)
+    (λ image left. g.met.D.Disk.counts_now new (D.moment s.disk) image is.time.later.no_sooner left)
+    is.same is.time).0
+
+pub returns-in-Err-Failed-clause-lives : goal.returns-in-Err-Failed-clause-lives
+returns-in-Err-Failed-clause-lives g c lives =
+    let D = g.D.Disk in
+    let s = c.self.inside in
+    let before : State g.row.D.Denot = record {
+      disk = s.disk;
+      opened = s.opened;
+      past = s.past.items;
+      id = s.id;
+      sections = s.sections.items;
+      synced = s.synced;
+      is_stopped = s.is_stopped;
+    } in
+    let new = c.list.new.self in
+    let is = c.list.ensures in
+    lives_from D.files D.moment D.since D.leaves D.read_at D.lasted_at c.self.view_is
+    ((failed D.files D.moment D.since D.leaves D.read_at D.lasted_at before s.size new
+    c.self.invariant c.if-self.false (g.met.D.Disk.only_now s.disk)
+    (λ image left. g.met.D.Disk.counts_now new (D.moment s.disk) image is.time.later.no_sooner left)
+    is.same is.time).1
+    (subst (Lives D.files D.moment D.since D.leaves D.read_at D.lasted_at) (sym c.self.view_is)
+    lives))

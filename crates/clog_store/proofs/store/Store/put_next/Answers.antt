@@ -1,0 +1,161 @@
+use Rattle.std.proofs.Common.{rules, ◌≡◌, ◌<◌, ◌^◌, ◌++◌, ◌∷◌, [], List, false, sym, ◌∙◌, ap, subst}
+use Rattle.path_core.specs.Keeper.{MayPublish, PutFile}
+use Rattle.clog_store.specs.NoteLog.{IsNoteLog, NoteState}
+use Rattle.clog_store.specs.NoteSteps.{GoesOn}
+use Rattle.std.specs.Prelude.{Err}
+use Rattle.clog_store.specs.Publishes.{IsNextSequence}
+use Rattle.clog_store.specs.Stepped.{StopsBy}
+use Rattle.clog_store.specs.StoreState.{
+  HasReached,
+  IsStore,
+  StoreState,
+  holding_of,
+  put_of,
+}
+use Rattle.clog_store.proofs.NoteGoes.{goes_still}
+use Rattle.clog_store.proofs.StoreFiles.{folder_put, has_log, may_be_put, numbered}
+use Rattle.clog_store.proofs.StorePuts.{as_passed, at_memory, store_put, store_still}
+use Rattle.clog_store.proofs.store.Store.put_next.Goals as goal
+
+pub returns-in_err-reserve-clause-goes : goal.returns-in_err-reserve-clause-goes
+returns-in_err-reserve-clause-goes g c =
+    let D = g.D.Disk in
+    let log = c.self.inside.notes.log in
+    subst (λ (x : StoreState g.row.D.Denot).
+    GoesOn D.files D.moment D.since D.leaves D.read_at D.lasted_at x.notes.log log) c.self.view_is
+    (goes_still D.files D.moment D.since D.leaves D.read_at D.lasted_at log
+    (g.met.D.Disk.only_now log.disk))
+
+pub put-requires-clause-numbered : goal.put-requires-clause-numbered
+put-requires-clause-numbered g c =
+    let D = g.D.Disk in
+    let i = c.self.inside in
+    let s : StoreState g.row.D.Denot = record {
+      notes = i.notes;
+      archives = i.archives;
+      first = i.first.value;
+      files = i.files.items;
+      dropped = i.dropped.items;
+      archived = i.archived.items;
+    } in
+    let may = subst (λ (x : StoreState g.row.D.Denot). MayPublish
+    (holding_of D.files D.changes D.moment D.faults g.row.D.coded.code x)
+    (put_of c.args.file c.args.cells.now)) (sym c.self.view_is) c.requires.may in
+    let noted = subst (λ (x : StoreState g.row.D.Denot). IsNoteLog x.notes) (sym c.self.view_is)
+    c.requires.noted in
+    let runs = subst (λ (x : StoreState g.row.D.Denot). x.notes.log.is_stopped ≡ false)
+    (sym c.self.view_is) c.requires.runs in
+    let next = subst (λ (x : StoreState g.row.D.Denot). IsNextSequence
+    (D.files x.notes.log.disk) c.args.file.table c.args.sequence) (sym c.self.view_is)
+    c.requires.next in
+    let far = subst (λ (x : StoreState g.row.D.Denot). HasReached x.notes c.args.file.upper.0)
+    (sym c.self.view_is) c.requires.far in
+    numbered s.notes (holding_of D.files D.changes D.moment D.faults g.row.D.coded.code s) noted
+    (has_log D.files D.changes D.moment D.faults g.row.D.coded.code s) c.args.file
+    c.args.cells.now may c.args.sequence next.starts next.fits
+    (let low : c.args.file.lower.0 < 2 ^ 64 = search rules in low)
+    (let low : c.args.file.upper.0 < 2 ^ 64 = search rules in low)
+
+pub put-requires-clause-may : goal.put-requires-clause-may
+put-requires-clause-may g c =
+    let D = g.D.Disk in
+    let i = c.self.inside in
+    let s : StoreState g.row.D.Denot = record {
+      notes = i.notes;
+      archives = i.archives;
+      first = i.first.value;
+      files = i.files.items;
+      dropped = i.dropped.items;
+      archived = i.archived.items;
+    } in
+    let may = subst (λ (x : StoreState g.row.D.Denot). MayPublish
+    (holding_of D.files D.changes D.moment D.faults g.row.D.coded.code x)
+    (put_of c.args.file c.args.cells.now)) (sym c.self.view_is) c.requires.may in
+    let noted = subst (λ (x : StoreState g.row.D.Denot). IsNoteLog x.notes) (sym c.self.view_is)
+    c.requires.noted in
+    let runs = subst (λ (x : StoreState g.row.D.Denot). x.notes.log.is_stopped ≡ false)
+    (sym c.self.view_is) c.requires.runs in
+    let next = subst (λ (x : StoreState g.row.D.Denot). IsNextSequence
+    (D.files x.notes.log.disk) c.args.file.table c.args.sequence) (sym c.self.view_is)
+    c.requires.next in
+    let far = subst (λ (x : StoreState g.row.D.Denot). HasReached x.notes c.args.file.upper.0)
+    (sym c.self.view_is) c.requires.far in
+    may_be_put D.files D.changes D.moment D.faults D.read_at D.lasted_at g.row.D.coded.code
+    g.met.D.Disk.tells_both s c.self.invariant.1 runs noted c.args.file c.args.cells.now may
+    c.args.sequence next far
+
+pub invariant_of-self-in-Err : goal.invariant_of-self-in-Err
+invariant_of-self-in-Err g c =
+    let D = g.D.Disk in
+    let i = c.self.inside in
+    let s : StoreState g.row.D.Denot = record {
+      notes = i.notes;
+      archives = i.archives;
+      first = i.first.value;
+      files = i.files.items;
+      dropped = i.dropped.items;
+      archived = i.archived.items;
+    } in
+    let is = c.put.ensures in
+    let n = c.put.new.self in (
+      c.self.invariant.0,
+      subst (λ (fs : List PutFile). IsStore D.files D.changes D.moment D.faults D.read_at
+          D.lasted_at (record s { notes = n; files = fs })) (sym c.reserve.ensures.items)
+          (subst (λ (x : NoteState g.row.D.Denot). IsStore D.files D.changes D.moment D.faults
+          D.read_at D.lasted_at (record s { notes = x })) (sym is.log)
+          (store_still D.files D.changes D.moment D.faults D.read_at D.lasted_at s n.log
+          c.self.invariant.1 c.put.result is.passes is.goes.later is.cause is.stops
+          (λ was. sym is.log ∙ is.stays was) c.in-Err.ensures.quiet
+          (at_memory (Unit {0}) n.log.is_stopped c.in-Err.fault
+          (subst (StopsBy n.log.is_stopped) c.in-Err.is is.stops)
+          (λ memory. is.same (c.in-Err.is ∙ ap Err memory))))),
+    )
+
+pub invariant_of-self-in-Ok : goal.invariant_of-self-in-Ok
+invariant_of-self-in-Ok g c =
+    let D = g.D.Disk in
+    let i = c.self.inside in
+    let s : StoreState g.row.D.Denot = record {
+      notes = i.notes;
+      archives = i.archives;
+      first = i.first.value;
+      files = i.files.items;
+      dropped = i.dropped.items;
+      archived = i.archived.items;
+    } in
+    let may = subst (λ (x : StoreState g.row.D.Denot). MayPublish
+    (holding_of D.files D.changes D.moment D.faults g.row.D.coded.code x)
+    (put_of c.args.file c.args.cells.now)) (sym c.self.view_is) c.requires.may in
+    let noted = subst (λ (x : StoreState g.row.D.Denot). IsNoteLog x.notes) (sym c.self.view_is)
+    c.requires.noted in
+    let runs = subst (λ (x : StoreState g.row.D.Denot). x.notes.log.is_stopped ≡ false)
+    (sym c.self.view_is) c.requires.runs in
+    let next = subst (λ (x : StoreState g.row.D.Denot). IsNextSequence
+    (D.files x.notes.log.disk) c.args.file.table c.args.sequence) (sym c.self.view_is)
+    c.requires.next in
+    let far = subst (λ (x : StoreState g.row.D.Denot). HasReached x.notes c.args.file.upper.0)
+    (sym c.self.view_is) c.requires.far in
+    let is = c.put.ensures in
+    let n = c.put.new.self in
+    let come = c.in-Ok.ensures.comes in
+    let put = put_of c.args.file c.args.cells.now in
+    let all : c.push_reserved.new.self.items ≡ s.files ++ put ∷ [] =
+    c.push_reserved.ensures.items ∙ (λ i. (c.reserve.ensures.items i) ++ record {
+      table = c.args.file.table.0;
+      lower = c.args.file.lower.0;
+      upper = c.args.file.upper.0;
+      cells = c.of.ensures i;
+    } ∷ []) in (
+      c.self.invariant.0,
+      subst (λ (fs : List PutFile). IsStore D.files D.changes D.moment D.faults D.read_at
+          D.lasted_at (record s { notes = n; files = fs })) (sym all)
+          (subst (λ (x : NoteState g.row.D.Denot). IsStore D.files D.changes D.moment D.faults
+          D.read_at D.lasted_at (record s { notes = x; files = s.files ++ put ∷ [] })) (sym is.log)
+          (store_put D.files D.changes D.moment D.faults D.read_at D.lasted_at s n.log
+          c.self.invariant.1 c.put.result is.passes is.goes.later is.cause is.stops
+          (λ was. sym is.log ∙ is.stays was) runs put _ come.bytes come.adds
+          (λ still. folder_put D.files D.changes D.moment D.faults D.read_at D.lasted_at
+          g.row.D.coded.code g.met.D.Disk.tells_both s c.self.invariant.1 runs noted c.args.file
+          c.args.cells.now may c.args.sequence next far n.log come is.told
+          (as_passed s.notes n.log c.put.result is.passes)))),
+    )

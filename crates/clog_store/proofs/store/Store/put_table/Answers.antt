@@ -1,0 +1,28 @@
+use Rattle.clog_store.proofs.NoteGoes.{goes_then}
+use Rattle.clog_store.proofs.StorePuts.{may_moved, moved_both}
+use Rattle.clog_store.proofs.store.Store.put_table.Goals as goal
+
+pub put_next-requires-clause-may : goal.put_next-requires-clause-may
+put_next-requires-clause-may g c =
+    let D = g.D.Disk in
+    may_moved D.files D.changes D.moment D.faults g.row.D.coded.code c.args.self.now
+    c.next_sequence.new.self _
+    (moved_both D.files D.changes D.moment D.faults g.row.D.coded.code c.args.self.now
+    c.reach.new.self c.next_sequence.new.self c.reach.ensures.moved c.next_sequence.ensures.moved)
+    c.requires
+
+pub returns-in_err-sequence-clause-lives : goal.returns-in_err-sequence-clause-lives
+returns-in_err-sequence-clause-lives g c =
+    let D = g.D.Disk in
+    (goes_then D.files D.moment D.since D.leaves D.read_at D.lasted_at c.args.self.now.notes.log
+    c.reach.new.self.notes.log c.next_sequence.new.self.notes.log c.reach.ensures.goes
+    c.next_sequence.ensures.goes).lives
+
+pub returns-clause-lives : goal.returns-clause-lives
+returns-clause-lives g c =
+    let D = g.D.Disk in
+    (goes_then D.files D.moment D.since D.leaves D.read_at D.lasted_at c.args.self.now.notes.log
+    c.next_sequence.new.self.notes.log c.put_next.new.self.notes.log
+    (goes_then D.files D.moment D.since D.leaves D.read_at D.lasted_at c.args.self.now.notes.log
+    c.reach.new.self.notes.log c.next_sequence.new.self.notes.log c.reach.ensures.goes
+    c.next_sequence.ensures.goes) c.put_next.ensures.goes).lives

@@ -1,0 +1,106 @@
+//! Table files come beside a log of notes, which stays as it is.
+ghost use Rattle.std.specs.Prelude.{
+  ◌≡◌,
+  ◌≢◌,
+  ◌<◌,
+  ◌^◌,
+  Err,
+  IfOk,
+  IfSome,
+  OnErr,
+  OnOk,
+  take,
+  true,
+};
+ghost use Rattle.clog_crash.specs.Folder.{IsBase};
+ghost use Rattle.clog_disk.specs.Files.{SameTold};
+ghost use Rattle.clog_store.specs.Named.{HasSequence, OneHas};
+ghost use Rattle.clog_store.specs.NoteLog.{IsNoteLog};
+ghost use Rattle.clog_store.specs.NoteSteps.{GoesOn};
+ghost use Rattle.clog_store.specs.Publishes.{
+  HasCome,
+  IsNextSequence,
+  IsNumbered,
+  IsTrueHere,
+  file_at,
+};
+ghost use Rattle.clog_store.specs.Stepped.{HasLogCause, Passes, StopsBy};
+ghost use Rattle.clog_store.specs.declared.written.StoreFault.TheVariants.{
+  OutOfMemory as no_memory,
+  Stopped as stopped,
+};
+
+use crate::naming::{GREATEST_SEQUENCE, next_sequence};
+use crate::note_log::NoteLog;
+use crate::publishing::Published;
+use crate::written::StoreFault;
+use clog_base::{Name, Table};
+use clog_cells::CellMap;
+use clog_disk::Disk;
+
+// The next sequence of a table, where a name can have it.
+fn sequence_in(names: &[Name], table: Table) -> Result<u64, StoreFault>
+    ensures next { IfOk result (λ n. IsBase (OneHas (HasSequence table) names.now) 1 n) }
+    ensures starts { IfOk result (λ n. 0 < n) }
+    ensures fits { IfOk result (λ n. n < 2 ^ 63) }
+    ensures memory { result ≢ Err stopped }
+{
+    let sequence = next_sequence(names, table);
+    if sequence > GREATEST_SEQUENCE {
+        return Err(StoreFault::OutOfMemory);
+    }
+    Ok(sequence)
+}
+
+impl<D: Disk> NoteLog<D> {
+    /// The next sequence of a table's files, by the names of the disk's files. Where no name can
+    /// have it, it is refused like one for which there is no memory.
+    pub fn next_sequence(&mut self, table: Table) -> Result<u64, StoreFault>
+        ensures log { self.new ≡ record self.old { log = self.new.log } }
+        ensures noted { IsNoteLog self.new }
+        ensures next { IfOk result (IsNextSequence (D.files self.new.log.disk) table) }
+        ensures passes { Passes self.old.log self.new.log result }
+        ensures stays { self.old.log.is_stopped ≡ true → self.new ≡ self.old }
+        ensures same { D.files self.new.log.disk ≡ D.files self.old.log.disk }
+        ensures quiet { D.changes self.new.log.disk ≡ D.changes self.old.log.disk }
+        ensures cause { HasLogCause self.old.log.is_stopped (D.faults self.old.log.disk)
+            (D.faults self.new.log.disk) result }
+        ensures stops { StopsBy self.new.log.is_stopped result }
+        ensures goes { GoesOn D.files D.moment D.since D.leaves D.read_at D.lasted_at self.old.log
+            self.new.log }
+    {
+        let names = match self.log.names() {
+            Ok(names) => names,
+            Err(fault) => return Err(fault),
+        };
+        sequence_in(names.as_slice(), table)
+    }
+
+    /// Puts the file of an interval with these cells, which is true of what lasts. The sequence is
+    /// that of the file's name, which is free.
+    pub fn put(&mut self, sequence: u64, file: Published, cells: &CellMap) -> Result<(), StoreFault>
+        requires numbered { IsNumbered self.old.base sequence file cells.now }
+        requires may { IfSome (D.files self.old.log.disk) (λ f. IsTrueHere f self.old.log.id
+            (take self.old.log.synced self.old.log.sections)
+            (file_at self.old.base file cells.now) sequence) }
+        ensures log { self.new ≡ record self.old { log = self.new.log } }
+        ensures passes { Passes self.old.log self.new.log result }
+        ensures stays { self.old.log.is_stopped ≡ true → self.new ≡ self.old }
+        ensures comes { OnOk result (HasCome (D.files self.old.log.disk)
+            (D.files self.new.log.disk) (D.changes self.old.log.disk)
+            (D.changes self.new.log.disk) (file_at self.old.base file cells.now) sequence) }
+        ensures told { SameTold (D.files self.old.log.disk) (D.files self.new.log.disk) }
+        ensures quiet { OnErr result
+            (D.changes self.new.log.disk ≡ D.changes self.old.log.disk) }
+        ensures same { result ≡ Err no_memory
+            → D.files self.new.log.disk ≡ D.files self.old.log.disk }
+        ensures cause { HasLogCause self.old.log.is_stopped (D.faults self.old.log.disk)
+            (D.faults self.new.log.disk) result }
+        ensures stops { StopsBy self.new.log.is_stopped result }
+        ensures goes { GoesOn D.files D.moment D.since D.leaves D.read_at D.lasted_at self.old.log
+            self.new.log }
+    {
+        self.log
+            .publish(self.alloc, self.base, sequence, file, cells)
+    }
+}
