@@ -1,4 +1,3 @@
-pub mod TableSets
 pub mod SmallSets
 pub mod NoteLaws
 pub mod LeastEntry

@@ -2,6 +2,7 @@
 ghost use Rattle.std.specs.Prelude.{◌≡◌};
 
 use clog_base::OutOfMemory;
+use clog_notes::LargeEntry;
 use std::alloc::{AllocError, AllocFailed};
 
 /// Why a write was not prepared.
@@ -16,6 +17,21 @@ pub enum PrepareFault {
     },
     /// Memory was refused.
     OutOfMemory,
+}
+
+impl From<LargeEntry> for PrepareFault {
+    ghost use Rattle.write_path.specs.declared.fault.PrepareFault.TheVariants.{
+      TooLarge as too_large,
+    };
+
+    ghost from_gives = { λ large e. e ≡ too_large large.size large.max };
+
+    fn from(large: LargeEntry) -> Self {
+        PrepareFault::TooLarge {
+            size: large.size,
+            max: large.max,
+        }
+    }
 }
 
 impl From<OutOfMemory> for PrepareFault {

@@ -12,7 +12,6 @@ mod commit;
 mod committing;
 mod deposited;
 mod depositing;
-mod entry;
 mod fault;
 mod finishing;
 mod laws;

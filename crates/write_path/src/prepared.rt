@@ -7,10 +7,10 @@ ghost use Rattle.path_core.specs.declared.note.EntryNote.{EntryNote};
 ghost use Rattle.write_path.specs.Receipts.{IsLineOf};
 ghost use Rattle.write_path.specs.Writes.{Prepares, TablesBelow, IsPrepared, IsClaimed};
 
-use crate::entry::{entry_size, note_of};
 use crate::fault::PrepareFault;
 use clog_base::{Key, Sizes, Writer};
 use clog_mutation::Mutation;
+use clog_notes::{entry_size, note_of};
 use path_core::EntryNote;
 use std::alloc::Global;
 use std::collections::LinkedList;

@@ -1,5 +1,6 @@
 use Rattle.write_path.proofs.LeastEntry.{entry_least}
-use Rattle.write_path.proofs.NoteLaws.{is_whole, is_depositable, ends_at_log}
+use Rattle.clog_notes.proofs.WholeNotes.{is_whole}
+use Rattle.write_path.proofs.NoteLaws.{is_depositable, ends_at_log}
 use Rattle.write_path.proofs.laws.note_laws.Goals as goal
 
 pub returns-clause-whole : goal.returns-clause-whole

@@ -1,7 +1,7 @@
 use Rattle.std.proofs.Common.{◌∙◌, ap}
-use Rattle.write_path.specs.Writes.{with_tables}
-use Rattle.write_path.proofs.TableSets.{joined_holds}
-use Rattle.write_path.proofs.entry.tables_of.Goals as goal
+use Rattle.clog_notes.specs.Entries.{with_tables}
+use Rattle.clog_notes.proofs.TableSets.{joined_holds}
+use Rattle.clog_notes.proofs.entry.tables_of.Goals as goal
 
 pub returns : goal.returns
 returns c =

@@ -1,8 +1,8 @@
 use Rattle.std.proofs.Common.{◌≡◌, ◌∙◌, ℕ, List, [], ◌++◌, ◌-◌, ap, arith, length, refl}
 use Rattle.clog_spec.specs.Segment.{entry_front}
 use Rattle.clog_mutation.specs.Payload.{payload_of}
-use Rattle.write_path.specs.Writes.{entry_of}
-use Rattle.write_path.proofs.entry.entry_bytes.Goals as goal
+use Rattle.clog_notes.specs.Entries.{entry_of}
+use Rattle.clog_notes.proofs.entry.entry_bytes.Goals as goal
 
 pub returns-clause-bytes : goal.returns-clause-bytes
 unfolding entry_of

@@ -1,29 +1,35 @@
 //! What a mutation deposits: the bytes of its entry, and the set of its tables.
 ghost use Rattle.std.specs.Prelude.{◌≡◌, ◌≤◌, ◌^◌, ◌+◌, IfOk, length};
 ghost use Rattle.std.specs.List.{AllByRecursion};
-ghost use Rattle.clog_base.specs.Sizes.{IsWithinLimits as AreSizes};
 ghost use Rattle.clog_mutation.specs.Limits.{IsWithinLimits, UpdateIsWithinLimits};
 ghost use Rattle.clog_mutation.specs.Stored.{IsStored};
-ghost use Rattle.write_path.specs.Writes.{
+ghost use Rattle.clog_notes.specs.Entries.{
+  GivesSize,
+  HoldsTables,
+  IsNoteOf,
   entry_of,
   entry_size,
-  entry_limit,
-  HoldsTables,
   with_tables,
-  IsNoteOf,
-  GivesSize,
 };
 
-use crate::fault::PrepareFault;
 use clog_base::{Bytes, FRAME_SIZE, Key, OutOfMemory, Writer};
 use clog_entry::{begin_entry, end_entry};
 use clog_mutation::{Mutation, Update, payload_size, put_mutation};
 use path_core::EntryNote;
 use std::alloc::Global;
 
-/// The bytes of the entry of a mutation, computed before any is made. It may not be above half the
-/// capacity.
-pub(crate) fn entry_size(mutation: &Mutation, capacity: u32) -> Result<u32, PrepareFault>
+/// An entry that is larger than half a segment's capacity.
+#[derive(Clone, Copy, Debug, PartialEq, Eq)]
+pub struct LargeEntry {
+    /// Its size in bytes, or the greatest `u32` where that is less.
+    pub size: u32,
+    /// The most bytes that an entry may have.
+    pub max: u32,
+}
+
+/// The bytes of the entry of a mutation, computed before any is made: the payload's and 12. It may
+/// not be above half the capacity.
+pub fn entry_size(mutation: &Mutation, capacity: u32) -> Result<u32, LargeEntry>
     requires { IsWithinLimits mutation.now }
     ensures { GivesSize capacity mutation.now result }
 {
@@ -31,13 +37,13 @@ pub(crate) fn entry_size(mutation: &Mutation, capacity: u32) -> Result<u32, Prep
     let size = payload_size(mutation).saturating_add(FRAME_SIZE as u128);
     if size > u128::from(max) {
         let size = u32::try_from(size).unwrap_or(u32::MAX);
-        return Err(PrepareFault::TooLarge { size, max });
+        return Err(LargeEntry { size, max });
     }
     Ok(size as u32)
 }
 
 // The entry of a mutation, in one piece of memory that is taken at the start.
-#[tactic(auto, unfolding(crate::specs::Writes::entry_of))]
+#[tactic(auto, unfolding(crate::specs::Entries::entry_of))]
 fn entry_bytes(alloc: Global, mutation: &Mutation, size: u32) -> Result<Vec<u8>, OutOfMemory>
     requires within { IsWithinLimits mutation.now }
     requires size { (size ≡ entry_size mutation.now) × (size ≤ 2 ^ 30) }
@@ -71,8 +77,8 @@ fn tables_of(mutation: &Mutation) -> u16
     joined_tables(mutation.updates.as_slice())
 }
 
-/// The note of a mutation that is not claimed yet.
-pub(crate) fn note_of(
+/// The note of a mutation of a line that is not claimed yet, in one piece of memory.
+pub fn note_of(
     alloc: Global,
     line: u32,
     mutation: &Mutation,

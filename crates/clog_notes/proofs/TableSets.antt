@@ -11,7 +11,7 @@ use Rattle.clog_mutation.specs.declared.mutation.Update.{Update}
 use Rattle.clog_mutation.specs.Limits.{UpdateIsWithinLimits}
 use Rattle.path_core.specs.Parts.{touches}
 use Rattle.path_core.specs.Whole.{Updates}
-use Rattle.write_path.specs.Writes.{with_table, with_tables, HoldsTables}
+use Rattle.clog_notes.specs.Entries.{with_table, with_tables, HoldsTables}
 
 -- one of the updates is of the table
 abbrev pub Among : List Update → ℕ → Type 0

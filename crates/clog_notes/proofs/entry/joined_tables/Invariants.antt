@@ -1,6 +1,6 @@
 use Rattle.std.proofs.Common.{◌≡◌, drop}
-use Rattle.write_path.specs.Writes.{with_tables}
-use Rattle.write_path.proofs.entry.joined_tables.Given as goal
+use Rattle.clog_notes.specs.Entries.{with_tables}
+use Rattle.clog_notes.proofs.entry.joined_tables.Given as goal
 
 -- what is joined and what is left are the whole
 abbrev pub invariant-loop-update : goal.invariant-loop-update

@@ -1,0 +1,2 @@
+pub mod TableSets
+pub mod WholeNotes
