@@ -152,6 +152,32 @@ some_sections : (ss : List Section) (e : Entry) → Contains (entries_of header_
 some_sections [] e h = absurd (nothing_there e h)
 some_sections (s ∷ ss) e h = omega arith
 
+-- ---- those to which sections were written
+
+module _ (ws : List Write) where
+  pub record IsOfLog (i : ℕ) : Type 0 where
+    pub write : Write
+    pub listed : Contains ws write
+    pub some : 0 < length write.sections
+    pub is : write.id ≡ i
+
+  pub of_log : (i : ℕ) → Contains (written_ids ws) i → IsOfLog i
+  of_log i h =
+      let found = from_map id_of (filter has_sections ws) i h in
+      let kept = from_filter has_sections ws found.0 found.1 in
+      record {
+        write = found.0;
+        listed = kept.0;
+        some = ltb-true 0 (length found.0.sections) kept.1;
+        is = found.2;
+      }
+
+  pub written : (w : Write) → Contains ws w → 0 < length w.sections
+      → Contains (written_ids ws) w.id
+  written w h some =
+      in_map id_of (filter has_sections ws) w
+      (in_filter has_sections ws w h (lt-ltb 0 (length w.sections) some))
+
 -- ---- a log
 
 module _ (changes : List Change) (base : ℕ) (past : List Write) (id : ℕ)
@@ -170,32 +196,10 @@ module _ (changes : List Change) (base : ℕ) (past : List Write) (id : ℕ)
       (append-nil (placed_of (record { id = id; sections = sections })))
       ∙ holds ∙ places_are base notes history are
 
-  entries_are : (w : Write) → Contains ws w
+  pub entries_are : (w : Write) → Contains ws w
       → entries_of header_size w.sections ≡ entries_in w.id history
   entries_are w h =
       sym (at_log ws stands.rise w h) ∙ ap (entries_at w.id) all_placed ∙ at_history w.id history
-
-  record IsOfLog (i : ℕ) : Type 0 where
-    pub write : Write
-    pub listed : Contains ws write
-    pub some : 0 < length write.sections
-    pub is : write.id ≡ i
-
-  of_log : (i : ℕ) → Contains (written_ids ws) i → IsOfLog i
-  of_log i h =
-      let found = from_map id_of (filter has_sections ws) i h in
-      let kept = from_filter has_sections ws found.0 found.1 in
-      record {
-        write = found.0;
-        listed = kept.0;
-        some = ltb-true 0 (length found.0.sections) kept.1;
-        is = found.2;
-      }
-
-  written : (w : Write) → Contains ws w → 0 < length w.sections → Contains (written_ids ws) w.id
-  written w h some =
-      in_map id_of (filter has_sections ws) w
-      (in_filter has_sections ws w h (lt-ltb 0 (length w.sections) some))
 
   -- an append to a segment that has sections
   an_append : (w : Write) → Contains ws w → 0 < length w.sections
@@ -206,7 +210,7 @@ module _ (changes : List Change) (base : ℕ) (past : List Write) (id : ℕ)
       (some_bytes w.id w.sections some)) in
       record { fits = (stands.stored w h).fits; bytes = found.0; listed = found.1 }
 
-  each_holds : (i : ℕ) → IsOfLog i
+  each_holds : (i : ℕ) → IsOfLog ws i
       → HasGrown (appends_of changes) i × HoldsGrown (appends_of changes) i (entries_in i history)
   each_holds i o =
       let w = o.write in
@@ -229,11 +233,11 @@ module _ (changes : List Change) (base : ℕ) (past : List Write) (id : ℕ)
       (placed_line w) found.2 in
       let same : v.id ≡ w.id = ap (λ (p : Placed). p.0) entry.2 in
       subst (λ (i : ℕ). Contains (written_ids ws) i) same
-      (written v found.1 (some_sections v.sections entry.0 entry.1))
+      (written ws v found.1 (some_sections v.sections entry.0 entry.1))
 
   pub are_files : (i : ℕ) → Contains (written_ids ws) i → IsFile (appended changes i)
   are_files i h =
-      let o = of_log i h in
+      let o = of_log ws i h in
       let w = o.write in
       subst (λ (j : ℕ). IsFile (appended changes j)) o.is
       (subst IsFile (sym (grows.each w o.listed))
@@ -249,7 +253,7 @@ module _ (changes : List Change) (base : ℕ) (past : List Write) (id : ℕ)
           let found = from_map (λ (i : ℕ). (i, entries_in i history)) (written_ids ws) s h in
           subst (λ (x : GrownSegment). HasGrown (appends_of changes) x.0
           × HoldsGrown (appends_of changes) x.0 x.1) found.2
-          (each_holds found.0 (of_log found.0 found.1));
+          (each_holds found.0 (of_log ws found.0 found.1));
       every = λ i g.
           let a = grows.only (segment_name_of 6 i, g.bytes) g.listed in
           let same : i ≡ a.0.id =
@@ -257,11 +261,11 @@ module _ (changes : List Change) (base : ℕ) (past : List Write) (id : ℕ)
             entries_in i history,
             in_map (λ (j : ℕ). (j, entries_in j history)) (written_ids ws) i
                 (subst (λ (j : ℕ). Contains (written_ids ws) j) (sym same)
-                (written a.0 a.1 a.2)),
+                (written ws a.0 a.1 a.2)),
           );
     };
     only = λ a h.
         let o = grows.only a h in
-        record { id = o.0.id; listed = written o.0 o.1 o.2; named = o.3 };
+        record { id = o.0.id; listed = written ws o.0 o.1 o.2; named = o.3 };
     no_other = line_in;
   }

@@ -11,6 +11,7 @@ ghost use Rattle.std.specs.Prelude.{
   Option,
   Some,
   Contains,
+  Bool,
 };
 ghost use Rattle.clog_cells.specs.Merge.{IsMergeOf};
 ghost use Rattle.clog_base.specs.declared.cell.Table.{Table};
@@ -35,11 +36,13 @@ ghost use Rattle.path_core.specs.Keeper.{
   PutFile,
 };
 ghost use Rattle.path_core.specs.Whole.{IsWhole};
-ghost use Rattle.clog_store.specs.Grows.{IsGrown, segments_with};
+ghost use Rattle.clog_store.specs.Grows.{AreAppends, IsGrown, segments_with};
 ghost use Rattle.clog_store.specs.Notes.{places_of};
 ghost use Rattle.clog_store.specs.OnDisk.{file_on};
 ghost use Rattle.clog_store.specs.Opened.{IsOpened, RecoversAll};
+ghost use Rattle.clog_store.specs.StoreFolder.{HoldsStore, StoreLog, no_deeds};
 ghost use Rattle.clog_applied.specs.Appended.{IsAppended, appended, entries_in};
+ghost use Rattle.clog_applied.specs.Closed.{IsStoreLeft};
 ghost use Rattle.clog_applied.specs.Filed.{FollowFrom, IsTrueFor, files_of, first_of};
 ghost use Rattle.clog_applied.specs.History.{LoggedLine};
 ghost use Rattle.clog_applied.specs.Opening.{IsOpening, IsRecoveryChange};
@@ -106,4 +109,18 @@ pub fn put_files_follow_one_another()
         → MayPublish before f → Publishes before now f → AreInSequence now.files }
     ensures follow { (base : ℕ) (table : Table) (files : List PutFile) → AreInSequence files
         → FollowFrom (first_of base) (files_of table (map (file_on base) files)) }
+{}
+
+/// A store that has put no file and dropped no segment leaves what a run leaves whose path has put
+/// none, where its log holds just the entries of notes: the history of these.
+pub fn stores_that_only_logged_are_left()
+    ensures { (archive archives : Bool) (opened after : Files) (later : List Change)
+        (log : StoreLog) (history : List LoggedLine)
+        → HoldsStore opened log (no_deeds archives) after
+        → IsGrown (appends_of later) log.past log.id log.sections → AreAppends later
+        → AreStoredInOrder (segments_with log.past log.id log.sections)
+        → placed_log log.past log.id log.sections ≡ places_of log.base log.logged
+        → AreNotesOf log.base log.logged history
+        → IsStoreLeft archive opened after later
+        (written_ids (segments_with log.past log.id log.sections)) [] history [] }
 {}

@@ -238,7 +238,7 @@ module _ (sizes : Sizes) (large : least_capacity ≤ sizes.capacity)
       omega (arith, a, b))
       (in_order m.end.0 (number + 1) ns ls next all.1)
 
-  parted : (notes laid : List EntryNote) → AreLaid sizes first_offset 1 notes laid
+  pub parted : (notes laid : List EntryNote) → AreLaid sizes first_offset 1 notes laid
       → IsParted (synced_to laid) laid laid []
   parted notes laid all = record {
     all = subst (IsPermutation laid) (sym (append-nil laid)) (IsPermutation-refl laid);

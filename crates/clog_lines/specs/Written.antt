@@ -1,0 +1,150 @@
+-- What is left where lines were written to a store.
+use Rattle.std.specs.Prelude.{
+  ◌≡◌,
+  ◌⊎◌,
+  ◌<◌,
+  ◌≤◌,
+  ℕ,
+  ◌*◌,
+  ◌++◌,
+  List,
+  [],
+  length,
+  map,
+  take,
+  Bool,
+  false,
+  Contains,
+  Option,
+  Some,
+  None,
+  option_map,
+  Result,
+  Ok,
+  Err,
+  ⊤,
+}
+use Rattle.std.specs.List.{flat_map}
+use Rattle.clog_spec.specs.Names.{segment_name_of}
+use Rattle.clog_base.specs.declared.sizes.Sizes.{Sizes}
+use Rattle.clog_base.specs.Positions.{position_of}
+use Rattle.clog_io.specs.Causes.{Rose}
+use Rattle.clog_disk.specs.declared.change.Change.{Change}
+use Rattle.clog_disk.specs.Files.{Files, bytes_at}
+use Rattle.clog_disk.specs.Images.{IsImage, LeavesOnly}
+use Rattle.clog_mutation.specs.declared.mutation.Mutation.{Mutation}
+use Rattle.clog_mutation.specs.Payload.{cells_of, payload_of}
+use Rattle.clog_scan.specs.Segment.{Entry}
+use Rattle.clog_words.specs.declared.request.ApplyOptions.{ApplyOptions}
+use Rattle.sync_core.specs.declared.SyncCore.TheVariants.{Periodic}
+use Rattle.clog_crash.specs.Covering.{Either, SameMerge}
+use Rattle.clog_crash.specs.Grown.{Append, appends_of, grown}
+use Rattle.clog_crash.specs.Log.{NoChances, Write, entries_in}
+use Rattle.clog_crash.specs.Readings.{Reading, RestoresIn}
+use Rattle.clog_crash.specs.Restore.{IsUndamaged}
+use Rattle.clog_crash.specs.Sections.{segment_bytes}
+use Rattle.path_core.specs.declared.keeper.KeeperFault.{KeeperFault}
+use Rattle.path_core.specs.declared.keeper.KeeperFault.TheVariants.{OutOfMemory, Stopped}
+use Rattle.path_core.specs.declared.note.EntryNote.{EntryNote}
+use Rattle.path_core.specs.Keys.{first_offset}
+use Rattle.clog_store.specs.Grows.{AreAppends}
+use Rattle.clog_applied.specs.Asked.{capacity_of}
+use Rattle.clog_applied.specs.Closed.{IsClosedPath, IsStoreLeft}
+use Rattle.clog_applied.specs.History.{LoggedLine, logged_at}
+use Rattle.clog_applied.specs.Printed.{AreByLine}
+use Rattle.clog_layout.specs.Laid.{AreLaid}
+use Rattle.clog_layout.specs.Logged.{AreEntriesOf, AreLaidLines}
+
+-- The entries of a log are those of the first of these lines, in order.
+pub record SaysFirst (log : List Write) (mutations : List Mutation) : Type 0 where
+  pub count : ℕ
+  pub says : map (λ (e : Entry). e.payload) (entries_in log)
+      ≡ map payload_of (take count mutations)
+
+-- The image restores what was restored before, and the first of these lines, at least so many. It
+-- is not damaged.
+pub record RestoresLines (r : Reading) (mutations : List Mutation) (least : ℕ) (image : Files)
+    : Type 0 where
+  pub n : ℕ
+  pub enough : least ≤ n
+  pub some : n ≤ length mutations
+  pub restores :
+      SameMerge (RestoresIn (bytes_at image))
+      (Either (RestoresIn r) (Contains (flat_map cells_of (take n mutations))))
+  pub undamaged : IsUndamaged image
+
+-- The appends have brought these segments, but perhaps for an end of each, and nothing else.
+pub record IsWrittenBy (appends : List Append) (log : List Write) : Type 0 where
+  pub each : (w : Write) → Contains log w
+      → (rest : List ℕ) × (segment_bytes w.id w.sections
+      ≡ grown appends (segment_name_of 6 w.id) ++ rest)
+  pub only : (a : Append) → Contains appends a
+      → (w : Write) × Contains log w × (0 < length w.sections) × (a.0 ≡ segment_name_of 6 w.id)
+
+-- Since a disk was so its further changes are appends alone, which have brought these segments.
+pub record HasBrought {D : Type 0} (changes : D → Option (List Change)) (before now : D)
+    (log : List Write) : Type 0 where
+  pub added : List Change
+  pub changes_are : changes now ≡ option_map (λ made. made ++ added) (changes before)
+  pub alone : AreAppends added
+  pub brought : IsWrittenBy (appends_of added) log
+
+-- The segments that were written, which say the first of these lines. What a crash leaves since a
+-- disk was so, and what it leaves of it now, where nothing passes by chance for what was written.
+pub record LeavesLines {D : Type 0} (changes : D → Option (List Change)) (moment : D → ℕ)
+    (since : D → ℕ → Files → Type 0) (leaves : D → List ℕ → Option (List ℕ) → Type 0)
+    (before now : D) (r : Reading) (mutations : List Mutation) (least : ℕ) : Type 0 where
+  pub log : List Write
+  pub wrote : HasBrought changes before now log
+  pub says : SaysFirst log mutations
+  pub meanwhile : LeavesOnly moment since before now
+      (λ image. NoChances log image → RestoresLines r mutations 0 image)
+  pub at_last : (image : Files) → IsImage (leaves now) image → NoChances log image
+      → RestoresLines r mutations least image
+
+-- so many lines last for sure
+abbrev pub least_of : {T : Type 0} → Result T KeeperFault → List Mutation → ℕ
+least_of (Ok done) mutations = length mutations
+least_of (Err fault) mutations = 0
+
+-- The lines' entries, laid out from the log's beginning.
+pub record AreLaidFor (sizes : Sizes) (mutations : List Mutation) (notes : List EntryNote)
+    : Type 0 where
+  pub raw : List EntryNote
+  pub entries : AreEntriesOf mutations raw
+  pub laid : AreLaid sizes first_offset 1 raw notes
+
+-- One writer writes all lines and syncs at the end; nothing is flushed.
+pub record IsPlain (options : ApplyOptions) : Type 0 where
+  pub one_writer : options.writers ≡ 1
+  pub periodic : options.sync ≡ Periodic 10000
+  pub no_flush : options.flush_at ≡ None
+  pub no_drain : options.drain ≡ false
+
+-- All lines were written: what the path and the store of such a run tell.
+pub record HasWritten (options : ApplyOptions) (base : ℕ) (opened after : Files)
+    (later : List Change) (mutations : List Mutation) (notes : List EntryNote) : Type 0 where
+  pub ids : List ℕ
+  pub history : List LoggedLine
+  pub path : IsClosedPath options mutations base history []
+  pub store : IsStoreLeft options.archive opened after later ids [] history []
+  pub lines : AreLaidLines base mutations notes history
+  -- each line once, in order, and where its entry stands
+  pub by_line : AreByLine history (length mutations) history
+  pub positions : map logged_at history ≡ map (λ (n : EntryNote). position_of base n.end.0) notes
+
+-- What the disk tells of it.
+pub record TellsWritten (options : ApplyOptions) (base : ℕ) (opened : Files) (made : List Change)
+    (told : Option Files) (changes : Option (List Change)) (mutations : List Mutation)
+    (notes : List EntryNote) : Type 0 where
+  pub after : Files
+  pub later : List Change
+  pub files_are : told ≡ Some after
+  pub changes_are : changes ≡ Some (made ++ later)
+  pub written : HasWritten options base opened after later mutations notes
+
+-- Why lines were not written: the disk has failed, of which its count tells. Else it counted none.
+abbrev pub HasWriteCause : {T : Type 0} → ℕ → ℕ → Result T KeeperFault → Type 0
+HasWriteCause faults now (Ok done) = now ≡ faults
+HasWriteCause faults now (Err OutOfMemory) = now ≡ faults
+HasWriteCause faults now (Err (Stopped at_open counted)) = (faults ≤ now) × Rose faults now

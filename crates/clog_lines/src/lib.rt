@@ -1,0 +1,12 @@
+//! The lines of a mutation file become the log of a folder, by one writer (Cassandra's
+//! `CommitLog.add` of each, and one sync): notes of their entries are made, and once these are laid
+//! out, a store over the folder makes all of them last.
+#![tactic(auto)]
+
+mod notes;
+#[cfg(test)]
+mod tests;
+mod writing;
+
+pub use notes::{NotesFault, notes_of};
+pub use writing::write_lines;
