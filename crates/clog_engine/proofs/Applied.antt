@@ -1,34 +1,6 @@
 -- What `apply` answers, from what its steps answered.
-use Rattle.std.proofs.Common.{
-  ◌≡◌,
-  ℕ,
-  ◌<◌,
-  ◌≤◌,
-  List,
-  [],
-  ◌∷◌,
-  length,
-  inl,
-  inr,
-  None,
-  sym,
-  subst,
-  arith,
-  Option,
-  Ok as ok,
-  length-append,
-}
-use Rattle.clog_spec.specs.Segment.{header_bytes, marker_bytes}
-use Rattle.clog_spec.specs.Sizes.{front_size, greatest_capacity, header_size}
-use Rattle.clog_mutation.specs.declared.mutation.Mutation.{Mutation}
-use Rattle.clog_text.specs.FileLines.{lines_of, line_limit}
-use Rattle.clog_text.specs.FileMutations.{file_mutations}
-use Rattle.clog_disk.specs.declared.disk.DiskFault.{DiskFault as Fault}
-use Rattle.clog_disk.specs.declared.disk.DiskFault.TheVariants.{
-  Failed,
-  NoSuchFile,
-  OutOfMemory as NoMemory,
-}
+use Rattle.std.proofs.Common.{◌≡◌, ℕ, ◌≤◌, Option, inl, inr, sym, subst, arith}
+use Rattle.std.specs.Prelude.{false}
 use Rattle.clog_base.specs.declared.fault.Quantity.TheVariants.{
   FileBytes,
   Lines,
@@ -36,7 +8,11 @@ use Rattle.clog_base.specs.declared.fault.Quantity.TheVariants.{
   Ids,
   TableFiles,
 }
-use Rattle.clog_engine.specs.declared.status.Unbuilt.TheVariants.{Segment}
+use Rattle.clog_disk.specs.Files.{Files}
+use Rattle.clog_folder.specs.declared.fault.OpenFault.{OpenFault}
+use Rattle.clog_folder.specs.declared.fault.OpenFault.TheVariants as folder
+use Rattle.clog_folder.specs.Folder.{FolderRefused}
+use Rattle.clog_store.specs.Opened.{LeftAlone, OpenRefused}
 use Rattle.clog_engine.specs.declared.status.Status.{Status}
 use Rattle.clog_engine.specs.declared.status.Status.TheVariants.{
   Ok,
@@ -51,147 +27,120 @@ use Rattle.clog_engine.specs.declared.status.Status.TheVariants.{
   OutOfMemory,
   Limit,
   Absent,
-  NotBuilt,
 }
-use Rattle.clog_engine.specs.Input.{HasFittingEntry, IsAccepted, IsGood}
-use Rattle.clog_engine.specs.Limits.{entry_limit}
-use Rattle.clog_engine.specs.Reading.{
-  TakesFile,
-  GivesMutations,
-  HasSize,
-  HasShortEntry,
-  HasShortSize,
-  front_of,
-}
-use Rattle.std.specs.Prelude.{◌⊎◌, IfSome}
-use Rattle.std.specs.List.{AllByRecursion}
-use Rattle.std.specs.FinMap as finmap
-use Rattle.clog_disk.specs.Files.{Files, MayAppend}
-use Rattle.clog_engine.specs.Apply.{Gains}
-use Rattle.clog_engine.specs.Landing.{LeftBehind}
-use Rattle.clog_engine.proofs.Landed.{gained}
-use Rattle.clog_engine.specs.Landing.{LandingRefused}
-use Rattle.clog_engine.specs.Refusal.{status_of}
-use Rattle.clog_engine.specs.Looking.{LookRefused}
-use Rattle.clog_engine.specs.Readying.{LeftBy}
-use Rattle.clog_engine.specs.Outside.{Outside}
-use Rattle.clog_engine.specs.Apply.{
-  segment_of,
-  HasLanded,
-  IsPartly,
-  IsReady,
-  Lands,
-  ReadsToEnd,
-  ApplyRefuses,
-}
+use Rattle.clog_engine.specs.Apply.{ApplyRefuses, KeepsAll, LeavesPart, ReadsToEnd}
+use Rattle.clog_engine.specs.Before.{FolderRefuses}
+use Rattle.clog_engine.specs.Input.{IsGood}
+use Rattle.clog_engine.specs.Laying.{FileRefused}
+use Rattle.clog_engine.specs.Outside.{IsUntouched, Outside}
+use Rattle.clog_engine.specs.Refusal.{folder_status}
 
--- all that was looked at before the disk
-accepted : (capacity : ℕ) (left left_now : Option (List ℕ)) (bytes : List ℕ)
-    (mutations : List Mutation) (size : ℕ) → TakesFile left left_now bytes
-    → (length (lines_of bytes) ≤ line_limit) × (file_mutations bytes ≡ ok mutations)
-    → HasSize capacity mutations size → IsAccepted capacity bytes mutations
-accepted capacity left left_now bytes mutations size takes read sized = record {
-  sized = record {
-    read = record {
-      split = record { few_bytes = takes.few; few_lines = read.0 };
-      read = read.1;
-    };
-    sized = sized.each;
-  };
-  room = omega (arith, sized.room, sized.size_is);
-}
+-- ---- the file is refused
 
--- the same of the bytes and mutations that the steps were given, which are those that they gave
-pub accepted_as : (capacity : ℕ) (left left_now : Option (List ℕ)) (bytes read : List ℕ)
-    (mutations sized : List Mutation) (size : ℕ) → TakesFile left left_now bytes → read ≡ bytes
-    → GivesMutations read (ok mutations) → sized ≡ mutations → HasSize capacity sized size
-    → IsAccepted capacity bytes mutations
-accepted_as capacity left left_now bytes read mutations sized size takes same gives listed has =
-    accepted capacity left left_now bytes mutations size takes
-    (subst (λ (l : List ℕ). GivesMutations l (ok mutations)) same gives)
-    (subst (λ (ms : List Mutation). HasSize capacity ms size) listed has)
+pub file_refuses : (capacity : ℕ) (status : Status) (o : Outside)
+    → FileRefused capacity o.left o.left_now o.source_faults o.source_faults_now status
+    → IsUntouched o → ApplyRefuses capacity status o
+file_refuses n Ok o refused still = absurd refused
+file_refuses n Usage o refused still = absurd refused
+file_refuses n (BadLine number cause) o refused still = (refused, still)
+file_refuses n (TooLarge number size most) o refused still = (refused, still)
+file_refuses n ReadFault o refused still = (refused, still)
+file_refuses n WriteFault o refused still = absurd refused
+file_refuses n DiskFault o refused still = absurd refused
+file_refuses n (Damaged name at cause) o refused still = absurd refused
+file_refuses n (BadTable name fault) o refused still = absurd refused
+file_refuses n OutOfMemory o refused still = inl still
+file_refuses n (Limit FileBytes most) o refused still = (refused.0, refused.1, still)
+file_refuses n (Limit Lines most) o refused still = (refused.0, refused.1, still)
+file_refuses n (Limit SegmentBytes most) o refused still = absurd refused
+file_refuses n (Limit Ids most) o refused still = absurd refused
+file_refuses n (Limit TableFiles most) o refused still = absurd refused
+file_refuses n (Absent name) o refused still = absurd refused
 
--- half a segment is no larger than the greatest
-short_entries : (capacity : ℕ) (ms : List Mutation) → capacity ≤ greatest_capacity
-    → AllByRecursion (HasFittingEntry capacity) ms → AllByRecursion HasShortEntry ms
-unfolding entry_limit
-short_entries capacity [] few fitting = tt
-short_entries capacity (m ∷ ms) few fitting =
-    (omega (arith, few, fitting.0), short_entries capacity ms few fitting.1)
+-- ---- the folder is refused
 
--- what has room in a segment has room in the greatest
-pub short_size : (capacity : ℕ) (ms : List Mutation) (size : ℕ) → capacity ≤ greatest_capacity
-    → HasSize capacity ms size → HasShortSize ms size
-short_size capacity ms size few sized = record {
-  each = short_entries capacity ms few sized.each;
-  size_is = sized.size_is;
-  room = omega (arith, few, sized.room);
-}
+-- what is left of it: for the disk's own reasons it may have changed
+abbrev pub LeftBy : ℕ → Status → Outside → Type 0
+LeftBy capacity DiskFault o = LeavesPart capacity o
+LeftBy capacity OutOfMemory o = LeavesPart capacity o
+LeftBy capacity other o = IsUntouched o
 
--- for no mutation nothing comes
-pub lands_none : (o : Outside) (ready : Option Files) (id : ℕ) (mutations : List Mutation)
-    → length mutations ≡ 0 → IsReady o ready → Lands o ready id mutations
-lands_none o ready id [] none is = is
-lands_none o ready id (first ∷ more) none is = absurd (omega arith)
-
--- some mutations are in a segment
-pub lands_some : (o : Outside) (ready : Option Files) (id : ℕ) (mutations : List Mutation)
-    → 0 < length mutations → HasLanded o ready id (segment_of id mutations)
-    → Lands o ready id mutations
-lands_some o ready id [] some landed = absurd (omega arith)
-lands_some o ready id (first ∷ more) some landed = landed
-
-pub length-front_of : (id end : ℕ) → length (front_of id end) ≡ front_size
-unfolding front_of
-length-front_of id end = length-append (header_bytes id) (marker_bytes id header_size end)
-
--- what a fault leaves of a new file
-abbrev pub PartBy : Fault → Option Files → Option Files → List ℕ → List ℕ → Type 0
-PartBy Failed files files_now name bytes = MayAppend files files_now name (length bytes)
-PartBy NoSuchFile files files_now name bytes = ⊥
-PartBy NoMemory files files_now name bytes =
-    (files_now ≡ files) ⊎ Gains files files_now name bytes
-
--- what is left of a file that was not there
-pub left_part : (fault : Fault) (files files_now : Option Files) (name bytes : List ℕ)
-    → IfSome files (λ held. finmap.get held name ≡ None)
-    → LeftBehind files files_now name bytes fault → PartBy fault files files_now name bytes
-left_part Failed files files_now name bytes free left = left
-left_part NoSuchFile files files_now name bytes free left = left
-left_part NoMemory files files_now name bytes free (inl same) = inl same
-left_part NoMemory files files_now name bytes free (inr all) =
-    inr (gained files files_now name bytes free all)
-
--- why the segment did not land
-pub landing_refuses : (capacity : ℕ) (fault : Fault) (status : Status) (o : Outside)
-    → status ≡ status_of fault → ReadsToEnd o (IsGood capacity)
-    → LandingRefused o.disk_faults o.disk_faults_now fault
-    → IsPartly capacity o (λ ready. PartBy fault ready o.files_now) → ApplyRefuses capacity status o
-landing_refuses n Failed status o is good refused part =
-    subst (λ s. ApplyRefuses n s o) (sym is) (good, refused, inr (inr part))
-landing_refuses n NoSuchFile status o is good refused part = absurd refused
-landing_refuses n NoMemory status o is good refused part =
-    subst (λ s. ApplyRefuses n s o) (sym is) (inr (inr part))
-
--- why the folder was not made ready
-pub ready_refuses : (capacity : ℕ) (status : Status) (o : Outside)
-    → ReadsToEnd o (IsGood capacity) → LookRefused o.files o.disk_faults o.disk_faults_now status
-    → LeftBy status o.files o.files_now o.leaves o.leaves_now → ApplyRefuses capacity status o
-ready_refuses n Ok o good refused left = absurd refused
-ready_refuses n Usage o good refused left = absurd refused
-ready_refuses n (BadLine number cause) o good refused left = absurd refused
-ready_refuses n (TooLarge number size most) o good refused left = absurd refused
-ready_refuses n ReadFault o good refused left = absurd refused
-ready_refuses n WriteFault o good refused left = absurd refused
-ready_refuses n DiskFault o good refused left = (good, refused, inr (inl left))
-ready_refuses n (Damaged name at cause) o good refused left = (good, refused, left)
-ready_refuses n (BadTable name fault) o good refused left = (good, refused, left)
-ready_refuses n OutOfMemory o good refused left = inr (inl left)
-ready_refuses n (Limit FileBytes most) o good refused left = absurd refused
-ready_refuses n (Limit Lines most) o good refused left = absurd refused
-ready_refuses n (Limit SegmentBytes most) o good refused left =
+pub folder_refuses : (capacity : ℕ) (status : Status) (o : Outside)
+    → ReadsToEnd o (IsGood capacity) → FolderRefuses o.files o.disk_faults o.disk_faults_now status
+    → LeftBy capacity status o → ApplyRefuses capacity status o
+folder_refuses n Ok o good refused left = absurd refused
+folder_refuses n Usage o good refused left = absurd refused
+folder_refuses n (BadLine number cause) o good refused left = absurd refused
+folder_refuses n (TooLarge number size most) o good refused left = absurd refused
+folder_refuses n ReadFault o good refused left = absurd refused
+folder_refuses n WriteFault o good refused left = absurd refused
+folder_refuses n DiskFault o good refused left = (good, refused, left)
+folder_refuses n (Damaged name at cause) o good refused left = (good, refused, left)
+folder_refuses n (BadTable name fault) o good refused left = (good, refused, left)
+folder_refuses n OutOfMemory o good refused left = left
+folder_refuses n (Limit FileBytes most) o good refused left = absurd refused
+folder_refuses n (Limit Lines most) o good refused left = absurd refused
+folder_refuses n (Limit SegmentBytes most) o good refused left =
     (refused.0, good, refused.1, left)
-ready_refuses n (Limit Ids most) o good refused left = (refused.0, good, refused.1, left)
-ready_refuses n (Limit TableFiles most) o good refused left = (refused.0, good, refused.1, left)
-ready_refuses n (Absent name) o good refused left = absurd refused
-ready_refuses n (NotBuilt Segment) o good refused left = absurd refused
+folder_refuses n (Limit Ids most) o good refused left = (refused.0, good, refused.1, left)
+folder_refuses n (Limit TableFiles most) o good refused left = (refused.0, good, refused.1, left)
+folder_refuses n (Absent name) o good refused left = absurd refused
+
+-- where nothing has changed
+pub left_still : (capacity : ℕ) (status : Status) (o : Outside) → IsUntouched o
+    → LeftBy capacity status o
+left_still n DiskFault o still = inl still
+left_still n OutOfMemory o still = inl still
+left_still n other o still = still
+
+-- where it was not opened
+pub left_closed : (capacity : ℕ) (refusal : OpenFault) (o : Outside) (alone : Type 0)
+    → LeftAlone alone refusal → (alone → IsUntouched o) → KeepsAll o
+    → LeftBy capacity (folder_status refusal) o
+left_closed n folder.Disk o alone left still kept = inr (inl kept)
+left_closed n folder.OutOfMemory o alone left still kept = inr (inl kept)
+left_closed n (folder.Damaged name at cause) o alone left still kept = still left
+left_closed n (folder.BadTable name fault) o alone left still kept = still left
+left_closed n (folder.Limit what most) o alone left still kept = still left
+
+-- ---- why
+
+-- faults that were counted since, were counted since before
+refused_since : (files : Option Files) (f g k : ℕ) (refusal : OpenFault) → f ≤ g
+    → OpenRefused files g k refusal → FolderRefuses files f k (folder_status refusal)
+refused_since files f g k folder.Disk later refused = omega (arith, later, refused)
+refused_since files f g k folder.OutOfMemory later refused = tt
+refused_since files f g k (folder.Damaged name at cause) later refused = refused
+refused_since files f g k (folder.BadTable name fault) later refused = refused
+refused_since files f g k (folder.Limit FileBytes most) later refused = absurd refused
+refused_since files f g k (folder.Limit Lines most) later refused = absurd refused
+refused_since files f g k (folder.Limit SegmentBytes most) later refused = refused
+refused_since files f g k (folder.Limit Ids most) later refused = refused
+refused_since files f g k (folder.Limit TableFiles most) later refused = refused
+
+-- the folder is not opened, by the disk as it was
+pub not_opened : (files looked : Option Files) (f g k : ℕ) (refusal : OpenFault) → looked ≡ files
+    → f ≤ g → OpenRefused looked g k refusal
+    → FolderRefuses files f k (folder_status refusal)
+not_opened files looked f g k refusal same later refused =
+    refused_since files f g k refusal later
+    (subst (λ (o : Option Files). OpenRefused o g k refusal) same refused)
+
+unread : (files : Option Files) (f g : ℕ) (refusal : OpenFault)
+    → FolderRefused false files f g refusal → FolderRefuses files f g (folder_status refusal)
+unread files f g folder.Disk refused = refused
+unread files f g folder.OutOfMemory refused = tt
+unread files f g (folder.Damaged name at cause) refused = refused.1
+unread files f g (folder.BadTable name fault) refused = refused
+unread files f g (folder.Limit FileBytes most) refused = absurd refused
+unread files f g (folder.Limit Lines most) refused = absurd refused
+unread files f g (folder.Limit SegmentBytes most) refused = refused
+unread files f g (folder.Limit Ids most) refused = absurd refused
+unread files f g (folder.Limit TableFiles most) refused = absurd refused
+
+-- what is not replayed is not opened
+pub not_read : (files : Option Files) (f g : ℕ) (refusal : OpenFault) (status : Status)
+    → status ≡ folder_status refusal → FolderRefused false files f g refusal
+    → FolderRefuses files f g status
+not_read files f g refusal status same refused =
+    subst (FolderRefuses files f g) (sym same) (unread files f g refusal refused)

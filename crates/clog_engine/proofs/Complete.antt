@@ -23,7 +23,6 @@ use Rattle.std.proofs.Common.{
 use Rattle.std.specs.Prelude.{Bool, false, String, IfSome}
 use Rattle.std.specs.FinMap as finmap
 use Rattle.clog_spec.specs.Names.{segment_name_of}
-use Rattle.clog_spec.specs.Sizes.{greatest_capacity}
 use Rattle.clog_base.specs.declared.fault.Quantity.TheVariants.{
   FileBytes,
   Lines,
@@ -32,7 +31,6 @@ use Rattle.clog_base.specs.declared.fault.Quantity.TheVariants.{
   TableFiles,
 }
 use Rattle.clog_disk.specs.Files.{Files, Told}
-use Rattle.clog_engine.specs.declared.status.Unbuilt.TheVariants.{Segment}
 use Rattle.clog_engine.specs.declared.status.Status.{Status}
 use Rattle.clog_engine.specs.declared.status.Status.TheVariants.{
   Ok,
@@ -47,11 +45,11 @@ use Rattle.clog_engine.specs.declared.status.Status.TheVariants.{
   OutOfMemory,
   Limit,
   Absent,
-  NotBuilt,
 }
 use Rattle.clog_words.specs.declared.built.Built.{Built}
 use Rattle.clog_words.specs.declared.built.Built.TheVariants.{Apply, Replay, Scan}
 use Rattle.clog_words.specs.Given.{texts}
+use Rattle.clog_applied.specs.Asked.{capacity_of}
 use Rattle.clog_engine.specs.Apply.{ApplyRefuses}
 use Rattle.clog_engine.specs.Answering.{Answers, Does, DoesAsked, Prints, Reports}
 use Rattle.clog_engine.specs.Completes.{
@@ -82,7 +80,6 @@ use Rattle.clog_engine.proofs.GoodInput.{
   good_is_no_bad_line,
   good_is_not_large,
   good_has_few_lines,
-  good_has_room,
   good_is_short,
 }
 
@@ -129,8 +126,6 @@ apply_completes n (Limit TableFiles most) o s good fit quiet refused =
     absurd (told_openable o.files _ fit refused.2 (λ files can many.
     can.within.few many.late))
 apply_completes n (Absent name) o s good fit quiet refused = absurd refused
-apply_completes n (NotBuilt Segment) o s good fit quiet refused =
-    absurd (taken_good n o _ good refused.0 (good_has_room n))
 
 -- ---- a file that is there is not refused
 
@@ -172,7 +167,6 @@ scan_completes (Limit Ids most) o s name there quiet refused = absurd refused
 scan_completes (Limit TableFiles most) o s name there quiet refused = absurd refused
 scan_completes (Absent other) o s name there quiet refused =
     absurd (there_is_there o.files name there refused.1)
-scan_completes (NotBuilt what) o s name there quiet refused = absurd refused
 
 -- ---- a folder that can be read is not refused
 
@@ -218,12 +212,11 @@ replay_completes ignore (Limit SegmentBytes most) o s fit quiet refused =
 replay_completes ignore (Limit Ids most) o s fit quiet refused = absurd refused
 replay_completes ignore (Limit TableFiles most) o s fit quiet refused = absurd refused
 replay_completes ignore (Absent name) o s fit quiet refused = absurd refused
-replay_completes ignore (NotBuilt what) o s fit quiet refused = absurd refused
 
 does_complete : (request : Built) (o : Outside) (s : Sinks) (status : Status) → IsFit request o
     → IsQuiet o s → Does (Some request) o (err status) → EndsWell status
-does_complete (Apply receipts dump) o s status fit quiet done =
-    apply_completes greatest_capacity status o s fit.0 fit.1 quiet done
+does_complete (Apply options) o s status fit quiet done =
+    apply_completes (capacity_of options) status o s fit.0 fit.1 quiet done
 does_complete (Replay options) o s status fit quiet done =
     replay_completes options.ignore_errors status o s fit quiet done.0
 does_complete (Scan id) o s status fit quiet done =
@@ -244,7 +237,6 @@ reports_complete report (BadTable name fault) o s quiet reports = absurd reports
 reports_complete report OutOfMemory o s quiet reports = absurd reports
 reports_complete report (Limit what most) o s quiet reports = absurd reports
 reports_complete report (Absent name) o s quiet reports = absurd reports
-reports_complete report (NotBuilt what) o s quiet reports = absurd reports
 
 outcome_completes : (request : Built) (o : Outside) (s : Sinks) (status : Status)
     (outcome : Result (List ℕ) Status) → IsFit request o → IsQuiet o s

@@ -4,8 +4,7 @@ use Rattle.std.proofs.Common.{
   ℕ,
   suc,
   ◌+◌,
-  ◌^◌,
-  ◌<◌,
+  ◌≤◌,
   List,
   [],
   ◌∷◌,
@@ -23,7 +22,7 @@ use Rattle.std.specs.Prelude.{IfOk}
 use Rattle.std.specs.Result.{result_unwrap_or}
 use Rattle.clog_mutation.specs.declared.mutation.Mutation.{Mutation}
 use Rattle.clog_text.specs.declared.refusal.BadLine.{BadLine}
-use Rattle.clog_text.specs.FileLines.{lines_of}
+use Rattle.clog_text.specs.FileLines.{line_limit, lines_of}
 use Rattle.clog_text.specs.LineMutation.{line_mutation}
 use Rattle.clog_text.specs.FileMutations.{Refused, first_then, mutations_from}
 use Rattle.clog_engine.specs.declared.status.Status.{Status}
@@ -49,7 +48,7 @@ length-mutations_from n (line ∷ lines) all is =
 
 -- the mutations of a file that is not too long are few
 pub few_mutations : (bytes : List ℕ) (r : Result (List Mutation) Status) → GivesMutations bytes r
-    → IfOk r (λ ms. length ms < 2 ^ 32)
+    → IfOk r (λ ms. length ms ≤ line_limit)
 few_mutations bytes (Ok ms) given =
     let same : length ms ≡ length (lines_of bytes) =
     length-mutations_from 1 (lines_of bytes) ms given.1 in

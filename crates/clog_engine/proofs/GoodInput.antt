@@ -27,17 +27,14 @@ use Rattle.clog_io.specs.Bytes.{TakesAll}
 use Rattle.clog_mutation.specs.declared.mutation.Mutation.{Mutation}
 use Rattle.clog_text.specs.declared.refusal.BadLine.{BadLine as Cause}
 use Rattle.clog_text.specs.FileMutations.{Refused, file_mutations}
+use Rattle.clog_lines.specs.Fitting.{HasFittingEntry, HasLargeMutation}
 use Rattle.clog_engine.specs.Apply.{ReadsToEnd}
 use Rattle.clog_engine.specs.Completes.{Tells}
 use Rattle.clog_engine.specs.Input.{
-  HasFittingEntry,
   IsGood,
-  HasLargeMutation,
   HasLargeLine,
   HasManyLines,
   HasBadLine,
-  HasNoRoom,
-  entries_of,
 }
 use Rattle.clog_spec.specs.Sizes.{file_limit}
 use Rattle.clog_engine.specs.Outside.{Outside}
@@ -82,35 +79,23 @@ taken_good capacity o P good reads clash =
 pub good_is_no_bad_line : (capacity number : ℕ) (cause : Cause) (bytes : List ℕ)
     → IsGood capacity bytes → HasBadLine bytes number cause → ⊥
 good_is_no_bad_line capacity number cause bytes good bad =
-    not_both bytes good.mutations (number, cause) good.accepted.sized.read.read bad.refused
+    not_both bytes good.mutations (number, cause) good.sized.read.read bad.refused
 
 pub good_is_not_large : (capacity number size most : ℕ) (bytes : List ℕ) → IsGood capacity bytes
     → HasLargeLine capacity bytes number size most → ⊥
 good_is_not_large capacity number size most bytes good large =
     none_is_large capacity large.mutations number size most
     (subst (AllByRecursion (HasFittingEntry capacity))
-    (one_list bytes good.mutations large.mutations good.accepted.sized.read.read large.read.read)
-    good.accepted.sized.sized) large.large
+    (one_list bytes good.mutations large.mutations good.sized.read.read large.read.read)
+    good.sized.sized) large.large
 
 pub good_has_few_lines : (capacity : ℕ) (bytes : List ℕ) → IsGood capacity bytes
     → HasManyLines bytes → ⊥
 good_has_few_lines capacity bytes good many =
-    omega (arith, good.accepted.sized.read.split.few_lines, many.many_lines)
-
-pub good_has_room : (capacity : ℕ) (bytes : List ℕ) → IsGood capacity bytes
-    → HasNoRoom capacity bytes → ⊥
-good_has_room capacity bytes good no_room =
-    let same = one_list bytes good.mutations no_room.mutations good.accepted.sized.read.read
-    no_room.sized.read.read in
-    omega (
-      arith,
-      ap (λ (ms : List Mutation). length (entries_of ms)) same,
-      good.accepted.room,
-      no_room.large,
-    )
+    omega (arith, good.sized.read.split.few_lines, many.many_lines)
 
 pub good_is_short : (capacity : ℕ) (left : Option (List ℕ)) → Tells left (IsGood capacity)
     → IfSome left (λ bytes. file_limit < length bytes) → ⊥
 good_is_short capacity None good long = good
 good_is_short capacity (Some bytes) good long =
-    omega (arith, good.accepted.sized.read.split.few_bytes, long)
+    omega (arith, good.sized.read.split.few_bytes, long)

@@ -19,7 +19,6 @@ use Rattle.clog_folder.specs.declared.fault.OpenFault.{OpenFault}
 use Rattle.clog_folder.specs.declared.fault.OpenFault.TheVariants as folder
 use Rattle.clog_folder.specs.declared.fault.OpenFault.TheVariants.{Disk}
 use Rattle.clog_folder.specs.Passing.{TellsFault}
-use Rattle.clog_engine.specs.declared.status.Unbuilt.TheVariants.{Segment}
 use Rattle.clog_engine.specs.declared.status.Status.{Status}
 use Rattle.clog_engine.specs.declared.status.Status.TheVariants.{
   Ok as Good,
@@ -34,10 +33,9 @@ use Rattle.clog_engine.specs.declared.status.Status.TheVariants.{
   OutOfMemory,
   Limit,
   Absent,
-  NotBuilt,
 }
 use Rattle.clog_engine.specs.Refusal.{folder_status, status_of}
-use Rattle.clog_engine.specs.Looking.{LookRefused}
+use Rattle.clog_engine.specs.Before.{FolderRefuses}
 use Rattle.clog_engine.specs.Outside.{Sinks}
 use Rattle.clog_engine.specs.Quiet.{TellsFaults, TellsEach, IsBeforeDisk, IsRefusedBefore}
 use Rattle.clog_engine.specs.Answering.{Prints}
@@ -101,7 +99,6 @@ reports_call report (BadTable name fault) s printed before = printed
 reports_call report OutOfMemory s printed before = printed
 reports_call report (Limit what most) s printed before = printed
 reports_call report (Absent name) s printed before = printed
-reports_call report (NotBuilt what) s printed before = printed
 
 pub printed_before : (outcome : Result (List ℕ) Status) (status : Status) (s : Sinks)
     → Prints outcome status s → IsBeforeDisk status → IsRefusedBefore outcome
@@ -117,7 +114,7 @@ of_the_disk NoSuchFile before = before
 of_the_disk NoMemory before = before
 
 -- nor is one that comes of looking at the folder
-pub looked_at : (files : Option Files) (f g : ℕ) (status : Status) → LookRefused files f g status
+pub looked_at : (files : Option Files) (f g : ℕ) (status : Status) → FolderRefuses files f g status
     → IsBeforeDisk status → ⊥
 looked_at files f g Good refused before = before
 looked_at files f g Usage refused before = refused
@@ -135,7 +132,6 @@ looked_at files f g (Limit SegmentBytes most) refused before = before
 looked_at files f g (Limit Ids most) refused before = before
 looked_at files f g (Limit TableFiles most) refused before = before
 looked_at files f g (Absent name) refused before = before
-looked_at files f g (NotBuilt Segment) refused before = refused
 
 -- nor one that comes of reading a segment's file
 pub read_at : (files : Option Files) (f g : ℕ) (name : List ℕ) (status : Status)
@@ -156,7 +152,6 @@ read_at files f g name (Limit SegmentBytes most) refused before = before
 read_at files f g name (Limit Ids most) refused before = before
 read_at files f g name (Limit TableFiles most) refused before = before
 read_at files f g name (Absent other) refused before = before
-read_at files f g name (NotBuilt Segment) refused before = refused
 
 -- nor one that comes of replaying the folder
 pub replayed_at : (ignore : Bool) (files : Option Files) (f g : ℕ) (status : Status)
@@ -177,4 +172,3 @@ replayed_at ignore files f g (Limit SegmentBytes most) refused before = before
 replayed_at ignore files f g (Limit Ids most) refused before = before
 replayed_at ignore files f g (Limit TableFiles most) refused before = before
 replayed_at ignore files f g (Absent name) refused before = before
-replayed_at ignore files f g (NotBuilt Segment) refused before = refused

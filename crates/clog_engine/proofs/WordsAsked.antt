@@ -1,4 +1,4 @@
--- Words ask for one thing, and a number of workers is from 1 to 64.
+-- Words ask for one thing, and their numbers are within limits.
 use Rattle.std.proofs.Common.{
   ◌≡◌,
   ℕ,
@@ -25,9 +25,10 @@ use Rattle.clog_words.specs.declared.request.ReplayOptions.{ReplayOptions}
 use Rattle.clog_words.specs.declared.request.Request.{Request}
 use Rattle.clog_words.specs.declared.request.Request.TheVariants.{Apply, Replay, Scan}
 use Rattle.clog_words.specs.Asks.{Asks, IsNumberOr, IsValueWithin}
-use Rattle.clog_words.specs.Built.{AsksBuilt, IsBuilt, plain_options}
+use Rattle.clog_words.specs.Built.{AsksBuilt, IsBuilt}
 use Rattle.clog_words.specs.Given.{Setting, said}
 use Rattle.clog_words.proofs.OneRequest.{one_request}
+use Rattle.clog_engine.specs.Request.{IsDoable}
 
 one_apply : (r : Request) (a b : ApplyOptions) → r ≡ Apply a → r ≡ Apply b → a ≡ b
 one_apply r a b p q = let same : Apply a ≡ Apply b = sym p ∙ q in cc
@@ -40,20 +41,18 @@ one_scan r a b p q = let same : Scan a ≡ Scan b = sym p ∙ q in cc
 
 -- a request asks for one thing
 one_built : (r : Request) (a b : Built) → IsBuilt r a → IsBuilt r b → a ≡ b
-one_built r (built.Apply e d) (built.Apply e' d') p q =
-    ap (λ (o : ApplyOptions). built.Apply o.receipts o.dump)
-    (one_apply r (plain_options e d) (plain_options e' d') p q)
-one_built r (built.Apply e d) (built.Replay o) p q =
-    let same : Apply (plain_options e d) ≡ Replay o = sym p ∙ q in cc
-one_built r (built.Apply e d) (built.Scan id) p q =
-    let same : Apply (plain_options e d) ≡ Scan q.0 = sym p ∙ q.1 in cc
-one_built r (built.Replay o) (built.Apply e d) p q =
-    let same : Replay o ≡ Apply (plain_options e d) = sym p ∙ q in cc
+one_built r (built.Apply o) (built.Apply o') p q = ap built.Apply (one_apply r o o' p.0 q.0)
+one_built r (built.Apply o) (built.Replay o') p q =
+    let same : Apply o ≡ Replay o' = sym p.0 ∙ q in cc
+one_built r (built.Apply o) (built.Scan id) p q =
+    let same : Apply o ≡ Scan q.0 = sym p.0 ∙ q.1 in cc
+one_built r (built.Replay o) (built.Apply o') p q =
+    let same : Replay o ≡ Apply o' = sym p ∙ q.0 in cc
 one_built r (built.Replay o) (built.Replay o') p q = ap built.Replay (one_replay r o o' p q)
 one_built r (built.Replay o) (built.Scan id) p q =
     let same : Replay o ≡ Scan q.0 = sym p ∙ q.1 in cc
-one_built r (built.Scan id) (built.Apply e d) p q =
-    let same : Scan p.0 ≡ Apply (plain_options e d) = sym p.1 ∙ q in cc
+one_built r (built.Scan id) (built.Apply o) p q =
+    let same : Scan p.0 ≡ Apply o = sym p.1 ∙ q.0 in cc
 one_built r (built.Scan id) (built.Replay o) p q =
     let same : Scan p.0 ≡ Replay o = sym p.1 ∙ q in cc
 one_built r (built.Scan id) (built.Scan id') p q =
@@ -68,15 +67,18 @@ one_asked words a b x y =
     let same : x.request ≡ y.request = one_request words x.request y.request x.asks y.asks in
     one_built y.request a b (subst (λ (r : Request). IsBuilt r a) same x.is_built) y.is_built
 
--- ---- the number of workers
+-- ---- numbers
 
-number_within : (option : Option Setting) (n : ℕ) → IsNumberOr 1 1 64 option n
-    → (1 ≤ n) × (n ≤ 64)
-number_within None n is = (omega (arith, is), omega (arith, is))
-number_within (Some setting) n is = value_within setting.value n is
+-- a number is within the limits in which it may be given, where its own default is
+number_within : (default least most : ℕ) (option : Option Setting) (n : ℕ)
+    → least ≤ default → default ≤ most → IsNumberOr default least most option n
+    → (least ≤ n) × (n ≤ most)
+number_within default least most None n low high is =
+    (omega (arith, is, low), omega (arith, is, high))
+number_within default least most (Some setting) n low high is = value_within setting.value n is
   where
-    value_within : (value : Option (List ℕ)) (m : ℕ)
-        → IsValueWithin 1 64 value m → (1 ≤ m) × (m ≤ 64)
+    value_within : (value : Option (List ℕ)) (m : ℕ) → IsValueWithin least most value m
+        → (least ≤ m) × (m ≤ most)
     value_within None m is' = absurd is'
     value_within (Some text) m is' = (is'.from, is'.up_to)
 
@@ -84,9 +86,28 @@ asked_workers : (words : List (List ℕ)) (options : ReplayOptions) → Asks wor
     → (1 ≤ options.workers) × (options.workers ≤ 64)
 asked_workers [] options asks = absurd asks
 asked_workers (command ∷ words) options asks =
-    number_within (said (codes "workers") asks.1.settings) options.workers asks.1.says.workers
+    number_within 1 1 64 (said (codes "workers") asks.1.settings) options.workers (omega arith)
+    (omega arith) asks.1.says.workers
 
 pub workers_within : (words : List (List ℕ)) (options : ReplayOptions)
     → AsksBuilt words (built.Replay options) → (1 ≤ options.workers) × (options.workers ≤ 64)
 workers_within words options asked =
     asked_workers words options (subst (Asks words) asked.is_built asked.asks)
+
+asked_segments : (words : List (List ℕ)) (options : ApplyOptions) → Asks words (Apply options)
+    → (4 ≤ options.segment_kib) × (options.segment_kib ≤ 32768)
+asked_segments [] options asks = absurd asks
+asked_segments (command ∷ words) options asks =
+    number_within 32768 4 32768 (said (codes "segment-kib") asks.1.settings) options.segment_kib
+    (omega arith) (omega arith) asks.1.says.segment_kib
+
+-- what words ask of `apply` can be done
+pub doable : (words : List (List ℕ)) (options : ApplyOptions)
+    → AsksBuilt words (built.Apply options) → IsDoable options
+doable words options asked =
+    let within = asked_segments words options (subst (Asks words) asked.is_built.0 asked.asks) in
+    record {
+      plain = asked.is_built.1;
+      least = within.0;
+      most = within.1;
+    }

@@ -12,7 +12,7 @@ use Rattle.clog_engine.specs.declared.status.Status.TheVariants.{
 use Rattle.clog_words.specs.declared.built.Built.{Built}
 use Rattle.clog_words.specs.declared.built.Built.TheVariants.{Apply, Replay, Scan}
 use Rattle.clog_engine.specs.Replaying.{ReplaysFolder}
-use Rattle.clog_engine.specs.Request.{Asks, options_of}
+use Rattle.clog_engine.specs.Request.{Asks}
 use Rattle.clog_engine.specs.Scanning.{Scans}
 use Rattle.clog_engine.specs.Faults.{fault_line}
 use Rattle.clog_engine.specs.Outside.{Outside, IsUntouched, Sinks, Writes, Breaks}
@@ -27,7 +27,7 @@ pub record IsUnread (o : Outside) : Type 0 where
 -- What is asked for is done and reported, or is refused; no request at all is refused.
 abbrev pub Does : Option Built → Outside → Result (List ℕ) Status → Type 0
 Does None o outcome = (outcome ≡ result.Err Usage) × IsUntouched o × IsUnread o
-Does (Some (Apply receipts dump)) o outcome = Applies (options_of receipts dump) o outcome
+Does (Some (Apply options)) o outcome = Applies options o outcome
 Does (Some (Replay options)) o outcome =
     ReplaysFolder options.ignore_errors o.files o.disk_faults o.disk_faults_now outcome
     × IsUntouched o × IsUnread o

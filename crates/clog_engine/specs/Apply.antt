@@ -4,26 +4,28 @@ use Rattle.std.specs.Prelude.{
   ◌⊎◌,
   ℕ,
   ◌<◌,
-  ◌^◌,
+  ◌≤◌,
   List,
   [],
   ◌∷◌,
   ◌++◌,
   length,
+  take,
   false,
+  Contains,
   Option,
   Some,
-  None,
   IfSome,
+  option_map,
+  ⊤,
   Result,
 }
 use Rattle.std.specs.declared.result.Result.TheVariants as result
-use Rattle.std.specs.List.{AllByRecursion}
-use Rattle.std.specs.FinMap as map
-use Rattle.clog_spec.specs.Names.{segment_name_of}
-use Rattle.clog_spec.specs.Segment.{header_bytes, section_bytes}
+use Rattle.std.specs.List.{flat_map}
 use Rattle.clog_base.specs.declared.cell.Cell.{Cell}
 use Rattle.clog_base.specs.declared.cell.CellKey.{CellKey}
+use Rattle.clog_base.specs.declared.sizes.Sizes.{Sizes}
+use Rattle.path_core.specs.declared.note.EntryNote.{EntryNote}
 use Rattle.clog_base.specs.declared.fault.Quantity.TheVariants.{
   FileBytes,
   Lines,
@@ -33,13 +35,37 @@ use Rattle.clog_base.specs.declared.fault.Quantity.TheVariants.{
 }
 use Rattle.clog_io.specs.Bytes.{TakesAll}
 use Rattle.clog_io.specs.Causes.{Rose}
-use Rattle.clog_disk.specs.Files.{Files, MayAppend}
-use Rattle.clog_disk.specs.Images.{Lasts}
+use Rattle.clog_disk.specs.declared.change.Change.{Change}
+use Rattle.clog_disk.specs.Files.{Files, SameTold, Told, bytes_at}
+use Rattle.clog_disk.specs.Images.{IsImage, LastsAll}
 use Rattle.clog_mutation.specs.declared.mutation.Mutation.{Mutation}
-use Rattle.clog_mutation.specs.Stored.{IsStored}
+use Rattle.clog_mutation.specs.Payload.{cells_of}
 use Rattle.clog_text.specs.FileLines.{line_limit}
-use Rattle.clog_engine.specs.declared.words.ApplyOptions.{ApplyOptions}
-use Rattle.clog_engine.specs.declared.status.Unbuilt.TheVariants.{Segment}
+use Rattle.clog_spec.specs.Sizes.{file_limit}
+use Rattle.clog_words.specs.declared.request.ApplyOptions.{ApplyOptions}
+use Rattle.clog_crash.specs.Covering.{Either, SameMerge}
+use Rattle.clog_crash.specs.Folder.{IsFirstBad}
+use Rattle.clog_crash.specs.Grown.{appends_of}
+use Rattle.clog_crash.specs.Log.{NoChances, Write}
+use Rattle.clog_crash.specs.Readings.{RestoresIn}
+use Rattle.clog_crash.specs.Restore.{IsUndamaged}
+use Rattle.clog_folder.specs.Folder.{HasDamage, HasLongSegment}
+use Rattle.clog_store.specs.Named.{sequence_limit, id_limit}
+use Rattle.clog_store.specs.Grows.{AreAppends}
+use Rattle.clog_store.specs.Opened.{
+  HasGreatId,
+  HasManyTables,
+  IsOpened,
+  KeepsFolder,
+  RecoversAll,
+  RecoversFirst,
+}
+use Rattle.clog_applied.specs.Applied.{IsAppliedRun}
+use Rattle.clog_applied.specs.Asked.{capacity_of}
+use Rattle.clog_applied.specs.Closed.{ClosedRun}
+use Rattle.clog_applied.specs.History.{LoggedLine}
+use Rattle.clog_applied.specs.Printed.{ReportIsPrinted}
+use Rattle.clog_lines.specs.Written.{AreLaidFor, IsWrittenBy, SaysFirst}
 use Rattle.clog_engine.specs.declared.status.Status.{Status}
 use Rattle.clog_engine.specs.declared.status.Status.TheVariants.{
   BadLine,
@@ -50,113 +76,149 @@ use Rattle.clog_engine.specs.declared.status.Status.TheVariants.{
   BadTable,
   OutOfMemory,
   Limit,
-  NotBuilt,
 }
-use Rattle.clog_spec.specs.Sizes.{file_limit, header_size}
 use Rattle.clog_engine.specs.Input.{
-  IsAccepted,
   HasManyLines,
   HasBadLine,
   HasLargeLine,
-  HasNoRoom,
   IsGood,
-  entries_of,
+  IsSized,
+  Takes,
 }
-use Rattle.clog_crash.specs.Folder.{IsFirstBad}
-use Rattle.clog_crash.specs.Restore.{IsRestored}
-use Rattle.clog_folder.specs.Folder.{HasDamage, HasLongSegment}
-use Rattle.clog_store.specs.Named.{sequence_limit, id_limit}
-use Rattle.clog_store.specs.Opened.{HasGreatId, HasManyTables}
 use Rattle.clog_engine.specs.Outside.{Outside, IsUntouched}
-use Rattle.clog_engine.specs.Ready.{IsKept, LeavesAllReady, LeavesOneTorn, MakesReady}
 use Rattle.clog_engine.specs.Report.{IsReport, head_of}
-
--- the segment of an id: its header, and one section with all entries
-unfoldable pub segment_of : ℕ → List Mutation → List ℕ
-segment_of id mutations = header_bytes id ++ section_bytes id header_size (entries_of mutations)
-
--- told files gain this one
-abbrev pub Gains : Option Files → Option Files → List ℕ → List ℕ → Type 0
-Gains None after name bytes = after ≡ None
-Gains (Some before) after name bytes = after ≡ Some (map.insert before name bytes)
-
--- The segment is there, lasting. No other file has changed since the folder was ready, and a crash
--- leaves at each other name no more than then.
-pub record HasLanded (o : Outside) (ready : Option Files) (id : ℕ) (bytes : List ℕ) : Type 0 where
-  pub gained : Gains ready o.files_now (segment_name_of 6 id) bytes
-  pub lasts : Lasts o.files_now o.leaves_now (segment_name_of 6 id)
-  pub images : LeavesOneTorn o.files ready o.leaves o.leaves_now (segment_name_of 6 id)
-      (length bytes)
-
--- nothing has changed since the folder was ready
-pub record IsReady (o : Outside) (ready : Option Files) : Type 0 where
-  pub files : o.files_now ≡ ready
-  pub images : LeavesAllReady o.files ready o.leaves o.leaves_now
-
--- all mutations are in one segment; for none there is no segment
-abbrev pub Lands : Outside → Option Files → ℕ → List Mutation → Type 0
-Lands o ready id [] = IsReady o ready
-Lands o ready id (first ∷ more) = HasLanded o ready id (segment_of id (first ∷ more))
+use Rattle.clog_engine.specs.Request.{AreSizesOf}
 
 -- The source was read to its end, and the bytes that it gave are such.
 abbrev pub ReadsToEnd : Outside → (List ℕ → Type 0) → Type 0
-ReadsToEnd o P = (bytes : List ℕ) × TakesAll o.left o.left_now bytes × P bytes
+ReadsToEnd o P = Takes o.left o.left_now P
 
--- The clock told a moment. From it the folder was made ready for a segment of this id: recovered,
--- where it held segments, and else left as it was. These are its files then.
-pub record IsBegun (o : Outside) (ready : Option Files) (id : ℕ) : Type 0 where
-  pub now : ℕ
-  pub told : o.tells now
-  pub made : MakesReady o.files ready now id
+-- ---- what a crash leaves
 
--- The file's mutations each have a payload and stand in a new segment of a folder that was made
--- ready, and the report tells them, where each stands, and what the folder restored to.
+-- An image restores what the folder restored before, and the first of these lines, at least so
+-- many. It has no damage that was not there.
+pub record AddsFirst (before : Files) (mutations : List Mutation) (least : ℕ) (image : Files)
+    : Type 0 where
+  pub n : ℕ
+  pub enough : least ≤ n
+  pub some : n ≤ length mutations
+  pub restores :
+      SameMerge (RestoresIn (bytes_at image))
+      (Either (RestoresIn (bytes_at before)) (Contains (flat_map cells_of (take n mutations))))
+  pub undamaged : IsUndamaged before → IsUndamaged image
+
+-- The run's changes are those of a recovery, and then appends that have brought these segments.
+pub record HasWrittenLog (o : Outside) (before : Files) (log : List Write) : Type 0 where
+  pub between : Option (List Change)
+  pub recovered : RecoversAll before o.changes between
+  pub added : List Change
+  pub changes_are : o.changes_now ≡ option_map (λ made. made ++ added) between
+  pub alone : AreAppends added
+  pub brought : IsWrittenBy (appends_of added) log
+
+-- Where the disk tells its files, that is all that was changed.
+abbrev pub Wrote : Outside → Type 0
+Wrote o = IfSome o.files (λ before. (log : List Write) × HasWrittenLog o before log)
+
+-- A crash at any moment of the run leaves what restores so, and a crash now at least so many of the
+-- lines, where nothing passes by chance for what was written: the segments that were appended,
+-- which say the first of the lines.
+pub record LeavesFirst (o : Outside) (before : Files) (mutations : List Mutation) (least : ℕ)
+    : Type 0 where
+  pub log : List Write
+  pub wrote : HasWrittenLog o before log
+  pub says : SaysFirst log mutations
+  pub since : (image : Files) → o.since image → NoChances log image
+      → AddsFirst before mutations 0 image
+  pub now : (image : Files) → IsImage o.leaves_now image → NoChances log image
+      → AddsFirst before mutations least image
+
+-- Where the disk tells its files, and all of them lasted before, a crash leaves that.
+abbrev pub LastsFirst : Outside → List Mutation → ℕ → Type 0
+LastsFirst o mutations least =
+    IfSome o.files (λ before. LastsAll before o.leaves → LeavesFirst o before mutations least)
+
+-- ---- the run ends well
+
+-- the first line, where there is one, stands in the segment of an id
+abbrev pub BeginsIn : ℕ → List LoggedLine → Type 0
+BeginsIn id [] = ⊤
+BeginsIn id (w ∷ ws) = w.id ≡ id
+
+-- The folder was opened at a moment that the clock told, from which and from the ids that it named
+-- the base is; the first line stands there, and the run is closed. So its promises are kept.
+pub record IsRun (o : Outside) (options : ApplyOptions) (mutations : List Mutation)
+    (report : List ℕ) (before after : Files) (added : List Change) : Type 0 where
+  pub closed : ClosedRun options before after added mutations
+  pub moment : ℕ
+  pub told : o.tells moment
+  pub opened : IsOpened before moment closed.base closed.opened
+  pub begins : BeginsIn closed.base closed.history
+  pub printed : ReportIsPrinted options after (length mutations) closed.history report
+  pub kept : IsAppliedRun options before after added mutations report
+
+-- The disk tells its files and its changes still, which are those of before and others; and it has
+-- turned so.
+pub record Becomes (o : Outside) (made : List Change) (P : Files → List Change → Type 0) : Type 0
+  where
+    pub after : Files
+    pub added : List Change
+    pub files_are : o.files_now ≡ Some after
+    pub changes_are : o.changes_now ≡ Some (made ++ added)
+    pub is : P after added
+
+-- The same of a disk that told its files and its changes before.
+abbrev pub Turns : Outside → (Files → Files → List Change → Type 0) → Type 0
+Turns o P = (before : Files) (made : List Change) → o.files ≡ Some before
+    → o.changes ≡ Some made → Becomes o made (P before)
+
+-- The report of lines that are laid out from some base on, over some cells.
+pub record IsReported (options : ApplyOptions) (mutations : List Mutation) (report : List ℕ)
+    : Type 0 where
+  pub sizes : Sizes
+  pub sizes_are : AreSizesOf options sizes
+  pub notes : List EntryNote
+  pub laid : AreLaidFor sizes mutations notes
+  pub base : ℕ
+  pub cells : List (CellKey × Cell)
+  pub text : IsReport options.dump (head_of options.receipts base notes) cells mutations report
+
+-- The lines of the file are applied, and what the report says, whatever the disk tells. Each image
+-- of now has them all.
 pub record IsApplied (o : Outside) (options : ApplyOptions) (report bytes : List ℕ) : Type 0 where
   pub mutations : List Mutation
-  pub accepted : IsAccepted options.capacity bytes mutations
-  pub stored : AllByRecursion IsStored mutations
-  pub ready : Option Files
-  pub id : ℕ
-  pub begun : IsBegun o ready id
-  pub fits : id < 2 ^ 63
-  pub landed : Lands o ready id mutations
-  pub before : List (CellKey × Cell)
-  pub restored : IfSome o.files (λ files. IsRestored files before)
-  pub reported : IsReport options.dump (head_of options.receipts id mutations) before mutations
-      report
+  pub sized : IsSized (capacity_of options) bytes mutations
+  pub reported : IsReported options mutations report
+  pub told : SameTold o.files o.files_now
+  pub wrote : Wrote o
+  pub run : Turns o (IsRun o options mutations report)
+  pub lasts : LastsFirst o mutations (length mutations)
 
--- All was good, and there are mutations. The folder was made ready, and nothing has changed since
--- but the new segment, of whose name and bytes the part speaks that may be there; a crash leaves at
--- each other name no more than then.
-pub record IsPartly (capacity : ℕ) (o : Outside) (Part : Option Files → List ℕ → List ℕ → Type 0)
-    : Type 0 where
+-- ---- the run is refused
+
+-- The run broke off before any line was written. The folder restores the same.
+pub record KeepsAll (o : Outside) : Type 0 where
+  pub told : SameTold o.files o.files_now
+  -- the changes are those of a recovery, or the first of them
+  pub changes : IfSome o.files (λ before. RecoversFirst before o.changes o.changes_now)
+  pub same : IfSome o.files (λ before. Told o.files_now (KeepsFolder before))
+  -- and whatever a crash leaves, where all of it lasted
+  pub lasts : IfSome o.files (λ before. LastsAll before o.leaves
+      → (image : Files) → o.since image → KeepsFolder before image)
+
+-- All was good, and the run broke off while the lines were written.
+pub record IsPartly (capacity : ℕ) (o : Outside) : Type 0 where
   pub bytes : List ℕ
   pub taken : TakesAll o.left o.left_now bytes
   pub mutations : List Mutation
-  pub accepted : IsAccepted capacity bytes mutations
-  pub some : 0 < length mutations
-  pub ready : Option Files
-  pub id : ℕ
-  pub begun : IsBegun o ready id
-  pub part : Part ready (segment_name_of 6 id) (segment_of id mutations)
-  pub images : LeavesOneTorn o.files ready o.leaves o.leaves_now (segment_name_of 6 id)
-      (length (segment_of id mutations))
+  pub sized : IsSized capacity bytes mutations
+  pub told : SameTold o.files o.files_now
+  pub wrote : Wrote o
+  pub lasts : LastsFirst o mutations 0
 
--- any bytes are there, at most as many
-abbrev pub BrokeOff : Outside → Option Files → List ℕ → List ℕ → Type 0
-BrokeOff o ready name bytes = MayAppend ready o.files_now name (length bytes)
-
--- no file has changed, or just these bytes are there
-abbrev pub NothingOrAll : Outside → Option Files → List ℕ → List ℕ → Type 0
-NothingOrAll o ready name bytes = (o.files_now ≡ ready) ⊎ Gains ready o.files_now name bytes
-
--- the folder restores the same
-abbrev pub KeepsAll : Outside → Type 0
-KeepsAll o = IsKept o.files o.files_now o.leaves o.leaves_now
-
--- the disk is as it was, or the folder restores the same, or has such a part of the new segment
-abbrev pub LeavesPart : ℕ → Outside → (Option Files → List ℕ → List ℕ → Type 0) → Type 0
-LeavesPart capacity o Part = IsUntouched o ⊎ (KeepsAll o ⊎ IsPartly capacity o Part)
+-- the disk is as it was, or the folder restores the same, or the first of the lines came
+abbrev pub LeavesPart : ℕ → Outside → Type 0
+LeavesPart capacity o = IsUntouched o ⊎ (KeepsAll o ⊎ IsPartly capacity o)
 
 -- Why nothing is reported, and what is left of the disk, by the capacity of a segment: each row
 -- with all that comes before it.
@@ -167,15 +229,14 @@ ApplyRefuses capacity (TooLarge number size most) o =
     ReadsToEnd o (λ bytes. HasLargeLine capacity bytes number size most) × IsUntouched o
 ApplyRefuses capacity ReadFault o = Rose o.source_faults o.source_faults_now × IsUntouched o
 ApplyRefuses capacity DiskFault o =
-    ReadsToEnd o (IsGood capacity) × Rose o.disk_faults o.disk_faults_now
-    × LeavesPart capacity o (BrokeOff o)
+    ReadsToEnd o (IsGood capacity) × Rose o.disk_faults o.disk_faults_now × LeavesPart capacity o
 ApplyRefuses capacity (Damaged name at cause) o =
     ReadsToEnd o (IsGood capacity) × IfSome o.files (λ files. HasDamage files name at cause)
     × IsUntouched o
 ApplyRefuses capacity (BadTable name fault) o =
     ReadsToEnd o (IsGood capacity) × IfSome o.files (λ files. IsFirstBad files name fault)
     × IsUntouched o
-ApplyRefuses capacity OutOfMemory o = LeavesPart capacity o (NothingOrAll o)
+ApplyRefuses capacity OutOfMemory o = LeavesPart capacity o
 ApplyRefuses capacity (Limit FileBytes most) o =
     (most ≡ file_limit) × IfSome o.left (λ bytes. file_limit < length bytes) × IsUntouched o
 ApplyRefuses capacity (Limit Lines most) o =
@@ -188,10 +249,9 @@ ApplyRefuses capacity (Limit TableFiles most) o =
     × IsUntouched o
 ApplyRefuses capacity (Limit Ids most) o =
     (most ≡ id_limit) × ReadsToEnd o (IsGood capacity) × IfSome o.files HasGreatId × IsUntouched o
-ApplyRefuses capacity (NotBuilt Segment) o = ReadsToEnd o (HasNoRoom capacity) × IsUntouched o
 ApplyRefuses capacity other o = ⊥
 
 -- a report, or why there is none
 abbrev pub Applies : ApplyOptions → Outside → Result (List ℕ) Status → Type 0
 Applies options o (result.Ok report) = ReadsToEnd o (IsApplied o options report)
-Applies options o (result.Err status) = ApplyRefuses options.capacity status o
+Applies options o (result.Err status) = ApplyRefuses (capacity_of options) status o

@@ -15,7 +15,6 @@ use Rattle.std.specs.Prelude.{
 use Rattle.std.specs.declared.alloc.Global.{Global}
 use Rattle.std.specs.FinMap as finmap
 use Rattle.clog_spec.specs.Names.{segment_name_of}
-use Rattle.clog_spec.specs.Sizes.{greatest_capacity}
 use Rattle.clog_io.specs.Causes.{Rose}
 use Rattle.clog_disk.specs.Files.{Files, Told}
 use Rattle.clog_crash.specs.Damage.{AreSegmentFiles}
@@ -25,6 +24,7 @@ use Rattle.clog_words.specs.declared.built.Built.{Built}
 use Rattle.clog_words.specs.declared.built.Built.TheVariants.{Apply, Replay, Scan}
 use Rattle.clog_words.specs.Built.{AsksBuilt}
 use Rattle.clog_words.specs.Given.{texts}
+use Rattle.clog_applied.specs.Asked.{capacity_of}
 use Rattle.clog_engine.specs.declared.status.Status.{Status}
 use Rattle.clog_engine.specs.declared.status.Status.TheVariants.{Ok, OutOfMemory}
 use Rattle.clog_engine.specs.Input.{IsGood}
@@ -57,7 +57,7 @@ pub record IsReplayable (ignore : Bool) (files : Files) : Type 0 where
 -- What is asked for can be done: `apply` has a good mutation file and a folder that can be opened,
 -- `replay` a folder that can be read, `scan` its file.
 abbrev pub IsFit : Built → Outside → Type 0
-IsFit (Apply receipts dump) o = Tells o.left (IsGood greatest_capacity) × Told o.files IsOpenable
+IsFit (Apply options) o = Tells o.left (IsGood (capacity_of options)) × Told o.files IsOpenable
 IsFit (Replay options) o = Told o.files (IsReplayable options.ignore_errors)
 IsFit (Scan id) o = Told o.files (λ files. IsScannable files (segment_name_of 6 id))
 

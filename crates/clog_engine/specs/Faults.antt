@@ -11,8 +11,6 @@ use Rattle.clog_base.specs.declared.fault.Quantity.TheVariants.{
 use Rattle.clog_entry.specs.CauseText.{cause_text}
 use Rattle.clog_table.specs.FaultTexts.{fault_text}
 use Rattle.clog_text.specs.Refusals.{refusal_text}
-use Rattle.clog_engine.specs.declared.status.Unbuilt.{Unbuilt}
-use Rattle.clog_engine.specs.declared.status.Unbuilt.TheVariants.{Segment}
 use Rattle.clog_engine.specs.declared.status.Status.{Status}
 use Rattle.clog_engine.specs.declared.status.Status.TheVariants.{
   Ok,
@@ -27,9 +25,8 @@ use Rattle.clog_engine.specs.declared.status.Status.TheVariants.{
   OutOfMemory,
   Limit,
   Absent,
-  NotBuilt,
 }
-use Rattle.clog_engine.specs.Report.{line}
+use Rattle.clog_applied.specs.Printed.{line}
 
 abbrev pub quantity_name : Quantity → List ℕ
 quantity_name FileBytes = codes "file-bytes"
@@ -37,9 +34,6 @@ quantity_name Lines = codes "lines"
 quantity_name SegmentBytes = codes "segment-bytes"
 quantity_name Ids = codes "ids"
 quantity_name TableFiles = codes "table-files"
-
-abbrev pub unbuilt_name : Unbuilt → List ℕ
-unbuilt_name Segment = codes "segment"
 
 abbrev pub fault_line : Status → List ℕ
 fault_line Ok = []
@@ -60,7 +54,6 @@ fault_line OutOfMemory = line (codes "error 9: out of memory")
 fault_line (Limit what number) =
     line (codes "error 10: limit " ++ quantity_name what ++ codes " " ++ decimal number)
 fault_line (Absent name) = line (codes "error 11: no file " ++ name)
-fault_line (NotBuilt what) = line (codes "error 12: not built " ++ unbuilt_name what)
 
 abbrev pub number_of : Status → ℕ
 number_of Ok = 0
@@ -75,4 +68,3 @@ number_of (BadTable name fault) = 8
 number_of OutOfMemory = 9
 number_of (Limit what number) = 10
 number_of (Absent name) = 11
-number_of (NotBuilt what) = 12

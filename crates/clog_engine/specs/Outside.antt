@@ -6,6 +6,7 @@ use Rattle.clog_io.specs.declared.sink.Sink.{Ghosts as SinkTells}
 use Rattle.clog_io.specs.declared.source.Source.{Ghosts as SourceTells}
 use Rattle.clog_io.specs.Causes.{Rose}
 use Rattle.clog_io.specs.Bytes.{AppendsPrefix}
+use Rattle.clog_disk.specs.declared.change.Change.{Change}
 use Rattle.clog_disk.specs.declared.disk.Disk.{Ghosts as DiskTells}
 use Rattle.clog_disk.specs.Files.{Files}
 use Rattle.clog_disk.specs.Images.{Unchanged}
@@ -22,27 +23,42 @@ pub record Outside : Type 1 where
   pub files_now : Option Files
   pub leaves : List ℕ → Option (List ℕ) → Type 0
   pub leaves_now : List ℕ → Option (List ℕ) → Type 0
+  -- what a crash may have left at any moment of the run
+  pub since : Files → Type 0
+  -- the disk's changes, where it tells them
+  pub changes : Option (List Change)
+  pub changes_now : Option (List Change)
   pub disk_faults : ℕ
   pub disk_faults_now : ℕ
   -- what the clock may tell, in milliseconds
   pub tells : ℕ → Type 0
 
--- The outside, by what a source, a disk and a clock tell: each of the first two before and after.
-abbrev pub outside_of : {S D C : Type 0} → SourceTells S → DiskTells D → ClockTells C
-    → S → S → D → D → C → Outside
-outside_of source disk clock s s_now d d_now c = record {
-  left = source.left s;
-  left_now = source.left s_now;
-  source_faults = source.faults s;
-  source_faults_now = source.faults s_now;
+-- The outside, by what a source gave, and what a disk and a clock tell: before and after.
+abbrev pub outside_with : {D C : Type 0} → Option (List ℕ) → Option (List ℕ) → ℕ → ℕ → DiskTells D
+    → ClockTells C → D → D → C → Outside
+outside_with left left_now faults faults_now disk clock d d_now c = record {
+  left = left;
+  left_now = left_now;
+  source_faults = faults;
+  source_faults_now = faults_now;
   files = disk.files d;
   files_now = disk.files d_now;
   leaves = disk.leaves d;
   leaves_now = disk.leaves d_now;
+  since = disk.since d_now (disk.moment d);
+  changes = disk.changes d;
+  changes_now = disk.changes d_now;
   disk_faults = disk.faults d;
   disk_faults_now = disk.faults d_now;
   tells = clock.tells c;
 }
+
+-- the same by what the source tells too
+abbrev pub outside_of : {S D C : Type 0} → SourceTells S → DiskTells D → ClockTells C
+    → S → S → D → D → C → Outside
+outside_of source disk clock s s_now d d_now c =
+    outside_with (source.left s) (source.left s_now) (source.faults s) (source.faults s_now) disk
+    clock d d_now c
 
 -- No file has changed, and a crash leaves just what it left before.
 abbrev pub IsUntouched : Outside → Type 0

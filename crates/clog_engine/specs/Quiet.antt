@@ -2,7 +2,6 @@
 -- refused before the listing does not call the disk.
 use Rattle.std.specs.Prelude.{◌≡◌, ◌≢◌, ℕ, ⊤, Result, Ok, Err}
 use Rattle.clog_base.specs.declared.fault.Quantity.TheVariants.{FileBytes, Lines}
-use Rattle.clog_engine.specs.declared.status.Unbuilt.TheVariants.{Segment}
 use Rattle.clog_engine.specs.declared.status.Status.{Status}
 use Rattle.clog_engine.specs.declared.status.Status.TheVariants.{
   Usage,
@@ -11,7 +10,6 @@ use Rattle.clog_engine.specs.declared.status.Status.TheVariants.{
   ReadFault,
   DiskFault,
   Limit,
-  NotBuilt,
 }
 
 -- a run that does not end with a fault of the disk has counted none
@@ -31,7 +29,6 @@ IsBeforeDisk (TooLarge number size most) = ⊤
 IsBeforeDisk ReadFault = ⊤
 IsBeforeDisk (Limit FileBytes most) = ⊤
 IsBeforeDisk (Limit Lines most) = ⊤
-IsBeforeDisk (NotBuilt Segment) = ⊤
 IsBeforeDisk other = ⊥
 
 -- the same of a step's answer

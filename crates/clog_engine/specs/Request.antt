@@ -1,19 +1,25 @@
 -- What the words of the command line ask for, of what the program does.
-use Rattle.std.specs.Prelude.{ℕ, List, Bool, Option, MatchOption, String}
+use Rattle.std.specs.Prelude.{◌≡◌, ◌≤◌, List, ℕ, Option, MatchOption, String}
 use Rattle.std.specs.declared.alloc.Global.{Global}
-use Rattle.clog_spec.specs.Sizes.{greatest_capacity}
+use Rattle.clog_spec.specs.Sizes.{most_segments}
+use Rattle.clog_base.specs.declared.sizes.Sizes.{Sizes}
 use Rattle.clog_words.specs.declared.built.Built.{Built}
-use Rattle.clog_words.specs.Built.{AsksBuilt}
+use Rattle.clog_words.specs.declared.request.ApplyOptions.{ApplyOptions}
+use Rattle.clog_words.specs.Built.{AsksBuilt, plain_options}
 use Rattle.clog_words.specs.Given.{texts}
-use Rattle.clog_engine.specs.declared.words.ApplyOptions.{ApplyOptions}
+use Rattle.clog_applied.specs.Asked.{capacity_of}
 
--- How `apply` is done. No word sets the capacity: it is the greatest.
-abbrev pub options_of : Bool → Bool → ApplyOptions
-options_of receipts dump = record {
-  capacity = greatest_capacity;
-  receipts = receipts;
-  dump = dump;
-}
+-- The capacity is within its limits, and no option asks for what is not done.
+pub record IsDoable (options : ApplyOptions) : Type 0 where
+  pub plain : options ≡ plain_options options
+  pub least : 4 ≤ options.segment_kib
+  pub most : options.segment_kib ≤ 32768
+
+-- How large a log is whose segments have the capacity that is asked for, and are as many as there
+-- may be.
+pub record AreSizesOf (options : ApplyOptions) (sizes : Sizes) : Type 0 where
+  pub capacity : sizes.capacity ≡ capacity_of options
+  pub ordinals : sizes.ordinals ≡ most_segments
 
 -- The words, as their letters, ask for this, or for nothing that the program does.
 abbrev pub GivesRequest : List (List ℕ) → Option Built → Type 0

@@ -7,7 +7,7 @@ use Rattle.clog_scan.specs.declared.answer.End.{End}
 use Rattle.clog_scan.specs.declared.answer.End.TheVariants.{Clean, Torn}
 use Rattle.clog_scan.specs.declared.answer.Found.{Found}
 use Rattle.clog_scan.specs.Segment.{Entry}
-use Rattle.clog_engine.specs.Report.{line}
+use Rattle.clog_applied.specs.Printed.{line}
 
 abbrev pub segment_line : ℕ → List ℕ
 segment_line id = line (codes "segment " ++ decimal id)

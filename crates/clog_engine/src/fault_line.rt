@@ -1,9 +1,9 @@
 //! The line that tells a fault. It takes no memory.
 ghost use Rattle.std.specs.Prelude.{◌≡◌, ◌≤◌, ◌+◌, ◌++◌, [], length};
 ghost use Rattle.clog_text.specs.Refusals.{part_name, refusal_name, refusal_text};
-ghost use Rattle.clog_engine.specs.Faults.{fault_line, quantity_name, unbuilt_name};
+ghost use Rattle.clog_engine.specs.Faults.{fault_line, quantity_name};
 
-use crate::status::{Status, Unbuilt};
+use crate::status::Status;
 use clog_base::{Name, Quantity, TextRow};
 use clog_scan::Cause;
 use clog_table::{FaultText, TableFault};
@@ -20,15 +20,6 @@ fn quantity_name(what: Quantity) -> &'static [u8]
         Quantity::SegmentBytes => b"segment-bytes",
         Quantity::Ids => b"ids",
         Quantity::TableFiles => b"table-files",
-    }
-}
-
-fn unbuilt_name(what: Unbuilt) -> &'static [u8]
-    ensures text { result.now ≡ unbuilt_name what }
-    ensures short { length result.now ≤ 9 }
-{
-    match what {
-        Unbuilt::Segment => b"segment",
     }
 }
 
@@ -94,15 +85,6 @@ fn put_limit(row: &mut TextRow, what: Quantity, number: u64)
     row.put(b"\n");
 }
 
-fn put_unbuilt(row: &mut TextRow, what: Unbuilt)
-    requires { row.old ≡ [] }
-    ensures { row.new ≡ fault_line (Status.NotBuilt what) }
-{
-    row.put(b"error 12: not built ");
-    row.put(unbuilt_name(what));
-    row.put(b"\n");
-}
-
 fn put_bad_table(row: &mut TextRow, name: &Name, fault: &TableFault)
     requires { row.old ≡ [] }
     ensures { row.new ≡ fault_line (Status.BadTable name.now fault.now) }
@@ -155,7 +137,6 @@ fn put_fault(row: &mut TextRow, status: &Status)
         Status::OutOfMemory => row.put(b"error 9: out of memory\n"),
         Status::Limit(what, number) => put_limit(row, *what, *number),
         Status::Absent(name) => put_absent(row, name),
-        Status::NotBuilt(what) => put_unbuilt(row, *what),
     }
 }
 

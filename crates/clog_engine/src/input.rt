@@ -1,9 +1,9 @@
 //! The mutation file, from the source to its mutations.
-ghost use Rattle.std.specs.Prelude.{◌≡◌, ◌<◌, ◌^◌, length, IfOk};
+ghost use Rattle.std.specs.Prelude.{◌≤◌, length, IfOk};
 ghost use Rattle.std.specs.List.{AllByRecursion};
 ghost use Rattle.clog_engine.specs.Reading.{GivesBytes, GivesMutations};
 ghost use Rattle.clog_mutation.specs.Limits.{IsWithinLimits};
-ghost use Rattle.clog_text.specs.FileLines.{Splits};
+ghost use Rattle.clog_text.specs.FileLines.{Splits, line_limit};
 
 use crate::status::Status;
 use clog_base::{FILE_LIMIT, LINE_LIMIT, Quantity};
@@ -52,7 +52,7 @@ pub(crate) fn mutations_of<T: Threads + Sync>(
 ) -> Result<Mutations, Status>
     ensures mutations { GivesMutations bytes.now result }
     ensures within { IfOk result (AllByRecursion IsWithinLimits) }
-    ensures few { IfOk result (λ mutations. length mutations < 2 ^ 32) }
+    ensures few { IfOk result (λ mutations. length mutations ≤ line_limit) }
 {
     match split_file(alloc, bytes) {
         Ok(lines) => mutations_on(rt, alloc, bytes, &lines),

@@ -1,17 +1,14 @@
-//! The commit log as one call: `run` reads a mutation file, writes it to a segment and tells what
+//! The commit log as one call: `run` reads a mutation file, writes it to the log and tells what
 //! came of it, or tells what the folder or a segment of it holds. Its clause is what is promised of
 //! a run, where the source and the disk tell what they hold.
 #![tactic(auto)]
 
 mod applying;
+mod before;
 mod cells;
-mod directory;
 mod fault_line;
 mod input;
-mod landing;
-mod laws;
-mod limits;
-mod ready;
+mod lines;
 mod receipts;
 mod refusal;
 mod replaying;
@@ -19,16 +16,11 @@ mod report;
 mod running;
 mod scan_report;
 mod scanning;
-mod segment;
-mod sizes;
-mod standing;
 mod status;
-mod tables;
 #[cfg(test)]
 mod tests;
 mod words;
 
 pub use fault_line::FaultLine;
-pub use laws::segments_hold_their_mutations;
 pub use running::run;
-pub use status::{Status, Unbuilt};
+pub use status::Status;

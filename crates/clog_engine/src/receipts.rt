@@ -1,46 +1,42 @@
 //! Receipts: the position of each line's entry.
-ghost use Rattle.std.specs.Prelude.{◌≡◌, ◌+◌, ◌<◌, ◌^◌, ◌++◌, length, OnOk};
-ghost use Rattle.std.specs.List.{AllByRecursion};
-ghost use Rattle.clog_spec.specs.Sizes.{front_size};
-ghost use Rattle.clog_mutation.specs.Limits.{IsWithinLimits};
-ghost use Rattle.clog_engine.specs.Input.{entries_of};
-ghost use Rattle.clog_engine.specs.Report.{receipt_line, receipts_of};
+ghost use Rattle.std.specs.Prelude.{◌≡◌, ◌<◌, ◌^◌, ◌++◌, OnOk};
+ghost use Rattle.clog_base.specs.Positions.{position_of};
+ghost use Rattle.clog_applied.specs.Printed.{receipt_line};
+ghost use Rattle.clog_engine.specs.Report.{receipts_of};
 
-use clog_base::{FRAME_SIZE, FRONT_SIZE, OutOfMemory};
-use clog_mutation::{Mutation, payload_size};
+use clog_base::Key;
 use itoa::Buffer;
+use path_core::EntryNote;
 use std::alloc::AllocError;
 
-// Puts the receipt of a line: its number, the id of its entry's segment, and where it ends there.
-fn put_receipt(out: &mut Vec<u8>, number: u64, id: u64, end: u64) -> Result<(), AllocError>
-    ensures { OnOk result (out.new.items ≡ out.old.items ++ receipt_line number id end) }
+// Puts the receipt of a line, whose entry ends at a key: its number, and where that is.
+fn put_receipt(out: &mut Vec<u8>, base: u64, number: u32, end: Key) -> Result<(), AllocError>
+    requires { base < 2 ^ 62 }
+    ensures { OnOk result (out.new.items ≡ out.old.items
+        ++ receipt_line number (position_of base end.0).id (position_of base end.0).offset) }
 {
+    let at = end.position(base);
     let mut buffer = Buffer::new();
     out.extend_from_slice(b"receipt ")?;
     out.extend_from_slice(buffer.format(number).as_bytes())?;
     out.push(b' ')?;
-    out.extend_from_slice(buffer.format(id).as_bytes())?;
+    out.extend_from_slice(buffer.format(at.id).as_bytes())?;
     out.push(b' ')?;
-    out.extend_from_slice(buffer.format(end).as_bytes())?;
+    out.extend_from_slice(buffer.format(at.offset).as_bytes())?;
     Ok(out.push(b'\n')?)
 }
 
-/// Puts the receipts of mutations whose entries are the one section of the segment of an id.
+/// Puts the receipts of laid notes, where the segment of ordinal 0 has the id `base`.
 pub(crate) fn put_receipts(
     out: &mut Vec<u8>,
-    id: u64,
-    mutations: &[Mutation],
-) -> Result<(), OutOfMemory>
-    requires within { AllByRecursion IsWithinLimits mutations.now }
-    requires short { front_size + length (entries_of mutations.now) < 2 ^ 32 }
-    ensures { OnOk result (out.new.items ≡ out.old.items ++ receipts_of id mutations.now) }
+    base: u64,
+    notes: &[EntryNote],
+) -> Result<(), AllocError>
+    requires { base < 2 ^ 62 }
+    ensures { OnOk result (out.new.items ≡ out.old.items ++ receipts_of base notes.now) }
 {
-    let mut number = 0;
-    let mut end = FRONT_SIZE as u64;
-    for mutation in mutations {
-        number += 1;
-        end += payload_size(mutation) as u64 + FRAME_SIZE as u64;
-        put_receipt(out, number, id, end)?;
+    for note in notes {
+        put_receipt(out, base, note.line, note.end)?;
     }
     Ok(())
 }

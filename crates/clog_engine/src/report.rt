@@ -1,20 +1,19 @@
 //! What a run prints where it is well.
-ghost use Rattle.std.specs.Prelude.{◌≡◌, ◌+◌, ◌<◌, ◌^◌, ◌++◌, length, OnOk, IfOk};
-ghost use Rattle.std.specs.List.{AllByRecursion, flat_map};
-ghost use Rattle.clog_spec.specs.Sizes.{front_size};
-ghost use Rattle.clog_mutation.specs.Limits.{IsWithinLimits};
+ghost use Rattle.std.specs.Prelude.{◌≡◌, ◌<◌, ◌^◌, ◌++◌, OnOk, IfOk};
+ghost use Rattle.std.specs.List.{flat_map};
 ghost use Rattle.clog_cells.specs.Merge.{AreInOrder};
 ghost use Rattle.clog_text.specs.CellTexts.{row_line};
-ghost use Rattle.clog_engine.specs.Input.{entries_of};
-ghost use Rattle.clog_engine.specs.Report.{IsReport, applied_line, head_of};
+ghost use Rattle.clog_applied.specs.Printed.{applied_line};
+ghost use Rattle.clog_engine.specs.Report.{IsReport, head_of};
 
 use crate::cells::merged;
 use crate::receipts::put_receipts;
 use clog_base::{Bytes, Cell, CellKey, OutOfMemory};
 use clog_cells::CellMap;
-use clog_mutation::{Mutation, Mutations};
+use clog_mutation::Mutations;
 use clog_text::CellPrinter;
 use itoa::Buffer;
+use path_core::EntryNote;
 use std::alloc::{AllocError, Global};
 use std::collections::BTreeMap;
 
@@ -54,23 +53,22 @@ pub(crate) fn put_cells(
     put_rows(alloc, out, cells.entries())
 }
 
-/// What stands in front of the report: how many mutations were applied, and with receipts where
-/// each entry stands in the segment of an id, whose one section has them all.
+/// What stands in front of the report: how many lines were applied, and with receipts where the
+/// entry of each stands.
 pub(crate) fn head(
     alloc: Global,
-    id: u64,
-    mutations: &[Mutation],
     receipts: bool,
+    base: u64,
+    notes: &[EntryNote],
 ) -> Result<Vec<u8>, OutOfMemory>
-    requires within { AllByRecursion IsWithinLimits mutations.now }
-    requires short { front_size + length (entries_of mutations.now) < 2 ^ 32 }
-    ensures { IfOk result (λ head. head.items ≡ head_of receipts id mutations.now) }
+    requires { base < 2 ^ 62 }
+    ensures { IfOk result (λ head. head.items ≡ head_of receipts base notes.now) }
 {
     let mut out = Vec::new(alloc);
-    put_applied(&mut out, mutations.len() as u64)?;
+    put_applied(&mut out, notes.len() as u64)?;
     // Each way returns by itself, since nothing is known of the two joined.
     if receipts {
-        put_receipts(&mut out, id, mutations)?;
+        put_receipts(&mut out, base, notes)?;
         return Ok(out);
     }
     Ok(out)

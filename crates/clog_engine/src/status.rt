@@ -6,18 +6,10 @@ use clog_scan::Cause;
 use clog_table::TableFault;
 use clog_text::BadLine;
 
-/// What is not built yet.
-#[derive(Clone, Copy, Debug, PartialEq, Eq)]
-pub enum Unbuilt {
-    /// More than one segment.
-    Segment,
-}
-
 /// How a run ends. Each refusal leaves the disk as it was, but `DiskFault`, `OutOfMemory` and
-/// `WriteFault`, which comes when all is done. After the first two a folder that held segments may
-/// be recovered in part or whole, and restores the same; or it is recovered and of the new segment
-/// as many bytes as it has, or fewer, may stand under its name (`DiskFault`), or the whole of it
-/// (`OutOfMemory`).
+/// `WriteFault`, which comes when all is done. After the first two the folder may be recovered, in
+/// part or whole, and the first of the lines may stand in its log; where all of it lasted before,
+/// it restores to what it restored to, with these.
 #[derive(Clone, Copy, Debug, PartialEq, Eq)]
 pub enum Status {
     /// The report was written whole.
@@ -47,8 +39,6 @@ pub enum Status {
     Limit(Quantity, u64),
     /// The disk has no file of this name.
     Absent(Name),
-    /// What is asked for is not built yet.
-    NotBuilt(Unbuilt),
 }
 
 impl Status {
@@ -71,7 +61,6 @@ impl Status {
             Status::OutOfMemory => 9,
             Status::Limit(_, _) => 10,
             Status::Absent(_) => 11,
-            Status::NotBuilt(_) => 12,
         }
     }
 }

@@ -1,31 +1,20 @@
 //! What the words of the command line ask for.
-ghost use Rattle.std.specs.Prelude.{◌≡◌, IfOk};
-ghost use Rattle.clog_engine.specs.Request.{Asks, options_of};
+ghost use Rattle.std.specs.Prelude.{IfOk};
+ghost use Rattle.clog_engine.specs.Request.{Asks, AreSizesOf, IsDoable};
 
-use clog_base::{GREATEST_CAPACITY, OutOfMemory};
-use clog_words::{Built, WordsFault, parse_built};
+use clog_base::{MOST_SEGMENTS, MOST_TABLES, OutOfMemory, Sizes};
+use clog_words::{ApplyOptions, Built, WordsFault, parse_built};
 use std::alloc::Global;
 
-/// How a mutation file is applied.
-#[derive(Clone, Copy, Debug, PartialEq, Eq)]
-pub(crate) struct ApplyOptions {
-    /// The capacity of a segment, in bytes. No word asks for another than the greatest yet.
-    pub(crate) capacity: u32,
-    /// Whether the position of each line's entry is printed (`--receipts`).
-    pub(crate) receipts: bool,
-    /// Whether the cells that the folder then holds are printed (`--dump`).
-    pub(crate) dump: bool,
-}
-
-impl ApplyOptions {
-    pub(crate) fn new(receipts: bool, dump: bool) -> ApplyOptions
-        ensures { result ≡ options_of receipts dump }
-    {
-        ApplyOptions {
-            capacity: GREATEST_CAPACITY,
-            receipts,
-            dump,
-        }
+/// How large the log of a run is. Its segments are as many as there may be.
+pub(crate) fn sizes_of(options: &ApplyOptions) -> Sizes
+    requires { IsDoable options.now }
+    ensures { AreSizesOf options.now result }
+{
+    let capacity = u32::from(options.segment_kib) * 1024;
+    match Sizes::make(MOST_TABLES, 1, capacity, MOST_SEGMENTS) {
+        Some(sizes) => sizes,
+        None => unreachable!(),
     }
 }
 

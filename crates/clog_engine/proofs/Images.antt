@@ -1,0 +1,98 @@
+-- What a crash leaves of a run: over the looks before the opening, the opening, and the lines that
+-- are written.
+use Rattle.std.proofs.Common.{ℕ, inl, inr, List, [], take, Option, arith}
+use Rattle.std.specs.Prelude.{Contains}
+use Rattle.std.specs.List.{flat_map}
+use Rattle.clog_base.proofs.Members.{nothing_there}
+use Rattle.clog_disk.specs.declared.change.Change.{Change}
+use Rattle.clog_disk.specs.Files.{Files, bytes_at}
+use Rattle.clog_disk.specs.Images.{Elapses, IsImage, LastsAll, LeavesOnly, SameImages}
+use Rattle.clog_disk.proofs.Moments.{goes_on, goes_on_by, started, weakened}
+use Rattle.clog_mutation.specs.declared.mutation.Mutation.{Mutation}
+use Rattle.clog_mutation.specs.Payload.{cells_of}
+use Rattle.clog_crash.specs.Covering.{Either}
+use Rattle.clog_crash.specs.Log.{NoChances}
+use Rattle.clog_crash.specs.Readings.{Reading, RestoresIn}
+use Rattle.clog_crash.proofs.changes.Covering.{either_same, exactly, merge_then}
+use Rattle.clog_store.specs.Opened.{KeepsFolder}
+use Rattle.clog_store.proofs.OpenedWhole.{image_keeps, lasts_on}
+use Rattle.clog_lines.specs.Written.{LeavesLines, RestoresLines}
+use Rattle.clog_engine.specs.Apply.{AddsFirst}
+
+-- ---- one image
+
+-- one that restores what the folder did has the first none of the lines
+pub adds_none : (first image : Files) (ms : List Mutation) → KeepsFolder first image
+    → AddsFirst first ms 0 image
+adds_none first image ms kept =
+    let before = RestoresIn (bytes_at first) in
+    record {
+      n = 0;
+      enough = omega arith;
+      some = omega arith;
+      restores = merge_then (RestoresIn (bytes_at image)) before (Either before (Contains []))
+          kept.same (exactly before (Either before (Contains [])) (λ pair. (
+            inl,
+            λ either. elim either [
+              | inl has ↦ has
+              | inr none ↦ absurd (nothing_there pair none)
+            ],
+          )));
+      undamaged = kept.undamaged;
+    }
+
+-- one that restores what the opened folder did and the first of the lines
+pub adds_lines : (first opened image : Files) (ms : List Mutation) (least : ℕ)
+    → KeepsFolder first opened → RestoresLines (bytes_at opened) ms least image
+    → AddsFirst first ms least image
+adds_lines first opened image ms least kept lines =
+    let more = Contains (flat_map cells_of (take lines.n ms)) in
+    let then = RestoresIn (bytes_at opened) in
+    let before = RestoresIn (bytes_at first) in
+    record {
+      n = lines.n;
+      enough = lines.enough;
+      some = lines.some;
+      restores = merge_then (RestoresIn (bytes_at image)) (Either then more) (Either before more)
+          lines.restores (either_same then before more kept.same);
+      undamaged = λ was. lines.undamaged;
+    }
+
+-- ---- all of them
+
+module _ {D : Type 0} (changes : D → Option (List Change)) (moment : D → ℕ)
+    (since : D → ℕ → Files → Type 0)
+    (leaves : D → List ℕ → Option (List ℕ) → Type 0) (read_at : D → ℕ → Option Reading)
+    (lasted_at : D → ℕ → Type 0) where
+  -- while a folder is looked at and then opened, where all of it lasted
+  pub while_opened : (start looked now : D) (first : Files)
+      → ((image : Files) → since start (moment start) image → IsImage (leaves start) image)
+      → LastsAll first (leaves start) → SameImages (leaves start) (leaves looked)
+      → Elapses moment since leaves read_at lasted_at start looked
+      → LeavesOnly moment since looked now (KeepsFolder first)
+      → LeavesOnly moment since start now (KeepsFolder first)
+  while_opened start looked now first only lasts same time opening =
+      let kept = KeepsFolder first in
+      let at_first = started moment since start kept (λ image left.
+      image_keeps first (leaves start) lasts image (only image left)) in
+      let then = goes_on moment since leaves read_at lasted_at start start looked kept at_first time
+      (image_keeps first (leaves looked)
+      (lasts_on first (leaves start) (leaves looked) lasts same.fewer)) in
+      goes_on_by moment since start looked now kept then opening
+
+  -- and while lines are written
+  pub while_written : (start opened now : D) (first then : Files) (ms : List Mutation)
+      (least : ℕ) → KeepsFolder first then
+      → LeavesOnly moment since start opened (KeepsFolder first)
+      → (lines : LeavesLines changes moment since leaves opened now (bytes_at then) ms least)
+      → (image : Files) → since now (moment start) image → NoChances lines.log image
+      → AddsFirst first ms 0 image
+  while_written start opened now first then ms least kept opening lines =
+      let has = λ (image : Files). NoChances lines.log image → AddsFirst first ms 0 image in
+      let before = weakened moment since start opened (KeepsFolder first) has opening
+      (λ image keeps chance. adds_none first image ms keeps) in
+      let after = weakened moment since opened now (λ image.
+      NoChances lines.log image → RestoresLines (bytes_at then) ms 0 image) has lines.meanwhile
+      (λ image restores chance.
+      adds_lines first then image ms 0 kept (restores chance)) in
+      (goes_on_by moment since start opened now has before after).each

@@ -1,0 +1,297 @@
+-- What a run leaves once its folder was opened, whether its lines were written or not.
+use Rattle.std.proofs.Common.{◌≡◌, ℕ, List, ◌++◌, length, Option, Some, None, Result, Ok as ok, Err as err, true, inr, refl, sym, ap, subst, ◌∙◌, append_assoc}
+use Rattle.std.specs.Prelude.{IfSome, OnOk}
+use Rattle.clog_base.specs.declared.cell.Cell.{Cell}
+use Rattle.clog_base.specs.declared.cell.CellKey.{CellKey}
+use Rattle.clog_io.specs.declared.clock.Clock.{Ghosts as ClockTells}
+use Rattle.clog_io.specs.Bytes.{TakesAll}
+use Rattle.clog_disk.specs.declared.change.Change.{Change}
+use Rattle.clog_disk.specs.declared.disk.Disk.{Ghosts as DiskTells}
+use Rattle.clog_disk.specs.Files.{Files, SameTold, Told, bytes_at}
+use Rattle.clog_disk.specs.Images.{IsImage, LastsAll, LeavesOnly, Unchanged}
+use Rattle.clog_mutation.specs.declared.mutation.Mutation.{Mutation}
+use Rattle.clog_words.specs.declared.request.ApplyOptions.{ApplyOptions}
+use Rattle.clog_crash.specs.Log.{Write}
+use Rattle.clog_crash.specs.Restore.{IsRestored}
+use Rattle.clog_folder.specs.Passing.{IsUntouched as IsDiskUntouched}
+use Rattle.clog_applied.specs.Asked.{capacity_of}
+use Rattle.path_core.specs.declared.keeper.KeeperFault.{KeeperFault}
+use Rattle.path_core.specs.declared.keeper.KeeperFault.TheVariants.{OutOfMemory, Stopped}
+use Rattle.path_core.specs.declared.note.EntryNote.{EntryNote}
+use Rattle.clog_store.specs.Opened.{
+  IsOpened,
+  KeepsFolder,
+  OpensAs,
+  RecoversAll,
+  RecoversFirst,
+}
+use Rattle.clog_store.proofs.OpenedWhole.{keeps_same, lasts_on}
+use Rattle.clog_closing.proofs.Openings.{recovery_changes}
+use Rattle.clog_base.specs.declared.sizes.Sizes.{Sizes}
+use Rattle.clog_lines.specs.Written.{
+  AreLaidFor,
+  HasBrought,
+  HasWriteCause,
+  LeavesLines,
+  TellsWritten,
+  least_of,
+}
+use Rattle.clog_engine.specs.Apply.{
+  Applies,
+  Becomes,
+  HasWrittenLog,
+  IsReported,
+  IsRun,
+  KeepsAll,
+  LastsFirst,
+  LeavesFirst,
+  Turns,
+  Wrote,
+}
+use Rattle.clog_engine.specs.Input.{IsSized}
+use Rattle.clog_engine.specs.Outside.{Outside, outside_with}
+use Rattle.clog_engine.specs.Refusal.{ended_as}
+use Rattle.clog_engine.specs.Report.{IsReport, head_of}
+use Rattle.clog_engine.specs.Request.{IsDoable}
+use Rattle.clog_engine.proofs.Closed.{run_of}
+use Rattle.clog_engine.proofs.Images.{adds_lines, while_opened, while_written}
+
+-- ---- what is told
+
+pub if_told : (files looked : Option Files) (P : Files → Type 0) → looked ≡ files
+    → ((first : Files) → looked ≡ Some first → P first) → IfSome files P
+if_told None looked P same has = tt
+if_told (Some first) looked P same has = has first same
+
+-- what told files are
+pub told_as : (told : Option Files) (P : Files → Type 0) → Told told P
+    → (files : Files) × (told ≡ Some files) × P files
+told_as None P has = absurd has
+told_as (Some files) P has = (files, refl, has)
+
+-- an opened folder, where it was told
+pub opened_as : (looked told : Option Files) (moment base : ℕ) (first : Files)
+    → looked ≡ Some first → OpensAs looked told moment base
+    → (opened : Files) × (told ≡ Some opened) × IsOpened first moment base opened
+opened_as looked told moment base first is opens =
+    told_as told (IsOpened first moment base)
+    (subst (λ (o : Option Files). OpensAs o told moment base) is opens)
+
+pub unchanged_on : (files looked now : Option Files)
+    (old leaves new : List ℕ → Option (List ℕ) → Type 0) → Unchanged files looked old leaves
+    → Unchanged looked now leaves new → Unchanged files now old new
+unchanged_on files looked now old leaves new first second = record {
+  files = second.files ∙ first.files;
+  images = record {
+    fewer = λ name left has.
+        first.images.fewer name left (second.images.fewer name left has);
+    more = λ name left has. second.images.more name left (first.images.more name left has);
+  };
+}
+
+-- files that are told stay told over two calls
+pub told_then : (a b c : Option Files) → SameTold a b → SameTold b c → SameTold a c
+told_then None b c first next = subst (λ (o : Option Files). SameTold o c) first next
+told_then (Some x) None c first next = absurd first
+told_then (Some x) (Some y) c first next = next
+
+-- ---- how a run ends whose lines were to be written
+
+turns_where : {T : Type 0} (outcome : Result T KeeperFault) (o : Outside)
+    (P : Files → Files → List Change → Type 0)
+    → ((before : Files) (made : List Change) → o.files ≡ Some before → o.changes ≡ Some made
+    → OnOk outcome (Becomes o made (P before)))
+    → OnOk outcome (Turns o P)
+turns_where (ok done) o P each = each
+turns_where (err fault) o P each = tt
+
+pub on_ok : {T : Type 0} (outcome : Result T KeeperFault) (A B : Type 0) → OnOk outcome A
+    → (A → B) → OnOk outcome B
+on_ok (ok done) A B has then = then has
+on_ok (err fault) A B has then = tt
+
+-- at the end all lines are applied, or the first of them have come
+pub ended_applies : {T : Type 0} (outcome : Result T KeeperFault) (options : ApplyOptions)
+    (o : Outside) (report bytes : List ℕ) (ms : List Mutation)
+    → TakesAll o.left o.left_now bytes → IsSized (capacity_of options) bytes ms
+    → IsReported options ms report → OnOk outcome (Turns o (IsRun o options ms report))
+    → Wrote o → LastsFirst o ms (least_of outcome ms)
+    → HasWriteCause o.disk_faults o.disk_faults_now outcome → SameTold o.files o.files_now
+    → Applies options o (ended_as report outcome)
+ended_applies (ok done) options o report bytes ms taken sized reported run wrote lasts cause
+    told = (
+      bytes,
+      taken,
+      record {
+        mutations = ms;
+        sized = sized;
+        reported = reported;
+        told = told;
+        wrote = wrote;
+        run = run;
+        lasts = lasts;
+      },
+    )
+ended_applies (err (Stopped at_open now)) options o report bytes ms taken sized reported run wrote
+    lasts cause told = (
+      (bytes, taken, record { mutations = ms; sized = sized }),
+      cause.1,
+      inr (inr (record {
+        bytes = bytes;
+        taken = taken;
+        mutations = ms;
+        sized = sized;
+        told = told;
+        wrote = wrote;
+        lasts = lasts;
+      })),
+    )
+ended_applies (err OutOfMemory) options o report bytes ms taken sized reported run wrote lasts cause
+    told =
+    inr (inr (record {
+      bytes = bytes;
+      taken = taken;
+      mutations = ms;
+      sized = sized;
+      told = told;
+      wrote = wrote;
+      lasts = lasts;
+    }))
+
+-- ---- by a disk
+
+module _ {D C : Type 0} (disk : DiskTells D) (clock : ClockTells C)
+    (left left_now : Option (List ℕ)) (f g : ℕ) (start looked : D) (at : C)
+    (only : (image : Files) → disk.since start (disk.moment start) image
+    → IsImage (disk.leaves start) image)
+    (still : IsDiskUntouched disk.files disk.changes disk.leaves disk.moment disk.since
+    disk.read_at disk.lasted_at disk.faults start looked) where
+  abbrev outside_at : D → Outside
+  outside_at now = outside_with left left_now f g disk clock start now at
+
+  same_told : (now : D) → SameTold (disk.files looked) (disk.files now)
+      → SameTold (disk.files start) (disk.files now)
+  same_told now told =
+      subst (λ (o : Option Files). SameTold o (disk.files now)) still.same.files told
+
+  -- what lasted lasts
+  lasting : (first : Files) → LastsAll first (disk.leaves start)
+      → LastsAll first (disk.leaves looked)
+  lasting first lasts =
+      lasts_on first (disk.leaves start) (disk.leaves looked) lasts still.same.images.fewer
+
+  -- a folder that was opened, or whose opening broke off, restores the same
+  pub keeps_all : (now : D) → SameTold (disk.files looked) (disk.files now)
+      → ((first : Files) → disk.files looked ≡ Some first
+      → Told (disk.files now) (KeepsFolder first))
+      → ((first : Files) → disk.files looked ≡ Some first → LastsAll first (disk.leaves looked)
+      → LeavesOnly disk.moment disk.since looked now (KeepsFolder first))
+      → ((first : Files) → disk.files looked ≡ Some first
+      → RecoversFirst first (disk.changes looked) (disk.changes now))
+      → KeepsAll (outside_at now)
+  keeps_all now told keeps any recovers = record {
+    told = same_told now told;
+    changes = if_told (disk.files start) (disk.files looked)
+        (λ (first : Files). RecoversFirst first (disk.changes start) (disk.changes now))
+        still.same.files (λ first is.
+        subst (λ (c : Option (List Change)). RecoversFirst first c (disk.changes now))
+        still.changes_are (recovers first is));
+    same = if_told (disk.files start) (disk.files looked)
+        (λ (first : Files). Told (disk.files now) (KeepsFolder first)) still.same.files keeps;
+    lasts = if_told (disk.files start) (disk.files looked)
+        (λ (first : Files). LastsAll first (disk.leaves start) → (image : Files)
+        → disk.since now (disk.moment start) image → KeepsFolder first image)
+        still.same.files (λ first is lasts.
+        (while_opened disk.changes disk.moment disk.since disk.leaves disk.read_at disk.lasted_at
+        start looked now first only lasts still.same.images still.time
+        (any first is (lasting first lasts))).each);
+  }
+
+  module _ (opened : D) (moment base : ℕ)
+      (opens : OpensAs (disk.files looked) (disk.files opened) moment base)
+      (any : (first : Files) → disk.files looked ≡ Some first
+      → LastsAll first (disk.leaves looked)
+      → LeavesOnly disk.moment disk.since looked opened (KeepsFolder first))
+      (recovers : (first : Files) → disk.files looked ≡ Some first
+      → RecoversAll first (disk.changes looked) (disk.changes opened)) where
+    -- what was appended behind the recovery
+    written : (now : D) (first : Files) → disk.files looked ≡ Some first → (log : List Write)
+        → HasBrought disk.changes opened now log → HasWrittenLog (outside_at now) first log
+    written now first is log has = record {
+      between = disk.changes opened;
+      recovered = subst (λ (c : Option (List Change)). RecoversAll first c (disk.changes opened))
+          still.changes_are (recovers first is);
+      added = has.added;
+      changes_are = has.changes_are;
+      alone = has.alone;
+      brought = has.brought;
+    }
+
+    pub wrote : (now : D) → (log : List Write) × HasBrought disk.changes opened now log
+        → Wrote (outside_at now)
+    wrote now has = if_told (disk.files start) (disk.files looked)
+        (λ (first : Files). (log : List Write) × HasWrittenLog (outside_at now) first log)
+        still.same.files (λ first is. (has.0, written now first is has.0 has.1))
+
+    -- a crash leaves the first of the lines
+    pub lasts_first : (now : D) (ms : List Mutation) (least : ℕ)
+        → ((then : Files) → disk.files opened ≡ Some then → (first : Files)
+        → disk.files looked ≡ Some first → LastsAll first (disk.leaves looked)
+        → LeavesLines disk.changes disk.moment disk.since disk.leaves opened now (bytes_at then) ms
+        least)
+        → LastsFirst (outside_at now) ms least
+    lasts_first now ms least leaves = if_told (disk.files start) (disk.files looked)
+        (λ (first : Files). LastsAll first (disk.leaves start)
+        → LeavesFirst (outside_at now) first ms least) still.same.files (λ first is lasts.
+        let then = opened_as (disk.files looked) (disk.files opened) moment base first is opens in
+        let kept = keeps_same first then.0 then.2.recovered.same in
+        let lines = leaves then.0 then.1 first is (lasting first lasts) in
+        let opening = while_opened disk.changes disk.moment disk.since disk.leaves disk.read_at
+        disk.lasted_at start looked opened first only lasts still.same.images still.time
+        (any first is (lasting first lasts)) in
+        record {
+          log = lines.log;
+          wrote = written now first is lines.log lines.wrote;
+          says = lines.says;
+          since = while_written disk.changes disk.moment disk.since disk.leaves disk.read_at
+              disk.lasted_at start opened now first then.0 ms least kept opening lines;
+          now = λ image left chance.
+              adds_lines first then.0 image ms least kept (lines.at_last image left chance);
+        })
+
+    -- and where all are written, the run's promises are kept
+    pub turns_run : {T : Type 0} (outcome : Result T KeeperFault) (now : D)
+        (options : ApplyOptions) (sizes : Sizes) (ms : List Mutation) (notes : List EntryNote)
+        (cells : List (CellKey × Cell)) (report : List ℕ) → IsDoable options
+        → clock.tells at moment → AreLaidFor sizes ms notes → length notes ≡ length ms
+        → (options.dump ≡ true → IfSome (disk.files start) (λ first. IsRestored first cells))
+        → IsReport options.dump (head_of options.receipts base notes) cells ms report
+        → ((then : Files) (made : List Change) → disk.files opened ≡ Some then
+        → disk.changes opened ≡ Some made
+        → OnOk outcome (TellsWritten options base then made (disk.files now) (disk.changes now) ms
+        notes))
+        → OnOk outcome (Turns (outside_at now) (IsRun (outside_at now) options ms report))
+    turns_run outcome now options sizes ms notes cells report doable tells laid many restored is
+        told = turns_where outcome (outside_at now) (IsRun (outside_at now) options ms report)
+        (λ first made files_are changes_are.
+        let there : disk.files looked ≡ Some first = still.same.files ∙ files_are in
+        let then = opened_as (disk.files looked) (disk.files opened) moment base first there opens
+        in
+        let recovery = recovery_changes first made (disk.changes opened)
+        (subst (λ (c : Option (List Change)). RecoversAll first c (disk.changes opened))
+        (still.changes_are ∙ changes_are) (recovers first there)) in
+        on_ok outcome (TellsWritten options base then.0 (made ++ recovery.0) (disk.files now)
+        (disk.changes now) ms notes)
+        (Becomes (outside_at now) made (IsRun (outside_at now) options ms report first))
+        (told then.0 (made ++ recovery.0) then.1 recovery.1) (λ all.
+        record {
+          after = all.after;
+          added = recovery.0 ++ all.later;
+          files_are = all.files_are;
+          changes_are = all.changes_are ∙ ap Some (append_assoc made recovery.0 all.later);
+          is = run_of (outside_at now) options first then.0 all.after recovery.0 all.later sizes ms
+              notes moment base cells report doable tells laid then.2 recovery.2 all.written many
+              (λ dumped.
+              subst (λ (o : Option Files). IfSome o (λ held. IsRestored held cells)) files_are
+              (restored dumped)) is;
+        }))

@@ -1,0 +1,123 @@
+use Rattle.std.proofs.Common.{◌≡◌, ℕ, List, Option, inl, inr, sym, subst, ap, ◌∙◌}
+use Rattle.clog_base.specs.declared.sizes.Sizes.{Sizes}
+use Rattle.clog_disk.specs.Files.{Files, SameTold}
+use Rattle.path_core.specs.declared.note.EntryNote.{EntryNote}
+use Rattle.path_core.specs.Keys.{first_offset}
+use Rattle.clog_applied.specs.Asked.{capacity_of}
+use Rattle.clog_lines.specs.Written.{AreLaidFor, HasWriteCause, least_of}
+use Rattle.clog_engine.specs.declared.status.Status.{Status}
+use Rattle.clog_engine.specs.Apply.{Applies, ApplyRefuses, KeepsAll}
+use Rattle.clog_engine.specs.Outside.{outside_with}
+use Rattle.clog_engine.specs.Refusal.{folder_status}
+use Rattle.clog_engine.specs.Report.{IsReport, head_of}
+use Rattle.clog_engine.proofs.Applied.{folder_refuses, left_closed, not_opened}
+use Rattle.clog_engine.proofs.Closed.{is_plain}
+use Rattle.clog_engine.proofs.LinesLaid.{as_many, laid_many}
+use Rattle.clog_engine.proofs.Opened.{
+  ended_applies,
+  keeps_all,
+  lasts_first,
+  told_then,
+  turns_run,
+  unchanged_on,
+  wrote,
+}
+use Rattle.clog_engine.proofs.applying.apply_lines.Goals as goal
+
+pub returns-in-Err-open-clause-applies : goal.returns-in-Err-open-clause-applies
+returns-in-Err-open-clause-applies g c left left_now f h bytes taken sized =
+    let start = c.args.disk in
+    let looked = c.cells_before.new.disk in
+    let now = c.in-Err-open.disk in
+    let still = c.in-Ok.ensures.keeps in
+    let refusal = c.in-Err-open.refusal in
+    let capacity = capacity_of c.args.options in
+    let o = outside_with left left_now f h g.D.Disk g.C.Clock start now c.args.clock.now in
+    let kept = keeps_all g.D.Disk g.C.Clock left left_now f h start looked c.args.clock.now
+    (g.met.D.Disk.only_now start) still now c.in-Err-open.ensures.told c.in-Err-open.ensures.keeps
+    c.in-Err-open.ensures.any_moment c.in-Err-open.ensures.changes in
+    subst (λ (s : Status). ApplyRefuses capacity s o) (sym c.folder_status.ensures)
+    (folder_refuses capacity (folder_status refusal) o
+    (bytes, taken, record { mutations = c.args.lines.mutations; sized = sized })
+    (not_opened (g.D.Disk.files start) (g.D.Disk.files looked) (g.D.Disk.faults start)
+    (g.D.Disk.faults looked) (g.D.Disk.faults now) refusal still.same.files still.later
+    c.in-Err-open.ensures.refused)
+    (left_closed capacity refusal o _ c.in-Err-open.ensures.alone (λ alone.
+    unchanged_on (g.D.Disk.files start) (g.D.Disk.files looked) (g.D.Disk.files now)
+    (g.D.Disk.leaves start) (g.D.Disk.leaves looked) (g.D.Disk.leaves now) still.same alone.same)
+    kept))
+
+pub returns-in-Ok-report_of-clause-applies : goal.returns-in-Ok-report_of-clause-applies
+returns-in-Ok-report_of-clause-applies g c left left_now f h bytes taken sized =
+    let start = c.args.disk in
+    let looked = c.cells_before.new.disk in
+    let store = c.in-Ok-open.store in
+    let opened = store.notes.log.disk in
+    let now = c.write_lines-disk.result.0 in
+    let outcome = c.write_lines-disk.result.1 in
+    let still = c.in-Ok.ensures.keeps in
+    let opening = c.in-Ok-open.ensures in
+    let options = c.args.options in
+    let ms = c.args.lines.mutations in
+    let notes = c.args.lines.notes.items in
+    let report = c.in-Ok-report_of.report in
+    let laid = c.requires.laid.laid in
+    let only = g.met.D.Disk.only_now start in
+    let at = c.args.clock.now in
+    let o = outside_with left left_now f h g.D.Disk g.C.Clock start now at in
+    let plain = is_plain options c.requires.doable in
+    let sizes_are = ap (λ s. s.notes.sizes) opening.over in
+    let capacity : capacity_of options ≡ store.notes.sizes.capacity =
+    sym (ap (λ (s : Sizes). s.capacity) sizes_are ∙ c.requires.sizes.capacity) in
+    let laid_there : AreLaidFor store.notes.sizes ms notes =
+    subst (λ (s : Sizes). AreLaidFor s ms notes) (sym sizes_are) laid in
+    let is : IsReport options.dump (head_of options.receipts store.notes.base notes) c.in-Ok.cells
+    ms report =
+    subst (λ (l : List EntryNote). IsReport options.dump
+    (head_of options.receipts store.notes.base l) c.in-Ok.cells ms report) c.as_slice.ensures.value
+    (subst (λ (base : ℕ). IsReport options.dump
+    (head_of options.receipts base c.as_slice.result.now) c.in-Ok.cells ms report)
+    c.base-base.ensures.base c.in-Ok-report_of.ensures) in
+    let run = turns_run g.D.Disk g.C.Clock left left_now f h start looked at only still opened
+    c.now_ms.result store.notes.base opening.opens opening.any_moment opening.recovers outcome now
+    options c.args.sizes ms notes c.in-Ok.cells report c.requires.doable c.now_ms.ensures.told laid
+    (laid_many c.args.sizes first_offset 1 laid.raw notes laid.laid
+    ∙ as_many ms laid.raw laid.entries)
+    c.in-Ok.ensures.gives.restored is (λ then made files_are changes_are.
+    c.write_lines-disk.ensures.written options ms then made plain capacity laid_there files_are
+    changes_are) in
+    let lasts = lasts_first g.D.Disk g.C.Clock left left_now f h start looked at only still opened
+    c.now_ms.result store.notes.base opening.opens opening.any_moment opening.recovers now ms
+    (least_of outcome ms)
+    (λ then files_are first is_first lasting. c.write_lines-disk.ensures.shown ms then laid_there
+    files_are (opening.lasted first is_first lasting)) in
+    let has_written = wrote g.D.Disk g.C.Clock left left_now f h start looked at only still opened
+    c.now_ms.result store.notes.base opening.opens opening.any_moment opening.recovers now
+    c.write_lines-disk.ensures.wrote in
+    subst (Applies options o) (sym c.ended.ensures)
+    (ended_applies outcome options o report bytes ms taken sized (record {
+      sizes = c.args.sizes;
+      sizes_are = c.requires.sizes;
+      notes = notes;
+      laid = laid;
+      base = store.notes.base;
+      cells = c.in-Ok.cells;
+      text = is;
+    }) run has_written lasts
+    (subst (λ (n : ℕ). HasWriteCause n (g.D.Disk.faults now) outcome)
+    (opening.quiet ∙ c.in-Ok.ensures.quiet) c.write_lines-disk.ensures.cause)
+    (told_then (g.D.Disk.files start) (g.D.Disk.files opened) (g.D.Disk.files now)
+    (subst (λ (files : Option Files). SameTold files (g.D.Disk.files opened)) still.same.files
+    opening.told) c.write_lines-disk.ensures.told))
+
+pub returns-in-Err-report_of-clause-applies : goal.returns-in-Err-report_of-clause-applies
+returns-in-Err-report_of-clause-applies g c left left_now f h bytes taken sized =
+    let start = c.args.disk in
+    let looked = c.cells_before.new.disk in
+    let at = c.args.clock.now in
+    let opening = c.in-Ok-open.ensures in
+    inr (inl (subst (λ d. KeepsAll
+    (outside_with left left_now f h g.D.Disk g.C.Clock start d at)) (sym c.into_disk.ensures.disk)
+    (keeps_all g.D.Disk g.C.Clock left left_now f h start looked at
+    (g.met.D.Disk.only_now start) c.in-Ok.ensures.keeps c.in-Ok-open.store.notes.log.disk
+    opening.told opening.keeps opening.any_moment opening.changes)))
