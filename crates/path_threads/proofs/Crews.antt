@@ -2,7 +2,6 @@
 use Rattle.std.proofs.Common.{
   ◌≡◌,
   ℕ,
-  zero,
   suc,
   ◌<◌,
   List,
@@ -25,7 +24,6 @@ use Rattle.std.proofs.Common.{
 use Rattle.std.specs.List.{All}
 use Rattle.std.specs.Option.{option_map_or}
 use Rattle.std.proofs.lemmas.List.{map-append}
-use Rattle.std.proofs.lemmas.List.Elements.{All-append, All-nil, All-cons, All-head, All-tail}
 use Rattle.atomic_table.specs.Seated.{TableId}
 use Rattle.path_rule.specs.declared.trying.PathSeat.{PathSeat}
 use Rattle.path_rule.specs.declared.view.PathSize.{PathSize}

@@ -30,6 +30,7 @@ pub fn crew_of(
         workers.push(Worker {
             seat: Some(seat),
             answered: Answered::new(),
+            receipts: Vec::new(alloc),
         })?;
     }
     Ok(workers)
@@ -73,6 +74,18 @@ pub fn commit_all<R: Threads + Wait + Sync>(
     );
 }
 
+// The seat that a writer had.
+fn seat_of(worker: Worker) -> Option<PathSeat<Recorder>>
+    ensures { result ≡ worker.seat }
+{
+    let Worker {
+        seat,
+        answered: _,
+        receipts: _,
+    } = worker;
+    seat
+}
+
 /// The seats that the writers had.
 pub fn seats_of(
     path: &WritePath<Recorder, Global>,
@@ -87,8 +100,7 @@ pub fn seats_of(
 {
     let mut seats = Vec::new(alloc);
     for worker in workers {
-        let Worker { seat, answered: _ } = worker;
-        if let Some(seat) = seat {
+        if let Some(seat) = seat_of(worker) {
             seats.push(seat)?;
         }
     }

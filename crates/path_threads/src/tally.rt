@@ -1,7 +1,9 @@
-//! What a run of writers left is counted: each line once, each writer's in order, and no range
-//! within another.
+//! What a run of writers left is counted: each line once, by the receipt of its commit, each
+//! writer's in order, and no range within another.
 use crate::recorder::Row;
 use anyhow::{Result, bail};
+use clog_base::{Key, Position};
+use write_path::Receipt;
 
 // Each line from 1 on stands there once.
 fn check_lines(rows: &mut Vec<Row>, count: u32) -> Result<()> {
@@ -15,6 +17,26 @@ fn check_lines(rows: &mut Vec<Row>, count: u32) -> Result<()> {
     }
     if next != count {
         bail!("{next} lines of {count}");
+    }
+    Ok(())
+}
+
+// The position of a key.
+fn position_of(key: Key, base: u32) -> Position {
+    key.position(u64::from(base))
+}
+
+// Each row's line has a receipt, and its position is the end of the row's range. The rows are in
+// the order of their lines, and there are so many receipts. The first segment has the id `base`.
+fn check_receipts(rows: &[Row], receipts: &mut Vec<Receipt>, base: u32) -> Result<()> {
+    if receipts.len() != rows.len() {
+        bail!("{} receipts of {} rows", receipts.len(), rows.len());
+    }
+    receipts.sort_unstable_by_key(|receipt| receipt.line);
+    for (row, receipt) in rows.iter().zip(receipts.as_slice()) {
+        if receipt.line != row.line || receipt.position != position_of(row.end, base) {
+            bail!("line {} has not its receipt", row.line);
+        }
     }
     Ok(())
 }
@@ -46,9 +68,17 @@ fn check_writer(rows: &[Row], writer: u8, writers: u8) -> Result<()> {
     Ok(())
 }
 
-/// Checks what was made lasting by so many writers of so many lines each.
-pub fn check(rows: &mut Vec<Row>, writers: u8, lines: u32) -> Result<()> {
+/// Checks what was made lasting by so many writers of so many lines each, and by which receipts.
+/// The first segment has the id `base`.
+pub fn check(
+    rows: &mut Vec<Row>,
+    receipts: &mut Vec<Receipt>,
+    base: u32,
+    writers: u8,
+    lines: u32,
+) -> Result<()> {
     check_lines(rows, u32::from(writers).wrapping_mul(lines))?;
+    check_receipts(rows.as_slice(), receipts, base)?;
     check_ranges(rows)?;
     for writer in 0..writers {
         check_writer(rows.as_slice(), writer, writers)?;

@@ -14,7 +14,7 @@ use clog_io::OpenGate;
 use clog_mutation::decode;
 use std::alloc::Global;
 use std::sync::Wait;
-use write_path::{Commit, PathSeat, Prepared, WritePath};
+use write_path::{Commit, PathSeat, Prepared, Receipt, WritePath};
 
 /// Key `ab`, and one update of table 0 and of table 3 each: 35 bytes.
 const PAYLOAD: &[u8] = b"\x00\x02ab\x00\x02\x00\x00\x02cd\x00\x00\x00\x00\x00\x00\x00\x05\x00\
@@ -27,7 +27,9 @@ pub struct Answered {
     pub logged: u32,
     /// So many are lasting.
     pub durable: u32,
-    /// So many are neither, or were not made for want of memory.
+    /// So many are logged, but the sync that they waited for was refused.
+    pub unsynced: u32,
+    /// So many are none of these, or were not made for want of memory.
     pub refused: u32,
 }
 
@@ -37,6 +39,7 @@ impl Answered {
         Answered {
             logged: 0,
             durable: 0,
+            unsynced: 0,
             refused: 0,
         }
     }
@@ -45,6 +48,7 @@ impl Answered {
     pub fn add(&mut self, other: &Answered) {
         self.logged = self.logged.saturating_add(other.logged);
         self.durable = self.durable.saturating_add(other.durable);
+        self.unsynced = self.unsynced.saturating_add(other.unsynced);
         self.refused = self.refused.saturating_add(other.refused);
     }
 
@@ -53,9 +57,20 @@ impl Answered {
         let counter = match commit {
             Commit::Logged(_) => &mut self.logged,
             Commit::Durable(_) => &mut self.durable,
-            Commit::Unsynced(_, _) | Commit::Spent(_, _) => &mut self.refused,
+            Commit::Unsynced(_, _) => &mut self.unsynced,
+            Commit::Spent(_, _) => &mut self.refused,
         };
         *counter = counter.saturating_add(1);
+    }
+}
+
+// What the write of a commit is known by, where it is logged.
+fn receipt_of(commit: &Commit) -> Option<Receipt> {
+    match commit {
+        Commit::Logged(receipt) | Commit::Durable(receipt) | Commit::Unsynced(receipt, _) => {
+            Some(*receipt)
+        }
+        Commit::Spent(_, _) => None,
     }
 }
 
@@ -66,6 +81,8 @@ pub struct Worker {
     pub seat: Option<PathSeat<Recorder>>,
     /// The answers so far.
     pub answered: Answered,
+    /// The receipts so far, in order. One for which there was no memory is missing.
+    pub receipts: Vec<Receipt>,
 }
 
 /// What each writer is to do.
@@ -125,6 +142,9 @@ fn commit_line<R: Wait>(
         let (seat, commit) = path.commit(rt, alloc, seat, prepared, &OpenGate::new());
         worker.seat = Some(seat);
         worker.answered.count(&commit);
+        if let Some(receipt) = receipt_of(&commit) {
+            let _kept = worker.receipts.push(receipt);
+        }
     }
 }
 

@@ -33,7 +33,11 @@ loop-seat-preserved c =
     let N = IsNewSeat t.table.shared.table_id t.size in
     let left : All N (s ∷ rest) = subst (λ (r : List (PathSeat Recorder)). All N r) steps.0 I.left
     in
-    let w : Worker = record { seat = Some s; answered = c.new.result } in
+    let w : Worker = record {
+      seat = Some s;
+      answered = c.new.result;
+      receipts = c.new-in-loop-seat.result;
+    } in
     let pushed : c.push.new.self.items ≡ l.workers.items ++ w ∷ [] = c.in_ok-push.ensures.items
     in record {
       each = subst (λ (r : List Worker). All P r) (sym pushed)

@@ -29,7 +29,8 @@ loop-worker-init c =
 pub loop-worker-preserved-in-Continue-1 : goal.loop-worker-preserved-in-Continue-1
 loop-worker-preserved-in-Continue-1 c =
     let l = c.loop-worker in let I = l.invariant in let w = c.in-Some.worker in
-    let s = c.in-Some-seat.seat in let steps = c.in-Some.ensures.steps in
+    let s = c.in-Some-seat_of.seat in let is = sym c.seat_of.ensures ∙ c.in-Some-seat_of.is in
+    let steps = c.in-Some.ensures.steps in
     let rest = c.next.new.self.rest.items in let t = c.args.path.now.table in
     let P = IsSeated t.table.shared.table_id t.size in
     let Q : PathSeat Recorder → Type 0 = λ s. IsOf t.table.shared.table_id t.size s.member in
@@ -39,10 +40,10 @@ loop-worker-preserved-in-Continue-1 c =
       each = subst (λ (r : List (PathSeat Recorder)). All Q r) (sym pushed)
           (All-append Q l.seats.items (s ∷ []) I.each
           (All-cons Q s [] (seat_in t.table.shared.table_id t.size w s (All-head P w rest left)
-          c.in-Some-seat.is) (All-nil Q)));
+          is) (All-nil Q)));
       left = All-tail P w rest left;
       numbers = ap (λ (r : List (PathSeat Recorder)). numbers_of r ++ map number_of rest) pushed
-          ∙ one_back l.seats.items w s rest (range_with_len 0 t.size.seats) c.in-Some-seat.is
+          ∙ one_back l.seats.items w s rest (range_with_len 0 t.size.seats) is
           (ap (λ (r : List Worker). numbers_of l.seats.items ++ map number_of r) (sym steps.0)
           ∙ I.numbers);
       count = let short = ap length steps.0 in omega (arith, short, steps.1, I.count);
@@ -54,7 +55,7 @@ loop-worker-preserved c = let l = c.loop-worker in let t = c.args.path.now.table
     absurd (has_seat t.table.shared.table_id t.size c.in-Some.worker
     (All-head P c.in-Some.worker c.next.new.self.rest.items
     (subst (λ (r : List Worker). All P r) c.in-Some.ensures.steps.0 l.invariant.left))
-    c.in_default.is)
+    (sym c.seat_of.ensures ∙ c.in_default.is))
 
 pub returns : goal.returns
 returns c =
