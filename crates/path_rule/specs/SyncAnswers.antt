@@ -1,5 +1,20 @@
 -- What a sync answers, and what is so then of its seat.
-use Rattle.std.specs.Prelude.{◌≡◌, ◌⊎◌, ℕ, List, [], ◌∷◌, Option, Some, None, Result, Ok, Err}
+use Rattle.std.specs.Prelude.{
+  ◌≡◌,
+  ◌⊎◌,
+  ℕ,
+  ◌<◌,
+  ◌≤◌,
+  List,
+  [],
+  ◌∷◌,
+  Option,
+  Some,
+  None,
+  Result,
+  Ok,
+  Err,
+}
 use Rattle.std.specs.Option.{option_map_or}
 use Rattle.path_core.specs.declared.event.Cursor.TheVariants.{Synced, Stopped as StoppedCursor}
 use Rattle.path_core.specs.declared.event.Event.{Event}
@@ -66,3 +81,9 @@ pub record Answers (w opened : ℕ) (v : View) (answer : SyncAnswer) (after : Vi
 abbrev pub MayAnswer : ℕ → ℕ → View → Option SyncAnswer → View → Type 0
 MayAnswer w opened v (Some answer) after = Answers w opened v answer after
 MayAnswer w opened v None after = RoundSteps w [] v after
+
+-- A synced key that was found answers a sync up to another key: Done where it is not below that
+-- one, and else nothing yet.
+abbrev pub IsDoneBy : ℕ → ℕ → Option SyncAnswer → Type 0
+IsDoneBy upto found (Some answer) = (upto ≤ found) × (answer ≡ Done found)
+IsDoneBy upto found None = found < upto

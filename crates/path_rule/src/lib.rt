@@ -19,6 +19,7 @@ mod gathering;
 mod lasting;
 mod laws;
 mod lending;
+mod looking;
 mod marker_keys;
 mod marking;
 mod opening;

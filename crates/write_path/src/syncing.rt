@@ -1,9 +1,13 @@
-//! A sync of the log by an idle seat (`CommitLog.sync`). It takes the Sync turn, claims a marker
-//! where an entry stands behind the last one, waits for the marker's barrier, gathers all boxes
-//! behind it, and has the keeper make lasting what is pending; then the seat is idle again. Where
-//! the keeper refused the last sync for memory and no entry came since, the same marker serves.
-ghost use Rattle.std.specs.Prelude.{◌≡◌};
+//! A sync of the log by an idle seat (`CommitLog.sync`). It finds how far the log was claimed when
+//! it begins, and waits until it is lasting up to there: by another seat's sync, which serves all
+//! that wait (`CommitLogSegment.waitForSync`), or by a round of its own, where the Sync turn is
+//! free. A round claims a marker where an entry stands behind the last one, waits for the marker's
+//! barrier, gathers all boxes behind it, and has the keeper make lasting what is pending; then the
+//! seat is idle again. Where the keeper refused the last sync for memory and no entry came since,
+//! the same marker serves.
+ghost use Rattle.std.specs.Prelude.{◌≡◌, []};
 ghost use Rattle.path_rule.specs.Members.{view_of, IsOf};
+ghost use Rattle.path_rule.specs.Rounds.{RoundSteps, WroteBelow};
 ghost use Rattle.path_rule.specs.SyncAnswers.{MayAnswer};
 ghost use Rattle.write_path.specs.Syncs.{Syncs};
 ghost use Rattle.write_path.specs.Tries.{Stays};
@@ -39,10 +43,62 @@ impl<K: Keeper, A: Allocator> WritePath<K, A> {
         (PathSeat { member }, answer)
     }
 
-    /// Syncs the log, once the Sync turn is found free. `Done` carries the synced key, at or below
-    /// which each write of the seat's list ends; `Stopped` the keeper's count of faults at its
-    /// opening and the count that the log tells; after `OutOfMemory` and `Rows` all is pending
-    /// still. No clause says that it returns.
+    // The log key: all that was claimed when the seat looked ends at or below it.
+    fn log_end(&self, seat: PathSeat<K>) -> (PathSeat<K>, u64)
+        requires { IsOf self.now.table.table.shared.table_id self.now.table.size seat.member }
+        ensures same { Stays self.now.table.table.shared.table_id self.now.table.size seat.member
+            result.0.member }
+        ensures steps { RoundSteps seat.member.number [] (view_of seat.member)
+            (view_of result.0.member) }
+        ensures wrote { WroteBelow result.1 (view_of result.0.member).trail }
+    {
+        let PathSeat { mut member } = seat;
+        let end = self.table.look_end(&mut member);
+        (PathSeat { member }, end)
+    }
+
+    // Whether the log is lasting up to a key already, above which the seat wrote nothing.
+    fn try_await(&self, seat: PathSeat<K>, upto: u64) -> (PathSeat<K>, Option<SyncAnswer>)
+        requires table { IsOf self.now.table.table.shared.table_id self.now.table.size seat.member }
+        requires wrote { WroteBelow upto (view_of seat.member).trail }
+        ensures same { Stays self.now.table.table.shared.table_id self.now.table.size seat.member
+            result.0.member }
+        ensures answer { MayAnswer seat.member.number self.now.table.size.at_open
+            (view_of seat.member) result.1 (view_of result.0.member) }
+    {
+        let PathSeat { mut member } = seat;
+        let done = self.table.look_done(&mut member, upto);
+        (PathSeat { member }, done)
+    }
+
+    // One try to have the log lasting up to a key, above which the seat wrote nothing: by what
+    // another seat's sync made lasting, or by a round where the Sync turn is found free.
+    fn sync_once<R: Wait>(
+        &self,
+        rt: &R,
+        alloc: Global,
+        seat: PathSeat<K>,
+        upto: u64,
+    ) -> (PathSeat<K>, Option<SyncAnswer>)
+        requires table { IsOf self.now.table.table.shared.table_id self.now.table.size seat.member }
+        requires wrote { WroteBelow upto (view_of seat.member).trail }
+        ensures same { Stays self.now.table.table.shared.table_id self.now.table.size seat.member
+            result.0.member }
+        ensures answer { MayAnswer seat.member.number self.now.table.size.at_open
+            (view_of seat.member) result.1 (view_of result.0.member) }
+    {
+        let (seat, answer) = self.try_await(seat, upto);
+        match answer {
+            Some(answer) => (seat, Some(answer)),
+            None => self.try_sync(rt, alloc, seat),
+        }
+    }
+
+    /// Syncs the log: it waits until the log is lasting up to where it ended at the call, by
+    /// another seat's sync or, where the Sync turn is found free, by a round of its own. `Done`
+    /// carries the synced key, at or below which each write of the seat's list ends; `Stopped` the
+    /// keeper's count of faults at its opening and the count that the log tells; after
+    /// `OutOfMemory` and `Rows` all is pending still. No clause says that it returns.
     pub fn sync<R: Wait>(
         &self,
         rt: &R,
@@ -55,9 +111,9 @@ impl<K: Keeper, A: Allocator> WritePath<K, A> {
         ensures syncs { Syncs seat.member.number self.now.table.size.at_open
             (view_of seat.member) result.1 (view_of result.0.member) }
     {
-        let mut seat = seat;
+        let (mut seat, end) = self.log_end(seat);
         for _ in rt.forever() {
-            let (next, answer) = self.try_sync(rt, alloc, seat);
+            let (next, answer) = self.sync_once(rt, alloc, seat, end);
             seat = next;
             match answer {
                 Some(answer) => return (seat, answer),

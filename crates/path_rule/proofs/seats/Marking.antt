@@ -56,6 +56,13 @@ none_since v w n t kept was sync marker low log =
     (subst (λ k. was.core.log ≤ behind_last k kept) (sym sizes.capacity)
     (subst (λ k. k ≤ behind_last v.size.capacity kept) (sym log) low)))
 
+-- All that a seat wrote ends at or below a log key that it found.
+pub under_log : (v : View) (w n : ℕ) (was : Was v w (Look w Log)) → was.core.log ≡ n
+    → WroteBelow n v.trail
+under_log v w n was log = wrote_below v w (Look w Log) was n
+    (λ (m : EntryNote) (h : Contains was.core.notes m).
+    let low = below_log was.core was.lawful m h in omega arith)
+
 -- behind its own claim
 pub marked : (u after : View) (w from to : ℕ) → DidAs u w (Claim w (record { 0 = from })
     (record { 0 = to }) Marker) to (with_marker w from u.hands) after

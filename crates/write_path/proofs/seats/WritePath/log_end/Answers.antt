@@ -1,0 +1,28 @@
+use Rattle.std.proofs.Common.{refl, ap, ◌∙◌}
+use Rattle.path_core.specs.declared.event.Event.TheVariants.{Look}
+use Rattle.path_core.specs.declared.event.Place.TheVariants.{Log}
+use Rattle.path_rule.specs.declared.view.View.{View}
+use Rattle.path_rule.proofs.seats.RoundsGo.{one}
+use Rattle.write_path.proofs.seats.WritePath.log_end.Goals as goal
+
+pub invariant_of-result : goal.invariant_of-result
+invariant_of-result g c = let E = c.look_end-end.ensures in let seat = c.args.seat in
+    let R = (one seat.member.number (Look _ Log) c.look_end-end.result _ _ refl E.step).rests
+    (record {
+      idle = seat.idle;
+      unclaimed = seat.unclaimed;
+      flush = seat.free.flush;
+    }) in record {
+      idle = R.idle;
+      unclaimed = R.unclaimed;
+      free = record {
+        sync = ap (λ (u : View). u.part.sync) E.step.view ∙ seat.free.sync;
+        flush = R.flush;
+      };
+      bare = E.same.2 ∙ seat.bare;
+    }
+
+pub returns-clause-steps : goal.returns-clause-steps
+returns-clause-steps g c =
+    one c.args.seat.member.number (Look _ Log) c.look_end-end.result _ _ refl
+    c.look_end-end.ensures.step
