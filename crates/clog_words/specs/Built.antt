@@ -1,5 +1,5 @@
 -- What of the requests the program does today.
-use Rattle.std.specs.Prelude.{◌≡◌, ℕ, List, false, None}
+use Rattle.std.specs.Prelude.{◌≡◌, ℕ, List, None}
 use Rattle.clog_spec.specs.Names.{IsSegmentName}
 use Rattle.sync_core.specs.declared.SyncCore.TheVariants.{Periodic}
 use Rattle.clog_words.specs.Asks.{Asks}
@@ -9,17 +9,17 @@ use Rattle.clog_words.specs.declared.request.ApplyOptions.{ApplyOptions}
 use Rattle.clog_words.specs.declared.request.Request.{Request}
 use Rattle.clog_words.specs.declared.request.Request.TheVariants.{Apply, Replay, Scan}
 
--- each option of `apply` but `--segment-kib`, `--receipts` and `--dump` as it is where it is not
--- given
+-- `--writers`, `--sync` with `--period`, and `--flush-at` as they are where they are not given, and
+-- each other option of `apply` as it is
 abbrev pub plain_options : ApplyOptions → ApplyOptions
 plain_options asked = record {
   writers = 1;
   sync = Periodic 10000;
   segment_kib = asked.segment_kib;
   flush_at = None;
-  archive = false;
+  archive = asked.archive;
   receipts = asked.receipts;
-  drain = false;
+  drain = asked.drain;
   dump = asked.dump;
 }
 

@@ -11,8 +11,9 @@ use clog_base::Name;
 use std::alloc::Global;
 use sync_core::SyncCore;
 
-/// One thing that the program does. Of `apply` it does what all options but `--segment-kib`,
-/// `--receipts` and `--dump` ask for by their defaults, given or not; of `drill` nothing.
+/// One thing that the program does. Of `apply` it does what `--writers`, `--sync`, `--period` and
+/// `--flush-at` ask for by their defaults, given or not, and what each other option asks for; of
+/// `drill` nothing.
 #[derive(Clone, Copy, Debug, PartialEq, Eq)]
 pub enum Built {
     /// `apply`: apply the mutation file on standard input.
@@ -35,9 +36,9 @@ fn plain(asked: ApplyOptions) -> ApplyOptions
         sync: SyncCore::Periodic { period_ms: 10_000 },
         segment_kib: asked.segment_kib,
         flush_at: None,
-        archive: false,
+        archive: asked.archive,
         receipts: asked.receipts,
-        drain: false,
+        drain: asked.drain,
         dump: asked.dump,
     }
 }

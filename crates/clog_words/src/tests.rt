@@ -197,6 +197,14 @@ fn what_is_built_is_asked_for(rt: HostRuntime) -> Result<(), Fail> {
             }),
         ),
         (
+            "apply --drain --archive",
+            Built::Apply(ApplyOptions {
+                archive: true,
+                drain: true,
+                ..PLAIN
+            }),
+        ),
+        (
             "apply --dump --writers 1",
             Built::Apply(ApplyOptions {
                 dump: true,
@@ -220,9 +228,7 @@ fn what_is_planned_alone_is_refused(rt: HostRuntime) -> Result<(), Fail> {
     for line in [
         "apply --writers 2",
         "apply --sync batch",
-        "apply --segment-kib 4 --drain",
-        "apply --flush-at 1",
-        "apply --archive",
+        "apply --drain --flush-at 1",
         "drill 7 2",
         "help",
     ] {
