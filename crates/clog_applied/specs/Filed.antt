@@ -16,7 +16,7 @@ use Rattle.std.specs.Prelude.{
 }
 use Rattle.std.specs.FinMap as finmap
 use Rattle.std.specs.List.{filter, AllPairs}
-use Rattle.clog_spec.specs.Names.{table_name_of}
+use Rattle.clog_spec.specs.Names.{IsTableName, table_name_of}
 use Rattle.clog_base.specs.declared.cell.Cell.{Cell}
 use Rattle.clog_base.specs.declared.cell.CellKey.{CellKey}
 use Rattle.clog_base.specs.declared.cell.Table.{Table}
@@ -91,9 +91,11 @@ pub record IsInOne (files : List TableFile) (table : Table) (at : Position) : Ty
   pub one : (other : TableFile) → Contains (files_of table files) other → IsInInterval other at
       → other ≡ file
 
--- wherever two files stand, the sequence of the first is less
+-- wherever two files stand under names of table files, the sequence of the first is less
 abbrev pub StandsBefore : Files → TableFile → TableFile → Type 0
 StandsBefore after one other = (first second : ℕ)
+    → IsTableName (table_name_of one.table.0 first) one.table.0 first
+    → IsTableName (table_name_of other.table.0 second) other.table.0 second
     → IsFileOf one.table (bytes_at after (table_name_of one.table.0 first)) one
     → IsFileOf other.table (bytes_at after (table_name_of other.table.0 second)) other
     → first < second
