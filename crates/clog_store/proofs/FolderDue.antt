@@ -6,7 +6,6 @@ use Rattle.std.proofs.Common.{
   ◌<◌,
   Bool,
   List,
-  ◌++◌,
   take,
   None,
   Contains,
@@ -21,29 +20,22 @@ use Rattle.std.proofs.Common.{
 }
 use Rattle.std.specs.Prelude.{◌&&◌, true}
 use Rattle.std.specs.FinMap as finmap
-use Rattle.std.specs.List.{flat_map}
 use Rattle.std.proofs.lemmas.Bool.{eq-eqb}
-use Rattle.std.proofs.lemmas.List.Elements.{Contains-append_cases, Contains-append_left}
 use Rattle.clog_spec.specs.Names.{table_name_of}
-use Rattle.clog_spec.specs.Sizes.{header_size}
 use Rattle.clog_base.specs.declared.position.Position.{Position}
 use Rattle.clog_base.specs.Positions.{IsUpTo, ordinal_of, position_of}
-use Rattle.clog_base.proofs.Members.{from_flat, from_map, in_map}
 use Rattle.clog_disk.specs.Files.{Files}
 use Rattle.clog_scan.specs.Cut.{Section}
-use Rattle.clog_scan.specs.Segment.{Entry, entries_of}
 use Rattle.clog_crash.specs.Changes.{AreCovered, IsTrueOf}
 use Rattle.clog_crash.specs.Flush.{IsCovered}
 use Rattle.clog_crash.specs.Readings.{Reading}
 use Rattle.clog_crash.specs.Rest.{IsBeyond, settled}
-use Rattle.clog_crash.specs.Runs.{Placed, placed, placed_of}
 use Rattle.path_core.specs.declared.note.EntryNote.{EntryNote}
 use Rattle.path_core.specs.Droppable.{is_of}
 use Rattle.path_core.specs.Keeper.{Holding, IsDue, MayPublish, PutFile}
 use Rattle.path_core.specs.Parts.{touches}
 use Rattle.clog_store.specs.Dropping.{AreDue}
 use Rattle.clog_store.specs.NoteLog.{HasLog, IsNoteLog, NoteState}
-use Rattle.clog_store.specs.Notes.{place_of}
 use Rattle.clog_store.specs.OnDisk.{IsAllOnDisk, file_on}
 use Rattle.clog_store.specs.Publishes.{IsTrueHere}
 use Rattle.clog_store.specs.StoreFolder.{
@@ -55,7 +47,8 @@ use Rattle.clog_store.specs.StoreFolder.{
   deeds_of,
   log_of,
 }
-use Rattle.clog_store.proofs.FolderReads.{all_on_disk, has_section}
+use Rattle.clog_store.proofs.FolderReads.{all_on_disk}
+use Rattle.clog_store.proofs.NotePast.{past_of}
 use Rattle.clog_store.proofs.OnDisk.{due_is_covered, published_is_true}
 
 -- a place behind which the interval of a file ends is not beyond what lasts
@@ -100,35 +93,6 @@ module _ {D : Type 0} (first f : Files) (s : NoteState D) (h : Holding)
 
   -- ---- segments
 
-  -- a logged note of an older segment stands there
-  past_of : (n : EntryNote) → Contains s.logged n → s.base + ordinal_of n.start.0 < s.log.id
-      → IsPast (log_of s) (ordinal_of n.start.0)
-  past_of n among low =
-      let at = place_of s.base n in
-      let kept = take is.stands.lasting s.kept in
-      let there = subst (λ (ps : List Placed). Contains ps at) (sym is.stands.lasts)
-      (in_map (place_of s.base) (s.logged ++ kept) n (Contains-append_left s.logged kept n among))
-      in
-      elim (Contains-append_cases (flat_map placed_of s.log.past)
-      (placed s.log.id (entries_of header_size old)) at there) [
-        | inr here ↦
-            let found = from_map (λ (e : Entry). (s.log.id, e)) (entries_of header_size old) at
-            here in
-            let ids : s.log.id ≡ at.0 = ap (λ (p : Placed). p.0) found.2 in
-            absurd (omega (arith, ids, low))
-        | inl before ↦
-            let in_one = from_flat placed_of s.log.past at before in
-            let w = in_one.0 in
-            let found = from_map (λ (e : Entry). (w.id, e)) (entries_of header_size w.sections) at
-            in_one.2 in
-            record {
-              segment = w;
-              among = in_one.1;
-              some = has_section w.sections found.0 found.1;
-              id_is = ap (λ (p : Placed). p.0) found.2;
-            }
-      ]
-
   -- what is due may be dropped
   pub may_be_dropped : (closed : ℕ) (ordinals : List ℕ) → AreDue h closed ordinals
       → ((o : ℕ) → Contains ordinals o → s.base + o < s.log.id)
@@ -138,7 +102,7 @@ module _ {D : Type 0} (first f : Files) (s : NoteState D) (h : Holding)
         let may = ((due.exact o).0 listed).1 in
         let among = subst (λ (l : List EntryNote). Contains l may.note) has.logged_are may.among in
         subst (IsPast (log_of s)) may.here
-        (past_of may.note among (subst (λ (k : ℕ). s.base + k < s.log.id) (sym may.here)
+        (past_of s is may.note among (subst (λ (k : ℕ). s.base + k < s.log.id) (sym may.here)
         (low o listed)));
     stays = λ o listed. ((due.exact o).0 listed).2;
     filed = λ o listed n among here t touched.

@@ -3,10 +3,14 @@ mod Anywhere
 mod Begun
 mod Beside
 mod Changed
+mod Cuts
 mod DroppedLists
 mod Due
 mod Ended
+mod Ends
 mod FilePut
+mod FirstFile
+mod Filed
 mod FolderBegins
 mod FolderDue
 mod FolderEnds
@@ -15,9 +19,8 @@ mod FolderNames
 mod FolderPuts
 pub mod FolderReads
 mod FolderSyncs
-mod Ends
-mod Filed
 mod Going
+mod GoneCuts
 pub mod Ids
 mod Intervals
 mod Kept
@@ -38,6 +41,7 @@ mod NoteLogged
 mod NoteNext
 pub mod NoteParts
 mod NotePasses
+mod NotePast
 mod NotePlaced
 mod NoteReaches
 mod NoteRuns
@@ -46,14 +50,19 @@ mod NoteStands
 mod NoteSynced
 mod Noted
 mod OnDisk
-pub mod OpenedWhole
-mod OtherFiles
 mod OneDroppable
+pub mod OpenedWhole
+mod OrderDrops
+pub mod OrderGoes
+mod OrderPuts
+mod OrderSyncs
+mod OtherFiles
 pub mod Outcomes
 mod Picking
 mod Ready
 mod Recovered
 mod Recovery
+mod SegmentsGo
 mod StoreBeside
 mod StoreDropped
 mod StoreFiles
@@ -61,6 +70,5 @@ mod StoreFolds
 mod StoreKept
 mod StoreLetGo
 mod StorePuts
-mod SegmentsGo
 mod TableLogs
 mod Untouched

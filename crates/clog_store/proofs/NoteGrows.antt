@@ -192,6 +192,7 @@ module _ (past : List Write) (id : ℕ) (sections : List Section) (appends : Lis
       only = only_more;
       filled = filled_more;
       rise = g.rise;
+      below = below;
     }
 
   -- in a further segment, nothing was appended to any later one
@@ -236,6 +237,7 @@ module _ (past : List Write) (id : ℕ) (sections : List Section) (appends : Lis
             | inr last ↦ empty_yet w last
           ];
           rise = rises_with past hand g.rise below;
+          below = λ w among. omega (arith, low w among, above);
         }
 
     -- in its place, where it has no section
@@ -258,6 +260,7 @@ module _ (past : List Write) (id : ℕ) (sections : List Section) (appends : Lis
         | inr last ↦ empty_yet w last
       ];
       rise = g.rise;
+      below = λ w among. omega (arith, below w among, above);
     }
 
     pub grown_on : IsGrown appends (past_with past id sections) next []

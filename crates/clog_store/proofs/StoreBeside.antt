@@ -44,7 +44,7 @@ use Rattle.clog_store.proofs.NoteGrows.{added_both, nothing_added}
 -- ---- what the disk has made
 
 -- nothing of the log has changed, and no bytes were appended
-pub grown_beside : {D : Type 0} (changes : D → Option (List Change)) (first : D)
+unfoldable pub grown_beside : {D : Type 0} (changes : D → Option (List Change)) (first : D)
     (log now : State D) (more : List Change) → HasGrown changes first log
     → log.is_stopped ≡ false
     → now ≡ record log { disk = now.disk; is_stopped = now.is_stopped }

@@ -12,6 +12,7 @@ use Rattle.std.proofs.Common.{
   false,
   List,
   [],
+  ◌∷◌,
   ◌++◌,
   Option,
   Some,
@@ -21,6 +22,8 @@ use Rattle.std.proofs.Common.{
   ap,
   subst,
   arith,
+  append-nil,
+  length-append,
 }
 use Rattle.std.specs.Prelude.{
   ◌||◌,
@@ -79,18 +82,24 @@ use Rattle.clog_store.specs.StoreFolder.{
   log_of,
   no_deeds,
 }
+use Rattle.clog_store.specs.StoreOrder.{AreOrdered, AreSettled}
 use Rattle.clog_store.specs.StoreState.{
   AppendsAlone,
   HasAppended,
   HasGrown,
+  HasOrdered,
   HoldsIt,
   IsStore,
   StoreState,
+  deeds_by,
   holding_of,
   store_over,
   told_as,
 }
+use Rattle.clog_store.proofs.Cuts.{put_none}
 use Rattle.clog_store.proofs.NoteGrows.{added_both, appends_both, no_appends, nothing_added}
+use Rattle.clog_store.proofs.OrderGoes.{ordered_appended}
+use Rattle.clog_store.proofs.OrderSyncs.{GoesOnWith}
 
 -- ---- faults
 
@@ -102,6 +111,14 @@ fault_later was faults now (Err Stopped) cause = elim cause [
   | inl still ↦ omega (arith, still.1)
   | inr rose ↦ rose.1
 ]
+
+-- a log that has not stopped had not before
+pub ran_before : {T : Type 0} (was now : Bool) (before after : ℕ) (r : Result T StoreFault)
+    → HasLogCause was before after r → StopsBy now r → now ≡ false → was ≡ false
+ran_before was now before after (Ok x) cause stops still = cause.0
+ran_before was now before after (Err OutOfMemory) cause stops still = cause.0
+ran_before was now before after (Err Stopped) cause stops still =
+    absurd (true≢false (sym stops ∙ still))
 
 -- none is counted where the disk has not failed
 pub quiet_call : {T : Type 0} (was stopped : Bool) (faults now : ℕ) (r : Result T StoreFault)
@@ -202,6 +219,7 @@ module _ {D : Type 0} (files : D → Option Files) (changes : D → Option (List
             (λ (v : Write). (s : Section) → Contains v.sections s → 0 < length s.payloads)
             (only_one bare w among) (λ s there. absurd (nothing_there s there));
         rise = λ i j d low inside. absurd (omega (arith, inside));
+        below = λ w among. absurd (nothing_there w among);
       }
 
   begun_growth : (log : State D) → log.past ≡ [] → log.sections ≡ []
@@ -229,8 +247,23 @@ module _ {D : Type 0} (files : D → Option Files) (changes : D → Option (List
     };
     no_fewer = omega arith;
     risen = λ stopped. absurd (true≢false (sym stopped ∙ runs));
+    quiet = λ still. refl;
     grown = begun_growth log past none;
     appended = λ alone. record { growth = begun_growth log past none; alone = no_appends };
+    order = record {
+      settled = λ h has put among. absurd (nothing_there put among);
+      ordered = λ still. record {
+        growth = begun_growth log past none;
+        ordered = record {
+          each = λ front rest c is. absurd (omega (
+            arith,
+            ap (λ (l : List Change). length l) is,
+            length-append front (c ∷ rest),
+          ));
+          files = put_none log.id;
+        };
+      };
+    };
     sound = λ still. sound;
     folder = λ still first now is same.
         let fresh : fresh_log log.id ≡ log_of (store_over log sizes archives).notes = λ i. record {
@@ -260,6 +293,18 @@ module _ {D : Type 0} (files : D → Option Files) (changes : D → Option (List
     | inr rose ↦ rose_since (faults s.first) (faults s.notes.log.disk) (faults n.log.disk)
         kept.no_fewer rose.2
   ]
+
+  -- and while it has not, no fault was counted since
+  pub quiet_of : (s : StoreState D) (n : NoteState D) → Keeping s → {T : Type 0}
+      (r : Result T StoreFault)
+      → HasLogCause s.notes.log.is_stopped (faults s.notes.log.disk) (faults n.log.disk) r
+      → StopsBy n.log.is_stopped r → n.log.is_stopped ≡ false
+      → faults n.log.disk ≡ faults s.first
+  quiet_of s n kept r cause stops still =
+      quiet_call s.notes.log.is_stopped n.log.is_stopped (faults s.notes.log.disk)
+      (faults n.log.disk) r cause stops still
+      ∙ kept.quiet (ran_before s.notes.log.is_stopped n.log.is_stopped (faults s.notes.log.disk)
+      (faults n.log.disk) r cause stops still)
 
   module _ (s : StoreState D) (n : NoteState D) (kept : Keeping s)
       (opened : n.log.opened ≡ s.notes.log.opened)
@@ -308,13 +353,40 @@ module _ {D : Type 0} (files : D → Option Files) (changes : D → Option (List
           | inr torn ↦ absurd (true≢false (sym torn.2 ∙ is))
         ]
 
+    -- the changes stay in order
+    ordered_by : s.notes.log.is_stopped ≡ false → GoesOnWith s n
+        → HasOrdered changes (record s { notes = n })
+    unfolding grown_on
+    ordered_by runs on =
+        let h = kept.order.ordered runs in
+        elim h.growth.brought [
+          | inl all ↦ record {
+            growth = grown_on h.growth all;
+            ordered = subst (λ (l : StoreLog).
+                AreOrdered l (deeds_by s) (h.growth.added ++ writes.added))
+                (λ i. record {
+                  base = sym on.base_is i;
+                  past = n.log.past;
+                  id = n.log.id;
+                  sections = n.log.sections;
+                  logged = n.logged;
+                })
+                (ordered_appended (log_of s.notes) (deeds_by s) n.log.past on.more n.log.id
+                n.log.sections n.logged on.run s.files [] s.dropped s.archived on.past_is
+                on.logged_is (sym (append-nil s.files)) on.above on.apart (λ o listed. listed)
+                (λ o listed. listed) h.growth.added writes.added h.ordered writes.appends refl);
+          }
+          | inr torn ↦ absurd (true≢false (sym torn.2 ∙ runs))
+        ]
+
     -- a call of its log of notes
     pub store_on : {T : Type 0} (r : Result T StoreFault)
         → HasLogCause s.notes.log.is_stopped (faults s.notes.log.disk) (faults n.log.disk) r
         → StopsBy n.log.is_stopped r → (n.log.is_stopped ≡ false → IsSound n.log)
         → (n.log.is_stopped ≡ false → HoldsIt files (record s { notes = n }))
+        → AreSettled n s.files → (n.log.is_stopped ≡ false → GoesOnWith s n)
         → Keeping (record s { notes = n })
-    store_on r cause stops sound folder = record {
+    store_on r cause stops sound folder settled on = record {
       opened = opened ∙ kept.opened;
       later = later_still moment read_at lasted_at s.first s.notes.log.disk n.log.disk kept.later
           later;
@@ -324,8 +396,15 @@ module _ {D : Type 0} (files : D → Option Files) (changes : D → Option (List
         fault_later s.notes.log.is_stopped (faults s.notes.log.disk) (faults n.log.disk) r cause,
       );
       risen = rose_of s n kept r cause stops;
+      quiet = quiet_of s n kept r cause stops;
       grown = grown_by s.notes.log.is_stopped refl;
       appended = appended_by s.notes.log.is_stopped refl kept.appended;
+      order = record {
+        settled = settled;
+        ordered = λ still. ordered_by
+            (ran_before s.notes.log.is_stopped n.log.is_stopped (faults s.notes.log.disk)
+            (faults n.log.disk) r cause stops still) (on still);
+      };
       sound = sound;
       folder = folder;
     }

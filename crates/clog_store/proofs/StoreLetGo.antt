@@ -100,7 +100,9 @@ use Rattle.clog_store.proofs.DroppedLists.{
 }
 use Rattle.clog_store.proofs.FolderDue.{covered_due, may_be_dropped}
 use Rattle.clog_store.proofs.FolderGoes.{droppable_there, holds_first_gone}
+use Rattle.clog_store.proofs.GoneCuts.{made_by}
 use Rattle.clog_store.proofs.NotePasses.{passes_same}
+use Rattle.clog_store.proofs.OrderDrops.{order_gone}
 use Rattle.clog_store.proofs.StoreBeside.{
   appended_still,
   dropped_by_none,
@@ -108,7 +110,7 @@ use Rattle.clog_store.proofs.StoreBeside.{
   no_change,
 }
 use Rattle.clog_store.proofs.StoreFolds.{some_told}
-use Rattle.clog_store.proofs.StoreKept.{fault_later, rose_of}
+use Rattle.clog_store.proofs.StoreKept.{fault_later, quiet_of, rose_of}
 
 -- ---- files that are told
 
@@ -333,9 +335,15 @@ module _ {D : Type 0} (files : D → Option Files) (changes : D → Option (List
           );
           risen = rose_of files changes moment faults read_at lasted_at s n kept (fault_of r)
               cause stops;
+          quiet = quiet_of files changes moment faults read_at lasted_at s n kept (fault_of r)
+              cause stops;
           grown = grown_beside changes s.first s.notes.log n.log by_none.0 kept.grown runs same
               by_none.1 by_none.2;
           appended = alone;
+          order = order_gone files changes moment faults read_at lasted_at code s kept runs is
+              closed os due low n notes same count (named_by r) named_only named_inside
+              (made_by s.archives s.notes.base os (changes s.notes.log.disk)
+              (changes n.log.disk) r made);
           sound = λ still. sound_now;
           folder = folder;
         }

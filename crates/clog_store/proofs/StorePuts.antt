@@ -2,8 +2,6 @@
 use Rattle.std.proofs.Common.{
   ◌≡◌,
   ℕ,
-  inl,
-  inr,
   Bool,
   true,
   false,
@@ -35,19 +33,16 @@ use Rattle.clog_disk.specs.declared.change.Change.TheVariants as change
 use Rattle.clog_disk.specs.Files.{Files}
 use Rattle.clog_disk.specs.Images.{IsLater}
 use Rattle.clog_disk.proofs.Moments.{later_still}
-use Rattle.clog_crash.specs.Grown.{Append, appends_of}
 use Rattle.clog_crash.specs.Readings.{Reading}
 use Rattle.clog_crash.specs.Sections.{segment_bytes}
-use Rattle.clog_crash.proofs.counts.Growing.{appends_of-append}
 use Rattle.path_core.specs.declared.keeper.KeeperFault.{KeeperFault}
-use Rattle.path_core.specs.Keys.{after}
 use Rattle.path_core.specs.Keeper.{Holding, IsLoggedCell, MayPublish, PutFile}
 use Rattle.clog_store.specs.declared.written.StoreFault.{StoreFault}
 use Rattle.clog_store.specs.declared.written.StoreFault.TheVariants.{Stopped, OutOfMemory}
-use Rattle.clog_store.specs.Grows.{IsGrown, Writes}
+use Rattle.clog_store.specs.Grows.{Writes}
 use Rattle.clog_store.specs.Life.{ReadsAs, State}
 use Rattle.clog_store.specs.NoteLog.{LeavesOthers, NoteState}
-use Rattle.clog_store.specs.Stepped.{HasLogCause, Passes, StopsBy}
+use Rattle.clog_store.specs.Stepped.{HasLogCause, IsQuiet, Passes, StopsBy}
 use Rattle.clog_store.specs.StoreFolder.{Deeds, HoldsStore, IsSound, StoreLog, log_of}
 use Rattle.clog_store.specs.StoreState.{
   HasGrown,
@@ -55,15 +50,25 @@ use Rattle.clog_store.specs.StoreState.{
   HasReached,
   HoldsIt,
   IsStore,
+  KeepsOrder,
   StoreState,
   deeds_by,
   holding_of,
   told_as,
 }
-use Rattle.clog_store.proofs.NoteGrows.{added_both, grows_same, writes_of}
+use Rattle.clog_store.proofs.NoteGrows.{grows_same, writes_of}
 use Rattle.clog_store.proofs.NotePasses.{passes_runs, passes_same}
+use Rattle.clog_store.proofs.OrderSyncs.{goes_for_none, settled_same}
+use Rattle.clog_store.proofs.StoreBeside.{grown_beside}
 use Rattle.clog_store.proofs.StoreFolds.{folder_with}
-use Rattle.clog_store.proofs.StoreKept.{fault_later, rose_of, store_on}
+use Rattle.clog_store.proofs.StoreKept.{
+  fault_later,
+  quiet_call,
+  quiet_of,
+  ran_before,
+  rose_of,
+  store_on,
+}
 
 -- ---- its log of sections alone has gone on
 
@@ -112,6 +117,22 @@ module _ {D : Type 0} (files : D → Option Files) (changes : D → Option (List
         few = may.few;
       } in
       subst (λ (x : StoreState D). MayPublish (Held x) put) (sym moved) now
+
+-- no fault was counted in a call, or over two
+pub quiet_on : {D T : Type 0} (faults : D → ℕ) (a b : State D) (r : Result T StoreFault)
+    → HasLogCause a.is_stopped (faults a.disk) (faults b.disk) r → StopsBy b.is_stopped r
+    → IsQuiet faults a b
+quiet_on faults a b r cause stops still = (
+  ran_before a.is_stopped b.is_stopped (faults a.disk) (faults b.disk) r cause stops still,
+  quiet_call a.is_stopped b.is_stopped (faults a.disk) (faults b.disk) r cause stops still,
+)
+
+pub quiet_both : {D : Type 0} (faults : D → ℕ) (a b c : State D) → IsQuiet faults a b
+    → IsQuiet faults b c → IsQuiet faults a c
+quiet_both faults a b c first next still =
+    let then = next still in
+    let before = first then.0 in
+    (before.0, then.1 ∙ before.1)
 
 -- what it has in mind of its log stays
 pub as_passed : {D T : Type 0} (s : NoteState D) (l : State D) (r : Result T StoreFault)
@@ -171,6 +192,9 @@ module _ {D : Type 0} (files : D → Option Files) (changes : D → Option (List
       (λ still first now is here.
       subst (λ (x : StoreLog). HoldsStore first x (deeds_by s) now) (sym same_mind)
       (kept.folder (was_running still) first now is (sym (same still) ∙ here)))
+      (settled_same s.notes n s.files refl refl refl kept.order.settled)
+      (λ still. goes_for_none s n [] refl
+      (ap (λ (x : State D). x.past) same_log ∙ sym (append-nil s.notes.log.past)) refl)
 
   -- a table file was put
   module _ (runs : s.notes.log.is_stopped ≡ false) (put : PutFile) (name bytes : List ℕ)
@@ -178,28 +202,13 @@ module _ {D : Type 0} (files : D → Option Files) (changes : D → Option (List
       (changes s.notes.log.disk)) where
     grown_put : HasGrown changes s.first l
     grown_put =
-        let h = kept.grown in
-        let last = change.Publish name bytes ∷ [] in
-        let same : appends_of (h.added ++ last) ≡ appends_of h.added =
-        appends_of-append h.added last ∙ append-nil (appends_of h.added) in
-        record {
-          added = h.added ++ last;
-          changes_are = adds ∙ ap (option_map (λ made. made ++ last)) h.changes_are
-              ∙ added_both (changes s.first) h.added last;
-          part = h.part;
-          brought = elim h.brought [
-            | inl all ↦ inl (ap (λ (x : State D). x.sections) same_log ∙ all)
-            | inr torn ↦ absurd (true≢false (sym torn.2 ∙ runs))
-          ];
-          grown = subst (λ (x : State D). IsGrown (appends_of (h.added ++ last)) x.past x.id h.part)
-              (sym same_log)
-              (subst (λ (made : List Append). IsGrown made s.notes.log.past s.notes.log.id h.part)
-              (sym same) h.grown);
-        }
+        grown_beside changes s.first s.notes.log l (change.Publish name bytes ∷ []) kept.grown runs
+        same_log adds refl
 
     pub store_put : (l.is_stopped ≡ false → HoldsIt files (with_files (s.files ++ put ∷ [])))
+        → KeepsOrder changes (with_files (s.files ++ put ∷ []))
         → Keeping (with_files (s.files ++ put ∷ []))
-    store_put folder = record {
+    store_put folder order = record {
       opened = ap (λ (x : State D). x.opened) same_log ∙ kept.opened;
       later = later_still moment read_at lasted_at s.first s.notes.log.disk l.disk kept.later later;
       no_fewer = omega (
@@ -208,24 +217,19 @@ module _ {D : Type 0} (files : D → Option Files) (changes : D → Option (List
         fault_later s.notes.log.is_stopped (faults s.notes.log.disk) (faults l.disk) r cause,
       );
       risen = rose_of files changes moment faults read_at lasted_at s n kept r cause stops;
+      quiet = quiet_of files changes moment faults read_at lasted_at s n kept r cause stops;
       grown = grown_put;
       appended = λ none. absurd (omega (
         arith,
         length-append s.files (put ∷ []),
         ap (λ (d : Deeds). length d.files) none,
       ));
+      order = order;
       sound = sound_still;
       folder = folder;
     }
 
 -- ---- its log goes on in a later segment
-
-pub ran_before : {T : Type 0} (was now : Bool) (before after : ℕ) (r : Result T StoreFault)
-    → HasLogCause was before after r → StopsBy now r → now ≡ false → was ≡ false
-ran_before was now before after (Ok x) cause stops still = cause.0
-ran_before was now before after (Err OutOfMemory) cause stops still = cause.0
-ran_before was now before after (Err Stopped) cause stops still =
-    absurd (true≢false (sym stops ∙ still))
 
 module _ {D : Type 0} (files : D → Option Files) (changes : D → Option (List Change))
     (moment faults : D → ℕ) (read_at : D → ℕ → Option Reading) (lasted_at : D → ℕ → Type 0)
@@ -253,6 +257,11 @@ module _ {D : Type 0} (files : D → Option Files) (changes : D → Option (List
       (ap (λ (x : NoteState D). x.base) same)
       (ap (λ (x : NoteState D). x.logged) same ∙ sym (append-nil s.notes.logged))
       (λ m among. absurd (nothing_there m among)))
+      (settled_same s.notes n s.files (ap (λ (x : NoteState D). x.sizes) same)
+      (ap (λ (x : NoteState D). x.logged) same) (ap (λ (x : NoteState D). x.synced) same)
+      kept.order.settled)
+      (λ still. goes_for_none s n (others still).more (ap (λ (x : NoteState D). x.base) same)
+      (others still).past (ap (λ (x : NoteState D). x.logged) same))
 
 -- ---- what a path is told
 

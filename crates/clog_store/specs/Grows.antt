@@ -49,7 +49,8 @@ abbrev pub IsLower : Write → Write → Type 0
 IsLower a b = a.id < b.id
 
 -- The appends have brought just the bytes of these segments, and none to another name. Each section
--- has an entry, and the earlier segments stand in the order of their ids.
+-- has an entry, and the segments stand in the order of their ids: the earlier ones, and behind them
+-- the one at hand.
 pub record IsGrown (appends : List Append) (past : List Write) (id : ℕ) (sections : List Section)
     : Type 0 where
   pub each : (w : Write) → Contains (segments_with past id sections) w
@@ -59,6 +60,7 @@ pub record IsGrown (appends : List Append) (past : List Write) (id : ℕ) (secti
       × (a.0 ≡ segment_name_of 6 w.id)
   pub filled : AreFilled (segments_with past id sections)
   pub rise : AllPairs IsLower past
+  pub below : (w : Write) → Contains past w → w.id < id
 
 -- The disk has made further changes, which are appends. Where those before had brought just the
 -- log's sections, they have now too.

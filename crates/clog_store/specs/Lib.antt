@@ -19,4 +19,6 @@ pub mod Several
 pub mod Stepped
 pub mod StoreDrops
 pub mod StoreFolder
+pub mod StoreOrder
 pub mod StoreState
+pub mod WorkedOrder

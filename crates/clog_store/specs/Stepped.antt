@@ -90,6 +90,12 @@ HasLogCause was_stopped faults now (Err Stopped) =
     ((was_stopped ≡ true) × (now ≡ faults))
     ⊎ ((was_stopped ≡ false) × (faults ≤ now) × Rose faults now)
 
+-- Where it has not stopped, it had not before, and its disk has counted no fault in between.
+abbrev pub IsQuiet : {D : Type 0} → (D → ℕ) → State D → State D → Type 0
+IsQuiet faults before now =
+    now.is_stopped ≡ false
+    → (before.is_stopped ≡ false) × (faults now.disk ≡ faults before.disk)
+
 -- It has stopped exactly where the answer says so.
 abbrev pub StopsBy : {T : Type 0} → Bool → Result T StoreFault → Type 0
 StopsBy is_stopped (Ok done) = is_stopped ≡ false

@@ -49,6 +49,7 @@ use Rattle.clog_store.specs.StoreFolder.{
   log_of,
   no_deeds,
 }
+use Rattle.clog_store.specs.StoreOrder.{AreOrdered, AreSettled}
 
 -- A store: its log of notes; whether it archives; the disk at its opening, when recovery was done;
 -- and the table files that it put, the ordinals of the segments that it dropped, and of those that
@@ -118,6 +119,19 @@ abbrev pub AppendsAlone : {D : Type 0} → (D → Option (List Change)) → Stor
 AppendsAlone changes s =
     deeds_by s ≡ no_deeds s.archives → HasAppended changes s.first s.notes.log
 
+-- The disk's further changes stand in order.
+pub record HasOrdered {D : Type 0} (changes : D → Option (List Change)) (s : StoreState D)
+    : Type 0 where
+  pub growth : HasGrown changes s.first s.notes.log
+  pub ordered : AreOrdered (log_of s.notes) (deeds_by s) growth.added
+
+-- What it keeps of the order: the files that it put are settled, and until the disk has failed its
+-- changes stand in order.
+pub record KeepsOrder {D : Type 0} (changes : D → Option (List Change)) (s : StoreState D)
+    : Type 0 where
+  pub settled : AreSettled s.notes s.files
+  pub ordered : s.notes.log.is_stopped ≡ false → HasOrdered changes s
+
 -- Where its disk tells its files, the folder is that of the store.
 abbrev pub HoldsIt : {D : Type 0} → (D → Option Files) → StoreState D → Type 0
 HoldsIt files s =
@@ -132,8 +146,10 @@ pub record IsStore {D : Type 0} (files : D → Option Files) (changes : D → Op
   pub later : IsLater moment read_at lasted_at s.first s.notes.log.disk
   pub no_fewer : faults s.first ≤ faults s.notes.log.disk
   pub risen : s.notes.log.is_stopped ≡ true → Rose (faults s.first) (faults s.notes.log.disk)
+  pub quiet : s.notes.log.is_stopped ≡ false → faults s.notes.log.disk ≡ faults s.first
   pub grown : HasGrown changes s.first s.notes.log
   pub appended : AppendsAlone changes s
+  pub order : KeepsOrder changes s
   -- until the disk has failed
   pub sound : s.notes.log.is_stopped ≡ false → IsSound s.notes.log
   pub folder : s.notes.log.is_stopped ≡ false → HoldsIt files s

@@ -39,6 +39,7 @@ ghost use Rattle.clog_store.specs.Stepped.{HasLogCause, StopsBy};
 mod dropping;
 mod going;
 mod putting;
+mod telling;
 
 use crate::note_order::{drop_front, part_at};
 use crate::note_sections::copies_of;

@@ -5,8 +5,11 @@
 //! only where the disk's count of faults has risen since, and that the appends since have brought
 //! just the sections of its log, so that the log holds each entry once. Until it has put a file or
 //! dropped a segment, the changes since are appends alone. Until the disk has failed its folder
-//! holds just what the store wrote, and what was there at the opening.
-ghost use Rattle.std.specs.Prelude.{◌≡◌, ◌<◌, ◌^◌, [], IfErr, IfOk, Some, false};
+//! holds just what the store wrote, and what was there at the opening, the changes since stand in
+//! order (a table file behind the log up to its end, a segment's removal behind its table files),
+//! and the disk has counted no fault since the opening.
+ghost use Rattle.std.specs.Prelude.{◌≡◌, ◌<◌, ◌≤◌, ◌^◌, [], IfErr, IfOk, Some, false, true};
+ghost use Rattle.clog_io.specs.Causes.{Rose};
 ghost use Rattle.clog_disk.specs.Files.{Files, SameTold, Told};
 ghost use Rattle.clog_disk.specs.Images.{IsLater, LastsAll, LeavesOnly};
 ghost use Rattle.clog_folder.specs.Passing.{IsUntouched, TellsFault};
@@ -23,20 +26,24 @@ ghost use Rattle.clog_store.specs.Opened.{
 };
 ghost use Rattle.clog_store.specs.NoteLog.{IsNoteLog};
 ghost use Rattle.clog_store.specs.StoreFolder.{HoldsStore, IsSound, fresh_log, no_deeds};
+ghost use Rattle.clog_store.specs.StoreOrder.{AreSettled};
 ghost use Rattle.clog_store.specs.StoreState.{
   AppendsAlone,
   HandsOver,
   HasGrown,
+  HasOrdered,
   HoldsIt,
   holding_of,
   store_over,
   told_as,
 };
 
+mod crossing;
 mod discarding;
 mod keeping;
 mod putting;
 mod syncing;
+mod telling;
 
 use crate::note_log::NoteLog;
 use crate::publishing::Published;
@@ -46,6 +53,7 @@ use clog_base::Sizes;
 use clog_cells::CellMap;
 use clog_disk::Disk;
 use clog_folder::OpenFault;
+pub use crossing::a_store_crosses_threads;
 use path_core::KeeperFault;
 use std::alloc::Global;
 use std::marker::Model;
@@ -150,9 +158,10 @@ impl<D: Disk> Store<D> {
         }
     }
 
-    /// Opens a folder: it is read and recovered, and the store's log goes on at the base, which is
-    /// the moment or one more than the greatest id that the folder named. The moment is one in
-    /// milliseconds. For each refusal see `recover`; the disk comes back then.
+    /// Opens a folder (Cassandra's `CommitLog.recoverSegmentsOnDisk`): it is read and recovered, and
+    /// the store's log goes on at the base, which is the moment or one more than the greatest id
+    /// that the folder named. The moment is one in milliseconds. For each refusal see `recover`; the
+    /// disk comes back then.
     ///
     /// Whatever is answered, the folder restores the same, and so does each image of a crash
     /// meanwhile where all that was there lasted before; then all lasts at the opening too.
@@ -210,13 +219,22 @@ impl<D: Disk> Store<D> {
     /// Gives the disk back. The appends since the opening have brought just the log's sections, and
     /// where all lasted at the opening, each image since restores what the folder restored then and
     /// the first of the entries, and each image of now all that last. A store that has put no file
-    /// and dropped no segment has appended alone.
+    /// and dropped no segment has appended alone. Unless the disk has failed its changes stand in
+    /// order: a table file behind the log up to its end, and a segment that goes behind the table
+    /// files that stand for it. Where the store has not stopped, the disk has counted no fault since
+    /// the opening; else the count has risen, or stands at the greatest `u64`.
     pub fn into_disk(self) -> D
         ensures disk { result ≡ self.notes.log.disk }
         ensures opened { self.notes.log.opened ≡ D.moment self.first }
         ensures later { IsLater D.moment D.read_at D.lasted_at self.first result }
+        ensures no_fewer { D.faults self.first ≤ D.faults result }
+        ensures quiet { self.notes.log.is_stopped ≡ false → D.faults result ≡ D.faults self.first }
+        ensures risen { self.notes.log.is_stopped ≡ true
+            → Rose (D.faults self.first) (D.faults result) }
         ensures grown { HasGrown D.changes self.first self.notes.log }
         ensures alone { AppendsAlone D.changes self }
+        ensures settled { AreSettled self.notes self.files }
+        ensures ordered { self.notes.log.is_stopped ≡ false → HasOrdered D.changes self }
         ensures notes { IsNoteLog self.notes }
         ensures stored { IsStored self.notes.log.id self.notes.log.sections }
         ensures sound { self.notes.log.is_stopped ≡ false → IsSound self.notes.log }

@@ -117,6 +117,39 @@ fn fault_of(outcome: Result<(), DropFault>) -> Result<(), StoreFault>
 }
 
 impl<D: Disk> Store<D> {
+    // The segments that are due. The memory for their numbers is taken here, before the disk is
+    // called.
+    fn due_below(&mut self, closed: u32) -> Result<Vec<u64>, OutOfMemory>
+        ensures due { IfOk result (λ due. AreDueIn self.old closed due.items) }
+        ensures same { self.new ≡ self.old }
+    {
+        let files = intervals_of(self.notes.alloc(), &self.files)?;
+        let due = self.notes.due(&files, &self.dropped, closed)?;
+        make_room(&mut self.dropped, &mut self.archived, due.len())?;
+        Ok(due)
+    }
+
+    // Where the segment at hand is among those that are due, the log goes on behind it.
+    fn go_behind(&mut self, due: &[u64]) -> Result<(), StoreFault>
+        requires runs { self.old.notes.log.is_stopped ≡ false }
+        requires due { (closed : ℕ) × AreDueIn self.old closed due.now }
+        ensures earlier { OnOk result (AreEarlier self.new.notes due.now) }
+        ensures moved { HasMoved self.old self.new }
+        ensures later { IsLater D.moment D.read_at D.lasted_at self.old.notes.log.disk
+            self.new.notes.log.disk }
+        ensures cause { HasLogCause self.old.notes.log.is_stopped
+            (D.faults self.old.notes.log.disk) (D.faults self.new.notes.log.disk) result }
+        ensures stops { StopsBy self.new.notes.log.is_stopped result }
+        ensures lives { Lives D.files D.moment D.since D.leaves D.read_at D.lasted_at
+            self.old.notes.log
+            → LivesOn D.files D.moment D.since D.leaves D.read_at D.lasted_at self.old.notes.log
+            self.new.notes.log }
+    {
+        let outcome = self.notes.go_behind(due);
+        self.notes.tell();
+        outcome
+    }
+
     // The segments that are due, all of them older than the one at hand: where that is due itself,
     // the log goes on behind it first.
     fn due_behind(&mut self, closed: u32) -> Result<Vec<u64>, StoreFault>
@@ -134,11 +167,8 @@ impl<D: Disk> Store<D> {
             → LivesOn D.files D.moment D.since D.leaves D.read_at D.lasted_at self.old.notes.log
             self.new.notes.log }
     {
-        let files = intervals_of(self.notes.alloc(), &self.files)?;
-        let due = self.notes.due(&files, &self.dropped, closed)?;
-        let outcome = self.notes.go_behind(&due);
-        self.notes.tell();
-        outcome?;
+        let due = self.due_below(closed)?;
+        self.go_behind(&due)?;
         Ok(due)
     }
 
@@ -215,9 +245,15 @@ impl<D: Disk> Store<D> {
     }
 
     /// Drops the segments of ordinals below `closed` that are due, and answers how many: what a
-    /// keeper's `discard` does. Where the store's log lived, it lives on, and what lasted before is
-    /// in each image of a crash meanwhile. Where the segment at hand is due, the log goes on behind
-    /// it, and that stands where its removal is refused.
+    /// keeper's `discard` does (Cassandra's `CommitLog.discardCompletedSegments`, and
+    /// `CommitLogArchiver` where the store archives). Where the store's log lived, it lives on, and
+    /// what lasted before is in each image of a crash meanwhile. Where the segment at hand is due,
+    /// the log goes on behind it, and that stands where its removal is refused.
+    ///
+    /// After an error the first of them have gone, and the next one may have its archive name.
+    /// `Stopped`: the disk has failed, in this call or in an earlier one, with its counts of faults
+    /// at the opening and now. `OutOfMemory`: memory was refused; that for the numbers of segments
+    /// is taken before the disk is called. The call may be made again.
     pub fn drop_due(&mut self, closed: u32) -> Result<u32, KeeperFault>
         ensures drops { IfOk result (Drops
             (holding_of D.files D.changes D.moment D.faults D.row.coded.code self.old)
@@ -228,6 +264,8 @@ impl<D: Disk> Store<D> {
         ensures cause { HasKeeperCause
             (holding_of D.files D.changes D.moment D.faults D.row.coded.code self.old)
             (holding_of D.files D.changes D.moment D.faults D.row.coded.code self.new) result }
+        ensures quiet { self.new.notes.log.is_stopped ≡ false
+            → D.faults self.new.notes.log.disk ≡ D.faults self.old.notes.log.disk }
         ensures first { self.new.first ≡ self.old.first }
         ensures later { IsLater D.moment D.read_at D.lasted_at self.old.notes.log.disk
             self.new.notes.log.disk }

@@ -12,6 +12,7 @@ ghost use Rattle.clog_store.specs.Life.{Lives, LivesOn};
 ghost use Rattle.clog_store.specs.NoteLog.{IsNoteLog};
 ghost use Rattle.clog_store.specs.NoteSteps.{GoesOn};
 ghost use Rattle.clog_store.specs.Publishes.{IsNextSequence};
+ghost use Rattle.clog_store.specs.Stepped.{IsQuiet};
 ghost use Rattle.clog_store.specs.StoreState.{
   HasMoved,
   HasReached,
@@ -35,6 +36,7 @@ impl<D: Disk> Store<D> {
         ensures far { OnOk result (HasReached self.new.notes upper.0) }
         ensures goes { GoesOn D.files D.moment D.since D.leaves D.read_at D.lasted_at
             self.old.notes.log self.new.notes.log }
+        ensures quiet { IsQuiet D.faults self.old.notes.log self.new.notes.log }
         ensures cause { HasKeeperCause
             (holding_of D.files D.changes D.moment D.faults D.row.coded.code self.old)
             (holding_of D.files D.changes D.moment D.faults D.row.coded.code self.new) result }
@@ -52,6 +54,7 @@ impl<D: Disk> Store<D> {
             → OnOk result (HasReached self.new.notes key) }
         ensures goes { GoesOn D.files D.moment D.since D.leaves D.read_at D.lasted_at
             self.old.notes.log self.new.notes.log }
+        ensures quiet { IsQuiet D.faults self.old.notes.log self.new.notes.log }
         ensures cause { HasKeeperCause
             (holding_of D.files D.changes D.moment D.faults D.row.coded.code self.old)
             (holding_of D.files D.changes D.moment D.faults D.row.coded.code self.new) result }
@@ -82,6 +85,7 @@ impl<D: Disk> Store<D> {
         ensures first { self.new.first ≡ self.old.first }
         ensures goes { GoesOn D.files D.moment D.since D.leaves D.read_at D.lasted_at
             self.old.notes.log self.new.notes.log }
+        ensures quiet { IsQuiet D.faults self.old.notes.log self.new.notes.log }
         ensures cause { HasKeeperCause
             (holding_of D.files D.changes D.moment D.faults D.row.coded.code self.old)
             (holding_of D.files D.changes D.moment D.faults D.row.coded.code self.new) result }
@@ -100,8 +104,14 @@ impl<D: Disk> Store<D> {
     }
 
     /// Puts a table file for the entries of the table that end above `lower` and not above `upper`:
-    /// what a keeper's `publish` does. Where the store's log lived, it lives on, and what lasted
-    /// before is in each image of a crash meanwhile.
+    /// what a keeper's `publish` does (Cassandra's `Memtable.FlushRunnable`, up to the SSTable that
+    /// stands in place). Both are keys: a segment's ordinal and an offset in it, in bytes. Where the
+    /// store's log lived, it lives on, and what lasted before is in each image of a crash meanwhile.
+    ///
+    /// After an error no file counts as put. `Stopped`: the disk has failed, in this call or in an
+    /// earlier one, with its counts of faults at the opening and now; the file may be there.
+    /// `OutOfMemory`: memory was refused, or no name can have the next sequence of the table; no
+    /// file is there, and the call may be made again.
     pub fn put_table(
         &mut self,
         table: Table,
@@ -135,6 +145,8 @@ impl<D: Disk> Store<D> {
         ensures cause { HasKeeperCause
             (holding_of D.files D.changes D.moment D.faults D.row.coded.code self.old)
             (holding_of D.files D.changes D.moment D.faults D.row.coded.code self.new) result }
+        ensures quiet { self.new.notes.log.is_stopped ≡ false
+            → D.faults self.new.notes.log.disk ≡ D.faults self.old.notes.log.disk }
         ensures first { self.new.first ≡ self.old.first }
         ensures later { IsLater D.moment D.read_at D.lasted_at self.old.notes.log.disk
             self.new.notes.log.disk }

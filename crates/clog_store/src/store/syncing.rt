@@ -12,8 +12,14 @@ use path_core::{EntryNote, KeeperFault};
 
 impl<D: Disk> Store<D> {
     /// Makes all pending entries up to a key lasting, and keeps the others pending: what a keeper's
-    /// `sync` does. Where the store's log lived, it lives on, and what lasted before is in each
-    /// image of a crash meanwhile.
+    /// `sync` does (Cassandra's `CommitLog.sync`, which writes a `SyncSegment` for each section). A
+    /// key is a segment's ordinal and an offset in it, in bytes. Where the store's log lived, it
+    /// lives on, and what lasted before is in each image of a crash meanwhile.
+    ///
+    /// After an error all are pending as before. `Stopped`: the disk has failed, in this call or in
+    /// an earlier one; it has the disk's counts of faults at the opening and now, and each later call
+    /// answers so. `OutOfMemory`: memory was refused; the sections that the disk took stay, and the
+    /// call may be made again.
     pub fn make_lasting(
         &mut self,
         pending: &mut Vec<EntryNote>,

@@ -1,6 +1,7 @@
 use Rattle.std.proofs.Common.{ℕ, sym, ◌∙◌, ap₂, subst}
 use Rattle.path_core.specs.Keeper.{HasKeeperCause}
 use Rattle.clog_store.specs.NoteLog.{NoteState}
+use Rattle.clog_store.specs.Stepped.{IsQuiet}
 use Rattle.clog_store.specs.StoreState.{
   HasMoved,
   HasReached,
@@ -10,7 +11,14 @@ use Rattle.clog_store.specs.StoreState.{
   told_as,
 }
 use Rattle.clog_store.proofs.StoreKept.{keeper_cause, rose_of}
-use Rattle.clog_store.proofs.StorePuts.{far_still, if_told, on_any, on_told, store_still}
+use Rattle.clog_store.proofs.StorePuts.{
+  far_still,
+  if_told,
+  on_any,
+  on_told,
+  quiet_on,
+  store_still,
+}
 use Rattle.clog_store.proofs.store.Store.next_sequence.Goals as goal
 
 pub invariant_of-self : goal.invariant_of-self
@@ -117,3 +125,12 @@ returns-clause-far g c key far =
     on_told (HasReached n key) (D.faults i.first.value) (D.faults n.log.disk)
     c.next_sequence-outcome.result c.told.result says
     (on_any c.next_sequence-outcome.result there)
+
+pub returns-clause-quiet : goal.returns-clause-quiet
+returns-clause-quiet g c =
+    let D = g.D.Disk in
+    let log = c.self.inside.notes.log in
+    let is = c.next_sequence-outcome.ensures in
+    let n = c.next_sequence-outcome.new.self in
+    subst (λ (x : StoreState g.row.D.Denot). IsQuiet D.faults x.notes.log n.log) c.self.view_is
+    (quiet_on D.faults log n.log c.next_sequence-outcome.result is.cause is.stops)

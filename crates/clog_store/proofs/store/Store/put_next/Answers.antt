@@ -4,7 +4,7 @@ use Rattle.clog_store.specs.NoteLog.{IsNoteLog, NoteState}
 use Rattle.clog_store.specs.NoteSteps.{GoesOn}
 use Rattle.std.specs.Prelude.{Err}
 use Rattle.clog_store.specs.Publishes.{IsNextSequence}
-use Rattle.clog_store.specs.Stepped.{StopsBy}
+use Rattle.clog_store.specs.Stepped.{IsQuiet, StopsBy}
 use Rattle.clog_store.specs.StoreState.{
   HasReached,
   IsStore,
@@ -13,8 +13,10 @@ use Rattle.clog_store.specs.StoreState.{
   put_of,
 }
 use Rattle.clog_store.proofs.NoteGoes.{goes_still}
+use Rattle.clog_store.proofs.NotePasses.{passes_same}
+use Rattle.clog_store.proofs.OrderPuts.{order_put}
 use Rattle.clog_store.proofs.StoreFiles.{folder_put, has_log, may_be_put, numbered}
-use Rattle.clog_store.proofs.StorePuts.{as_passed, at_memory, store_put, store_still}
+use Rattle.clog_store.proofs.StorePuts.{as_passed, at_memory, quiet_on, store_put, store_still}
 use Rattle.clog_store.proofs.store.Store.put_next.Goals as goal
 
 pub returns-in_err-reserve-clause-goes : goal.returns-in_err-reserve-clause-goes
@@ -157,5 +159,27 @@ invariant_of-self-in-Ok g c =
           (λ still. folder_put D.files D.changes D.moment D.faults D.read_at D.lasted_at
           g.row.D.coded.code g.met.D.Disk.tells_both s c.self.invariant.1 runs noted c.args.file
           c.args.cells.now may c.args.sequence next far n.log come is.told
-          (as_passed s.notes n.log c.put.result is.passes)))),
+          (as_passed s.notes n.log c.put.result is.passes))
+          (order_put D.files D.changes D.moment D.faults D.read_at D.lasted_at g.row.D.coded.code s
+          c.self.invariant.1 runs noted c.args.file c.args.cells.now may c.args.sequence next.starts
+          next.fits n.log (passes_same s.notes n.log c.put.result is.passes)
+          (as_passed s.notes n.log c.put.result is.passes) come.bytes come.spelled come.adds))),
     )
+
+pub returns-in-Ok-clause-quiet : goal.returns-in-Ok-clause-quiet
+returns-in-Ok-clause-quiet g c =
+    let D = g.D.Disk in
+    let log = c.self.inside.notes.log in
+    let is = c.put.ensures in
+    let n = c.put.new.self in
+    subst (λ (x : StoreState g.row.D.Denot). IsQuiet D.faults x.notes.log n.log) c.self.view_is
+    (quiet_on D.faults log n.log c.put.result is.cause is.stops)
+
+pub returns-in-Err-clause-quiet : goal.returns-in-Err-clause-quiet
+returns-in-Err-clause-quiet g c =
+    let D = g.D.Disk in
+    let log = c.self.inside.notes.log in
+    let is = c.put.ensures in
+    let n = c.put.new.self in
+    subst (λ (x : StoreState g.row.D.Denot). IsQuiet D.faults x.notes.log n.log) c.self.view_is
+    (quiet_on D.faults log n.log c.put.result is.cause is.stops)

@@ -1,5 +1,5 @@
 use Rattle.clog_store.proofs.NoteGoes.{goes_then}
-use Rattle.clog_store.proofs.StorePuts.{may_moved, moved_both}
+use Rattle.clog_store.proofs.StorePuts.{may_moved, moved_both, quiet_both}
 use Rattle.clog_store.proofs.store.Store.put_table.Goals as goal
 
 pub put_next-requires-clause-may : goal.put_next-requires-clause-may
@@ -26,3 +26,16 @@ returns-clause-lives g c =
     (goes_then D.files D.moment D.since D.leaves D.read_at D.lasted_at c.args.self.now.notes.log
     c.reach.new.self.notes.log c.next_sequence.new.self.notes.log c.reach.ensures.goes
     c.next_sequence.ensures.goes) c.put_next.ensures.goes).lives
+
+pub returns-in_err-sequence-clause-quiet : goal.returns-in_err-sequence-clause-quiet
+returns-in_err-sequence-clause-quiet g c still =
+    (quiet_both g.D.Disk.faults c.args.self.now.notes.log c.reach.new.self.notes.log
+    c.next_sequence.new.self.notes.log c.reach.ensures.quiet c.next_sequence.ensures.quiet still).1
+
+pub returns-clause-quiet : goal.returns-clause-quiet
+returns-clause-quiet g c still =
+    let faults = g.D.Disk.faults in
+    let log = c.args.self.now.notes.log in
+    (quiet_both faults log c.next_sequence.new.self.notes.log c.put_next.new.self.notes.log
+    (quiet_both faults log c.reach.new.self.notes.log c.next_sequence.new.self.notes.log
+    c.reach.ensures.quiet c.next_sequence.ensures.quiet) c.put_next.ensures.quiet still).1

@@ -1,8 +1,9 @@
 use Rattle.std.proofs.Common.{ℕ, sym, ◌∙◌, ap₂, subst}
 use Rattle.path_core.specs.Keeper.{HasKeeperCause}
+use Rattle.clog_store.specs.Stepped.{IsQuiet}
 use Rattle.clog_store.specs.StoreState.{HasMoved, StoreState, holding_of, told_as}
 use Rattle.clog_store.proofs.StoreKept.{keeper_cause, rose_of}
-use Rattle.clog_store.proofs.StorePuts.{on_told, store_gone_on}
+use Rattle.clog_store.proofs.StorePuts.{on_told, quiet_on, store_gone_on}
 use Rattle.clog_store.proofs.store.Store.reach.Goals as goal
 
 pub invariant_of-self : goal.invariant_of-self
@@ -89,3 +90,12 @@ returns-clause-cause g c =
     (keeper_cause (holding_of D.files D.changes D.moment D.faults g.row.D.coded.code s)
     (holding_of D.files D.changes D.moment D.faults g.row.D.coded.code now)
     c.reach-outcome.result is.cause is.stops risen c.fault_count.ensures.fits))
+
+pub returns-clause-quiet : goal.returns-clause-quiet
+returns-clause-quiet g c =
+    let D = g.D.Disk in
+    let log = c.self.inside.notes.log in
+    let is = c.reach-outcome.ensures in
+    let n = c.reach-outcome.new.self in
+    subst (λ (x : StoreState g.row.D.Denot). IsQuiet D.faults x.notes.log n.log) c.self.view_is
+    (quiet_on D.faults log n.log c.reach-outcome.result is.cause is.stops)

@@ -1,0 +1,74 @@
+use Rattle.std.proofs.Common.{◌≡◌, ◌∙◌, [], false, refl, sym, ap, subst, append-nil}
+use Rattle.std.proofs.lemmas.Bool.{true≢false}
+use Rattle.clog_base.proofs.Members.{nothing_there}
+use Rattle.clog_store.specs.NoteLog.{HasLog, NoteState}
+use Rattle.clog_store.specs.StoreDrops.{AreDueIn}
+use Rattle.clog_store.specs.StoreState.{StoreState, holding_of}
+use Rattle.clog_store.proofs.OrderSyncs.{goes_for_none, settled_same}
+use Rattle.clog_store.proofs.StoreFolds.{folder_with}
+use Rattle.clog_store.proofs.StoreKept.{store_on}
+use Rattle.clog_store.proofs.store.Store.go_behind.Goals as goal
+
+pub go_behind-outcome-requires-clause-due : goal.go_behind-outcome-requires-clause-due
+go_behind-outcome-requires-clause-due g c =
+    let D = g.D.Disk in
+    let i = c.self.inside in
+    let s : StoreState g.row.D.Denot = record {
+      notes = i.notes;
+      archives = i.archives;
+      first = i.first.value;
+      files = i.files.items;
+      dropped = i.dropped.items;
+      archived = i.archived.items;
+    } in
+    let h = holding_of D.files D.changes D.moment D.faults g.row.D.coded.code s in
+    let has : HasLog i.notes h = record {
+      base_is = refl;
+      sizes_are = refl;
+      synced_is = refl;
+      logged_are = refl;
+      kept_are = refl;
+    } in
+    let due = subst (λ (x : StoreState g.row.D.Denot). AreDueIn x c.requires.due.0 c.args.due.now)
+    (sym c.self.view_is) c.requires.due.1 in (
+      h,
+      c.requires.due.0,
+      has,
+      due h (record { log = has; files_are = refl; dropped_are = refl }),
+    )
+
+pub invariant_of-self : goal.invariant_of-self
+invariant_of-self g c =
+    let D = g.D.Disk in
+    let i = c.self.inside in
+    let s : StoreState g.row.D.Denot = record {
+      notes = i.notes;
+      archives = i.archives;
+      first = i.first.value;
+      files = i.files.items;
+      dropped = i.dropped.items;
+      archived = i.archived.items;
+    } in
+    let is = c.go_behind-outcome.ensures in
+    let n = c.go_behind-outcome.new.self in
+    let told = c.tell.ensures in
+    let runs = subst (λ (x : StoreState g.row.D.Denot). x.notes.log.is_stopped ≡ false)
+    (sym c.self.view_is) c.requires.runs in (
+      c.self.invariant.0,
+      store_on D.files D.changes D.moment D.faults D.read_at D.lasted_at s n c.self.invariant.1
+          is.opened is.later is.writes
+          (λ stopped. absurd (true≢false (sym stopped ∙ runs))) c.go_behind-outcome.result is.cause
+          is.stops told.sound
+          (λ still. folder_with D.files D.changes D.moment D.faults D.read_at D.lasted_at
+          g.row.D.coded.code g.met.D.Disk.tells_both s n c.self.invariant.1 is.writes is.others
+          told.sound told.reads runs still []
+          (ap (λ (x : NoteState g.row.D.Denot). x.base) is.same)
+          (ap (λ (x : NoteState g.row.D.Denot). x.logged) is.same
+          ∙ sym (append-nil s.notes.logged)) (λ m among. absurd (nothing_there m among)))
+          (settled_same s.notes n s.files (ap (λ (x : NoteState g.row.D.Denot). x.sizes) is.same)
+          (ap (λ (x : NoteState g.row.D.Denot). x.logged) is.same)
+          (ap (λ (x : NoteState g.row.D.Denot). x.synced) is.same) c.self.invariant.1.order.settled)
+          (λ still. goes_for_none s n (is.others still).more
+          (ap (λ (x : NoteState g.row.D.Denot). x.base) is.same) (is.others still).past
+          (ap (λ (x : NoteState g.row.D.Denot). x.logged) is.same)),
+    )

@@ -1,0 +1,23 @@
+//! What a log of notes tells of itself: its sizes, and the entries that it has made lasting.
+ghost use Rattle.std.specs.Prelude.{◌≡◌};
+
+use crate::note_log::NoteLog;
+use clog_base::Sizes;
+use clog_disk::Disk;
+use path_core::EntryNote;
+
+impl<D: Disk> NoteLog<D> {
+    /// The sizes that its path was laid out for: tables, writers, bytes of a segment, segments.
+    pub fn sizes(&self) -> Sizes
+        ensures { result ≡ self.now.sizes }
+    {
+        self.sizes
+    }
+
+    /// The entries that are lasting, in the order of the log.
+    pub fn logged(&self) -> &[EntryNote]
+        ensures { result.now ≡ self.now.logged }
+    {
+        &self.logged
+    }
+}
