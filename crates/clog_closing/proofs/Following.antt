@@ -4,6 +4,7 @@ use Rattle.std.proofs.Common.{
   ◌⊎◌,
   ℕ,
   ◌+◌,
+  ◌<◌,
   ◌≤◌,
   inl,
   inr,
@@ -24,14 +25,18 @@ use Rattle.std.proofs.Common.{
   arith,
 }
 use Rattle.std.specs.Prelude.{◌==◌}
+use Rattle.std.specs.List.{AllPairs, Contains}
+use Rattle.std.proofs.lemmas.Bool.{cases_lt}
 use Rattle.std.proofs.lemmas.Bool.Decides.{nat_tests}
 use Rattle.clog_base.specs.declared.cell.Table.{Table}
 use Rattle.clog_base.specs.declared.position.Position.{Position}
 use Rattle.clog_base.specs.Positions.{position_of}
-use Rattle.path_core.specs.Keeper.{PutFile, upper_from}
+use Rattle.clog_base.proofs.Members.{first_or_further, further, here, nothing_there}
+use Rattle.path_core.specs.Keeper.{IsFiledIn, PutFile, upper_from}
 use Rattle.clog_store.specs.OnDisk.{file_on}
 use Rattle.clog_applied.specs.Filed.{FollowFrom, files_of, first_of, is_of}
 use Rattle.clog_applied.proofs.Lists.{kept_one, left_one}
+use Rattle.clog_layout.proofs.Standing.{pairs_cons, pairs_none}
 use Rattle.clog_closing.specs.Sequence.{AreInSequence}
 use Rattle.clog_closing.proofs.Tables.{up_to_from}
 
@@ -125,3 +130,103 @@ one_more files f sequence begins forward front rest g cut =
 
 pub none_in_sequence : AreInSequence []
 none_in_sequence front rest f cut = absurd (not_empty front f rest cut)
+
+-- ---- what files in sequence hold
+
+-- they hold each key of their table up to the last one's end
+holds_from : (t key : ℕ) (files : List PutFile) → GoOn t key files → (at : ℕ) → key < at
+    → at ≤ upper_from t key files → IsFiledIn files t at
+holds_from t key [] go at above up_to = absurd (omega (arith, above, up_to))
+holds_from t key (f ∷ fs) go at above up_to = by_case (f.table == t) refl
+    (λ (up : GoOn t f.upper fs) (a : f.upper < at) (u : at ≤ upper_from t f.upper fs).
+    holds_from t f.upper fs up at a u)
+    (λ (up : GoOn t key fs) (u : at ≤ upper_from t key fs). holds_from t key fs up at above u)
+  where
+    later : IsFiledIn fs t at → IsFiledIn (f ∷ fs) t at
+    later held = record {
+      file = held.file;
+      among = further f fs held.file held.among;
+      of_table = held.of_table;
+      above = held.above;
+      up_to = held.up_to;
+    }
+
+    by_case : (test : Bool) → (f.table == t) ≡ test
+        → (GoOn t f.upper fs → f.upper < at → at ≤ upper_from t f.upper fs → IsFiledIn fs t at)
+        → (GoOn t key fs → at ≤ upper_from t key fs → IsFiledIn fs t at)
+        → IsFiledIn (f ∷ fs) t at
+    by_case true is its left =
+        let number : f.table ≡ t = grind (arith, nat_tests, is) in
+        let first = go [] fs f refl number in
+        let rest : at ≤ upper_from t f.upper fs =
+        subst (λ (b : Bool). at ≤ upper_from t (if b then f.upper else key) fs) is up_to in
+        elim (cases_lt f.upper at) [
+          | inl behind ↦ later (its (tail_goes t key f fs go true is) behind rest)
+          | inr within ↦ record {
+            file = f;
+            among = here f fs;
+            of_table = number;
+            above = omega (arith, first.0, above);
+            up_to = omega (arith, within);
+          }
+        ]
+    by_case false is its left =
+        later (left (tail_goes t key f fs go false is)
+        (subst (λ (b : Bool). at ≤ upper_from t (if b then f.upper else key) fs) is up_to))
+
+pub holds_each : (t : ℕ) (files : List PutFile) → AreInSequence files → (at : ℕ) → 0 < at
+    → at ≤ upper_from t 0 files → IsFiledIn files t at
+holds_each t files sequence =
+    holds_from t 0 files (λ front rest f cut same.
+    let so = sequence front rest f cut in
+    (subst (λ (k : ℕ). f.lower ≡ upper_from k 0 front) same so.0, so.1))
+
+-- ---- files of a table end before later ones begin
+
+abbrev pub EndsBefore : PutFile → PutFile → Type 0
+EndsBefore a b = a.table ≡ b.table → a.upper ≤ b.lower
+
+-- none begins below the key from which they go on
+begins_from : (t key : ℕ) (files : List PutFile) → GoOn t key files → (g : PutFile)
+    → Contains files g → g.table ≡ t → key ≤ g.lower
+begins_from t key [] go g among same = absurd (nothing_there g among)
+begins_from t key (f ∷ fs) go g among same = elim (first_or_further f fs g among) [
+  | inl first ↦
+      let so = go [] fs f refl (ap (λ (x : PutFile). x.table) first ∙ same) in
+      subst (λ (x : PutFile). key ≤ x.lower) first (omega (arith, so.0))
+  | inr more ↦ by_case (f.table == t) refl
+      (λ (up : GoOn t f.upper fs). begins_from t f.upper fs up g more same)
+      (λ (up : GoOn t key fs). begins_from t key fs up g more same)
+]
+  where
+    by_case : (test : Bool) → (f.table == t) ≡ test → (GoOn t f.upper fs → f.upper ≤ g.lower)
+        → (GoOn t key fs → key ≤ g.lower) → key ≤ g.lower
+    by_case true is its left =
+        let number : f.table ≡ t = grind (arith, nat_tests, is) in
+        let so = go [] fs f refl number in
+        omega (arith, so.0, so.1, its (tail_goes t key f fs go true is))
+    by_case false is its left = left (tail_goes t key f fs go false is)
+
+ascending : (files : List PutFile) → ((t : ℕ) → (key : ℕ) × GoOn t key files)
+    → AllPairs EndsBefore files
+ascending [] go = pairs_none EndsBefore
+ascending (f ∷ fs) go =
+    pairs_cons EndsBefore f fs
+    (λ g among same.
+    let own = go f.table in
+    begins_from f.table f.upper fs
+    (tail_goes f.table own.0 f fs own.1 true (grind (arith, nat_tests))) g among (sym same))
+    (ascending fs (λ t.
+    let one = go t in (
+      if f.table == t then f.upper else one.0,
+      tail_goes t one.0 f fs one.1 (f.table == t) refl,
+    )))
+
+pub ascend : (files : List PutFile) → AreInSequence files → AllPairs EndsBefore files
+ascend files sequence =
+    ascending files (λ t. (
+      0,
+      λ front rest f cut same.
+          let so = sequence front rest f cut in
+          (subst (λ (k : ℕ). f.lower ≡ upper_from k 0 front) same so.0, so.1),
+    ))

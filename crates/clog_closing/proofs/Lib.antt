@@ -1,7 +1,11 @@
 pub mod Dropping
+pub mod Entries
 pub mod Following
 pub mod LogAlone
 pub mod Logs
 pub mod Openings
 pub mod Segments
+mod StoreLeft
+mod StoreOrdered
+mod StoreTables
 pub mod Tables

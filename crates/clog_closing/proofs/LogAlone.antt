@@ -2,7 +2,6 @@
 use Rattle.std.proofs.Common.{
   ◌≡◌,
   ℕ,
-  ◌+◌,
   ◌^◌,
   ◌<◌,
   ◌≤◌,
@@ -26,9 +25,8 @@ use Rattle.std.proofs.Common.{
 use Rattle.std.specs.Prelude.{Contains, IsSome, Option, ◌⊎◌}
 use Rattle.std.specs.FinMap as finmap
 use Rattle.std.proofs.lemmas.Bool.{cases_lt}
-use Rattle.std.proofs.lemmas.List.Elements.{Contains-append_left, Contains-append_right}
+use Rattle.std.proofs.lemmas.List.Elements.{Contains-append_right}
 use Rattle.clog_spec.specs.Names.{IsArchiveName, IsSegmentName, archive_name_of, segment_name_of}
-use Rattle.clog_spec.specs.Sizes.{header_size, marker_size}
 use Rattle.clog_base.specs.declared.cell.Table.{Table}
 use Rattle.clog_base.proofs.Members.{here, in_map, nothing_there}
 use Rattle.clog_base.proofs.NameLaws.{one_segment, segment_is_no_other}
@@ -38,8 +36,7 @@ use Rattle.clog_disk.specs.Files.{Files}
 use Rattle.clog_disk.proofs.Named.{same_or_other}
 use Rattle.clog_mutation.specs.declared.mutation.Update.{Update}
 use Rattle.clog_mutation.specs.Stored.{IsStored}
-use Rattle.clog_scan.specs.Cut.{Section}
-use Rattle.clog_scan.specs.Segment.{Entry, entries_from, entries_of, entry_from}
+use Rattle.clog_scan.specs.Segment.{Entry}
 use Rattle.clog_table.specs.declared.table_file.TableFile.{TableFile}
 use Rattle.clog_crash.specs.Droppable.{IsDroppable, Touches}
 use Rattle.clog_crash.specs.Folder.{IsHeld, IsNameOf, Place}
@@ -70,29 +67,9 @@ use Rattle.clog_applied.proofs.Merged.{of_entry}
 use Rattle.clog_layout.specs.Logged.{AreNotesOf}
 use Rattle.clog_layout.proofs.Standing.{pairs_none}
 use Rattle.clog_closing.specs.Logs.{AreStoredInOrder, written_ids}
-use Rattle.clog_closing.proofs.Logs.{are_files, entries_are, is_appended, of_log, written}
+use Rattle.clog_closing.proofs.Entries.{above_base as from_base, an_entry as entry_at}
+use Rattle.clog_closing.proofs.Logs.{are_files, is_appended, of_log, written}
 use Rattle.clog_closing.proofs.Tables.{note_of_line}
-
--- sections that have entries have a first one
-first_entry : (ss : List Section) → 0 < length ss
-    → ((s : Section) → Contains ss s → 0 < length s.payloads)
-    → (e : Entry) × Contains (entries_of header_size ss) e
-first_entry [] some filled = absurd (omega (arith, some))
-first_entry (s ∷ ss) some filled = by s.payloads refl
-  where
-    by : (ps : List (List ℕ)) → s.payloads ≡ ps
-        → (e : Entry) × Contains (entries_of header_size (s ∷ ss)) e
-    by [] is = absurd (omega (arith, filled s (here s ss), ap length is))
-    by (p ∷ ps) is =
-        let e = entry_from (header_size + marker_size) p in (
-          e,
-          Contains-append_left (entries_from (header_size + marker_size) s.payloads)
-              (entries_of s.until ss) e
-              (subst (λ (l : List (List ℕ)).
-              Contains (entries_from (header_size + marker_size) l) e) (sym is)
-              (here e (entries_from (header_size + marker_size
-              + 12 + length p) ps))),
-        )
 
 -- a change that is an append puts and removes nothing
 module _ (changes : List Change) (alone : AreAppends changes) where
@@ -184,21 +161,14 @@ module _ (archives : Bool) (opened after : Files) (later : List Change) (log : S
 
   an_entry : (id : ℕ) → Contains ids id
       → (w : LoggedLine) × Contains history w × (w.id ≡ id)
-  an_entry id listed =
-      let o = of_log ws id listed in
-      let v = o.write in
-      let e = first_entry v.sections o.some (grows.filled v o.listed) in
-      let l = of_entry history v.id e.0
-      (subst (λ (es : List Entry). Contains es e.0)
-      (entries_are later log.base log.past log.id log.sections log.logged history grows stands
-      places are v o.listed) e.1) in
-      (l.line, l.listed, l.there ∙ o.is)
+  an_entry =
+      entry_at later log.base log.past log.id log.sections log.logged history grows stands
+      places are
 
   above_base : (id : ℕ) → Contains ids id → log.base ≤ id
-  above_base id listed =
-      let l = an_entry id listed in
-      let n = note_of_line log.base log.logged history are l.0 l.1 in
-      omega (arith, n.is.id, l.2)
+  above_base =
+      from_base later log.base log.past log.id log.sections log.logged history grows stands
+      places are
 
   no_archive : (id : ℕ) → Contains ids id → finmap.get after (archive_name_of id) ≡ None
   no_archive id listed =

@@ -40,7 +40,7 @@ ghost use Rattle.clog_store.specs.Grows.{AreAppends, IsGrown, segments_with};
 ghost use Rattle.clog_store.specs.Notes.{places_of};
 ghost use Rattle.clog_store.specs.OnDisk.{file_on};
 ghost use Rattle.clog_store.specs.Opened.{IsOpened, RecoversAll};
-ghost use Rattle.clog_store.specs.StoreFolder.{HoldsStore, StoreLog, no_deeds};
+ghost use Rattle.clog_store.specs.StoreFolder.{Deeds, HoldsStore, StoreLog, no_deeds};
 ghost use Rattle.clog_applied.specs.Appended.{IsAppended, appended, entries_in};
 ghost use Rattle.clog_applied.specs.Closed.{IsStoreLeft};
 ghost use Rattle.clog_applied.specs.Filed.{FollowFrom, IsTrueFor, files_of, first_of};
@@ -49,6 +49,7 @@ ghost use Rattle.clog_applied.specs.Opening.{IsOpening, IsRecoveryChange};
 ghost use Rattle.clog_layout.specs.Logged.{AreNotesOf};
 ghost use Rattle.clog_closing.specs.Logs.{AreStoredInOrder, written_ids};
 ghost use Rattle.clog_closing.specs.Sequence.{AreInSequence};
+ghost use Rattle.clog_closing.specs.Stores.{HasEnded, dropped_ids, files_by, ids_in};
 
 /// What a recovery has added to a disk's changes are table files of the folder's own log and
 /// removals of its segments. A folder that was opened by such changes is opened for a run.
@@ -123,4 +124,15 @@ pub fn stores_that_only_logged_are_left()
         → AreNotesOf log.base log.logged history
         → IsStoreLeft archive opened after later
         (written_ids (segments_with log.past log.id log.sections)) [] history [] }
+{}
+
+/// A store that has put table files and dropped segments leaves what a run leaves whose path has
+/// done all with it: the changes of its disk stand in order, segments are there or have gone as
+/// they were appended, and its table files are there.
+pub fn stores_are_left()
+    ensures { (sizes : Sizes) (opened after : Files) (later : List Change) (log : StoreLog)
+        (deeds : Deeds) (history : List LoggedLine)
+        → HasEnded sizes opened after later log deeds history
+        → IsStoreLeft deeds.archives opened after later (ids_in log) (dropped_ids log deeds) history
+        (files_by log deeds) }
 {}

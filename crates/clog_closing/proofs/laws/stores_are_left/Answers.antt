@@ -1,0 +1,24 @@
+use Rattle.clog_closing.proofs.Logs.{are_files, is_appended}
+use Rattle.clog_closing.proofs.Entries.{an_entry}
+use Rattle.clog_closing.proofs.StoreLeft.{no_other, others, segments}
+use Rattle.clog_closing.proofs.StoreOrdered.{in_order}
+use Rattle.clog_closing.proofs.StoreTables.{exactly, is_put, rise, tables}
+use Rattle.clog_closing.proofs.laws.stores_are_left.Goals as goal
+
+pub returns : goal.returns
+returns c sizes opened after later log deeds history e = record {
+  is_appended = is_appended later log.base log.past log.id log.sections log.logged history e.grown
+      e.stored e.places e.notes;
+  bytes = are_files later log.base log.past log.id log.sections log.logged history e.grown e.stored
+      e.places e.notes;
+  some = an_entry later log.base log.past log.id log.sections log.logged history e.grown e.stored
+      e.places e.notes;
+  order = in_order sizes opened after later log deeds history e;
+  dropped_exactly = exactly sizes opened after later log deeds history e;
+  segments = segments sizes opened after later log deeds history e;
+  no_other = no_other sizes opened after later log deeds history e;
+  put = is_put sizes opened after later log deeds history e;
+  rise = rise sizes opened after later log deeds history e;
+  tables = tables sizes opened after later log deeds history e;
+  others = others sizes opened after later log deeds history e;
+}
