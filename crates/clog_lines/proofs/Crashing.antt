@@ -2,14 +2,11 @@
 use Rattle.std.proofs.Common.{
   ◌≡◌,
   ℕ,
-  ◌+◌,
   ◌≤◌,
   inl,
-  inr,
+  Bool,
   List,
   [],
-  ◌∷◌,
-  ◌++◌,
   length,
   map,
   take,
@@ -27,17 +24,16 @@ use Rattle.std.specs.Prelude.{option_map, ⊤}
 use Rattle.std.proofs.lemmas.List.{length-map, take-map}
 use Rattle.clog_base.specs.declared.sizes.Sizes.{Sizes}
 use Rattle.clog_disk.specs.declared.change.Change.{Change}
-use Rattle.clog_disk.specs.Files.{Files, SameTold, Told, bytes_at}
+use Rattle.clog_disk.specs.Files.{Files, SameTold, bytes_at}
 use Rattle.clog_disk.specs.Images.{IsImage, LeavesOnly}
 use Rattle.clog_disk.proofs.Moments.{weakened}
 use Rattle.clog_disk.proofs.Telling.{told_some}
 use Rattle.clog_mutation.specs.declared.mutation.Mutation.{Mutation}
 use Rattle.clog_mutation.specs.Payload.{payload_of}
 use Rattle.clog_scan.specs.Cut.{Section}
-use Rattle.clog_scan.specs.Segment.{Entry}
 use Rattle.clog_crash.specs.Log.{GoesOn, HasShown, NoChances, Write, entries_in, logged_in}
 use Rattle.clog_crash.specs.Readings.{Reading}
-use Rattle.clog_crash.specs.Runs.{Placed, placed_log}
+use Rattle.clog_crash.specs.Runs.{placed_log}
 use Rattle.clog_crash.specs.Sections.{IsStored}
 use Rattle.path_core.specs.declared.note.EntryNote.{EntryNote}
 use Rattle.path_core.specs.Keys.{first_offset}
@@ -46,13 +42,7 @@ use Rattle.clog_store.specs.Life.{LivesOn, MayGoOnIn, ShowsOn, State, lasting_in
 use Rattle.clog_store.specs.Notes.{places_of}
 use Rattle.clog_store.proofs.Lived.{at_both}
 use Rattle.clog_layout.specs.Logged.{AreEntriesOf}
-use Rattle.clog_lines.specs.Written.{
-  AreLaidFor,
-  HasBrought,
-  LeavesLines,
-  RestoresLines,
-  SaysFirst,
-}
+use Rattle.clog_lines.specs.Written.{AreLaidFor, HasBrought, LeavesLines, RestoresLines}
 use Rattle.clog_lines.proofs.Showing.{
   noted_payload,
   of_lines,
@@ -140,10 +130,10 @@ module _ {D : Type 0} (files : D → Option Files) (changes : D → Option (List
         restores_lines r mutations notes entries count (entries_in ws) in_all least enough image
         (shown ws goes_on none) le
 
-    pub leaves_lines : (least : ℕ) → least ≤ lasting_in b
-        → HasBrought changes a.disk b.disk ws
-        → LeavesLines changes moment since leaves a.disk b.disk r mutations least
-    leaves_lines least le wrote =
+    pub leaves_lines : (least : ℕ) (drain : Bool) → least ≤ lasting_in b
+        → HasBrought changes a.disk b.disk drain ws
+        → LeavesLines changes moment since leaves a.disk b.disk r drain mutations least
+    leaves_lines least drain le wrote =
         let now = told in
         let shown = at_both (files b.disk) (read_at b.disk b.opened) (λ f q. (at : ℕ)
         → MayGoOnIn b.id b.sections at

@@ -7,6 +7,7 @@ use Rattle.std.proofs.Common.{
   ◌≤◌,
   inl,
   inr,
+  Bool,
   true,
   false,
   List,
@@ -27,10 +28,11 @@ use Rattle.std.proofs.Common.{
 }
 use Rattle.std.specs.Prelude.{Contains, is_some, option_map}
 use Rattle.std.specs.List.{range_with_len}
-use Rattle.std.proofs.lemmas.Bool.{true≢false}
+use Rattle.std.proofs.lemmas.Bool.{or_parts, true≢false}
 use Rattle.std.proofs.lemmas.List.Elements.{Contains-push_cases}
 use Rattle.std.proofs.lemmas.Option.{none-some}
 use Rattle.clog_spec.specs.Sizes.{greatest_capacity}
+use Rattle.clog_base.specs.declared.cell.Table.{Table}
 use Rattle.clog_base.specs.declared.position.Position.{Position}
 use Rattle.clog_base.specs.declared.sizes.Sizes.{Sizes}
 use Rattle.clog_base.specs.Positions.{position_of}
@@ -40,7 +42,7 @@ use Rattle.clog_disk.specs.Files.{Files}
 use Rattle.clog_mutation.specs.declared.mutation.Mutation.{Mutation}
 use Rattle.clog_scan.specs.Cut.{Section}
 use Rattle.clog_words.specs.declared.request.ApplyOptions.{ApplyOptions}
-use Rattle.clog_crash.specs.Grown.{appends_of}
+use Rattle.clog_crash.specs.Grown.{Append, appends_of}
 use Rattle.clog_crash.specs.Log.{Write}
 use Rattle.clog_crash.specs.Runs.{placed_log}
 use Rattle.clog_crash.specs.Sections.{IsStored}
@@ -48,19 +50,31 @@ use Rattle.path_core.specs.declared.note.EntryNote.{EntryNote}
 use Rattle.path_core.specs.History.{IsHistory, IsInSegment}
 use Rattle.path_core.specs.Keys.{first_offset}
 use Rattle.clog_store.specs.Grows.{IsGrown, segments_with}
+use Rattle.clog_store.specs.Life.{State}
 use Rattle.clog_store.specs.Notes.{places_of}
 use Rattle.clog_store.specs.StoreFolder.{Deeds, HoldsStore, IsSound, log_of, no_deeds}
 use Rattle.clog_store.specs.StoreState.{
   AppendsAlone,
   HasAppended,
+  HasGrown,
   HoldsIt,
   StoreState,
   deeds_by,
 }
 use Rattle.clog_store.proofs.NoteGrows.{rises_with}
-use Rattle.clog_applied.specs.Asked.{capacity_of}
+use Rattle.clog_table.specs.declared.table_file.TableFile.{TableFile}
+use Rattle.clog_crash.specs.Droppable.{IsFiled, Touches}
+use Rattle.clog_applied.specs.Asked.{flushes}
 use Rattle.clog_applied.specs.Closed.{IsClosedPath}
-use Rattle.clog_applied.specs.History.{IsLawful, LoggedLine, logged_at, share_of, written_by}
+use Rattle.clog_applied.specs.Filed.{FollowFrom, IsTrueFor, files_of, first_of}
+use Rattle.clog_applied.specs.History.{
+  IsLawful,
+  LoggedLine,
+  entry_of,
+  logged_at,
+  share_of,
+  written_by,
+}
 use Rattle.clog_applied.specs.Printed.{AreByLine, number_of}
 use Rattle.clog_layout.specs.Laid.{AreLaid}
 use Rattle.clog_layout.specs.Logged.{AreEntriesOf, AreLaidLines, AreNotesOf}
@@ -69,7 +83,7 @@ use Rattle.clog_layout.proofs.Standing.{is_history}
 use Rattle.clog_closing.specs.Logs.{AreStoredInOrder, written_ids}
 use Rattle.clog_closing.proofs.LogAlone.{is_left}
 use Rattle.clog_closing.proofs.Tables.{note_of_line}
-use Rattle.clog_lines.specs.Written.{AreLaidFor, IsPlain, TellsWritten}
+use Rattle.clog_lines.specs.Written.{AreLaidFor, IsAskedBy, TellsWritten}
 
 -- ---- the lines of laid notes, one by one
 
@@ -116,7 +130,7 @@ module _ (sizes : Sizes) (base : ℕ) (mutations : List Mutation) (laid : List E
   unfolding history
   lines = (laid_lines sizes base mutations out.raw laid out.entries out.laid).1
 
-  is_a_history : IsHistory sizes.capacity laid
+  pub is_a_history : IsHistory sizes.capacity laid
   is_a_history =
       is_history sizes sizes.within.least_capacity sizes.within.greatest_capacity out.raw laid
       out.laid
@@ -141,22 +155,42 @@ module _ (sizes : Sizes) (base : ℕ) (mutations : List Mutation) (laid : List E
       ends_are base sizes.capacity laid history sizes.within.greatest_capacity is_a_history.each
       lines.notes
 
-  pub path : (options : ApplyOptions) → IsPlain options → capacity_of options ≡ sizes.capacity
-      → IsClosedPath options mutations base history []
-  path options plain capacity = record {
-    lawful = subst (λ (k : ℕ). IsLawful k history) (sym capacity)
+  -- what its table files have to be
+  pub record AreFilesFor (options : ApplyOptions) (files : List TableFile) : Type 0 where
+    pub follow : (table : Table) → FollowFrom (first_of base) (files_of table files)
+    pub are_true : (file : TableFile) → Contains files file → IsTrueFor history file
+    pub drained : options.drain ≡ true → (table : Table) (w : LoggedLine) → Contains history w
+        → Touches (entry_of w) table → IsFiled files table (logged_at w)
+    pub none : options.drain ≡ false → files ≡ []
+
+  pub path : (options : ApplyOptions) (archives drain : Bool)
+      → IsAskedBy options sizes archives drain → (files : List TableFile)
+      → AreFilesFor options files → IsClosedPath options mutations base history files
+  path options archives drain asked files are = record {
+    lawful = subst (λ (k : ℕ). IsLawful k history) (sym asked.capacity)
         (lawful base sizes.capacity sizes.within.greatest_capacity laid history is_a_history
         lines.notes);
     from_base = λ w h.
         let n = note_of_line base laid history lines.notes w h in omega (arith, n.is.id);
-    writers = omega (arith, plain.one_writer);
-    known = λ w h. omega (arith, plain.one_writer, lines.by_one w h);
-    shares = λ writer. shares options.writers writer plain.one_writer;
+    writers = omega (arith, asked.one_writer);
+    known = λ w h. omega (arith, asked.one_writer, lines.by_one w h);
+    shares = λ writer. shares options.writers writer asked.one_writer;
+    follow = are.follow;
+    are_true = are.are_true;
+    drained = are.drained;
+    none = λ flushless. are.none (undrained options flushless);
+    flushed = λ most is. absurd (none-some most (sym asked.no_flush ∙ is));
+  }
+    where
+      undrained : (o : ApplyOptions) → flushes o ≡ false → o.drain ≡ false
+      undrained o flushless = (or_parts (is_some o.flush_at) o.drain flushless).1
+
+  pub no_files : (options : ApplyOptions) → options.drain ≡ false → AreFilesFor options []
+  no_files options none = record {
     follow = λ table. tt;
     are_true = λ file h. absurd (nothing_there file h);
-    drained = λ yes. absurd (true≢false (sym yes ∙ plain.no_drain));
-    none = λ no. refl;
-    flushed = λ most is. absurd (none-some most (sym plain.no_flush ∙ is));
+    drained = λ all. absurd (true≢false (sym all ∙ none));
+    none = λ same. refl;
   }
 
 -- ---- the store
@@ -164,6 +198,47 @@ module _ (sizes : Sizes) (base : ℕ) (mutations : List Mutation) (laid : List E
 some_of : {A : Type 0} (o : Option A) → is_some o ≡ true → (x : A) × (o ≡ Some x)
 some_of (Some x) is = (x, refl)
 some_of None is = absurd (true≢false (sym is))
+
+-- while its disk has not failed, the changes have brought all sections
+pub all_brought : {D : Type 0} (changes : D → Option (List Change)) (first : D) (log : State D)
+    (growth : HasGrown changes first log) → log.is_stopped ≡ false
+    → IsGrown (appends_of growth.added) log.past log.id log.sections
+all_brought changes first log growth runs = elim growth.brought [
+  | inl all ↦ subst (λ (l : List Section).
+      IsGrown (appends_of growth.added) log.past log.id l) (sym all) growth.grown
+  | inr torn ↦ absurd (true≢false (sym torn.2 ∙ runs))
+]
+
+pub in_order : {D : Type 0} (log : State D) (appends : List Append)
+    → IsGrown appends log.past log.id log.sections → IsSound log
+    → AreStoredInOrder (segments_with log.past log.id log.sections)
+in_order log appends grows sound =
+    let hand : Write = record { id = log.id; sections = log.sections } in
+    record {
+      stored = λ w among. elim (Contains-push_cases log.past hand w among) [
+        | inl before ↦ sound.past_stored w before
+        | inr same ↦ subst (λ (x : Write). IsStored x.id x.sections) same sound.stored
+      ];
+      rise = rises_with log.past hand grows.rise sound.below;
+    }
+
+-- what its disk tells now, where it told its files and its changes at the opening
+pub record TellsNow (made later : List Change) (files : Option Files)
+    (changes : Option (List Change)) : Type 0 where
+  pub after : Files
+  pub files_are : files ≡ Some after
+  pub changes_are : changes ≡ Some (made ++ later)
+
+pub tells_now : {D : Type 0} (files : D → Option Files) (changes : D → Option (List Change))
+    → ((d : D) → is_some (changes d) ≡ is_some (files d)) → (first : D) (log : State D)
+    (growth : HasGrown changes first log) (made : List Change) → changes first ≡ Some made
+    → TellsNow made growth.added (files log.disk) (changes log.disk)
+tells_now files changes tells first log growth made made_is =
+    let later = growth.added in
+    let changes_are : changes log.disk ≡ Some (made ++ later) =
+    growth.changes_are ∙ ap (option_map (λ all. all ++ later)) made_is in
+    let found = some_of (files log.disk) (sym (tells log.disk) ∙ ap is_some changes_are) in
+    record { after = found.0; files_are = found.1; changes_are = changes_are }
 
 module _ {D : Type 0} (files : D → Option Files) (changes : D → Option (List Change))
     (tells : (d : D) → is_some (changes d) ≡ is_some (files d)) (b : StoreState D)
@@ -181,54 +256,42 @@ module _ {D : Type 0} (files : D → Option Files) (changes : D → Option (List
   later = appended.growth.added
 
   grows : IsGrown (appends_of later) b.notes.log.past b.notes.log.id b.notes.log.sections
-  grows = elim appended.growth.brought [
-    | inl all ↦ subst (λ (l : List Section).
-        IsGrown (appends_of later) b.notes.log.past b.notes.log.id l) (sym all)
-        appended.growth.grown
-    | inr torn ↦ absurd (true≢false (sym torn.2 ∙ runs))
-  ]
+  grows = all_brought changes b.first b.notes.log appended.growth runs
 
   stands : AreStoredInOrder ws
-  stands =
-      let hand : Write = record { id = b.notes.log.id; sections = b.notes.log.sections } in
-      record {
-        stored = λ w among. elim (Contains-push_cases b.notes.log.past hand w among) [
-          | inl before ↦ sound.past_stored w before
-          | inr same ↦ subst (λ (x : Write). IsStored x.id x.sections) same sound.stored
-        ];
-        rise = rises_with b.notes.log.past hand grows.rise sound.below;
-      }
+  stands = in_order b.notes.log (appends_of later) grows sound
 
   -- what the disk tells of lines that it has logged
   pub tells_written : (options : ApplyOptions) (sizes : Sizes) (mutations : List Mutation)
-      → IsPlain options → capacity_of options ≡ sizes.capacity
+      (archives : Bool) → IsAskedBy options sizes archives false
       → AreLaidFor sizes mutations b.notes.logged → (opened : Files) (made : List Change)
       → files b.first ≡ Some opened → changes b.first ≡ Some made
       → TellsWritten options b.notes.base opened made (files b.notes.log.disk)
       (changes b.notes.log.disk) mutations b.notes.logged
-  tells_written options sizes mutations plain capacity out opened made is made_is =
-      let changes_are : changes b.notes.log.disk ≡ Some (made ++ later) =
-      appended.growth.changes_are ∙ ap (option_map (λ all. all ++ later)) made_is in
-      let found = some_of (files b.notes.log.disk)
-      (sym (tells b.notes.log.disk) ∙ ap is_some changes_are) in
-      let after = found.0 in
+  tells_written options sizes mutations archives asked out opened made is made_is =
+      let now = tells_now files changes tells b.first b.notes.log appended.growth made made_is in
+      let after = now.after in
       let holds : HoldsStore opened (log_of b.notes) (no_deeds b.archives) after =
       subst (λ (d : Deeds). HoldsStore opened (log_of b.notes) d after) none
-      (folder opened after is found.1) in
+      (folder opened after is now.files_are) in
       let base = b.notes.base in
       let said = lines sizes base mutations b.notes.logged out in
       record {
         after = after;
         later = later;
-        files_are = found.1;
-        changes_are = changes_are;
+        files_are = now.files_are;
+        changes_are = now.changes_are;
         written = record {
           ids = written_ids ws;
+          dropped = [];
           history = history sizes base mutations b.notes.logged out;
-          path = path sizes base mutations b.notes.logged out options plain capacity;
+          files = [];
+          path = path sizes base mutations b.notes.logged out options archives false asked []
+              (no_files sizes base mutations b.notes.logged out options asked.drain_is);
           store = is_left b.archives opened after later (log_of b.notes)
               (history sizes base mutations b.notes.logged out) holds grows appended.alone stands
               places said.notes options.archive;
+          undrained = λ none. (refl, refl);
           lines = said;
           by_line = by_line sizes base mutations b.notes.logged out;
           positions = positions sizes base mutations b.notes.logged out;

@@ -1,5 +1,7 @@
 pub mod Brought
 pub mod Crashing
+pub mod Emptied
+pub mod Going
 pub mod Leaving
 pub mod Noting
 pub mod Showing

@@ -41,7 +41,8 @@ use Rattle.clog_store.proofs.NoteLent.{ascending}
 use Rattle.clog_store.proofs.NoteParts.{Below, one_run}
 use Rattle.clog_layout.specs.Laid.{AreLaid, synced_to}
 use Rattle.clog_layout.specs.Logged.{AreEntriesOf}
-use Rattle.clog_layout.proofs.Standing.{may_sync, parted}
+use Rattle.clog_layout.proofs.Standing.{each_whole, may_sync, parted}
+use Rattle.clog_lines.specs.Drained.{HasLogged, HasNoDeeds, HasRefused}
 use Rattle.clog_lines.specs.Written.{AreLaidFor}
 
 -- ---- notes that are whole
@@ -79,6 +80,27 @@ whole_fresh (m ∷ ms) (o ∷ ns) are n h =
       | inr more ↦ whole_fresh ms ns are.1 n more
     ]
 
+-- The notes that stand in a keeper's log, so many of what it keeps among them, are the first of
+-- these.
+pub record AreFirst (laid : List EntryNote) (k : Holding) (shown : ℕ) : Type 0 where
+  pub count : ℕ
+  pub are : k.logged ++ take shown k.kept ≡ take count laid
+
+-- whatever number is taken of nothing
+pub all_logged : (h k : Holding) (laid : List EntryNote) → HasLogged h k laid → (shown : ℕ)
+    → k.logged ++ take shown k.kept ≡ laid
+all_logged h k laid has shown =
+    ap (λ (l : List EntryNote). k.logged ++ l)
+    (ap (take shown) has.none_kept ∙ take-nil shown)
+    ∙ append-nil k.logged ∙ has.logged_are
+
+pub first_logged : (h k : Holding) (laid : List EntryNote) → HasLogged h k laid → (shown : ℕ)
+    → AreFirst laid k shown
+first_logged h k laid has shown = record {
+  count = length laid;
+  are = all_logged h k laid has shown ∙ sym (take-length laid);
+}
+
 -- ---- what may be synced
 
 module _ (base : ℕ) (sizes : Sizes) (h : Holding) (fresh : IsFresh base sizes h)
@@ -113,6 +135,80 @@ module _ (base : ℕ) (sizes : Sizes) (h : Holding) (fresh : IsFresh base sizes 
         one_run (synced_to laid) laid run left m.run m.left other m.parted ascends
         ∙ sym (one_run (synced_to laid) laid laid [] m.run m.left all m.parted ascends)
 
+    -- what is whole of them
+    pub are_whole : (n : EntryNote) → Contains laid n → IsWhole n
+    are_whole =
+        each_whole sizes sizes.within.least_capacity sizes.within.greatest_capacity first_offset 1
+        raw laid (omega arith) are_laid (whole_fresh mutations out.raw out.entries)
+
+    -- ---- what it holds then
+
+    module _ (k : Holding) (left : List EntryNote) where
+      module _ (s : Syncs h k (synced_to laid) laid left) where
+        pub has_logged : HasLogged h k laid
+        has_logged = record {
+          base_is = ap (λ (x : Holding). x.base) s.holds;
+          sizes_are = ap (λ (x : Holding). x.sizes) s.holds;
+          opening_is = ap (λ (x : Holding). x.opening) s.holds;
+          synced_is = ap (λ (x : Holding). x.synced) s.holds;
+          logged_are = ap (λ (x : Holding). x.logged) s.holds
+              ∙ ap (λ (l : List EntryNote). l ++ s.run) fresh.nothing_logged
+              ∙ all_run s.run left s.parted;
+          none_kept = ap (λ (x : Holding). x.kept) s.holds;
+        }
+
+        pub synced_alone : HasNoDeeds k
+        synced_alone = record {
+          no_file = ap (λ (x : Holding). x.files) s.holds ∙ fresh.no_file;
+          none_dropped = ap (λ (x : Holding). x.dropped) s.holds ∙ fresh.none_dropped;
+          none_archived = ap (λ (x : Holding). x.archived) s.holds ∙ fresh.none_archived;
+        }
+
+      pub has_refused : SyncRefused h k (synced_to laid) laid left → HasRefused h k laid
+      has_refused s = record {
+        base_is = ap (λ (x : Holding). x.base) s.holds;
+        none_logged = ap (λ (x : Holding). x.logged) s.holds ∙ fresh.nothing_logged;
+        kept = elim s.keeps [
+          | inl still ↦ inl (still ∙ fresh.nothing_kept)
+          | inr parts ↦ inr parts
+        ];
+        no_deeds = record {
+          no_file = ap (λ (x : Holding). x.files) s.holds ∙ fresh.no_file;
+          none_dropped = ap (λ (x : Holding). x.dropped) s.holds ∙ fresh.none_dropped;
+          none_archived = ap (λ (x : Holding). x.archived) s.holds ∙ fresh.none_archived;
+        };
+      }
+
+    -- where nothing was done
+    pub untried : HasRefused h h laid
+    untried = record {
+      base_is = refl;
+      none_logged = fresh.nothing_logged;
+      kept = inl fresh.nothing_kept;
+      no_deeds = record {
+        no_file = fresh.no_file;
+        none_dropped = fresh.none_dropped;
+        none_archived = fresh.none_archived;
+      };
+    }
+
+    -- ---- which of them stand in its log
+
+    pub first_refused : (k : Holding) → HasRefused h k laid → (shown : ℕ)
+        → AreFirst laid k shown
+    first_refused k has shown = elim has.kept [
+      | inl none ↦ record {
+        count = 0;
+        are = ap (λ (l : List EntryNote). l ++ take shown k.kept) has.none_logged
+            ∙ ap (take shown) none ∙ take-nil shown;
+      }
+      | inr parts ↦ record {
+        count = shown;
+        are = ap (λ (l : List EntryNote). l ++ take shown k.kept) has.none_logged
+            ∙ ap (take shown) (all_run k.kept parts.0 parts.1);
+      }
+    ]
+
 -- ---- a store that was just opened
 
 module _ {D : Type 0} (files : D → Option Files) (changes : D → Option (List Change))
@@ -135,79 +231,11 @@ module _ {D : Type 0} (files : D → Option Files) (changes : D → Option (List
     none_archived = ap (λ (s : StoreState D). s.archived) is;
   }
 
-  -- ---- what it keeps then
-
-  module _ (a b : StoreState D) (fresh : IsFresh a.notes.base a.notes.sizes (Held a))
-      (mutations : List Mutation) (laid left : List EntryNote)
-      (out : AreLaidFor a.notes.sizes mutations laid) where
-    -- the notes that stand in its log, so many of what it keeps among them, are the first
-    pub record AreFirst (shown : ℕ) : Type 0 where
-      pub count : ℕ
-      pub are : b.notes.logged ++ take shown b.notes.kept ≡ take count laid
-
-    module _ (s : Syncs (Held a) (Held b) (synced_to laid) laid left) where
-      pub synced_base : b.notes.base ≡ a.notes.base
-      synced_base = ap (λ (h : Holding). h.base) s.holds
-
-      pub synced_runs : b.notes.log.is_stopped ≡ false
-      synced_runs = ap (λ (h : Holding). h.stopped) s.holds ∙ fresh.runs
-
-      pub synced_kept : b.notes.kept ≡ []
-      synced_kept = ap (λ (h : Holding). h.kept) s.holds
-
-      pub synced_logged : b.notes.logged ≡ laid
-      synced_logged =
-          ap (λ (h : Holding). h.logged) s.holds
-          ∙ ap (λ (l : List EntryNote). l ++ s.run) fresh.nothing_logged
-          ∙ all_run a.notes.base a.notes.sizes (Held a) fresh mutations laid out s.run left
-          s.parted
-
-      pub synced_deeds : deeds_by b ≡ no_deeds b.archives
-      synced_deeds =
-          let f = ap (λ (h : Holding). h.files) s.holds ∙ fresh.no_file in
-          let d = ap (λ (h : Holding). h.dropped) s.holds ∙ fresh.none_dropped in
-          let g = ap (λ (h : Holding). h.archived) s.holds ∙ fresh.none_archived in
-          λ i. record { archives = b.archives; files = f i; dropped = d i; archived = g i }
-
-      -- whatever number is taken of nothing
-      pub synced_all : (shown : ℕ) → b.notes.logged ++ take shown b.notes.kept ≡ laid
-      synced_all shown =
-          ap (λ (l : List EntryNote). b.notes.logged ++ l)
-          (ap (take shown) synced_kept ∙ take-nil shown)
-          ∙ append-nil b.notes.logged ∙ synced_logged
-
-      pub first_synced : (shown : ℕ) → AreFirst shown
-      first_synced shown = record {
-        count = length laid;
-        are = synced_all shown ∙ sym (take-length laid);
-      }
-
-    module _ (s : SyncRefused (Held a) (Held b) (synced_to laid) laid left) where
-      pub refused_deeds : deeds_by b ≡ no_deeds b.archives
-      refused_deeds =
-          let f = ap (λ (h : Holding). h.files) s.holds ∙ fresh.no_file in
-          let d = ap (λ (h : Holding). h.dropped) s.holds ∙ fresh.none_dropped in
-          let g = ap (λ (h : Holding). h.archived) s.holds ∙ fresh.none_archived in
-          λ i. record { archives = b.archives; files = f i; dropped = d i; archived = g i }
-
-      pub refused_base : b.notes.base ≡ a.notes.base
-      refused_base = ap (λ (h : Holding). h.base) s.holds
-
-      none_logged : b.notes.logged ≡ []
-      none_logged = ap (λ (h : Holding). h.logged) s.holds ∙ fresh.nothing_logged
-
-      pub first_refused : (shown : ℕ) → AreFirst shown
-      first_refused shown = elim s.keeps [
-        | inl still ↦ record {
-          count = 0;
-          are = ap (λ (l : List EntryNote). l ++ take shown b.notes.kept) none_logged
-              ∙ ap (take shown) (still ∙ fresh.nothing_kept) ∙ take-nil shown;
-        }
-        | inr parts ↦ record {
-          count = shown;
-          are = ap (λ (l : List EntryNote). l ++ take shown b.notes.kept) none_logged
-              ∙ ap (take shown)
-              (all_run a.notes.base a.notes.sizes (Held a) fresh mutations laid out b.notes.kept
-              parts.0 parts.1);
-        }
-      ]
+  -- what it has done beside its log is nothing
+  pub none_done : (b : StoreState D) → HasNoDeeds (Held b) → deeds_by b ≡ no_deeds b.archives
+  none_done b none = λ i. record {
+    archives = b.archives;
+    files = none.no_file i;
+    dropped = none.none_dropped i;
+    archived = none.none_archived i;
+  }

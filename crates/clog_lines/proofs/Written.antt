@@ -1,26 +1,20 @@
--- What `write_lines` tells, from what its two calls of a store tell.
+-- What `write_lines` tells, from what its store was made to do and what that tells at its end.
 use Rattle.std.proofs.Common.{
   ◌≡◌,
   ℕ,
-  ◌+◌,
-  ◌<◌,
   ◌≤◌,
-  ◌^◌,
   inl,
   inr,
   Bool,
   true,
   false,
   List,
-  [],
-  ◌∷◌,
   ◌++◌,
   length,
   Option,
   Some,
   None,
   take,
-  drop,
   refl,
   sym,
   ◌∙◌,
@@ -28,8 +22,9 @@ use Rattle.std.proofs.Common.{
   subst,
   arith,
 }
-use Rattle.std.specs.Prelude.{Err, Ok, OnErr, OnOk, Result, is_some, option_map, ◌||◌, ◌⊎◌}
+use Rattle.std.specs.Prelude.{Err, Ok, OnErr, OnOk, Result, is_some, option_map, ◌||◌}
 use Rattle.std.proofs.lemmas.Bool.{true≢false}
+use Rattle.std.proofs.lemmas.List.Elements.{Contains-append_left}
 use base.Stored.{Gv}
 use Rattle.clog_io.specs.Causes.{Rose}
 use Rattle.clog_disk.specs.declared.change.Change.{Change}
@@ -47,52 +42,54 @@ use Rattle.path_core.specs.Keeper.{
   HasRisen,
   Holding,
   IsFresh,
-  SyncRefused,
-  Syncs,
+  Opening,
+  is_stopped,
 }
 use Rattle.clog_store.specs.Life.{Lives, LivesOn, lasting_in}
 use Rattle.clog_store.specs.NoteLog.{IsNoteLog}
 use Rattle.clog_store.specs.Notes.{places_of}
-use Rattle.clog_store.specs.StoreFolder.{IsSound, no_deeds}
+use Rattle.clog_store.specs.StoreFolder.{IsSound}
 use Rattle.clog_store.specs.Grows.{segments_with}
 use Rattle.clog_crash.specs.Grown.{appends_of}
 use Rattle.clog_crash.specs.Log.{Write}
 use Rattle.clog_lines.proofs.Brought.{written_by}
 use Rattle.clog_store.specs.StoreState.{
-  deeds_by,
   AppendsAlone,
   HasGrown,
+  HasOrdered,
   HoldsIt,
   StoreState,
   holding_of,
   store_over,
 }
-use Rattle.clog_store.proofs.Outcomes.{ok_then}
-use Rattle.clog_applied.specs.Asked.{capacity_of}
-use Rattle.clog_layout.specs.Laid.{synced_to}
+use Rattle.clog_lines.specs.Drained.{
+  EndsAs,
+  HasLogged,
+  HasDrained,
+  HasNoDeeds,
+  IsDrainedAs,
+  LogsAll,
+  LogsPart,
+}
 use Rattle.clog_lines.specs.Written.{
   AreLaidFor,
-  HasWriteCause,
-  IsPlain,
   HasBrought,
+  HasWriteCause,
+  IsAskedBy,
   LeavesLines,
   TellsWritten,
   least_of,
 }
 use Rattle.clog_lines.proofs.Crashing.{as_many, leaves_lines, says}
+use Rattle.clog_lines.proofs.Emptied.{StoresAreLeft, tells_drained}
 use Rattle.clog_lines.proofs.Leaving.{tells_written}
 use Rattle.clog_lines.proofs.Synced.{
   AreFirst,
+  all_logged,
+  first_logged,
   first_refused,
-  first_synced,
   is_fresh,
-  synced_all,
-  synced_base,
-  synced_deeds,
-  synced_logged,
-  synced_runs,
-  refused_base,
-  refused_deeds,
+  none_done,
 }
 
 -- ---- faults
@@ -103,17 +100,25 @@ rose_by before now risen = elim risen [
   | inr full ↦ omega (arith, full)
 ]
 
-pub cause_of : {T : Type 0} (a b : Holding) (r : Result T KeeperFault) → a.stopped ≡ false
-    → HasKeeperCause a b r → (b.stopped ≡ false → b.faults ≡ a.faults)
-    → HasWriteCause a.faults b.faults r
-cause_of a b (Ok done) runs cause quiet =
-    quiet (cause.kept_in_mind ∙ ap (λ (x : Bool). x || false) runs)
-cause_of a b (Err keeper.OutOfMemory) runs cause quiet =
-    quiet (cause.kept_in_mind ∙ ap (λ (x : Bool). x || false) runs)
-cause_of a b (Err (keeper.Stopped at_open at_end)) runs cause quiet = (
-  cause.later,
-  rose_by a.faults b.faults (cause.failed runs refl),
+-- a keeper with this count of faults at its opening, and no fewer now
+pub cause_of : {T : Type 0} (h : Holding) (r : Result T KeeperFault) → EndsAs h r
+    → (h.stopped ≡ false → h.faults ≡ h.at_open) → h.at_open ≤ h.faults
+    → HasWriteCause h.at_open h.faults r
+cause_of h (Ok done) ends quiet later = quiet ends.stopped
+cause_of h (Err keeper.OutOfMemory) ends quiet later = quiet ends.stopped
+cause_of h (Err (keeper.Stopped at_open at_end)) ends quiet later = (
+  later,
+  rose_by h.at_open h.faults (subst (λ (k : ℕ). HasRisen k h.faults) ends.counts.0
+      (subst (HasRisen at_open) ends.counts.1 ends.counts.2)),
 )
+
+-- a call of a keeper that had not stopped
+pub ends_by : {T : Type 0} (before now : Holding) (r : Result T KeeperFault)
+    → before.stopped ≡ false → HasKeeperCause before now r → EndsAs now r
+ends_by before now r runs cause = record {
+  stopped = cause.kept_in_mind ∙ ap (λ (x : Bool). x || is_stopped r) runs;
+  counts = cause.counts;
+}
 
 -- ---- files
 
@@ -129,94 +134,168 @@ told_of (Some f) None None made_now added was tells is = absurd (true≢false (s
 told_of (Some f) None (Some all) made_now added was tells is =
     absurd (true≢false (sym (ap is_some is) ∙ tells))
 
+-- ---- what was done beside the log
+
+-- nothing where nothing is drained
+pub undrained : {T : Type 0} (h k : Holding) (notes : List EntryNote) (drain : Bool)
+    (r : Result T KeeperFault) → OnOk r (LogsAll h k notes drain)
+    → OnErr r (LogsPart h k notes drain) → drain ≡ false → HasNoDeeds k
+undrained h k notes drain (Ok done) ok err none =
+    subst (λ (d : Bool). IsDrainedAs d k notes) none ok.deeds
+undrained h k notes drain (Err fault) ok err none = elim err [
+  | inl refused ↦ refused.no_deeds
+  | inr part ↦ absurd (true≢false (sym part.0 ∙ none))
+]
+
 module _ {D : Type 0} (files : D → Option Files) (changes : D → Option (List Change))
     (moment faults : D → ℕ) (since : D → ℕ → Files → Type 0)
     (leaves : D → List ℕ → Option (List ℕ) → Type 0) (read_at : D → ℕ → Option Reading)
     (lasted_at : D → ℕ → Type 0) (code : D → Gv)
     (tells : (d : D) → is_some (changes d) ≡ is_some (files d))
     (reads_now : (d : D) → read_at d (moment d) ≡ option_map bytes_at (files d))
-    (a b : StoreState D) (left : List EntryNote)
+    (a b : StoreState D)
     (opens : a ≡ store_over a.notes.log a.notes.sizes a.archives)
     (runs : a.notes.log.is_stopped ≡ false) (first : b.first ≡ a.first)
-    (laid : List EntryNote) where
+    (laid : List EntryNote) (drain : Bool) where
   abbrev Held : StoreState D → Holding
   Held x = holding_of files changes moment faults code x
 
   fresh : IsFresh a.notes.base a.notes.sizes (Held a)
   fresh = is_fresh files changes moment faults code a opens runs
 
-  its_disk : b.first ≡ a.notes.log.disk
+  pub its_disk : b.first ≡ a.notes.log.disk
   its_disk = first ∙ ap (λ (s : StoreState D). s.first) opens
+
+  abbrev ws : List Write
+  ws = segments_with b.notes.log.past b.notes.log.id b.notes.log.sections
 
   -- ---- all are written
 
-  module _ {T : Type 0} (r : Result T KeeperFault)
-      (ok : OnOk r (Syncs (Held a) (Held b) (synced_to laid) laid left)) where
-    pub written_of : IsNoteLog b.notes → AppendsAlone changes b
-        → (b.notes.log.is_stopped ≡ false → IsSound b.notes.log)
-        → (b.notes.log.is_stopped ≡ false → HoldsIt files b)
-        → (options : ApplyOptions) (mutations : List Mutation) (opened : Files)
-        (made : List Change) → IsPlain options → capacity_of options ≡ a.notes.sizes.capacity
+  module _ (all : LogsAll (Held a) (Held b) laid drain) (ends : b.notes.log.is_stopped ≡ false)
+      (notes : IsNoteLog b.notes) (sound : b.notes.log.is_stopped ≡ false → IsSound b.notes.log)
+      (folder : b.notes.log.is_stopped ≡ false → HoldsIt files b) where
+    pub places : placed_log b.notes.log.past b.notes.log.id b.notes.log.sections
+        ≡ places_of b.notes.base b.notes.logged
+    places =
+        notes.stands.all ∙ ap (places_of b.notes.base)
+        (all_logged (Held a) (Held b) laid all.logged
+        notes.stands.shown ∙ sym all.logged.logged_are)
+
+    pub as_logged : (options : ApplyOptions) (mutations : List Mutation) (opened : Files)
+        (made : List Change)
+        → (AreLaidFor a.notes.sizes mutations b.notes.logged → files b.first ≡ Some opened
+        → changes b.first ≡ Some made → TellsWritten options b.notes.base opened made
+        (files b.notes.log.disk) (changes b.notes.log.disk) mutations b.notes.logged)
         → AreLaidFor a.notes.sizes mutations laid → files a.notes.log.disk ≡ Some opened
         → changes a.notes.log.disk ≡ Some made
-        → OnOk r (TellsWritten options a.notes.base opened made (files b.notes.log.disk)
-        (changes b.notes.log.disk) mutations laid)
-    written_of notes alone sound folder options mutations opened made plain capacity out is
-        made_is =
-        ok_then r ok (λ (s : Syncs (Held a) (Held b) (synced_to laid) laid left).
-        let still = synced_runs files changes moment faults code a b fresh mutations laid left out s
-        in
-        let logged = synced_logged files changes moment faults code a b fresh mutations laid left
-        out s in
-        let base = synced_base files changes moment faults code a b fresh mutations laid left out s
-        in
-        let places : placed_log b.notes.log.past b.notes.log.id b.notes.log.sections
-        ≡ places_of b.notes.base b.notes.logged =
-        notes.stands.all ∙ ap (places_of b.notes.base)
-        (synced_all files changes moment faults code a b fresh mutations laid left out s
-        notes.stands.shown ∙ sym logged) in
-        let all = tells_written files changes tells b still
-        (synced_deeds files changes moment faults code a b fresh mutations laid left out s) alone
-        (sound still) (folder still) places options a.notes.sizes mutations plain capacity
-        (subst (AreLaidFor a.notes.sizes mutations) (sym logged) out) opened made
-        (ap files its_disk ∙ is) (ap changes its_disk ∙ made_is) in
+        → TellsWritten options a.notes.base opened made (files b.notes.log.disk)
+        (changes b.notes.log.disk) mutations laid
+    as_logged options mutations opened made so out is made_is =
+        let logged = all.logged.logged_are in
         subst (λ (l : List EntryNote). TellsWritten options a.notes.base opened made
         (files b.notes.log.disk) (changes b.notes.log.disk) mutations l) logged
         (subst (λ (k : ℕ). TellsWritten options k opened made (files b.notes.log.disk)
-        (changes b.notes.log.disk) mutations b.notes.logged) base all))
+        (changes b.notes.log.disk) mutations b.notes.logged) all.logged.base_is
+        (so (subst (AreLaidFor a.notes.sizes mutations) (sym logged) out)
+        (ap files its_disk ∙ is) (ap changes its_disk ∙ made_is)))
+
+    -- where nothing is drained
+    pub written_alone : drain ≡ false → AppendsAlone changes b → (options : ApplyOptions)
+        (mutations : List Mutation) (opened : Files) (made : List Change) (archives : Bool)
+        → IsAskedBy options a.notes.sizes archives false
+        → AreLaidFor a.notes.sizes mutations laid → files a.notes.log.disk ≡ Some opened
+        → changes a.notes.log.disk ≡ Some made
+        → TellsWritten options a.notes.base opened made (files b.notes.log.disk)
+        (changes b.notes.log.disk) mutations laid
+    written_alone none alone options mutations opened made archives asked =
+        as_logged options mutations opened made (λ out.
+        tells_written files changes tells b ends
+        (none_done files changes moment faults code b
+        (subst (λ (d : Bool). IsDrainedAs d (Held b) laid) none all.deeds)) alone (sound ends)
+        (folder ends) places options a.notes.sizes mutations archives asked out opened made)
+
+    -- where all is drained
+    pub written_drained : drain ≡ true → HasOrdered changes b → StoresAreLeft
+        → (options : ApplyOptions) (mutations : List Mutation) (opened : Files)
+        (made : List Change) → IsAskedBy options a.notes.sizes a.archives true
+        → AreLaidFor a.notes.sizes mutations laid → files a.notes.log.disk ≡ Some opened
+        → changes a.notes.log.disk ≡ Some made
+        → TellsWritten options a.notes.base opened made (files b.notes.log.disk)
+        (changes b.notes.log.disk) mutations laid
+    written_drained full ordered law options mutations opened made asked =
+        let deeds : HasDrained (Held b) laid =
+        subst (λ (d : Bool). IsDrainedAs d (Held b) laid) full all.deeds in
+        let archives : a.archives ≡ b.archives =
+        sym (ap (λ (o : Opening). o.archives) all.logged.opening_is) in
+        as_logged options mutations opened made (λ out.
+        tells_drained files changes moment faults code tells b ends ordered (sound ends)
+        (folder ends) places all.logged.none_kept
+        (subst (HasDrained (Held b)) (sym all.logged.logged_are) deeds) law options a.notes.sizes
+        mutations
+        (subst (λ (x : Bool). IsAskedBy options a.notes.sizes x true) archives asked) out
+        (λ n h. (notes.good n (Contains-append_left b.notes.logged b.notes.kept n h)).whole)
+        opened made)
+
+  -- whatever was asked
+  pub written_of : {T : Type 0} (r : Result T KeeperFault)
+      → OnOk r (LogsAll (Held a) (Held b) laid drain) → EndsAs (Held b) r → IsNoteLog b.notes
+      → (b.notes.log.is_stopped ≡ false → IsSound b.notes.log)
+      → (b.notes.log.is_stopped ≡ false → HoldsIt files b) → AppendsAlone changes b
+      → (b.notes.log.is_stopped ≡ false → HasOrdered changes b) → StoresAreLeft
+      → (options : ApplyOptions) (mutations : List Mutation) (opened : Files)
+      (made : List Change) → IsAskedBy options a.notes.sizes a.archives drain
+      → AreLaidFor a.notes.sizes mutations laid → files a.notes.log.disk ≡ Some opened
+      → changes a.notes.log.disk ≡ Some made
+      → OnOk r (TellsWritten options a.notes.base opened made (files b.notes.log.disk)
+      (changes b.notes.log.disk) mutations laid)
+  written_of (Err fault) all ends notes sound folder alone ordered law options mutations opened
+      made asked out is made_is = tt
+  written_of (Ok done) all ends notes sound folder alone ordered law options mutations opened
+      made asked out is made_is = by_case drain refl
+    where
+      by_case : (d : Bool) → drain ≡ d
+          → TellsWritten options a.notes.base opened made (files b.notes.log.disk)
+          (changes b.notes.log.disk) mutations laid
+      by_case true full =
+          written_drained all ends.stopped notes sound folder full (ordered ends.stopped) law
+          options mutations opened made
+          (subst (IsAskedBy options a.notes.sizes a.archives) full asked) out is made_is
+      by_case false none =
+          written_alone all ends.stopped notes sound folder none alone options mutations opened made
+          a.archives (subst (IsAskedBy options a.notes.sizes a.archives) none asked) out is made_is
 
   -- ---- what it has appended since
 
-  module _ (alone : AppendsAlone changes b) where
-    -- what it has appended since
-    brought : deeds_by b ≡ no_deeds b.archives → HasBrought changes a.notes.log.disk
-        b.notes.log.disk (segments_with b.notes.log.past b.notes.log.id b.notes.log.sections)
-    brought deeds =
-        let has = alone deeds in
-        record {
-          added = has.growth.added;
-          changes_are = has.growth.changes_are
-              ∙ ap (λ (d : D). option_map (λ made. made ++ has.growth.added) (changes d)) its_disk;
-          alone = has.alone;
-          brought = written_by b.notes.log has.growth.part (appends_of has.growth.added)
-              has.growth.brought has.growth.grown;
-        }
-
+  module _ (grown : HasGrown changes b.first b.notes.log) (alone : AppendsAlone changes b) where
     -- whatever was answered
     pub brought_of : {T : Type 0} (r : Result T KeeperFault)
-        → OnOk r (Syncs (Held a) (Held b) (synced_to laid) laid left)
-        → OnErr r (SyncRefused (Held a) (Held b) (synced_to laid) laid left)
-        → (mutations : List Mutation) → AreLaidFor a.notes.sizes mutations laid
-        → (log : List Write) × HasBrought changes a.notes.log.disk b.notes.log.disk log
-    brought_of (Ok done) ok err mutations out = (
-      segments_with b.notes.log.past b.notes.log.id b.notes.log.sections,
-      brought (synced_deeds files changes moment faults code a b fresh mutations laid left out ok),
-    )
-    brought_of (Err fault) ok err mutations out = (
-      segments_with b.notes.log.past b.notes.log.id b.notes.log.sections,
-      brought
-          (refused_deeds files changes moment faults code a b fresh mutations laid left out err),
-    )
+        → OnOk r (LogsAll (Held a) (Held b) laid drain)
+        → OnErr r (LogsPart (Held a) (Held b) laid drain)
+        → HasBrought changes a.notes.log.disk b.notes.log.disk drain ws
+    brought_of r ok err = by_case drain refl
+      where
+        by_case : (d : Bool) → drain ≡ d
+            → HasBrought changes a.notes.log.disk b.notes.log.disk d ws
+        by_case true is = record {
+          added = grown.added;
+          changes_are = grown.changes_are
+              ∙ ap (λ (x : D). option_map (λ made. made ++ grown.added) (changes x)) its_disk;
+          alone = λ none. absurd (true≢false none);
+          brought = written_by b.notes.log grown.part (appends_of grown.added) grown.brought
+              grown.grown;
+        }
+        by_case false is =
+            let has = alone (none_done files changes moment faults code b
+            (undrained (Held a) (Held b) laid drain r ok err is)) in
+            record {
+              added = has.growth.added;
+              changes_are = has.growth.changes_are
+                  ∙ ap (λ (x : D). option_map (λ made. made ++ has.growth.added) (changes x))
+                  its_disk;
+              alone = λ none. has.alone;
+              brought = written_by b.notes.log has.growth.part (appends_of has.growth.added)
+                  has.growth.brought has.growth.grown;
+            }
 
   -- ---- what a crash leaves
 
@@ -229,47 +308,51 @@ module _ {D : Type 0} (files : D → Option Files) (changes : D → Option (List
       (stored : IsStored b.notes.log.id b.notes.log.sections) (mutations : List Mutation)
       (opened : Files) (out : AreLaidFor a.notes.sizes mutations laid)
       (is : files a.notes.log.disk ≡ Some opened)
-      (lasted : lasted_at a.notes.log.disk a.notes.log.opened) (alone : AppendsAlone changes b)
+      (lasted : lasted_at a.notes.log.disk a.notes.log.opened)
+      (has : HasBrought changes a.notes.log.disk b.notes.log.disk drain ws)
     where
       abbrev Leaves : ℕ → Type 0
       Leaves least =
           LeavesLines changes moment since leaves a.notes.log.disk b.notes.log.disk
-          (bytes_at opened) mutations least
+          (bytes_at opened) drain mutations least
 
       living : LivesOn files moment since leaves read_at lasted_at a.notes.log b.notes.log
       living = on (lives lasted)
 
-      first_lines : (first : AreFirst files changes moment faults code a b fresh mutations laid left
-          out notes.stands.shown) (least : ℕ) → least ≤ lasting_in b.notes.log
-          → deeds_by b ≡ no_deeds b.archives → Leaves least
-      first_lines first least le deeds =
+      first_lines : AreFirst laid (Held b) notes.stands.shown → (least : ℕ)
+          → least ≤ lasting_in b.notes.log → Leaves least
+      first_lines first least le =
           leaves_lines files changes moment since leaves read_at lasted_at a.notes.log b.notes.log
           living (sym living.outlives.opened ∙ opened_b ∙ ap moment its_disk) stored
           (reads_now a.notes.log.disk) opened is mutations out.raw out.entries first.count
           (says a.notes.sizes mutations laid out b.notes.base b.notes.log.past b.notes.log.id
           b.notes.log.sections first.count (b.notes.logged ++ take notes.stands.shown b.notes.kept)
-          notes.stands.all first.are) least le (brought alone deeds)
+          notes.stands.all first.are) least drain le has
 
-      shown_synced : Syncs (Held a) (Held b) (synced_to laid) laid left → Leaves (length mutations)
-      shown_synced s =
+      first_all : HasLogged (Held a) (Held b) laid → AreFirst laid (Held b) notes.stands.shown
+      first_all logged =
+          first_logged (Held a) (Held b) laid logged notes.stands.shown
+
+      shown_all : HasLogged (Held a) (Held b) laid → Leaves (length mutations)
+      shown_all logged =
           let lasts = as_many a.notes.sizes mutations laid out b.notes.base b.notes.log.past
           b.notes.log.id (take b.notes.log.synced b.notes.log.sections)
           (notes.stands.lasts ∙ ap (places_of b.notes.base)
-          (synced_all files changes moment faults code a b fresh mutations laid left out s
+          (all_logged (Held a) (Held b) laid logged
           notes.stands.lasting)) in
-          first_lines (first_synced files changes moment faults code a b fresh mutations laid left
-          out s notes.stands.shown) (length mutations) (omega (arith, lasts))
-          (synced_deeds files changes moment faults code a b fresh mutations laid left out s)
+          first_lines (first_all logged) (length mutations) (omega (arith, lasts))
 
-      shown_refused : SyncRefused (Held a) (Held b) (synced_to laid) laid left → Leaves 0
-      shown_refused s =
-          first_lines (first_refused files changes moment faults code a b fresh mutations laid left
-          out s notes.stands.shown) 0 (omega arith)
-          (refused_deeds files changes moment faults code a b fresh mutations laid left out s)
+      shown_part : LogsPart (Held a) (Held b) laid drain → Leaves 0
+      shown_part part = elim part [
+        | inl refused ↦
+            first_lines (first_refused a.notes.base a.notes.sizes (Held a) fresh mutations laid out
+            (Held b) refused notes.stands.shown) 0 (omega arith)
+        | inr logged ↦ first_lines (first_all logged.1) 0 (omega arith)
+      ]
 
       pub shown_of : {T : Type 0} (r : Result T KeeperFault)
-          → OnOk r (Syncs (Held a) (Held b) (synced_to laid) laid left)
-          → OnErr r (SyncRefused (Held a) (Held b) (synced_to laid) laid left)
+          → OnOk r (LogsAll (Held a) (Held b) laid drain)
+          → OnErr r (LogsPart (Held a) (Held b) laid drain)
           → Leaves (least_of r mutations)
-      shown_of (Ok done) ok err = shown_synced ok
-      shown_of (Err fault) ok err = shown_refused err
+      shown_of (Ok done) ok err = shown_all ok.logged
+      shown_of (Err fault) ok err = shown_part err

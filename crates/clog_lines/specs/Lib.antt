@@ -1,2 +1,3 @@
+pub mod Drained
 pub mod Fitting
 pub mod Written

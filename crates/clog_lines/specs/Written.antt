@@ -1,11 +1,9 @@
 -- What is left where lines were written to a store.
 use Rattle.std.specs.Prelude.{
   ◌≡◌,
-  ◌⊎◌,
   ◌<◌,
   ◌≤◌,
   ℕ,
-  ◌*◌,
   ◌++◌,
   List,
   [],
@@ -22,7 +20,6 @@ use Rattle.std.specs.Prelude.{
   Result,
   Ok,
   Err,
-  ⊤,
 }
 use Rattle.std.specs.List.{flat_map}
 use Rattle.clog_spec.specs.Names.{segment_name_of}
@@ -35,6 +32,7 @@ use Rattle.clog_disk.specs.Images.{IsImage, LeavesOnly}
 use Rattle.clog_mutation.specs.declared.mutation.Mutation.{Mutation}
 use Rattle.clog_mutation.specs.Payload.{cells_of, payload_of}
 use Rattle.clog_scan.specs.Segment.{Entry}
+use Rattle.clog_table.specs.declared.table_file.TableFile.{TableFile}
 use Rattle.clog_words.specs.declared.request.ApplyOptions.{ApplyOptions}
 use Rattle.sync_core.specs.declared.SyncCore.TheVariants.{Periodic}
 use Rattle.clog_crash.specs.Covering.{Either, SameMerge}
@@ -81,26 +79,28 @@ pub record IsWrittenBy (appends : List Append) (log : List Write) : Type 0 where
   pub only : (a : Append) → Contains appends a
       → (w : Write) × Contains log w × (0 < length w.sections) × (a.0 ≡ segment_name_of 6 w.id)
 
--- Since a disk was so its further changes are appends alone, which have brought these segments.
+-- The appends among a disk's further changes since it was so have brought these segments. All of
+-- them are appends, but behind a drain.
 pub record HasBrought {D : Type 0} (changes : D → Option (List Change)) (before now : D)
-    (log : List Write) : Type 0 where
+    (drain : Bool) (log : List Write) : Type 0 where
   pub added : List Change
   pub changes_are : changes now ≡ option_map (λ made. made ++ added) (changes before)
-  pub alone : AreAppends added
+  pub alone : drain ≡ false → AreAppends added
   pub brought : IsWrittenBy (appends_of added) log
 
 -- The segments that were written, which say the first of these lines. What a crash leaves since a
 -- disk was so, and what it leaves of it now, where nothing passes by chance for what was written.
 pub record LeavesLines {D : Type 0} (changes : D → Option (List Change)) (moment : D → ℕ)
     (since : D → ℕ → Files → Type 0) (leaves : D → List ℕ → Option (List ℕ) → Type 0)
-    (before now : D) (r : Reading) (mutations : List Mutation) (least : ℕ) : Type 0 where
-  pub log : List Write
-  pub wrote : HasBrought changes before now log
-  pub says : SaysFirst log mutations
-  pub meanwhile : LeavesOnly moment since before now
-      (λ image. NoChances log image → RestoresLines r mutations 0 image)
-  pub at_last : (image : Files) → IsImage (leaves now) image → NoChances log image
-      → RestoresLines r mutations least image
+    (before now : D) (r : Reading) (drain : Bool) (mutations : List Mutation) (least : ℕ) : Type 0
+  where
+    pub log : List Write
+    pub wrote : HasBrought changes before now drain log
+    pub says : SaysFirst log mutations
+    pub meanwhile : LeavesOnly moment since before now
+        (λ image. NoChances log image → RestoresLines r mutations 0 image)
+    pub at_last : (image : Files) → IsImage (leaves now) image → NoChances log image
+        → RestoresLines r mutations least image
 
 -- so many lines last for sure
 abbrev pub least_of : {T : Type 0} → Result T KeeperFault → List Mutation → ℕ
@@ -114,20 +114,27 @@ pub record AreLaidFor (sizes : Sizes) (mutations : List Mutation) (notes : List 
   pub entries : AreEntriesOf mutations raw
   pub laid : AreLaid sizes first_offset 1 raw notes
 
--- One writer writes all lines and syncs at the end; nothing is flushed.
-pub record IsPlain (options : ApplyOptions) : Type 0 where
+-- One writer writes all lines and syncs at the end; nothing is flushed before. Behind it all is
+-- drained or nothing, and what is dropped gets its archive name or not.
+pub record IsAskedBy (options : ApplyOptions) (sizes : Sizes) (archives drain : Bool) : Type 0 where
   pub one_writer : options.writers ≡ 1
   pub periodic : options.sync ≡ Periodic 10000
   pub no_flush : options.flush_at ≡ None
-  pub no_drain : options.drain ≡ false
+  pub capacity : capacity_of options ≡ sizes.capacity
+  pub drain_is : options.drain ≡ drain
+  pub archive_is : options.archive ≡ archives
 
--- All lines were written: what the path and the store of such a run tell.
+-- All lines were written: what the path and the store of such a run tell, with the ids of the
+-- segments that were dropped and the table files that were put.
 pub record HasWritten (options : ApplyOptions) (base : ℕ) (opened after : Files)
     (later : List Change) (mutations : List Mutation) (notes : List EntryNote) : Type 0 where
   pub ids : List ℕ
+  pub dropped : List ℕ
   pub history : List LoggedLine
-  pub path : IsClosedPath options mutations base history []
-  pub store : IsStoreLeft options.archive opened after later ids [] history []
+  pub files : List TableFile
+  pub path : IsClosedPath options mutations base history files
+  pub store : IsStoreLeft options.archive opened after later ids dropped history files
+  pub undrained : options.drain ≡ false → (dropped ≡ []) × (files ≡ [])
   pub lines : AreLaidLines base mutations notes history
   -- each line once, in order, and where its entry stands
   pub by_line : AreByLine history (length mutations) history

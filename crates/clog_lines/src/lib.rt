@@ -1,8 +1,11 @@
 //! The lines of a mutation file become the log of a folder, by one writer (Cassandra's
 //! `CommitLog.add` of each, and one sync): notes of their entries are made, and once these are laid
-//! out, a store over the folder makes all of them last.
+//! out, a store over the folder makes all of them last. Where it is asked for they are drained:
+//! table files come for them, and the log's segments go.
 #![tactic(auto)]
 
+mod draining;
+mod logging;
 mod notes;
 #[cfg(test)]
 mod tests;

@@ -4,7 +4,7 @@ ghost use Rattle.std.specs.List.{AllByRecursion};
 ghost use Rattle.clog_mutation.specs.Limits.{IsWithinLimits};
 
 use crate::{notes_of, write_lines};
-use clog_base::{Sizes, segment_name};
+use clog_base::{Sizes, Table, archive_name, segment_name, table_name};
 use clog_disk::{Disk, MemDisk};
 use clog_layout::lay_out;
 use clog_mutation::{Mutation, decode};
@@ -35,6 +35,14 @@ const NEXT: [u8; 28] = [
     0x8f, 0xfc, 0x2d, 0xbf, 0x00, 0x00, 0x00, 0x7c, 0x1c, 0xad, 0x9e, 0xa1,
 ];
 
+// The table file of two such deletions: table 0, from offset 0 to 92 of segment 1000, one cell.
+const TABLE: [u8; 58] = [
+    0x00, 0x00, 0x00, 0x01, 0x00, 0x00, 0x00, 0x00, 0x00, 0x00, 0x00, 0x03, 0xe8, 0x00, 0x00, 0x00,
+    0x00, 0x00, 0x00, 0x00, 0x00, 0x00, 0x00, 0x03, 0xe8, 0x00, 0x00, 0x00, 0x5c, 0x00, 0x00, 0x00,
+    0x01, 0xeb, 0x31, 0x02, 0x95, 0x00, 0x02, 0x61, 0x62, 0x00, 0x02, 0x63, 0x64, 0x00, 0x00, 0x00,
+    0x00, 0x00, 0x00, 0x00, 0x05, 0x00, 0x58, 0x4f, 0x3f, 0xb8,
+];
+
 // The payload of a value of so many bytes `x`, 24 bytes longer.
 fn value_of(alloc: Global, count: u16) -> Result<Vec<u8>, Fail> {
     let mut payload = Vec::new(alloc);
@@ -60,8 +68,14 @@ fn lines_of(alloc: Global, payloads: &[&[u8]]) -> Result<Vec<Mutation>, Fail>
     Ok(lines)
 }
 
-// Writes lines to an empty disk, at 1000 ms and with segments of a capacity.
-fn written(alloc: Global, lines: &[Mutation], capacity: u32) -> Result<MemDisk, Fail>
+// Writes lines to an empty disk, at 1000 ms and with segments of a capacity, and drains it or not.
+fn written_to(
+    alloc: Global,
+    lines: &[Mutation],
+    capacity: u32,
+    archives: bool,
+    drain: bool,
+) -> Result<MemDisk, Fail>
     requires { AllByRecursion IsWithinLimits lines.now }
 {
     let Some(sizes) = Sizes::make(16, 1, capacity, 2147483647) else {
@@ -79,13 +93,20 @@ fn written(alloc: Global, lines: &[Mutation], capacity: u32) -> Result<MemDisk, 
     let Ok(end) = lay_out(sizes, notes.as_mut_slice()) else {
         return Err(Fail::new("no places"));
     };
-    let Ok(store) = Store::open(alloc, MemDisk::new(alloc), 1000, sizes, false) else {
+    let Ok(store) = Store::open(alloc, MemDisk::new(alloc), 1000, sizes, archives) else {
         return Err(Fail::new("no store"));
     };
-    match write_lines(store, notes, end) {
+    match write_lines(alloc, store, notes, end, drain) {
         (disk, Ok(())) => Ok(disk),
         (_, Err(_)) => Err(Fail::new("not written")),
     }
+}
+
+// The same, and neither archives nor drains.
+fn written(alloc: Global, lines: &[Mutation], capacity: u32) -> Result<MemDisk, Fail>
+    requires { AllByRecursion IsWithinLimits lines.now }
+{
+    written_to(alloc, lines, capacity, false, false)
 }
 
 #[test]
@@ -119,5 +140,29 @@ fn no_lines_make_no_segment(rt: HostRuntime) -> Result<(), Fail> {
     let lines = lines_of(rt.alloc(), [].as_slice())?;
     let mut disk = written(rt.alloc(), lines.as_slice(), 4096)?;
     assert_eq!(rt; disk.list()?.len(), 0);
+    Ok(())
+}
+
+#[test]
+fn a_drain_leaves_a_table_file(rt: HostRuntime) -> Result<(), Fail> {
+    let lines = lines_of(rt.alloc(), [DELETION, DELETION].as_slice())?;
+    let mut disk = written_to(rt.alloc(), lines.as_slice(), 33554432, false, true)?;
+    assert_eq!(rt;
+        disk.list()?.as_slice(),
+        [table_name(Table(0), 1)].as_slice()
+    );
+    let bytes = disk.read(&table_name(Table(0), 1), 0, 1000)?;
+    assert_eq!(rt; bytes.as_slice(), TABLE.as_slice());
+    Ok(())
+}
+
+#[test]
+fn a_drain_that_archives_leaves_the_segment_besides(rt: HostRuntime) -> Result<(), Fail> {
+    let lines = lines_of(rt.alloc(), [DELETION, DELETION].as_slice())?;
+    let mut disk = written_to(rt.alloc(), lines.as_slice(), 33554432, true, true)?;
+    let names = [archive_name(1000), table_name(Table(0), 1)];
+    assert_eq!(rt; disk.list()?.as_slice(), names.as_slice());
+    let bytes = disk.read(&archive_name(1000), 0, 1000)?;
+    assert_eq!(rt; bytes.as_slice(), BOTH.as_slice());
     Ok(())
 }

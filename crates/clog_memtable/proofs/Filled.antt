@@ -1,7 +1,6 @@
 -- A memtable is filled entry by entry, and is then what its table file has to hold.
 use Rattle.std.proofs.Common.{
   ◌≡◌,
-  ◌↔◌,
   ◌<◌,
   ◌≤◌,
   ◌++◌,

@@ -14,16 +14,13 @@ use Rattle.std.proofs.Common.{
   false,
   ◌||◌,
   ◌==◌,
-  cond,
   if◌then◌else◌,
   Result,
   Ok,
-  Err,
   inl,
   inr,
   take,
   length,
-  map,
   get_or,
   ◌+◌,
   refl,
@@ -67,14 +64,7 @@ use Rattle.path_core.specs.Keeper.{
 }
 use Rattle.path_core.specs.Keys.{after}
 use Rattle.clog_memtable.specs.declared.flushing.Memtable.{Memtable}
-use Rattle.clog_memtable.specs.Flushing.{
-  FlushesAll,
-  FlushesFirst,
-  HasPutFiles,
-  MayFlush,
-  file_of,
-  files_of,
-}
+use Rattle.clog_memtable.specs.Flushing.{HasPutFiles, MayFlush, file_of, files_of}
 
 -- ---- the upper key of a table's last file
 

@@ -1,3 +1,4 @@
 pub mod Parts
 pub mod Filled
 pub mod Flushed
+pub mod Touching

@@ -5,8 +5,10 @@
 mod filling;
 mod flushing;
 mod memtable;
+mod memtables;
 #[cfg(test)]
 mod tests;
 
 pub use flushing::{Memtable, flush_all};
 pub use memtable::{Interval, cells_within};
+pub use memtables::memtables_of;

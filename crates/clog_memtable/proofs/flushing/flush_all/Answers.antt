@@ -1,4 +1,4 @@
-use Rattle.std.proofs.Common.{◌≡◌, Err, List, Result, sym, ap, ◌∙◌, subst, take, arith}
+use Rattle.std.proofs.Common.{Err, List, Result, sym, ap, ◌∙◌, subst, take, arith}
 use Rattle.std.proofs.lemmas.List.{take_all}
 use Rattle.path_core.specs.declared.keeper.KeeperFault.{KeeperFault}
 use Rattle.path_core.specs.Keeper.{HasKeeperCause, Holding}
