@@ -12,6 +12,8 @@ use Rattle.clog_disk.specs.Files.{Files}
 use Rattle.clog_folder.specs.declared.fault.OpenFault.{OpenFault}
 use Rattle.clog_folder.specs.declared.fault.OpenFault.TheVariants as folder
 use Rattle.clog_folder.specs.Folder.{FolderRefused}
+use Rattle.clog_words.specs.declared.request.ApplyOptions.{ApplyOptions}
+use Rattle.clog_applied.specs.Asked.{capacity_of}
 use Rattle.clog_store.specs.Opened.{LeftAlone, OpenRefused}
 use Rattle.clog_engine.specs.declared.status.Status.{Status}
 use Rattle.clog_engine.specs.declared.status.Status.TheVariants.{
@@ -28,18 +30,17 @@ use Rattle.clog_engine.specs.declared.status.Status.TheVariants.{
   Limit,
   Absent,
 }
-use Rattle.clog_engine.specs.Apply.{ApplyRefuses, KeepsAll, LeavesPart, ReadsToEnd}
+use Rattle.clog_engine.specs.Apply.{ApplyRefuses, KeepsAll, LeavesPart, ReadsGood}
 use Rattle.clog_engine.specs.Before.{FolderRefuses}
-use Rattle.clog_engine.specs.Input.{IsGood}
 use Rattle.clog_engine.specs.Laying.{FileRefused}
 use Rattle.clog_engine.specs.Outside.{IsUntouched, Outside}
 use Rattle.clog_engine.specs.Refusal.{folder_status}
 
 -- ---- the file is refused
 
-pub file_refuses : (capacity : ℕ) (status : Status) (o : Outside)
-    → FileRefused capacity o.left o.left_now o.source_faults o.source_faults_now status
-    → IsUntouched o → ApplyRefuses capacity status o
+pub file_refuses : (options : ApplyOptions) (status : Status) (o : Outside)
+    → FileRefused (capacity_of options) o.left o.left_now o.source_faults o.source_faults_now status
+    → IsUntouched o → ApplyRefuses options status o
 file_refuses n Ok o refused still = absurd refused
 file_refuses n Usage o refused still = absurd refused
 file_refuses n (BadLine number cause) o refused still = (refused, still)
@@ -60,14 +61,14 @@ file_refuses n (Absent name) o refused still = absurd refused
 -- ---- the folder is refused
 
 -- what is left of it: for the disk's own reasons it may have changed
-abbrev pub LeftBy : ℕ → Status → Outside → Type 0
-LeftBy capacity DiskFault o = LeavesPart capacity o
-LeftBy capacity OutOfMemory o = LeavesPart capacity o
-LeftBy capacity other o = IsUntouched o
+abbrev pub LeftBy : ApplyOptions → Status → Outside → Type 0
+LeftBy options DiskFault o = LeavesPart options o
+LeftBy options OutOfMemory o = LeavesPart options o
+LeftBy options other o = IsUntouched o
 
-pub folder_refuses : (capacity : ℕ) (status : Status) (o : Outside)
-    → ReadsToEnd o (IsGood capacity) → FolderRefuses o.files o.disk_faults o.disk_faults_now status
-    → LeftBy capacity status o → ApplyRefuses capacity status o
+pub folder_refuses : (options : ApplyOptions) (status : Status) (o : Outside)
+    → ReadsGood options o → FolderRefuses o.files o.disk_faults o.disk_faults_now status
+    → LeftBy options status o → ApplyRefuses options status o
 folder_refuses n Ok o good refused left = absurd refused
 folder_refuses n Usage o good refused left = absurd refused
 folder_refuses n (BadLine number cause) o good refused left = absurd refused
@@ -87,16 +88,16 @@ folder_refuses n (Limit TableFiles most) o good refused left = (refused.0, good,
 folder_refuses n (Absent name) o good refused left = absurd refused
 
 -- where nothing has changed
-pub left_still : (capacity : ℕ) (status : Status) (o : Outside) → IsUntouched o
-    → LeftBy capacity status o
+pub left_still : (options : ApplyOptions) (status : Status) (o : Outside) → IsUntouched o
+    → LeftBy options status o
 left_still n DiskFault o still = inl still
 left_still n OutOfMemory o still = inl still
 left_still n other o still = still
 
 -- where it was not opened
-pub left_closed : (capacity : ℕ) (refusal : OpenFault) (o : Outside) (alone : Type 0)
+pub left_closed : (options : ApplyOptions) (refusal : OpenFault) (o : Outside) (alone : Type 0)
     → LeftAlone alone refusal → (alone → IsUntouched o) → KeepsAll o
-    → LeftBy capacity (folder_status refusal) o
+    → LeftBy options (folder_status refusal) o
 left_closed n folder.Disk o alone left still kept = inr (inl kept)
 left_closed n folder.OutOfMemory o alone left still kept = inr (inl kept)
 left_closed n (folder.Damaged name at cause) o alone left still kept = still left

@@ -60,11 +60,11 @@ use Rattle.clog_applied.proofs.Whole.{with_report}
 use Rattle.clog_closing.proofs.Openings.{is_opening}
 use Rattle.clog_layout.specs.Laid.{AreLaid}
 use Rattle.clog_layout.specs.Logged.{AreNotesOf}
-use Rattle.clog_lines.specs.Written.{AreLaidFor, HasWritten, IsPlain}
+use Rattle.clog_lines.specs.Written.{AreLaidFor, HasWritten, IsAskedBy}
 use Rattle.clog_engine.specs.Apply.{BeginsIn, IsRun}
 use Rattle.clog_engine.specs.Outside.{Outside}
 use Rattle.clog_engine.specs.Report.{IsReport, head_of, receipts_of}
-use Rattle.clog_engine.specs.Request.{IsDoable}
+use Rattle.clog_engine.specs.Request.{AreSizesOf, IsDoable}
 use Rattle.clog_engine.proofs.ReceiptLines.{receipts_are}
 
 -- ---- the report
@@ -128,12 +128,16 @@ is_printed options base notes history cells ms report before after many are by_l
 
 -- ---- the run
 
-pub is_plain : (options : ApplyOptions) → IsDoable options → IsPlain options
-is_plain options doable = record {
+pub is_asked : (options : ApplyOptions) (sizes : Sizes) (archives : Bool) → IsDoable options
+    → AreSizesOf options sizes → archives ≡ options.archive
+    → IsAskedBy options sizes archives options.drain
+is_asked options sizes archives doable sizes_are archive = record {
   one_writer = ap (λ (o : ApplyOptions). o.writers) doable.plain;
   periodic = ap (λ (o : ApplyOptions). o.sync) doable.plain;
   no_flush = ap (λ (o : ApplyOptions). o.flush_at) doable.plain;
-  no_drain = ap (λ (o : ApplyOptions). o.drain) doable.plain;
+  capacity = sym sizes_are.capacity;
+  drain_is = refl;
+  archive_is = sym archive;
 }
 
 not_batch : (options : ApplyOptions) → IsDoable options → IsBatch options → ⊥
@@ -144,7 +148,8 @@ not_batch options doable batch =
     cc
 
 abbrev closed : (options : ApplyOptions) (before opened after : Files)
-    (recovery later : List Change) (ms : List Mutation) (notes : List EntryNote) (moment base : ℕ) → IsDoable options
+    (recovery later : List Change) (ms : List Mutation) (notes : List EntryNote)
+    (moment base : ℕ) → IsDoable options
     → IsOpened before moment base opened
     → ((c : Change) → Contains recovery c → IsRecoveryChange before c)
     → HasWritten options base opened after later ms notes
@@ -156,9 +161,9 @@ closed options before opened after recovery later ms notes moment base doable is
       recovery = recovery;
       later = later;
       ids = w.ids;
-      dropped = [];
+      dropped = w.dropped;
       history = w.history;
-      files = [];
+      files = w.files;
       parts = refl;
       opening = is_opening before opened moment base recovery is_opened changes;
       path = w.path;

@@ -48,6 +48,7 @@ use Rattle.clog_engine.specs.declared.status.Status.TheVariants.{
 }
 use Rattle.clog_words.specs.declared.built.Built.{Built}
 use Rattle.clog_words.specs.declared.built.Built.TheVariants.{Apply, Replay, Scan}
+use Rattle.clog_words.specs.declared.request.ApplyOptions.{ApplyOptions}
 use Rattle.clog_words.specs.Given.{texts}
 use Rattle.clog_applied.specs.Asked.{capacity_of}
 use Rattle.clog_engine.specs.Apply.{ApplyRefuses}
@@ -92,40 +93,43 @@ told_openable None P fit other clash = fit
 told_openable (Some files) P fit other clash = clash files fit other
 
 -- a good mutation file and a folder that can be opened are not refused
-apply_completes : (capacity : ℕ) (status : Status) (o : Outside) (s : Sinks)
-    → Tells o.left (IsGood capacity) → Told o.files IsOpenable → IsQuiet o s
-    → ApplyRefuses capacity status o → EndsWell status
-apply_completes n Ok o s good fit quiet refused = absurd refused
-apply_completes n Usage o s good fit quiet refused = absurd refused
-apply_completes n (BadLine number cause) o s good fit quiet refused =
-    absurd (taken_good n o _ good refused.0 (good_is_no_bad_line n number cause))
-apply_completes n (TooLarge number size most) o s good fit quiet refused =
-    absurd (taken_good n o _ good refused.0 (good_is_not_large n number size most))
-apply_completes n ReadFault o s good fit quiet refused = absurd (quiet.source refused.0)
-apply_completes n WriteFault o s good fit quiet refused = absurd refused
-apply_completes n DiskFault o s good fit quiet refused = absurd (quiet.disk refused.1)
-apply_completes n (Damaged name at cause) o s good fit quiet refused =
+apply_completes : (options : ApplyOptions) (status : Status) (o : Outside) (s : Sinks)
+    → Tells o.left (IsGood (capacity_of options)) → Told o.files IsOpenable → IsQuiet o s
+    → ApplyRefuses options status o → EndsWell status
+apply_completes options Ok o s good fit quiet refused = absurd refused
+apply_completes options Usage o s good fit quiet refused = absurd refused
+apply_completes options (BadLine number cause) o s good fit quiet refused =
+    let capacity = capacity_of options in
+    absurd (taken_good capacity o _ good refused.0 (good_is_no_bad_line capacity number cause))
+apply_completes options (TooLarge number size most) o s good fit quiet refused =
+    let capacity = capacity_of options in
+    absurd (taken_good capacity o _ good refused.0 (good_is_not_large capacity number size most))
+apply_completes options ReadFault o s good fit quiet refused = absurd (quiet.source refused.0)
+apply_completes options WriteFault o s good fit quiet refused = absurd refused
+apply_completes options DiskFault o s good fit quiet refused = absurd (quiet.disk refused.1)
+apply_completes options (Damaged name at cause) o s good fit quiet refused =
     absurd (told_openable o.files _ fit refused.1 (λ files can damage.
     undamaged_has_none files name at cause can.segments (can.within.readable.undamaged refl)
     damage.first.damage))
-apply_completes n (BadTable name fault) o s good fit quiet refused =
+apply_completes options (BadTable name fault) o s good fit quiet refused =
     absurd (told_openable o.files _ fit refused.1 (λ files can bad.
     good_has_none files name fault can.within.readable.tables bad))
-apply_completes n OutOfMemory o s good fit quiet refused = inr refl
-apply_completes n (Limit FileBytes most) o s good fit quiet refused =
-    absurd (good_is_short n o.left good refused.1)
-apply_completes n (Limit Lines most) o s good fit quiet refused =
-    absurd (taken_good n o _ good refused.1 (good_has_few_lines n))
-apply_completes n (Limit SegmentBytes most) o s good fit quiet refused =
+apply_completes options OutOfMemory o s good fit quiet refused = inr refl
+apply_completes options (Limit FileBytes most) o s good fit quiet refused =
+    absurd (good_is_short (capacity_of options) o.left good refused.1)
+apply_completes options (Limit Lines most) o s good fit quiet refused =
+    let capacity = capacity_of options in
+    absurd (taken_good capacity o _ good refused.1 (good_has_few_lines capacity))
+apply_completes options (Limit SegmentBytes most) o s good fit quiet refused =
     absurd (told_openable o.files _ fit refused.2 (λ files can long.
     can.within.readable.short long.first.name long.first.id long.first.named long.first.long))
-apply_completes n (Limit Ids most) o s good fit quiet refused =
+apply_completes options (Limit Ids most) o s good fit quiet refused =
     absurd (told_openable o.files _ fit refused.2 (λ files can great.
     let low = can.within.low great.id great.named in omega (arith, low, great.great)))
-apply_completes n (Limit TableFiles most) o s good fit quiet refused =
+apply_completes options (Limit TableFiles most) o s good fit quiet refused =
     absurd (told_openable o.files _ fit refused.2 (λ files can many.
     can.within.few many.late))
-apply_completes n (Absent name) o s good fit quiet refused = absurd refused
+apply_completes options (Absent name) o s good fit quiet refused = absurd refused
 
 -- ---- a file that is there is not refused
 
@@ -216,7 +220,7 @@ replay_completes ignore (Absent name) o s fit quiet refused = absurd refused
 does_complete : (request : Built) (o : Outside) (s : Sinks) (status : Status) → IsFit request o
     → IsQuiet o s → Does (Some request) o (err status) → EndsWell status
 does_complete (Apply options) o s status fit quiet done =
-    apply_completes (capacity_of options) status o s fit.0 fit.1 quiet done
+    apply_completes options status o s fit.0 fit.1 quiet done
 does_complete (Replay options) o s status fit quiet done =
     replay_completes options.ignore_errors status o s fit quiet done.0
 does_complete (Scan id) o s status fit quiet done =

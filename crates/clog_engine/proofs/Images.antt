@@ -1,7 +1,7 @@
 -- What a crash leaves of a run: over the looks before the opening, the opening, and the lines that
 -- are written.
 use Rattle.std.proofs.Common.{ℕ, inl, inr, List, [], take, Option, arith}
-use Rattle.std.specs.Prelude.{Contains}
+use Rattle.std.specs.Prelude.{Bool, Contains}
 use Rattle.std.specs.List.{flat_map}
 use Rattle.clog_base.proofs.Members.{nothing_there}
 use Rattle.clog_disk.specs.declared.change.Change.{Change}
@@ -81,13 +81,13 @@ module _ {D : Type 0} (changes : D → Option (List Change)) (moment : D → ℕ
       goes_on_by moment since start looked now kept then opening
 
   -- and while lines are written
-  pub while_written : (start opened now : D) (first then : Files) (ms : List Mutation)
-      (least : ℕ) → KeepsFolder first then
+  pub while_written : (start opened now : D) (first then : Files) (drain : Bool)
+      (ms : List Mutation) (least : ℕ) → KeepsFolder first then
       → LeavesOnly moment since start opened (KeepsFolder first)
-      → (lines : LeavesLines changes moment since leaves opened now (bytes_at then) ms least)
+      → (lines : LeavesLines changes moment since leaves opened now (bytes_at then) drain ms least)
       → (image : Files) → since now (moment start) image → NoChances lines.log image
       → AddsFirst first ms 0 image
-  while_written start opened now first then ms least kept opening lines =
+  while_written start opened now first then drain ms least kept opening lines =
       let has = λ (image : Files). NoChances lines.log image → AddsFirst first ms 0 image in
       let before = weakened moment since start opened (KeepsFolder first) has opening
       (λ image keeps chance. adds_none first image ms keeps) in

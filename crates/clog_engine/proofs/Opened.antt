@@ -1,6 +1,6 @@
 -- What a run leaves once its folder was opened, whether its lines were written or not.
 use Rattle.std.proofs.Common.{◌≡◌, ℕ, List, ◌++◌, length, Option, Some, None, Result, Ok as ok, Err as err, true, inr, refl, sym, ap, subst, ◌∙◌, append_assoc}
-use Rattle.std.specs.Prelude.{IfSome, OnOk}
+use Rattle.std.specs.Prelude.{Bool, IfSome, OnOk}
 use Rattle.clog_base.specs.declared.cell.Cell.{Cell}
 use Rattle.clog_base.specs.declared.cell.CellKey.{CellKey}
 use Rattle.clog_io.specs.declared.clock.Clock.{Ghosts as ClockTells}
@@ -115,7 +115,7 @@ pub ended_applies : {T : Type 0} (outcome : Result T KeeperFault) (options : App
     (o : Outside) (report bytes : List ℕ) (ms : List Mutation)
     → TakesAll o.left o.left_now bytes → IsSized (capacity_of options) bytes ms
     → IsReported options ms report → OnOk outcome (Turns o (IsRun o options ms report))
-    → Wrote o → LastsFirst o ms (least_of outcome ms)
+    → Wrote o options.drain → LastsFirst o options.drain ms (least_of outcome ms)
     → HasWriteCause o.disk_faults o.disk_faults_now outcome → SameTold o.files o.files_now
     → Applies options o (ended_as report outcome)
 ended_applies (ok done) options o report bytes ms taken sized reported run wrote lasts cause
@@ -215,9 +215,10 @@ module _ {D C : Type 0} (disk : DiskTells D) (clock : ClockTells C)
       (recovers : (first : Files) → disk.files looked ≡ Some first
       → RecoversAll first (disk.changes looked) (disk.changes opened)) where
     -- what was appended behind the recovery
-    written : (now : D) (first : Files) → disk.files looked ≡ Some first → (log : List Write)
-        → HasBrought disk.changes opened now log → HasWrittenLog (outside_at now) first log
-    written now first is log has = record {
+    written : (now : D) (drain : Bool) (first : Files) → disk.files looked ≡ Some first
+        → (log : List Write) → HasBrought disk.changes opened now drain log
+        → HasWrittenLog (outside_at now) drain first log
+    written now drain first is log has = record {
       between = disk.changes opened;
       recovered = subst (λ (c : Option (List Change)). RecoversAll first c (disk.changes opened))
           still.changes_are (recovers first is);
@@ -227,22 +228,23 @@ module _ {D C : Type 0} (disk : DiskTells D) (clock : ClockTells C)
       brought = has.brought;
     }
 
-    pub wrote : (now : D) → (log : List Write) × HasBrought disk.changes opened now log
-        → Wrote (outside_at now)
-    wrote now has = if_told (disk.files start) (disk.files looked)
-        (λ (first : Files). (log : List Write) × HasWrittenLog (outside_at now) first log)
-        still.same.files (λ first is. (has.0, written now first is has.0 has.1))
+    pub wrote : (now : D) (drain : Bool)
+        → (log : List Write) × HasBrought disk.changes opened now drain log
+        → Wrote (outside_at now) drain
+    wrote now drain has = if_told (disk.files start) (disk.files looked)
+        (λ (first : Files). (log : List Write) × HasWrittenLog (outside_at now) drain first log)
+        still.same.files (λ first is. (has.0, written now drain first is has.0 has.1))
 
     -- a crash leaves the first of the lines
-    pub lasts_first : (now : D) (ms : List Mutation) (least : ℕ)
+    pub lasts_first : (now : D) (drain : Bool) (ms : List Mutation) (least : ℕ)
         → ((then : Files) → disk.files opened ≡ Some then → (first : Files)
         → disk.files looked ≡ Some first → LastsAll first (disk.leaves looked)
-        → LeavesLines disk.changes disk.moment disk.since disk.leaves opened now (bytes_at then) ms
-        least)
-        → LastsFirst (outside_at now) ms least
-    lasts_first now ms least leaves = if_told (disk.files start) (disk.files looked)
+        → LeavesLines disk.changes disk.moment disk.since disk.leaves opened now (bytes_at then)
+        drain ms least)
+        → LastsFirst (outside_at now) drain ms least
+    lasts_first now drain ms least leaves = if_told (disk.files start) (disk.files looked)
         (λ (first : Files). LastsAll first (disk.leaves start)
-        → LeavesFirst (outside_at now) first ms least) still.same.files (λ first is lasts.
+        → LeavesFirst (outside_at now) drain first ms least) still.same.files (λ first is lasts.
         let then = opened_as (disk.files looked) (disk.files opened) moment base first is opens in
         let kept = keeps_same first then.0 then.2.recovered.same in
         let lines = leaves then.0 then.1 first is (lasting first lasts) in
@@ -251,10 +253,10 @@ module _ {D C : Type 0} (disk : DiskTells D) (clock : ClockTells C)
         (any first is (lasting first lasts)) in
         record {
           log = lines.log;
-          wrote = written now first is lines.log lines.wrote;
+          wrote = written now drain first is lines.log lines.wrote;
           says = lines.says;
           since = while_written disk.changes disk.moment disk.since disk.leaves disk.read_at
-              disk.lasted_at start opened now first then.0 ms least kept opening lines;
+              disk.lasted_at start opened now first then.0 drain ms least kept opening lines;
           now = λ image left chance.
               adds_lines first then.0 image ms least kept (lines.at_last image left chance);
         })

@@ -11,6 +11,7 @@ use Rattle.std.specs.Prelude.{
   ◌++◌,
   length,
   take,
+  Bool,
   false,
   Contains,
   Option,
@@ -107,26 +108,29 @@ pub record AddsFirst (before : Files) (mutations : List Mutation) (least : ℕ) 
       (Either (RestoresIn (bytes_at before)) (Contains (flat_map cells_of (take n mutations))))
   pub undamaged : IsUndamaged before → IsUndamaged image
 
--- The run's changes are those of a recovery, and then appends that have brought these segments.
-pub record HasWrittenLog (o : Outside) (before : Files) (log : List Write) : Type 0 where
-  pub between : Option (List Change)
-  pub recovered : RecoversAll before o.changes between
-  pub added : List Change
-  pub changes_are : o.changes_now ≡ option_map (λ made. made ++ added) between
-  pub alone : AreAppends added
-  pub brought : IsWrittenBy (appends_of added) log
+-- The run's changes are those of a recovery, and then others whose appends have brought these
+-- segments; they are appends alone where nothing is drained.
+pub record HasWrittenLog (o : Outside) (drain : Bool) (before : Files) (log : List Write) : Type 0
+  where
+    pub between : Option (List Change)
+    pub recovered : RecoversAll before o.changes between
+    pub added : List Change
+    pub changes_are : o.changes_now ≡ option_map (λ made. made ++ added) between
+    pub alone : drain ≡ false → AreAppends added
+    pub brought : IsWrittenBy (appends_of added) log
 
 -- Where the disk tells its files, that is all that was changed.
-abbrev pub Wrote : Outside → Type 0
-Wrote o = IfSome o.files (λ before. (log : List Write) × HasWrittenLog o before log)
+abbrev pub Wrote : Outside → Bool → Type 0
+Wrote o drain =
+    IfSome o.files (λ before. (log : List Write) × HasWrittenLog o drain before log)
 
 -- A crash at any moment of the run leaves what restores so, and a crash now at least so many of the
 -- lines, where nothing passes by chance for what was written: the segments that were appended,
 -- which say the first of the lines.
-pub record LeavesFirst (o : Outside) (before : Files) (mutations : List Mutation) (least : ℕ)
-    : Type 0 where
+pub record LeavesFirst (o : Outside) (drain : Bool) (before : Files) (mutations : List Mutation)
+    (least : ℕ) : Type 0 where
   pub log : List Write
-  pub wrote : HasWrittenLog o before log
+  pub wrote : HasWrittenLog o drain before log
   pub says : SaysFirst log mutations
   pub since : (image : Files) → o.since image → NoChances log image
       → AddsFirst before mutations 0 image
@@ -134,9 +138,9 @@ pub record LeavesFirst (o : Outside) (before : Files) (mutations : List Mutation
       → AddsFirst before mutations least image
 
 -- Where the disk tells its files, and all of them lasted before, a crash leaves that.
-abbrev pub LastsFirst : Outside → List Mutation → ℕ → Type 0
-LastsFirst o mutations least =
-    IfSome o.files (λ before. LastsAll before o.leaves → LeavesFirst o before mutations least)
+abbrev pub LastsFirst : Outside → Bool → List Mutation → ℕ → Type 0
+LastsFirst o drain mutations least = IfSome o.files
+    (λ before. LastsAll before o.leaves → LeavesFirst o drain before mutations least)
 
 -- ---- the run ends well
 
@@ -190,9 +194,9 @@ pub record IsApplied (o : Outside) (options : ApplyOptions) (report bytes : List
   pub sized : IsSized (capacity_of options) bytes mutations
   pub reported : IsReported options mutations report
   pub told : SameTold o.files o.files_now
-  pub wrote : Wrote o
+  pub wrote : Wrote o options.drain
   pub run : Turns o (IsRun o options mutations report)
-  pub lasts : LastsFirst o mutations (length mutations)
+  pub lasts : LastsFirst o options.drain mutations (length mutations)
 
 -- ---- the run is refused
 
@@ -207,51 +211,55 @@ pub record KeepsAll (o : Outside) : Type 0 where
       → (image : Files) → o.since image → KeepsFolder before image)
 
 -- All was good, and the run broke off while the lines were written.
-pub record IsPartly (capacity : ℕ) (o : Outside) : Type 0 where
+pub record IsPartly (options : ApplyOptions) (o : Outside) : Type 0 where
   pub bytes : List ℕ
   pub taken : TakesAll o.left o.left_now bytes
   pub mutations : List Mutation
-  pub sized : IsSized capacity bytes mutations
+  pub sized : IsSized (capacity_of options) bytes mutations
   pub told : SameTold o.files o.files_now
-  pub wrote : Wrote o
-  pub lasts : LastsFirst o mutations 0
+  pub wrote : Wrote o options.drain
+  pub lasts : LastsFirst o options.drain mutations 0
 
 -- the disk is as it was, or the folder restores the same, or the first of the lines came
-abbrev pub LeavesPart : ℕ → Outside → Type 0
-LeavesPart capacity o = IsUntouched o ⊎ (KeepsAll o ⊎ IsPartly capacity o)
+abbrev pub LeavesPart : ApplyOptions → Outside → Type 0
+LeavesPart options o = IsUntouched o ⊎ (KeepsAll o ⊎ IsPartly options o)
 
--- Why nothing is reported, and what is left of the disk, by the capacity of a segment: each row
--- with all that comes before it.
-abbrev pub ApplyRefuses : ℕ → Status → Outside → Type 0
-ApplyRefuses capacity (BadLine number cause) o =
+-- the whole file was read, and each of its lines is good
+abbrev pub ReadsGood : ApplyOptions → Outside → Type 0
+ReadsGood options o = ReadsToEnd o (IsGood (capacity_of options))
+
+-- Why nothing is reported, and what is left of the disk: each row with all that comes before it.
+abbrev pub ApplyRefuses : ApplyOptions → Status → Outside → Type 0
+ApplyRefuses options (BadLine number cause) o =
     ReadsToEnd o (λ bytes. HasBadLine bytes number cause) × IsUntouched o
-ApplyRefuses capacity (TooLarge number size most) o =
-    ReadsToEnd o (λ bytes. HasLargeLine capacity bytes number size most) × IsUntouched o
-ApplyRefuses capacity ReadFault o = Rose o.source_faults o.source_faults_now × IsUntouched o
-ApplyRefuses capacity DiskFault o =
-    ReadsToEnd o (IsGood capacity) × Rose o.disk_faults o.disk_faults_now × LeavesPart capacity o
-ApplyRefuses capacity (Damaged name at cause) o =
-    ReadsToEnd o (IsGood capacity) × IfSome o.files (λ files. HasDamage files name at cause)
+ApplyRefuses options (TooLarge number size most) o =
+    ReadsToEnd o (λ bytes. HasLargeLine (capacity_of options) bytes number size most)
     × IsUntouched o
-ApplyRefuses capacity (BadTable name fault) o =
-    ReadsToEnd o (IsGood capacity) × IfSome o.files (λ files. IsFirstBad files name fault)
+ApplyRefuses options ReadFault o = Rose o.source_faults o.source_faults_now × IsUntouched o
+ApplyRefuses options DiskFault o =
+    ReadsGood options o × Rose o.disk_faults o.disk_faults_now × LeavesPart options o
+ApplyRefuses options (Damaged name at cause) o =
+    ReadsGood options o × IfSome o.files (λ files. HasDamage files name at cause)
     × IsUntouched o
-ApplyRefuses capacity OutOfMemory o = LeavesPart capacity o
-ApplyRefuses capacity (Limit FileBytes most) o =
+ApplyRefuses options (BadTable name fault) o =
+    ReadsGood options o × IfSome o.files (λ files. IsFirstBad files name fault)
+    × IsUntouched o
+ApplyRefuses options OutOfMemory o = LeavesPart options o
+ApplyRefuses options (Limit FileBytes most) o =
     (most ≡ file_limit) × IfSome o.left (λ bytes. file_limit < length bytes) × IsUntouched o
-ApplyRefuses capacity (Limit Lines most) o =
+ApplyRefuses options (Limit Lines most) o =
     (most ≡ line_limit) × ReadsToEnd o HasManyLines × IsUntouched o
-ApplyRefuses capacity (Limit SegmentBytes most) o =
-    (most ≡ file_limit) × ReadsToEnd o (IsGood capacity) × IfSome o.files (HasLongSegment false)
+ApplyRefuses options (Limit SegmentBytes most) o =
+    (most ≡ file_limit) × ReadsGood options o × IfSome o.files (HasLongSegment false)
     × IsUntouched o
-ApplyRefuses capacity (Limit TableFiles most) o =
-    (most ≡ sequence_limit) × ReadsToEnd o (IsGood capacity) × IfSome o.files HasManyTables
+ApplyRefuses options (Limit TableFiles most) o =
+    (most ≡ sequence_limit) × ReadsGood options o × IfSome o.files HasManyTables
     × IsUntouched o
-ApplyRefuses capacity (Limit Ids most) o =
-    (most ≡ id_limit) × ReadsToEnd o (IsGood capacity) × IfSome o.files HasGreatId × IsUntouched o
-ApplyRefuses capacity other o = ⊥
+ApplyRefuses options (Limit Ids most) o =
+    (most ≡ id_limit) × ReadsGood options o × IfSome o.files HasGreatId × IsUntouched o
+ApplyRefuses options other o = ⊥
 
 -- a report, or why there is none
 abbrev pub Applies : ApplyOptions → Outside → Result (List ℕ) Status → Type 0
 Applies options o (result.Ok report) = ReadsToEnd o (IsApplied o options report)
-Applies options o (result.Err status) = ApplyRefuses (capacity_of options) status o
+Applies options o (result.Err status) = ApplyRefuses options status o

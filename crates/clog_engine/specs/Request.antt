@@ -1,7 +1,7 @@
 -- What the words of the command line ask for, of what the program does.
 use Rattle.std.specs.Prelude.{◌≡◌, ◌≤◌, List, ℕ, Option, MatchOption, String}
 use Rattle.std.specs.declared.alloc.Global.{Global}
-use Rattle.clog_spec.specs.Sizes.{most_segments}
+use Rattle.clog_spec.specs.Sizes.{most_segments, most_tables}
 use Rattle.clog_base.specs.declared.sizes.Sizes.{Sizes}
 use Rattle.clog_words.specs.declared.built.Built.{Built}
 use Rattle.clog_words.specs.declared.request.ApplyOptions.{ApplyOptions}
@@ -16,10 +16,11 @@ pub record IsDoable (options : ApplyOptions) : Type 0 where
   pub most : options.segment_kib ≤ 32768
 
 -- How large a log is whose segments have the capacity that is asked for, and are as many as there
--- may be.
+-- may be, of as many tables.
 pub record AreSizesOf (options : ApplyOptions) (sizes : Sizes) : Type 0 where
   pub capacity : sizes.capacity ≡ capacity_of options
   pub ordinals : sizes.ordinals ≡ most_segments
+  pub tables : sizes.tables ≡ most_tables
 
 -- The words, as their letters, ask for this, or for nothing that the program does.
 abbrev pub GivesRequest : List (List ℕ) → Option Built → Type 0

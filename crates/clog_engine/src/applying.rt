@@ -130,7 +130,7 @@ fn apply_lines<T: Threads + Sync, D: Disk, C: Clock, G: Gate + Sync>(
     let base = store.base();
     match report_of(alloc, options, base, before, mutations, notes.as_slice()) {
         Ok(report) => {
-            let (disk, outcome) = write_lines(store, notes, end);
+            let (disk, outcome) = write_lines(alloc, store, notes, end, options.drain);
             (disk, ended(report, outcome))
         }
         Err(OutOfMemory) => (store.into_disk(), Err(Status::OutOfMemory)),

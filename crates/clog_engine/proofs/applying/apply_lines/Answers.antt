@@ -3,15 +3,15 @@ use Rattle.clog_base.specs.declared.sizes.Sizes.{Sizes}
 use Rattle.clog_disk.specs.Files.{Files, SameTold}
 use Rattle.path_core.specs.declared.note.EntryNote.{EntryNote}
 use Rattle.path_core.specs.Keys.{first_offset}
-use Rattle.clog_applied.specs.Asked.{capacity_of}
 use Rattle.clog_lines.specs.Written.{AreLaidFor, HasWriteCause, least_of}
 use Rattle.clog_engine.specs.declared.status.Status.{Status}
 use Rattle.clog_engine.specs.Apply.{Applies, ApplyRefuses, KeepsAll}
 use Rattle.clog_engine.specs.Outside.{outside_with}
 use Rattle.clog_engine.specs.Refusal.{folder_status}
+use Rattle.clog_engine.specs.Request.{AreSizesOf}
 use Rattle.clog_engine.specs.Report.{IsReport, head_of}
 use Rattle.clog_engine.proofs.Applied.{folder_refuses, left_closed, not_opened}
-use Rattle.clog_engine.proofs.Closed.{is_plain}
+use Rattle.clog_engine.proofs.Closed.{is_asked}
 use Rattle.clog_engine.proofs.LinesLaid.{as_many, laid_many}
 use Rattle.clog_engine.proofs.Opened.{
   ended_applies,
@@ -31,18 +31,18 @@ returns-in-Err-open-clause-applies g c left left_now f h bytes taken sized =
     let now = c.in-Err-open.disk in
     let still = c.in-Ok.ensures.keeps in
     let refusal = c.in-Err-open.refusal in
-    let capacity = capacity_of c.args.options in
+    let options = c.args.options in
     let o = outside_with left left_now f h g.D.Disk g.C.Clock start now c.args.clock.now in
     let kept = keeps_all g.D.Disk g.C.Clock left left_now f h start looked c.args.clock.now
     (g.met.D.Disk.only_now start) still now c.in-Err-open.ensures.told c.in-Err-open.ensures.keeps
     c.in-Err-open.ensures.any_moment c.in-Err-open.ensures.changes in
-    subst (λ (s : Status). ApplyRefuses capacity s o) (sym c.folder_status.ensures)
-    (folder_refuses capacity (folder_status refusal) o
+    subst (λ (s : Status). ApplyRefuses options s o) (sym c.folder_status.ensures)
+    (folder_refuses options (folder_status refusal) o
     (bytes, taken, record { mutations = c.args.lines.mutations; sized = sized })
     (not_opened (g.D.Disk.files start) (g.D.Disk.files looked) (g.D.Disk.faults start)
     (g.D.Disk.faults looked) (g.D.Disk.faults now) refusal still.same.files still.later
     c.in-Err-open.ensures.refused)
-    (left_closed capacity refusal o _ c.in-Err-open.ensures.alone (λ alone.
+    (left_closed options refusal o _ c.in-Err-open.ensures.alone (λ alone.
     unchanged_on (g.D.Disk.files start) (g.D.Disk.files looked) (g.D.Disk.files now)
     (g.D.Disk.leaves start) (g.D.Disk.leaves looked) (g.D.Disk.leaves now) still.same alone.same)
     kept))
@@ -65,10 +65,10 @@ returns-in-Ok-report_of-clause-applies g c left left_now f h bytes taken sized =
     let only = g.met.D.Disk.only_now start in
     let at = c.args.clock.now in
     let o = outside_with left left_now f h g.D.Disk g.C.Clock start now at in
-    let plain = is_plain options c.requires.doable in
     let sizes_are = ap (λ s. s.notes.sizes) opening.over in
-    let capacity : capacity_of options ≡ store.notes.sizes.capacity =
-    sym (ap (λ (s : Sizes). s.capacity) sizes_are ∙ c.requires.sizes.capacity) in
+    let asked = is_asked options store.notes.sizes store.archives c.requires.doable
+    (subst (AreSizesOf options) (sym sizes_are) c.requires.sizes)
+    (ap (λ s. s.archives) opening.over) in
     let laid_there : AreLaidFor store.notes.sizes ms notes =
     subst (λ (s : Sizes). AreLaidFor s ms notes) (sym sizes_are) laid in
     let is : IsReport options.dump (head_of options.receipts store.notes.base notes) c.in-Ok.cells
@@ -84,16 +84,16 @@ returns-in-Ok-report_of-clause-applies g c left left_now f h bytes taken sized =
     (laid_many c.args.sizes first_offset 1 laid.raw notes laid.laid
     ∙ as_many ms laid.raw laid.entries)
     c.in-Ok.ensures.gives.restored is (λ then made files_are changes_are.
-    c.write_lines-disk.ensures.written options ms then made plain capacity laid_there files_are
+    c.write_lines-disk.ensures.written options ms then made asked laid_there files_are
     changes_are) in
     let lasts = lasts_first g.D.Disk g.C.Clock left left_now f h start looked at only still opened
-    c.now_ms.result store.notes.base opening.opens opening.any_moment opening.recovers now ms
-    (least_of outcome ms)
+    c.now_ms.result store.notes.base opening.opens opening.any_moment opening.recovers now
+    options.drain ms (least_of outcome ms)
     (λ then files_are first is_first lasting. c.write_lines-disk.ensures.shown ms then laid_there
     files_are (opening.lasted first is_first lasting)) in
     let has_written = wrote g.D.Disk g.C.Clock left left_now f h start looked at only still opened
     c.now_ms.result store.notes.base opening.opens opening.any_moment opening.recovers now
-    c.write_lines-disk.ensures.wrote in
+    options.drain c.write_lines-disk.ensures.wrote in
     subst (Applies options o) (sym c.ended.ensures)
     (ended_applies outcome options o report bytes ms taken sized (record {
       sizes = c.args.sizes;
