@@ -1,7 +1,7 @@
 //! What is told of a run and of its files.
 use anyhow::Result;
-use clog_base::Name;
-use clog_disk::{Disk, MemDisk};
+use clog_base::{Bytes, Name};
+use clog_disk::{Change, Disk, MemDisk};
 use std::io::Write;
 
 // Puts each of these lines behind `|`, a blank one too.
@@ -63,5 +63,50 @@ pub fn put_bytes(out: &mut Vec<u8>, disk: &MemDisk, name: &Name) -> Result<()> {
     out.push(b' ')?;
     put_hex(out, disk.bytes(name).unwrap_or(&[]))?;
     out.push(b'\n')?;
+    Ok(())
+}
+
+// Puts a change by its word and the file that it is of.
+fn put_named(out: &mut Vec<u8>, word: &str, name: &Name) -> Result<()> {
+    write!(out, "change {word} ")?;
+    out.extend_from_slice(name.as_bytes())?;
+    Ok(())
+}
+
+// Puts how many bytes came.
+fn put_length(out: &mut Vec<u8>, bytes: &Bytes) -> Result<()> {
+    write!(out, " {}", bytes.as_slice().len())?;
+    Ok(())
+}
+
+fn put_change(out: &mut Vec<u8>, change: &Change) -> Result<()> {
+    match change {
+        Change::Append(name, bytes) => {
+            put_named(out, "append", name)?;
+            put_length(out, bytes)?;
+        }
+        Change::Publish(name, bytes) => {
+            put_named(out, "publish", name)?;
+            put_length(out, bytes)?;
+        }
+        Change::Link(name, second) => {
+            put_named(out, "link", name)?;
+            out.push(b' ')?;
+            out.extend_from_slice(second.as_bytes())?;
+        }
+        Change::Remove(name) => put_named(out, "remove", name)?,
+    }
+    out.push(b'\n')?;
+    Ok(())
+}
+
+/// Puts each change since the folder was made: an append and a file put in place with how many
+/// bytes came, a link with its second name, and a removal.
+pub fn put_changes(out: &mut Vec<u8>, disk: &MemDisk) -> Result<()> {
+    for number in 0..disk.change_count() {
+        if let Some(change) = disk.change(number) {
+            put_change(out, change)?;
+        }
+    }
     Ok(())
 }

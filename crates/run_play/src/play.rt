@@ -1,5 +1,6 @@
 //! The cases are played: what stands between two lines, and what a line does to it.
-use crate::outcome::{put_bytes, put_files, put_printed};
+use crate::images::put_images;
+use crate::outcome::{put_bytes, put_changes, put_files, put_printed};
 use crate::script::{END, Step};
 use anyhow::Result;
 use clog_base::Name;
@@ -23,8 +24,8 @@ pub struct Play {
     sink: Vec<u64>,
 }
 
-// The words between single spaces; none where there is nothing.
-fn words_of(alloc: Global, text: &str) -> Result<Vec<String>> {
+/// The words between single spaces; none where there is nothing.
+pub fn words_of(alloc: Global, text: &str) -> Result<Vec<String>> {
     let mut words = Vec::new(alloc);
     for word in text.split(' ') {
         if !word.is_empty() {
@@ -40,7 +41,8 @@ fn put(disk: &mut MemDisk, name: &Name, bytes: &[u8]) -> Result<(), DiskFault> {
     disk.append_at(name, at, bytes)
 }
 
-fn clock_of(alloc: Global, first: u64, next: u64) -> Result<ListClock> {
+/// A clock that tells these moments.
+pub fn clock_of(alloc: Global, first: u64, next: u64) -> Result<ListClock> {
     let first = first.min(END - 1);
     let next = next.min(END - 1);
     Ok(ListClock::new([first, next].to_vec(alloc)?))
@@ -89,6 +91,8 @@ impl Play {
             Step::Input(bytes) => play.input.extend_from_slice(&bytes)?,
             Step::Run(words) => play = play.run(rt, alloc, words, &mut out)?,
             Step::Show(name) => put_bytes(&mut out, &play.disk, &name)?,
+            Step::Changes => put_changes(&mut out, &play.disk)?,
+            Step::Images => put_images(rt, alloc, &mut out, &play.disk)?,
             Step::Output(bytes) => put_printed(&mut out, &bytes)?,
         }
         Ok((play, out))

@@ -61,6 +61,10 @@ pub enum Step<'a> {
     Run(&'a str),
     /// A file's bytes are told.
     Show(Name),
+    /// The changes of the folder are told.
+    Changes,
+    /// What comes of what a crash might have left of the folder is told.
+    Images,
     /// These bytes are told as if a run had printed them.
     Output(Vec<u8>),
 }
@@ -172,6 +176,8 @@ impl<'a> Step<'a> {
             "newlines" => Ok(Step::Input(times(alloc, number_of(rest)?, b"\n")?)),
             "run" => Ok(Step::Run(rest)),
             "show" => Ok(Step::Show(name_of(rest)?)),
+            "changes" => Ok(Step::Changes),
+            "images" => Ok(Step::Images),
             "output" => Ok(Step::Output(bytes_of(alloc, rest)?)),
             _ => Err(Cause::Word),
         }
