@@ -29,52 +29,52 @@ use Rattle.path_rule.specs.declared.trying.PathSeat.{PathSeat}
 use Rattle.path_rule.specs.declared.view.PathSize.{PathSize}
 use Rattle.path_rule.specs.Members.{IsOf}
 use Rattle.write_path.specs.Opened.{numbers_of}
-use Rattle.path_threads.specs.declared.recorder.Recorder.{Recorder}
 use Rattle.path_threads.specs.declared.worker.Worker.{Worker}
 use Rattle.path_threads.specs.Crews.{IsSeated, number_of}
 
--- Writers whose numbers are the same one by one have the same numbers.
-pub same_numbers : (xs ys : List Worker) → length ys ≡ length xs
-    → ((i : ℕ) (d : Worker) → i < length xs
-    → number_of (get_or ys i d) ≡ number_of (get_or xs i d))
-    → map number_of ys ≡ map number_of xs
-same_numbers [] [] long each = refl
-same_numbers [] (y ∷ ys) long each = absurd (omega arith)
-same_numbers (x ∷ xs) [] long each = absurd (omega arith)
-same_numbers (x ∷ xs) (y ∷ ys) long each = let first = each 0 x (omega arith) in
-    let rest = same_numbers xs ys (omega arith) (λ i d l. each (suc i) d (omega arith)) in
-    λ i. first i ∷ rest i
+module _ {K : Type 0} where
+  -- Writers whose numbers are the same one by one have the same numbers.
+  pub same_numbers : (xs ys : List (Worker K)) → length ys ≡ length xs
+      → ((i : ℕ) (d : Worker K) → i < length xs
+      → number_of (get_or ys i d) ≡ number_of (get_or xs i d))
+      → map number_of ys ≡ map number_of xs
+  same_numbers [] [] long each = refl
+  same_numbers [] (y ∷ ys) long each = absurd (omega arith)
+  same_numbers (x ∷ xs) [] long each = absurd (omega arith)
+  same_numbers (x ∷ xs) (y ∷ ys) long each = let first = each 0 x (omega arith) in
+      let rest = same_numbers xs ys (omega arith) (λ i d l. each (suc i) d (omega arith)) in
+      λ i. first i ∷ rest i
 
--- One more writer with a seat: the numbers that are put and those that are left are the whole.
-pub one_seated : (ws : List Worker) (w : Worker) (s : PathSeat Recorder)
-    (rest : List (PathSeat Recorder)) (all : List ℕ) → w.seat ≡ Some s
-    → map number_of ws ++ numbers_of (s ∷ rest) ≡ all
-    → map number_of (ws ++ w ∷ []) ++ numbers_of rest ≡ all
-one_seated ws w s rest all is whole = ap (λ (l : List ℕ). l ++ numbers_of rest)
-    (map-append number_of ws (w ∷ [])
-    ∙ ap (λ o. map number_of ws ++ option_map_or (λ (p : PathSeat Recorder). p.member.number) o 0
-    ∷ []) is)
-    ∙ (append_assoc (map number_of ws) (s.member.number ∷ []) (numbers_of rest) ∙ whole)
+  -- One more writer with a seat: the numbers that are put and those that are left are the whole.
+  pub one_seated : (ws : List (Worker K)) (w : Worker K) (s : PathSeat K)
+      (rest : List (PathSeat K)) (all : List ℕ) → w.seat ≡ Some s
+      → map number_of ws ++ numbers_of (s ∷ rest) ≡ all
+      → map number_of (ws ++ w ∷ []) ++ numbers_of rest ≡ all
+  one_seated ws w s rest all is whole = ap (λ (l : List ℕ). l ++ numbers_of rest)
+      (map-append number_of ws (w ∷ [])
+      ∙ ap (λ o. map number_of ws ++ option_map_or (λ (p : PathSeat K). p.member.number) o 0
+      ∷ []) is)
+      ∙ (append_assoc (map number_of ws) (s.member.number ∷ []) (numbers_of rest) ∙ whole)
 
--- One more seat back.
-pub one_back : (ss : List (PathSeat Recorder)) (w : Worker) (s : PathSeat Recorder)
-    (rest : List Worker) (all : List ℕ) → w.seat ≡ Some s
-    → numbers_of ss ++ map number_of (w ∷ rest) ≡ all
-    → numbers_of (ss ++ s ∷ []) ++ map number_of rest ≡ all
-one_back ss w s rest all is whole = ap (λ (l : List ℕ). l ++ map number_of rest)
-    (map-append (λ (p : PathSeat Recorder). p.member.number) ss (s ∷ []))
-    ∙ (append_assoc (numbers_of ss) (s.member.number ∷ []) (map number_of rest)
-    ∙ (ap (λ o. numbers_of ss ++ (option_map_or (λ (p : PathSeat Recorder). p.member.number) o 0
-    ∷ map number_of rest)) (sym is) ∙ whole))
+  -- One more seat back.
+  pub one_back : (ss : List (PathSeat K)) (w : Worker K) (s : PathSeat K)
+      (rest : List (Worker K)) (all : List ℕ) → w.seat ≡ Some s
+      → numbers_of ss ++ map number_of (w ∷ rest) ≡ all
+      → numbers_of (ss ++ s ∷ []) ++ map number_of rest ≡ all
+  one_back ss w s rest all is whole = ap (λ (l : List ℕ). l ++ map number_of rest)
+      (map-append (λ (p : PathSeat K). p.member.number) ss (s ∷ []))
+      ∙ (append_assoc (numbers_of ss) (s.member.number ∷ []) (map number_of rest)
+      ∙ (ap (λ o. numbers_of ss ++ (option_map_or (λ (p : PathSeat K). p.member.number) o 0
+      ∷ map number_of rest)) (sym is) ∙ whole))
 
-some_is : (a b : PathSeat Recorder) → Some a ≡ Some b → a ≡ b
-some_is a b q = cc
+  some_is : (a b : PathSeat K) → Some a ≡ Some b → a ≡ b
+  some_is a b q = cc
 
-module _ (id : TableId) (size : PathSize) (w : Worker) where
+module _ {K : Type 0} (id : TableId) (size : PathSize) (w : Worker K) where
   -- the seat that a writer has is of the path
-  pub seat_in : (s : PathSeat Recorder) → IsSeated id size w → w.seat ≡ Some s
+  pub seat_in : (s : PathSeat K) → IsSeated id size w → w.seat ≡ Some s
       → IsOf id size s.member
-  seat_in s S is = subst (λ (p : PathSeat Recorder). IsOf id size p.member)
+  seat_in s S is = subst (λ (p : PathSeat K). IsOf id size p.member)
       (some_is S.0 s (sym S.1 ∙ is)) S.2
 
   -- a writer with a seat is not without

@@ -5,9 +5,9 @@ ghost use Rattle.write_path.specs.Closed.{AreOf};
 ghost use Rattle.write_path.specs.Opened.{AreNew, numbers_of};
 ghost use Rattle.std.specs.List.{range_with_len};
 
-use crate::recorder::Recorder;
 use crate::worker::{Answered, Plan, Worker, commit_lines};
 use clog_base::{OutOfMemory, Sizes};
+use path_core::Keeper;
 use std::alloc::Global;
 use std::sync::Wait;
 use std::thread;
@@ -15,11 +15,11 @@ use std::thread::Threads;
 use write_path::{PathSeat, WritePath};
 
 /// A writer for each seat.
-pub fn crew_of(
-    path: &WritePath<Recorder, Global>,
+pub fn crew_of<K: Keeper + Drop>(
+    path: &WritePath<K, Global>,
     alloc: Global,
-    seats: Vec<PathSeat<Recorder>>,
-) -> Result<Vec<Worker>, OutOfMemory>
+    seats: Vec<PathSeat<K>>,
+) -> Result<Vec<Worker<K>>, OutOfMemory>
     requires { AreNew path.now.table.table.shared.table_id path.now.table.size
         path.now.table.size.seats seats.items }
     ensures { IfOk result (λ v. AreCrew path.now.table.table.shared.table_id
@@ -37,13 +37,13 @@ pub fn crew_of(
 }
 
 /// Each writer commits its lines in a thread of its own, where one can be started.
-pub fn commit_all<R: Threads + Wait + Sync>(
+pub fn commit_all<R: Threads + Wait + Sync, K: Keeper + Send>(
     rt: &R,
     alloc: Global,
-    path: &WritePath<Recorder, Global>,
+    path: &WritePath<K, Global>,
     sizes: Sizes,
     plan: Plan,
-    workers: &mut [Worker],
+    workers: &mut [Worker<K>],
 )
     requires tables { sizes.tables ≡ 16 }
     requires sized { IsSizedAs path.now.table.size sizes }
@@ -54,7 +54,7 @@ pub fn commit_all<R: Threads + Wait + Sync>(
         rt,
         workers,
         64,
-        &|place, worker: &mut Worker|
+        &|place, worker: &mut Worker<K>|
             requires { (sizes.tables ≡ 16) × IsSizedAs path.now.table.size sizes
                 × IsSeated path.now.table.table.shared.table_id path.now.table.size worker.old }
             ensures { IsSeated path.entry.now.table.table.shared.table_id
@@ -75,7 +75,7 @@ pub fn commit_all<R: Threads + Wait + Sync>(
 }
 
 // The seat that a writer had.
-fn seat_of(worker: Worker) -> Option<PathSeat<Recorder>>
+fn seat_of<K>(worker: Worker<K>) -> Option<PathSeat<K>>
     ensures { result ≡ worker.seat }
 {
     let Worker {
@@ -87,11 +87,11 @@ fn seat_of(worker: Worker) -> Option<PathSeat<Recorder>>
 }
 
 /// The seats that the writers had.
-pub fn seats_of(
-    path: &WritePath<Recorder, Global>,
+pub fn seats_of<K: Keeper + Drop>(
+    path: &WritePath<K, Global>,
     alloc: Global,
-    workers: Vec<Worker>,
-) -> Result<Vec<PathSeat<Recorder>>, OutOfMemory>
+    workers: Vec<Worker<K>>,
+) -> Result<Vec<PathSeat<K>>, OutOfMemory>
     requires { AreCrew path.now.table.table.shared.table_id path.now.table.size workers.items }
     ensures of { IfOk result (λ v. AreOf path.now.table.table.shared.table_id
         path.now.table.size v.items) }

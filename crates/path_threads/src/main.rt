@@ -1,19 +1,23 @@
-//! Writers in threads of their own commit to one path over a keeper in memory. When all have ended
-//! the path is closed, and what the keeper made lasting is checked: each line stands there once, at
-//! the position that its commit answered, each writer's in order, and no range of the log lies
-//! within another.
+//! Writers in threads of their own commit to one path over a store. When all have ended the path is
+//! closed, and what the store made lasting is checked: each line stands there once, at the position
+//! that its commit answered, each writer's in order, and no range of the log lies within another;
+//! and the disk is read again, with an entry at each of these positions and no other.
+//!
+//! With no words the disks are in memory, and the counts of all runs are printed. `WRITERS LINES`
+//! times periodic commits over a disk in memory, and `batch WRITERS LINES` commits in batch mode
+//! over the folder `commitlog` below the current one.
 #![tactic(auto)]
 
 mod crew;
 mod recorder;
+mod rereading;
+mod running;
 mod tally;
 mod worker;
 
 use anyhow::{Result, bail};
-use clog_base::{OutOfMemory, Sizes};
-use crew::{commit_all, crew_of, seats_of};
-use path_core::ListKeeper;
-use recorder::{Recorder, Row};
+use clog_disk::{Disk, FolderDisk, MemDisk};
+use running::{Ran, check_run, run_writers};
 use std::alloc::Global;
 use std::env;
 use std::io::Print;
@@ -21,87 +25,24 @@ use std::sync::Wait;
 use std::thread::Threads;
 use std::time::{Clock, Instant};
 use sync_core::SyncCore;
-use tally::check;
-use worker::{Answered, Plan, Worker, prepare_lines};
-use write_path::{Receipt, WritePath};
+use worker::{Answered, Plan, prepare_lines};
 
-/// The id of the first segment.
-const BASE: u32 = 7;
-
-// All answers together.
-fn answered_by(workers: &[Worker]) -> Answered {
-    let mut sum = Answered::new();
-    for worker in workers {
-        sum.add(&worker.answered);
-    }
-    sum
+// Prints what a run in memory came to.
+fn print_run<R: Print>(rt: &R, name: &str, writers: u8, ran: &Ran) -> Result<()> {
+    let Answered {
+        logged,
+        durable,
+        refused,
+        ..
+    } = ran.answered;
+    print!(rt; "{name}, {writers} writers: {logged} logged, {durable} durable, ")?;
+    println!(rt; "{refused} refused, {} lasting", ran.lent.rows.len())?;
+    Ok(())
 }
 
-// All receipts together.
-fn receipts_of(alloc: Global, workers: &[Worker]) -> Result<Vec<Receipt>, OutOfMemory> {
-    let mut receipts = Vec::new(alloc);
-    for worker in workers {
-        receipts.extend_from_slice(worker.receipts.as_slice())?;
-    }
-    Ok(receipts)
-}
-
-/// What a run of writers came to.
-#[derive(Drop)]
-struct Ran {
-    answered: Answered,
-    receipts: Vec<Receipt>,
-    rows: Vec<Row>,
-    // from the first commit to the end of the last, in nanoseconds
-    nanos: u128,
-}
-
-// So many writers commit in a mode, and the path is closed.
-fn run_writers<R: Threads + Wait + Clock + Sync>(
-    rt: &R,
-    alloc: Global,
-    writers: u8,
-    mode: SyncCore,
-    plan: Plan,
-) -> Result<Ran> {
-    let Some(sizes) = Sizes::make(16, writers, plan.capacity, 2147483647) else {
-        bail!("no such sizes");
-    };
-    let base = u64::from(BASE);
-    let keeper = Recorder::new(ListKeeper::new(alloc, sizes, base), Vec::new(alloc));
-    let mut path = match WritePath::open(alloc, keeper, sizes, base, mode) {
-        Ok(path) => path,
-        Err(_) => bail!("no memory for a path"),
-    };
-    let Ok(seats) = path.seats(alloc) else {
-        bail!("no memory for seats");
-    };
-    let Ok(mut workers) = crew_of(&path, alloc, seats) else {
-        bail!("no memory for writers");
-    };
-    let begun = Instant::now(rt)?;
-    commit_all(rt, alloc, &path, sizes, plan, workers.as_mut_slice());
-    let nanos = begun.elapsed(rt)?.as_nanos();
-    let answered = answered_by(workers.as_slice());
-    let Ok(receipts) = receipts_of(alloc, workers.as_slice()) else {
-        bail!("no memory for receipts");
-    };
-    let Ok(seats) = seats_of(&path, alloc, workers) else {
-        bail!("no memory for seats");
-    };
-    let (keeper, _outcome) = path.close(seats);
-    Ok(Ran {
-        answered,
-        receipts,
-        rows: keeper.into_rows(),
-        nanos,
-    })
-}
-
-// Runs 2, 8 and 64 writers in both modes, checks what each run left, and prints its counts.
+// Runs 2, 8 and 64 writers in both modes, and prints their counts.
 fn count_runs<R: Threads + Wait + Clock + Print + Sync>(rt: &R, alloc: Global) -> Result<()> {
-    let mut sum = Answered::new();
-    let mut receipts = 0usize;
+    let (mut receipts, mut entries, mut unsynced) = (0usize, 0u64, 0u32);
     // In batch mode nothing is synced but by the commits.
     for (name, mode, sync_after) in [
         ("periodic", SyncCore::periodic(10), 16),
@@ -113,24 +54,17 @@ fn count_runs<R: Threads + Wait + Clock + Print + Sync>(rt: &R, alloc: Global) -
             sync_after,
         };
         for writers in [2u8, 8, 64] {
-            let mut ran = run_writers(rt, alloc, writers, mode, plan)?;
-            check(&mut ran.rows, &mut ran.receipts, BASE, writers, plan.lines)?;
-            sum.add(&ran.answered);
+            let disk = MemDisk::new(alloc);
+            let (mut ran, store) = run_writers(rt, alloc, disk, writers, mode, plan)?;
+            let count = check_run(rt, alloc, &mut ran, store, writers, plan.lines)?;
+            print_run(rt, name, writers, &ran)?;
             receipts = receipts.saturating_add(ran.receipts.len());
-            let Answered {
-                logged,
-                durable,
-                refused,
-                ..
-            } = ran.answered;
-            print!(rt; "{name}, {writers} writers: {logged} logged, {durable} durable, ")?;
-            println!(rt; "{refused} refused, {} lasting", ran.rows.len())?;
+            entries = entries.saturating_add(count);
+            unsynced = unsynced.saturating_add(ran.answered.unsynced);
         }
     }
-    println!(rt;
-        "{receipts} receipts, each of its row; {} unsynced",
-        sum.unsynced
-    )?;
+    println!(rt; "{receipts} receipts, each of its row; {unsynced} unsynced")?;
+    println!(rt; "{entries} entries on the disks, each at its receipt's position")?;
     Ok(())
 }
 
@@ -149,7 +83,8 @@ fn time_runs<R: Threads + Wait + Clock + Print + Sync>(
     let begun = Instant::now(rt)?;
     prepare_lines(alloc, lines)?;
     let alone = begun.elapsed(rt)?.as_nanos();
-    let ran = run_writers(rt, alloc, writers, SyncCore::periodic(10), plan)?;
+    let disk = MemDisk::new(alloc);
+    let (ran, _store) = run_writers(rt, alloc, disk, writers, SyncCore::periodic(10), plan)?;
     let count = u128::from(lines).max(1);
     println!(rt; "preparing a write: {} ns", alone / count)?;
     println!(rt;
@@ -159,14 +94,53 @@ fn time_runs<R: Threads + Wait + Clock + Print + Sync>(
     Ok(())
 }
 
+// Commits in batch mode over a disk, and prints how many commits had a sync together.
+fn batch_run<R: Threads + Wait + Clock + Print + Sync, D: Disk + Send + Drop>(
+    rt: &R,
+    alloc: Global,
+    disk: D,
+    writers: u8,
+    lines: u32,
+) -> Result<()> {
+    let plan = Plan {
+        capacity: 33554432,
+        lines,
+        sync_after: 0,
+    };
+    let (mut ran, store) = run_writers(rt, alloc, disk, writers, SyncCore::batch(), plan)?;
+    let commits = check_run(rt, alloc, &mut ran, store, writers, lines)?;
+    let syncs = ran.lent.syncs;
+    let tenths = commits.saturating_mul(10) / syncs.max(1);
+    println!(rt;
+        "{writers} writers: {commits} commits, {syncs} syncs, {}.{} commits a sync, {} us a commit",
+        tenths / 10,
+        tenths % 10,
+        ran.nanos / 1000 / u128::from(commits).max(1)
+    )?;
+    Ok(())
+}
+
 fn main(rt: HostRuntime) -> Result<()> {
+    let mut is_batch = false;
     let mut numbers = Vec::new(rt.alloc());
     for word in env::args(&rt)?.skip(1) {
-        numbers.push(word.parse::<u32>()?)?;
+        if word.as_str() == "batch" && numbers.is_empty() && !is_batch {
+            is_batch = true;
+        } else {
+            numbers.push(word.parse::<u32>()?)?;
+        }
     }
+    let Ok(for_disk) = rt.clone() else {
+        bail!("no memory for a disk");
+    };
+    let alloc = rt.alloc();
     match *numbers.as_slice() {
-        [] => count_runs(&rt, rt.alloc()),
-        [writers, lines] => time_runs(&rt, rt.alloc(), u8::try_from(writers)?, lines),
-        _ => bail!("the words are none, or a count of writers and one of lines"),
+        [] => count_runs(&rt, alloc),
+        [writers, lines] if is_batch => {
+            let disk = FolderDisk::for_writing(for_disk);
+            batch_run(&rt, alloc, disk, u8::try_from(writers)?, lines)
+        }
+        [writers, lines] => time_runs(&rt, alloc, u8::try_from(writers)?, lines),
+        _ => bail!("the words are none, or counts of writers and of lines, maybe behind `batch`"),
     }
 }

@@ -1,9 +1,9 @@
-//! A keeper in memory that records what it made lasting.
+//! A keeper that records what it made lasting, and how often it was called for that.
 ghost use Rattle.std.specs.Prelude.{◌≡◌};
 
 use clog_base::{Key, Table};
 use clog_cells::CellMap;
-use path_core::{EntryNote, Keeper, KeeperFault, ListKeeper};
+use path_core::{EntryNote, Keeper, KeeperFault};
 
 /// An entry that was made lasting.
 #[derive(Clone, Copy, Debug, PartialEq, Eq)]
@@ -18,31 +18,45 @@ pub struct Row {
     pub end: Key,
 }
 
-/// A keeper over lists, and a row for each entry that it was lent.
+/// What a keeper was lent.
 #[derive(Drop)]
-pub struct Recorder {
-    keeper: ListKeeper,
-    rows: Vec<Row>,
+pub struct Lent {
+    /// A row for each entry that was made lasting, in the order of the syncs. One for which there
+    /// was no memory is missing.
+    pub rows: Vec<Row>,
+    /// How often the keeper was called to sync.
+    pub syncs: u64,
 }
 
-impl Recorder {
+/// A keeper, and what it was lent.
+#[derive(Drop)]
+pub struct Recorder<K> {
+    keeper: K,
+    lent: Lent,
+}
+
+impl<K> Recorder<K> {
     /// A recorder over a keeper.
-    pub fn new(keeper: ListKeeper, rows: Vec<Row>) -> Recorder
+    pub fn new(keeper: K, rows: Vec<Row>) -> Recorder<K>
         ensures { result.keeper ≡ keeper }
     {
-        Recorder { keeper, rows }
+        Recorder {
+            keeper,
+            lent: Lent { rows, syncs: 0 },
+        }
     }
 
-    /// What was made lasting, in the order of its syncs. A row for which there was no memory is
-    /// missing.
-    pub fn into_rows(self) -> Vec<Row> {
-        let Recorder { keeper: _, rows } = self;
-        rows
+    /// The keeper, and what it was lent.
+    pub fn into_parts(self) -> (K, Lent)
+        ensures { result.0 ≡ self.keeper }
+    {
+        let Recorder { keeper, lent } = self;
+        (keeper, lent)
     }
 }
 
 // Adds a row for each entry up to a key, or as many as there is memory for.
-fn record(rows: &mut Vec<Row>, pending: &[EntryNote], upto: Key) {
+fn add_rows(rows: &mut Vec<Row>, pending: &[EntryNote], upto: Key) {
     for note in pending {
         let row = Row {
             line: note.line,
@@ -56,15 +70,16 @@ fn record(rows: &mut Vec<Row>, pending: &[EntryNote], upto: Key) {
     }
 }
 
-impl Keeper for Recorder {
-    ghost holds = { λ r. ⟦<ListKeeper as Keeper>⟧.holds r.keeper };
+impl<K: Keeper> Keeper for Recorder<K> {
+    ghost holds = { λ r. K.holds r.keeper };
 
     fn sync(&mut self, pending: &mut Vec<EntryNote>, upto: Key) -> Result<(), KeeperFault> {
-        let before = self.rows.len();
-        record(&mut self.rows, pending.as_slice(), upto);
+        let before = self.lent.rows.len();
+        add_rows(&mut self.lent.rows, pending.as_slice(), upto);
+        self.lent.syncs = self.lent.syncs.saturating_add(1);
         let synced = self.keeper.sync(pending, upto);
         if synced.is_err() {
-            self.rows.truncate(before);
+            self.lent.rows.truncate(before);
         }
         synced
     }

@@ -7,11 +7,11 @@ ghost use Rattle.path_threads.specs.Crews.{IsSeated, IsSizedAs, number_of};
 ghost use Rattle.write_path.specs.Tries.{Stays};
 ghost use Rattle.write_path.specs.Writes.{IsPrepared};
 
-use crate::recorder::Recorder;
 use anyhow::{Result, bail};
 use clog_base::Sizes;
 use clog_io::OpenGate;
 use clog_mutation::decode;
+use path_core::Keeper;
 use std::alloc::Global;
 use std::sync::Wait;
 use write_path::{Commit, PathSeat, Prepared, Receipt, WritePath};
@@ -76,9 +76,9 @@ fn receipt_of(commit: &Commit) -> Option<Receipt> {
 
 /// A writer: its seat between two commits, and how its commits were answered.
 #[derive(Drop)]
-pub struct Worker {
+pub struct Worker<K> {
     /// Its seat, which it has but while it commits.
-    pub seat: Option<PathSeat<Recorder>>,
+    pub seat: Option<PathSeat<K>>,
     /// The answers so far.
     pub answered: Answered,
     /// The receipts so far, in order. One for which there was no memory is missing.
@@ -120,13 +120,13 @@ fn prepare(alloc: Global, sizes: Sizes, line: u32) -> Result<Prepared>
 }
 
 // Commits one line.
-fn commit_line<R: Wait>(
+fn commit_line<R: Wait, K: Keeper>(
     rt: &R,
     alloc: Global,
-    path: &WritePath<Recorder, Global>,
+    path: &WritePath<K, Global>,
     sizes: Sizes,
     line: u32,
-    worker: &mut Worker,
+    worker: &mut Worker<K>,
 )
     requires tables { sizes.tables ≡ 16 }
     requires sized { IsSizedAs path.now.table.size sizes }
@@ -149,7 +149,12 @@ fn commit_line<R: Wait>(
 }
 
 // Syncs the log.
-fn sync_log<R: Wait>(rt: &R, alloc: Global, path: &WritePath<Recorder, Global>, worker: &mut Worker)
+fn sync_log<R: Wait, K: Keeper>(
+    rt: &R,
+    alloc: Global,
+    path: &WritePath<K, Global>,
+    worker: &mut Worker<K>,
+)
     requires { IsSeated path.now.table.table.shared.table_id path.now.table.size worker.old }
     ensures seated { IsSeated path.now.table.table.shared.table_id path.now.table.size worker.new }
     ensures number { number_of worker.new ≡ number_of worker.old }
@@ -172,14 +177,14 @@ pub fn prepare_lines(alloc: Global, lines: u32) -> Result<()> {
 }
 
 // Commits the line of a place in a writer's share, and syncs where one is due behind it.
-fn commit_place<R: Wait>(
+fn commit_place<R: Wait, K: Keeper>(
     rt: &R,
     alloc: Global,
-    path: &WritePath<Recorder, Global>,
+    path: &WritePath<K, Global>,
     sizes: Sizes,
     plan: Plan,
     line: u32,
-    worker: &mut Worker,
+    worker: &mut Worker<K>,
 )
     requires tables { sizes.tables ≡ 16 }
     requires sized { IsSizedAs path.now.table.size sizes }
@@ -195,14 +200,14 @@ fn commit_place<R: Wait>(
 
 /// Commits a writer's lines by a plan: those whose number, from 1, modulo the count of writers is
 /// its own, in order; and syncs behind the last, where the plan syncs.
-pub fn commit_lines<R: Wait>(
+pub fn commit_lines<R: Wait, K: Keeper>(
     rt: &R,
     alloc: Global,
-    path: &WritePath<Recorder, Global>,
+    path: &WritePath<K, Global>,
     sizes: Sizes,
     plan: Plan,
     number: u32,
-    worker: &mut Worker,
+    worker: &mut Worker<K>,
 )
     requires tables { sizes.tables ≡ 16 }
     requires sized { IsSizedAs path.now.table.size sizes }

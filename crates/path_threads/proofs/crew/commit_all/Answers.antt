@@ -9,7 +9,7 @@ for_each_mut-requires-clause-accepts g c κs within = λ i p inside is.
     let t = c.args.path.now.table in (
       c.requires.tables,
       c.requires.sized,
-      subst (λ (w : Worker). IsSeated t.table.shared.table_id t.size w) (sym is)
+      subst (λ (w : Worker g.row.K.Denot). IsSeated t.table.shared.table_id t.size w) (sym is)
           (c.requires.crew.each i p.now inside),
     )
 
@@ -17,7 +17,7 @@ pub returns : goal.returns
 returns g c = let t = c.args.path.now.table in let xs = c.args.workers.now in
     let ys = c.for_each_mut.new.s in let each = c.for_each_mut.ensures in record {
       each = λ i d inside. let one = (each i d (omega (arith, inside, c.for_each_mut.auto.s))).1 in
-          subst (λ (w : Worker). IsSeated t.table.shared.table_id t.size w) one.left one.call.0;
+          subst (λ (w : Worker g.row.K.Denot). IsSeated t.table.shared.table_id t.size w) one.left one.call.0;
       numbers = same_numbers xs ys (omega (arith, c.for_each_mut.auto.s))
           (λ i d inside. let one = (each i d inside).1 in
           ap number_of (sym one.left) ∙ (one.call.1 ∙ ap number_of one.argument_is))

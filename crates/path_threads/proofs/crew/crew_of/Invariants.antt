@@ -6,7 +6,7 @@ use Rattle.path_threads.proofs.crew.crew_of.Given as goal
 
 -- the numbers of the writers that have their seats, and those of the seats that are left, are all
 abbrev pub invariant-loop-seat : goal.invariant-loop-seat
-invariant-loop-seat l = let t = l.path.table in record {
+invariant-loop-seat g l = let t = l.path.table in record {
   each : All (IsSeated t.table.shared.table_id t.size) l.workers.items;
   left : All (IsNewSeat t.table.shared.table_id t.size) l.seat-iterator.rest.items;
   numbers : map number_of l.workers.items ++ numbers_of l.seat-iterator.rest.items

@@ -7,7 +7,7 @@ use Rattle.path_threads.proofs.crew.seats_of.Given as goal
 
 -- the numbers of the seats that are back, and those of the writers that are left, are all
 abbrev pub invariant-loop-worker : goal.invariant-loop-worker
-invariant-loop-worker l = let t = l.path.table in record {
+invariant-loop-worker g l = let t = l.path.table in record {
   each : AreOf t.table.shared.table_id t.size l.seats.items;
   left : All (IsSeated t.table.shared.table_id t.size) l.worker-iterator.rest.items;
   numbers : numbers_of l.seats.items ++ map number_of l.worker-iterator.rest.items
