@@ -1,6 +1,7 @@
 #!/bin/sh
 # Time of a periodic commit beside that of preparing its write, over a keeper in memory: one writer
-# with 10,000 to 1,000,000 lines, then 2, 4 and 64 writers. Needs a built program (`rt run` in
+# with 10,000 to 1,000,000 lines, then 2, 4 and 64 writers. And how many commits in batch mode one
+# sync of a real folder makes lasting, for 1, 8 and 64 writers. Needs a built program (`rt run` in
 # crates/path_threads). No part of the gate.
 set -e
 top=$(cd "$(dirname "$0")/.." && pwd)
@@ -17,3 +18,11 @@ for writers in 2 4; do
 done
 echo "64 writers, 10000 lines each"
 "$program" 64 10000
+
+work=$(mktemp -d)
+trap 'rm -rf "$work"' EXIT
+echo "batch mode over a folder, 6400 lines"
+for writers in 1 8 64; do
+    mkdir "$work/$writers"
+    (cd "$work/$writers" && "$program" batch $writers $((6400 / writers)))
+done
