@@ -5,10 +5,13 @@
 //! barrier, gathers all boxes behind it, and has the keeper make lasting what is pending; then the
 //! seat is idle again. Where the keeper refused the last sync for memory and no entry came since,
 //! the same marker serves.
-ghost use Rattle.std.specs.Prelude.{◌≡◌, []};
-ghost use Rattle.path_rule.specs.Members.{view_of, IsOf};
+ghost use Rattle.std.specs.Prelude.{◌≡◌, ℕ, []};
+ghost use Rattle.path_core.specs.declared.event.Cursor.TheVariants.{Synced};
+ghost use Rattle.path_core.specs.declared.event.Event.TheVariants.{Look};
+ghost use Rattle.path_core.specs.declared.event.Place.TheVariants.{CursorWord, Log};
+ghost use Rattle.path_rule.specs.Members.{view_of, IsOf, Stepped};
 ghost use Rattle.path_rule.specs.Rounds.{RoundSteps, WroteBelow};
-ghost use Rattle.path_rule.specs.SyncAnswers.{MayAnswer};
+ghost use Rattle.path_rule.specs.SyncAnswers.{IsDoneBy, MayAnswer};
 ghost use Rattle.write_path.specs.Syncs.{Syncs};
 ghost use Rattle.write_path.specs.Tries.{Stays};
 
@@ -50,6 +53,8 @@ impl<K: Keeper, A: Allocator> WritePath<K, A> {
             result.0.member }
         ensures steps { RoundSteps seat.member.number [] (view_of seat.member)
             (view_of result.0.member) }
+        ensures looked { Stepped seat.member (Look seat.member.number Log) result.1
+            result.0.member }
         ensures wrote { WroteBelow result.1 (view_of result.0.member).trail }
     {
         let PathSeat { mut member } = seat;
@@ -65,6 +70,9 @@ impl<K: Keeper, A: Allocator> WritePath<K, A> {
             result.0.member }
         ensures answer { MayAnswer seat.member.number self.now.table.size.at_open
             (view_of seat.member) result.1 (view_of result.0.member) }
+        ensures looked { (found : ℕ) × Stepped seat.member
+            (Look seat.member.number (CursorWord Synced)) found result.0.member
+            × IsDoneBy upto found result.1 }
     {
         let PathSeat { mut member } = seat;
         let done = self.table.look_done(&mut member, upto);
