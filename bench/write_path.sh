@@ -21,8 +21,16 @@ echo "64 writers, 10000 lines each"
 
 work=$(mktemp -d)
 trap 'rm -rf "$work"' EXIT
+batch() {
+    rm -rf "$work/run"
+    mkdir "$work/run"
+    (cd "$work/run" && "$program" batch "$1" $(($2 / $1)))
+}
 echo "batch mode over a folder, 6400 lines"
 for writers in 1 8 64; do
-    mkdir "$work/$writers"
-    (cd "$work/$writers" && "$program" batch $writers $((6400 / writers)))
+    batch $writers 6400
+done
+echo "8 writers in batch mode, more and more lines"
+for lines in 3200 10000 100000; do
+    batch 8 $lines
 done
