@@ -24,7 +24,7 @@ use Rattle.std.specs.Prelude.{Contains}
 use Rattle.std.proofs.lemmas.List.Elements.{Contains-append_right}
 use Rattle.std.proofs.lemmas.Bool.Decides.{nat_tests}
 use Rattle.std.proofs.lemmas.Bool.{cases_eq}
-use Rattle.clog_spec.specs.Names.{segment_name_of}
+use Rattle.clog_spec.specs.Names.{archive_name_of, segment_name_of}
 use Rattle.clog_base.specs.declared.cell.Table.{Table}
 use Rattle.clog_base.specs.declared.position.Position.{Position}
 use Rattle.clog_base.specs.Positions.{IsBelow, IsUpTo}
@@ -176,6 +176,31 @@ module _ (o : ApplyOptions) (before after : Files) (changes : List Change)
         droppable = so.droppable;
       }
 
+  removed_archived : o.archive ≡ true → (front rest : List Change) (id : ℕ) → Contains c.ids id
+      → changes ≡ front ++ change.Remove (segment_name_of 6 id) ∷ rest
+      → Contains front (change.Link (segment_name_of 6 id) (archive_name_of id))
+  removed_archived archive front rest id h is =
+      let behind = cut_behind front rest id h is in
+      let link = change.Link (segment_name_of 6 id) (archive_name_of id) in
+      subst (λ (cs : List Change). Contains cs link) (sym behind.front_is)
+      (Contains-append_right c.recovery behind.more link
+      (c.store.order.removed_archived archive behind.more rest id h behind.rest_is))
+
+  archived_whole : (front rest : List Change) (id : ℕ) (name : List ℕ) → Contains c.ids id
+      → changes ≡ front ++ change.Link (segment_name_of 6 id) name ∷ rest
+      → (name ≡ archive_name_of id) × (appended front id ≡ appended changes id)
+  archived_whole front rest id name h is =
+      let link = change.Link (segment_name_of 6 id) name in
+      elim (of_which c.recovery c.later front link rest (sym c.parts ∙ is)) [
+        | inl old ↦ absurd (c.opening.changes link old)
+        | inr behind ↦
+            let so = c.store.order.archived_whole behind.more rest id name h behind.rest_is in (
+              so.0,
+              appended_behind front behind.more behind.front_is id ∙ so.1
+                  ∙ sym (same_appended o before after changes mutations c id),
+            )
+      ]
+
   -- ---- what is gone
 
   gone : (id : ℕ) → Contains c.ids id → IsHeld after (segment_name_of 6 id)
@@ -251,12 +276,15 @@ module _ (o : ApplyOptions) (before after : Files) (changes : List Change)
   others name bytes none there =
       c.store.others name bytes none (c.opening.others name bytes none there)
 
-  pub nothing_early : NothingGoesEarly o.drain before after changes c.ids c.history c.files
+  pub nothing_early : NothingGoesEarly o.archive o.drain before after changes c.ids c.history
+      c.files
   nothing_early = record {
     order = record {
       published = published;
       removed_whole = removed_whole;
       removed_filed = removed_filed;
+      removed_archived = removed_archived;
+      archived_whole = archived_whole;
     };
     gone = gone;
     drained = drained;
@@ -300,6 +328,7 @@ module _ (o : ApplyOptions) (before after : Files) (changes : List Change)
     base_below = from_base o before after changes mutations c;
     follow = c.path.follow;
     are_true = c.path.are_true;
+    for_some = c.path.for_some;
     in_one = in_one;
     none = c.path.none;
   }

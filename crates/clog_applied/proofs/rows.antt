@@ -1,4 +1,5 @@
 -- Worked rows.
+pub mod Archived
 pub mod Bytes
 pub mod Drained
 pub mod Empty

@@ -46,4 +46,4 @@ pub record IsAppliedRun (options : ApplyOptions) (before after : Files) (changes
       TableFilesAreTrue (flushes options) before after base ids history files
   pub flush_limit_is_met : FlushLimitIsMet options base mutations history files
   pub nothing_goes_early :
-      NothingGoesEarly options.drain before after changes ids history files
+      NothingGoesEarly options.archive options.drain before after changes ids history files

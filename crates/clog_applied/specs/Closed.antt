@@ -35,6 +35,7 @@ use Rattle.clog_applied.specs.Asked.{IsBatch, capacity_of, flushes}
 use Rattle.clog_applied.specs.Early.{AreInOrder}
 use Rattle.clog_applied.specs.Filed.{
   FollowFrom,
+  HoldsSome,
   IsTrueFor,
   KeepsOthers,
   StandsBefore,
@@ -68,7 +69,7 @@ pub record HasFlushed (most : ℕ) (table : Table) (writer : ℕ) (history : Lis
   pub few : sum_by (updates_at table) rest < most
 
 -- The seats' lists together are a lawful history, each of them the writer's share in order. Files
--- follow one another and are true for it. Behind a drain each entry lies in a file of each table
+-- follow one another, are true for it, and each stands for an entry. Behind a drain each entry lies in a file of each table
 -- that it touches, and with a flush limit each writer has flushed.
 pub record IsClosedPath (options : ApplyOptions) (mutations : List Mutation) (base : ℕ)
     (history : List LoggedLine) (files : List TableFile) : Type 0 where
@@ -80,6 +81,7 @@ pub record IsClosedPath (options : ApplyOptions) (mutations : List Mutation) (ba
       → written_by writer history ≡ share_of options.writers writer mutations
   pub follow : (table : Table) → FollowFrom (first_of base) (files_of table files)
   pub are_true : (file : TableFile) → Contains files file → IsTrueFor history file
+  pub for_some : (file : TableFile) → Contains files file → HoldsSome history file
   pub drained : options.drain ≡ true → (table : Table) (w : LoggedLine) → Contains history w
       → Touches (entry_of w) table → IsFiled files table (logged_at w)
   pub none : flushes options ≡ false → files ≡ []
@@ -127,7 +129,7 @@ pub record IsStoreLeft (archive : Bool) (opened after : Files) (later : List Cha
   pub is_appended : IsAppended later ids history
   pub bytes : (id : ℕ) → Contains ids id → IsFile (appended later id)
   pub some : (id : ℕ) → Contains ids id → (w : LoggedLine) × Contains history w × (w.id ≡ id)
-  pub order : AreInOrder IsAnyFile later ids history files
+  pub order : AreInOrder IsAnyFile archive later ids history files
   pub dropped_exactly : (id : ℕ) → Contains ids id
       → Contains dropped id ↔ IsDroppable files id (entries_in id history)
   pub segments : (id : ℕ) → Contains ids id

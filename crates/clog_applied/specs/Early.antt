@@ -12,7 +12,7 @@ use Rattle.std.specs.Prelude.{
   length,
   Contains,
 }
-use Rattle.clog_spec.specs.Names.{segment_name_of, IsTableName}
+use Rattle.clog_spec.specs.Names.{archive_name_of, segment_name_of, IsTableName}
 use Rattle.clog_base.specs.Positions.{IsUpTo}
 use Rattle.clog_disk.specs.declared.change.Change.{Change}
 use Rattle.clog_disk.specs.declared.change.Change.TheVariants as change
@@ -60,9 +60,10 @@ pub record MayGoBehind (files : List TableFile) (front : List Change) (id : ℕ)
 
 -- Where changes are cut at the coming of a new table file, the log behind the file is appended in
 -- front; where they are cut at the removal of a segment of the run, all its bytes are, and it may
--- go by the table files that are in place.
-pub record AreInOrder (IsNew : TableFile → Type 0) (changes : List Change) (ids : List ℕ)
-    (history : List LoggedLine) (files : List TableFile) : Type 0 where
+-- go by the table files that are in place. Where archives are kept it has its archive name by then,
+-- which it gets once all its bytes are appended.
+pub record AreInOrder (IsNew : TableFile → Type 0) (archive : Bool) (changes : List Change)
+    (ids : List ℕ) (history : List LoggedLine) (files : List TableFile) : Type 0 where
   pub published : (front rest : List Change) (name bytes : List ℕ) (file : TableFile)
       → changes ≡ front ++ change.Publish name bytes ∷ rest → SaysFile name bytes file
       → IsNew file → IsLoggedBehind history front file
@@ -72,12 +73,18 @@ pub record AreInOrder (IsNew : TableFile → Type 0) (changes : List Change) (id
   pub removed_filed : (front rest : List Change) (id : ℕ) → Contains ids id
       → changes ≡ front ++ change.Remove (segment_name_of 6 id) ∷ rest
       → MayGoBehind files front id (entries_in id history)
+  pub removed_archived : archive ≡ true → (front rest : List Change) (id : ℕ) → Contains ids id
+      → changes ≡ front ++ change.Remove (segment_name_of 6 id) ∷ rest
+      → Contains front (change.Link (segment_name_of 6 id) (archive_name_of id))
+  pub archived_whole : (front rest : List Change) (id : ℕ) (name : List ℕ) → Contains ids id
+      → changes ≡ front ++ change.Link (segment_name_of 6 id) name ∷ rest
+      → (name ≡ archive_name_of id) × (appended front id ≡ appended changes id)
 
 -- The run's changes stand in order. No segment of the run is left that may go, the last one among
 -- them, and none at all behind a drain. Of before nothing else has gone or changed but segments.
-pub record NothingGoesEarly (drain : Bool) (before after : Files) (changes : List Change)
+pub record NothingGoesEarly (archive drain : Bool) (before after : Files) (changes : List Change)
     (ids : List ℕ) (history : List LoggedLine) (files : List TableFile) : Type 0 where
-  pub order : AreInOrder (EndsAbove before) changes ids history files
+  pub order : AreInOrder (EndsAbove before) archive changes ids history files
   pub gone : (id : ℕ) → Contains ids id → IsHeld after (segment_name_of 6 id)
       → ¬ IsDroppable files id (entries_in id history)
   pub drained : drain ≡ true → (id : ℕ) → Contains ids id → ¬ IsHeld after (segment_name_of 6 id)

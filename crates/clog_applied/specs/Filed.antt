@@ -83,6 +83,13 @@ pub record IsCellWithin (history : List LoggedLine) (file : TableFile) (pair : C
 abbrev pub IsTrueFor : List LoggedLine → TableFile → Type 0
 IsTrueFor history file = IsMergeOf (IsCellWithin history file) file.cells
 
+-- It stands for something: an entry that touches its table lies in its interval.
+pub record HoldsSome (history : List LoggedLine) (file : TableFile) : Type 0 where
+  pub line : LoggedLine
+  pub listed : Contains history line
+  pub touches : Touches (entry_of line) file.table
+  pub inside : IsInInterval file (logged_at line)
+
 -- one file of the table holds the position, and no other one
 pub record IsInOne (files : List TableFile) (table : Table) (at : Position) : Type 0 where
   pub file : TableFile
@@ -111,7 +118,8 @@ pub record AreRunFiles (before after : Files) (files : List TableFile) : Type 0 
 
 -- The run's table files follow one another from one position for all tables, which is above all ids
 -- of before, and not above those of the run's segments. They are true, and each entry up to the end
--- of a table's last one lies in exactly one. A run that does not flush has none.
+-- of a table's last one lies in exactly one. None of them stands for nothing, and a run that does
+-- not flush has none.
 pub record TableFilesAreTrue (flushes : Bool) (before after : Files) (base : ℕ) (ids : List ℕ)
     (history : List LoggedLine) (files : List TableFile) : Type 0 where
   pub files_are : AreRunFiles before after files
@@ -119,6 +127,7 @@ pub record TableFilesAreTrue (flushes : Bool) (before after : Files) (base : ℕ
   pub base_below : (id : ℕ) → Contains ids id → base ≤ id
   pub follow : (table : Table) → FollowFrom (first_of base) (files_of table files)
   pub are_true : (file : TableFile) → Contains files file → IsTrueFor history file
+  pub for_some : (file : TableFile) → Contains files file → HoldsSome history file
   pub in_one : (table : Table) (w : LoggedLine) → Contains history w → Touches (entry_of w) table
       → IsUpTo (logged_at w) (last_upper (first_of base) (files_of table files))
       → IsInOne files table (logged_at w)

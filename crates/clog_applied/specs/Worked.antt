@@ -3,7 +3,8 @@
 use Rattle.std.specs.Prelude.{ℕ, ◌+◌, Bool, false, true, None, List, [], ◌∷◌, ◌++◌}
 use Rattle.std.specs.FinMap as finmap
 use Rattle.sync_core.specs.declared.SyncCore.{SyncCore}
-use Rattle.clog_spec.specs.Names.{segment_name_of, table_name_of}
+use Rattle.sync_core.specs.declared.SyncCore.TheVariants.{Periodic}
+use Rattle.clog_spec.specs.Names.{archive_name_of, segment_name_of, table_name_of}
 use Rattle.clog_spec.specs.Segment.{header_bytes, section_bytes}
 use Rattle.clog_base.specs.declared.position.Position.{Position}
 use Rattle.clog_disk.specs.declared.change.Change.{Change}
@@ -114,6 +115,18 @@ one_logged = line_at 1 28 ∷ []
 
 abbrev pub drained_changes : List Change
 drained_changes = goes_in ∷ comes (file_to the_end) ∷ goes_out ∷ []
+
+-- ---- the same where archives are kept: the segment gets its archive name before it goes
+
+abbrev pub asked_to_archive : ApplyOptions
+asked_to_archive = record (asked (Periodic 10000) true) { archive = true }
+
+abbrev pub gets_archived : Change
+gets_archived = change.Link log_name (archive_name_of 1000)
+
+abbrev pub archived_changes : List Change
+archived_changes =
+    goes_in ∷ comes (file_to the_end) ∷ gets_archived ∷ goes_out ∷ []
 
 -- ---- what is wrong
 

@@ -35,7 +35,7 @@ pub fn closed_runs_keep_their_promises()
         → FlushLimitIsMet o c.base mutations c.history c.files }
     ensures nothing_goes_early { (o : ApplyOptions) (before after : Files) (changes : List Change)
         (mutations : List Mutation) → (c : ClosedRun o before after changes mutations)
-        → NothingGoesEarly o.drain before after changes c.ids c.history c.files }
+        → NothingGoesEarly o.archive o.drain before after changes c.ids c.history c.files }
     ensures all_with_its_report { (o : ApplyOptions) (before after : Files)
         (changes : List Change) (mutations : List Mutation) (report : List ℕ)
         → (c : ClosedRun o before after changes mutations)

@@ -79,14 +79,18 @@ module _ (changes : List Change) (alone : AreAppends changes) where
       (Contains-append_right front (c ∷ rest) c (here c rest)))
 
   in_order : (ids : List ℕ) (history : List LoggedLine) (files : List TableFile)
-      → AreInOrder IsAnyFile changes ids history files
-  in_order ids history files = record {
+      → (archive : Bool) → AreInOrder IsAnyFile archive changes ids history files
+  in_order ids history files archive = record {
     published = λ front rest name bytes file is says new.
         absurd (at_cut front rest (change.Publish name bytes) is);
     removed_whole = λ front rest id listed is.
         absurd (at_cut front rest (change.Remove (segment_name_of 6 id)) is);
     removed_filed = λ front rest id listed is.
         absurd (at_cut front rest (change.Remove (segment_name_of 6 id)) is);
+    removed_archived = λ named front rest id listed is.
+        absurd (at_cut front rest (change.Remove (segment_name_of 6 id)) is);
+    archived_whole = λ front rest id name listed is.
+        absurd (at_cut front rest (change.Link (segment_name_of 6 id) name) is);
   }
 
 -- an entry of a line touches a table
@@ -269,7 +273,7 @@ module _ (archives : Bool) (opened after : Files) (later : List Change) (log : S
     bytes = are_files later log.base log.past log.id log.sections log.logged history grows stands
         places are;
     some = an_entry;
-    order = in_order later alone ids history [];
+    order = in_order later alone ids history [] archive;
     dropped_exactly = λ id listed. (
       λ gone. absurd (nothing_there id gone),
       λ d. absurd (not_droppable log.base id log.logged history are d),

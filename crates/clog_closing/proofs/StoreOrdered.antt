@@ -17,11 +17,12 @@ use Rattle.std.proofs.Common.{
   ◌∙◌,
   ap,
   subst,
+  true,
   arith,
 }
 use Rattle.std.specs.Prelude.{Contains}
 use Rattle.std.proofs.lemmas.List.Elements.{Contains-append_left}
-use Rattle.clog_spec.specs.Names.{IsTableName, segment_name_of}
+use Rattle.clog_spec.specs.Names.{IsTableName, archive_name_of, segment_name_of}
 use Rattle.clog_spec.specs.Sizes.{greatest_capacity}
 use Rattle.clog_base.specs.declared.cell.Table.{Table}
 use Rattle.clog_base.specs.declared.position.Position.{Position}
@@ -36,6 +37,7 @@ use Rattle.clog_table.specs.Refusals.{IsFileOf}
 use Rattle.clog_table.proofs.Again.{one_table_file}
 use Rattle.clog_crash.specs.Droppable.{IsDroppable}
 use Rattle.clog_crash.specs.Grown.{appends_of, grown}
+use Rattle.clog_crash.specs.Log.{Write}
 use Rattle.clog_crash.proofs.changes.Names.{one_id}
 use Rattle.clog_crash.proofs.flush.NewFile.{one_place}
 use Rattle.path_core.specs.Keeper.{PutFile}
@@ -44,7 +46,9 @@ use Rattle.clog_store.specs.StoreFolder.{Deeds, PlacedFile, StoreLog, name_of}
 use Rattle.clog_store.specs.StoreOrder.{
   ArePutBy,
   ComesBehind,
+  GetsArchiveName,
   GoesBehind,
+  IsWholeIn,
   publish_of,
   publishes_of,
 }
@@ -140,6 +144,41 @@ module _ (sizes : Sizes) (opened after : Files) (later : List Change) (log : Sto
       subst (λ (k : ℕ). w.end ≤ length (grown (appends_of front) (segment_name_of 6 k)))
       (sym n.is.id) (omega (arith, end, there))
 
+  -- ---- a segment by its name
+
+  its_id : (id : ℕ) → Contains ids id → (segment : Write) → Contains log.past segment
+      → segment_name_of 6 id ≡ segment_name_of 6 segment.id → segment.id ≡ id
+  its_id id listed segment past same =
+      let o = of_log (segments_in log) id listed in
+      let among = Contains-append_left log.past
+      (record { id = log.id; sections = log.sections } ∷ []) segment past in
+      one_id id segment.id
+      (subst (λ (k : ℕ). k < 2 ^ 63) o.is (e.stored.stored o.write o.listed).fits)
+      (e.stored.stored segment among).fits (sym same)
+
+  -- all bytes of an earlier segment were appended
+  is_whole : (front : List Change) (segment : Write) → Contains log.past segment
+      → IsWholeIn front segment → appended front segment.id ≡ appended later segment.id
+  is_whole front segment past whole =
+      whole ∙ sym (e.grown.each segment
+      (Contains-append_left log.past (record { id = log.id; sections = log.sections } ∷ [])
+      segment past))
+
+  -- ---- a segment that gets its archive name
+
+  archived_whole : (front rest : List Change) (id : ℕ) (name : List ℕ) → Contains ids id
+      → later ≡ front ++ change.Link (segment_name_of 6 id) name ∷ rest
+      → (name ≡ archive_name_of id) × (appended front id ≡ appended later id)
+  archived_whole front rest id name listed is =
+      let gets : GetsArchiveName log deeds front (segment_name_of 6 id) name =
+      e.ordered.each front rest (change.Link (segment_name_of 6 id) name) is in
+      let segment = gets.past.segment in
+      let same = its_id id listed segment gets.past.among gets.old_is in (
+        gets.new_is ∙ ap archive_name_of same,
+        subst (λ (k : ℕ). appended front k ≡ appended later k) same
+            (is_whole front segment gets.past.among gets.whole),
+      )
+
   -- ---- a segment that goes
 
   module _ (front rest : List Change) (id : ℕ) (listed : Contains ids id)
@@ -147,22 +186,19 @@ module _ (sizes : Sizes) (opened after : Files) (later : List Change) (log : Sto
     goes : GoesBehind log deeds front (segment_name_of 6 id)
     goes = e.ordered.each front rest (change.Remove (segment_name_of 6 id)) is
 
-    among : Contains (segments_in log) goes.past.segment
-    among =
-        Contains-append_left log.past (record { id = log.id; sections = log.sections } ∷ [])
-        goes.past.segment goes.past.among
-
     same : goes.past.segment.id ≡ id
-    same =
-        let o = of_log (segments_in log) id listed in
-        one_id id goes.past.segment.id
-        (subst (λ (k : ℕ). k < 2 ^ 63) o.is (e.stored.stored o.write o.listed).fits)
-        (e.stored.stored goes.past.segment among).fits (sym goes.name_is)
+    same = its_id id listed goes.past.segment goes.past.among goes.name_is
 
     removed_whole : appended front id ≡ appended later id
     removed_whole =
         subst (λ (k : ℕ). appended front k ≡ appended later k) same
-        (goes.whole ∙ sym (e.grown.each goes.past.segment among))
+        (is_whole front goes.past.segment goes.past.among goes.whole)
+
+    removed_archived : deeds.archives ≡ true
+        → Contains front (change.Link (segment_name_of 6 id) (archive_name_of id))
+    removed_archived archives =
+        subst (λ (k : ℕ). Contains front (change.Link (segment_name_of 6 id) (archive_name_of k)))
+        same (goes.archived archives)
 
     droppable : IsDroppable (map (file_on log.base) goes.put) id (entries_in id history)
     droppable =
@@ -192,10 +228,13 @@ module _ (sizes : Sizes) (opened after : Files) (later : List Change) (log : Sto
       droppable = droppable;
     }
 
-  pub in_order : AreInOrder IsAnyFile later ids history (files_by log deeds)
+  pub in_order : AreInOrder IsAnyFile deeds.archives later ids history (files_by log deeds)
   in_order = record {
     published = λ front rest name bytes file is says new.
         published front rest name bytes file is says;
     removed_whole = removed_whole;
     removed_filed = removed_filed;
+    removed_archived = λ archives front rest id listed is.
+        removed_archived front rest id listed is archives;
+    archived_whole = archived_whole;
   }

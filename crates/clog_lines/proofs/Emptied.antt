@@ -54,6 +54,7 @@ use Rattle.clog_table.specs.declared.table_file.TableFile.{TableFile}
 use Rattle.clog_words.specs.declared.request.ApplyOptions.{ApplyOptions}
 use Rattle.clog_crash.specs.Droppable.{IsFiled, Touches}
 use Rattle.clog_crash.specs.Grown.{appends_of}
+use Rattle.clog_crash.specs.Restore.{IsInInterval}
 use Rattle.clog_crash.specs.Runs.{placed_log}
 use Rattle.path_core.specs.declared.note.EntryNote.{EntryNote}
 use Rattle.path_core.specs.Keeper.{Holding, PutFile, upper_from}
@@ -70,9 +71,10 @@ use Rattle.clog_store.specs.StoreState.{
   holding_of,
 }
 use Rattle.clog_applied.specs.Closed.{IsStoreLeft}
-use Rattle.clog_applied.specs.Filed.{IsTrueFor}
+use Rattle.clog_applied.specs.Filed.{HoldsSome, IsTrueFor}
 use Rattle.clog_applied.specs.History.{LoggedLine, entry_of, logged_at}
 use Rattle.clog_layout.specs.Laid.{synced_to}
+use Rattle.clog_layout.specs.Logged.{IsNoteOf}
 use Rattle.clog_layout.proofs.Lines.{is_position, touches_it}
 use Rattle.clog_layout.proofs.Standing.{
   IsBehind,
@@ -90,7 +92,13 @@ use Rattle.clog_closing.specs.Stores.{
   ids_in,
 }
 use Rattle.clog_closing.proofs.Following.{follow}
-use Rattle.clog_closing.proofs.Tables.{below_from, is_true, note_of_line, up_to_from}
+use Rattle.clog_closing.proofs.Tables.{
+  below_from,
+  is_true,
+  line_of_note,
+  note_of_line,
+  up_to_from,
+}
 use Rattle.clog_memtable.specs.declared.flushing.Memtable.{Memtable}
 use Rattle.clog_memtable.specs.Flushing.{file_of, files_of}
 use Rattle.clog_memtable.specs.Touched.{AreMemtablesOf}
@@ -242,6 +250,38 @@ module _ (sizes : Sizes) (mutations : List Mutation) (laid : List EntryNote)
     abbrev files : List TableFile
     files = map (file_on base) puts
 
+    -- where the entry of a note stands, a memtable's interval holds it
+    inside_of : (m : Memtable) → Contains ms m → (n : EntryNote) → Contains laid n
+        → (w : LoggedLine) → IsNoteOf base n w → IsInInterval (file_on base (file_of m)) (logged_at w)
+    inside_of m among n listed w is_note =
+        let is = are.each m among in
+        let lower = is.lower_is in
+        let upper = is.upper_is in
+        let inside = (is_a_history sizes base mutations laid out).each n listed in
+        let at : logged_at w ≡ position_of base n.end.0 =
+        is_position base sizes.capacity n w sizes.within.greatest_capacity inside is_note in
+        let up = above_none n listed in
+        let end = low_enough n listed in
+        record {
+          above = subst (IsBelow (position_of base m.interval.lower.0)) (sym at)
+              (below_from base m.interval.lower.0 n.end.0 (omega (arith, lower, up)));
+          up_to = subst (λ (p : Position). IsUpTo p (position_of base m.interval.upper.0)) (sym at)
+              (up_to_from base n.end.0 m.interval.upper.0 (omega (arith, upper, end)));
+        }
+
+    -- each file is of a table that a note touches
+    holds_some : (m : Memtable) → Contains ms m → HoldsSome its (file_on base (file_of m))
+    holds_some m among =
+        let touched = (are.each m among).touched in
+        let said = lines sizes base mutations laid out in
+        let w = line_of_note base laid its said.notes touched.note touched.among in
+        record {
+          line = w.line;
+          listed = w.listed;
+          touches = (touches_it base touched.note w.line w.is m.interval.table).1 touched.bit;
+          inside = inside_of m among touched.note touched.among w.line w.is;
+        }
+
     is_filed : (table : Table) (w : LoggedLine) → Contains its w → Touches (entry_of w) table
         → IsFiled files table (logged_at w)
     is_filed table w h touches =
@@ -255,29 +295,13 @@ module _ (sizes : Sizes) (mutations : List Mutation) (laid : List EntryNote)
         let few = one.table in
         let low : table.0 < most_tables = omega (arith, few, same) in
         let m = are.every table.0 low (record { note = n.note; among = n.listed; bit = bit }) in
-        let is = are.each m.memtable m.among in
         let number = m.table_is in
-        let lower = is.lower_is in
-        let upper = is.upper_is in
-        let inside = (is_a_history sizes base mutations laid out).each n.note n.listed in
-        let at : logged_at w ≡ position_of base n.note.end.0 =
-        is_position base sizes.capacity n.note w sizes.within.greatest_capacity inside n.is in
-        let up = above_none n.note n.listed in
-        let end = low_enough n.note n.listed in
         record {
           file = file_on base (file_of m.memtable);
           listed = in_map (file_on base) puts (file_of m.memtable)
               (in_map file_of ms m.memtable m.among);
           same_table = λ i. record { 0 = number i };
-          inside = record {
-            above = subst (IsBelow (position_of base m.memtable.interval.lower.0)) (sym at)
-                (below_from base m.memtable.interval.lower.0 n.note.end.0
-                (omega (arith, lower, up)));
-            up_to = subst
-                (λ (p : Position). IsUpTo p (position_of base m.memtable.interval.upper.0))
-                (sym at) (up_to_from base n.note.end.0 m.memtable.interval.upper.0
-                (omega (arith, upper, end)));
-          };
+          inside = inside_of m.memtable m.among n.note n.listed w n.is;
         }
 
     -- they are true for the history, in the words of a keeper that has logged these notes
@@ -304,6 +328,10 @@ module _ (sizes : Sizes) (mutations : List Mutation) (laid : List EntryNote)
       its_files options all = record {
         follow = λ table. follow base table puts in_sequence;
         are_true = are_true;
+        for_some = λ file listed.
+            let p = from_map (file_on base) puts file listed in
+            let m = of_one p.0 p.1 in
+            subst (HoldsSome its) (ap (file_on base) m.2 ∙ p.2) (holds_some m.0 m.1);
         drained = λ _ table w among touches. is_filed table w among touches;
         none = λ none. absurd (true≢false (sym all ∙ none));
       }

@@ -66,7 +66,7 @@ use Rattle.clog_table.specs.declared.table_file.TableFile.{TableFile}
 use Rattle.clog_crash.specs.Droppable.{IsFiled, Touches}
 use Rattle.clog_applied.specs.Asked.{flushes}
 use Rattle.clog_applied.specs.Closed.{IsClosedPath}
-use Rattle.clog_applied.specs.Filed.{FollowFrom, IsTrueFor, files_of, first_of}
+use Rattle.clog_applied.specs.Filed.{FollowFrom, HoldsSome, IsTrueFor, files_of, first_of}
 use Rattle.clog_applied.specs.History.{
   IsLawful,
   LoggedLine,
@@ -159,6 +159,7 @@ module _ (sizes : Sizes) (base : ℕ) (mutations : List Mutation) (laid : List E
   pub record AreFilesFor (options : ApplyOptions) (files : List TableFile) : Type 0 where
     pub follow : (table : Table) → FollowFrom (first_of base) (files_of table files)
     pub are_true : (file : TableFile) → Contains files file → IsTrueFor history file
+    pub for_some : (file : TableFile) → Contains files file → HoldsSome history file
     pub drained : options.drain ≡ true → (table : Table) (w : LoggedLine) → Contains history w
         → Touches (entry_of w) table → IsFiled files table (logged_at w)
     pub none : options.drain ≡ false → files ≡ []
@@ -177,6 +178,7 @@ module _ (sizes : Sizes) (base : ℕ) (mutations : List Mutation) (laid : List E
     shares = λ writer. shares options.writers writer asked.one_writer;
     follow = are.follow;
     are_true = are.are_true;
+    for_some = are.for_some;
     drained = are.drained;
     none = λ flushless. are.none (undrained options flushless);
     flushed = λ most is. absurd (none-some most (sym asked.no_flush ∙ is));
@@ -189,6 +191,7 @@ module _ (sizes : Sizes) (base : ℕ) (mutations : List Mutation) (laid : List E
   no_files options none = record {
     follow = λ table. tt;
     are_true = λ file h. absurd (nothing_there file h);
+    for_some = λ file h. absurd (nothing_there file h);
     drained = λ all. absurd (true≢false (sym all ∙ none));
     none = λ same. refl;
   }

@@ -82,6 +82,7 @@ use Rattle.clog_applied.specs.Closed.{
 use Rattle.clog_applied.specs.Early.{AreInOrder, IsPublishedIn}
 use Rattle.clog_applied.specs.Filed.{
   FollowFrom,
+  HoldsSome,
   IsCellWithin,
   IsTrueFor,
   StandsBefore,
@@ -123,9 +124,9 @@ use Rattle.clog_applied.proofs.rows.Empty.{
   one_appended,
   opened_empty,
 }
-use Rattle.clog_applied.proofs.rows.Synced.{not_none, placed_at, the_update}
+use Rattle.clog_applied.proofs.rows.Synced.{not_none, placed_at, the_update, touches_first}
 
-abbrev f : TableFile
+abbrev pub f : TableFile
 f = file_to the_end
 
 -- ---- the table file
@@ -163,7 +164,7 @@ spelled_to upper reaches id offset = record {
   spelled = refl;
 }
 
-spelled : IsFileOf first_table (table_file_bytes f) f
+pub spelled : IsFileOf first_table (table_file_bytes f) f
 spelled = spelled_to the_end (inr (refl, omega arith)) (omega arith) (omega arith)
 
 -- what touches a table is of the first one
@@ -208,7 +209,7 @@ is_true = of_same (Contains (logged ∷ [])) (IsCellWithin one_logged f) (logged
 
 -- ---- what was appended
 
-grows : appended drained_changes 1000 ≡ the_segment
+pub grows : appended drained_changes 1000 ≡ the_segment
 grows = grown_here log_name the_segment [] ∙ append-nil the_segment
 
 its_appended : IsAppended drained_changes (1000 ∷ []) one_logged
@@ -219,7 +220,7 @@ its_appended = one_appended drained_changes one_logged the_segment the_segment g
 
 -- ---- where the changes are cut
 
-not_empty : (front : List Change) (c : Change) (rest : List Change) → [] ≡ front ++ c ∷ rest → ⊥
+pub not_empty : (front : List Change) (c : Change) (rest : List Change) → [] ≡ front ++ c ∷ rest → ⊥
 not_empty [] c rest is = cc
 not_empty (x ∷ front) c rest is = cc
 
@@ -244,6 +245,15 @@ at_remove (x ∷ y ∷ []) rest n is =
 at_remove (x ∷ y ∷ z ∷ front) rest n is =
     let tails : [] ≡ front ++ change.Remove n ∷ rest = cc in
     absurd (not_empty front (change.Remove n) rest tails)
+
+no_link : (front rest : List Change) (old new : List ℕ)
+    → drained_changes ≡ front ++ change.Link old new ∷ rest → ⊥
+no_link [] rest old new is = cc
+no_link (x ∷ []) rest old new is = cc
+no_link (x ∷ y ∷ []) rest old new is = cc
+no_link (x ∷ y ∷ z ∷ front) rest old new is =
+    let tails : [] ≡ front ++ change.Link old new ∷ rest = cc in
+    not_empty front (change.Link old new) rest tails
 
 -- ---- the order
 
@@ -273,7 +283,7 @@ published_so front is file h = (
   }) file h,
 )
 
-in_order : AreInOrder IsAnyFile drained_changes (1000 ∷ []) one_logged (f ∷ [])
+in_order : AreInOrder IsAnyFile false drained_changes (1000 ∷ []) one_logged (f ∷ [])
 in_order = record {
   published = λ front rest n b file is says any w h touches up_to.
       subst (λ (cs : List Change). w.end ≤ length (appended cs w.id))
@@ -289,6 +299,9 @@ in_order = record {
     droppable = all_of_one (λ (i : ℕ). IsDroppable (f ∷ []) i (entries_in i one_logged)) 1000
         droppable id h;
   };
+  removed_archived = λ e. absurd (let clash : false ≡ true = e in cc);
+  archived_whole = λ front rest id name h is.
+      absurd (no_link front rest (segment_name_of 6 id) name is);
 }
 
 -- ---- what stands there
@@ -396,6 +409,12 @@ path_drained = record {
       subst (λ (v : ℕ). written_by v one_logged ≡ share_of 1 v one_line) (sym none) refl;
   follow = of_each (FollowFrom (first_of 1000)) (refl, inr (refl, omega arith), tt) tt;
   are_true = all_of_one (IsTrueFor one_logged) f is_true;
+  for_some = all_of_one (HoldsSome one_logged) f (record {
+    line = line_at 1 28;
+    listed = here (line_at 1 28) [];
+    touches = touches_first 1 28;
+    inside = inside 60 (omega arith) (omega arith);
+  });
   drained = λ drain table.
       all_of_one (λ (w : LoggedLine). Touches (entry_of w) table
       → IsFiled (f ∷ []) table (logged_at w)) (line_at 1 28)

@@ -179,6 +179,10 @@ module _ (changes : List Change) (history : List LoggedLine) (bytes : List ℕ)
           absurd (no_cut front rest (change.Remove (segment_name_of 6 id)) is);
       removed_filed = λ front rest id h is.
           absurd (no_cut front rest (change.Remove (segment_name_of 6 id)) is);
+      removed_archived = λ archive front rest id h is.
+          absurd (no_cut front rest (change.Remove (segment_name_of 6 id)) is);
+      archived_whole = λ front rest id name h is.
+          absurd (no_cut front rest (change.Link (segment_name_of 6 id) name) is);
     };
     dropped_exactly = all_of_one
         (λ (id : ℕ). Contains [] id ↔ IsDroppable [] id (entries_in id history)) 1000 (
@@ -229,6 +233,7 @@ module _ (sync : SyncCore) (changes : List Change) (history : List LoggedLine) (
         subst (λ (v : ℕ). written_by v history ≡ share_of 1 v two_lines) (sym none) share;
     follow = λ table. tt;
     are_true = λ f h. absurd (nothing_there f h);
+    for_some = λ f h. absurd (nothing_there f h);
     drained = λ e. absurd (let clash : false ≡ true = e in cc);
     none = λ e. refl;
     flushed = λ most e. absurd (let clash : None ≡ Some most = e in cc);

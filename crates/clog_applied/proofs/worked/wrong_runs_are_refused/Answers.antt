@@ -6,6 +6,7 @@ use Rattle.clog_applied.proofs.rows.Wrong.{
   not_none,
   not_twice,
 }
+use Rattle.clog_applied.proofs.rows.Archived.{not_unarchived}
 use Rattle.clog_applied.proofs.worked.wrong_runs_are_refused.Goals as goal
 
 pub returns-clause-gone_early : goal.returns-clause-gone_early
@@ -13,6 +14,9 @@ returns-clause-gone_early c = not_gone_early
 
 pub returns-clause-come_early : goal.returns-clause-come_early
 returns-clause-come_early c = not_come_early
+
+pub returns-clause-unarchived : goal.returns-clause-unarchived
+returns-clause-unarchived c = not_unarchived
 
 pub returns-clause-twice : goal.returns-clause-twice
 returns-clause-twice c = not_twice
