@@ -241,7 +241,7 @@ module _ {D : Type 0} (files : D → Option Files) (changes : D → Option (List
       → OnOk r (LogsAll (Held a) (Held b) laid drain) → EndsAs (Held b) r → IsNoteLog b.notes
       → (b.notes.log.is_stopped ≡ false → IsSound b.notes.log)
       → (b.notes.log.is_stopped ≡ false → HoldsIt files b) → AppendsAlone changes b
-      → (b.notes.log.is_stopped ≡ false → HasOrdered changes b) → StoresAreLeft
+      → HasOrdered changes b → StoresAreLeft
       → (options : ApplyOptions) (mutations : List Mutation) (opened : Files)
       (made : List Change) → IsAskedBy options a.notes.sizes a.archives drain
       → AreLaidFor a.notes.sizes mutations laid → files a.notes.log.disk ≡ Some opened
@@ -257,7 +257,7 @@ module _ {D : Type 0} (files : D → Option Files) (changes : D → Option (List
           → TellsWritten options a.notes.base opened made (files b.notes.log.disk)
           (changes b.notes.log.disk) mutations laid
       by_case true full =
-          written_drained all ends.stopped notes sound folder full (ordered ends.stopped) law
+          written_drained all ends.stopped notes sound folder full ordered law
           options mutations opened made
           (subst (IsAskedBy options a.notes.sizes a.archives) full asked) out is made_is
       by_case false none =

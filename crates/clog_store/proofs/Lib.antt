@@ -63,6 +63,7 @@ mod Ready
 mod Recovered
 mod Recovery
 mod SegmentsGo
+mod Stays
 mod StoreBeside
 mod StoreDropped
 mod StoreFiles

@@ -161,7 +161,7 @@ module _ {D : Type 0} (files : D → Option Files) (changes : D → Option (List
   ordered_now : HasOrdered changes t
   unfolding grown_beside
   ordered_now =
-      let h = kept.order.ordered runs in
+      let h = kept.order.ordered in
       let last = publish_of placed ∷ [] in
       record {
         growth = grown_beside changes s.first s.notes.log l last h.growth runs same adds refl;
@@ -177,4 +177,4 @@ module _ {D : Type 0} (files : D → Option Files) (changes : D → Option (List
       }
 
   pub order_put : KeepsOrder changes t
-  order_put = record { settled = all_settled; ordered = λ still. ordered_now }
+  order_put = record { settled = all_settled; ordered = ordered_now }

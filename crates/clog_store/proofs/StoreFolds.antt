@@ -78,8 +78,7 @@ module _ {D : Type 0} (files : D → Option Files) (changes : D → Option (List
     (s : StoreState D) (n : NoteState D)
     (kept : IsStore files changes moment faults read_at lasted_at s)
     (writes : Writes changes s.notes.log n.log)
-    (others : n.log.is_stopped ≡ false
-    → LeavesOthers s.notes.log n.log (files s.notes.log.disk) (files n.log.disk))
+    (others : LeavesOthers s.notes.log n.log (files s.notes.log.disk) (files n.log.disk))
     (sound : n.log.is_stopped ≡ false → IsSound n.log)
     (reads : n.log.is_stopped ≡ false → ReadsAs (files n.log.disk)
     (segment_name_of 6 n.log.id) (segment_bytes n.log.id n.log.sections)) where
@@ -97,7 +96,7 @@ module _ {D : Type 0} (files : D → Option Files) (changes : D → Option (List
       let rest : LeavesOthers s.notes.log n.log (Some was.0) (Some g) =
       subst (λ (o : Option Files). LeavesOthers s.notes.log n.log (Some was.0) o) here
       (subst (λ (o : Option Files). LeavesOthers s.notes.log n.log o (files n.log.disk)) was.1
-      (others still)) in
+      others) in
       holds_notes_synced first was.0 g s.notes n (deeds_by s) run
       (kept.folder runs first was.0 is was.1) (kept.sound runs) (sound still) rest
       (at_some (files n.log.disk)

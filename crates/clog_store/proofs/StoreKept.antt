@@ -252,7 +252,7 @@ module _ {D : Type 0} (files : D → Option Files) (changes : D → Option (List
     appended = λ alone. record { growth = begun_growth log past none; alone = no_appends };
     order = record {
       settled = λ h has put among. absurd (nothing_there put among);
-      ordered = λ still. record {
+      ordered = record {
         growth = begun_growth log past none;
         ordered = record {
           each = λ front rest c is. absurd (omega (
@@ -354,11 +354,14 @@ module _ {D : Type 0} (files : D → Option Files) (changes : D → Option (List
         ]
 
     -- the changes stay in order
-    ordered_by : s.notes.log.is_stopped ≡ false → GoesOnWith s n
+    ordered_by : GoesOnWith s n → (b : Bool) → s.notes.log.is_stopped ≡ b
         → HasOrdered changes (record s { notes = n })
     unfolding grown_on
-    ordered_by runs on =
-        let h = kept.order.ordered runs in
+    ordered_by on true is =
+        subst (λ (x : NoteState D). HasOrdered changes (record s { notes = x })) (sym (stays is))
+        kept.order.ordered
+    ordered_by on false is =
+        let h = kept.order.ordered in
         elim h.growth.brought [
           | inl all ↦ record {
             growth = grown_on h.growth all;
@@ -376,7 +379,7 @@ module _ {D : Type 0} (files : D → Option Files) (changes : D → Option (List
                 on.logged_is (sym (append-nil s.files)) on.above on.apart (λ o listed. listed)
                 (λ o listed. listed) h.growth.added writes.added h.ordered writes.appends refl);
           }
-          | inr torn ↦ absurd (true≢false (sym torn.2 ∙ runs))
+          | inr torn ↦ absurd (true≢false (sym torn.2 ∙ is))
         ]
 
     -- a call of its log of notes
@@ -384,7 +387,7 @@ module _ {D : Type 0} (files : D → Option Files) (changes : D → Option (List
         → HasLogCause s.notes.log.is_stopped (faults s.notes.log.disk) (faults n.log.disk) r
         → StopsBy n.log.is_stopped r → (n.log.is_stopped ≡ false → IsSound n.log)
         → (n.log.is_stopped ≡ false → HoldsIt files (record s { notes = n }))
-        → AreSettled n s.files → (n.log.is_stopped ≡ false → GoesOnWith s n)
+        → AreSettled n s.files → GoesOnWith s n
         → Keeping (record s { notes = n })
     store_on r cause stops sound folder settled on = record {
       opened = opened ∙ kept.opened;
@@ -401,9 +404,7 @@ module _ {D : Type 0} (files : D → Option Files) (changes : D → Option (List
       appended = appended_by s.notes.log.is_stopped refl kept.appended;
       order = record {
         settled = settled;
-        ordered = λ still. ordered_by
-            (ran_before s.notes.log.is_stopped n.log.is_stopped (faults s.notes.log.disk)
-            (faults n.log.disk) r cause stops still) (on still);
+        ordered = ordered_by on s.notes.log.is_stopped refl;
       };
       sound = sound;
       folder = folder;

@@ -193,7 +193,7 @@ module _ {D : Type 0} (files : D → Option Files) (changes : D → Option (List
       subst (λ (x : StoreLog). HoldsStore first x (deeds_by s) now) (sym same_mind)
       (kept.folder (was_running still) first now is (sym (same still) ∙ here)))
       (settled_same s.notes n s.files refl refl refl kept.order.settled)
-      (λ still. goes_for_none s n [] refl
+      (goes_for_none s n [] refl
       (ap (λ (x : State D). x.past) same_log ∙ sym (append-nil s.notes.log.past)) refl)
 
   -- a table file was put
@@ -239,8 +239,7 @@ module _ {D : Type 0} (files : D → Option Files) (changes : D → Option (List
     (opened : n.log.opened ≡ s.notes.log.opened)
     (later : IsLater moment read_at lasted_at s.notes.log.disk n.log.disk)
     (writes : Writes changes s.notes.log n.log)
-    (others : n.log.is_stopped ≡ false
-    → LeavesOthers s.notes.log n.log (files s.notes.log.disk) (files n.log.disk))
+    (others : LeavesOthers s.notes.log n.log (files s.notes.log.disk) (files n.log.disk))
     (stays : s.notes.log.is_stopped ≡ true → n ≡ s.notes) {T : Type 0} (r : Result T StoreFault)
     (cause : HasLogCause s.notes.log.is_stopped (faults s.notes.log.disk) (faults n.log.disk) r)
     (stops : StopsBy n.log.is_stopped r) (sound : n.log.is_stopped ≡ false → IsSound n.log)
@@ -260,8 +259,8 @@ module _ {D : Type 0} (files : D → Option Files) (changes : D → Option (List
       (settled_same s.notes n s.files (ap (λ (x : NoteState D). x.sizes) same)
       (ap (λ (x : NoteState D). x.logged) same) (ap (λ (x : NoteState D). x.synced) same)
       kept.order.settled)
-      (λ still. goes_for_none s n (others still).more (ap (λ (x : NoteState D). x.base) same)
-      (others still).past (ap (λ (x : NoteState D). x.logged) same))
+      (goes_for_none s n others.more (ap (λ (x : NoteState D). x.base) same) others.past
+      (ap (λ (x : NoteState D). x.logged) same))
 
 -- ---- what a path is told
 

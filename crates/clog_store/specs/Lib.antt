@@ -1,3 +1,4 @@
+pub mod Beside
 pub mod Coming
 pub mod Discarding
 pub mod Discards

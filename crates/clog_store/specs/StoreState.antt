@@ -125,12 +125,12 @@ pub record HasOrdered {D : Type 0} (changes : D → Option (List Change)) (s : S
   pub growth : HasGrown changes s.first s.notes.log
   pub ordered : AreOrdered (log_of s.notes) (deeds_by s) growth.added
 
--- What it keeps of the order: the files that it put are settled, and until the disk has failed its
--- changes stand in order.
+-- What it keeps of the order: the files that it put are settled, and its changes stand in order,
+-- whether or not the disk has failed.
 pub record KeepsOrder {D : Type 0} (changes : D → Option (List Change)) (s : StoreState D)
     : Type 0 where
   pub settled : AreSettled s.notes s.files
-  pub ordered : s.notes.log.is_stopped ≡ false → HasOrdered changes s
+  pub ordered : HasOrdered changes s
 
 -- Where its disk tells its files, the folder is that of the store.
 abbrev pub HoldsIt : {D : Type 0} → (D → Option Files) → StoreState D → Type 0

@@ -15,6 +15,7 @@ ghost use Rattle.clog_crash.specs.Log.{Write};
 ghost use Rattle.clog_crash.specs.Rest.{IsAtRest};
 ghost use Rattle.clog_crash.specs.Sections.{Brings, IsStored, segment_bytes};
 ghost use Rattle.clog_folder.specs.Passing.{IsUntouched, TellsFault};
+ghost use Rattle.clog_store.specs.Beside.{StayButOne};
 ghost use Rattle.clog_store.specs.Life.{
   HasEnd,
   LastsNow,
@@ -205,6 +206,8 @@ impl<D: Disk> SectionLog<D> {
         ensures adds { AddsBytes (D.files self.old.disk) (D.files self.new.disk)
             (D.changes self.old.disk) (D.changes self.new.disk) (segment_name_of 6 self.old.id)
             bytes.now result }
+        ensures others { StayButOne (segment_name_of 6 self.old.id) (D.files self.old.disk)
+            (D.files self.new.disk) }
         ensures later { IsLater D.moment D.read_at D.lasted_at self.old.disk self.new.disk }
         ensures cause { HasLogCause self.old.is_stopped (D.faults self.old.disk)
             (D.faults self.new.disk) result }

@@ -4,10 +4,10 @@
 //! It keeps true (`IsStore`) that its disk goes on from the one of its opening, that it has stopped
 //! only where the disk's count of faults has risen since, and that the appends since have brought
 //! just the sections of its log, so that the log holds each entry once. Until it has put a file or
-//! dropped a segment, the changes since are appends alone. Until the disk has failed its folder
-//! holds just what the store wrote, and what was there at the opening, the changes since stand in
-//! order (a table file behind the log up to its end, a segment's removal behind its table files),
-//! and the disk has counted no fault since the opening.
+//! dropped a segment, the changes since are appends alone. They stand in order: a table file behind
+//! the log up to its end, a segment's removal behind its table files. Until the disk has failed its
+//! folder holds just what the store wrote, and what was there at the opening, and the disk has
+//! counted no fault since the opening.
 ghost use Rattle.std.specs.Prelude.{◌≡◌, ◌<◌, ◌≤◌, ◌^◌, [], IfErr, IfOk, Some, false, true};
 ghost use Rattle.clog_io.specs.Causes.{Rose};
 ghost use Rattle.clog_disk.specs.Files.{Files, SameTold, Told};
@@ -219,8 +219,8 @@ impl<D: Disk> Store<D> {
     /// Gives the disk back. The appends since the opening have brought just the log's sections, and
     /// where all lasted at the opening, each image since restores what the folder restored then and
     /// the first of the entries, and each image of now all that last. A store that has put no file
-    /// and dropped no segment has appended alone. Unless the disk has failed its changes stand in
-    /// order: a table file behind the log up to its end, and a segment that goes behind the table
+    /// and dropped no segment has appended alone. Also where the disk has failed its changes stand
+    /// in order: a table file behind the log up to its end, and a segment that goes behind the table
     /// files that stand for it. Where the store has not stopped, the disk has counted no fault since
     /// the opening; else the count has risen, or stands at the greatest `u64`.
     pub fn into_disk(self) -> D
@@ -234,7 +234,7 @@ impl<D: Disk> Store<D> {
         ensures grown { HasGrown D.changes self.first self.notes.log }
         ensures alone { AppendsAlone D.changes self }
         ensures settled { AreSettled self.notes self.files }
-        ensures ordered { self.notes.log.is_stopped ≡ false → HasOrdered D.changes self }
+        ensures ordered { HasOrdered D.changes self }
         ensures notes { IsNoteLog self.notes }
         ensures stored { IsStored self.notes.log.id self.notes.log.sections }
         ensures sound { self.notes.log.is_stopped ≡ false → IsSound self.notes.log }

@@ -90,8 +90,7 @@ impl<D: Disk> NoteLog<D> {
             × AreDue h closed due.now }
         ensures same { self.new ≡ record self.old { log = self.new.log } }
         ensures earlier { OnOk result (AreEarlier self.new due.now) }
-        ensures others { self.new.log.is_stopped ≡ false
-            → LeavesOthers self.old.log self.new.log (D.files self.old.log.disk)
+        ensures others { LeavesOthers self.old.log self.new.log (D.files self.old.log.disk)
             (D.files self.new.log.disk) }
         ensures writes { Writes D.changes self.old.log self.new.log }
         ensures opened { self.new.log.opened ≡ self.old.log.opened }

@@ -40,8 +40,7 @@ impl<D: Disk> NoteLog<D> {
         requires begins { BeginsFrom self.old.base id self.old.kept }
         ensures same { self.new ≡ record self.old { log = self.new.log } }
         ensures enters { Enters self.old.log self.new.log id result }
-        ensures others { self.new.log.is_stopped ≡ false
-            → LeavesOthers self.old.log self.new.log (D.files self.old.log.disk)
+        ensures others { LeavesOthers self.old.log self.new.log (D.files self.old.log.disk)
             (D.files self.new.log.disk) }
         ensures writes { Writes D.changes self.old.log self.new.log }
         ensures stays { self.old.log.is_stopped ≡ true → self.new ≡ self.old }
@@ -81,8 +80,7 @@ impl<D: Disk> NoteLog<D> {
         ensures far { OnOk result (EndsWithin self.new.log.id
             (take self.new.log.synced self.new.log.sections)
             (position_of self.new.base upper.0)) }
-        ensures others { self.new.log.is_stopped ≡ false
-            → LeavesOthers self.old.log self.new.log (D.files self.old.log.disk)
+        ensures others { LeavesOthers self.old.log self.new.log (D.files self.old.log.disk)
             (D.files self.new.log.disk) }
         ensures writes { Writes D.changes self.old.log self.new.log }
         ensures stays { self.old.log.is_stopped ≡ true → self.new ≡ self.old }

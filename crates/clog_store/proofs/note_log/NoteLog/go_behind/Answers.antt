@@ -183,7 +183,7 @@ returns-clause-earlier g c = λ o among.
     (omega (arith, most, apart))
 
 pub returns-clause-others : goal.returns-clause-others
-returns-clause-others g c runs =
+returns-clause-others g c =
     let log = c.args.self.now.log in
     (leaves_same g.D.Disk.files g.D.Disk.changes log log refl refl refl refl refl).rest
 

@@ -9,6 +9,11 @@ use Rattle.clog_store.proofs.note_log.NoteLog.reach.Goals as goal
 
 -- ---- the log is not called
 
+pub returns-then-is_stopped-clause-others : goal.returns-then-is_stopped-clause-others
+returns-then-is_stopped-clause-others g c =
+    let log = c.args.self.now.log in
+    (leaves_same g.D.Disk.files g.D.Disk.changes log log refl refl refl refl refl).rest
+
 pub returns-then-is_stopped-clause-writes : goal.returns-then-is_stopped-clause-writes
 returns-then-is_stopped-clause-writes g c =
     let log = c.args.self.now.log in
@@ -21,7 +26,7 @@ returns-then-is_stopped-clause-goes g c =
     (g.met.D.Disk.only_now c.args.self.now.log.disk)
 
 pub returns-then-not-is_short_of-clause-others : goal.returns-then-not-is_short_of-clause-others
-returns-then-not-is_short_of-clause-others g c runs =
+returns-then-not-is_short_of-clause-others g c =
     let log = c.args.self.now.log in
     (leaves_same g.D.Disk.files g.D.Disk.changes log log refl refl refl refl refl).rest
 

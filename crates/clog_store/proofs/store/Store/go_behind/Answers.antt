@@ -68,7 +68,7 @@ invariant_of-self g c =
           (settled_same s.notes n s.files (ap (λ (x : NoteState g.row.D.Denot). x.sizes) is.same)
           (ap (λ (x : NoteState g.row.D.Denot). x.logged) is.same)
           (ap (λ (x : NoteState g.row.D.Denot). x.synced) is.same) c.self.invariant.1.order.settled)
-          (λ still. goes_for_none s n (is.others still).more
-          (ap (λ (x : NoteState g.row.D.Denot). x.base) is.same) (is.others still).past
+          (goes_for_none s n is.others.more
+          (ap (λ (x : NoteState g.row.D.Denot). x.base) is.same) is.others.past
           (ap (λ (x : NoteState g.row.D.Denot). x.logged) is.same)),
     )

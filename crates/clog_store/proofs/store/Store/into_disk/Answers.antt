@@ -25,6 +25,6 @@ returns-clause-settled g c =
     c.self.invariant.1.order.settled
 
 pub returns-clause-ordered : goal.returns-clause-ordered
-returns-clause-ordered g c still =
-    subst (λ (x : StoreState g.row.D.Denot). x.notes.log.is_stopped ≡ false
-    → HasOrdered g.D.Disk.changes x) c.self.view_is c.self.invariant.1.order.ordered still
+returns-clause-ordered g c =
+    subst (λ (x : StoreState g.row.D.Denot). HasOrdered g.D.Disk.changes x) c.self.view_is
+    c.self.invariant.1.order.ordered

@@ -70,10 +70,10 @@ invariant_of-self g c =
           (synced_settled D.files D.changes D.moment D.faults g.row.D.coded.code s n
           c.self.invariant.1.order.settled c.args.upto.0 c.args.pending.now.items
           c.sync-outcome.new.pending.items may c.sync-outcome.result is.syncs is.refused)
-          (λ still. synced_goes D.files D.changes D.moment D.faults g.row.D.coded.code s n
+          (synced_goes D.files D.changes D.moment D.faults g.row.D.coded.code s n
           c.self.invariant.1.order.settled c.args.upto.0 c.args.pending.now.items
           c.sync-outcome.new.pending.items may c.sync-outcome.result is.syncs is.refused
-          (D.files s.notes.log.disk) (D.files n.log.disk) (is.others still)),
+          (D.files s.notes.log.disk) (D.files n.log.disk) is.others),
     )
 
 pub returns-clause-syncs : goal.returns-clause-syncs
