@@ -14,6 +14,7 @@ mod Filed
 mod FolderBegins
 mod FolderDue
 mod FolderEnds
+mod FolderFails
 mod FolderGoes
 mod FolderNames
 mod FolderPuts

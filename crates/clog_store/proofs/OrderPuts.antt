@@ -143,7 +143,7 @@ module _ {D : Type 0} (files : D → Option Files) (changes : D → Option (List
     is_spelled = is_spelled;
     name_is = refl;
     bytes_are = refl;
-    behind = λ m among upto. note_appended s.notes noted runs (kept.sound runs)
+    behind = λ m among upto. note_appended s.notes noted runs kept.sound
         (appends_of h.growth.added) (all_grown changes s.first s.notes.log runs h.growth) m among;
   }
 

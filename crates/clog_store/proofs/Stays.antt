@@ -10,11 +10,18 @@ use Rattle.std.proofs.Common.{
   Some,
   None,
   refl,
+  false,
+  Bool,
+  ◌∷◌,
+  ◌+◌,
+  drop,
+  take,
   sym,
   ◌∙◌,
+  ap,
   subst,
 }
-use Rattle.std.specs.Prelude.{Err, Ok, OnErr, OnOk, Result}
+use Rattle.std.specs.Prelude.{Err, Ok, OnErr, OnOk, Result, option_map}
 use Rattle.std.specs.FinMap as finmap
 use Rattle.clog_disk.specs.Files.{
   AppendsTo,
@@ -26,8 +33,15 @@ use Rattle.clog_disk.specs.Files.{
   bytes_at,
   with_at,
 }
-use Rattle.clog_disk.proofs.Named.{gone_there, put_there}
+use Rattle.clog_disk.proofs.Named.{put_there}
 use Rattle.clog_store.specs.Beside.{StayButOne}
+use Rattle.clog_store.specs.Discards.{
+  all_gone_at,
+  first_gone_at,
+  named_at,
+  next_named_at,
+}
+use Rattle.clog_store.proofs.OtherFiles.{put_else}
 
 -- these files are told
 abbrev StayIn : List ℕ → Files → Option Files → Type 0
@@ -70,23 +84,18 @@ stay_appended own bytes n told now (Err fault) appends may =
 
 -- ---- a file comes or goes
 
-with_there : (f : Files) (own : List ℕ) (what : Option (List ℕ)) (name : List ℕ)
-    → (name ≡ own → ⊥) → finmap.get (with_at f own what) name ≡ finmap.get f name
-with_there f own None name apart = gone_there f own name apart
-with_there f own (Some bytes) name apart = put_there f own bytes name apart
-
 put_at : (own : List ℕ) (what : Option (List ℕ)) (told now : Option Files)
     → PutsAt told now own what → StayButOne own told now
 put_at own what told now puts f is =
     now_as own f (with_at f own what) now
-    (subst (λ (o : Option Files). PutsAt o now own what) is puts) (with_there f own what)
+    (subst (λ (o : Option Files). PutsAt o now own what) is puts) (put_else f own what)
 
 perhaps_put : (own : List ℕ) (what : Option (List ℕ)) (told now : Option Files)
     → MayPutAt told now own what → StayButOne own told now
 perhaps_put own what told now may f is =
     elim (subst (λ (o : Option Files). MayPutAt o now own what) is may) [
       | inl same ↦ now_as own f f now same (λ name apart. refl)
-      | inr puts ↦ now_as own f (with_at f own what) now puts (with_there f own what)
+      | inr puts ↦ now_as own f (with_at f own what) now puts (put_else f own what)
     ]
 
 pub stay_put : {T E : Type 0} (own : List ℕ) (what : Option (List ℕ)) (told now : Option Files)
@@ -94,3 +103,23 @@ pub stay_put : {T E : Type 0} (own : List ℕ) (what : Option (List ℕ)) (told 
     → OnErr r (MayPutAt told now own what) → StayButOne own told now
 stay_put own what told now (Ok done) puts may = put_at own what told now puts
 stay_put own what told now (Err fault) puts may = perhaps_put own what told now may
+
+-- ---- segments that go
+
+-- no archive name was given
+pub unnamed : (id : ℕ) (told : Option Files) → told ≡ option_map (named_at false id) told
+unnamed id None = refl
+unnamed id (Some f) = refl
+
+-- the first have gone, and the next one has perhaps its archive name
+pub next_named : (archives named : Bool) (base n o : ℕ) (os rest : List ℕ)
+    (told mid : Option Files) → drop n os ≡ o ∷ rest
+    → mid ≡ option_map (all_gone_at archives base (take n os)) told
+    → option_map (named_at named (base + o)) mid
+    ≡ option_map (first_gone_at archives base os n named) told
+next_named archives named base n o os rest None mid split gone =
+    ap (option_map (named_at named (base + o))) gone
+next_named archives named base n o os rest (Some f) mid split gone =
+    ap (option_map (named_at named (base + o))) gone
+    ∙ ap (λ (l : List ℕ). Some (next_named_at named base l
+    (all_gone_at archives base (take n os) f))) (sym split)

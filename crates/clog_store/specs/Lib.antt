@@ -19,6 +19,7 @@ pub mod Resting
 pub mod Several
 pub mod Stepped
 pub mod StoreDrops
+pub mod StoreFailed
 pub mod StoreFolder
 pub mod StoreOrder
 pub mod StoreState

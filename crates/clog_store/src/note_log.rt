@@ -219,12 +219,12 @@ impl<D: Disk> NoteLog<D> {
         self.base
     }
 
-    /// The disk's count of faults. While the disk has not failed, its segments can hold the log's
-    /// sections, and the one at hand reads so.
+    /// The disk's count of faults. Its segments can hold the log's sections; while the disk has not
+    /// failed, the one at hand reads so.
     pub fn fault_count(&self) -> u64
         ensures count { result ≡ D.faults self.now.log.disk }
         ensures fits { D.faults self.now.log.disk < 2 ^ 64 }
-        ensures sound { self.now.log.is_stopped ≡ false → IsSound self.now.log }
+        ensures sound { IsSound self.now.log }
         ensures reads { self.now.log.is_stopped ≡ false → ReadsAs (D.files self.now.log.disk)
             (segment_name_of 6 self.now.log.id)
             (segment_bytes self.now.log.id self.now.log.sections) }

@@ -62,7 +62,7 @@ impl<D: Disk> NoteLog<D> {
     // Whether a file up to a key would end behind the marker of the segment at hand.
     fn is_short_of(&self, upper: Key) -> bool
         ensures short { IsTrue result ↔ IsShortOf self.now upper.0 }
-        ensures sound { self.now.log.is_stopped ≡ false → IsSound self.now.log }
+        ensures sound { IsSound self.now.log }
     {
         let last = Key(self.synced);
         if last.position(self.base).id != self.log.id() || last.0 == 0 {

@@ -30,7 +30,7 @@ keep-requires g c =
     in record {
       brings = brings c.args.base c.args.log.now notes c.requires.next
           c.position-at.result.offset at
-          c.in-Ok.section c.in-Ok.ensures.0 (c.id.ensures.stored c.requires.runs) c.deref.result.now
+          c.in-Ok.section c.in-Ok.ensures.0 c.id.ensures.stored c.deref.result.now
           (c.deref.ensures.value ∙ c.in-Ok.ensures.1
           ∙ ap (λ (k : ℕ). next_bytes k (size_before c.position-at.result.offset) (bytes_in notes))
           c.id.ensures.id);
@@ -53,7 +53,7 @@ returns-in-Ok-clause-leaves g c =
     let b = c.keep.new.self in
     let notes = c.args.notes.now in
     let bytes = c.deref.result.now in
-    let stored = c.id.ensures.stored c.requires.runs in
+    let stored = c.id.ensures.stored in
     let at : c.position-at.result.offset ≡ offset_of (first_start notes) =
     ap (λ (p : Position). p.offset) c.position-at.ensures
     ∙ ap offset_of (first_is notes c.index-notes-0.result c.requires.next.some) in

@@ -50,7 +50,7 @@ returns-then-not-is_short_of-clause-far g c =
     ap (λ (x : NoteState g.row.D.Denot). x.log.is_stopped) (sym c.self.view_is)
     ∙ sym c.is_stopped.ensures ∙ c.if-is_stopped.false in
     far_now s c.args.upper.0 runs (subst IsNoteLog c.self.view_is c.self.invariant)
-    (c.is_short_of.ensures.sound runs) c.requires
+    c.is_short_of.ensures.sound c.requires
     (λ short. absurd (true≢false (sym (c.is_short_of.ensures.short.1 short)
     ∙ c.if-not-is_short_of.true)))
 
