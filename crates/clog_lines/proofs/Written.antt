@@ -172,7 +172,7 @@ module _ {D : Type 0} (files : D → Option Files) (changes : D → Option (List
   -- ---- all are written
 
   module _ (all : LogsAll (Held a) (Held b) laid drain) (ends : b.notes.log.is_stopped ≡ false)
-      (notes : IsNoteLog b.notes) (sound : b.notes.log.is_stopped ≡ false → IsSound b.notes.log)
+      (notes : IsNoteLog b.notes) (sound : IsSound b.notes.log)
       (folder : b.notes.log.is_stopped ≡ false → HoldsIt files b) where
     pub places : placed_log b.notes.log.past b.notes.log.id b.notes.log.sections
         ≡ places_of b.notes.base b.notes.logged
@@ -211,7 +211,7 @@ module _ {D : Type 0} (files : D → Option Files) (changes : D → Option (List
         as_logged options mutations opened made (λ out.
         tells_written files changes tells b ends
         (none_done files changes moment faults code b
-        (subst (λ (d : Bool). IsDrainedAs d (Held b) laid) none all.deeds)) alone (sound ends)
+        (subst (λ (d : Bool). IsDrainedAs d (Held b) laid) none all.deeds)) alone sound
         (folder ends) places options a.notes.sizes mutations archives asked out opened made)
 
     -- where all is drained
@@ -228,7 +228,7 @@ module _ {D : Type 0} (files : D → Option Files) (changes : D → Option (List
         let archives : a.archives ≡ b.archives =
         sym (ap (λ (o : Opening). o.archives) all.logged.opening_is) in
         as_logged options mutations opened made (λ out.
-        tells_drained files changes moment faults code tells b ends ordered (sound ends)
+        tells_drained files changes moment faults code tells b ends ordered sound
         (folder ends) places all.logged.none_kept
         (subst (HasDrained (Held b)) (sym all.logged.logged_are) deeds) law options a.notes.sizes
         mutations
@@ -239,9 +239,9 @@ module _ {D : Type 0} (files : D → Option Files) (changes : D → Option (List
   -- whatever was asked
   pub written_of : {T : Type 0} (r : Result T KeeperFault)
       → OnOk r (LogsAll (Held a) (Held b) laid drain) → EndsAs (Held b) r → IsNoteLog b.notes
-      → (b.notes.log.is_stopped ≡ false → IsSound b.notes.log)
+      → IsSound b.notes.log
       → (b.notes.log.is_stopped ≡ false → HoldsIt files b) → AppendsAlone changes b
-      → (b.notes.log.is_stopped ≡ false → HasOrdered changes b) → StoresAreLeft
+      → HasOrdered changes b → StoresAreLeft
       → (options : ApplyOptions) (mutations : List Mutation) (opened : Files)
       (made : List Change) → IsAskedBy options a.notes.sizes a.archives drain
       → AreLaidFor a.notes.sizes mutations laid → files a.notes.log.disk ≡ Some opened
@@ -257,7 +257,7 @@ module _ {D : Type 0} (files : D → Option Files) (changes : D → Option (List
           → TellsWritten options a.notes.base opened made (files b.notes.log.disk)
           (changes b.notes.log.disk) mutations laid
       by_case true full =
-          written_drained all ends.stopped notes sound folder full (ordered ends.stopped) law
+          written_drained all ends.stopped notes sound folder full ordered law
           options mutations opened made
           (subst (IsAskedBy options a.notes.sizes a.archives) full asked) out is made_is
       by_case false none =

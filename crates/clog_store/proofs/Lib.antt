@@ -14,6 +14,7 @@ mod Filed
 mod FolderBegins
 mod FolderDue
 mod FolderEnds
+mod FolderFails
 mod FolderGoes
 mod FolderNames
 mod FolderPuts
@@ -63,6 +64,7 @@ mod Ready
 mod Recovered
 mod Recovery
 mod SegmentsGo
+mod Stays
 mod StoreBeside
 mod StoreDropped
 mod StoreFiles

@@ -376,6 +376,21 @@ module _ {D : Type 0} (changes : D → Option (List Change)) where
     writes = λ appends g. (b.sections, inl refl, grown.grows appends g);
   }
 
+  -- where it has not, all sections were brought
+  pub grows_of : (a b : State D) → Writes changes a b → b.is_stopped ≡ false → Grows changes a b
+  grows_of a b written runs = record {
+    added = written.added;
+    changes_are = written.changes_are;
+    appends = written.appends;
+    grows = λ appends g.
+        let now = appends ++ appends_of written.added in
+        let then_ = written.writes appends g in
+        elim then_.1 [
+          | inl all ↦ subst (λ (l : List Section). IsGrown now b.past b.id l) (sym all) then_.2
+          | inr torn ↦ absurd (true≢false (sym torn.2 ∙ runs))
+        ];
+  }
+
   pub writes_then : (a b c : State D) → Grows changes a b → Writes changes b c
       → Writes changes a c
   writes_then a b c first next =

@@ -38,9 +38,8 @@ use Rattle.std.specs.FinMap as finmap
 use Rattle.std.specs.List.{Contains}
 use Rattle.clog_spec.specs.Names.{segment_name_of}
 use Rattle.clog_base.proofs.Members.{here, nothing_there, only_one}
-use Rattle.clog_disk.specs.Files.{AppendsTo, Files, SameTold, Told, bytes_at}
+use Rattle.clog_disk.specs.Files.{Files, SameTold, Told, bytes_at}
 use Rattle.clog_disk.specs.declared.change.Change.{Change}
-use Rattle.clog_disk.proofs.Named.{put_there}
 use Rattle.clog_disk.proofs.Telling.{same_told_then}
 use Rattle.clog_scan.specs.Cut.{Section}
 use Rattle.clog_crash.specs.Log.{Write}
@@ -48,12 +47,20 @@ use Rattle.clog_crash.specs.Sections.{segment_bytes}
 use Rattle.clog_crash.proofs.changes.Names.{one_id}
 use Rattle.clog_store.specs.declared.written.StoreFault.{StoreFault}
 use Rattle.clog_store.specs.declared.written.StoreFault.TheVariants.{Stopped, OutOfMemory}
-use Rattle.clog_store.specs.Grows.{Grows}
+use Rattle.clog_store.specs.Beside.{StayButOne}
+use Rattle.clog_store.specs.Grows.{Writes}
 use Rattle.clog_store.specs.Life.{ReadsAs, State, past_with}
 use Rattle.clog_store.specs.NoteLog.{HasWritten, IsNotOf}
 use Rattle.clog_store.specs.NoteSteps.{Leaves}
 use Rattle.clog_store.specs.Stepped.{AddsBytes, Keeps, Settles}
-use Rattle.clog_store.proofs.NoteGrows.{grows_more, grows_rolled, grows_same, grows_then}
+use Rattle.clog_store.proofs.NoteGrows.{
+  grows_of,
+  grows_rolled,
+  grows_same,
+  writes_kept,
+  writes_of,
+  writes_then,
+}
 use Rattle.clog_store.proofs.Lived.{at_told, same_told, told_before}
 
 told_weaker : (o : Option Files) (P Q : Files → Type 0) → Told o P → ((f : Files) → P f → Q f)
@@ -151,14 +158,14 @@ module _ {D : Type 0} (files : D → Option Files) (changes : D → Option (List
       left = λ f is w among. absurd (nothing_there w among);
     };
     below = λ w among. absurd (nothing_there w among);
-    brings = grows_same changes a b quiet past id sections;
+    brings = writes_of changes a b (grows_same changes a b quiet past id sections);
   }
 
-  -- bytes come behind those of the segment at hand
-  pub leaves_more : (a b : State D) (bytes : List ℕ) → SameTold (files a.disk) (files b.disk)
-      → AppendsTo (files a.disk) (files b.disk) (segment_name_of 6 a.id) bytes → a.id < 2 ^ 63
-      → b.past ≡ a.past → b.id ≡ a.id → 0 < length b.sections → Grows changes a b → Leaving a b
-  leaves_more a b bytes told appends fits past id some brings = record {
+  -- bytes come behind those of the segment at hand, or perhaps a part of them
+  leaves_more : (a b : State D) → SameTold (files a.disk) (files b.disk)
+      → StayButOne (segment_name_of 6 a.id) (files a.disk) (files b.disk) → a.id < 2 ^ 63
+      → b.past ≡ a.past → b.id ≡ a.id → 0 < length b.sections → Writes changes a b → Leaving a b
+  leaves_more a b told beside fits past id some brings = record {
     told = told;
     forward = omega (arith, id);
     rest = record {
@@ -173,14 +180,9 @@ module _ {D : Type 0} (files : D → Option Files) (changes : D → Option (List
         some = some;
       };
       others = λ f is.
-          let own = segment_name_of 6 a.id in
-          let now = subst (λ (o : Option Files). AppendsTo o (files b.disk) own bytes) is appends
-          in
-          subst (λ (o : Option Files). Told o (λ g. (name : List ℕ) → IsNotOf (hand b ∷ []) name
-          → finmap.get g name ≡ finmap.get f name)) (sym now)
-          (λ name apart. put_there f own (bytes_at f own ++ bytes) name
-          (λ same. apart (hand b) (here (hand b) []) some (omega (arith, id, fits))
-          (same ∙ ap (segment_name_of 6) (sym id))));
+          told_weaker (files b.disk) _ _ (beside f is) (λ g same name apart. same name (λ own.
+          apart (hand b) (here (hand b) []) some (omega (arith, id, fits))
+          (own ∙ ap (segment_name_of 6) (sym id))));
       left = λ f is w among. absurd (nothing_there w among);
     };
     below = λ w among. absurd (nothing_there w among);
@@ -211,11 +213,13 @@ module _ {D : Type 0} (files : D → Option Files) (changes : D → Option (List
               (segment_bytes a.id a.sections)) (sym same ∙ is) reads);
         };
         below = behind_one a.past a.id a.sections (λ (x : Write). x.id < b.id) above;
-        brings = grows_rolled changes a b (ap changes disk) past none above fits low;
+        brings = writes_of changes a b
+            (grows_rolled changes a b (ap changes disk) past none above fits low);
       }
 
-  -- one step after another
-  module _ (a b c : State D) (first : Leaving a b) (next : Leaving b c) where
+  -- one step after another, where the disk has not failed between
+  module _ (a b c : State D) (runs : b.is_stopped ≡ false) (first : Leaving a b)
+      (next : Leaving b c) where
     abbrev m1 : List Write
     m1 = first.rest.more
 
@@ -319,34 +323,47 @@ module _ {D : Type 0} (files : D → Option Files) (changes : D → Option (List
         | inl h ↦ omega (arith, first.below w h, next.forward)
         | inr h ↦ next.below w h
       ];
-      brings = grows_then changes a b c first.brings next.brings;
+      brings = writes_then changes a b c (grows_of changes a b first.brings runs) next.brings;
     }
 
   -- ---- the calls
 
+  some_more : (a b : State D) (section : Section) → b.sections ≡ a.sections ++ section ∷ []
+      → 0 < length b.sections
+  some_more a b section are =
+      subst (λ (l : List Section). 0 < length l) (sym are)
+      (omega (arith, length-append a.sections (section ∷ [])))
+
   pub leaves_kept : {T : Type 0} (a b : State D) (section : Section) (bytes : List ℕ)
       (result : Result T StoreFault) → Keeps a b section result
       → AddsBytes (files a.disk) (files b.disk) (changes a.disk) (changes b.disk)
-      (segment_name_of 6 a.id) bytes result → a.is_stopped ≡ false → a.id < 2 ^ 63
-      → ((w : Write) → Contains a.past w → w.id < a.id)
+      (segment_name_of 6 a.id) bytes result
+      → StayButOne (segment_name_of 6 a.id) (files a.disk) (files b.disk)
+      → a.is_stopped ≡ false → a.id < 2 ^ 63
+      → ((w : Write) → Contains a.past w → w.id < a.id) → a.synced ≤ length a.sections
       → segment_bytes a.id a.sections ++ bytes ≡ segment_bytes a.id (a.sections ++ section ∷ [])
-      → 0 < length section.payloads → b.is_stopped ≡ false → Leaving a b
-  leaves_kept a b section bytes (Ok done) keeps adds runs fits low spelled filled still =
-      let past = ap (λ (s : State D). s.past) keeps in
-      let id = ap (λ (s : State D). s.id) keeps in
-      leaves_more a b bytes adds.still_told adds.appends fits past id
-      (subst (λ (l : List Section). 0 < length l) (sym (ap (λ (s : State D). s.sections) keeps))
-      (omega (arith, length-append a.sections (section ∷ []))))
-      (grows_more changes a b section bytes adds.adds past id
-      (ap (λ (s : State D). s.sections) keeps) low fits spelled filled)
-  leaves_kept a b section bytes (Err OutOfMemory) keeps adds runs fits low spelled filled still =
+      → 0 < length section.payloads → Leaving a b
+  leaves_kept a b section bytes (Ok done) keeps adds beside runs fits low few spelled filled
+      =
+      leaves_more a b adds.still_told beside fits (ap (λ (s : State D). s.past) keeps)
+      (ap (λ (s : State D). s.id) keeps)
+      (some_more a b section (ap (λ (s : State D). s.sections) keeps))
+      (writes_kept changes a b section bytes (Ok done) keeps adds.adds runs fits low few spelled
+      filled)
+  leaves_kept a b section bytes (Err OutOfMemory) keeps adds beside runs fits low few spelled filled
+      =
       leaves_same a b (adds.same refl) adds.adds (ap (λ (s : State D). s.past) keeps)
       (ap (λ (s : State D). s.id) keeps) (ap (λ (s : State D). s.sections) keeps)
-  leaves_kept a b section bytes (Err Stopped) keeps adds runs fits low spelled filled still =
+  leaves_kept {T} a b section bytes (Err Stopped) keeps adds beside runs fits low few spelled filled
+      =
       elim keeps [
         | inl was ↦ absurd (true≢false (sym was.0 ∙ runs))
         | inr torn ↦
-            absurd (true≢false (sym (ap (λ (s : State D). s.is_stopped) torn) ∙ still))
+            leaves_more a b adds.still_told beside fits (ap (λ (s : State D). s.past) torn)
+            (ap (λ (s : State D). s.id) torn)
+            (some_more a b section (ap (λ (s : State D). s.sections) torn))
+            (writes_kept changes {T = T} a b section bytes (Err Stopped) (inr torn) adds.adds runs fits
+            low few spelled filled)
       ]
 
   pub leaves_settled : {T : Type 0} (a b : State D) (result : Result T StoreFault)
@@ -364,17 +381,17 @@ module _ {D : Type 0} (files : D → Option Files) (changes : D → Option (List
 
   -- a further segment is entered: all sections of this one last, and then the log goes on
   pub leaves_entered : {T : Type 0} (a mid b rolled : State D) (result : Result T StoreFault)
-      → files mid.disk ≡ files a.disk → changes mid.disk ≡ changes a.disk → mid.past ≡ a.past
-      → mid.id ≡ a.id → mid.sections ≡ a.sections
+      → mid.is_stopped ≡ false → files mid.disk ≡ files a.disk
+      → changes mid.disk ≡ changes a.disk → mid.past ≡ a.past → mid.id ≡ a.id → mid.sections ≡ a.sections
       → ReadsAs (files a.disk) (segment_name_of 6 a.id) (segment_bytes a.id a.sections)
       → rolled.disk ≡ mid.disk
       → rolled.past ≡ past_with mid.past mid.id mid.sections
       → mid.id < rolled.id → rolled.sections ≡ [] → rolled.id < 2 ^ 63
       → ((w : Write) → Contains a.past w → w.id < a.id) → OnOk result (b ≡ rolled)
       → OnErr result (b ≡ mid) → Leaving a b
-  leaves_entered a mid b rolled result same quiet past id sections reads disk rolls above none fits
-      low ok err =
-      leaves_then a mid b (leaves_same a mid same quiet past id sections) (by result ok err)
+  leaves_entered a mid b rolled result runs same quiet past id sections reads disk rolls above none
+      fits low ok err =
+      leaves_then a mid b runs (leaves_same a mid same quiet past id sections) (by result ok err)
     where
       there : ReadsAs (files mid.disk) (segment_name_of 6 mid.id)
           (segment_bytes mid.id mid.sections)

@@ -270,5 +270,5 @@ module _ {D : Type 0} (files : D → Option Files) (changes : D → Option (List
         settled = settled_same s.notes n s.files (ap (λ (x : NoteState D). x.sizes) notes)
             (ap (λ (x : NoteState D). x.logged) notes) (ap (λ (x : NoteState D). x.synced) notes)
             kept.order.settled;
-        ordered = λ still. ordered_gone (kept.order.ordered runs);
+        ordered = ordered_gone kept.order.ordered;
       }

@@ -143,7 +143,7 @@ module _ {D : Type 0} (files : D → Option Files) (changes : D → Option (List
     is_spelled = is_spelled;
     name_is = refl;
     bytes_are = refl;
-    behind = λ m among upto. note_appended s.notes noted runs (kept.sound runs)
+    behind = λ m among upto. note_appended s.notes noted runs kept.sound
         (appends_of h.growth.added) (all_grown changes s.first s.notes.log runs h.growth) m among;
   }
 
@@ -161,7 +161,7 @@ module _ {D : Type 0} (files : D → Option Files) (changes : D → Option (List
   ordered_now : HasOrdered changes t
   unfolding grown_beside
   ordered_now =
-      let h = kept.order.ordered runs in
+      let h = kept.order.ordered in
       let last = publish_of placed ∷ [] in
       record {
         growth = grown_beside changes s.first s.notes.log l last h.growth runs same adds refl;
@@ -177,4 +177,4 @@ module _ {D : Type 0} (files : D → Option Files) (changes : D → Option (List
       }
 
   pub order_put : KeepsOrder changes t
-  order_put = record { settled = all_settled; ordered = λ still. ordered_now }
+  order_put = record { settled = all_settled; ordered = ordered_now }

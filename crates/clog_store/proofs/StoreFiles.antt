@@ -60,6 +60,7 @@ use Rattle.clog_store.specs.Publishes.{
   IsTrueHere,
   file_at,
 }
+use Rattle.clog_store.specs.StoreFailed.{IsFreeTable}
 use Rattle.clog_store.specs.StoreFolder.{HoldsStore, IsSound, StoreLog, deeds_of, log_of, with_file}
 use Rattle.clog_store.specs.StoreState.{
   HasReached,
@@ -199,6 +200,24 @@ module _ {D : Type 0} (files : D → Option Files) (changes : D → Option (List
       (changes s.notes.log.disk) kept.grown.added (tells s.first) (tells s.notes.log.disk)
       kept.grown.changes_are f is
 
+  -- its name is free
+  pub free_table : (f : Files) → files s.notes.log.disk ≡ Some f
+      → IsFreeTable f (table_name_of file.table.0 sequence)
+  free_table f is =
+      let first = told_first f is in
+      let h = holding_of files changes moment faults code s in
+      let has = has_log files changes moment faults code s in
+      record {
+        table = file.table.0;
+        sequence = sequence;
+        named = named s.notes h noted has file cells may first.0 f
+            (kept.folder runs first.0 f first.1 is) kept.sound sequence (next_at f is) next.fits
+            next.starts far;
+        free = free s.notes h noted has file cells may first.0 f
+            (kept.folder runs first.0 f first.1 is) kept.sound sequence (next_at f is) next.fits
+            next.starts far;
+      }
+
   pub may_be_put : IfSome (files s.notes.log.disk) (λ f. IsTrueHere f s.notes.log.id
       (take s.notes.log.synced s.notes.log.sections) (file_at s.notes.base file cells) sequence)
   may_be_put = by (files s.notes.log.disk) refl
@@ -211,7 +230,7 @@ module _ {D : Type 0} (files : D → Option Files) (changes : D → Option (List
           let first = told_first f is in
           may_put s.notes (holding_of files changes moment faults code s) noted
           (has_log files changes moment faults code s) file cells
-          may first.0 f (kept.folder runs first.0 f first.1 is) (kept.sound runs) sequence
+          may first.0 f (kept.folder runs first.0 f first.1 is) kept.sound sequence
           (next_at f is) next.fits next.starts far
 
   -- its folder with it
@@ -232,7 +251,7 @@ module _ {D : Type 0} (files : D → Option Files) (changes : D → Option (List
         (Some come.bytes)) was.1 come.put in
         let with_it = holds_with s.notes (holding_of files changes moment faults code s) noted
         (has_log files changes moment faults code s) file cells may first f
-        (kept.folder runs first f is was.1) (kept.sound runs)
+        (kept.folder runs first f is was.1) kept.sound
         sequence (next_at f was.1) next.fits next.starts far come.bytes come.spelled in
         let all = with_file (deeds_by s) (put_of file cells) in
         subst (λ (x : StoreLog). HoldsStore first x all g) (sym same)

@@ -3,6 +3,7 @@ use Rattle.std.proofs.Common.{
   ◌≡◌,
   ℕ,
   Bool,
+  true,
   false,
   List,
   [],
@@ -44,8 +45,16 @@ use Rattle.clog_store.specs.StoreFolder.{
   fresh_log,
   no_deeds,
 }
-use Rattle.clog_store.specs.StoreState.{HoldsIt, IsStore, StoreState, deeds_by, holding_of}
+use Rattle.clog_store.specs.StoreState.{
+  HoldsIt,
+  HoldsItButOne,
+  IsStore,
+  StoreState,
+  deeds_by,
+  holding_of,
+}
 use Rattle.clog_store.proofs.FolderBegins.{holds_opened}
+use Rattle.clog_store.proofs.FolderFails.{fails_synced}
 use Rattle.clog_store.proofs.FolderSyncs.{holds_notes_synced}
 use Rattle.clog_store.proofs.Lived.{at_told}
 use Rattle.clog_store.proofs.NoteSynced.{run_writes}
@@ -78,9 +87,8 @@ module _ {D : Type 0} (files : D → Option Files) (changes : D → Option (List
     (s : StoreState D) (n : NoteState D)
     (kept : IsStore files changes moment faults read_at lasted_at s)
     (writes : Writes changes s.notes.log n.log)
-    (others : n.log.is_stopped ≡ false
-    → LeavesOthers s.notes.log n.log (files s.notes.log.disk) (files n.log.disk))
-    (sound : n.log.is_stopped ≡ false → IsSound n.log)
+    (others : LeavesOthers s.notes.log n.log (files s.notes.log.disk) (files n.log.disk))
+    (sound : IsSound n.log)
     (reads : n.log.is_stopped ≡ false → ReadsAs (files n.log.disk)
     (segment_name_of 6 n.log.id) (segment_bytes n.log.id n.log.sections)) where
   abbrev Holds : Type 0
@@ -97,12 +105,27 @@ module _ {D : Type 0} (files : D → Option Files) (changes : D → Option (List
       let rest : LeavesOthers s.notes.log n.log (Some was.0) (Some g) =
       subst (λ (o : Option Files). LeavesOthers s.notes.log n.log (Some was.0) o) here
       (subst (λ (o : Option Files). LeavesOthers s.notes.log n.log o (files n.log.disk)) was.1
-      (others still)) in
+      others) in
       holds_notes_synced first was.0 g s.notes n (deeds_by s) run
-      (kept.folder runs first was.0 is was.1) (kept.sound runs) (sound still) rest
+      (kept.folder runs first was.0 is was.1) kept.sound sound rest
       (at_some (files n.log.disk)
       (λ f. bytes_at f (segment_name_of 6 n.log.id) ≡ segment_bytes n.log.id n.log.sections) g
       (reads still) here) base_is logged_is stay
+
+  -- where the disk has failed, nothing was logged
+  pub folder_failed : s.notes.log.is_stopped ≡ false → n.base ≡ s.notes.base
+      → n.logged ≡ s.notes.logged → HoldsItButOne files (record s { notes = n })
+  folder_failed runs base_is same first g is here =
+      let was = some_told (files s.notes.log.disk) (files n.log.disk) (changes s.notes.log.disk)
+      (changes n.log.disk) writes.added (tells s.notes.log.disk) (tells n.log.disk)
+      writes.changes_are g here in
+      let rest : LeavesOthers s.notes.log n.log (Some was.0) (Some g) =
+      subst (λ (o : Option Files). LeavesOthers s.notes.log n.log (Some was.0) o) here
+      (subst (λ (o : Option Files). LeavesOthers s.notes.log n.log o (files n.log.disk)) was.1
+      others) in
+      fails_synced first was.0 g s.notes n (deeds_by s) []
+      (kept.folder runs first was.0 is was.1) kept.sound sound rest base_is
+      (same ∙ sym (append-nil s.notes.logged)) (λ m among. absurd (nothing_there m among))
 
   module _ {T : Type 0} (upto : ℕ) (pending left : List EntryNote)
       (may : MaySync (holding_of files changes moment faults code s) upto pending) where
@@ -121,3 +144,12 @@ module _ {D : Type 0} (files : D → Option Files) (changes : D → Option (List
         (λ m among. absurd (nothing_there m among))
     folder_synced (Err Stopped) cause stops ok err still =
         absurd (true≢false (sym stops ∙ still))
+
+    -- a sync that was refused since the disk has failed
+    pub failed_synced : (r : Result T StoreFault) → StopsBy n.log.is_stopped r
+        → OnErr r (HasRefused s.notes n upto pending left) → n.log.is_stopped ≡ true
+        → s.notes.log.is_stopped ≡ false → HoldsItButOne files (record s { notes = n })
+    failed_synced (Ok done) stops err stopped runs = absurd (true≢false (sym stopped ∙ stops))
+    failed_synced (Err fault) stops err stopped runs =
+        folder_failed runs (ap (λ (x : NoteState D). x.base) err.log_is)
+        (ap (λ (x : NoteState D). x.logged) err.log_is)

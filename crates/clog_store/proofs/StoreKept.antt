@@ -74,6 +74,7 @@ use Rattle.clog_store.specs.Grows.{IsGrown, Writes}
 use Rattle.clog_store.specs.Life.{State}
 use Rattle.clog_store.specs.NoteLog.{HasRefused, HasSynced, NoteState}
 use Rattle.clog_store.specs.Stepped.{HasLogCause, StopsBy}
+use Rattle.clog_store.specs.StoreFailed.{AllStay}
 use Rattle.clog_store.specs.StoreFolder.{
   HoldsStore,
   IsSound,
@@ -89,6 +90,7 @@ use Rattle.clog_store.specs.StoreState.{
   HasGrown,
   HasOrdered,
   HoldsIt,
+  HoldsItButOne,
   IsStore,
   StoreState,
   deeds_by,
@@ -97,6 +99,7 @@ use Rattle.clog_store.specs.StoreState.{
   told_as,
 }
 use Rattle.clog_store.proofs.Cuts.{put_none}
+use Rattle.clog_store.proofs.FolderFails.{all_stay, but_none}
 use Rattle.clog_store.proofs.NoteGrows.{added_both, appends_both, no_appends, nothing_added}
 use Rattle.clog_store.proofs.OrderGoes.{ordered_appended}
 use Rattle.clog_store.proofs.OrderSyncs.{GoesOnWith}
@@ -252,7 +255,7 @@ module _ {D : Type 0} (files : D → Option Files) (changes : D → Option (List
     appended = λ alone. record { growth = begun_growth log past none; alone = no_appends };
     order = record {
       settled = λ h has put among. absurd (nothing_there put among);
-      ordered = λ still. record {
+      ordered = record {
         growth = begun_growth log past none;
         ordered = record {
           each = λ front rest c is. absurd (omega (
@@ -264,7 +267,8 @@ module _ {D : Type 0} (files : D → Option Files) (changes : D → Option (List
         };
       };
     };
-    sound = λ still. sound;
+    sound = sound;
+    left = λ stopped. absurd (true≢false (sym stopped ∙ runs));
     folder = λ still first now is same.
         let fresh : fresh_log log.id ≡ log_of (store_over log sizes archives).notes = λ i. record {
           base = log.id;
@@ -305,6 +309,22 @@ module _ {D : Type 0} (files : D → Option Files) (changes : D → Option (List
       (faults n.log.disk) r cause stops still
       ∙ kept.quiet (ran_before s.notes.log.is_stopped n.log.is_stopped (faults s.notes.log.disk)
       (faults n.log.disk) r cause stops still)
+
+  -- its folder, whether or not the disk has failed
+  pub left_of : (s : StoreState D) → Keeping s → HoldsItButOne files s
+  left_of s kept = by s.notes.log.is_stopped refl
+    where
+      by : (b : Bool) → s.notes.log.is_stopped ≡ b → HoldsItButOne files s
+      by true is = kept.left is
+      by false is = λ first now at_first at_now.
+          but_none first now (log_of s.notes) (deeds_by s)
+          (kept.folder is first now at_first at_now)
+
+  pub all_stay_of : (s : StoreState D) → Keeping s → (first now : Files)
+      → files s.first ≡ Some first → files s.notes.log.disk ≡ Some now → AllStay first now
+  all_stay_of s kept first now at_first at_now =
+      all_stay first now (log_of s.notes) (deeds_by s) kept.sound.below kept.sound.stored.fits
+      (left_of s kept first now at_first at_now)
 
   module _ (s : StoreState D) (n : NoteState D) (kept : Keeping s)
       (opened : n.log.opened ≡ s.notes.log.opened)
@@ -354,11 +374,14 @@ module _ {D : Type 0} (files : D → Option Files) (changes : D → Option (List
         ]
 
     -- the changes stay in order
-    ordered_by : s.notes.log.is_stopped ≡ false → GoesOnWith s n
+    ordered_by : GoesOnWith s n → (b : Bool) → s.notes.log.is_stopped ≡ b
         → HasOrdered changes (record s { notes = n })
     unfolding grown_on
-    ordered_by runs on =
-        let h = kept.order.ordered runs in
+    ordered_by on true is =
+        subst (λ (x : NoteState D). HasOrdered changes (record s { notes = x })) (sym (stays is))
+        kept.order.ordered
+    ordered_by on false is =
+        let h = kept.order.ordered in
         elim h.growth.brought [
           | inl all ↦ record {
             growth = grown_on h.growth all;
@@ -376,17 +399,27 @@ module _ {D : Type 0} (files : D → Option Files) (changes : D → Option (List
                 on.logged_is (sym (append-nil s.files)) on.above on.apart (λ o listed. listed)
                 (λ o listed. listed) h.growth.added writes.added h.ordered writes.appends refl);
           }
-          | inr torn ↦ absurd (true≢false (sym torn.2 ∙ runs))
+          | inr torn ↦ absurd (true≢false (sym torn.2 ∙ is))
         ]
+
+    -- the folder, where the disk has failed in the call or had before
+    left_by : (s.notes.log.is_stopped ≡ false → HoldsItButOne files (record s { notes = n }))
+        → (b : Bool) → s.notes.log.is_stopped ≡ b → HoldsItButOne files (record s { notes = n })
+    left_by failed true is =
+        subst (λ (x : NoteState D). HoldsItButOne files (record s { notes = x })) (sym (stays is))
+        (kept.left is)
+    left_by failed false is = failed is
 
     -- a call of its log of notes
     pub store_on : {T : Type 0} (r : Result T StoreFault)
         → HasLogCause s.notes.log.is_stopped (faults s.notes.log.disk) (faults n.log.disk) r
-        → StopsBy n.log.is_stopped r → (n.log.is_stopped ≡ false → IsSound n.log)
+        → StopsBy n.log.is_stopped r → IsSound n.log
         → (n.log.is_stopped ≡ false → HoldsIt files (record s { notes = n }))
-        → AreSettled n s.files → (n.log.is_stopped ≡ false → GoesOnWith s n)
+        → (n.log.is_stopped ≡ true → s.notes.log.is_stopped ≡ false
+        → HoldsItButOne files (record s { notes = n }))
+        → AreSettled n s.files → GoesOnWith s n
         → Keeping (record s { notes = n })
-    store_on r cause stops sound folder settled on = record {
+    store_on r cause stops sound folder failed settled on = record {
       opened = opened ∙ kept.opened;
       later = later_still moment read_at lasted_at s.first s.notes.log.disk n.log.disk kept.later
           later;
@@ -401,12 +434,11 @@ module _ {D : Type 0} (files : D → Option Files) (changes : D → Option (List
       appended = appended_by s.notes.log.is_stopped refl kept.appended;
       order = record {
         settled = settled;
-        ordered = λ still. ordered_by
-            (ran_before s.notes.log.is_stopped n.log.is_stopped (faults s.notes.log.disk)
-            (faults n.log.disk) r cause stops still) (on still);
+        ordered = ordered_by on s.notes.log.is_stopped refl;
       };
       sound = sound;
       folder = folder;
+      left = λ stopped. left_by (failed stopped) s.notes.log.is_stopped refl;
     }
 
 -- ---- what it holds

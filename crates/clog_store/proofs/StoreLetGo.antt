@@ -11,9 +11,12 @@ use Rattle.std.proofs.Common.{
   [],
   ◌∷◌,
   ◌++◌,
+  inl,
+  inr,
   Option,
   Some,
   None,
+  get_or,
   length,
   take,
   drop,
@@ -38,11 +41,12 @@ use Rattle.std.specs.Prelude.{
   unwrap_or,
 }
 use Rattle.std.proofs.lemmas.Bool.{true≢false}
+use Rattle.std.proofs.lemmas.List.Elements.{Contains-append_cases}
 use Rattle.std.proofs.lemmas.List.{take_all}
 use Rattle.std.proofs.lemmas.Option.{none-some}
 use base.Stored.{Gv}
 use Rattle.clog_disk.specs.declared.change.Change.{Change}
-use Rattle.clog_disk.specs.Files.{Files}
+use Rattle.clog_disk.specs.Files.{Files, SameTold}
 use Rattle.clog_disk.specs.Images.{IsLater}
 use Rattle.clog_disk.proofs.Moments.{later_still}
 use Rattle.clog_crash.specs.Flush.{IsCovered}
@@ -51,7 +55,8 @@ use Rattle.path_core.specs.Keeper.{Holding}
 use Rattle.clog_store.specs.declared.section_log.dropping.DropFault.{DropFault}
 use Rattle.clog_store.specs.declared.written.StoreFault.{StoreFault}
 use Rattle.clog_store.specs.declared.written.StoreFault.TheVariants.{Stopped, OutOfMemory}
-use Rattle.clog_store.specs.Discarding.{DropsBy, DropsFiles, IsWithin, fault_of}
+use Rattle.clog_store.specs.Beside.{NamesSegment}
+use Rattle.clog_store.specs.Discarding.{DropsBy, DropsButOne, DropsFiles, IsWithin, fault_of}
 use Rattle.clog_store.specs.Discards.{
   AreDroppable,
   all_gone_at,
@@ -71,6 +76,7 @@ use Rattle.clog_store.specs.StoreDrops.{
   dropped_by,
   named_by,
 }
+use Rattle.clog_store.specs.StoreFailed.{HoldsButOne}
 use Rattle.clog_store.specs.StoreFolder.{
   Deeds,
   HoldsStore,
@@ -84,6 +90,7 @@ use Rattle.clog_store.specs.StoreFolder.{
 use Rattle.clog_store.specs.StoreState.{
   AppendsAlone,
   HoldsIt,
+  HoldsItButOne,
   IsStore,
   StoreState,
   deeds_by,
@@ -96,11 +103,14 @@ use Rattle.clog_store.proofs.DroppedLists.{
   first_archived,
   first_dropped,
   first_record,
+  next_among,
+  next_left,
   none_named,
 }
 use Rattle.clog_store.proofs.FolderDue.{covered_due, may_be_dropped}
 use Rattle.clog_store.proofs.FolderGoes.{droppable_there, holds_first_gone}
 use Rattle.clog_store.proofs.GoneCuts.{made_by}
+use Rattle.clog_store.proofs.Lived.{at_told, told_before}
 use Rattle.clog_store.proofs.NotePasses.{passes_same}
 use Rattle.clog_store.proofs.OrderDrops.{order_gone}
 use Rattle.clog_store.proofs.StoreBeside.{
@@ -177,7 +187,7 @@ module _ {D : Type 0} (files : D → Option Files) (changes : D → Option (List
   }
 
   sound : IsSound s.notes.log
-  sound = kept.sound runs
+  sound = kept.sound
 
   -- ---- what may go
 
@@ -233,6 +243,9 @@ module _ {D : Type 0} (files : D → Option Files) (changes : D → Option (List
       (passes : Passes s.notes.log n.log (fault_of r))
       (within : IsWithin s.archives (length os) r)
       (drops : DropsFiles s.archives s.notes.base os (files s.notes.log.disk)
+      (files n.log.disk) r)
+      (told : SameTold (files s.notes.log.disk) (files n.log.disk))
+      (others : DropsButOne s.archives s.notes.base os (files s.notes.log.disk)
       (files n.log.disk) r)
       (made : DropsBy s.archives s.notes.base os (changes s.notes.log.disk)
       (changes n.log.disk) r)
@@ -300,6 +313,59 @@ module _ {D : Type 0} (files : D → Option Files) (changes : D → Option (List
         (first_gone_at s.archives s.notes.base os count (named_by r) f))
         (first_record (deeds_by s) os count (named_by r)) holds_first))
 
+    -- the disk has failed with a name of the next one
+    next_failed : (first f g : Files) → files s.first ≡ Some first
+        → files s.notes.log.disk ≡ Some f → files n.log.disk ≡ Some g → (x : Result T DropFault)
+        → IsWithin s.archives (length os) x
+        → DropsButOne s.archives s.notes.base os (files s.notes.log.disk) (files n.log.disk) x
+        → StopsBy n.log.is_stopped (fault_of x) → n.log.is_stopped ≡ true
+        → HoldsButOne first (log_of s.notes)
+        (with_first_gone (deeds_by s) os (dropped_by (length os) x) (named_by x)) g
+    next_failed first f g at_first was now (Ok done) inside but stops stopped =
+        absurd (true≢false (sym stopped ∙ stops))
+    next_failed first f g at_first was now (Err why) inside but stops stopped =
+        let allowed = may first f at_first was in
+        let o = get_or os why.dropped 0 in
+        let at = next_among why.dropped os allowed.ascending inside.0 in
+        let change = first_gone_at s.archives s.notes.base os why.dropped why.is_named in
+        record {
+          last = change f;
+          holds = holds_first_gone first (log_of s.notes) sound.below sound.stored.fits os
+              why.dropped why.is_named f (deeds_by s) (holds first f at_first was) allowed
+              inside.1;
+          name = but.0;
+          failing = inr (inr (record {
+            ordinal = o;
+            past = allowed.past o at;
+            stays = λ gone. elim (Contains-append_cases s.dropped (take why.dropped os) o
+                (subst (λ (l : List ℕ). Contains l o)
+                (first_dropped (deeds_by s) os why.dropped why.is_named) gone)) [
+                  | inl had ↦ allowed.stays o at had
+                  | inr first_one ↦
+                      next_left why.dropped os allowed.ascending inside.0 first_one
+                ];
+            name_is = its_name why.dropped why.is_named but.0 but.1;
+          }));
+          others = at_told (files n.log.disk) g _ now (but.2 (change f)
+              (ap (option_map change) was));
+        }
+      where
+        its_name : (k : ℕ) (named : Bool) (name : List ℕ)
+            → NamesSegment s.archives (s.notes.base + get_or os k 0) name
+            → NamesSegment (with_first_gone (deeds_by s) os k named).archives
+            (s.notes.base + get_or os k 0) name
+        its_name k named name is =
+            subst (λ (b : Bool). NamesSegment b (s.notes.base + get_or os k 0) name)
+            (sym (ap (λ (d : Deeds). d.archives) (first_record (deeds_by s) os k named))) is
+
+    left : n.log.is_stopped ≡ true → HoldsItButOne files t
+    left stopped first g at_first now =
+        let was = told_before (files s.notes.log.disk) (files n.log.disk) g told now in
+        subst (λ (l : StoreLog). HoldsButOne first l (deeds_by t) g) log_same
+        (subst (λ (d : Deeds). HoldsButOne first (log_of s.notes) d g)
+        (first_record (deeds_by s) os count (named_by r))
+        (next_failed first was.0 g at_first was.1 now r within others stops stopped))
+
     -- where nothing has gone, and no archive name was given, no change was made
     alone : AppendsAlone changes t
     alone none =
@@ -344,8 +410,9 @@ module _ {D : Type 0} (files : D → Option Files) (changes : D → Option (List
               closed os due low n notes same count (named_by r) named_only named_inside
               (made_by s.archives s.notes.base os (changes s.notes.log.disk)
               (changes n.log.disk) r made);
-          sound = λ still. sound_now;
+          sound = sound_now;
           folder = folder;
+          left = left;
         }
 
     -- its lists

@@ -5,12 +5,15 @@ use Rattle.std.proofs.Common.{
   Bool,
   true,
   false,
+  inl,
+  inr,
   List,
   [],
   ◌∷◌,
   ◌++◌,
   length,
   Option,
+  Some,
   refl,
   sym,
   ◌∙◌,
@@ -30,7 +33,7 @@ use Rattle.clog_base.proofs.Members.{nothing_there}
 use Rattle.clog_cells.proofs.Merging.{of_same}
 use Rattle.clog_disk.specs.declared.change.Change.{Change}
 use Rattle.clog_disk.specs.declared.change.Change.TheVariants as change
-use Rattle.clog_disk.specs.Files.{Files}
+use Rattle.clog_disk.specs.Files.{Files, SameTold}
 use Rattle.clog_disk.specs.Images.{IsLater}
 use Rattle.clog_disk.proofs.Moments.{later_still}
 use Rattle.clog_crash.specs.Readings.{Reading}
@@ -39,16 +42,19 @@ use Rattle.path_core.specs.declared.keeper.KeeperFault.{KeeperFault}
 use Rattle.path_core.specs.Keeper.{Holding, IsLoggedCell, MayPublish, PutFile}
 use Rattle.clog_store.specs.declared.written.StoreFault.{StoreFault}
 use Rattle.clog_store.specs.declared.written.StoreFault.TheVariants.{Stopped, OutOfMemory}
+use Rattle.clog_store.specs.Beside.{StayButOne}
 use Rattle.clog_store.specs.Grows.{Writes}
 use Rattle.clog_store.specs.Life.{ReadsAs, State}
 use Rattle.clog_store.specs.NoteLog.{LeavesOthers, NoteState}
 use Rattle.clog_store.specs.Stepped.{HasLogCause, IsQuiet, Passes, StopsBy}
+use Rattle.clog_store.specs.StoreFailed.{HoldsButOne, IsFreeTable}
 use Rattle.clog_store.specs.StoreFolder.{Deeds, HoldsStore, IsSound, StoreLog, log_of}
 use Rattle.clog_store.specs.StoreState.{
   HasGrown,
   HasMoved,
   HasReached,
   HoldsIt,
+  HoldsItButOne,
   IsStore,
   KeepsOrder,
   StoreState,
@@ -56,11 +62,13 @@ use Rattle.clog_store.specs.StoreState.{
   holding_of,
   told_as,
 }
+use Rattle.clog_store.proofs.FolderFails.{but_none}
+use Rattle.clog_store.proofs.Lived.{at_told, told_before}
 use Rattle.clog_store.proofs.NoteGrows.{grows_same, writes_of}
 use Rattle.clog_store.proofs.NotePasses.{passes_runs, passes_same}
 use Rattle.clog_store.proofs.OrderSyncs.{goes_for_none, settled_same}
 use Rattle.clog_store.proofs.StoreBeside.{grown_beside}
-use Rattle.clog_store.proofs.StoreFolds.{folder_with}
+use Rattle.clog_store.proofs.StoreFolds.{folder_failed, folder_with}
 use Rattle.clog_store.proofs.StoreKept.{
   fault_later,
   quiet_call,
@@ -165,9 +173,9 @@ module _ {D : Type 0} (files : D → Option Files) (changes : D → Option (List
   was_running : l.is_stopped ≡ false → s.notes.log.is_stopped ≡ false
   was_running = passes_runs s.notes l r passes
 
-  pub sound_still : l.is_stopped ≡ false → IsSound l
-  sound_still still =
-      let was = kept.sound (was_running still) in
+  pub sound_still : IsSound l
+  sound_still =
+      let was = kept.sound in
       let there : State D = record s.notes.log { disk = l.disk; is_stopped = l.is_stopped } in
       let sound : IsSound there = record {
         below = was.below;
@@ -179,11 +187,36 @@ module _ {D : Type 0} (files : D → Option Files) (changes : D → Option (List
   same_mind : log_of n ≡ log_of s.notes
   same_mind = as_passed s.notes l r passes
 
+  -- the folder, where the disk has failed: it was only asked
+  pub asked_still : files l.disk ≡ files s.notes.log.disk → s.notes.log.is_stopped ≡ false
+      → HoldsItButOne files (with_files s.files)
+  asked_still same runs first now is here =
+      subst (λ (x : StoreLog). HoldsButOne first x (deeds_by s) now) (sym same_mind)
+      (but_none first now (log_of s.notes) (deeds_by s)
+      (kept.folder runs first now is (sym same ∙ here)))
+
+  -- or it was to put a file
+  pub put_failed : (name : List ℕ) → StayButOne name (files s.notes.log.disk) (files l.disk)
+      → SameTold (files s.notes.log.disk) (files l.disk)
+      → ((f : Files) → files s.notes.log.disk ≡ Some f → IsFreeTable f name)
+      → s.notes.log.is_stopped ≡ false → HoldsItButOne files (with_files s.files)
+  put_failed name others told free runs first g is here =
+      let was = told_before (files s.notes.log.disk) (files l.disk) g told here in
+      let but_it : HoldsButOne first (log_of s.notes) (deeds_by s) g = record {
+        last = was.0;
+        holds = kept.folder runs first was.0 is was.1;
+        name = name;
+        failing = inr (inl (free was.0 was.1));
+        others = at_told (files l.disk) g _ here (others was.0 was.1);
+      } in
+      subst (λ (x : StoreLog). HoldsButOne first x (deeds_by s) g) (sym same_mind) but_it
+
   -- nothing was put
   pub store_still : changes l.disk ≡ changes s.notes.log.disk
       → (l.is_stopped ≡ false → files l.disk ≡ files s.notes.log.disk)
+      → (s.notes.log.is_stopped ≡ false → HoldsItButOne files (with_files s.files))
       → Keeping (with_files s.files)
-  store_still quiet same =
+  store_still quiet same failed =
       store_on files changes moment faults read_at lasted_at s n kept
       (ap (λ (x : State D). x.opened) same_log) later
       (writes_of changes s.notes.log l (grows_same changes s.notes.log l quiet
@@ -192,8 +225,9 @@ module _ {D : Type 0} (files : D → Option Files) (changes : D → Option (List
       (λ still first now is here.
       subst (λ (x : StoreLog). HoldsStore first x (deeds_by s) now) (sym same_mind)
       (kept.folder (was_running still) first now is (sym (same still) ∙ here)))
+      (λ stopped. failed)
       (settled_same s.notes n s.files refl refl refl kept.order.settled)
-      (λ still. goes_for_none s n [] refl
+      (goes_for_none s n [] refl
       (ap (λ (x : State D). x.past) same_log ∙ sym (append-nil s.notes.log.past)) refl)
 
   -- a table file was put
@@ -205,10 +239,11 @@ module _ {D : Type 0} (files : D → Option Files) (changes : D → Option (List
         grown_beside changes s.first s.notes.log l (change.Publish name bytes ∷ []) kept.grown runs
         same_log adds refl
 
-    pub store_put : (l.is_stopped ≡ false → HoldsIt files (with_files (s.files ++ put ∷ [])))
+    pub store_put : l.is_stopped ≡ false
+        → (l.is_stopped ≡ false → HoldsIt files (with_files (s.files ++ put ∷ [])))
         → KeepsOrder changes (with_files (s.files ++ put ∷ []))
         → Keeping (with_files (s.files ++ put ∷ []))
-    store_put folder order = record {
+    store_put still folder order = record {
       opened = ap (λ (x : State D). x.opened) same_log ∙ kept.opened;
       later = later_still moment read_at lasted_at s.first s.notes.log.disk l.disk kept.later later;
       no_fewer = omega (
@@ -227,6 +262,7 @@ module _ {D : Type 0} (files : D → Option Files) (changes : D → Option (List
       order = order;
       sound = sound_still;
       folder = folder;
+      left = λ stopped. absurd (true≢false (sym stopped ∙ still));
     }
 
 -- ---- its log goes on in a later segment
@@ -239,11 +275,10 @@ module _ {D : Type 0} (files : D → Option Files) (changes : D → Option (List
     (opened : n.log.opened ≡ s.notes.log.opened)
     (later : IsLater moment read_at lasted_at s.notes.log.disk n.log.disk)
     (writes : Writes changes s.notes.log n.log)
-    (others : n.log.is_stopped ≡ false
-    → LeavesOthers s.notes.log n.log (files s.notes.log.disk) (files n.log.disk))
+    (others : LeavesOthers s.notes.log n.log (files s.notes.log.disk) (files n.log.disk))
     (stays : s.notes.log.is_stopped ≡ true → n ≡ s.notes) {T : Type 0} (r : Result T StoreFault)
     (cause : HasLogCause s.notes.log.is_stopped (faults s.notes.log.disk) (faults n.log.disk) r)
-    (stops : StopsBy n.log.is_stopped r) (sound : n.log.is_stopped ≡ false → IsSound n.log)
+    (stops : StopsBy n.log.is_stopped r) (sound : IsSound n.log)
     (reads : n.log.is_stopped ≡ false → ReadsAs (files n.log.disk)
     (segment_name_of 6 n.log.id) (segment_bytes n.log.id n.log.sections)) where
   pub store_gone_on : IsStore files changes moment faults read_at lasted_at (record s { notes = n })
@@ -257,11 +292,14 @@ module _ {D : Type 0} (files : D → Option Files) (changes : D → Option (List
       (ap (λ (x : NoteState D). x.base) same)
       (ap (λ (x : NoteState D). x.logged) same ∙ sym (append-nil s.notes.logged))
       (λ m among. absurd (nothing_there m among)))
+      (λ stopped runs. folder_failed files changes moment faults read_at lasted_at code tells s n
+      kept writes others sound reads runs (ap (λ (x : NoteState D). x.base) same)
+      (ap (λ (x : NoteState D). x.logged) same))
       (settled_same s.notes n s.files (ap (λ (x : NoteState D). x.sizes) same)
       (ap (λ (x : NoteState D). x.logged) same) (ap (λ (x : NoteState D). x.synced) same)
       kept.order.settled)
-      (λ still. goes_for_none s n (others still).more (ap (λ (x : NoteState D). x.base) same)
-      (others still).past (ap (λ (x : NoteState D). x.logged) same))
+      (goes_for_none s n others.more (ap (λ (x : NoteState D). x.base) same) others.past
+      (ap (λ (x : NoteState D). x.logged) same))
 
 -- ---- what a path is told
 

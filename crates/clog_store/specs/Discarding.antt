@@ -2,6 +2,7 @@
 use Rattle.std.specs.Prelude.{
   ◌≡◌,
   ℕ,
+  ◌+◌,
   ◌<◌,
   Bool,
   false,
@@ -9,6 +10,7 @@ use Rattle.std.specs.Prelude.{
   ◌++◌,
   take,
   drop,
+  get_or,
   Option,
   option_map,
   Result,
@@ -21,6 +23,7 @@ use Rattle.clog_disk.specs.Files.{Files}
 use Rattle.clog_store.specs.declared.section_log.dropping.DropFault.{DropFault}
 use Rattle.clog_store.specs.declared.written.StoreFault.{StoreFault}
 use Rattle.clog_store.specs.declared.written.StoreFault.TheVariants.{Stopped, OutOfMemory}
+use Rattle.clog_store.specs.Beside.{NamesSegment, StayButOne}
 use Rattle.clog_store.specs.Discards.{
   AreBehind,
   MayBeNamed,
@@ -61,6 +64,15 @@ DropsFiles archives base ordinals told now (Ok x) =
     now ≡ option_map (all_gone_at archives base ordinals) told
 DropsFiles archives base ordinals told now (Err why) =
     IsLeftBy archives base ordinals why.dropped why.is_named why.fault told now
+
+-- Whatever was answered, the first have gone, and all but one name of the next one reads so.
+abbrev pub DropsButOne : {T : Type 0} → Bool → ℕ → List ℕ → Option Files → Option Files
+    → Result T DropFault → Type 0
+DropsButOne archives base ordinals told now (Ok x) = ⊤
+DropsButOne archives base ordinals told now (Err why) =
+    (name : List ℕ) × NamesSegment archives (base + get_or ordinals why.dropped 0) name
+    × StayButOne name
+    (option_map (first_gone_at archives base ordinals why.dropped why.is_named) told) now
 
 -- The same by the disk's changes, whatever was answered.
 abbrev pub DropsBy : {T : Type 0} → Bool → ℕ → List ℕ → Option (List Change)

@@ -1,3 +1,4 @@
+pub mod Beside
 pub mod Coming
 pub mod Discarding
 pub mod Discards
@@ -18,6 +19,7 @@ pub mod Resting
 pub mod Several
 pub mod Stepped
 pub mod StoreDrops
+pub mod StoreFailed
 pub mod StoreFolder
 pub mod StoreOrder
 pub mod StoreState

@@ -194,9 +194,9 @@ abbrev pub IsNotOf : List Write → List ℕ → Type 0
 IsNotOf segments name = (w : Write) → Contains segments w → 0 < length w.sections → w.id < 2 ^ 63
     → name ≡ segment_name_of 6 w.id → ⊥
 
--- What a sync leaves of the other files, where it tells them and has not failed: all stand as
--- before but those of the segments with sections, from the one at hand before on, and each segment
--- that it has left reads as its sections.
+-- What a sync leaves of the other files, where the disk tells them, whatever is answered: all stand
+-- as before but those of the segments with sections, from the one at hand before on, and each
+-- segment that it has left reads as its sections.
 pub record LeavesOthers {D : Type 0} (before now : State D) (told told_now : Option Files)
     : Type 0 where
   pub more : List Write

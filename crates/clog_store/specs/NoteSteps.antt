@@ -32,7 +32,7 @@ use Rattle.clog_crash.specs.Readings.{Reading}
 use Rattle.path_core.specs.declared.note.EntryNote.{EntryNote}
 use Rattle.path_core.specs.Keeper.{FollowTo, Holding, MayWrite}
 use Rattle.clog_store.specs.declared.written.StoreFault.{StoreFault}
-use Rattle.clog_store.specs.Grows.{Grows}
+use Rattle.clog_store.specs.Grows.{Writes}
 use Rattle.clog_store.specs.Life.{Lives, LivesOn, State, past_with}
 use Rattle.clog_store.specs.NoteLog.{
   BeginsFrom,
@@ -57,14 +57,14 @@ pub record GoesOn {D : Type 0} (files : D → Option Files) (moment : D → ℕ)
         → LivesOn files moment since leaves read_at lasted_at before now
 
 -- The log goes forward and leaves the other files, and the changes of its disk bring what it
--- writes.
+-- writes, whether or not the disk has failed meanwhile.
 pub record Leaves {D : Type 0} (files : D → Option Files) (changes : D → Option (List Change))
     (before now : State D) : Type 0 where
   pub told : SameTold (files before.disk) (files now.disk)
   pub forward : before.id ≤ now.id
   pub rest : LeavesOthers before now (files before.disk) (files now.disk)
   pub below : (w : Write) → Contains rest.more w → w.id < now.id
-  pub brings : Grows changes before now
+  pub brings : Writes changes before now
 
 -- all sections last
 abbrev pub with_all_lasting : {D : Type 0} → State D → State D → State D

@@ -41,6 +41,7 @@ use Rattle.clog_store.specs.declared.written.StoreFault.TheVariants.{Stopped, Ou
 use Rattle.clog_store.specs.Grows.{AreAppends, AreBrought, IsGrown}
 use Rattle.clog_store.specs.Life.{State}
 use Rattle.clog_store.specs.NoteLog.{NoteState}
+use Rattle.clog_store.specs.StoreFailed.{HoldsButOne}
 use Rattle.clog_store.specs.StoreFolder.{
   Deeds,
   EndsWithin,
@@ -125,18 +126,24 @@ pub record HasOrdered {D : Type 0} (changes : D → Option (List Change)) (s : S
   pub growth : HasGrown changes s.first s.notes.log
   pub ordered : AreOrdered (log_of s.notes) (deeds_by s) growth.added
 
--- What it keeps of the order: the files that it put are settled, and until the disk has failed its
--- changes stand in order.
+-- What it keeps of the order: the files that it put are settled, and its changes stand in order,
+-- whether or not the disk has failed.
 pub record KeepsOrder {D : Type 0} (changes : D → Option (List Change)) (s : StoreState D)
     : Type 0 where
   pub settled : AreSettled s.notes s.files
-  pub ordered : s.notes.log.is_stopped ≡ false → HasOrdered changes s
+  pub ordered : HasOrdered changes s
 
 -- Where its disk tells its files, the folder is that of the store.
 abbrev pub HoldsIt : {D : Type 0} → (D → Option Files) → StoreState D → Type 0
 HoldsIt files s =
     (first now : Files) → files s.first ≡ Some first → files s.notes.log.disk ≡ Some now
     → HoldsStore first (log_of s.notes) (deeds_by s) now
+
+-- The same, but for one name.
+abbrev pub HoldsItButOne : {D : Type 0} → (D → Option Files) → StoreState D → Type 0
+HoldsItButOne files s =
+    (first now : Files) → files s.first ≡ Some first → files s.notes.log.disk ≡ Some now
+    → HoldsButOne first (log_of s.notes) (deeds_by s) now
 
 -- What a store keeps of its disk.
 pub record IsStore {D : Type 0} (files : D → Option Files) (changes : D → Option (List Change))
@@ -150,9 +157,10 @@ pub record IsStore {D : Type 0} (files : D → Option Files) (changes : D → Op
   pub grown : HasGrown changes s.first s.notes.log
   pub appended : AppendsAlone changes s
   pub order : KeepsOrder changes s
-  -- until the disk has failed
-  pub sound : s.notes.log.is_stopped ≡ false → IsSound s.notes.log
+  pub sound : IsSound s.notes.log
+  -- until the disk has failed, and once it has
   pub folder : s.notes.log.is_stopped ≡ false → HoldsIt files s
+  pub left : s.notes.log.is_stopped ≡ true → HoldsItButOne files s
 
 -- ---- its opening
 

@@ -18,9 +18,10 @@ ghost use Rattle.std.specs.Prelude.{
   IfSome,
   OnOk,
   OnErr,
+  true,
   option_map,
 };
-ghost use Rattle.clog_spec.specs.Names.{segment_name_of};
+ghost use Rattle.clog_spec.specs.Names.{archive_name_of, segment_name_of};
 ghost use Rattle.clog_disk.specs.Causes.{HasDiskCause};
 ghost use Rattle.clog_disk.specs.Files.{SameTold};
 ghost use Rattle.clog_disk.specs.Images.{IsLater, LeavesOnly};
@@ -32,14 +33,17 @@ ghost use Rattle.clog_scan.specs.Cut.{Section};
 ghost use Rattle.clog_crash.specs.Folder.{IsHeld};
 ghost use Rattle.clog_crash.specs.Log.{Write};
 ghost use Rattle.clog_crash.specs.Readings.{Reading};
+ghost use Rattle.clog_store.specs.Beside.{StayButOne};
 ghost use Rattle.clog_store.specs.Discards.{
   AllGoBy,
   AreDroppable,
   GoesBy,
+  LeftButOne,
   MayAllGo,
   NamesBy,
   NamesNext,
   NamesOnly,
+  NextLeftButOne,
   all_gone_at,
   first_gone_at,
   gone_at,
@@ -83,6 +87,8 @@ fn name_archive<D: Disk>(disk: &mut D, id: u64, archives: bool) -> Result<(), Di
     ensures files { OnOk result (D.files disk.new
         ≡ option_map (named_at archives id) (D.files disk.old)) }
     ensures same { result ≢ Err failed → OnErr result (D.files disk.new ≡ D.files disk.old) }
+    ensures others { StayButOne (archive_name_of id) (D.files disk.old) (D.files disk.new) }
+    ensures linked { OnErr result (archives ≡ true) }
     ensures changes { NamesBy archives id (D.changes disk.old) (D.changes disk.new) result }
     ensures stays { (r : Reading) (past : List Write) (last : ℕ) (old kept : List Section)
         (base : ℕ) (ordinals : List ℕ)
@@ -124,6 +130,8 @@ fn drop_segment<D: Disk>(
         ≡ option_map (gone_at archives (base + ordinal)) (D.files disk.old)) }
     ensures left { refused_by result ≢ Err failed → IfErr result (λ refusal. D.files disk.new
         ≡ option_map (named_at refusal.is_named (base + ordinal)) (D.files disk.old)) }
+    ensures others { LeftButOne archives (base + ordinal) (D.files disk.old) (D.files disk.new)
+        result }
     ensures changes { GoesBy archives (base + ordinal) (D.changes disk.old) (D.changes disk.new)
         result }
     ensures goes { (r : Reading) (past : List Write) (last : ℕ) (old kept : List Section)
@@ -180,6 +188,8 @@ pub fn drop_segments<D: Disk>(
     ensures left { halted_by result ≢ Err failed → IfErr result (λ halt. D.files disk.new
         ≡ option_map (first_gone_at archives base ordinals.now halt.dropped halt.is_named)
         (D.files disk.old)) }
+    ensures others { NextLeftButOne archives base ordinals.now (D.files disk.old)
+        (D.files disk.new) result }
     ensures changes { AllGoBy archives base ordinals.now (D.changes disk.old) (D.changes disk.new)
         result }
     ensures goes { (r : Reading) (past : List Write) (last : ℕ) (old kept : List Section)

@@ -142,9 +142,7 @@ impl<D: Disk> NoteLog<D> {
         ensures refused { OnErr result (LogsNot self.old self.new run.items) }
         ensures goes { GoesOn D.files D.moment D.since D.leaves D.read_at D.lasted_at self.old.log
             self.new.log }
-        ensures leaves { self.new.log.is_stopped ≡ false
-            → Leaves D.files D.changes self.old.log self.new.log }
-        ensures writes { Writes D.changes self.old.log self.new.log }
+        ensures leaves { Leaves D.files D.changes self.old.log self.new.log }
         ensures cause { HasLogCause self.old.log.is_stopped (D.faults self.old.log.disk)
             (D.faults self.new.log.disk) result }
         ensures stops { StopsBy self.new.log.is_stopped result }
@@ -185,8 +183,7 @@ impl<D: Disk> NoteLog<D> {
             pending.new.items) }
         ensures refused { OnErr result (HasRefused self.old self.new upto.0 pending.old.items
             pending.new.items) }
-        ensures others { self.new.log.is_stopped ≡ false
-            → LeavesOthers self.old.log self.new.log (D.files self.old.log.disk)
+        ensures others { LeavesOthers self.old.log self.new.log (D.files self.old.log.disk)
             (D.files self.new.log.disk) }
         ensures grows { self.new.log.is_stopped ≡ false
             → Grows D.changes self.old.log self.new.log }
@@ -222,12 +219,12 @@ impl<D: Disk> NoteLog<D> {
         self.base
     }
 
-    /// The disk's count of faults. While the disk has not failed, its segments can hold the log's
-    /// sections, and the one at hand reads so.
+    /// The disk's count of faults. Its segments can hold the log's sections; while the disk has not
+    /// failed, the one at hand reads so.
     pub fn fault_count(&self) -> u64
         ensures count { result ≡ D.faults self.now.log.disk }
         ensures fits { D.faults self.now.log.disk < 2 ^ 64 }
-        ensures sound { self.now.log.is_stopped ≡ false → IsSound self.now.log }
+        ensures sound { IsSound self.now.log }
         ensures reads { self.now.log.is_stopped ≡ false → ReadsAs (D.files self.now.log.disk)
             (segment_name_of 6 self.now.log.id)
             (segment_bytes self.now.log.id self.now.log.sections) }

@@ -3,7 +3,6 @@
 ghost use Rattle.std.specs.Prelude.{◌≡◌, ◌<◌, ◌≤◌, ◌^◌, length, false};
 ghost use Rattle.clog_crash.specs.Sections.{next_section};
 ghost use Rattle.clog_store.specs.NoteSections.{MayBeNext, payloads_in};
-ghost use Rattle.clog_store.specs.Grows.{Writes};
 ghost use Rattle.clog_store.specs.NoteSteps.{Enters, GoesOn, Leaves};
 ghost use Rattle.clog_store.specs.Stepped.{HasLogCause, Keeps, StopsBy};
 
@@ -28,8 +27,7 @@ pub(crate) fn keep_notes<D: Disk>(
     ensures keeps { Keeps log.old log.new (next_section log.old.sections (payloads_in notes.now))
         result }
     ensures goes { GoesOn D.files D.moment D.since D.leaves D.read_at D.lasted_at log.old log.new }
-    ensures leaves { log.new.is_stopped ≡ false → Leaves D.files D.changes log.old log.new }
-    ensures writes { Writes D.changes log.old log.new }
+    ensures leaves { Leaves D.files D.changes log.old log.new }
     ensures cause { HasLogCause log.old.is_stopped (D.faults log.old.disk) (D.faults log.new.disk)
         result }
     ensures stops { StopsBy log.new.is_stopped result }
@@ -52,8 +50,7 @@ pub(crate) fn enter<D: Disk>(
     requires on { log.old.id ≤ id }
     ensures enters { Enters log.old log.new id result }
     ensures goes { GoesOn D.files D.moment D.since D.leaves D.read_at D.lasted_at log.old log.new }
-    ensures leaves { log.new.is_stopped ≡ false → Leaves D.files D.changes log.old log.new }
-    ensures writes { Writes D.changes log.old log.new }
+    ensures leaves { Leaves D.files D.changes log.old log.new }
     ensures cause { HasLogCause log.old.is_stopped (D.faults log.old.disk) (D.faults log.new.disk)
         result }
     ensures stops { StopsBy log.new.is_stopped result }

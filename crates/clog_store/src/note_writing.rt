@@ -1,7 +1,6 @@
 //! Notes are written behind a log of sections, section by section: what stands in it goes on to be
 //! known (`IsReady`), and where the disk has not failed, what a log of notes keeps stays true.
 ghost use Rattle.std.specs.Prelude.{◌≡◌, ◌<◌, ◌≤◌, ◌^◌, length, false, OnOk};
-ghost use Rattle.clog_store.specs.Grows.{Writes};
 ghost use Rattle.clog_store.specs.NoteSteps.{
   GoesOn,
   IsReady,
@@ -40,8 +39,7 @@ fn write_next<D: Disk>(
     ensures more { OnOk result (written.old < written.new) }
     ensures runs { OnOk result (log.new.is_stopped ≡ false) }
     ensures goes { GoesOn D.files D.moment D.since D.leaves D.read_at D.lasted_at log.old log.new }
-    ensures leaves { log.new.is_stopped ≡ false → Leaves D.files D.changes log.old log.new }
-    ensures writes { Writes D.changes log.old log.new }
+    ensures leaves { Leaves D.files D.changes log.old log.new }
     ensures cause { HasLogCause log.old.is_stopped (D.faults log.old.disk) (D.faults log.new.disk)
         result }
     ensures stops { StopsBy log.new.is_stopped result }
@@ -74,8 +72,7 @@ fn write_rest<D: Disk>(
     ensures all { OnOk result (written.new ≡ length notes.now) }
     ensures runs { OnOk result (log.new.is_stopped ≡ false) }
     ensures goes { GoesOn D.files D.moment D.since D.leaves D.read_at D.lasted_at log.old log.new }
-    ensures leaves { log.new.is_stopped ≡ false → Leaves D.files D.changes log.old log.new }
-    ensures writes { Writes D.changes log.old log.new }
+    ensures leaves { Leaves D.files D.changes log.old log.new }
     ensures cause { HasLogCause log.old.is_stopped (D.faults log.old.disk) (D.faults log.new.disk)
         result }
     ensures stops { StopsBy log.new.is_stopped result }
@@ -108,8 +105,7 @@ pub(crate) fn write_all<D: Disk>(
     ensures all { OnOk result (written.new ≡ length notes.now) }
     ensures lasts { OnOk result (log.new.synced ≡ length log.new.sections) }
     ensures goes { GoesOn D.files D.moment D.since D.leaves D.read_at D.lasted_at log.old log.new }
-    ensures leaves { log.new.is_stopped ≡ false → Leaves D.files D.changes log.old log.new }
-    ensures writes { Writes D.changes log.old log.new }
+    ensures leaves { Leaves D.files D.changes log.old log.new }
     ensures cause { HasLogCause log.old.is_stopped (D.faults log.old.disk) (D.faults log.new.disk)
         result }
     ensures stops { StopsBy log.new.is_stopped result }

@@ -2,6 +2,7 @@
 //! first; then one call of the disk puts it in place. A crash meanwhile leaves a folder that
 //! restores the same.
 ghost use Rattle.std.specs.Prelude.{◌≡◌, ◌≢◌, ℕ, List, Err, OnOk, OnErr};
+ghost use Rattle.clog_spec.specs.Names.{table_name_of};
 ghost use Rattle.clog_disk.specs.Causes.{HasDiskCause};
 ghost use Rattle.clog_disk.specs.Files.{SameTold};
 ghost use Rattle.clog_disk.specs.Images.{IsLater, LeavesOnly, Unchanged};
@@ -14,6 +15,7 @@ ghost use Rattle.clog_crash.specs.Changes.{IsTrueOf};
 ghost use Rattle.clog_crash.specs.Log.{Write};
 ghost use Rattle.clog_crash.specs.Readings.{Reading};
 ghost use Rattle.path_core.specs.Keeper.{Holding, MayPublish, PutFile};
+ghost use Rattle.clog_store.specs.Beside.{StayButOne};
 ghost use Rattle.clog_store.specs.OnDisk.{IsAllOnDisk, file_on};
 ghost use Rattle.clog_store.specs.Publishes.{HasCome, IsNumbered, MayPut, file_at};
 ghost use Rattle.clog_store.specs.Resting.{RestsAt, ShowsBehind};
@@ -55,6 +57,8 @@ pub fn publish_file<D: Disk>(
     ensures comes { OnOk result (HasCome (D.files disk.old) (D.files disk.new)
         (D.changes disk.old) (D.changes disk.new) (file_at base file cells.now) sequence) }
     ensures quiet { OnErr result (D.changes disk.new ≡ D.changes disk.old) }
+    ensures others { StayButOne (table_name_of file.table.0 sequence) (D.files disk.old)
+        (D.files disk.new) }
     ensures same { result ≢ Err failed → OnErr result (Unchanged (D.files disk.old)
         (D.files disk.new) (D.leaves disk.old) (D.leaves disk.new)) }
     ensures rests { (r : Reading) (past : List Write) (id : ℕ) (old kept : List Section)

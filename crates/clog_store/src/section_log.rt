@@ -15,6 +15,7 @@ ghost use Rattle.clog_crash.specs.Log.{Write};
 ghost use Rattle.clog_crash.specs.Rest.{IsAtRest};
 ghost use Rattle.clog_crash.specs.Sections.{Brings, IsStored, segment_bytes};
 ghost use Rattle.clog_folder.specs.Passing.{IsUntouched, TellsFault};
+ghost use Rattle.clog_store.specs.Beside.{StayButOne};
 ghost use Rattle.clog_store.specs.Life.{
   HasEnd,
   LastsNow,
@@ -184,11 +185,11 @@ impl<D: Disk> SectionLog<D> {
         }
     }
 
-    /// The disk's count of faults. While the disk has not failed, its segments can hold the log's
-    /// sections, and the one at hand reads so.
+    /// The disk's count of faults. Its segments can hold the log's sections; while the disk has not
+    /// failed, the one at hand reads so.
     pub fn fault_count(&self) -> u64
         ensures count { result ≡ D.faults self.now.disk }
-        ensures sound { self.now.is_stopped ≡ false → IsSound self.now }
+        ensures sound { IsSound self.now }
         ensures reads { self.now.is_stopped ≡ false → ReadsAs (D.files self.now.disk)
             (segment_name_of 6 self.now.id) (segment_bytes self.now.id self.now.sections) }
     {
@@ -205,6 +206,8 @@ impl<D: Disk> SectionLog<D> {
         ensures adds { AddsBytes (D.files self.old.disk) (D.files self.new.disk)
             (D.changes self.old.disk) (D.changes self.new.disk) (segment_name_of 6 self.old.id)
             bytes.now result }
+        ensures others { StayButOne (segment_name_of 6 self.old.id) (D.files self.old.disk)
+            (D.files self.new.disk) }
         ensures later { IsLater D.moment D.read_at D.lasted_at self.old.disk self.new.disk }
         ensures cause { HasLogCause self.old.is_stopped (D.faults self.old.disk)
             (D.faults self.new.disk) result }
@@ -280,14 +283,14 @@ impl<D: Disk> SectionLog<D> {
         self.disk
     }
 
-    /// The id of the segment that it writes. While the disk has not failed, that segment can hold
-    /// the log's sections, and reads so.
+    /// The id of the segment that it writes. That segment can hold the log's sections; while the
+    /// disk has not failed, it reads so.
     pub(crate) fn id(&self) -> u64
         ensures id { result ≡ self.now.id }
         ensures few { self.now.synced ≤ length self.now.sections }
-        ensures stored { self.now.is_stopped ≡ false → IsStored self.now.id self.now.sections }
+        ensures stored { IsStored self.now.id self.now.sections }
         ensures below { (w : Write) → Contains self.now.past w → w.id < self.now.id }
-        ensures sound { self.now.is_stopped ≡ false → IsSound self.now }
+        ensures sound { IsSound self.now }
         ensures reads { self.now.is_stopped ≡ false → ReadsAs (D.files self.now.disk)
             (segment_name_of 6 self.now.id) (segment_bytes self.now.id self.now.sections) }
     {

@@ -15,6 +15,7 @@ ghost use Rattle.clog_scan.specs.Cut.{Section};
 ghost use Rattle.clog_crash.specs.Log.{Write};
 ghost use Rattle.clog_crash.specs.Readings.{Reading};
 ghost use Rattle.clog_crash.specs.Sections.{Brings};
+ghost use Rattle.clog_store.specs.Beside.{StayButOne};
 ghost use Rattle.clog_store.specs.Resting.{RestsAt, ShowsBehind};
 
 use clog_base::segment_name;
@@ -37,6 +38,7 @@ pub fn keep_sections<D: Disk>(
     ensures later { IsLater D.moment D.read_at D.lasted_at disk.old disk.new }
     ensures cause { HasDiskCause (D.faults disk.old) (D.faults disk.new) result }
     ensures found { result ≢ Err no_file }
+    ensures others { StayButOne (segment_name_of 6 id) (D.files disk.old) (D.files disk.new) }
     ensures kept { (r : Reading) (past : List Write) (old kept new : List Section)
         → Brings id old kept new bytes.now
         → RestsAt (D.files disk.old) (D.leaves disk.old) r past id old kept

@@ -4,10 +4,10 @@
 //! It keeps true (`IsStore`) that its disk goes on from the one of its opening, that it has stopped
 //! only where the disk's count of faults has risen since, and that the appends since have brought
 //! just the sections of its log, so that the log holds each entry once. Until it has put a file or
-//! dropped a segment, the changes since are appends alone. Until the disk has failed its folder
-//! holds just what the store wrote, and what was there at the opening, the changes since stand in
-//! order (a table file behind the log up to its end, a segment's removal behind its table files),
-//! and the disk has counted no fault since the opening.
+//! dropped a segment, the changes since are appends alone. They stand in order: a table file behind
+//! the log up to its end, a segment's removal behind its table files. Until the disk has failed its
+//! folder holds just what the store wrote, and what was there at the opening, and the disk has
+//! counted no fault since the opening; once it has failed, the folder does but for one name.
 ghost use Rattle.std.specs.Prelude.{◌≡◌, ◌<◌, ◌≤◌, ◌^◌, [], IfErr, IfOk, Some, false, true};
 ghost use Rattle.clog_io.specs.Causes.{Rose};
 ghost use Rattle.clog_disk.specs.Files.{Files, SameTold, Told};
@@ -25,6 +25,7 @@ ghost use Rattle.clog_store.specs.Opened.{
   RecoversFirst,
 };
 ghost use Rattle.clog_store.specs.NoteLog.{IsNoteLog};
+ghost use Rattle.clog_store.specs.StoreFailed.{AllStay};
 ghost use Rattle.clog_store.specs.StoreFolder.{HoldsStore, IsSound, fresh_log, no_deeds};
 ghost use Rattle.clog_store.specs.StoreOrder.{AreSettled};
 ghost use Rattle.clog_store.specs.StoreState.{
@@ -33,6 +34,7 @@ ghost use Rattle.clog_store.specs.StoreState.{
   HasGrown,
   HasOrdered,
   HoldsIt,
+  HoldsItButOne,
   holding_of,
   store_over,
   told_as,
@@ -219,10 +221,12 @@ impl<D: Disk> Store<D> {
     /// Gives the disk back. The appends since the opening have brought just the log's sections, and
     /// where all lasted at the opening, each image since restores what the folder restored then and
     /// the first of the entries, and each image of now all that last. A store that has put no file
-    /// and dropped no segment has appended alone. Unless the disk has failed its changes stand in
-    /// order: a table file behind the log up to its end, and a segment that goes behind the table
-    /// files that stand for it. Where the store has not stopped, the disk has counted no fault since
-    /// the opening; else the count has risen, or stands at the greatest `u64`.
+    /// and dropped no segment has appended alone. Also where the disk has failed its changes stand
+    /// in order: a table file behind the log up to its end, and a segment that goes behind the
+    /// table files that stand for it. Its folder holds just what the store wrote and what was there
+    /// at the opening, but for the one file with which the disk has failed; each file that was
+    /// there at the opening stays. Where the store has not stopped, the disk has counted no fault since the
+    /// opening; else the count has risen, or stands at the greatest `u64`.
     pub fn into_disk(self) -> D
         ensures disk { result ≡ self.notes.log.disk }
         ensures opened { self.notes.log.opened ≡ D.moment self.first }
@@ -234,11 +238,14 @@ impl<D: Disk> Store<D> {
         ensures grown { HasGrown D.changes self.first self.notes.log }
         ensures alone { AppendsAlone D.changes self }
         ensures settled { AreSettled self.notes self.files }
-        ensures ordered { self.notes.log.is_stopped ≡ false → HasOrdered D.changes self }
+        ensures ordered { HasOrdered D.changes self }
         ensures notes { IsNoteLog self.notes }
         ensures stored { IsStored self.notes.log.id self.notes.log.sections }
-        ensures sound { self.notes.log.is_stopped ≡ false → IsSound self.notes.log }
+        ensures sound { IsSound self.notes.log }
         ensures folder { self.notes.log.is_stopped ≡ false → HoldsIt D.files self }
+        ensures left { HoldsItButOne D.files self }
+        ensures stay { (first now : Files) → D.files self.first ≡ Some first
+            → D.files result ≡ Some now → AllStay first now }
         ensures shown { D.lasted_at result self.notes.log.opened
             → ShownSince D.files D.moment D.since D.read_at D.lasted_at result
             self.notes.log.opened self.notes.log.past self.notes.log.id self.notes.log.sections }

@@ -19,7 +19,7 @@ ghost use Rattle.clog_disk.specs.Images.{IsLater};
 ghost use Rattle.clog_crash.specs.Flush.{IsCovered};
 ghost use Rattle.clog_crash.specs.Sections.{segment_bytes};
 ghost use Rattle.path_core.specs.Keeper.{Holding};
-ghost use Rattle.clog_store.specs.Discarding.{DropsBy, DropsFiles, IsWithin, fault_of};
+ghost use Rattle.clog_store.specs.Discarding.{DropsBy, DropsButOne, DropsFiles, IsWithin, fault_of};
 ghost use Rattle.clog_store.specs.Discards.{AreDroppable};
 ghost use Rattle.clog_store.specs.Dropping.{AreDue, ArePublished};
 ghost use Rattle.clog_store.specs.Grows.{Writes};
@@ -50,11 +50,11 @@ impl<D: Disk> NoteLog<D> {
         self.alloc
     }
 
-    /// What it keeps, for contracts alone: the notes stand in its sections, and while the disk has
-    /// not failed, its segments can hold these, and the one at hand reads so.
+    /// What it keeps, for contracts alone: the notes stand in its sections, and its segments can
+    /// hold these; while the disk has not failed, the one at hand reads so.
     pub(crate) fn tell(&self)
         ensures notes { IsNoteLog self.now }
-        ensures sound { self.now.log.is_stopped ≡ false → IsSound self.now.log }
+        ensures sound { IsSound self.now.log }
         ensures reads { self.now.log.is_stopped ≡ false → ReadsAs (D.files self.now.log.disk)
             (segment_name_of 6 self.now.log.id)
             (segment_bytes self.now.log.id self.now.log.sections) }
@@ -90,8 +90,7 @@ impl<D: Disk> NoteLog<D> {
             × AreDue h closed due.now }
         ensures same { self.new ≡ record self.old { log = self.new.log } }
         ensures earlier { OnOk result (AreEarlier self.new due.now) }
-        ensures others { self.new.log.is_stopped ≡ false
-            → LeavesOthers self.old.log self.new.log (D.files self.old.log.disk)
+        ensures others { LeavesOthers self.old.log self.new.log (D.files self.old.log.disk)
             (D.files self.new.log.disk) }
         ensures writes { Writes D.changes self.old.log self.new.log }
         ensures opened { self.new.log.opened ≡ self.old.log.opened }
@@ -124,6 +123,8 @@ impl<D: Disk> NoteLog<D> {
         ensures within { IsWithin archives (length ordinals.now) result }
         ensures told { SameTold (D.files self.old.log.disk) (D.files self.new.log.disk) }
         ensures files { DropsFiles archives self.old.base ordinals.now
+            (D.files self.old.log.disk) (D.files self.new.log.disk) result }
+        ensures others { DropsButOne archives self.old.base ordinals.now
             (D.files self.old.log.disk) (D.files self.new.log.disk) result }
         ensures changes { DropsBy archives self.old.base ordinals.now
             (D.changes self.old.log.disk) (D.changes self.new.log.disk) result }

@@ -40,8 +40,7 @@ impl<D: Disk> NoteLog<D> {
         requires begins { BeginsFrom self.old.base id self.old.kept }
         ensures same { self.new ≡ record self.old { log = self.new.log } }
         ensures enters { Enters self.old.log self.new.log id result }
-        ensures others { self.new.log.is_stopped ≡ false
-            → LeavesOthers self.old.log self.new.log (D.files self.old.log.disk)
+        ensures others { LeavesOthers self.old.log self.new.log (D.files self.old.log.disk)
             (D.files self.new.log.disk) }
         ensures writes { Writes D.changes self.old.log self.new.log }
         ensures stays { self.old.log.is_stopped ≡ true → self.new ≡ self.old }
@@ -63,7 +62,7 @@ impl<D: Disk> NoteLog<D> {
     // Whether a file up to a key would end behind the marker of the segment at hand.
     fn is_short_of(&self, upper: Key) -> bool
         ensures short { IsTrue result ↔ IsShortOf self.now upper.0 }
-        ensures sound { self.now.log.is_stopped ≡ false → IsSound self.now.log }
+        ensures sound { IsSound self.now.log }
     {
         let last = Key(self.synced);
         if last.position(self.base).id != self.log.id() || last.0 == 0 {
@@ -81,8 +80,7 @@ impl<D: Disk> NoteLog<D> {
         ensures far { OnOk result (EndsWithin self.new.log.id
             (take self.new.log.synced self.new.log.sections)
             (position_of self.new.base upper.0)) }
-        ensures others { self.new.log.is_stopped ≡ false
-            → LeavesOthers self.old.log self.new.log (D.files self.old.log.disk)
+        ensures others { LeavesOthers self.old.log self.new.log (D.files self.old.log.disk)
             (D.files self.new.log.disk) }
         ensures writes { Writes D.changes self.old.log self.new.log }
         ensures stays { self.old.log.is_stopped ≡ true → self.new ≡ self.old }

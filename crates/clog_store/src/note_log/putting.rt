@@ -12,8 +12,10 @@ ghost use Rattle.std.specs.Prelude.{
   take,
   true,
 };
+ghost use Rattle.clog_spec.specs.Names.{table_name_of};
 ghost use Rattle.clog_crash.specs.Folder.{IsBase};
 ghost use Rattle.clog_disk.specs.Files.{SameTold};
+ghost use Rattle.clog_store.specs.Beside.{StayButOne};
 ghost use Rattle.clog_store.specs.Named.{HasSequence, OneHas};
 ghost use Rattle.clog_store.specs.NoteLog.{IsNoteLog};
 ghost use Rattle.clog_store.specs.NoteSteps.{GoesOn};
@@ -92,6 +94,8 @@ impl<D: Disk> NoteLog<D> {
         ensures told { SameTold (D.files self.old.log.disk) (D.files self.new.log.disk) }
         ensures quiet { OnErr result
             (D.changes self.new.log.disk ≡ D.changes self.old.log.disk) }
+        ensures others { StayButOne (table_name_of file.table.0 sequence)
+            (D.files self.old.log.disk) (D.files self.new.log.disk) }
         ensures same { result ≡ Err no_memory
             → D.files self.new.log.disk ≡ D.files self.old.log.disk }
         ensures cause { HasLogCause self.old.log.is_stopped (D.faults self.old.log.disk)

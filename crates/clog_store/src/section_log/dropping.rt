@@ -16,6 +16,7 @@ ghost use Rattle.clog_disk.specs.Images.{IsLater};
 ghost use Rattle.clog_crash.specs.Flush.{IsCovered};
 ghost use Rattle.clog_store.specs.Discarding.{
   DropsBy,
+  DropsButOne,
   DropsFiles,
   HasDroppedNone,
   IsWithin,
@@ -57,6 +58,8 @@ impl<D: Disk> SectionLog<D> {
         ensures told { SameTold (D.files self.old.disk) (D.files self.new.disk) }
         ensures files { DropsFiles archives base ordinals.now (D.files self.old.disk)
             (D.files self.new.disk) result }
+        ensures others { self.old.is_stopped ≡ false → DropsButOne archives base ordinals.now
+            (D.files self.old.disk) (D.files self.new.disk) result }
         ensures changes { DropsBy archives base ordinals.now (D.changes self.old.disk)
             (D.changes self.new.disk) result }
         ensures later { IsLater D.moment D.read_at D.lasted_at self.old.disk self.new.disk }

@@ -1,7 +1,9 @@
 //! Table files come beside the log of sections. What it promises of its entries stands meanwhile.
 ghost use Rattle.std.specs.Prelude.{◌≡◌, Err, IfSome, OnErr, OnOk, take, true};
+ghost use Rattle.clog_spec.specs.Names.{table_name_of};
 ghost use Rattle.clog_disk.specs.Files.{SameTold};
 ghost use Rattle.clog_disk.specs.Images.{IsLater};
+ghost use Rattle.clog_store.specs.Beside.{StayButOne};
 ghost use Rattle.clog_store.specs.Life.{Lives, LivesOn};
 ghost use Rattle.clog_store.specs.Publishes.{HasCome, IsNumbered, IsTrueHere, file_at};
 ghost use Rattle.clog_store.specs.Stepped.{HasLogCause, Passes, StopsBy};
@@ -37,6 +39,8 @@ impl<D: Disk> SectionLog<D> {
             sequence) }
         ensures told { SameTold (D.files self.old.disk) (D.files self.new.disk) }
         ensures quiet { OnErr result (D.changes self.new.disk ≡ D.changes self.old.disk) }
+        ensures others { StayButOne (table_name_of file.table.0 sequence) (D.files self.old.disk)
+            (D.files self.new.disk) }
         ensures same { result ≡ Err no_memory → D.files self.new.disk ≡ D.files self.old.disk }
         ensures later { IsLater D.moment D.read_at D.lasted_at self.old.disk self.new.disk }
         ensures cause { HasLogCause self.old.is_stopped (D.faults self.old.disk)

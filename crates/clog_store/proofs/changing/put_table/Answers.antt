@@ -1,10 +1,12 @@
-use Rattle.std.proofs.Common.{◌∙◌, sym, ap}
+use Rattle.std.proofs.Common.{◌∙◌, ℕ, List, Some, sym, ap, subst}
 use Rattle.clog_spec.specs.Names.{table_name_of}
 use Rattle.clog_base.specs.declared.cell.Table.{Table}
+use Rattle.clog_store.specs.Beside.{StayButOne}
 use Rattle.clog_store.specs.Resting.{ShowsBehind}
 use Rattle.clog_store.proofs.Beside.{comes_show, rests_with, rests_for_file}
 use Rattle.clog_store.proofs.Kept.{rests_show, rests_on}
 use Rattle.clog_store.proofs.Outcomes.{ok_both, err_then, one_call}
+use Rattle.clog_store.proofs.Stays.{stay_put}
 use Rattle.clog_store.proofs.changing.put_table.Goals as goal
 
 pub returns-clause-comes : goal.returns-clause-comes
@@ -44,3 +46,13 @@ returns-clause-any_moment g c r past id old kept file table_is may =
     c.publish.ensures.time
     (comes_show (D.leaves before) (D.leaves after) r past id old kept _ file c.args.sequence
     c.args.bytes.now name_is c.publish.ensures.crash (D.files before) may)
+
+pub returns-clause-others : goal.returns-clause-others
+returns-clause-others g c =
+    let D = g.D.Disk in
+    let before = c.args.disk.now in
+    let after = c.publish.new.self in
+    subst (λ (name : List ℕ). StayButOne name (D.files before) (D.files after))
+    c.table_name.ensures
+    (stay_put c.table_name.result (Some c.args.bytes.now) (D.files before) (D.files after)
+    c.publish.result c.publish.ensures.puts c.publish.ensures.maybe)

@@ -1,7 +1,10 @@
+use Rattle.std.proofs.Common.{ℕ, List, None, subst}
+use Rattle.clog_store.specs.Beside.{StayButOne}
 use Rattle.clog_store.specs.Resting.{ShowsBehind}
 use Rattle.clog_store.proofs.Beside.{goes_show, rests_without, rests_for_none}
 use Rattle.clog_store.proofs.Kept.{rests_show, rests_on}
 use Rattle.clog_store.proofs.Outcomes.{ok_both, err_then, one_call}
+use Rattle.clog_store.proofs.Stays.{stay_put}
 use Rattle.clog_store.proofs.changing.take_away.Goals as goal
 
 pub returns-clause-goes : goal.returns-clause-goes
@@ -35,3 +38,13 @@ returns-clause-any_moment g c r past id old kept may =
     c.remove.ensures.time
     (goes_show (D.leaves before) (D.leaves after) r past id old kept _ c.args.segment
     c.segment_name.ensures c.remove.ensures.crash (D.files before) may)
+
+pub returns-clause-others : goal.returns-clause-others
+returns-clause-others g c =
+    let D = g.D.Disk in
+    let before = c.args.disk.now in
+    let after = c.remove.new.self in
+    subst (λ (name : List ℕ). StayButOne name (D.files before) (D.files after))
+    c.segment_name.ensures
+    (stay_put c.segment_name.result None (D.files before) (D.files after) c.remove.result
+    c.remove.ensures.puts c.remove.ensures.maybe)

@@ -1,6 +1,8 @@
-use Rattle.std.proofs.Common.{◌∷◌, ◌+◌}
-use Rattle.clog_spec.specs.Names.{segment_name_of}
+use Rattle.std.proofs.Common.{◌∷◌, ◌+◌, Option, inl, inr, refl, subst}
+use Rattle.clog_spec.specs.Names.{archive_name_of, segment_name_of}
+use Rattle.clog_disk.specs.Files.{Files}
 use Rattle.clog_disk.proofs.Moments.{goes_on_by}
+use Rattle.clog_store.specs.Beside.{StayButOne}
 use Rattle.clog_store.specs.Resting.{ShowsBehind}
 use Rattle.clog_store.proofs.AllGo.{
   all_rest_on,
@@ -9,6 +11,7 @@ use Rattle.clog_store.proofs.AllGo.{
   others_go,
   still_there,
 }
+use Rattle.clog_store.proofs.Stays.{unnamed}
 use Rattle.clog_store.proofs.discarding.drop_segment.Goals as goal
 use Rattle.std.specs.declared.result.Result.TheVariants.{Err}
 
@@ -67,3 +70,28 @@ returns-in-Err-take_away-clause-any_moment g c r past last old kept others may =
     (c.name_archive.ensures.any_moment r past last old kept c.args.base (o ∷ others) may)
     (c.take_away.ensures.any_moment r past last old kept
     (one_goes (D.files mid) (D.leaves mid) r past last old kept c.args.base o others still))
+
+-- ---- all but one name
+
+pub returns-in-Err-clause-others : goal.returns-in-Err-clause-others
+returns-in-Err-clause-others g c =
+    let D = g.D.Disk in
+    let id = c.args.base + c.args.ordinal in
+    let told = D.files c.args.disk.now in
+    let now = D.files c.name_archive.new.disk in (
+      archive_name_of id,
+      inr (c.in-Err.ensures.linked, refl),
+      subst (λ (o : Option Files). StayButOne (archive_name_of id) o now) (unnamed id told)
+          c.name_archive.ensures.others,
+    )
+
+pub returns-in-Err-take_away-clause-others : goal.returns-in-Err-take_away-clause-others
+returns-in-Err-take_away-clause-others g c =
+    let D = g.D.Disk in
+    let id = c.args.base + c.args.ordinal in
+    let now = D.files c.take_away.new.disk in (
+      segment_name_of 6 id,
+      inl refl,
+      subst (λ (o : Option Files). StayButOne (segment_name_of 6 id) o now)
+          c.in_default.ensures.files c.take_away.ensures.others,
+    )

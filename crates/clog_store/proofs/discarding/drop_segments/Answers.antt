@@ -13,7 +13,7 @@ use Rattle.std.proofs.Common.{
   ◌∙◌,
   arith,
 }
-use Rattle.std.specs.Prelude.{option_map}
+use Rattle.std.specs.Prelude.{Option, option_map}
 use Rattle.std.proofs.lemmas.List.{drop_more, take_all, take_more}
 use Rattle.clog_base.proofs.Members.{here}
 use Rattle.clog_disk.proofs.Moments.{goes_on_by, later_still, started}
@@ -25,6 +25,8 @@ use Rattle.clog_store.specs.Discards.{
   all_go_by,
   all_gone_at,
 }
+use Rattle.clog_disk.specs.Files.{Files}
+use Rattle.clog_store.specs.Beside.{StayButOne}
 use Rattle.clog_store.specs.Resting.{ShowsBehind}
 use Rattle.clog_store.proofs.AllGo.{
   all_go_more,
@@ -35,6 +37,7 @@ use Rattle.clog_store.proofs.AllGo.{
   others_there_still,
 }
 use Rattle.clog_store.proofs.Kept.{rests_show}
+use Rattle.clog_store.proofs.Stays.{next_named}
 use Rattle.clog_store.proofs.discarding.drop_segments.Goals as goal
 
 pub loop-done-init : goal.loop-done-init
@@ -145,3 +148,18 @@ returns-clause-files g c =
     ≡ option_map (all_gone_at c.args.archives c.args.base l) (D.files c.args.disk.now))
     (take_all c.loop-done.done xs (omega (arith, c.loop-done-test.false)))
     c.loop-done.invariant.gone
+
+pub returns-in-Err-clause-others : goal.returns-in-Err-clause-others
+returns-in-Err-clause-others g c =
+    let D = g.D.Disk in
+    let i = c.loop-done.done in
+    let xs = c.args.ordinals.now in
+    let its = c.in-Err.ensures.others in
+    let now = D.files c.drop_segment.new.disk in (
+      its.0,
+      its.1,
+      subst (λ (o : Option Files). StayButOne its.0 o now)
+          (next_named c.args.archives c.in-Err.refusal.is_named c.args.base i (get_or xs i 0) xs
+          (drop (i + 1) xs) (D.files c.args.disk.now) (D.files c.loop-done.disk)
+          (drop_more xs i 0 c.loop-done-test.true) c.loop-done.invariant.gone) its.2,
+    )

@@ -1,8 +1,13 @@
+use Rattle.std.proofs.Common.{ℕ, List, refl, subst}
+use Rattle.clog_spec.specs.Names.{archive_name_of}
+use Rattle.clog_disk.specs.Files.{at_name}
+use Rattle.clog_store.specs.Beside.{StayButOne}
 use Rattle.clog_disk.proofs.Moments.{started}
 use Rattle.clog_store.specs.Resting.{ShowsBehind}
 use Rattle.clog_store.proofs.AllGo.{all_rest, link_rests, link_shows, named_by}
 use Rattle.clog_store.proofs.Kept.{rests_show}
 use Rattle.clog_store.proofs.Outcomes.{ok_both, one_call}
+use Rattle.clog_store.proofs.Stays.{stay_put, stay_same}
 use Rattle.clog_store.proofs.discarding.name_archive.Goals as goal
 
 pub returns-then-archives-clause-changes : goal.returns-then-archives-clause-changes
@@ -45,3 +50,18 @@ returns-clause-any_moment g c r past last old kept base ordinals may =
     rests_show (D.files old_disk) (D.leaves old_disk) r past last old kept
     (all_rest (D.files old_disk) (D.leaves old_disk) r past last old kept base ordinals may) image
     (g.met.D.Disk.only_now old_disk image left))
+
+pub returns-then-archives-clause-others : goal.returns-then-archives-clause-others
+returns-then-archives-clause-others g c =
+    let D = g.D.Disk in
+    let before = c.args.disk.now in
+    let after = c.link.new.self in
+    subst (λ (name : List ℕ). StayButOne name (D.files before) (D.files after))
+    c.archive_name.ensures
+    (stay_put c.archive_name.result (at_name (D.files before) c.segment_name.result)
+    (D.files before) (D.files after) c.link.result c.link.ensures.puts c.link.ensures.maybe)
+
+pub returns-clause-others : goal.returns-clause-others
+returns-clause-others g c =
+    let told = g.D.Disk.files c.args.disk.now in
+    stay_same (archive_name_of c.args.id) told told refl

@@ -1,7 +1,6 @@
 use Rattle.std.proofs.Common.{◌<◌, refl, ap, arith}
 use Rattle.std.proofs.lemmas.Bool.Decides.{nat_tests}
 use Rattle.clog_store.proofs.NoteGoes.{goes_rolled, goes_still, goes_then, settled_opened}
-use Rattle.clog_store.proofs.NoteGrows.{writes_of}
 use Rattle.clog_store.proofs.NoteLeaves.{leaves_entered, leaves_same, leaves_settled}
 use Rattle.clog_store.proofs.note_steps.enter.Goals as goal
 
@@ -27,12 +26,12 @@ returns-then-id-clause-goes g c =
     (g.met.D.Disk.only_now c.args.log.now.disk)
 
 pub returns-then-id-clause-leaves : goal.returns-then-id-clause-leaves
-returns-then-id-clause-leaves g c still =
+returns-then-id-clause-leaves g c =
     leaves_same g.D.Disk.files g.D.Disk.changes c.args.log.now c.args.log.now refl refl refl refl
     refl
 
 pub returns-clause-leaves : goal.returns-clause-leaves
-returns-clause-leaves g c still =
+returns-clause-leaves g c =
     let a = c.args.log.now in
     let mid = c.settle.new.self in
     let settled = c.in_ok-settle.ensures.settles in
@@ -43,44 +42,13 @@ returns-clause-leaves g c still =
     let on = c.requires.on in
     grind (arith, nat_tests) in
     leaves_entered g.D.Disk.files g.D.Disk.changes a mid c.roll.new.self _ c.roll.result
-    c.settle.ensures.same c.settle.ensures.quiet (ap (λ s. s.past) settled)
+    (ap (λ s. s.is_stopped) settled) c.settle.ensures.same c.settle.ensures.quiet
+    (ap (λ s. s.past) settled)
     (ap (λ s. s.id) settled) (ap (λ s. s.sections) settled)
     (c.id.ensures.reads c.requires.runs) refl refl above refl c.requires.fits c.id.ensures.below
     c.roll.ensures.rolls c.roll.ensures.refused
 
 pub returns-in_err-settle-clause-leaves : goal.returns-in_err-settle-clause-leaves
-returns-in_err-settle-clause-leaves g c still =
+returns-in_err-settle-clause-leaves g c =
     leaves_settled g.D.Disk.files g.D.Disk.changes c.args.log.now c.settle.new.self c.settle.result
     c.settle.ensures.settles c.settle.ensures.same c.settle.ensures.quiet
-
--- ---- whether or not the disk has failed
-
-pub returns-then-id-clause-writes : goal.returns-then-id-clause-writes
-returns-then-id-clause-writes g c =
-    let a = c.args.log.now in
-    writes_of g.D.Disk.changes a a (returns-then-id-clause-leaves g c c.requires.runs).brings
-
-pub returns-clause-writes : goal.returns-clause-writes
-returns-clause-writes g c =
-    let a = c.args.log.now in
-    let mid = c.settle.new.self in
-    let settled = c.in_ok-settle.ensures.settles in
-    let above : mid.id < c.args.id =
-    let same = ap (λ s. s.id) settled in
-    let here = c.id.ensures.id in
-    let apart = c.if-id.false in
-    let on = c.requires.on in
-    grind (arith, nat_tests) in
-    writes_of g.D.Disk.changes a c.roll.new.self (leaves_entered g.D.Disk.files
-    g.D.Disk.changes a mid c.roll.new.self _ c.roll.result
-    c.settle.ensures.same c.settle.ensures.quiet (ap (λ s. s.past) settled)
-    (ap (λ s. s.id) settled) (ap (λ s. s.sections) settled)
-    (c.id.ensures.reads c.requires.runs) refl refl above refl c.requires.fits c.id.ensures.below
-    c.roll.ensures.rolls c.roll.ensures.refused).brings
-
-pub returns-in_err-settle-clause-writes : goal.returns-in_err-settle-clause-writes
-returns-in_err-settle-clause-writes g c =
-    let a = c.args.log.now in
-    let mid = c.settle.new.self in
-    writes_of g.D.Disk.changes a mid (leaves_settled g.D.Disk.files g.D.Disk.changes a mid
-    c.settle.result c.settle.ensures.settles c.settle.ensures.same c.settle.ensures.quiet).brings

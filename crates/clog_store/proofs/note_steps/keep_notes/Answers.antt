@@ -6,7 +6,7 @@ use Rattle.clog_crash.specs.Sections.{next_bytes}
 use Rattle.clog_store.specs.NoteSections.{bytes_in, first_start, size_before}
 use Rattle.clog_store.specs.Stepped.{Keeps}
 use Rattle.clog_store.proofs.NoteGoes.{goes_still, kept_opened}
-use Rattle.clog_store.proofs.NoteGrows.{grows_same, spells, writes_kept, writes_of}
+use Rattle.clog_store.proofs.NoteGrows.{spells}
 use Rattle.clog_store.proofs.NoteLeaves.{leaves_kept, leaves_same}
 use Rattle.clog_store.proofs.NoteRuns.{brings, first_is, next_is, room, some_payloads}
 use Rattle.clog_store.proofs.note_steps.keep_notes.Goals as goal
@@ -30,7 +30,7 @@ keep-requires g c =
     in record {
       brings = brings c.args.base c.args.log.now notes c.requires.next
           c.position-at.result.offset at
-          c.in-Ok.section c.in-Ok.ensures.0 (c.id.ensures.stored c.requires.runs) c.deref.result.now
+          c.in-Ok.section c.in-Ok.ensures.0 c.id.ensures.stored c.deref.result.now
           (c.deref.ensures.value ∙ c.in-Ok.ensures.1
           ∙ ap (λ (k : ℕ). next_bytes k (size_before c.position-at.result.offset) (bytes_in notes))
           c.id.ensures.id);
@@ -47,13 +47,13 @@ returns-in-Ok-clause-keeps g c =
     c.in-Ok.section c.in-Ok.ensures.0) c.keep.ensures.keeps
 
 pub returns-in-Ok-clause-leaves : goal.returns-in-Ok-clause-leaves
-returns-in-Ok-clause-leaves g c still =
+returns-in-Ok-clause-leaves g c =
     let D = g.D.Disk in
     let a = c.args.log.now in
     let b = c.keep.new.self in
     let notes = c.args.notes.now in
     let bytes = c.deref.result.now in
-    let stored = c.id.ensures.stored c.requires.runs in
+    let stored = c.id.ensures.stored in
     let at : c.position-at.result.offset ≡ offset_of (first_start notes) =
     ap (λ (p : Position). p.offset) c.position-at.ensures
     ∙ ap offset_of (first_is notes c.index-notes-0.result c.requires.next.some) in
@@ -63,42 +63,16 @@ returns-in-Ok-clause-leaves g c still =
     ∙ ap (λ (k : ℕ). next_bytes k (size_before c.position-at.result.offset) (bytes_in notes))
     c.id.ensures.id) in
     leaves_kept D.files D.changes a b c.in-Ok.section bytes c.keep.result c.keep.ensures.keeps
-    c.keep.ensures.adds c.requires.runs stored.fits c.id.ensures.below
-    (spells a.id a.synced a.sections c.in-Ok.section bytes brought)
-    (some_payloads notes c.in-Ok.section (ap (λ (s : Section). s.payloads) c.in-Ok.ensures.0)
-    c.requires.next.some) still
-
-pub returns-in-Err-clause-leaves : goal.returns-in-Err-clause-leaves
-returns-in-Err-clause-leaves g c still =
-    leaves_same g.D.Disk.files g.D.Disk.changes c.args.log.now c.args.log.now refl refl refl refl
-    refl
-
-pub returns-in-Ok-clause-writes : goal.returns-in-Ok-clause-writes
-returns-in-Ok-clause-writes g c =
-    let D = g.D.Disk in
-    let a = c.args.log.now in
-    let b = c.keep.new.self in
-    let notes = c.args.notes.now in
-    let bytes = c.deref.result.now in
-    let stored = c.id.ensures.stored c.requires.runs in
-    let at : c.position-at.result.offset ≡ offset_of (first_start notes) =
-    ap (λ (p : Position). p.offset) c.position-at.ensures
-    ∙ ap offset_of (first_is notes c.index-notes-0.result c.requires.next.some) in
-    let brought = brings c.args.base a notes c.requires.next c.position-at.result.offset at
-    c.in-Ok.section c.in-Ok.ensures.0 stored bytes
-    (c.deref.ensures.value ∙ c.in-Ok.ensures.1
-    ∙ ap (λ (k : ℕ). next_bytes k (size_before c.position-at.result.offset) (bytes_in notes))
-    c.id.ensures.id) in
-    writes_kept D.changes a b c.in-Ok.section bytes c.keep.result c.keep.ensures.keeps
-    c.keep.ensures.adds.adds c.requires.runs stored.fits c.id.ensures.below c.id.ensures.few
+    c.keep.ensures.adds c.keep.ensures.others c.requires.runs stored.fits c.id.ensures.below
+    c.id.ensures.few
     (spells a.id a.synced a.sections c.in-Ok.section bytes brought)
     (some_payloads notes c.in-Ok.section (ap (λ (s : Section). s.payloads) c.in-Ok.ensures.0)
     c.requires.next.some)
 
-pub returns-in-Err-clause-writes : goal.returns-in-Err-clause-writes
-returns-in-Err-clause-writes g c =
-    let a = c.args.log.now in
-    writes_of g.D.Disk.changes a a (grows_same g.D.Disk.changes a a refl refl refl refl)
+pub returns-in-Err-clause-leaves : goal.returns-in-Err-clause-leaves
+returns-in-Err-clause-leaves g c =
+    leaves_same g.D.Disk.files g.D.Disk.changes c.args.log.now c.args.log.now refl refl refl refl
+    refl
 
 pub returns-in-Ok-clause-goes : goal.returns-in-Ok-clause-goes
 returns-in-Ok-clause-goes g c = record {

@@ -1,5 +1,4 @@
 use Rattle.clog_store.proofs.NoteGoes.{goes_then, settled_opened}
-use Rattle.clog_store.proofs.NoteGrows.{writes_of, writes_then}
 use Rattle.clog_store.proofs.NoteLeaves.{leaves_settled, leaves_then}
 use Rattle.clog_store.proofs.NoteSettled.{held_after, ready_after}
 use Rattle.clog_store.proofs.NoteStands.{stands_by}
@@ -29,10 +28,10 @@ returns-in-Ok-clause-goes g c =
     })
 
 pub returns-in-Ok-clause-leaves : goal.returns-in-Ok-clause-leaves
-returns-in-Ok-clause-leaves g c still =
+returns-in-Ok-clause-leaves g c =
     let mid = c.write_rest.new.log in
     leaves_then g.D.Disk.files g.D.Disk.changes c.args.log.now mid c.settle.new.self
-    (c.write_rest.ensures.leaves c.in-Ok.ensures.runs)
+    c.in-Ok.ensures.runs c.write_rest.ensures.leaves
     (leaves_settled g.D.Disk.files g.D.Disk.changes mid c.settle.new.self c.settle.result
     c.settle.ensures.settles
     c.settle.ensures.same c.settle.ensures.quiet)
@@ -46,12 +45,3 @@ returns-in-Ok-clause-stands g c sizes synced logged upto ready =
     stands_by c.args.base c.args.notes.now sizes synced logged c.settle.new.self w w then_.few
     (held_after c.args.base c.args.notes.now c.write_rest.new.log c.settle.new.self w sizes synced
     logged c.settle.result c.settle.ensures.settles then_.held)
-
-pub returns-in-Ok-clause-writes : goal.returns-in-Ok-clause-writes
-returns-in-Ok-clause-writes g c =
-    let mid = c.write_rest.new.log in
-    let now = c.settle.new.self in
-    writes_then g.D.Disk.changes c.args.log.now mid now
-    (c.write_rest.ensures.leaves c.in-Ok.ensures.runs).brings
-    (writes_of g.D.Disk.changes mid now (leaves_settled g.D.Disk.files g.D.Disk.changes mid now
-    c.settle.result c.settle.ensures.settles c.settle.ensures.same c.settle.ensures.quiet).brings)

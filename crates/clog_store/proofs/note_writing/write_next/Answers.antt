@@ -7,7 +7,6 @@ use Rattle.clog_store.specs.NoteSections.{AreOneSection, MayBeNext, payloads_in}
 use Rattle.clog_store.specs.NoteSteps.{Enters}
 use Rattle.clog_store.specs.Stepped.{Keeps}
 use Rattle.clog_store.proofs.NoteGoes.{goes_then}
-use Rattle.clog_store.proofs.NoteGrows.{writes_then}
 use Rattle.clog_store.proofs.NoteLeaves.{leaves_then}
 use Rattle.clog_store.proofs.NoteNext.{
   enters_runs,
@@ -99,24 +98,21 @@ pub returns-clause-held : goal.returns-clause-held
 returns-clause-held g c sizes synced logged upto ready runs =
     (returns-clause-ready g c sizes synced logged upto ready).held
 
-pub returns-in_err-enter-clause-leaves : goal.returns-in_err-enter-clause-leaves
-returns-in_err-enter-clause-leaves g c still = c.enter.ensures.leaves still
-
 pub returns-in_err-keep_notes-clause-leaves : goal.returns-in_err-keep_notes-clause-leaves
-returns-in_err-keep_notes-clause-leaves g c still =
+returns-in_err-keep_notes-clause-leaves g c =
     let mid = c.enter.new.log in
     leaves_then g.D.Disk.files g.D.Disk.changes c.args.log.now mid c.keep_notes.new.log
-    (c.enter.ensures.leaves (enters_runs c.args.log.now mid c.position.result.id
-    c.in_ok-enter.field-0 c.in_ok-enter.ensures.enters c.requires.runs))
-    (c.keep_notes.ensures.leaves still)
+    (enters_runs c.args.log.now mid c.position.result.id c.in_ok-enter.field-0
+    c.in_ok-enter.ensures.enters c.requires.runs) c.enter.ensures.leaves
+    c.keep_notes.ensures.leaves
 
 pub returns-clause-leaves : goal.returns-clause-leaves
-returns-clause-leaves g c still =
+returns-clause-leaves g c =
     let mid = c.enter.new.log in
     leaves_then g.D.Disk.files g.D.Disk.changes c.args.log.now mid c.keep_notes.new.log
-    (c.enter.ensures.leaves (enters_runs c.args.log.now mid c.position.result.id
-    c.in_ok-enter.field-0 c.in_ok-enter.ensures.enters c.requires.runs))
-    (c.keep_notes.ensures.leaves still)
+    (enters_runs c.args.log.now mid c.position.result.id c.in_ok-enter.field-0
+    c.in_ok-enter.ensures.enters c.requires.runs) c.enter.ensures.leaves
+    c.keep_notes.ensures.leaves
 
 -- ---- whatever the disk has done
 
@@ -157,19 +153,3 @@ returns-clause-stands g c sizes synced logged upto ready =
     let more = c.args.written.now + c.section_length-count.result in
     stands_by c.args.base c.args.notes.now sizes synced logged c.keep_notes.new.log more more
     then_.few then_.held
-
-pub returns-in_err-keep_notes-clause-writes : goal.returns-in_err-keep_notes-clause-writes
-returns-in_err-keep_notes-clause-writes g c =
-    let mid = c.enter.new.log in
-    writes_then g.D.Disk.changes c.args.log.now mid c.keep_notes.new.log
-    (c.enter.ensures.leaves (enters_runs c.args.log.now mid c.position.result.id
-    c.in_ok-enter.field-0 c.in_ok-enter.ensures.enters c.requires.runs)).brings
-    c.keep_notes.ensures.writes
-
-pub returns-clause-writes : goal.returns-clause-writes
-returns-clause-writes g c =
-    let mid = c.enter.new.log in
-    writes_then g.D.Disk.changes c.args.log.now mid c.keep_notes.new.log
-    (c.enter.ensures.leaves (enters_runs c.args.log.now mid c.position.result.id
-    c.in_ok-enter.field-0 c.in_ok-enter.ensures.enters c.requires.runs)).brings
-    c.keep_notes.ensures.writes

@@ -1,7 +1,6 @@
 use Rattle.std.proofs.Common.{◌∙◌, refl}
 use Rattle.std.specs.Prelude.{Err}
 use Rattle.clog_store.proofs.NoteGoes.{cause_then, goes_still, goes_then}
-use Rattle.clog_store.proofs.NoteGrows.{writes_of, writes_then}
 use Rattle.clog_store.proofs.NoteLeaves.{leaves_same, leaves_then}
 use Rattle.clog_store.proofs.NoteStands.{stands_by}
 use Rattle.clog_store.proofs.note_writing.write_rest.Goals as goal
@@ -44,7 +43,7 @@ loop-written-preserved g c =
       goes = goes_then D.files D.moment D.since D.leaves D.read_at D.lasted_at c.args.log.now
           c.loop-written.log c.write_next.new.log inv.goes c.write_next.ensures.goes;
       leaves = leaves_then D.files D.changes c.args.log.now c.loop-written.log c.write_next.new.log
-          inv.leaves (c.write_next.ensures.leaves c.in-Ok.ensures.runs);
+          inv.runs inv.leaves c.write_next.ensures.leaves;
       faults = c.in-Ok.ensures.cause.1 ∙ inv.faults;
     }
 
@@ -73,10 +72,10 @@ returns-clause-held g c sizes synced logged upto ready runs =
     (c.loop-written.invariant.ready sizes synced logged upto ready).held
 
 pub returns-in-Err-clause-leaves : goal.returns-in-Err-clause-leaves
-returns-in-Err-clause-leaves g c still =
+returns-in-Err-clause-leaves g c =
     leaves_then g.D.Disk.files g.D.Disk.changes c.args.log.now c.loop-written.log
-    c.write_next.new.log
-    c.loop-written.invariant.leaves (c.write_next.ensures.leaves still)
+    c.write_next.new.log c.loop-written.invariant.runs c.loop-written.invariant.leaves
+    c.write_next.ensures.leaves
 
 -- ---- whatever the disk has done
 
@@ -90,13 +89,3 @@ returns-clause-stands g c sizes synced logged upto ready =
     let then_ = c.loop-written.invariant.ready sizes synced logged upto ready in
     stands_by c.args.base c.args.notes.now sizes synced logged c.loop-written.log
     c.loop-written.written c.loop-written.written then_.few then_.held
-
-pub returns-in-Err-clause-writes : goal.returns-in-Err-clause-writes
-returns-in-Err-clause-writes g c =
-    writes_then g.D.Disk.changes c.args.log.now c.loop-written.log c.write_next.new.log
-    c.loop-written.invariant.leaves.brings c.write_next.ensures.writes
-
-pub returns-clause-writes : goal.returns-clause-writes
-returns-clause-writes g c =
-    writes_of g.D.Disk.changes c.args.log.now c.loop-written.log
-    c.loop-written.invariant.leaves.brings

@@ -1,7 +1,9 @@
-use Rattle.std.proofs.Common.{◌++◌}
+use Rattle.std.proofs.Common.{◌++◌, List, ℕ, length, subst}
+use Rattle.clog_store.specs.Beside.{StayButOne}
 use Rattle.clog_store.specs.Resting.{ShowsBehind}
 use Rattle.clog_store.proofs.Kept.{rests_show, rests_show_more, rests_on, torn_show, rests_kept}
 use Rattle.clog_store.proofs.Outcomes.{ok_then, err_then, one_call}
+use Rattle.clog_store.proofs.Stays.{stay_appended}
 use Rattle.clog_store.proofs.sections.keep_sections.Goals as goal
 
 pub returns-clause-kept : goal.returns-clause-kept
@@ -43,3 +45,14 @@ returns-clause-any_moment g c r past old kept new brings rests =
     (torn_show (D.leaves before) (D.leaves after) r past c.args.id old kept _
     c.segment_name.ensures new c.args.bytes.now brings (D.files before) rests
     c.append_at.ensures.crash)
+
+pub returns-clause-others : goal.returns-clause-others
+returns-clause-others g c =
+    let D = g.D.Disk in
+    let before = c.args.disk.now in
+    let after = c.append_at.new.self in
+    subst (λ (name : List ℕ). StayButOne name (D.files before) (D.files after))
+    c.segment_name.ensures
+    (stay_appended c.segment_name.result c.args.bytes.now (length c.args.bytes.now)
+    (D.files before) (D.files after) c.append_at.result c.append_at.ensures.appends
+    c.append_at.ensures.maybe)

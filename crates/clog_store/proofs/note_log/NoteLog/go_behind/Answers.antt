@@ -52,7 +52,7 @@ go_on-requires-clause-fits g c =
     (c.requires.due.3.exact o).0 among in
     let is = c.self.invariant in
     let low = base_low s is runs in
-    let sound = c.id-id.ensures.sound runs in
+    let sound = c.id-id.ensures.sound in
     let o = c.id-id.result - i.base in
     let here = is_due o (c.is_among.ensures.0 c.if-is_among.true) in
     let at_hand : s.base + o ≡ s.log.id = omega (arith, low, c.id-id.ensures.id) in
@@ -81,7 +81,7 @@ go_on-requires-clause-none g c =
     (c.requires.due.3.exact o).0 among in
     let is = c.self.invariant in
     let low = base_low s is runs in
-    let sound = c.id-id.ensures.sound runs in
+    let sound = c.id-id.ensures.sound in
     let o = c.id-id.result - i.base in
     let here = is_due o (c.is_among.ensures.0 c.if-is_among.true) in
     let at_hand : s.base + o ≡ s.log.id = omega (arith, low, c.id-id.ensures.id) in
@@ -110,7 +110,7 @@ go_on-requires-clause-begins g c =
     (c.requires.due.3.exact o).0 among in
     let is = c.self.invariant in
     let low = base_low s is runs in
-    let sound = c.id-id.ensures.sound runs in
+    let sound = c.id-id.ensures.sound in
     let o = c.id-id.result - i.base in
     let here = is_due o (c.is_among.ensures.0 c.if-is_among.true) in
     let at_hand : s.base + o ≡ s.log.id = omega (arith, low, c.id-id.ensures.id) in
@@ -141,7 +141,7 @@ returns-then-is_among-clause-earlier g c =
     (c.requires.due.3.exact o).0 among in
     let is = c.self.invariant in
     let low = base_low s is runs in
-    let sound = c.id-id.ensures.sound runs in
+    let sound = c.id-id.ensures.sound in
     behind_earlier c.args.self.now c.go_on.new.self c.args.due.now (c.id-id.result + 1)
     c.go_on.result c.go_on.ensures.enters c.go_on.ensures.same (λ o among.
     let most = due_at_most s h closed is has o (is_due o among) sound.below in
@@ -173,7 +173,7 @@ returns-clause-earlier g c = λ o among.
     (c.requires.due.3.exact o).0 among in
     let is = c.self.invariant in
     let low = base_low s is runs in
-    let sound = c.id-id.ensures.sound runs in
+    let sound = c.id-id.ensures.sound in
     let most = due_at_most s h closed is has o (is_due o among) sound.below in
     let apart : s.base + o ≡ s.log.id → ⊥ = λ same.
     let at : o ≡ c.id-id.result - i.base = omega (arith, same, c.id-id.ensures.id) in
@@ -183,7 +183,7 @@ returns-clause-earlier g c = λ o among.
     (omega (arith, most, apart))
 
 pub returns-clause-others : goal.returns-clause-others
-returns-clause-others g c runs =
+returns-clause-others g c =
     let log = c.args.self.now.log in
     (leaves_same g.D.Disk.files g.D.Disk.changes log log refl refl refl refl refl).rest
 

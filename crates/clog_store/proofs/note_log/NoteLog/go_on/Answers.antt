@@ -2,8 +2,14 @@ use Rattle.std.proofs.Common.{◌≡◌, refl, sym, ◌∙◌, subst}
 use Rattle.clog_store.specs.NoteLog.{BeginsFrom, NoteState}
 use Rattle.clog_store.proofs.Lived.{lives_still}
 use Rattle.clog_store.proofs.NoteGrows.{grows_same, writes_of}
+use Rattle.clog_store.proofs.NoteLeaves.{leaves_same}
 use Rattle.clog_store.proofs.NoteReaches.{noted_on}
 use Rattle.clog_store.proofs.note_log.NoteLog.go_on.Goals as goal
+
+pub returns-then-is_stopped-clause-others : goal.returns-then-is_stopped-clause-others
+returns-then-is_stopped-clause-others g c =
+    let log = c.args.self.now.log in
+    (leaves_same g.D.Disk.files g.D.Disk.changes log log refl refl refl refl refl).rest
 
 pub returns-then-is_stopped-clause-writes : goal.returns-then-is_stopped-clause-writes
 returns-then-is_stopped-clause-writes g c =

@@ -1,11 +1,9 @@
 use Rattle.std.proofs.Common.{◌≡◌, ◌≤◌, ℕ, ◌++◌, ◌∙◌, List, [], false, length, refl, sym, ap, subst}
 use Rattle.path_core.specs.declared.note.EntryNote.{EntryNote}
-use Rattle.clog_store.specs.Grows.{Writes}
 use Rattle.clog_store.specs.Life.{State}
 use Rattle.clog_store.specs.NoteLog.{IsHeld, IsNoteLog, NoteState, Stands}
 use Rattle.clog_store.specs.NoteSteps.{GoesOn, IsReady, Leaves, MayRun, ReadyAt, standing}
 use Rattle.clog_store.proofs.NoteGoes.{goes_still}
-use Rattle.clog_store.proofs.NoteGrows.{grows_same, writes_of}
 use Rattle.clog_store.proofs.NoteLeaves.{leaves_same}
 use Rattle.clog_store.proofs.NoteLogged.{logged, ready_of, unlogged}
 use Rattle.clog_store.proofs.note_log.NoteLog.log_run.Goals as goal
@@ -129,42 +127,23 @@ invariant_of-self-2 g c =
     })) (sym appended) all)
 
 pub returns-in_err-reserve-clause-leaves : goal.returns-in_err-reserve-clause-leaves
-returns-in_err-reserve-clause-leaves g c still =
+returns-in_err-reserve-clause-leaves g c =
     let log = c.self.inside.log in
     subst (λ (before : State g.row.D.Denot). Leaves g.D.Disk.files g.D.Disk.changes before log)
     (ap (λ (x : NoteState g.row.D.Denot). x.log) c.self.view_is)
     (leaves_same g.D.Disk.files g.D.Disk.changes log log refl refl refl refl refl)
 
 pub returns-in_err-write_all-clause-leaves : goal.returns-in_err-write_all-clause-leaves
-returns-in_err-write_all-clause-leaves g c still =
+returns-in_err-write_all-clause-leaves g c =
     subst (λ (log : State g.row.D.Denot).
     Leaves g.D.Disk.files g.D.Disk.changes log c.write_all.new.log)
-    (ap (λ (x : NoteState g.row.D.Denot). x.log) c.self.view_is)
-    (c.write_all.ensures.leaves still)
+    (ap (λ (x : NoteState g.row.D.Denot). x.log) c.self.view_is) c.write_all.ensures.leaves
 
 pub returns-clause-leaves : goal.returns-clause-leaves
-returns-clause-leaves g c still =
+returns-clause-leaves g c =
     subst (λ (log : State g.row.D.Denot).
     Leaves g.D.Disk.files g.D.Disk.changes log c.write_all.new.log)
-    (ap (λ (x : NoteState g.row.D.Denot). x.log) c.self.view_is)
-    (c.write_all.ensures.leaves still)
-
-pub returns-in_err-reserve-clause-writes : goal.returns-in_err-reserve-clause-writes
-returns-in_err-reserve-clause-writes g c =
-    let log = c.self.inside.log in
-    subst (λ (before : State g.row.D.Denot). Writes g.D.Disk.changes before log)
-    (ap (λ (x : NoteState g.row.D.Denot). x.log) c.self.view_is)
-    (writes_of g.D.Disk.changes log log (grows_same g.D.Disk.changes log log refl refl refl refl))
-
-pub returns-in_err-write_all-clause-writes : goal.returns-in_err-write_all-clause-writes
-returns-in_err-write_all-clause-writes g c =
-    subst (λ (log : State g.row.D.Denot). Writes g.D.Disk.changes log c.write_all.new.log)
-    (ap (λ (x : NoteState g.row.D.Denot). x.log) c.self.view_is) c.write_all.ensures.writes
-
-pub returns-clause-writes : goal.returns-clause-writes
-returns-clause-writes g c =
-    subst (λ (log : State g.row.D.Denot). Writes g.D.Disk.changes log c.write_all.new.log)
-    (ap (λ (x : NoteState g.row.D.Denot). x.log) c.self.view_is) c.write_all.ensures.writes
+    (ap (λ (x : NoteState g.row.D.Denot). x.log) c.self.view_is) c.write_all.ensures.leaves
 
 pub returns-in_err-reserve-clause-goes : goal.returns-in_err-reserve-clause-goes
 returns-in_err-reserve-clause-goes g c =

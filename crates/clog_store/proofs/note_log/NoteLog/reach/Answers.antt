@@ -9,6 +9,11 @@ use Rattle.clog_store.proofs.note_log.NoteLog.reach.Goals as goal
 
 -- ---- the log is not called
 
+pub returns-then-is_stopped-clause-others : goal.returns-then-is_stopped-clause-others
+returns-then-is_stopped-clause-others g c =
+    let log = c.args.self.now.log in
+    (leaves_same g.D.Disk.files g.D.Disk.changes log log refl refl refl refl refl).rest
+
 pub returns-then-is_stopped-clause-writes : goal.returns-then-is_stopped-clause-writes
 returns-then-is_stopped-clause-writes g c =
     let log = c.args.self.now.log in
@@ -21,7 +26,7 @@ returns-then-is_stopped-clause-goes g c =
     (g.met.D.Disk.only_now c.args.self.now.log.disk)
 
 pub returns-then-not-is_short_of-clause-others : goal.returns-then-not-is_short_of-clause-others
-returns-then-not-is_short_of-clause-others g c runs =
+returns-then-not-is_short_of-clause-others g c =
     let log = c.args.self.now.log in
     (leaves_same g.D.Disk.files g.D.Disk.changes log log refl refl refl refl refl).rest
 
@@ -45,7 +50,7 @@ returns-then-not-is_short_of-clause-far g c =
     ap (λ (x : NoteState g.row.D.Denot). x.log.is_stopped) (sym c.self.view_is)
     ∙ sym c.is_stopped.ensures ∙ c.if-is_stopped.false in
     far_now s c.args.upper.0 runs (subst IsNoteLog c.self.view_is c.self.invariant)
-    (c.is_short_of.ensures.sound runs) c.requires
+    c.is_short_of.ensures.sound c.requires
     (λ short. absurd (true≢false (sym (c.is_short_of.ensures.short.1 short)
     ∙ c.if-not-is_short_of.true)))
 

@@ -3,7 +3,7 @@ use Rattle.path_core.specs.declared.note.EntryNote.{EntryNote}
 use Rattle.path_core.specs.Keeper.{IsParted}
 use Rattle.clog_store.specs.NoteLog.{BeginsFrom}
 use Rattle.clog_store.proofs.Lived.{lives_still}
-use Rattle.clog_store.proofs.NoteGrows.{grows_same, writes_of}
+use Rattle.clog_store.proofs.NoteGrows.{grows_of, grows_same, writes_of}
 use Rattle.clog_store.proofs.NoteLeaves.{leaves_same}
 use Rattle.clog_store.proofs.NoteSynced.{may_run}
 use Rattle.clog_store.proofs.note_log.NoteLog.sync.Goals as goal
@@ -50,13 +50,18 @@ returns-then-is_stopped-clause-writes g c =
     let log = c.args.self.now.log in
     writes_of g.D.Disk.changes log log (grows_same g.D.Disk.changes log log refl refl refl refl)
 
+pub returns-then-is_stopped-clause-others : goal.returns-then-is_stopped-clause-others
+returns-then-is_stopped-clause-others g c =
+    let log = c.args.self.now.log in
+    (leaves_same g.D.Disk.files g.D.Disk.changes log log refl refl refl refl refl).rest
+
 pub returns-in_err-run-clause-others : goal.returns-in_err-run-clause-others
-returns-in_err-run-clause-others g c runs =
+returns-in_err-run-clause-others g c =
     let log = c.args.self.now.log in
     (leaves_same g.D.Disk.files g.D.Disk.changes log log refl refl refl refl refl).rest
 
 pub returns-then-not-may_begin-clause-others : goal.returns-then-not-may_begin-clause-others
-returns-then-not-may_begin-clause-others g c runs =
+returns-then-not-may_begin-clause-others g c =
     let log = c.args.self.now.log in
     (leaves_same g.D.Disk.files g.D.Disk.changes log log refl refl refl refl refl).rest
 
@@ -69,3 +74,15 @@ pub returns-in_err-run-clause-writes : goal.returns-in_err-run-clause-writes
 returns-in_err-run-clause-writes g c =
     let log = c.args.self.now.log in
     writes_of g.D.Disk.changes log log (grows_same g.D.Disk.changes log log refl refl refl refl)
+
+-- ---- while the disk has not failed
+
+pub returns-clause-grows : goal.returns-clause-grows
+returns-clause-grows g c still =
+    grows_of g.D.Disk.changes c.args.self.now.log c.log_run.new.self.log
+    c.log_run.ensures.leaves.brings still
+
+pub returns-in_err-log_run-clause-grows : goal.returns-in_err-log_run-clause-grows
+returns-in_err-log_run-clause-grows g c still =
+    grows_of g.D.Disk.changes c.args.self.now.log c.log_run.new.self.log
+    c.log_run.ensures.leaves.brings still

@@ -1,14 +1,12 @@
-use Rattle.std.proofs.Common.{◌≡◌, false, sym, subst}
+use Rattle.std.proofs.Common.{subst}
 use Rattle.clog_store.specs.Life.{State}
 use Rattle.clog_store.specs.StoreFolder.{IsSound}
 use Rattle.clog_store.proofs.section_log.SectionLog.fault_count.Goals as goal
 
 pub returns-clause-sound : goal.returns-clause-sound
-returns-clause-sound g c runs =
-    let before = subst (λ (s : State g.row.D.Denot). s.is_stopped ≡ false) (sym c.self.view_is) runs
-    in
+returns-clause-sound g c =
     subst (λ (s : State g.row.D.Denot). IsSound s) c.self.view_is (record {
       below = c.self.invariant.past_below;
       past_stored = c.self.invariant.past_stored;
-      stored = (c.self.invariant.ends before).stored;
+      stored = c.self.invariant.stored;
     })

@@ -1,4 +1,4 @@
-use Rattle.std.proofs.Common.{◌≡◌, ◌<◌, false, subst}
+use Rattle.std.proofs.Common.{◌<◌, subst}
 use Rattle.std.specs.Prelude.{Contains}
 use Rattle.clog_crash.specs.Log.{Write}
 use Rattle.clog_store.specs.Life.{State}
@@ -12,9 +12,8 @@ returns-clause-below g c =
 
 pub returns-clause-sound : goal.returns-clause-sound
 returns-clause-sound g c =
-    subst (λ (s : State g.row.D.Denot). s.is_stopped ≡ false → IsSound s) c.self.view_is
-    (λ runs. record {
+    subst (λ (s : State g.row.D.Denot). IsSound s) c.self.view_is (record {
       below = c.self.invariant.past_below;
       past_stored = c.self.invariant.past_stored;
-      stored = (c.self.invariant.ends runs).stored;
+      stored = c.self.invariant.stored;
     })

@@ -8,6 +8,7 @@ use Rattle.std.proofs.Common.{
   take,
   drop,
   true,
+  refl,
   ap,
   sym,
   subst,
@@ -15,6 +16,7 @@ use Rattle.std.proofs.Common.{
   length-append,
 }
 use Rattle.std.proofs.lemmas.Bool.{true≢false}
+use Rattle.clog_spec.specs.Names.{segment_name_of}
 use Rattle.clog_scan.specs.Cut.{Section}
 use Rattle.clog_crash.specs.Sections.{Brings, IsStored}
 use Rattle.clog_store.specs.Life.{HasEnd, Lives, LivesOn, State}
@@ -23,6 +25,7 @@ use Rattle.clog_store.proofs.Ends.{end_more, end_same}
 use Rattle.clog_store.proofs.Lived.{lives_from, lives_still}
 use Rattle.clog_store.proofs.LivedCalls.{lives_kept, lives_same, lives_torn}
 use Rattle.clog_store.proofs.Outcomes.{no_failure}
+use Rattle.clog_store.proofs.Stays.{stay_same}
 use Rattle.clog_store.proofs.section_log.SectionLog.keep.Goals as goal
 
 -- the disk is not called
@@ -32,6 +35,18 @@ returns-then-self-clause-lives g c lives =
     let D = g.D.Disk in
     lives_still D.files D.moment D.since D.leaves D.read_at D.lasted_at c.args.self.now
     (g.met.D.Disk.only_now c.args.self.now.disk) lives
+
+pub returns-then-self-clause-others : goal.returns-then-self-clause-others
+returns-then-self-clause-others g c =
+    let s = c.args.self.now in
+    stay_same (segment_name_of 6 s.id) (g.D.Disk.files s.disk) (g.D.Disk.files s.disk) refl
+
+pub returns-in_err-push-clause-others : goal.returns-in_err-push-clause-others
+returns-in_err-push-clause-others g c =
+    let files = g.D.Disk.files in
+    let s = c.args.self.now in
+    stay_same (segment_name_of 6 s.id) (files s.disk) (files c.self.inside.disk)
+    (ap (λ (st : State g.row.D.Denot). files st.disk) c.self.view_is)
 
 pub returns-in_err-push-clause-lives : goal.returns-in_err-push-clause-lives
 returns-in_err-push-clause-lives g c lives =

@@ -29,5 +29,5 @@ invariant_of-result g c =
           IsStore D.files D.changes D.moment D.faults D.read_at D.lasted_at s) is
           (store_begun D.files D.changes D.moment D.faults D.read_at D.lasted_at log c.args.sizes
           c.args.archives c.requires.no_past c.requires.none c.requires.opened c.requires.runs
-          (c.fault_count-at_open.ensures.sound c.requires.runs) c.requires.folder),
+          c.fault_count-at_open.ensures.sound c.requires.folder),
     )

@@ -5,7 +5,7 @@ use Rattle.clog_store.specs.NoteLog.{HasLog, NoteState}
 use Rattle.clog_store.specs.StoreDrops.{AreDueIn}
 use Rattle.clog_store.specs.StoreState.{StoreState, holding_of}
 use Rattle.clog_store.proofs.OrderSyncs.{goes_for_none, settled_same}
-use Rattle.clog_store.proofs.StoreFolds.{folder_with}
+use Rattle.clog_store.proofs.StoreFolds.{folder_failed, folder_with}
 use Rattle.clog_store.proofs.StoreKept.{store_on}
 use Rattle.clog_store.proofs.store.Store.go_behind.Goals as goal
 
@@ -65,10 +65,14 @@ invariant_of-self g c =
           (ap (λ (x : NoteState g.row.D.Denot). x.base) is.same)
           (ap (λ (x : NoteState g.row.D.Denot). x.logged) is.same
           ∙ sym (append-nil s.notes.logged)) (λ m among. absurd (nothing_there m among)))
+          (λ stopped _. folder_failed D.files D.changes D.moment D.faults D.read_at D.lasted_at
+          g.row.D.coded.code g.met.D.Disk.tells_both s n c.self.invariant.1 is.writes is.others
+          told.sound told.reads runs (ap (λ (x : NoteState g.row.D.Denot). x.base) is.same)
+          (ap (λ (x : NoteState g.row.D.Denot). x.logged) is.same))
           (settled_same s.notes n s.files (ap (λ (x : NoteState g.row.D.Denot). x.sizes) is.same)
           (ap (λ (x : NoteState g.row.D.Denot). x.logged) is.same)
           (ap (λ (x : NoteState g.row.D.Denot). x.synced) is.same) c.self.invariant.1.order.settled)
-          (λ still. goes_for_none s n (is.others still).more
-          (ap (λ (x : NoteState g.row.D.Denot). x.base) is.same) (is.others still).past
+          (goes_for_none s n is.others.more
+          (ap (λ (x : NoteState g.row.D.Denot). x.base) is.same) is.others.past
           (ap (λ (x : NoteState g.row.D.Denot). x.logged) is.same)),
     )

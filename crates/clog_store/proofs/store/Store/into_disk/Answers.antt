@@ -1,7 +1,16 @@
-use Rattle.std.proofs.Common.{◌≡◌, false, subst}
+use Rattle.std.proofs.Common.{◌≡◌, ◌∙◌, Some, false, sym, ap, subst}
 use Rattle.clog_store.specs.StoreFolder.{IsSound}
 use Rattle.clog_store.specs.StoreOrder.{AreSettled}
-use Rattle.clog_store.specs.StoreState.{AppendsAlone, HasOrdered, HoldsIt, StoreState}
+use Rattle.clog_store.specs.Life.{State}
+use Rattle.clog_store.specs.StoreFailed.{AllStay}
+use Rattle.clog_store.specs.StoreState.{
+  AppendsAlone,
+  HasOrdered,
+  HoldsIt,
+  HoldsItButOne,
+  StoreState,
+}
+use Rattle.clog_store.proofs.StoreKept.{all_stay_of, left_of}
 use Rattle.clog_store.proofs.store.Store.into_disk.Goals as goal
 
 pub returns-clause-folder : goal.returns-clause-folder
@@ -15,9 +24,26 @@ returns-clause-alone g c =
     c.self.invariant.1.appended
 
 pub returns-clause-sound : goal.returns-clause-sound
-returns-clause-sound g c still =
-    subst (λ (x : StoreState g.row.D.Denot). x.notes.log.is_stopped ≡ false
-    → IsSound x.notes.log) c.self.view_is c.self.invariant.1.sound still
+returns-clause-sound g c =
+    subst (λ (x : StoreState g.row.D.Denot). IsSound x.notes.log) c.self.view_is
+    c.self.invariant.1.sound
+
+pub returns-clause-left : goal.returns-clause-left
+returns-clause-left g c =
+    let D = g.D.Disk in
+    subst (λ (x : StoreState g.row.D.Denot). HoldsItButOne D.files x) c.self.view_is
+    (left_of D.files D.changes D.moment D.faults D.read_at D.lasted_at _ c.self.invariant.1)
+
+pub returns-clause-stay : goal.returns-clause-stay
+returns-clause-stay g c first now at_first at_now =
+    let D = g.D.Disk in
+    let its_disk = c.into_disk.ensures.disk
+    ∙ ap (λ (l : State g.row.D.Denot). l.disk) c.into_log.ensures.log
+    ∙ ap (λ (x : StoreState g.row.D.Denot). x.notes.log.disk) c.self.view_is in
+    subst (λ (x : StoreState g.row.D.Denot). D.files x.first ≡ Some first
+    → D.files x.notes.log.disk ≡ Some now → AllStay first now) c.self.view_is
+    (all_stay_of D.files D.changes D.moment D.faults D.read_at D.lasted_at _ c.self.invariant.1
+    first now) at_first (ap D.files (sym its_disk) ∙ at_now)
 
 pub returns-clause-settled : goal.returns-clause-settled
 returns-clause-settled g c =
@@ -25,6 +51,6 @@ returns-clause-settled g c =
     c.self.invariant.1.order.settled
 
 pub returns-clause-ordered : goal.returns-clause-ordered
-returns-clause-ordered g c still =
-    subst (λ (x : StoreState g.row.D.Denot). x.notes.log.is_stopped ≡ false
-    → HasOrdered g.D.Disk.changes x) c.self.view_is c.self.invariant.1.order.ordered still
+returns-clause-ordered g c =
+    subst (λ (x : StoreState g.row.D.Denot). HasOrdered g.D.Disk.changes x) c.self.view_is
+    c.self.invariant.1.order.ordered

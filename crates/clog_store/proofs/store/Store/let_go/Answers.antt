@@ -94,7 +94,8 @@ invariant_of-self-2 g c =
     let both = let_go_with D.files D.changes D.moment D.faults D.read_at D.lasted_at
     g.row.D.coded.code g.met.D.Disk.tells_both s c.self.invariant.1 runs c.tell.ensures.notes
     closed os due low n r is.notes is.passes is.within is.files
-    is.changes is.later is.cause is.stops c.add_all.new.list.items c.add_archived.new.list.items
+    is.told is.others is.changes is.later is.cause is.stops
+    c.add_all.new.list.items c.add_archived.new.list.items
     (c.add_all.ensures ∙ ap (λ (l : List ℕ). l ++ take c.dropped_by-gone.result os)
     c.make_room.ensures.a ∙ ap (λ (k : ℕ). i.dropped.items ++ take k os) c.dropped_by-gone.ensures)
     (c.add_archived.ensures ∙ ap (λ (l : List ℕ).
@@ -128,7 +129,8 @@ returns-clause-goes g c =
     let both = let_go_with D.files D.changes D.moment D.faults D.read_at D.lasted_at
     g.row.D.coded.code g.met.D.Disk.tells_both s c.self.invariant.1 runs c.tell.ensures.notes
     closed os due low n r is.notes is.passes is.within is.files
-    is.changes is.later is.cause is.stops c.add_all.new.list.items c.add_archived.new.list.items
+    is.told is.others is.changes is.later is.cause is.stops
+    c.add_all.new.list.items c.add_archived.new.list.items
     (c.add_all.ensures ∙ ap (λ (l : List ℕ). l ++ take c.dropped_by-gone.result os)
     c.make_room.ensures.a ∙ ap (λ (k : ℕ). i.dropped.items ++ take k os) c.dropped_by-gone.ensures)
     (c.add_archived.ensures ∙ ap (λ (l : List ℕ).

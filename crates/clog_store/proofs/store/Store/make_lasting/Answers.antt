@@ -3,7 +3,7 @@ use Rattle.std.specs.Prelude.{OnErr, OnOk}
 use Rattle.path_core.specs.Keeper.{HasKeeperCause, MaySync, SyncRefused, Syncs}
 use Rattle.clog_store.specs.StoreState.{StoreState, holding_of, told_as}
 use Rattle.clog_store.proofs.OrderSyncs.{synced_goes, synced_settled}
-use Rattle.clog_store.proofs.StoreFolds.{folder_synced}
+use Rattle.clog_store.proofs.StoreFolds.{failed_synced, folder_synced}
 use Rattle.clog_store.proofs.StoreKept.{
   cause_told,
   quiet_call,
@@ -67,13 +67,17 @@ invariant_of-self g c =
           told.sound told.reads c.args.upto.0 c.args.pending.now.items
           c.sync-outcome.new.pending.items may c.sync-outcome.result is.cause is.stops is.syncs
           is.refused)
+          (failed_synced D.files D.changes D.moment D.faults D.read_at D.lasted_at
+          g.row.D.coded.code g.met.D.Disk.tells_both s n c.self.invariant.1 is.writes is.others
+          told.sound told.reads c.args.upto.0 c.args.pending.now.items
+          c.sync-outcome.new.pending.items may c.sync-outcome.result is.stops is.refused)
           (synced_settled D.files D.changes D.moment D.faults g.row.D.coded.code s n
           c.self.invariant.1.order.settled c.args.upto.0 c.args.pending.now.items
           c.sync-outcome.new.pending.items may c.sync-outcome.result is.syncs is.refused)
-          (λ still. synced_goes D.files D.changes D.moment D.faults g.row.D.coded.code s n
+          (synced_goes D.files D.changes D.moment D.faults g.row.D.coded.code s n
           c.self.invariant.1.order.settled c.args.upto.0 c.args.pending.now.items
           c.sync-outcome.new.pending.items may c.sync-outcome.result is.syncs is.refused
-          (D.files s.notes.log.disk) (D.files n.log.disk) (is.others still)),
+          (D.files s.notes.log.disk) (D.files n.log.disk) is.others),
     )
 
 pub returns-clause-syncs : goal.returns-clause-syncs

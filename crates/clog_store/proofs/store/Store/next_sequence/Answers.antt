@@ -12,6 +12,7 @@ use Rattle.clog_store.specs.StoreState.{
 }
 use Rattle.clog_store.proofs.StoreKept.{keeper_cause, rose_of}
 use Rattle.clog_store.proofs.StorePuts.{
+  asked_still,
   far_still,
   if_told,
   on_any,
@@ -43,7 +44,10 @@ invariant_of-self g c =
           (store_still D.files D.changes D.moment D.faults D.read_at D.lasted_at s n.log
           c.self.invariant.1 c.next_sequence-outcome.result is.passes is.goes.later
           is.cause is.stops
-          (λ was. sym is.log ∙ is.stays was) is.quiet (λ still. is.same)),
+          (λ was. sym is.log ∙ is.stays was) is.quiet (λ still. is.same)
+          (asked_still D.files D.changes D.moment D.faults D.read_at D.lasted_at s n.log
+          c.self.invariant.1 c.next_sequence-outcome.result is.passes is.goes.later is.cause
+          is.stops (λ was. sym is.log ∙ is.stays was) is.same)),
     )
 
 pub returns-clause-moved : goal.returns-clause-moved

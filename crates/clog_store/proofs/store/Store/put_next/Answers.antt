@@ -15,8 +15,15 @@ use Rattle.clog_store.specs.StoreState.{
 use Rattle.clog_store.proofs.NoteGoes.{goes_still}
 use Rattle.clog_store.proofs.NotePasses.{passes_same}
 use Rattle.clog_store.proofs.OrderPuts.{order_put}
-use Rattle.clog_store.proofs.StoreFiles.{folder_put, has_log, may_be_put, numbered}
-use Rattle.clog_store.proofs.StorePuts.{as_passed, at_memory, quiet_on, store_put, store_still}
+use Rattle.clog_store.proofs.StoreFiles.{folder_put, free_table, has_log, may_be_put, numbered}
+use Rattle.clog_store.proofs.StorePuts.{
+  as_passed,
+  at_memory,
+  put_failed,
+  quiet_on,
+  store_put,
+  store_still,
+}
 use Rattle.clog_store.proofs.store.Store.put_next.Goals as goal
 
 pub returns-in_err-reserve-clause-goes : goal.returns-in_err-reserve-clause-goes
@@ -98,6 +105,18 @@ invariant_of-self-in-Err g c =
       dropped = i.dropped.items;
       archived = i.archived.items;
     } in
+    let may = subst (λ (x : StoreState g.row.D.Denot). MayPublish
+    (holding_of D.files D.changes D.moment D.faults g.row.D.coded.code x)
+    (put_of c.args.file c.args.cells.now)) (sym c.self.view_is) c.requires.may in
+    let noted = subst (λ (x : StoreState g.row.D.Denot). IsNoteLog x.notes) (sym c.self.view_is)
+    c.requires.noted in
+    let runs = subst (λ (x : StoreState g.row.D.Denot). x.notes.log.is_stopped ≡ false)
+    (sym c.self.view_is) c.requires.runs in
+    let next = subst (λ (x : StoreState g.row.D.Denot). IsNextSequence
+    (D.files x.notes.log.disk) c.args.file.table c.args.sequence) (sym c.self.view_is)
+    c.requires.next in
+    let far = subst (λ (x : StoreState g.row.D.Denot). HasReached x.notes c.args.file.upper.0)
+    (sym c.self.view_is) c.requires.far in
     let is = c.put.ensures in
     let n = c.put.new.self in (
       c.self.invariant.0,
@@ -110,7 +129,13 @@ invariant_of-self-in-Err g c =
           (λ was. sym is.log ∙ is.stays was) c.in-Err.ensures.quiet
           (at_memory (Unit {0}) n.log.is_stopped c.in-Err.fault
           (subst (StopsBy n.log.is_stopped) c.in-Err.is is.stops)
-          (λ memory. is.same (c.in-Err.is ∙ ap Err memory))))),
+          (λ memory. is.same (c.in-Err.is ∙ ap Err memory)))
+          (put_failed D.files D.changes D.moment D.faults D.read_at D.lasted_at s n.log
+          c.self.invariant.1 c.put.result is.passes is.goes.later is.cause is.stops
+          (λ was. sym is.log ∙ is.stays was) _ is.others is.told
+          (free_table D.files D.changes D.moment D.faults D.read_at D.lasted_at
+          g.row.D.coded.code g.met.D.Disk.tells_both s c.self.invariant.1 runs noted c.args.file
+          c.args.cells.now may c.args.sequence next far)))),
     )
 
 pub invariant_of-self-in-Ok : goal.invariant_of-self-in-Ok
@@ -156,6 +181,7 @@ invariant_of-self-in-Ok g c =
           (store_put D.files D.changes D.moment D.faults D.read_at D.lasted_at s n.log
           c.self.invariant.1 c.put.result is.passes is.goes.later is.cause is.stops
           (λ was. sym is.log ∙ is.stays was) runs put _ come.bytes come.adds
+          c.in-Ok.ensures.stops
           (λ still. folder_put D.files D.changes D.moment D.faults D.read_at D.lasted_at
           g.row.D.coded.code g.met.D.Disk.tells_both s c.self.invariant.1 runs noted c.args.file
           c.args.cells.now may c.args.sequence next far n.log come is.told

@@ -1,0 +1,125 @@
+-- Each file but one stays over a call of a disk, whatever it answers.
+use Rattle.std.proofs.Common.{
+  ◌≡◌,
+  ℕ,
+  List,
+  ◌++◌,
+  inl,
+  inr,
+  Option,
+  Some,
+  None,
+  refl,
+  false,
+  Bool,
+  ◌∷◌,
+  ◌+◌,
+  drop,
+  take,
+  sym,
+  ◌∙◌,
+  ap,
+  subst,
+}
+use Rattle.std.specs.Prelude.{Err, Ok, OnErr, OnOk, Result, option_map}
+use Rattle.std.specs.FinMap as finmap
+use Rattle.clog_disk.specs.Files.{
+  AppendsTo,
+  Files,
+  MayAppend,
+  MayPutAt,
+  PutsAt,
+  Told,
+  bytes_at,
+  with_at,
+}
+use Rattle.clog_disk.proofs.Named.{put_there}
+use Rattle.clog_store.specs.Beside.{StayButOne}
+use Rattle.clog_store.specs.Discards.{
+  all_gone_at,
+  first_gone_at,
+  named_at,
+  next_named_at,
+}
+use Rattle.clog_store.proofs.OtherFiles.{put_else}
+
+-- these files are told
+abbrev StayIn : List ℕ → Files → Option Files → Type 0
+StayIn own f now =
+    Told now (λ g. (name : List ℕ) → (name ≡ own → ⊥) → finmap.get g name ≡ finmap.get f name)
+
+now_as : (own : List ℕ) (f g : Files) (now : Option Files) → now ≡ Some g
+    → ((name : List ℕ) → (name ≡ own → ⊥) → finmap.get g name ≡ finmap.get f name)
+    → StayIn own f now
+now_as own f g now is same = subst (StayIn own f) (sym is) same
+
+-- nothing has changed
+pub stay_same : (own : List ℕ) (told now : Option Files) → now ≡ told → StayButOne own told now
+stay_same own told now same f is = now_as own f f now (same ∙ is) (λ name apart. refl)
+
+-- ---- bytes come behind those of the file
+
+appended : (own bytes : List ℕ) (told now : Option Files) → AppendsTo told now own bytes
+    → StayButOne own told now
+appended own bytes told now appends f is =
+    now_as own f (finmap.insert f own (bytes_at f own ++ bytes)) now
+    (subst (λ (o : Option Files). AppendsTo o now own bytes) is appends)
+    (λ name apart. put_there f own (bytes_at f own ++ bytes) name apart)
+
+perhaps_appended : (own : List ℕ) (n : ℕ) (told now : Option Files) → MayAppend told now own n
+    → StayButOne own told now
+perhaps_appended own n told now may f is =
+    elim (subst (λ (o : Option Files). MayAppend o now own n) is may) [
+      | inl same ↦ now_as own f f now same (λ name apart. refl)
+      | inr some ↦ now_as own f (finmap.insert f own (bytes_at f own ++ some.0)) now some.2
+          (λ name apart. put_there f own (bytes_at f own ++ some.0) name apart)
+    ]
+
+pub stay_appended : {T E : Type 0} (own bytes : List ℕ) (n : ℕ) (told now : Option Files)
+    (r : Result T E) → OnOk r (AppendsTo told now own bytes)
+    → OnErr r (MayAppend told now own n) → StayButOne own told now
+stay_appended own bytes n told now (Ok done) appends may = appended own bytes told now appends
+stay_appended own bytes n told now (Err fault) appends may =
+    perhaps_appended own n told now may
+
+-- ---- a file comes or goes
+
+put_at : (own : List ℕ) (what : Option (List ℕ)) (told now : Option Files)
+    → PutsAt told now own what → StayButOne own told now
+put_at own what told now puts f is =
+    now_as own f (with_at f own what) now
+    (subst (λ (o : Option Files). PutsAt o now own what) is puts) (put_else f own what)
+
+perhaps_put : (own : List ℕ) (what : Option (List ℕ)) (told now : Option Files)
+    → MayPutAt told now own what → StayButOne own told now
+perhaps_put own what told now may f is =
+    elim (subst (λ (o : Option Files). MayPutAt o now own what) is may) [
+      | inl same ↦ now_as own f f now same (λ name apart. refl)
+      | inr puts ↦ now_as own f (with_at f own what) now puts (put_else f own what)
+    ]
+
+pub stay_put : {T E : Type 0} (own : List ℕ) (what : Option (List ℕ)) (told now : Option Files)
+    (r : Result T E) → OnOk r (PutsAt told now own what)
+    → OnErr r (MayPutAt told now own what) → StayButOne own told now
+stay_put own what told now (Ok done) puts may = put_at own what told now puts
+stay_put own what told now (Err fault) puts may = perhaps_put own what told now may
+
+-- ---- segments that go
+
+-- no archive name was given
+pub unnamed : (id : ℕ) (told : Option Files) → told ≡ option_map (named_at false id) told
+unnamed id None = refl
+unnamed id (Some f) = refl
+
+-- the first have gone, and the next one has perhaps its archive name
+pub next_named : (archives named : Bool) (base n o : ℕ) (os rest : List ℕ)
+    (told mid : Option Files) → drop n os ≡ o ∷ rest
+    → mid ≡ option_map (all_gone_at archives base (take n os)) told
+    → option_map (named_at named (base + o)) mid
+    ≡ option_map (first_gone_at archives base os n named) told
+next_named archives named base n o os rest None mid split gone =
+    ap (option_map (named_at named (base + o))) gone
+next_named archives named base n o os rest (Some f) mid split gone =
+    ap (option_map (named_at named (base + o))) gone
+    ∙ ap (λ (l : List ℕ). Some (next_named_at named base l
+    (all_gone_at archives base (take n os) f))) (sym split)

@@ -1,0 +1,48 @@
+-- What a folder holds of a store once its disk has failed: all that it would hold, but for one
+-- name, that of the file with which the disk has failed.
+use Rattle.std.specs.Prelude.{◌≡◌, ◌⊎◌, ℕ, ◌+◌, List, Some, None, Contains}
+use Rattle.std.specs.FinMap as finmap
+use Rattle.clog_spec.specs.Names.{IsTableName, segment_name_of}
+use Rattle.clog_disk.specs.Files.{Files}
+use Rattle.clog_store.specs.Beside.{NamesSegment}
+use Rattle.clog_store.specs.StoreFolder.{Deeds, HoldsStore, IsPast, StoreLog}
+
+-- ---- the name with which a disk may fail
+
+-- the name of a table file that is not there
+pub record IsFreeTable (files : Files) (name : List ℕ) : Type 0 where
+  pub table : ℕ
+  pub sequence : ℕ
+  pub named : IsTableName name table sequence
+  pub free : finmap.get files name ≡ None
+
+-- the name of an earlier segment that was not dropped, or its archive name where segments get one
+pub record IsToGo (log : StoreLog) (deeds : Deeds) (name : List ℕ) : Type 0 where
+  pub ordinal : ℕ
+  pub past : IsPast log ordinal
+  pub stays : Contains deeds.dropped ordinal → ⊥
+  pub name_is : NamesSegment deeds.archives (log.base + ordinal) name
+
+-- of the segment at hand, of a table file that was to come, or of an earlier segment that was to go
+abbrev pub IsFailing : StoreLog → Deeds → Files → List ℕ → Type 0
+IsFailing log deeds files name =
+    (name ≡ segment_name_of 6 log.id)
+    ⊎ (IsFreeTable files name ⊎ IsToGo log deeds name)
+
+-- ---- the folder
+
+-- But for one name the folder is that of a store.
+pub record HoldsButOne (first : Files) (log : StoreLog) (deeds : Deeds) (now : Files) : Type 0
+  where
+    -- what it would be
+    pub last : Files
+    pub holds : HoldsStore first log deeds last
+    pub name : List ℕ
+    pub failing : IsFailing log deeds last name
+    pub others : (other : List ℕ) → (other ≡ name → ⊥)
+        → finmap.get now other ≡ finmap.get last other
+
+-- Each file that was there at first is there still, with the same bytes.
+abbrev pub AllStay : Files → Files → Type 0
+AllStay first now =
+    (name bytes : List ℕ) → finmap.get first name ≡ Some bytes → finmap.get now name ≡ Some bytes
