@@ -6,6 +6,6 @@ pub mod Logs
 pub mod Openings
 pub mod Segments
 mod StoreLeft
-mod StoreOrdered
+pub mod StoreOrdered
 mod StoreTables
 pub mod Tables

@@ -1,4 +1,4 @@
--- The changes of a store whose run has ended stand in order, as those of a run.
+-- The changes of a store stand in order as those of a run, however far the run has come.
 use Rattle.std.proofs.Common.{
   ◌≡◌,
   ℕ,
@@ -63,7 +63,7 @@ use Rattle.clog_applied.specs.Early.{
 }
 use Rattle.clog_applied.specs.History.{LoggedLine, logged_at}
 use Rattle.clog_layout.proofs.Lines.{is_position}
-use Rattle.clog_closing.specs.Stores.{HasEnded, files_by, ids_in, segments_in}
+use Rattle.clog_closing.specs.Stores.{GoesInOrder, files_by, ids_in, segments_in}
 use Rattle.clog_closing.proofs.Dropping.{filed_droppable}
 use Rattle.clog_closing.proofs.Entries.{an_entry}
 use Rattle.clog_closing.proofs.Logs.{of_log}
@@ -102,9 +102,8 @@ published_in base cs files by put among =
       says = record { sequence = p.sequence; named = is.named; spelled = is.spelled };
     })
 
-module _ (sizes : Sizes) (opened after : Files) (later : List Change) (log : StoreLog)
-    (deeds : Deeds) (history : List LoggedLine)
-    (e : HasEnded sizes opened after later log deeds history) where
+module _ (sizes : Sizes) (later : List Change) (log : StoreLog) (deeds : Deeds)
+    (history : List LoggedLine) (e : GoesInOrder sizes later log deeds history) where
   few : sizes.capacity ≤ greatest_capacity
   few = sizes.within.greatest_capacity
 

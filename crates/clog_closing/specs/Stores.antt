@@ -56,6 +56,19 @@ pub record AreWholeDeeds (log : StoreLog) (deeds : Deeds) : Type 0 where
   pub archived : (o : ℕ) → Contains deeds.archived o → Contains deeds.dropped o
   pub exactly : (o : ℕ) → MayGo log deeds o → Contains deeds.dropped o
 
+-- ---- what it has come to
+
+-- Its changes since the opening have brought just its log and stand in order. Its log holds just the
+-- entries of notes, which are those of a history.
+pub record GoesInOrder (sizes : Sizes) (later : List Change) (log : StoreLog) (deeds : Deeds)
+    (history : List LoggedLine) : Type 0 where
+  pub grown : IsGrown (appends_of later) log.past log.id log.sections
+  pub ordered : AreOrdered log deeds later
+  pub stored : AreStoredInOrder (segments_in log)
+  pub places : placed_log log.past log.id log.sections ≡ places_of log.base log.logged
+  pub in_log : IsHistory sizes.capacity log.logged
+  pub notes : AreNotesOf log.base log.logged history
+
 -- ---- its end
 
 -- The folder is the store's, whose changes since the opening have brought just its log and stand in

@@ -42,14 +42,21 @@ ghost use Rattle.clog_store.specs.OnDisk.{file_on};
 ghost use Rattle.clog_store.specs.Opened.{IsOpened, RecoversAll};
 ghost use Rattle.clog_store.specs.StoreFolder.{Deeds, HoldsStore, StoreLog, no_deeds};
 ghost use Rattle.clog_applied.specs.Appended.{IsAppended, appended, entries_in};
-ghost use Rattle.clog_applied.specs.Closed.{IsStoreLeft};
+ghost use Rattle.clog_applied.specs.Closed.{IsAnyFile, IsStoreLeft};
+ghost use Rattle.clog_applied.specs.Early.{AreInOrder};
 ghost use Rattle.clog_applied.specs.Filed.{FollowFrom, IsTrueFor, files_of, first_of};
 ghost use Rattle.clog_applied.specs.History.{LoggedLine};
 ghost use Rattle.clog_applied.specs.Opening.{IsOpening, IsRecoveryChange};
 ghost use Rattle.clog_layout.specs.Logged.{AreNotesOf};
 ghost use Rattle.clog_closing.specs.Logs.{AreStoredInOrder, written_ids};
 ghost use Rattle.clog_closing.specs.Sequence.{AreInSequence};
-ghost use Rattle.clog_closing.specs.Stores.{HasEnded, dropped_ids, files_by, ids_in};
+ghost use Rattle.clog_closing.specs.Stores.{
+  GoesInOrder,
+  HasEnded,
+  dropped_ids,
+  files_by,
+  ids_in,
+};
 
 /// What a recovery has added to a disk's changes are table files of the folder's own log and
 /// removals of its segments. A folder that was opened by such changes is opened for a run.
@@ -135,4 +142,16 @@ pub fn stores_are_left()
         → HasEnded sizes opened after later log deeds history
         → IsStoreLeft deeds.archives opened after later (ids_in log) (dropped_ids log deeds) history
         (files_by log deeds) }
+{}
+
+/// However far a store has come with putting table files and dropping segments, also where its disk
+/// has failed meanwhile: what was appended is the history of its notes, and its changes stand in
+/// order, as those of a run.
+pub fn stores_go_in_order()
+    ensures appended { (sizes : Sizes) (later : List Change) (log : StoreLog) (deeds : Deeds)
+        (history : List LoggedLine) → GoesInOrder sizes later log deeds history
+        → IsAppended later (ids_in log) history }
+    ensures ordered { (sizes : Sizes) (later : List Change) (log : StoreLog) (deeds : Deeds)
+        (history : List LoggedLine) → GoesInOrder sizes later log deeds history
+        → AreInOrder IsAnyFile deeds.archives later (ids_in log) history (files_by log deeds) }
 {}

@@ -81,13 +81,14 @@ module _ {D : Type 0} (changes : D → Option (List Change)) (moment : D → ℕ
       goes_on_by moment since start looked now kept then opening
 
   -- and while lines are written
-  pub while_written : (start opened now : D) (first then : Files) (drain : Bool)
+  pub while_written : (start opened now : D) (first then : Files) (archives drain : Bool)
       (ms : List Mutation) (least : ℕ) → KeepsFolder first then
       → LeavesOnly moment since start opened (KeepsFolder first)
-      → (lines : LeavesLines changes moment since leaves opened now (bytes_at then) drain ms least)
+      → (lines : LeavesLines changes moment since leaves opened now (bytes_at then) archives drain
+      ms least)
       → (image : Files) → since now (moment start) image → NoChances lines.log image
       → AddsFirst first ms 0 image
-  while_written start opened now first then drain ms least kept opening lines =
+  while_written start opened now first then archives drain ms least kept opening lines =
       let has = λ (image : Files). NoChances lines.log image → AddsFirst first ms 0 image in
       let before = weakened moment since start opened (KeepsFolder first) has opening
       (λ image keeps chance. adds_none first image ms keeps) in

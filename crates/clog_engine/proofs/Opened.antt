@@ -1,6 +1,6 @@
 -- What a run leaves once its folder was opened, whether its lines were written or not.
 use Rattle.std.proofs.Common.{◌≡◌, ℕ, List, ◌++◌, length, Option, Some, None, Result, Ok as ok, Err as err, true, inr, refl, sym, ap, subst, ◌∙◌, append_assoc}
-use Rattle.std.specs.Prelude.{Bool, IfSome, OnOk}
+use Rattle.std.specs.Prelude.{IfSome, OnOk, ⊤}
 use Rattle.clog_base.specs.declared.cell.Cell.{Cell}
 use Rattle.clog_base.specs.declared.cell.CellKey.{CellKey}
 use Rattle.clog_io.specs.declared.clock.Clock.{Ghosts as ClockTells}
@@ -15,6 +15,7 @@ use Rattle.clog_crash.specs.Log.{Write}
 use Rattle.clog_crash.specs.Restore.{IsRestored}
 use Rattle.clog_folder.specs.Passing.{IsUntouched as IsDiskUntouched}
 use Rattle.clog_applied.specs.Asked.{capacity_of}
+use Rattle.clog_applied.specs.Filed.{KeepsOthers}
 use Rattle.path_core.specs.declared.keeper.KeeperFault.{KeeperFault}
 use Rattle.path_core.specs.declared.keeper.KeeperFault.TheVariants.{OutOfMemory, Stopped}
 use Rattle.path_core.specs.declared.note.EntryNote.{EntryNote}
@@ -25,6 +26,7 @@ use Rattle.clog_store.specs.Opened.{
   RecoversAll,
   RecoversFirst,
 }
+use Rattle.clog_store.specs.StoreFailed.{AllStay}
 use Rattle.clog_store.proofs.OpenedWhole.{keeps_same, lasts_on}
 use Rattle.clog_closing.proofs.Openings.{recovery_changes}
 use Rattle.clog_base.specs.declared.sizes.Sizes.{Sizes}
@@ -115,11 +117,12 @@ pub ended_applies : {T : Type 0} (outcome : Result T KeeperFault) (options : App
     (o : Outside) (report bytes : List ℕ) (ms : List Mutation)
     → TakesAll o.left o.left_now bytes → IsSized (capacity_of options) bytes ms
     → IsReported options ms report → OnOk outcome (Turns o (IsRun o options ms report))
-    → Wrote o options.drain → LastsFirst o options.drain ms (least_of outcome ms)
+    → Wrote o options ms → IfSome o.files (λ before. Told o.files_now (KeepsOthers before))
+    → LastsFirst o options ms (least_of outcome ms)
     → HasWriteCause o.disk_faults o.disk_faults_now outcome → SameTold o.files o.files_now
     → Applies options o (ended_as report outcome)
-ended_applies (ok done) options o report bytes ms taken sized reported run wrote lasts cause
-    told = (
+ended_applies (ok done) options o report bytes ms taken sized reported run wrote others lasts
+    cause told = (
       bytes,
       taken,
       record {
@@ -133,7 +136,7 @@ ended_applies (ok done) options o report bytes ms taken sized reported run wrote
       },
     )
 ended_applies (err (Stopped at_open now)) options o report bytes ms taken sized reported run wrote
-    lasts cause told = (
+    others lasts cause told = (
       (bytes, taken, record { mutations = ms; sized = sized }),
       cause.1,
       inr (inr (record {
@@ -143,11 +146,12 @@ ended_applies (err (Stopped at_open now)) options o report bytes ms taken sized 
         sized = sized;
         told = told;
         wrote = wrote;
+        others = others;
         lasts = lasts;
       })),
     )
-ended_applies (err OutOfMemory) options o report bytes ms taken sized reported run wrote lasts cause
-    told =
+ended_applies (err OutOfMemory) options o report bytes ms taken sized reported run wrote others
+    lasts cause told =
     inr (inr (record {
       bytes = bytes;
       taken = taken;
@@ -155,6 +159,7 @@ ended_applies (err OutOfMemory) options o report bytes ms taken sized reported r
       sized = sized;
       told = told;
       wrote = wrote;
+      others = others;
       lasts = lasts;
     }))
 
@@ -215,36 +220,54 @@ module _ {D C : Type 0} (disk : DiskTells D) (clock : ClockTells C)
       (recovers : (first : Files) → disk.files looked ≡ Some first
       → RecoversAll first (disk.changes looked) (disk.changes opened)) where
     -- what was appended behind the recovery
-    written : (now : D) (drain : Bool) (first : Files) → disk.files looked ≡ Some first
-        → (log : List Write) → HasBrought disk.changes opened now drain log
-        → HasWrittenLog (outside_at now) drain first log
-    written now drain first is log has = record {
+    written : (now : D) (options : ApplyOptions) (ms : List Mutation) (first : Files)
+        → disk.files looked ≡ Some first → (log : List Write)
+        → HasBrought disk.changes opened now options.archive options.drain ms log
+        → HasWrittenLog (outside_at now) options first ms log
+    written now options ms first is log has = record {
       between = disk.changes opened;
       recovered = subst (λ (c : Option (List Change)). RecoversAll first c (disk.changes opened))
           still.changes_are (recovers first is);
       added = has.added;
       changes_are = has.changes_are;
-      alone = has.alone;
+      made_for = has.made_for;
       brought = has.brought;
     }
 
-    pub wrote : (now : D) (drain : Bool)
-        → (log : List Write) × HasBrought disk.changes opened now drain log
-        → Wrote (outside_at now) drain
-    wrote now drain has = if_told (disk.files start) (disk.files looked)
-        (λ (first : Files). (log : List Write) × HasWrittenLog (outside_at now) drain first log)
-        still.same.files (λ first is. (has.0, written now drain first is has.0 has.1))
+    pub wrote : (now : D) (options : ApplyOptions) (ms : List Mutation) → (log : List Write)
+        × HasBrought disk.changes opened now options.archive options.drain ms log
+        → Wrote (outside_at now) options ms
+    wrote now options ms has = if_told (disk.files start) (disk.files looked)
+        (λ (first : Files).
+        (log : List Write) × HasWrittenLog (outside_at now) options first ms log)
+        still.same.files (λ first is. (has.0, written now options ms first is has.0 has.1))
+
+    -- what is no segment stands as it was
+    pub others : (now : D) → SameTold (disk.files opened) (disk.files now)
+        → ((then after : Files) → disk.files opened ≡ Some then → disk.files now ≡ Some after
+        → AllStay then after)
+        → IfSome (outside_at now).files (λ first. Told (disk.files now) (KeepsOthers first))
+    others now told stay = if_told (disk.files start) (disk.files looked)
+        (λ (first : Files). Told (disk.files now) (KeepsOthers first)) still.same.files
+        (λ first is.
+        let then = opened_as (disk.files looked) (disk.files opened) moment base first is opens in
+        let after = told_as (disk.files now) (λ f. ⊤)
+        (subst (λ (o : Option Files). SameTold o (disk.files now)) then.1 told) in
+        subst (λ (o : Option Files). Told o (KeepsOthers first)) (sym after.1)
+        (λ name bytes apart there.
+        stay then.0 after.0 then.1 after.1 name bytes
+        (then.2.recovered.others name bytes apart there)))
 
     -- a crash leaves the first of the lines
-    pub lasts_first : (now : D) (drain : Bool) (ms : List Mutation) (least : ℕ)
+    pub lasts_first : (now : D) (options : ApplyOptions) (ms : List Mutation) (least : ℕ)
         → ((then : Files) → disk.files opened ≡ Some then → (first : Files)
         → disk.files looked ≡ Some first → LastsAll first (disk.leaves looked)
         → LeavesLines disk.changes disk.moment disk.since disk.leaves opened now (bytes_at then)
-        drain ms least)
-        → LastsFirst (outside_at now) drain ms least
-    lasts_first now drain ms least leaves = if_told (disk.files start) (disk.files looked)
+        options.archive options.drain ms least)
+        → LastsFirst (outside_at now) options ms least
+    lasts_first now options ms least leaves = if_told (disk.files start) (disk.files looked)
         (λ (first : Files). LastsAll first (disk.leaves start)
-        → LeavesFirst (outside_at now) drain first ms least) still.same.files (λ first is lasts.
+        → LeavesFirst (outside_at now) options first ms least) still.same.files (λ first is lasts.
         let then = opened_as (disk.files looked) (disk.files opened) moment base first is opens in
         let kept = keeps_same first then.0 then.2.recovered.same in
         let lines = leaves then.0 then.1 first is (lasting first lasts) in
@@ -253,10 +276,11 @@ module _ {D C : Type 0} (disk : DiskTells D) (clock : ClockTells C)
         (any first is (lasting first lasts)) in
         record {
           log = lines.log;
-          wrote = written now drain first is lines.log lines.wrote;
+          wrote = written now options ms first is lines.log lines.wrote;
           says = lines.says;
           since = while_written disk.changes disk.moment disk.since disk.leaves disk.read_at
-              disk.lasted_at start opened now first then.0 drain ms least kept opening lines;
+              disk.lasted_at start opened now first then.0 options.archive options.drain ms least
+              kept opening lines;
           now = λ image left chance.
               adds_lines first then.0 image ms least kept (lines.at_last image left chance);
         })

@@ -1,26 +1,5 @@
 -- What `apply` does to the disk and reports, and why it does not.
-use Rattle.std.specs.Prelude.{
-  ◌≡◌,
-  ◌⊎◌,
-  ℕ,
-  ◌<◌,
-  ◌≤◌,
-  List,
-  [],
-  ◌∷◌,
-  ◌++◌,
-  length,
-  take,
-  Bool,
-  false,
-  Contains,
-  Option,
-  Some,
-  IfSome,
-  option_map,
-  ⊤,
-  Result,
-}
+use Rattle.std.specs.Prelude.{◌≡◌, ◌⊎◌, ℕ, ◌<◌, ◌≤◌, List, [], ◌∷◌, ◌++◌, length, take, false, Contains, Option, Some, IfSome, option_map, ⊤, Result}
 use Rattle.std.specs.declared.result.Result.TheVariants as result
 use Rattle.std.specs.List.{flat_map}
 use Rattle.clog_base.specs.declared.cell.Cell.{Cell}
@@ -52,7 +31,6 @@ use Rattle.clog_crash.specs.Readings.{RestoresIn}
 use Rattle.clog_crash.specs.Restore.{IsUndamaged}
 use Rattle.clog_folder.specs.Folder.{HasDamage, HasLongSegment}
 use Rattle.clog_store.specs.Named.{sequence_limit, id_limit}
-use Rattle.clog_store.specs.Grows.{AreAppends}
 use Rattle.clog_store.specs.Opened.{
   HasGreatId,
   HasManyTables,
@@ -64,9 +42,10 @@ use Rattle.clog_store.specs.Opened.{
 use Rattle.clog_applied.specs.Applied.{IsAppliedRun}
 use Rattle.clog_applied.specs.Asked.{capacity_of}
 use Rattle.clog_applied.specs.Closed.{ClosedRun}
+use Rattle.clog_applied.specs.Filed.{KeepsOthers}
 use Rattle.clog_applied.specs.History.{LoggedLine}
 use Rattle.clog_applied.specs.Printed.{ReportIsPrinted}
-use Rattle.clog_lines.specs.Written.{AreLaidFor, IsWrittenBy, SaysFirst}
+use Rattle.clog_lines.specs.Written.{AreLaidFor, AreMadeFor, IsWrittenBy, SaysFirst}
 use Rattle.clog_engine.specs.declared.status.Status.{Status}
 use Rattle.clog_engine.specs.declared.status.Status.TheVariants.{
   BadLine,
@@ -109,28 +88,29 @@ pub record AddsFirst (before : Files) (mutations : List Mutation) (least : ℕ) 
   pub undamaged : IsUndamaged before → IsUndamaged image
 
 -- The run's changes are those of a recovery, and then others whose appends have brought these
--- segments; they are appends alone where nothing is drained.
-pub record HasWrittenLog (o : Outside) (drain : Bool) (before : Files) (log : List Write) : Type 0
-  where
-    pub between : Option (List Change)
-    pub recovered : RecoversAll before o.changes between
-    pub added : List Change
-    pub changes_are : o.changes_now ≡ option_map (λ made. made ++ added) between
-    pub alone : drain ≡ false → AreAppends added
-    pub brought : IsWrittenBy (appends_of added) log
+-- segments. These write the lines: they are appends alone, or those of a drain that has begun, in
+-- order.
+pub record HasWrittenLog (o : Outside) (options : ApplyOptions) (before : Files)
+    (mutations : List Mutation) (log : List Write) : Type 0 where
+  pub between : Option (List Change)
+  pub recovered : RecoversAll before o.changes between
+  pub added : List Change
+  pub changes_are : o.changes_now ≡ option_map (λ made. made ++ added) between
+  pub made_for : AreMadeFor options.archive options.drain mutations added
+  pub brought : IsWrittenBy (appends_of added) log
 
 -- Where the disk tells its files, that is all that was changed.
-abbrev pub Wrote : Outside → Bool → Type 0
-Wrote o drain =
-    IfSome o.files (λ before. (log : List Write) × HasWrittenLog o drain before log)
+abbrev pub Wrote : Outside → ApplyOptions → List Mutation → Type 0
+Wrote o options mutations = IfSome o.files
+    (λ before. (log : List Write) × HasWrittenLog o options before mutations log)
 
 -- A crash at any moment of the run leaves what restores so, and a crash now at least so many of the
 -- lines, where nothing passes by chance for what was written: the segments that were appended,
 -- which say the first of the lines.
-pub record LeavesFirst (o : Outside) (drain : Bool) (before : Files) (mutations : List Mutation)
-    (least : ℕ) : Type 0 where
+pub record LeavesFirst (o : Outside) (options : ApplyOptions) (before : Files)
+    (mutations : List Mutation) (least : ℕ) : Type 0 where
   pub log : List Write
-  pub wrote : HasWrittenLog o drain before log
+  pub wrote : HasWrittenLog o options before mutations log
   pub says : SaysFirst log mutations
   pub since : (image : Files) → o.since image → NoChances log image
       → AddsFirst before mutations 0 image
@@ -138,9 +118,9 @@ pub record LeavesFirst (o : Outside) (drain : Bool) (before : Files) (mutations 
       → AddsFirst before mutations least image
 
 -- Where the disk tells its files, and all of them lasted before, a crash leaves that.
-abbrev pub LastsFirst : Outside → Bool → List Mutation → ℕ → Type 0
-LastsFirst o drain mutations least = IfSome o.files
-    (λ before. LastsAll before o.leaves → LeavesFirst o drain before mutations least)
+abbrev pub LastsFirst : Outside → ApplyOptions → List Mutation → ℕ → Type 0
+LastsFirst o options mutations least = IfSome o.files
+    (λ before. LastsAll before o.leaves → LeavesFirst o options before mutations least)
 
 -- ---- the run ends well
 
@@ -194,9 +174,9 @@ pub record IsApplied (o : Outside) (options : ApplyOptions) (report bytes : List
   pub sized : IsSized (capacity_of options) bytes mutations
   pub reported : IsReported options mutations report
   pub told : SameTold o.files o.files_now
-  pub wrote : Wrote o options.drain
+  pub wrote : Wrote o options mutations
   pub run : Turns o (IsRun o options mutations report)
-  pub lasts : LastsFirst o options.drain mutations (length mutations)
+  pub lasts : LastsFirst o options mutations (length mutations)
 
 -- ---- the run is refused
 
@@ -210,15 +190,17 @@ pub record KeepsAll (o : Outside) : Type 0 where
   pub lasts : IfSome o.files (λ before. LastsAll before o.leaves
       → (image : Files) → o.since image → KeepsFolder before image)
 
--- All was good, and the run broke off while the lines were written.
+-- All was good, and the run broke off while the lines were written. Each file of before that is no
+-- segment stands as it was.
 pub record IsPartly (options : ApplyOptions) (o : Outside) : Type 0 where
   pub bytes : List ℕ
   pub taken : TakesAll o.left o.left_now bytes
   pub mutations : List Mutation
   pub sized : IsSized (capacity_of options) bytes mutations
   pub told : SameTold o.files o.files_now
-  pub wrote : Wrote o options.drain
-  pub lasts : LastsFirst o options.drain mutations 0
+  pub wrote : Wrote o options mutations
+  pub others : IfSome o.files (λ before. Told o.files_now (KeepsOthers before))
+  pub lasts : LastsFirst o options mutations 0
 
 -- the disk is as it was, or the folder restores the same, or the first of the lines came
 abbrev pub LeavesPart : ApplyOptions → Outside → Type 0

@@ -130,10 +130,10 @@ module _ {D : Type 0} (files : D → Option Files) (changes : D → Option (List
         restores_lines r mutations notes entries count (entries_in ws) in_all least enough image
         (shown ws goes_on none) le
 
-    pub leaves_lines : (least : ℕ) (drain : Bool) → least ≤ lasting_in b
-        → HasBrought changes a.disk b.disk drain ws
-        → LeavesLines changes moment since leaves a.disk b.disk r drain mutations least
-    leaves_lines least drain le wrote =
+    pub leaves_lines : (least : ℕ) (archives drain : Bool) → least ≤ lasting_in b
+        → HasBrought changes a.disk b.disk archives drain mutations ws
+        → LeavesLines changes moment since leaves a.disk b.disk r archives drain mutations least
+    leaves_lines least archives drain le wrote =
         let now = told in
         let shown = at_both (files b.disk) (read_at b.disk b.opened) (λ f q. (at : ℕ)
         → MayGoOnIn b.id b.sections at

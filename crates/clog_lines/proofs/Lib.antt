@@ -1,3 +1,4 @@
+pub mod Begun
 pub mod Brought
 pub mod Crashing
 pub mod Emptied

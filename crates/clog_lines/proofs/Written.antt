@@ -52,6 +52,7 @@ use Rattle.clog_store.specs.StoreFolder.{IsSound}
 use Rattle.clog_store.specs.Grows.{segments_with}
 use Rattle.clog_crash.specs.Grown.{appends_of}
 use Rattle.clog_crash.specs.Log.{Write}
+use Rattle.clog_lines.proofs.Begun.{has_gone}
 use Rattle.clog_lines.proofs.Brought.{written_by}
 use Rattle.clog_store.specs.StoreState.{
   AppendsAlone,
@@ -73,7 +74,9 @@ use Rattle.clog_lines.specs.Drained.{
 }
 use Rattle.clog_lines.specs.Written.{
   AreLaidFor,
+  AreMadeFor,
   HasBrought,
+  HasGoneInOrder,
   HasWriteCause,
   IsAskedBy,
   LeavesLines,
@@ -133,19 +136,6 @@ told_of (Some f) (Some g) made made_now added was tells is = tt
 told_of (Some f) None None made_now added was tells is = absurd (true≢false (sym was))
 told_of (Some f) None (Some all) made_now added was tells is =
     absurd (true≢false (sym (ap is_some is) ∙ tells))
-
--- ---- what was done beside the log
-
--- nothing where nothing is drained
-pub undrained : {T : Type 0} (h k : Holding) (notes : List EntryNote) (drain : Bool)
-    (r : Result T KeeperFault) → OnOk r (LogsAll h k notes drain)
-    → OnErr r (LogsPart h k notes drain) → drain ≡ false → HasNoDeeds k
-undrained h k notes drain (Ok done) ok err none =
-    subst (λ (d : Bool). IsDrainedAs d k notes) none ok.deeds
-undrained h k notes drain (Err fault) ok err none = elim err [
-  | inl refused ↦ refused.no_deeds
-  | inr part ↦ absurd (true≢false (sym part.0 ∙ none))
-]
 
 module _ {D : Type 0} (files : D → Option Files) (changes : D → Option (List Change))
     (moment faults : D → ℕ) (since : D → ℕ → Files → Type 0)
@@ -266,36 +256,53 @@ module _ {D : Type 0} (files : D → Option Files) (changes : D → Option (List
 
   -- ---- what it has appended since
 
-  module _ (grown : HasGrown changes b.first b.notes.log) (alone : AppendsAlone changes b) where
+  module _ (alone : AppendsAlone changes b) (ordered : HasOrdered changes b)
+      (notes : IsNoteLog b.notes) (sound : IsSound b.notes.log) (mutations : List Mutation)
+      (out : AreLaidFor a.notes.sizes mutations laid) where
+    abbrev Brought : Type 0
+    Brought = HasBrought changes a.notes.log.disk b.notes.log.disk a.archives drain mutations ws
+
+    -- by these further changes
+    brought_by : (growth : HasGrown changes b.first b.notes.log)
+        → AreMadeFor a.archives drain mutations growth.added → Brought
+    brought_by growth made_for = record {
+      added = growth.added;
+      changes_are = growth.changes_are
+          ∙ ap (λ (x : D). option_map (λ made. made ++ growth.added) (changes x)) its_disk;
+      made_for = made_for;
+      brought = written_by b.notes.log growth.part (appends_of growth.added) growth.brought
+          growth.grown;
+    }
+
+    by_appends : HasNoDeeds (Held b) → Brought
+    by_appends none =
+        let has = alone (none_done files changes moment faults code b none) in
+        brought_by has.growth (inl has.alone)
+
+    by_drain : drain ≡ true → HasLogged (Held a) (Held b) laid → Brought
+    by_drain full logged =
+        let archives : b.archives ≡ a.archives = ap (λ (o : Opening). o.archives) logged.opening_is
+        in brought_by ordered.growth (inr (
+          full,
+          subst (λ (x : Bool). HasGoneInOrder x mutations ordered.growth.added) archives
+              (has_gone changes b ordered notes sound logged.none_kept a.notes.sizes mutations
+              (subst (AreLaidFor a.notes.sizes mutations) (sym logged.logged_are) out)),
+        ))
+
     -- whatever was answered
     pub brought_of : {T : Type 0} (r : Result T KeeperFault)
         → OnOk r (LogsAll (Held a) (Held b) laid drain)
-        → OnErr r (LogsPart (Held a) (Held b) laid drain)
-        → HasBrought changes a.notes.log.disk b.notes.log.disk drain ws
-    brought_of r ok err = by_case drain refl
+        → OnErr r (LogsPart (Held a) (Held b) laid drain) → Brought
+    brought_of (Ok done) ok err = by_case drain refl
       where
-        by_case : (d : Bool) → drain ≡ d
-            → HasBrought changes a.notes.log.disk b.notes.log.disk d ws
-        by_case true is = record {
-          added = grown.added;
-          changes_are = grown.changes_are
-              ∙ ap (λ (x : D). option_map (λ made. made ++ grown.added) (changes x)) its_disk;
-          alone = λ none. absurd (true≢false none);
-          brought = written_by b.notes.log grown.part (appends_of grown.added) grown.brought
-              grown.grown;
-        }
+        by_case : (d : Bool) → drain ≡ d → Brought
+        by_case true is = by_drain is ok.logged
         by_case false is =
-            let has = alone (none_done files changes moment faults code b
-            (undrained (Held a) (Held b) laid drain r ok err is)) in
-            record {
-              added = has.growth.added;
-              changes_are = has.growth.changes_are
-                  ∙ ap (λ (x : D). option_map (λ made. made ++ has.growth.added) (changes x))
-                  its_disk;
-              alone = λ none. has.alone;
-              brought = written_by b.notes.log has.growth.part (appends_of has.growth.added)
-                  has.growth.brought has.growth.grown;
-            }
+            by_appends (subst (λ (d : Bool). IsDrainedAs d (Held b) laid) is ok.deeds)
+    brought_of (Err fault) ok err = elim err [
+      | inl refused ↦ by_appends refused.no_deeds
+      | inr part ↦ by_drain part.0 part.1
+    ]
 
   -- ---- what a crash leaves
 
@@ -309,12 +316,12 @@ module _ {D : Type 0} (files : D → Option Files) (changes : D → Option (List
       (opened : Files) (out : AreLaidFor a.notes.sizes mutations laid)
       (is : files a.notes.log.disk ≡ Some opened)
       (lasted : lasted_at a.notes.log.disk a.notes.log.opened)
-      (has : HasBrought changes a.notes.log.disk b.notes.log.disk drain ws)
+      (has : HasBrought changes a.notes.log.disk b.notes.log.disk a.archives drain mutations ws)
     where
       abbrev Leaves : ℕ → Type 0
       Leaves least =
           LeavesLines changes moment since leaves a.notes.log.disk b.notes.log.disk
-          (bytes_at opened) drain mutations least
+          (bytes_at opened) a.archives drain mutations least
 
       living : LivesOn files moment since leaves read_at lasted_at a.notes.log b.notes.log
       living = on (lives lasted)
@@ -327,7 +334,7 @@ module _ {D : Type 0} (files : D → Option Files) (changes : D → Option (List
           (reads_now a.notes.log.disk) opened is mutations out.raw out.entries first.count
           (says a.notes.sizes mutations laid out b.notes.base b.notes.log.past b.notes.log.id
           b.notes.log.sections first.count (b.notes.logged ++ take notes.stands.shown b.notes.kept)
-          notes.stands.all first.are) least drain le has
+          notes.stands.all first.are) least a.archives drain le has
 
       first_all : HasLogged (Held a) (Held b) laid → AreFirst laid (Held b) notes.stands.shown
       first_all logged =

@@ -1,6 +1,7 @@
 -- What is left where lines were written to a store.
 use Rattle.std.specs.Prelude.{
   ◌≡◌,
+  ◌⊎◌,
   ◌<◌,
   ◌≤◌,
   ℕ,
@@ -12,6 +13,7 @@ use Rattle.std.specs.Prelude.{
   take,
   Bool,
   false,
+  true,
   Contains,
   Option,
   Some,
@@ -47,8 +49,10 @@ use Rattle.path_core.specs.declared.note.EntryNote.{EntryNote}
 use Rattle.path_core.specs.Keys.{first_offset}
 use Rattle.clog_store.specs.Grows.{AreAppends}
 use Rattle.clog_applied.specs.Asked.{capacity_of}
-use Rattle.clog_applied.specs.Closed.{IsClosedPath, IsStoreLeft}
-use Rattle.clog_applied.specs.History.{LoggedLine, logged_at}
+use Rattle.clog_applied.specs.Appended.{IsAppended}
+use Rattle.clog_applied.specs.Closed.{IsAnyFile, IsClosedPath, IsStoreLeft}
+use Rattle.clog_applied.specs.Early.{AreInOrder}
+use Rattle.clog_applied.specs.History.{LoggedLine, logged_at, share_of, written_by}
 use Rattle.clog_applied.specs.Printed.{AreByLine}
 use Rattle.clog_layout.specs.Laid.{AreLaid}
 use Rattle.clog_layout.specs.Logged.{AreEntriesOf, AreLaidLines}
@@ -79,23 +83,41 @@ pub record IsWrittenBy (appends : List Append) (log : List Write) : Type 0 where
   pub only : (a : Append) → Contains appends a
       → (w : Write) × Contains log w × (0 < length w.sections) × (a.0 ≡ segment_name_of 6 w.id)
 
--- The appends among a disk's further changes since it was so have brought these segments. All of
--- them are appends, but behind a drain.
+-- Changes by which a drain has begun: the entries of all lines were appended, by one writer and in
+-- order, and some table files have come and segments gone, each in its turn.
+pub record HasGoneInOrder (archives : Bool) (mutations : List Mutation) (changes : List Change)
+    : Type 0 where
+  pub ids : List ℕ
+  pub history : List LoggedLine
+  pub files : List TableFile
+  pub by_one : (w : LoggedLine) → Contains history w → w.writer ≡ 0
+  pub lines : written_by 0 history ≡ share_of 1 0 mutations
+  pub is_appended : IsAppended changes ids history
+  pub order : AreInOrder IsAnyFile archives changes ids history files
+
+-- Changes by which lines are written: appends alone, or those of a drain that has begun.
+abbrev pub AreMadeFor : Bool → Bool → List Mutation → List Change → Type 0
+AreMadeFor archives drain mutations changes =
+    AreAppends changes ⊎ ((drain ≡ true) × HasGoneInOrder archives mutations changes)
+
+-- The appends among a disk's further changes since it was so have brought these segments. The
+-- changes write the lines.
 pub record HasBrought {D : Type 0} (changes : D → Option (List Change)) (before now : D)
-    (drain : Bool) (log : List Write) : Type 0 where
+    (archives drain : Bool) (mutations : List Mutation) (log : List Write) : Type 0 where
   pub added : List Change
   pub changes_are : changes now ≡ option_map (λ made. made ++ added) (changes before)
-  pub alone : drain ≡ false → AreAppends added
+  pub made_for : AreMadeFor archives drain mutations added
   pub brought : IsWrittenBy (appends_of added) log
 
 -- The segments that were written, which say the first of these lines. What a crash leaves since a
 -- disk was so, and what it leaves of it now, where nothing passes by chance for what was written.
 pub record LeavesLines {D : Type 0} (changes : D → Option (List Change)) (moment : D → ℕ)
     (since : D → ℕ → Files → Type 0) (leaves : D → List ℕ → Option (List ℕ) → Type 0)
-    (before now : D) (r : Reading) (drain : Bool) (mutations : List Mutation) (least : ℕ) : Type 0
+    (before now : D) (r : Reading) (archives drain : Bool) (mutations : List Mutation)
+    (least : ℕ) : Type 0
   where
     pub log : List Write
-    pub wrote : HasBrought changes before now drain log
+    pub wrote : HasBrought changes before now archives drain mutations log
     pub says : SaysFirst log mutations
     pub meanwhile : LeavesOnly moment since before now
         (λ image. NoChances log image → RestoresLines r mutations 0 image)

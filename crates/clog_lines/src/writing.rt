@@ -9,6 +9,7 @@ ghost use Rattle.clog_words.specs.declared.request.ApplyOptions.{ApplyOptions};
 ghost use Rattle.path_core.specs.Keys.{first_offset};
 ghost use Rattle.clog_crash.specs.Log.{Write};
 ghost use Rattle.clog_store.specs.Life.{Lives};
+ghost use Rattle.clog_store.specs.StoreFailed.{AllStay};
 ghost use Rattle.clog_store.specs.StoreState.{store_over};
 ghost use Rattle.clog_layout.specs.Laid.{end_behind};
 ghost use Rattle.clog_lines.specs.Written.{
@@ -36,7 +37,8 @@ use std::alloc::Global;
 ///
 /// Where it is refused, the first of the lines may have been appended, and the last of these in
 /// part; with `drain` perhaps all of them, with the first of the table files, and perhaps the first
-/// of the segments have gone.
+/// of the segments have gone, in order. Each file that was there stands as it was, whatever is
+/// answered.
 pub fn write_lines<D: Disk>(
     alloc: Global,
     store: Store<D>,
@@ -63,9 +65,12 @@ pub fn write_lines<D: Disk>(
         → D.files store.notes.log.disk ≡ Some opened
         → D.lasted_at store.notes.log.disk store.notes.log.opened
         → LeavesLines D.changes D.moment D.since D.leaves store.notes.log.disk result.0
-        (bytes_at opened) drain mutations (least_of result.1 mutations) }
-    ensures wrote { (log : List Write)
-        × HasBrought D.changes store.notes.log.disk result.0 drain log }
+        (bytes_at opened) store.archives drain mutations (least_of result.1 mutations) }
+    ensures wrote { (mutations : List Mutation) → AreLaidFor store.notes.sizes mutations notes.items
+        → (log : List Write) × HasBrought D.changes store.notes.log.disk result.0 store.archives
+        drain mutations log }
+    ensures stay { (opened now : Files) → D.files store.notes.log.disk ≡ Some opened
+        → D.files result.0 ≡ Some now → AllStay opened now }
     ensures told { SameTold (D.files store.notes.log.disk) (D.files result.0) }
     ensures later { IsLater D.moment D.read_at D.lasted_at store.notes.log.disk result.0 }
     ensures cause { HasWriteCause (D.faults store.notes.log.disk) (D.faults result.0) result.1 }

@@ -13,7 +13,14 @@ returns c sizes opened after later log deeds history e = record {
       e.places e.notes;
   some = an_entry later log.base log.past log.id log.sections log.logged history e.grown e.stored
       e.places e.notes;
-  order = in_order sizes opened after later log deeds history e;
+  order = in_order sizes later log deeds history (record {
+    grown = e.grown;
+    ordered = e.ordered;
+    stored = e.stored;
+    places = e.places;
+    in_log = e.in_log;
+    notes = e.notes;
+  });
   dropped_exactly = exactly sizes opened after later log deeds history e;
   segments = segments sizes opened after later log deeds history e;
   no_other = no_other sizes opened after later log deeds history e;

@@ -1,9 +1,16 @@
-use Rattle.std.proofs.Common.{◌≡◌, ℕ, List, Option, inl, inr, sym, subst, ap, ◌∙◌}
+use Rattle.std.proofs.Common.{◌≡◌, ℕ, Bool, List, Option, inl, inr, sym, subst, ap, ◌∙◌}
 use Rattle.clog_base.specs.declared.sizes.Sizes.{Sizes}
-use Rattle.clog_disk.specs.Files.{Files, SameTold}
+use Rattle.clog_disk.specs.Files.{Files, SameTold, bytes_at}
+use Rattle.clog_crash.specs.Log.{Write}
 use Rattle.path_core.specs.declared.note.EntryNote.{EntryNote}
 use Rattle.path_core.specs.Keys.{first_offset}
-use Rattle.clog_lines.specs.Written.{AreLaidFor, HasWriteCause, least_of}
+use Rattle.clog_lines.specs.Written.{
+  AreLaidFor,
+  HasBrought,
+  HasWriteCause,
+  LeavesLines,
+  least_of,
+}
 use Rattle.clog_engine.specs.declared.status.Status.{Status}
 use Rattle.clog_engine.specs.Apply.{Applies, ApplyRefuses, KeepsAll}
 use Rattle.clog_engine.specs.Outside.{outside_with}
@@ -17,6 +24,7 @@ use Rattle.clog_engine.proofs.Opened.{
   ended_applies,
   keeps_all,
   lasts_first,
+  others,
   told_then,
   turns_run,
   unchanged_on,
@@ -86,14 +94,23 @@ returns-in-Ok-report_of-clause-applies g c left left_now f h bytes taken sized =
     c.in-Ok.ensures.gives.restored is (λ then made files_are changes_are.
     c.write_lines-disk.ensures.written options ms then made asked laid_there files_are
     changes_are) in
+    let archives : store.archives ≡ options.archive = ap (λ s. s.archives) opening.over in
     let lasts = lasts_first g.D.Disk g.C.Clock left left_now f h start looked at only still opened
     c.now_ms.result store.notes.base opening.opens opening.any_moment opening.recovers now
-    options.drain ms (least_of outcome ms)
-    (λ then files_are first is_first lasting. c.write_lines-disk.ensures.shown ms then laid_there
-    files_are (opening.lasted first is_first lasting)) in
+    options ms (least_of outcome ms)
+    (λ then files_are first is_first lasting.
+    subst (λ (x : Bool). LeavesLines g.D.Disk.changes g.D.Disk.moment g.D.Disk.since
+    g.D.Disk.leaves opened now (bytes_at then) x options.drain ms (least_of outcome ms)) archives
+    (c.write_lines-disk.ensures.shown ms then laid_there files_are
+    (opening.lasted first is_first lasting))) in
     let has_written = wrote g.D.Disk g.C.Clock left left_now f h start looked at only still opened
     c.now_ms.result store.notes.base opening.opens opening.any_moment opening.recovers now
-    options.drain c.write_lines-disk.ensures.wrote in
+    options ms (subst (λ (x : Bool). (log : List Write)
+    × HasBrought g.D.Disk.changes opened now x options.drain ms log) archives
+    (c.write_lines-disk.ensures.wrote ms laid_there)) in
+    let stays = others g.D.Disk g.C.Clock left left_now f h start looked at only still opened
+    c.now_ms.result store.notes.base opening.opens opening.any_moment opening.recovers now
+    c.write_lines-disk.ensures.told c.write_lines-disk.ensures.stay in
     subst (Applies options o) (sym c.ended.ensures)
     (ended_applies outcome options o report bytes ms taken sized (record {
       sizes = c.args.sizes;
@@ -103,7 +120,7 @@ returns-in-Ok-report_of-clause-applies g c left left_now f h bytes taken sized =
       base = store.notes.base;
       cells = c.in-Ok.cells;
       text = is;
-    }) run has_written lasts
+    }) run has_written stays lasts
     (subst (λ (n : ℕ). HasWriteCause n (g.D.Disk.faults now) outcome)
     (opening.quiet ∙ c.in-Ok.ensures.quiet) c.write_lines-disk.ensures.cause)
     (told_then (g.D.Disk.files start) (g.D.Disk.files opened) (g.D.Disk.files now)

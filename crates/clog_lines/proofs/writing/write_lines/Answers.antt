@@ -32,18 +32,20 @@ returns-clause-shown g c mutations opened out is lasted =
     let drain = c.args.drain in
     let code = g.row.D.coded.code in
     subst (λ (d : g.row.D.Denot). LeavesLines D.changes D.moment D.since D.leaves
-    a.notes.log.disk d (bytes_at opened) drain mutations (least_of r mutations)) (sym told.disk)
+    a.notes.log.disk d (bytes_at opened) a.archives drain mutations (least_of r mutations))
+    (sym told.disk)
     (shown_of D.files D.changes D.moment D.faults D.since D.leaves D.read_at D.lasted_at code
     g.met.D.Disk.tells_both g.met.D.Disk.reads_now a b c.requires.fresh c.requires.runs
     asked.first notes drain told.notes asked.lives c.requires.lives told.opened told.stored
     mutations opened out is lasted
     (brought_of D.files D.changes D.moment D.faults D.since D.leaves D.read_at D.lasted_at code
     g.met.D.Disk.tells_both g.met.D.Disk.reads_now a b c.requires.fresh c.requires.runs
-    asked.first notes drain told.grown told.alone r asked.logs asked.refused)
+    asked.first notes drain told.alone told.ordered told.notes told.sound mutations out r
+    asked.logs asked.refused)
     r asked.logs asked.refused)
 
 pub returns-clause-wrote : goal.returns-clause-wrote
-returns-clause-wrote g c =
+returns-clause-wrote g c mutations out =
     let D = g.D.Disk in
     let a = c.args.store in
     let b = c.log_notes-outcome.new.store in
@@ -54,10 +56,17 @@ returns-clause-wrote g c =
     let drain = c.args.drain in
     let has = brought_of D.files D.changes D.moment D.faults D.since D.leaves D.read_at D.lasted_at
     g.row.D.coded.code g.met.D.Disk.tells_both g.met.D.Disk.reads_now a b c.requires.fresh
-    c.requires.runs asked.first notes drain told.grown told.alone r asked.logs asked.refused in
-    subst (λ (d : g.row.D.Denot).
-    (log : List Write) × HasBrought D.changes a.notes.log.disk d drain log) (sym told.disk)
-    (_, has)
+    c.requires.runs asked.first notes drain told.alone told.ordered told.notes told.sound mutations
+    out r asked.logs asked.refused in
+    subst (λ (d : g.row.D.Denot). (log : List Write) × HasBrought D.changes a.notes.log.disk d
+    a.archives drain mutations log) (sym told.disk) (_, has)
+
+pub returns-clause-stay : goal.returns-clause-stay
+returns-clause-stay g c opened now is is_now =
+    let D = g.D.Disk in
+    let first = c.log_notes-outcome.ensures.first
+    ∙ ap (λ (s : StoreState g.row.D.Denot). s.first) c.requires.fresh in
+    c.into_disk.ensures.stay opened now (ap D.files first ∙ is) is_now
 
 pub returns-clause-told : goal.returns-clause-told
 returns-clause-told g c =
