@@ -25,8 +25,9 @@ use Rattle.std.proofs.Common.{
 }
 use Rattle.std.specs.Prelude.{◌↔◌, ◌⊎◌, ◌<◌, ◌^◌, Bool, Contains, option_map}
 use Rattle.std.proofs.lemmas.List.Elements.{Contains-push_cases}
+use Rattle.clog_spec.specs.Names.{segment_name_of}
 use Rattle.clog_disk.specs.Files.{Files, bytes_at}
-use Rattle.clog_disk.specs.Images.{IsImage, IsLater, LastsAll}
+use Rattle.clog_disk.specs.Images.{IsImage, IsLater, Lasts, LastsAll}
 use Rattle.clog_scan.specs.Cut.{Section}
 use Rattle.clog_crash.specs.Log.{Write}
 use Rattle.clog_crash.specs.Readings.{Reading}
@@ -77,6 +78,8 @@ module _ {D : Type 0} (files : D → Option Files) (moment : D → ℕ)
         (subst (λ (l : List Write). Contains l w) none_past among);
     stored = subst (IsStored id) (sym none) end.stored;
     ends = λ runs. subst (λ (l : List Section). HasEnd (files disk) id 0 l) (sym none) end;
+    here = λ runs some all. absurd (let no = ap (λ (l : List Section). length l) none in
+        omega (arith, no, some));
     lives = λ lasted.
         subst (λ (ps : List Write). Living ps sections) (sym none_past)
         (subst (λ (l : List Section). Living [] l) (sym none)
@@ -103,6 +106,8 @@ module _ {D : Type 0} (files : D → Option Files) (moment : D → ℕ)
       → IsLater moment read_at lasted_at s.disk disk → synced ≤ length sections
       → IsStored s.id sections
       → (stopped ≡ false → HasEnd (files disk) s.id size_now sections)
+      → (stopped ≡ false → 0 < length sections → synced ≡ length sections
+      → Lasts (files disk) (leaves disk) (segment_name_of 6 s.id))
       → (Lives files moment since leaves read_at lasted_at s
       → LivesOn files moment since leaves read_at lasted_at s (record s {
         disk = disk;
@@ -116,15 +121,18 @@ module _ {D : Type 0} (files : D → Option Files) (moment : D → ℕ)
         synced = synced;
         is_stopped = stopped;
       }) size_now
-  begun_on s size disk sections synced stopped size_now begun later few stored ends on = record {
-    began = omega (arith, begun.began, later.no_sooner);
-    few = few;
-    past_below = begun.past_below;
-    past_stored = begun.past_stored;
-    stored = stored;
-    ends = ends;
-    lives = λ lasted. (on (begun.lives ((later.lasted_then s.opened begun.began).0 lasted))).lives;
-  }
+  begun_on s size disk sections synced stopped size_now begun later few stored ends here on =
+      record {
+        began = omega (arith, begun.began, later.no_sooner);
+        few = few;
+        past_below = begun.past_below;
+        past_stored = begun.past_stored;
+        stored = stored;
+        ends = ends;
+        here = here;
+        lives = λ lasted.
+            (on (begun.lives ((later.lasted_then s.opened begun.began).0 lasted))).lives;
+      }
 
   -- it goes on in a further segment
   pub begun_rolled : (s : State D) (size next : ℕ) (past : List Write) (sections : List Section)
@@ -157,6 +165,8 @@ module _ {D : Type 0} (files : D → Option Files) (moment : D → ℕ)
     ];
     stored = subst (IsStored next) (sym none) fresh.stored;
     ends = λ still. subst (λ (l : List Section). HasEnd (files s.disk) next 0 l) (sym none) fresh;
+    here = λ still some all. absurd (let no = ap (λ (l : List Section). length l) none in
+        omega (arith, no, some));
     lives = λ lasted. (on (begun.lives lasted)).lives;
   }
     where
@@ -193,5 +203,7 @@ module _ {D : Type 0} (files : D → Option Files) (moment : D → ℕ)
         subst (λ (l : List Section). HasEnd (files s.disk) next size l) (sym none)
         (subst (λ (k : ℕ). HasEnd (files s.disk) next k []) (sym empty)
         (end_rolled (files s.disk) s.id next size s.sections over limit end));
+    here = λ still some all. absurd (let no = ap (λ (l : List Section). length l) none in
+        omega (arith, no, some));
     lives = λ lasted. (on (begun.lives lasted)).lives;
   }

@@ -2,6 +2,7 @@ mod AllGo
 mod Anywhere
 mod Begun
 mod Beside
+mod BothTables
 mod Changed
 mod Cuts
 mod DroppedLists
@@ -74,3 +75,4 @@ mod StoreLetGo
 mod StorePuts
 mod TableLogs
 mod Untouched
+mod WrongOrders

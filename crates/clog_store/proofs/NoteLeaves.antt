@@ -362,8 +362,8 @@ module _ {D : Type 0} (files : D → Option Files) (changes : D → Option (List
             leaves_more a b adds.still_told beside fits (ap (λ (s : State D). s.past) torn)
             (ap (λ (s : State D). s.id) torn)
             (some_more a b section (ap (λ (s : State D). s.sections) torn))
-            (writes_kept changes {T = T} a b section bytes (Err Stopped) (inr torn) adds.adds runs fits
-            low few spelled filled)
+            (writes_kept changes {T = T} a b section bytes (Err Stopped) (inr torn) adds.adds runs
+            fits low few spelled filled)
       ]
 
   pub leaves_settled : {T : Type 0} (a b : State D) (result : Result T StoreFault)
@@ -382,7 +382,8 @@ module _ {D : Type 0} (files : D → Option Files) (changes : D → Option (List
   -- a further segment is entered: all sections of this one last, and then the log goes on
   pub leaves_entered : {T : Type 0} (a mid b rolled : State D) (result : Result T StoreFault)
       → mid.is_stopped ≡ false → files mid.disk ≡ files a.disk
-      → changes mid.disk ≡ changes a.disk → mid.past ≡ a.past → mid.id ≡ a.id → mid.sections ≡ a.sections
+      → changes mid.disk ≡ changes a.disk → mid.past ≡ a.past → mid.id ≡ a.id
+      → mid.sections ≡ a.sections
       → ReadsAs (files a.disk) (segment_name_of 6 a.id) (segment_bytes a.id a.sections)
       → rolled.disk ≡ mid.disk
       → rolled.past ≡ past_with mid.past mid.id mid.sections

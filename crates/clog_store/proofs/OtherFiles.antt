@@ -28,7 +28,7 @@ use Rattle.std.proofs.lemmas.List.{nil_from_length}
 use Rattle.std.specs.FinMap as finmap
 use Rattle.clog_spec.specs.Names.{segment_name_of, IsTableName}
 use Rattle.clog_disk.specs.Files.{Files, SameTold, PutsAt, bytes_at, with_at}
-use Rattle.clog_disk.specs.Images.{IsImage, IsLater, LeavesOnly}
+use Rattle.clog_disk.specs.Images.{IsImage, IsLater, Lasts, LeavesOnly}
 use Rattle.clog_disk.proofs.Named.{gone_there, put_there}
 use Rattle.clog_scan.specs.Cut.{Section}
 use Rattle.clog_table.specs.declared.table_file.TableFile.{TableFile}
@@ -159,10 +159,13 @@ module _ {D : Type 0} (files : D → Option Files) (moment : D → ℕ)
       → RestsAt (files new) (leaves new) r s.past at (take s.synced s.sections)
       (drop s.synced s.sections))
       → (HasEnd (files s.disk) s.id size s.sections → HasEnd (files new) s.id size s.sections)
+      → (Lasts (files s.disk) (leaves s.disk) (segment_name_of 6 s.id)
+      → Lasts (files new) (leaves new) (segment_name_of 6 s.id))
       → Begun (record s { disk = new }) × (Living s → LivingOn (record s { disk = new }))
-  passed same end = (
+  passed same end still = (
     begun_on files moment since leaves read_at lasted_at s size new s.sections s.synced
-        s.is_stopped size begun later begun.few begun.stored (λ going. end (begun.ends going)) on,
+        s.is_stopped size begun later begun.few begun.stored (λ going. end (begun.ends going))
+        (λ going some all. still (begun.here going some all)) on,
     on,
   )
     where
@@ -176,7 +179,8 @@ module _ {D : Type 0} (files : D → Option Files) (moment : D → ℕ)
       × (Living s → LivingOn (record s { disk = new; is_stopped = true }))
   broken = (
     begun_on files moment since leaves read_at lasted_at s size new s.sections s.synced true size
-        begun later begun.few begun.stored (λ going. absurd (true≢false going)) on,
+        begun later begun.few begun.stored (λ going. absurd (true≢false going))
+        (λ going. absurd (true≢false going)) on,
     on,
   )
     where

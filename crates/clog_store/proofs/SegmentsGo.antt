@@ -26,7 +26,7 @@ use Rattle.std.proofs.Common.{
   inr,
   arith,
 }
-use Rattle.std.specs.Prelude.{◌⊎◌, Bool, true, false, Result, Err, option_map}
+use Rattle.std.specs.Prelude.{Bool, true, false, Result, Err, option_map}
 use Rattle.std.proofs.lemmas.List.{take-append-drop}
 use Rattle.std.proofs.lemmas.List.Elements.{Contains-append_left, Contains-append_right}
 use Rattle.std.specs.FinMap as finmap
@@ -35,13 +35,14 @@ use Rattle.clog_base.proofs.Members.{further, here}
 use Rattle.clog_disk.specs.declared.disk.DiskFault.{DiskFault}
 use Rattle.clog_disk.specs.declared.disk.DiskFault.TheVariants.{Failed, OutOfMemory}
 use Rattle.clog_disk.specs.Files.{Files, SameTold}
-use Rattle.clog_disk.specs.Images.{IsImage, IsLater, LeavesOnly}
+use Rattle.clog_disk.specs.Images.{IsImage, IsLater, Lasts, LeavesOnly}
 use Rattle.clog_disk.proofs.Named.{gone_there}
 use Rattle.clog_scan.specs.Cut.{Section}
 use Rattle.clog_crash.specs.Flush.{IsCovered}
 use Rattle.clog_crash.specs.Log.{Write}
 use Rattle.clog_crash.specs.Readings.{Reading}
 use Rattle.clog_crash.proofs.changes.Names.{one_id}
+use Rattle.clog_store.specs.Beside.{ImagesBut, IsOfGone}
 use Rattle.clog_store.specs.Discards.{
   MayAllGo,
   all_gone_at,
@@ -73,12 +74,6 @@ not_failed result is memory failed =
     cc
 
 -- ---- the files
-
--- the name is that of one of these segments, or its archive name
-abbrev pub IsOfGone : ℕ → List ℕ → List ℕ → Type 0
-IsOfGone base ordinals name =
-    (o : ℕ) × Contains ordinals o
-    × ((name ≡ segment_name_of 6 (base + o)) ⊎ (name ≡ archive_name_of (base + o)))
 
 named_else : (is_named : Bool) (id : ℕ) (f : Files) (name : List ℕ)
     → (name ≡ archive_name_of id → ⊥)
@@ -151,6 +146,24 @@ end_by (Some f) now change id size sections old base ordinals covered else same 
     (end_aside (IsOfGone base ordinals) f (change f) id size sections (else f)
     (gone_aside base ordinals id end.stored.fits (λ o listed. (covered o listed).below)) end)
 
+-- what lasts of the segment at hand does so still
+lasts_by : (told now : Option Files) (change : Files → Files) (id : ℕ) (old : List Section)
+    (base : ℕ) (ordinals : List ℕ) (leaves later : List ℕ → Option (List ℕ) → Type 0)
+    → CoveredHere told id old base ordinals
+    → ((f : Files) → StandElse (IsOfGone base ordinals) f (change f))
+    → now ≡ option_map change told → ImagesBut (IsOfGone base ordinals) leaves later
+    → id < 2 ^ 63 → Lasts told leaves (segment_name_of 6 id)
+    → Lasts now later (segment_name_of 6 id)
+lasts_by None now change id old base ordinals leaves later covered else same elsewhere fits was =
+    subst (λ (o : Option Files). Lasts o later (segment_name_of 6 id)) (sym same) tt
+lasts_by (Some f) now change id old base ordinals leaves later covered else same elsewhere fits
+    was =
+    let own = segment_name_of 6 id in
+    let aside = gone_aside base ordinals id fits (λ o listed. (covered o listed).below) id
+    (omega arith) fits in
+    subst (λ (o : Option Files). Lasts o later own) (sym same)
+    (λ left is. was left (elsewhere own left aside is) ∙ sym (else f own aside))
+
 -- segments that may go may do so wherever the log may go on
 go_wherever : (told : Option Files) (leaves : List ℕ → Option (List ℕ) → Type 0) (r : Reading)
     (past : List Write) (id size : ℕ) (sections : List Section) (synced : ℕ)
@@ -182,7 +195,8 @@ module _ {D : Type 0} (files : D → Option Files) (moment : D → ℕ)
     (covered : CoveredHere (files s.disk) s.id (take s.synced s.sections) base ordinals)
     (any_moment : (r : Reading) (past : List Write) (last : ℕ) (old kept : List Section)
     → MayAllGo (files s.disk) (leaves s.disk) r past last old kept base ordinals
-    → LeavesOnly moment since s.disk new (ShowsBehind r past last old kept)) where
+    → LeavesOnly moment since s.disk new (ShowsBehind r past last old kept))
+    (elsewhere : ImagesBut (IsOfGone base ordinals) (leaves s.disk) (leaves new)) where
   abbrev old : List Section
   old = take s.synced s.sections
 
@@ -224,6 +238,8 @@ module _ {D : Type 0} (files : D → Option Files) (moment : D → ℕ)
       (goes r s.past at old kept (may at on r rests)))
       (end_by (files s.disk) (files new) change s.id size s.sections old base ordinals covered
       else same)
+      (lasts_by (files s.disk) (files new) change s.id old base ordinals (leaves s.disk)
+      (leaves new) covered else same elsewhere begun.stored.fits)
 
   pub all_went : ((r : Reading) (past : List Write) (last : ℕ) (old kept : List Section)
       → MayAllGo (files s.disk) (leaves s.disk) r past last old kept base ordinals

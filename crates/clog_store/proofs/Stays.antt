@@ -22,7 +22,11 @@ use Rattle.std.proofs.Common.{
   subst,
 }
 use Rattle.std.specs.Prelude.{Err, Ok, OnErr, OnOk, Result, option_map}
+use Rattle.std.specs.List.{Contains}
 use Rattle.std.specs.FinMap as finmap
+use Rattle.std.proofs.lemmas.List.{take-append-drop}
+use Rattle.std.proofs.lemmas.List.Elements.{Contains-append_right}
+use Rattle.clog_base.proofs.Members.{here}
 use Rattle.clog_disk.specs.Files.{
   AppendsTo,
   Files,
@@ -34,7 +38,9 @@ use Rattle.clog_disk.specs.Files.{
   with_at,
 }
 use Rattle.clog_disk.proofs.Named.{put_there}
-use Rattle.clog_store.specs.Beside.{StayButOne}
+use Rattle.clog_disk.specs.Files.{SameTold}
+use Rattle.clog_disk.specs.Images.{Lasts, TurnsLike, TurnsTo}
+use Rattle.clog_store.specs.Beside.{ImagesButOne, StayButOne}
 use Rattle.clog_store.specs.Discards.{
   all_gone_at,
   first_gone_at,
@@ -123,3 +129,64 @@ next_named archives named base n o os rest (Some f) mid split gone =
     ap (option_map (named_at named (base + o))) gone
     ∙ ap (λ (l : List ℕ). Some (next_named_at named base l
     (all_gone_at archives base (take n os) f))) (sym split)
+
+pub in_all : (n : ℕ) (xs : List ℕ) (o : ℕ) (rest : List ℕ) → drop n xs ≡ o ∷ rest → Contains xs o
+in_all n xs o rest split =
+    subst (λ (l : List ℕ). Contains l o) (take-append-drop n xs)
+    (Contains-append_right (take n xs) (drop n xs) o
+    (subst (λ (l : List ℕ). Contains l o) (sym split) (here o rest)))
+
+-- ---- what a crash may leave
+
+pub turned : (own : List ℕ) (what : Option (List ℕ))
+    (old new : List ℕ → Option (List ℕ) → Type 0) → TurnsTo old new own what
+    → ImagesButOne own old new
+turned own what old new turns name left apart is = elim (turns name left is) [
+  | inl was ↦ was
+  | inr own ↦ absurd (apart own.0)
+]
+
+pub linked : (told : Option Files) (old new : List ℕ → Option (List ℕ) → Type 0)
+    (from to : List ℕ) → TurnsLike told old new from to → ImagesButOne to old new
+linked None old new from to turns = λ name left apart is. elim (turns name left is) [
+  | inl was ↦ was
+  | inr own ↦ absurd (apart own)
+]
+linked (Some f) old new from to turns = turned to (finmap.get f from) old new turns
+
+-- ---- what lasts under a name
+
+-- neither the file nor what a crash may leave of it has changed
+pub lasts_still : (name : List ℕ) (told now : Option Files)
+    (old new : List ℕ → Option (List ℕ) → Type 0) → SameTold told now
+    → ((f : Files) → told ≡ Some f → Told now (λ g. finmap.get g name ≡ finmap.get f name))
+    → ((left : Option (List ℕ)) → new name left → old name left) → Lasts told old name
+    → Lasts now new name
+lasts_still name None now old new same at fewer was =
+    subst (λ (o : Option Files). Lasts o new name) (sym same) tt
+lasts_still name (Some f) None old new same at fewer was = absurd same
+lasts_still name (Some f) (Some g) old new same at fewer was =
+    λ left is. was left (fewer left is) ∙ sym (at f refl)
+
+-- the files are the same
+pub lasts_same : (name : List ℕ) (told now : Option Files)
+    (old new : List ℕ → Option (List ℕ) → Type 0) → now ≡ told
+    → ((left : Option (List ℕ)) → new name left → old name left) → Lasts told old name
+    → Lasts now new name
+lasts_same name None now old new same fewer was =
+    subst (λ (o : Option Files). Lasts o new name) (sym same) tt
+lasts_same name (Some f) now old new same fewer was =
+    subst (λ (o : Option Files). Lasts o new name) (sym same) (λ left is. was left (fewer left is))
+
+at_name : (name own : List ℕ) (f : Files) (now : Option Files) → (name ≡ own → ⊥)
+    → StayIn own f now → Told now (λ g. finmap.get g name ≡ finmap.get f name)
+at_name name own f None apart same = same
+at_name name own f (Some g) apart same = same name apart
+
+-- another file has changed
+pub lasts_beside : (name own : List ℕ) (told now : Option Files)
+    (old new : List ℕ → Option (List ℕ) → Type 0) → SameTold told now → StayButOne own told now
+    → ImagesButOne own old new → (name ≡ own → ⊥) → Lasts told old name → Lasts now new name
+lasts_beside name own told now old new same others elsewhere apart was =
+    lasts_still name told now old new same (λ f is. at_name name own f now apart (others f is))
+    (λ left is. elsewhere name left apart is) was

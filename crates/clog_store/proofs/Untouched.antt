@@ -1,5 +1,6 @@
 -- A log stands while its disk is asked what leaves all files and images as they are.
 use Rattle.std.proofs.Common.{◌≡◌, ℕ, List, Option, take, drop, true, false}
+use Rattle.clog_spec.specs.Names.{segment_name_of}
 use Rattle.clog_disk.specs.Files.{Files, SameTold}
 use Rattle.clog_disk.specs.Images.{Elapses, IsImage, LeavesOnly, Unchanged}
 use Rattle.clog_crash.specs.Readings.{Reading}
@@ -10,6 +11,7 @@ use Rattle.clog_store.proofs.Kept.{rests_on, rests_show}
 use Rattle.clog_store.proofs.Lived.{same_told}
 use Rattle.clog_store.proofs.OtherFiles.{broken, passed}
 use Rattle.clog_store.proofs.Outcomes.{one_call}
+use Rattle.clog_store.proofs.Stays.{lasts_same}
 
 module _ {D : Type 0} (files : D → Option Files) (moment : D → ℕ)
     (since : D → ℕ → Files → Type 0) (leaves : D → List ℕ → Option (List ℕ) → Type 0)
@@ -53,6 +55,8 @@ module _ {D : Type 0} (files : D → Option Files) (moment : D → ℕ)
       passed files moment since leaves read_at lasted_at s size new begun runs counts told
       time.later any_moment (λ at on r was. rests at r was)
       (end_same (files s.disk) (files new) s.id size s.sections same.files)
+      (lasts_same (segment_name_of 6 s.id) (files s.disk) (files new) (leaves s.disk) (leaves new)
+      same.files (λ left is. same.images.fewer (segment_name_of 6 s.id) left is))
 
   pub failed : HasBegun files moment since leaves read_at lasted_at
       (record s { disk = new; is_stopped = true }) size

@@ -24,3 +24,4 @@ pub mod StoreFolder
 pub mod StoreOrder
 pub mod StoreState
 pub mod WorkedOrder
+pub mod WorkedTables

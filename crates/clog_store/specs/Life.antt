@@ -22,7 +22,7 @@ use Rattle.std.specs.Prelude.{
 }
 use Rattle.clog_spec.specs.Names.{segment_name_of}
 use Rattle.clog_disk.specs.Files.{Files, IsEnd, SameTold, bytes_at}
-use Rattle.clog_disk.specs.Images.{IsImage, IsLater, LeavesOnly, SinceThen}
+use Rattle.clog_disk.specs.Images.{IsImage, IsLater, Lasts, LeavesOnly, SinceThen}
 use Rattle.clog_scan.specs.Cut.{Section}
 use Rattle.clog_crash.specs.Log.{Write, HasShown, IsResting, logged_in}
 use Rattle.clog_crash.specs.Readings.{Reading}
@@ -108,6 +108,14 @@ pub record Lives {D : Type 0} (files : D → Option Files) (moment : D → ℕ)
   -- until the disk has failed
   pub rests : s.is_stopped ≡ false → RestsNow files leaves read_at lasted_at s
 
+-- Where all sections of the segment at hand last, a crash leaves of its name just what is read
+-- there, whatever lasted at the opening.
+abbrev pub LastsHere : {D : Type 0} → (D → Option Files)
+    → (D → List ℕ → Option (List ℕ) → Type 0) → State D → Type 0
+LastsHere files leaves s =
+    0 < length s.sections → s.synced ≡ length s.sections
+    → Lasts (files s.disk) (leaves s.disk) (segment_name_of 6 s.id)
+
 -- what stands from the opening on
 pub record HasBegun {D : Type 0} (files : D → Option Files) (moment : D → ℕ)
     (since : D → ℕ → Files → Type 0) (leaves : D → List ℕ → Option (List ℕ) → Type 0)
@@ -120,6 +128,7 @@ pub record HasBegun {D : Type 0} (files : D → Option Files) (moment : D → �
   pub stored : IsStored s.id s.sections
   -- until the disk has failed
   pub ends : s.is_stopped ≡ false → HasEnd (files s.disk) s.id size s.sections
+  pub here : s.is_stopped ≡ false → LastsHere files leaves s
   -- where all lasted at the opening
   pub lives : lasted_at s.disk s.opened → Lives files moment since leaves read_at lasted_at s
 

@@ -27,7 +27,7 @@ ghost use Rattle.clog_scan.specs.Cut.{Section};
 ghost use Rattle.clog_table.specs.declared.table_file.TableFile.{TableFile};
 ghost use Rattle.clog_crash.specs.Log.{Write};
 ghost use Rattle.clog_crash.specs.Readings.{Reading};
-ghost use Rattle.clog_store.specs.Beside.{StayButOne};
+ghost use Rattle.clog_store.specs.Beside.{ImagesButOne, StayButOne};
 ghost use Rattle.clog_store.specs.Coming.{MayCome, MayGo};
 ghost use Rattle.clog_store.specs.Resting.{RestsAt, ShowsBehind};
 
@@ -48,6 +48,8 @@ pub fn put_table<D: Disk>(
         (table_name_of table.0 sequence) (Some bytes.now)) }
     ensures others { StayButOne (table_name_of table.0 sequence) (D.files disk.old)
         (D.files disk.new) }
+    ensures elsewhere { ImagesButOne (table_name_of table.0 sequence) (D.leaves disk.old)
+        (D.leaves disk.new) }
     ensures adds { Adds (change.Publish (table_name_of table.0 sequence) bytes.now)
         (D.changes disk.old) (D.changes disk.new) result }
     ensures later { IsLater D.moment D.read_at D.lasted_at disk.old disk.new }
@@ -80,6 +82,8 @@ pub fn take_away<D: Disk>(disk: &mut D, segment: u64) -> Result<(), DiskFault>
         (segment_name_of 6 segment) None) }
     ensures others { StayButOne (segment_name_of 6 segment) (D.files disk.old)
         (D.files disk.new) }
+    ensures elsewhere { ImagesButOne (segment_name_of 6 segment) (D.leaves disk.old)
+        (D.leaves disk.new) }
     ensures adds { Adds (change.Remove (segment_name_of 6 segment)) (D.changes disk.old)
         (D.changes disk.new) result }
     ensures later { IsLater D.moment D.read_at D.lasted_at disk.old disk.new }

@@ -33,7 +33,13 @@ ghost use Rattle.clog_scan.specs.Cut.{Section};
 ghost use Rattle.clog_crash.specs.Folder.{IsHeld};
 ghost use Rattle.clog_crash.specs.Log.{Write};
 ghost use Rattle.clog_crash.specs.Readings.{Reading};
-ghost use Rattle.clog_store.specs.Beside.{StayButOne};
+ghost use Rattle.clog_store.specs.Beside.{
+  ImagesBut,
+  ImagesButOne,
+  IsEitherName,
+  IsOfGone,
+  StayButOne,
+};
 ghost use Rattle.clog_store.specs.Discards.{
   AllGoBy,
   AreDroppable,
@@ -88,6 +94,7 @@ fn name_archive<D: Disk>(disk: &mut D, id: u64, archives: bool) -> Result<(), Di
         ≡ option_map (named_at archives id) (D.files disk.old)) }
     ensures same { result ≢ Err failed → OnErr result (D.files disk.new ≡ D.files disk.old) }
     ensures others { StayButOne (archive_name_of id) (D.files disk.old) (D.files disk.new) }
+    ensures elsewhere { ImagesButOne (archive_name_of id) (D.leaves disk.old) (D.leaves disk.new) }
     ensures linked { OnErr result (archives ≡ true) }
     ensures changes { NamesBy archives id (D.changes disk.old) (D.changes disk.new) result }
     ensures stays { (r : Reading) (past : List Write) (last : ℕ) (old kept : List Section)
@@ -132,6 +139,8 @@ fn drop_segment<D: Disk>(
         ≡ option_map (named_at refusal.is_named (base + ordinal)) (D.files disk.old)) }
     ensures others { LeftButOne archives (base + ordinal) (D.files disk.old) (D.files disk.new)
         result }
+    ensures elsewhere { ImagesBut (IsEitherName (base + ordinal)) (D.leaves disk.old)
+        (D.leaves disk.new) }
     ensures changes { GoesBy archives (base + ordinal) (D.changes disk.old) (D.changes disk.new)
         result }
     ensures goes { (r : Reading) (past : List Write) (last : ℕ) (old kept : List Section)
@@ -190,6 +199,8 @@ pub fn drop_segments<D: Disk>(
         (D.files disk.old)) }
     ensures others { NextLeftButOne archives base ordinals.now (D.files disk.old)
         (D.files disk.new) result }
+    ensures elsewhere { ImagesBut (IsOfGone base ordinals.now) (D.leaves disk.old)
+        (D.leaves disk.new) }
     ensures changes { AllGoBy archives base ordinals.now (D.changes disk.old) (D.changes disk.new)
         result }
     ensures goes { (r : Reading) (past : List Write) (last : ℕ) (old kept : List Section)

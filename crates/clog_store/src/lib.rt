@@ -49,7 +49,7 @@ pub use next::write_section;
 pub use note_log::NoteLog;
 pub use noting::{a_note_tells_its_place, four_notes_are_three_sections, notes_are_runs};
 pub use opening::recover;
-pub use ordering::a_segment_goes_behind_its_table_file;
+pub use ordering::{a_segment_goes_behind_its_table_file, a_segment_waits_for_both_its_tables};
 pub use publishing::{Published, publish_file, what_may_be_published_is_true};
 pub use recovering::{put_recovered, take_all_recovered, take_recovered};
 pub use section_log::{DropFault, SectionLog};

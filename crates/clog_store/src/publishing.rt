@@ -15,7 +15,7 @@ ghost use Rattle.clog_crash.specs.Changes.{IsTrueOf};
 ghost use Rattle.clog_crash.specs.Log.{Write};
 ghost use Rattle.clog_crash.specs.Readings.{Reading};
 ghost use Rattle.path_core.specs.Keeper.{Holding, MayPublish, PutFile};
-ghost use Rattle.clog_store.specs.Beside.{StayButOne};
+ghost use Rattle.clog_store.specs.Beside.{ImagesButOne, StayButOne};
 ghost use Rattle.clog_store.specs.OnDisk.{IsAllOnDisk, file_on};
 ghost use Rattle.clog_store.specs.Publishes.{HasCome, IsNumbered, MayPut, file_at};
 ghost use Rattle.clog_store.specs.Resting.{RestsAt, ShowsBehind};
@@ -59,6 +59,8 @@ pub fn publish_file<D: Disk>(
     ensures quiet { OnErr result (D.changes disk.new ≡ D.changes disk.old) }
     ensures others { StayButOne (table_name_of file.table.0 sequence) (D.files disk.old)
         (D.files disk.new) }
+    ensures elsewhere { ImagesButOne (table_name_of file.table.0 sequence) (D.leaves disk.old)
+        (D.leaves disk.new) }
     ensures same { result ≢ Err failed → OnErr result (Unchanged (D.files disk.old)
         (D.files disk.new) (D.leaves disk.old) (D.leaves disk.new)) }
     ensures rests { (r : Reading) (past : List Write) (id : ℕ) (old kept : List Section)

@@ -18,6 +18,7 @@ ghost use Rattle.clog_folder.specs.Passing.{IsUntouched, TellsFault};
 ghost use Rattle.clog_store.specs.Beside.{StayButOne};
 ghost use Rattle.clog_store.specs.Life.{
   HasEnd,
+  LastsHere,
   LastsNow,
   Lives,
   LivesOn,
@@ -271,6 +272,7 @@ impl<D: Disk> SectionLog<D> {
 
     /// Gives the disk back. Where all lasted at the opening, each image since restores what the
     /// folder restored then and the first of the entries, and each image of now all that last.
+    /// Where all sections of the segment at hand last, its name does, whatever lasted then.
     pub fn into_disk(self) -> D
         ensures disk { result ≡ self.disk }
         ensures stored { IsStored self.id self.sections }
@@ -279,6 +281,7 @@ impl<D: Disk> SectionLog<D> {
             self.past self.id self.sections }
         ensures lasts { D.lasted_at result self.opened
             → LastsNow D.files D.leaves D.read_at D.lasted_at self }
+        ensures here { self.is_stopped ≡ false → LastsHere D.files D.leaves self }
     {
         self.disk
     }

@@ -5,7 +5,7 @@ ghost use Rattle.clog_spec.specs.Names.{segment_name_of};
 ghost use Rattle.clog_disk.specs.Causes.{Finds, HasDiskCause};
 ghost use Rattle.clog_disk.specs.Changes.{Adds};
 ghost use Rattle.clog_disk.specs.Files.{AppendsTo, IsEnd, SameTold};
-ghost use Rattle.clog_disk.specs.Images.{IsLater, LeavesOnly};
+ghost use Rattle.clog_disk.specs.Images.{IsLater, Lasts, LeavesOnly, SameImages};
 ghost use Rattle.clog_disk.specs.declared.change.Change.TheVariants as change;
 ghost use Rattle.clog_disk.specs.declared.disk.DiskFault.TheVariants.{
   Failed as failed,
@@ -45,6 +45,8 @@ pub fn keep_sections<D: Disk>(
         → OnOk result
         (RestsAt (D.files disk.new) (D.leaves disk.new) r past id old (kept ++ new)) }
     ensures same { result ≢ Err failed → OnErr result (D.files disk.new ≡ D.files disk.old) }
+    ensures images { result ≢ Err failed
+        → OnErr result (SameImages (D.leaves disk.old) (D.leaves disk.new)) }
     ensures refused { result ≢ Err failed → (r : Reading) (past : List Write) (at : ℕ)
         (old kept : List Section)
         → RestsAt (D.files disk.old) (D.leaves disk.old) r past at old kept
@@ -67,6 +69,8 @@ pub fn settle_sections<D: Disk>(disk: &mut D, id: u64) -> Result<(), DiskFault>
     ensures later { IsLater D.moment D.read_at D.lasted_at disk.old disk.new }
     ensures cause { HasDiskCause (D.faults disk.old) (D.faults disk.new) result }
     ensures finds { Finds (D.files disk.old) (segment_name_of 6 id) result }
+    ensures here { OnOk result (Lasts (D.files disk.old) (D.leaves disk.new)
+        (segment_name_of 6 id)) }
     ensures lasts { (r : Reading) (past : List Write) (old kept : List Section)
         → RestsAt (D.files disk.old) (D.leaves disk.old) r past id old kept
         → OnOk result

@@ -15,7 +15,7 @@ ghost use Rattle.clog_disk.specs.Images.{IsLater, LastsAll, LeavesOnly};
 ghost use Rattle.clog_folder.specs.Passing.{IsUntouched, TellsFault};
 ghost use Rattle.clog_crash.specs.Sections.{IsStored};
 ghost use Rattle.path_core.specs.Keeper.{IsFresh};
-ghost use Rattle.clog_store.specs.Life.{LastsNow, Lives, ShownSince};
+ghost use Rattle.clog_store.specs.Life.{LastsHere, LastsNow, Lives, ShownSince};
 ghost use Rattle.clog_store.specs.Opened.{
   KeepsFolder,
   LeftAlone,
@@ -225,8 +225,11 @@ impl<D: Disk> Store<D> {
     /// in order: a table file behind the log up to its end, and a segment that goes behind the
     /// table files that stand for it. Its folder holds just what the store wrote and what was there
     /// at the opening, but for the one file with which the disk has failed; each file that was
-    /// there at the opening stays. Where the store has not stopped, the disk has counted no fault since the
-    /// opening; else the count has risen, or stands at the greatest `u64`.
+    /// there at the opening stays. Where the store has not stopped and all sections of the segment
+    /// at hand last, its name does, whatever lasted at the opening.
+    ///
+    /// Where the store has not stopped, the disk has counted no fault since the opening; else the
+    /// count has risen, or stands at the greatest `u64`.
     pub fn into_disk(self) -> D
         ensures disk { result ≡ self.notes.log.disk }
         ensures opened { self.notes.log.opened ≡ D.moment self.first }
@@ -251,6 +254,8 @@ impl<D: Disk> Store<D> {
             self.notes.log.opened self.notes.log.past self.notes.log.id self.notes.log.sections }
         ensures lasts { D.lasted_at result self.notes.log.opened
             → LastsNow D.files D.leaves D.read_at D.lasted_at self.notes.log }
+        ensures here { self.notes.log.is_stopped ≡ false
+            → LastsHere D.files D.leaves self.notes.log }
     {
         self.notes.into_log().into_disk()
     }

@@ -1,12 +1,12 @@
 use Rattle.std.proofs.Common.{◌∙◌, ℕ, List, Some, sym, ap, subst}
 use Rattle.clog_spec.specs.Names.{table_name_of}
 use Rattle.clog_base.specs.declared.cell.Table.{Table}
-use Rattle.clog_store.specs.Beside.{StayButOne}
+use Rattle.clog_store.specs.Beside.{ImagesButOne, StayButOne}
 use Rattle.clog_store.specs.Resting.{ShowsBehind}
 use Rattle.clog_store.proofs.Beside.{comes_show, rests_with, rests_for_file}
 use Rattle.clog_store.proofs.Kept.{rests_show, rests_on}
 use Rattle.clog_store.proofs.Outcomes.{ok_both, err_then, one_call}
-use Rattle.clog_store.proofs.Stays.{stay_put}
+use Rattle.clog_store.proofs.Stays.{stay_put, turned}
 use Rattle.clog_store.proofs.changing.put_table.Goals as goal
 
 pub returns-clause-comes : goal.returns-clause-comes
@@ -56,3 +56,11 @@ returns-clause-others g c =
     c.table_name.ensures
     (stay_put c.table_name.result (Some c.args.bytes.now) (D.files before) (D.files after)
     c.publish.result c.publish.ensures.puts c.publish.ensures.maybe)
+
+pub returns-clause-elsewhere : goal.returns-clause-elsewhere
+returns-clause-elsewhere g c =
+    let D = g.D.Disk in
+    let before = D.leaves c.args.disk.now in
+    let after = D.leaves c.publish.new.self in
+    subst (λ (name : List ℕ). ImagesButOne name before after) c.table_name.ensures
+    (turned c.table_name.result (Some c.args.bytes.now) before after c.publish.ensures.crash)

@@ -1,10 +1,10 @@
 use Rattle.std.proofs.Common.{ℕ, List, None, subst}
-use Rattle.clog_store.specs.Beside.{StayButOne}
+use Rattle.clog_store.specs.Beside.{ImagesButOne, StayButOne}
 use Rattle.clog_store.specs.Resting.{ShowsBehind}
 use Rattle.clog_store.proofs.Beside.{goes_show, rests_without, rests_for_none}
 use Rattle.clog_store.proofs.Kept.{rests_show, rests_on}
 use Rattle.clog_store.proofs.Outcomes.{ok_both, err_then, one_call}
-use Rattle.clog_store.proofs.Stays.{stay_put}
+use Rattle.clog_store.proofs.Stays.{stay_put, turned}
 use Rattle.clog_store.proofs.changing.take_away.Goals as goal
 
 pub returns-clause-goes : goal.returns-clause-goes
@@ -48,3 +48,11 @@ returns-clause-others g c =
     c.segment_name.ensures
     (stay_put c.segment_name.result None (D.files before) (D.files after) c.remove.result
     c.remove.ensures.puts c.remove.ensures.maybe)
+
+pub returns-clause-elsewhere : goal.returns-clause-elsewhere
+returns-clause-elsewhere g c =
+    let D = g.D.Disk in
+    let before = D.leaves c.args.disk.now in
+    let after = D.leaves c.remove.new.self in
+    subst (λ (name : List ℕ). ImagesButOne name before after) c.segment_name.ensures
+    (turned c.segment_name.result None before after c.remove.ensures.crash)

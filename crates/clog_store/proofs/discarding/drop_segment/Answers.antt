@@ -95,3 +95,19 @@ returns-in-Err-take_away-clause-others g c =
       subst (λ (o : Option Files). StayButOne (segment_name_of 6 id) o now)
           c.in_default.ensures.files c.take_away.ensures.others,
     )
+
+-- ---- what a crash may leave of the other names
+
+pub returns-in-Err-clause-elsewhere : goal.returns-in-Err-clause-elsewhere
+returns-in-Err-clause-elsewhere g c name left apart is =
+    c.name_archive.ensures.elsewhere name left (λ own. apart (inr own)) is
+
+pub returns-in-Ok-clause-elsewhere : goal.returns-in-Ok-clause-elsewhere
+returns-in-Ok-clause-elsewhere g c name left apart is =
+    c.name_archive.ensures.elsewhere name left (λ own. apart (inr own))
+    (c.take_away.ensures.elsewhere name left (λ own. apart (inl own)) is)
+
+pub returns-in-Err-take_away-clause-elsewhere : goal.returns-in-Err-take_away-clause-elsewhere
+returns-in-Err-take_away-clause-elsewhere g c name left apart is =
+    c.name_archive.ensures.elsewhere name left (λ own. apart (inr own))
+    (c.take_away.ensures.elsewhere name left (λ own. apart (inl own)) is)

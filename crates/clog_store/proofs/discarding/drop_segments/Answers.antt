@@ -37,7 +37,7 @@ use Rattle.clog_store.proofs.AllGo.{
   others_there_still,
 }
 use Rattle.clog_store.proofs.Kept.{rests_show}
-use Rattle.clog_store.proofs.Stays.{next_named}
+use Rattle.clog_store.proofs.Stays.{in_all, next_named}
 use Rattle.clog_store.proofs.discarding.drop_segments.Goals as goal
 
 pub loop-done-init : goal.loop-done-init
@@ -59,6 +59,7 @@ loop-done-init g c =
       };
       gone = all_gone_none (D.files disk) c.args.archives c.args.base;
       changes = behind_none (D.changes disk) (D.changes disk) refl;
+      elsewhere = λ name left apart is. is;
       may = λ r past last old kept may. may;
       only = λ r past last old kept may.
           started D.moment D.since disk (ShowsBehind r past last old kept) (λ image left.
@@ -128,6 +129,9 @@ loop-done-preserved g c =
           (sym (take_more xs i 0 c.loop-done-test.true))
           (all_go_more c.args.archives base (take i xs) o (D.changes first) (D.changes before)
           (D.changes after) is.changes c.in-Ok.ensures.changes);
+      elsewhere = λ name left apart here.
+          is.elsewhere name left apart (c.drop_segment.ensures.elsewhere name left
+          (λ own. apart (o, in_all i xs o (drop (i + 1) xs) split, own)) here);
       may = λ r past last old kept may.
           c.in-Ok.ensures.goes r past last old kept (drop (i + 1) xs)
           (subst (MayAllGo (D.files before) (D.leaves before) r past last old kept base) split
@@ -163,3 +167,15 @@ returns-in-Err-clause-others g c =
           (drop (i + 1) xs) (D.files c.args.disk.now) (D.files c.loop-done.disk)
           (drop_more xs i 0 c.loop-done-test.true) c.loop-done.invariant.gone) its.2,
     )
+
+pub returns-in-Err-clause-elsewhere : goal.returns-in-Err-clause-elsewhere
+returns-in-Err-clause-elsewhere g c name left apart here =
+    let i = c.loop-done.done in
+    let xs = c.args.ordinals.now in
+    let o = get_or xs i 0 in
+    c.loop-done.invariant.elsewhere name left apart (c.drop_segment.ensures.elsewhere name left
+    (λ own. apart (
+      o,
+      in_all i xs o (drop (i + 1) xs) (drop_more xs i 0 c.loop-done-test.true),
+      own,
+    )) here)

@@ -5,6 +5,7 @@ use Rattle.clog_disk.specs.Images.{IsLater, LeavesOnly}
 use Rattle.clog_scan.specs.Cut.{Section}
 use Rattle.clog_crash.specs.Log.{Write}
 use Rattle.clog_crash.specs.Readings.{Reading}
+use Rattle.clog_store.specs.Beside.{ImagesBut, IsOfGone}
 use Rattle.clog_store.specs.Discards.{
   AreBehind,
   AreDroppable,
@@ -29,6 +30,7 @@ invariant-loop-done g l =
           (D.files l.fn.disk);
       changes : AreBehind (all_go_by l.archives l.base (take l.done l.ordinals))
           (D.changes l.fn.disk) (D.changes l.disk);
+      elsewhere : ImagesBut (IsOfGone l.base l.ordinals) (D.leaves l.fn.disk) (D.leaves l.disk);
       may : (r : Reading) (past : List Write) (last : ℕ) (old kept : List Section)
           → MayAllGo (D.files l.fn.disk) (D.leaves l.fn.disk) r past last old kept l.base l.ordinals
           → MayAllGo (D.files l.disk) (D.leaves l.disk) r past last old kept l.base

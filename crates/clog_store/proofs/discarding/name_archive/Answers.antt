@@ -1,13 +1,13 @@
 use Rattle.std.proofs.Common.{ℕ, List, refl, subst}
 use Rattle.clog_spec.specs.Names.{archive_name_of}
 use Rattle.clog_disk.specs.Files.{at_name}
-use Rattle.clog_store.specs.Beside.{StayButOne}
+use Rattle.clog_store.specs.Beside.{ImagesButOne, StayButOne}
 use Rattle.clog_disk.proofs.Moments.{started}
 use Rattle.clog_store.specs.Resting.{ShowsBehind}
 use Rattle.clog_store.proofs.AllGo.{all_rest, link_rests, link_shows, named_by}
 use Rattle.clog_store.proofs.Kept.{rests_show}
 use Rattle.clog_store.proofs.Outcomes.{ok_both, one_call}
-use Rattle.clog_store.proofs.Stays.{stay_put, stay_same}
+use Rattle.clog_store.proofs.Stays.{linked, stay_put, stay_same}
 use Rattle.clog_store.proofs.discarding.name_archive.Goals as goal
 
 pub returns-then-archives-clause-changes : goal.returns-then-archives-clause-changes
@@ -65,3 +65,15 @@ pub returns-clause-others : goal.returns-clause-others
 returns-clause-others g c =
     let told = g.D.Disk.files c.args.disk.now in
     stay_same (archive_name_of c.args.id) told told refl
+
+pub returns-then-archives-clause-elsewhere : goal.returns-then-archives-clause-elsewhere
+returns-then-archives-clause-elsewhere g c =
+    let D = g.D.Disk in
+    let before = D.leaves c.args.disk.now in
+    let after = D.leaves c.link.new.self in
+    subst (λ (name : List ℕ). ImagesButOne name before after) c.archive_name.ensures
+    (linked (D.files c.args.disk.now) before after c.segment_name.result c.archive_name.result
+    c.link.ensures.crash)
+
+pub returns-clause-elsewhere : goal.returns-clause-elsewhere
+returns-clause-elsewhere g c name left apart is = is

@@ -1,3 +1,5 @@
+use Rattle.std.proofs.Common.{ℕ, List, subst}
+use Rattle.clog_disk.specs.Images.{Lasts}
 use Rattle.clog_store.specs.Resting.{ShowsBehind}
 use Rattle.clog_store.proofs.Kept.{rests_show, rests_on, rests_settled}
 use Rattle.clog_store.proofs.Outcomes.{ok_then, err_then, one_call}
@@ -34,3 +36,12 @@ returns-clause-any_moment g c r past old kept rests =
     (rests_show (D.files after) (D.leaves after) r past c.args.id old kept
     (rests_on (D.files before) (D.files after) (D.leaves before) (D.leaves after) r past c.args.id
     old kept c.sync.ensures.same c.sync.ensures.crash rests))
+
+pub returns-clause-here : goal.returns-clause-here
+returns-clause-here g c =
+    let D = g.D.Disk in
+    let before = c.args.disk.now in
+    let after = c.sync.new.self in
+    ok_then c.sync.result c.sync.ensures.lasts (λ lasts.
+    subst (λ (name : List ℕ). Lasts (D.files before) (D.leaves after) name)
+    c.segment_name.ensures lasts)

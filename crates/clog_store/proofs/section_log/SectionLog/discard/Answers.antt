@@ -30,7 +30,7 @@ invariant_of-self g c =
     (all_went D.files D.moment D.since D.leaves D.read_at D.lasted_at before s.size new
     c.self.invariant c.if-self.false
     (λ image left. g.met.D.Disk.counts_now new (D.moment s.disk) image is.later.no_sooner left)
-    is.told is.later c.args.archives c.args.base xs covered is.any_moment
+    is.told is.later c.args.archives c.args.base xs covered is.any_moment is.elsewhere
     c.in-Ok.ensures.goes c.in-Ok.ensures.files).0
 
 pub invariant_of-self-in-OutOfMemory : goal.invariant_of-self-in-OutOfMemory
@@ -55,7 +55,7 @@ invariant_of-self-in-OutOfMemory g c =
     (first_went D.files D.moment D.since D.leaves D.read_at D.lasted_at before s.size new
     c.self.invariant c.if-self.false
     (λ image left. g.met.D.Disk.counts_now new (D.moment s.disk) image is.later.no_sooner left)
-    is.told is.later c.args.archives c.args.base xs covered is.any_moment
+    is.told is.later c.args.archives c.args.base xs covered is.any_moment is.elsewhere
     c.in-Err.halt.dropped c.in-Err.halt.is_named
     (c.in-Err.ensures.refused (not_failed (Err c.in-Err.halt.fault) refl c.in-OutOfMemory.is))
     (c.in-Err.ensures.left (not_failed (Err c.in-Err.halt.fault) refl c.in-OutOfMemory.is))).0
@@ -82,7 +82,7 @@ invariant_of-self-in-Failed g c =
     (some_went D.files D.moment D.since D.leaves D.read_at D.lasted_at before s.size new
     c.self.invariant c.if-self.false
     (λ image left. g.met.D.Disk.counts_now new (D.moment s.disk) image is.later.no_sooner left)
-    is.told is.later c.args.archives c.args.base xs covered is.any_moment).0
+    is.told is.later c.args.archives c.args.base xs covered is.any_moment is.elsewhere).0
 
 -- ---- that it lives on
 
@@ -115,7 +115,7 @@ returns-in-Ok-clause-lives g c lives =
     ((all_went D.files D.moment D.since D.leaves D.read_at D.lasted_at before s.size new
     c.self.invariant c.if-self.false
     (λ image left. g.met.D.Disk.counts_now new (D.moment s.disk) image is.later.no_sooner left)
-    is.told is.later c.args.archives c.args.base xs covered is.any_moment
+    is.told is.later c.args.archives c.args.base xs covered is.any_moment is.elsewhere
     c.in-Ok.ensures.goes c.in-Ok.ensures.files).1
     (subst (Lives D.files D.moment D.since D.leaves D.read_at D.lasted_at) (sym c.self.view_is)
     lives))
@@ -143,7 +143,7 @@ returns-in-OutOfMemory-clause-lives g c lives =
     ((first_went D.files D.moment D.since D.leaves D.read_at D.lasted_at before s.size new
     c.self.invariant c.if-self.false
     (λ image left. g.met.D.Disk.counts_now new (D.moment s.disk) image is.later.no_sooner left)
-    is.told is.later c.args.archives c.args.base xs covered is.any_moment
+    is.told is.later c.args.archives c.args.base xs covered is.any_moment is.elsewhere
     c.in-Err.halt.dropped c.in-Err.halt.is_named
     (c.in-Err.ensures.refused (not_failed (Err c.in-Err.halt.fault) refl c.in-OutOfMemory.is))
     (c.in-Err.ensures.left (not_failed (Err c.in-Err.halt.fault) refl c.in-OutOfMemory.is))).1
@@ -173,6 +173,6 @@ returns-in-Failed-clause-lives g c lives =
     ((some_went D.files D.moment D.since D.leaves D.read_at D.lasted_at before s.size new
     c.self.invariant c.if-self.false
     (λ image left. g.met.D.Disk.counts_now new (D.moment s.disk) image is.later.no_sooner left)
-    is.told is.later c.args.archives c.args.base xs covered is.any_moment).1
+    is.told is.later c.args.archives c.args.base xs covered is.any_moment is.elsewhere).1
     (subst (Lives D.files D.moment D.since D.leaves D.read_at D.lasted_at) (sym c.self.view_is)
     lives))

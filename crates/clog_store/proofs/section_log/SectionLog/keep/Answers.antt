@@ -25,7 +25,7 @@ use Rattle.clog_store.proofs.Ends.{end_more, end_same}
 use Rattle.clog_store.proofs.Lived.{lives_from, lives_still}
 use Rattle.clog_store.proofs.LivedCalls.{lives_kept, lives_same, lives_torn}
 use Rattle.clog_store.proofs.Outcomes.{no_failure}
-use Rattle.clog_store.proofs.Stays.{stay_same}
+use Rattle.clog_store.proofs.Stays.{lasts_same, stay_same}
 use Rattle.clog_store.proofs.section_log.SectionLog.keep.Goals as goal
 
 -- the disk is not called
@@ -213,6 +213,13 @@ invariant_of-self-in-Ok g c =
     (sym more)
     (end_more (D.files s.disk) (D.files mid) s.id s.size s.synced ss x bytes
     c.in-Ok.ensures.appends brings (c.self.invariant.ends runs)))
+    (λ runs some all. absurd (omega (
+      arith,
+      all,
+      c.self.invariant.few,
+      ap length more,
+      length-append ss (x ∷ []),
+    )))
     (λ lived. subst (λ (l : List Section). LivesOn D.files D.moment D.since D.leaves D.read_at
     D.lasted_at before (record before { disk = mid; sections = l })) (sym more)
     (lives_kept D.files D.moment D.since D.leaves D.read_at D.lasted_at before mid c.if-self.false
@@ -257,6 +264,15 @@ invariant_of-self-in-Err-OutOfMemory g c =
     (no_failure c.keep_sections.result c.in-Err-OutOfMemory.is
     c.in-Err-OutOfMemory.field-0-is (λ other. c.keep_sections.ensures.same other))
     (c.self.invariant.ends runs)))
+    (λ runs some all. lasts_same (segment_name_of 6 s.id) (D.files s.disk) (D.files mid)
+    (D.leaves s.disk) (D.leaves mid)
+    (no_failure c.keep_sections.result c.in-Err-OutOfMemory.is
+    c.in-Err-OutOfMemory.field-0-is (λ other. c.keep_sections.ensures.same other))
+    (λ left is. (no_failure c.keep_sections.result c.in-Err-OutOfMemory.is
+    c.in-Err-OutOfMemory.field-0-is (λ other. c.keep_sections.ensures.images other)).fewer
+    (segment_name_of 6 s.id) left is)
+    (c.self.invariant.here runs (omega (arith, some, ap length back))
+    (omega (arith, all, ap length back))))
     (λ lived. subst (λ (l : List Section). LivesOn D.files D.moment D.since D.leaves D.read_at
     D.lasted_at before (record before { disk = mid; sections = l })) (sym back)
     (lives_same D.files D.moment D.since D.leaves D.read_at D.lasted_at before mid c.if-self.false
@@ -295,7 +311,7 @@ invariant_of-self-in-Err-Failed g c =
     c.push.new.self.items s.synced true s.size c.self.invariant c.keep_sections.ensures.later
     (omega (arith, c.self.invariant.few, ap length more, length-append ss (x ∷ [])))
     (subst (IsStored s.id) (sym more) (stored_more s.id s.synced ss x c.args.bytes.now brings))
-    (λ runs. absurd (true≢false runs))
+    (λ runs. absurd (true≢false runs)) (λ runs. absurd (true≢false runs))
     (λ lived. subst (λ (l : List Section). LivesOn D.files D.moment D.since D.leaves D.read_at
     D.lasted_at before (record before { disk = mid; sections = l; is_stopped = true })) (sym more)
     (lives_torn D.files D.moment D.since D.leaves D.read_at D.lasted_at before mid c.if-self.false

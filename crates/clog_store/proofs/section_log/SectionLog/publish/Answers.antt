@@ -1,6 +1,6 @@
-use Rattle.std.proofs.Common.{ℕ, Some, take, drop, refl, sym, subst}
+use Rattle.std.proofs.Common.{ℕ, Some, take, drop, refl, sym, subst, arith}
 use Rattle.std.specs.Prelude.{IfSome}
-use Rattle.clog_spec.specs.Names.{table_name_of}
+use Rattle.clog_spec.specs.Names.{segment_name_of, table_name_of}
 use Rattle.clog_crash.specs.Readings.{Reading}
 use Rattle.clog_store.specs.Life.{Lives, MayGoOnIn, State}
 use Rattle.clog_store.specs.Publishes.{IsTrueHere, MayPut, file_at}
@@ -9,6 +9,7 @@ use Rattle.clog_store.proofs.Ends.{end_same}
 use Rattle.clog_store.proofs.Lived.{lives_from, lives_still}
 use Rattle.clog_store.proofs.OtherFiles.{broken, end_beside, passed, put_wherever, table_aside}
 use Rattle.clog_store.proofs.Outcomes.{no_failure}
+use Rattle.clog_store.proofs.Stays.{lasts_beside, lasts_same}
 use Rattle.clog_store.proofs.section_log.SectionLog.publish.Goals as goal
 
 -- ---- what it keeps
@@ -57,7 +58,16 @@ invariant_of-self g c =
       table_fits = c.requires.numbered.writable.table;
       sequence_starts = c.requires.numbered.starts;
       sequence_fits = c.requires.numbered.fits;
-    })))).0
+    })))
+    (lasts_beside (segment_name_of 6 s.id) (table_name_of c.args.file.table.0 c.args.sequence)
+    (D.files s.disk) (D.files new) (D.leaves s.disk) (D.leaves new) is.told is.others is.elsewhere
+    (table_aside s.id (table_name_of c.args.file.table.0 c.args.sequence) c.args.file.table.0
+    c.args.sequence (record {
+      form = refl;
+      table_fits = c.requires.numbered.writable.table;
+      sequence_starts = c.requires.numbered.starts;
+      sequence_fits = c.requires.numbered.fits;
+    }) s.id (omega arith) c.self.invariant.stored.fits))).0
 
 pub invariant_of-self-in-Err-OutOfMemory : goal.invariant_of-self-in-Err-OutOfMemory
 invariant_of-self-in-Err-OutOfMemory g c =
@@ -97,7 +107,13 @@ invariant_of-self-in-Err-OutOfMemory g c =
     (take s.synced ss) (drop s.synced ss) rests))
     (end_same (D.files s.disk) (D.files new) s.id s.size ss
     (no_failure c.publish_file.result c.in-Err-OutOfMemory.is c.in-Err-OutOfMemory.field-0-is
-    (λ other. is.same other)).files)).0
+    (λ other. is.same other)).files)
+    (lasts_same (segment_name_of 6 s.id) (D.files s.disk) (D.files new) (D.leaves s.disk)
+    (D.leaves new)
+    (no_failure c.publish_file.result c.in-Err-OutOfMemory.is c.in-Err-OutOfMemory.field-0-is
+    (λ other. is.same other)).files (λ left at.
+    (no_failure c.publish_file.result c.in-Err-OutOfMemory.is c.in-Err-OutOfMemory.field-0-is
+    (λ other. is.same other)).images.fewer (segment_name_of 6 s.id) left at))).0
 
 pub invariant_of-self-in-Err-Failed : goal.invariant_of-self-in-Err-Failed
 invariant_of-self-in-Err-Failed g c =
@@ -186,7 +202,16 @@ returns-in-Ok-clause-lives g c lives =
       table_fits = c.requires.numbered.writable.table;
       sequence_starts = c.requires.numbered.starts;
       sequence_fits = c.requires.numbered.fits;
-    })))).1
+    })))
+    (lasts_beside (segment_name_of 6 s.id) (table_name_of c.args.file.table.0 c.args.sequence)
+    (D.files s.disk) (D.files new) (D.leaves s.disk) (D.leaves new) is.told is.others is.elsewhere
+    (table_aside s.id (table_name_of c.args.file.table.0 c.args.sequence) c.args.file.table.0
+    c.args.sequence (record {
+      form = refl;
+      table_fits = c.requires.numbered.writable.table;
+      sequence_starts = c.requires.numbered.starts;
+      sequence_fits = c.requires.numbered.fits;
+    }) s.id (omega arith) c.self.invariant.stored.fits))).1
     (subst (Lives D.files D.moment D.since D.leaves D.read_at D.lasted_at) (sym c.self.view_is)
     lives))
 
@@ -229,7 +254,13 @@ returns-in-Err-OutOfMemory-clause-lives g c lives =
     (take s.synced ss) (drop s.synced ss) rests))
     (end_same (D.files s.disk) (D.files new) s.id s.size ss
     (no_failure c.publish_file.result c.in-Err-OutOfMemory.is c.in-Err-OutOfMemory.field-0-is
-    (λ other. is.same other)).files)).1
+    (λ other. is.same other)).files)
+    (lasts_same (segment_name_of 6 s.id) (D.files s.disk) (D.files new) (D.leaves s.disk)
+    (D.leaves new)
+    (no_failure c.publish_file.result c.in-Err-OutOfMemory.is c.in-Err-OutOfMemory.field-0-is
+    (λ other. is.same other)).files (λ left at.
+    (no_failure c.publish_file.result c.in-Err-OutOfMemory.is c.in-Err-OutOfMemory.field-0-is
+    (λ other. is.same other)).images.fewer (segment_name_of 6 s.id) left at))).1
     (subst (Lives D.files D.moment D.since D.leaves D.read_at D.lasted_at) (sym c.self.view_is)
     lives))
 

@@ -1,7 +1,9 @@
-use Rattle.std.proofs.Common.{◌<◌, ◌∙◌, ℕ, length, take, drop, true, sym, subst, arith}
+use Rattle.std.proofs.Common.{◌<◌, ◌∙◌, ℕ, Option, length, take, drop, true, sym, subst, arith}
 use Rattle.std.proofs.lemmas.Bool.{true≢false}
 use Rattle.std.proofs.lemmas.Bool.Decides.{nat_tests}
-use Rattle.clog_disk.specs.Images.{LeavesOnly}
+use Rattle.clog_spec.specs.Names.{segment_name_of}
+use Rattle.clog_disk.specs.Files.{Files}
+use Rattle.clog_disk.specs.Images.{Lasts, LeavesOnly}
 use Rattle.clog_crash.specs.Readings.{Reading}
 use Rattle.clog_store.specs.Life.{Lives, LivesOn, State}
 use Rattle.clog_store.specs.Resting.{RestsAt, ShowsBehind}
@@ -175,6 +177,8 @@ invariant_of-self g c =
     (omega (arith, len)) c.self.invariant.stored
     (λ runs. end_same (D.files s.disk) (D.files new) s.id s.size ss
     c.settle_sections.ensures.same (c.self.invariant.ends runs))
+    (λ runs least all. subst (λ (o : Option Files). Lasts o (D.leaves new) (segment_name_of 6 s.id))
+    (sym c.settle_sections.ensures.same) c.in-Ok.ensures.here)
     (λ lived. subst (λ (k : ℕ). LivesOn D.files D.moment D.since D.leaves D.read_at D.lasted_at
     before
     (record before { disk = new; synced = k })) (sym len)
@@ -218,6 +222,10 @@ invariant_of-self-in-Err-OutOfMemory g c =
     c.self.invariant.few c.self.invariant.stored
     (λ runs. end_same (D.files s.disk) (D.files new) s.id s.size ss
     c.settle_sections.ensures.same (c.self.invariant.ends runs))
+    (λ runs least all. absurd (
+    let apart = c.if-self-len.false in
+    let len = c.len.ensures ∙ s.sections.ok.0 in
+    grind (arith, nat_tests)))
     (λ lived. lives_same D.files D.moment D.since D.leaves D.read_at D.lasted_at before new
     c.if-self.false lived
     (λ image left. g.met.D.Disk.counts_now new (D.moment s.disk) image
@@ -260,7 +268,7 @@ invariant_of-self-in-Err-Failed g c =
     grind (arith, nat_tests) in
     begun_on D.files D.moment D.since D.leaves D.read_at D.lasted_at before s.size new ss
     s.synced true s.size c.self.invariant c.settle_sections.ensures.later c.self.invariant.few
-    c.self.invariant.stored (λ runs. absurd (true≢false runs))
+    c.self.invariant.stored (λ runs. absurd (true≢false runs)) (λ runs. absurd (true≢false runs))
     (λ lived. lives_stopped D.files D.moment D.since D.leaves D.read_at D.lasted_at before new
     c.if-self.false lived
     (λ image left. g.met.D.Disk.counts_now new (D.moment s.disk) image
