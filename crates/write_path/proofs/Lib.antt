@@ -11,4 +11,6 @@ pub mod Accounted
 pub mod Outcomes
 pub mod SyncLists
 pub mod OnlyFirst
+pub mod Sealing
+pub mod SealedApart
 pub mod Acknowledged

@@ -1,21 +1,25 @@
-use Rattle.std.proofs.Common.{[], refl, ◌∙◌, subst}
+use Rattle.std.proofs.Common.{[], refl, ◌∙◌, subst, arith}
 use Rattle.op_core.specs.declared.count.Order.TheVariants.{Append}
 use Rattle.path_core.specs.declared.event.Event.TheVariants.{Look}
 use Rattle.path_core.specs.declared.event.Place.TheVariants.{Current}
+use Rattle.path_rule.specs.declared.answer.SyncAnswer.TheVariants.{Rows}
+use Rattle.path_rule.specs.declared.view.View.{View}
 use Rattle.path_rule.specs.SyncAnswers.{Answers}
-use Rattle.path_rule.proofs.seats.Answering.{answers_after}
+use Rattle.path_rule.proofs.seats.Answering.{answers_after, full_answers}
 use Rattle.path_rule.proofs.seats.RoundsGo.{one, next, from}
 use Rattle.path_rule.proofs.table.PathTable.new_round.Goals as goal
 
 pub returns-then-seek_current-eq-LAST_GROUP-clause-answer :
     goal.returns-then-seek_current-eq-LAST_GROUP-clause-answer
 returns-then-seek_current-eq-LAST_GROUP-clause-answer g c =
-    let P = c.progress-member in let S = c.seek_current in record {
-      puts = [];
-      steps = from c.args.member.number P.result.0.number [] _ _ _ P.ensures.same.0.1
-          P.ensures.same.1 (one _ (Look _ (Current Append)) S.result _ _ refl S.ensures.step);
-      is = (refl, refl);
-    }
+    let P = c.progress-member in let S = c.seek_current in
+    let opened = c.args.self.now.size.at_open in
+    subst (λ (v : View). Answers c.args.member.number opened v (Rows 65536) S.new.member.seat.me.0)
+    P.ensures.same.1
+    (subst (λ w. Answers w opened P.result.0.seat.me.0 (Rows 65536) S.new.member.seat.me.0)
+    P.ensures.same.0.1
+    (full_answers P.result.0.number opened S.result _ _
+    (let is = c.if-seek_current-eq-LAST_GROUP.true in omega arith) S.ensures.step))
 
 pub returns-in_default-clause-answer : goal.returns-in_default-clause-answer
 returns-in_default-clause-answer g c =
