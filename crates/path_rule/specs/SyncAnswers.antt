@@ -29,6 +29,7 @@ use Rattle.path_core.specs.declared.keeper.KeeperFault.TheVariants.{
 }
 use Rattle.path_core.specs.declared.seat.LastMarker.{LastMarker}
 use Rattle.path_core.specs.declared.seat.SyncTurn.{SyncTurn}
+use Rattle.path_core.specs.Holders.{behind_last}
 use Rattle.path_core.specs.Keeper.{HasRisen}
 use Rattle.path_core.specs.Parts.{found_of}
 use Rattle.path_rule.specs.declared.answer.SyncAnswer.{SyncAnswer}
@@ -66,13 +67,23 @@ said_by (Err KeeperOutOfMemory) = OutOfMemory
 abbrev pub AtMost : Event → List Event → Type 0
 AtMost e puts = (puts ≡ []) ⊎ (puts ≡ e ∷ [])
 
+-- A marker wants a barrier: the last one has none, or the seat found the log key above the one at
+-- which the log went on behind it, so an entry was claimed since.
+abbrev pub WantsBarrier : View → Type 0
+WantsBarrier v =
+    ((by start : ℕ) × (v.hands.progress.marker
+    ≡ Some (record { by = by; start = start; barrier = None })))
+    ⊎ ((key : ℕ) × (v.part.found.log ≡ Some key)
+    × (behind_last v.size.capacity v.hands.progress.marker < key))
+
 -- The seat found the last group of the append order that there is a word for current, and the
--- barrier of a further marker wants the next one: so many were made.
+-- barrier of a marker wants the next one: so many were made.
 pub record HasNoGroup (n : ℕ) (v : View) : Type 0 where
   pub last : ℕ
   pub found : (found_of Append v.part).current ≡ Some last
   pub next : suc last ≡ n
   pub all : n ≡ group_rows
+  pub wanted : WantsBarrier v
 
 -- What is so behind an answer, where `opened` is the count of faults at the keeper's opening, and
 -- the seat put these cursors. Done: all that the seat wrote ends at or below the synced key that it
@@ -112,3 +123,10 @@ MayAnswer w opened v None after = RoundSteps w [] v after
 abbrev pub IsDoneBy : ℕ → ℕ → Option SyncAnswer → Type 0
 IsDoneBy upto found (Some answer) = (upto ≤ found) × (answer ≡ Done found)
 IsDoneBy upto found None = found < upto
+
+-- A log key that was found answers a sync, where no group is left for a further barrier: Rows where
+-- an entry was claimed since the last marker, and else nothing yet.
+abbrev pub IsFullBy : ℕ → Option LastMarker → ℕ → Option SyncAnswer → Type 0
+IsFullBy capacity marker key (Some answer) =
+    (answer ≡ Rows group_rows) × (behind_last capacity marker < key)
+IsFullBy capacity marker key None = key ≤ behind_last capacity marker

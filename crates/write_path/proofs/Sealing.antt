@@ -122,8 +122,8 @@ found_behind w n at value (t ∷ ts) us A last F = ⊎_elim
     (found_behind w n at value ts us A.1 last older)) F
 
 -- The same over the views before the steps and behind them.
-module _ (w : ℕ) (n : EntryNote) (puts : List Event) (v after : View) (S : RoundSteps w puts v after)
-    (last : IsLast n (map event_of v.trail)) where
+module _ (w : ℕ) (n : EntryNote) (puts : List Event) (v after : View)
+    (S : RoundSteps w puts v after) (last : IsLast n (map event_of v.trail)) where
   pub stays_last : IsLast n (map event_of after.trail)
   stays_last = subst (λ l. IsLast n (map event_of l)) (sym S.trail)
       (rounds_keep w n S.steps v.trail S.are last)

@@ -52,7 +52,12 @@ use Rattle.path_core.proofs.log.KeepsNotedOnce.{keeps_noted}
 use Rattle.path_core.proofs.log.KeepsNotes.{not_noted, own_range}
 use Rattle.path_core.proofs.log.KeepsOwned.{claims_were, claims_stay, ClaimedNow}
 use Rattle.path_core.proofs.log.LogGrows.{claimed_above, synced_grows}
-use Rattle.path_core.proofs.log.MarkerSteps.{barred_start, last_marker_stays, last_marker_claimed, last_marker_barred}
+use Rattle.path_core.proofs.log.MarkerSteps.{
+  barred_start,
+  last_marker_stays,
+  last_marker_claimed,
+  last_marker_barred,
+}
 use Rattle.path_core.proofs.log.OwnNotes.{notes_stay}
 use Rattle.path_core.specs.Parts.{kept_of, last_kept}
 use Rattle.path_rule.specs.Kept.{IsDepositedTo, MayBeKept}

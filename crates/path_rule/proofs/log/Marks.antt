@@ -1,5 +1,31 @@
 -- Where a marker starts: it stays there, the log goes on behind it, and no entry stands in it.
-use Rattle.std.proofs.Common.{◌≡◌, ◌≢◌, ◌⊎◌, ℕ, zero, suc, ◌+◌, ◌-◌, ◌<◌, ◌≤◌, cond, Bool, true, false, ◌∷◌, [], length, refl, sym, ap, ◌∙◌, subst, arith, eq-eqb, ne_eqb}
+use Rattle.std.proofs.Common.{
+  ◌≡◌,
+  ◌≢◌,
+  ◌⊎◌,
+  ℕ,
+  zero,
+  suc,
+  ◌+◌,
+  ◌-◌,
+  ◌<◌,
+  ◌≤◌,
+  cond,
+  Bool,
+  true,
+  false,
+  ◌∷◌,
+  [],
+  length,
+  refl,
+  sym,
+  ap,
+  ◌∙◌,
+  subst,
+  arith,
+  eq-eqb,
+  ne_eqb,
+}
 use Rattle.std.specs.List.{Contains}
 use Rattle.std.proofs.lemmas.Bool.{false≢true}
 use Rattle.std.proofs.lemmas.List.{get_or_default}
@@ -25,7 +51,14 @@ use Rattle.path_core.specs.Keys.{
   next_segment,
 }
 use Rattle.path_core.specs.Lawful.{IsLawfulPath}
-use Rattle.path_core.specs.LawfulLog.{ClaimsTile, StandsAt, claim_in, entry_claim, key_before, key_behind}
+use Rattle.path_core.specs.LawfulLog.{
+  ClaimsTile,
+  StandsAt,
+  claim_in,
+  entry_claim,
+  key_before,
+  key_behind,
+}
 use Rattle.path_core.specs.Next.{next_of, claim_of, barred_marker}
 use Rattle.path_core.specs.Parts.{no_claim, is_marker, is_marker_kind}
 use Rattle.path_core.specs.Steps.{HasMarkerAt}

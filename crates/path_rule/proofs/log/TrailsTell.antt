@@ -1,5 +1,20 @@
 -- What trails tell stays so at each step, and a further step of the seat tells the like.
-use Rattle.std.proofs.Common.{◌≡◌, ℕ, ◌<◌, ◌≤◌, Bool, List, [], ◌∷◌, sym, ap, ◌∙◌, subst, ⊎_elim, arith}
+use Rattle.std.proofs.Common.{
+  ◌≡◌,
+  ℕ,
+  ◌<◌,
+  ◌≤◌,
+  Bool,
+  List,
+  [],
+  ◌∷◌,
+  sym,
+  ap,
+  ◌∙◌,
+  subst,
+  ⊎_elim,
+  arith,
+}
 use Rattle.std.proofs.lemmas.Option.{same_Some}
 use mathlib.Core.Option.{some, some-ne-none}
 use lib.ListN.{get_elem?}
@@ -167,7 +182,8 @@ module _ (capacity : ℕ) (x : PathState) (L : IsLawfulPath x) (fits : x.capacit
     new_past e a ts T = tt
 
     pub tells_more : (filed : Bool) (ts : List OwnStep) → TrailTells capacity x ts
-        → TrailTells capacity (next_of x e) (record { event = e; found = found; filed = filed } ∷ ts)
+        → TrailTells capacity (next_of x e)
+        (record { event = e; found = found; filed = filed } ∷ ts)
     tells_more filed ts T = let S = tells_still ts T in record {
       synced = λ key F. ⊎_elim (λ now. new_synced e a N same key now) (λ old. S.synced key old) F;
       stopped = λ n F above. ⊎_elim (λ now. new_stopped e same n now)

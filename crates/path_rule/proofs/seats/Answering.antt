@@ -46,13 +46,15 @@ use Rattle.path_core.specs.declared.event.Event.TheVariants.{
   Put,
 }
 use Rattle.path_core.specs.declared.event.Place.{Place}
-use Rattle.path_core.specs.declared.event.Place.TheVariants.{Current, CursorWord}
+use Rattle.path_core.specs.declared.event.Place.TheVariants.{Current, CursorWord, Log}
 use Rattle.path_core.specs.declared.keeper.KeeperFault.{KeeperFault}
 use Rattle.path_core.specs.declared.keeper.KeeperFault.TheVariants.{
   Stopped as KeeperStopped,
   OutOfMemory as KeeperOutOfMemory,
 }
 use Rattle.path_core.specs.declared.seat.Found.{Found}
+use Rattle.path_core.specs.declared.seat.LastMarker.{LastMarker}
+use Rattle.path_core.specs.Holders.{behind_last}
 use Rattle.path_core.specs.Keeper.{HasRisen}
 use Rattle.path_core.specs.Parts.{found_of}
 use Rattle.path_rule.specs.declared.answer.SyncAnswer.{SyncAnswer}
@@ -63,6 +65,7 @@ use Rattle.path_rule.specs.declared.answer.SyncAnswer.TheVariants.{
   Rows,
 }
 use Rattle.path_rule.specs.declared.view.OwnStep.{OwnStep}
+use Rattle.path_rule.specs.declared.view.PathSize.{PathSize}
 use Rattle.path_rule.specs.declared.view.View.{View}
 use Rattle.path_rule.specs.declared.waiting.Passed.{Passed}
 use Rattle.path_rule.specs.declared.waiting.Passed.TheVariants.{Rows as NoRows}
@@ -71,7 +74,15 @@ use Rattle.path_rule.specs.Finds.{Finds}
 use Rattle.path_rule.specs.Layout.{group_rows}
 use Rattle.path_rule.specs.Passes.{MatchPassed}
 use Rattle.path_rule.specs.Rounds.{RoundSteps, EndsBelow, WroteBelow, IsAtRest}
-use Rattle.path_rule.specs.SyncAnswers.{FoundNow, IsAnswer, Answers, MayAnswer, said_by}
+use Rattle.path_rule.specs.SyncAnswers.{
+  FoundNow,
+  WantsBarrier,
+  IsAnswer,
+  Answers,
+  MayAnswer,
+  IsFullBy,
+  said_by,
+}
 use Rattle.path_rule.specs.SyncEnd.{HasSynced, EndsSync, TellsFaults}
 use Rattle.path_rule.proofs.seats.RoundsGo.{one, one_as, both, renamed, still_wrote}
 
@@ -132,33 +143,47 @@ answers_after w opened a v u after S A = record {
       (λ at n F. found_after at n A.steps.steps S.steps F) A.now;
 }
 
+wants_still : (u after : View) → after.part.found ≡ u.part.found → after.size ≡ u.size
+    → after.hands.progress.marker ≡ u.hands.progress.marker → WantsBarrier u → WantsBarrier after
+wants_still u after same size marker W = ⊎_elim
+    (λ waits. inl (waits.0, waits.1, marker ∙ waits.2))
+    (λ since. inr (
+      since.0,
+      ap (λ (f : Found). f.log) same ∙ since.1,
+      subst (λ (q : PathSize × Option LastMarker). behind_last q.0.capacity q.1 < since.0)
+          (λ i. (sym size i, sym marker i)) since.2,
+    )) W
+
 is_still : (w opened : ℕ) (a : SyncAnswer) (ps : List Event) (u after : View)
-    → RoundSteps w [] u after → after.part.found ≡ u.part.found → IsAnswer w opened a ps u
+    → RoundSteps w [] u after → after.part.found ≡ u.part.found
+    → after.hands.progress.marker ≡ u.hands.progress.marker → IsAnswer w opened a ps u
     → IsAnswer w opened a ps after
-is_still w opened (Done s) ps u after S same I = (
+is_still w opened (Done s) ps u after S same marker I = (
   ap (λ (f : Found). f.synced) same ∙ I.0,
   still_wrote w s [] u after S I.1,
   I.2,
 )
-is_still w opened (Stopped at_open now) ps u after S same I =
+is_still w opened (Stopped at_open now) ps u after S same marker I =
     (I.0, I.1, ap (λ (f : Found). f.stopped) same ∙ I.2, I.3)
-is_still w opened OutOfMemory ps u after S same I = I
-is_still w opened (Rows n) ps u after S same I = (
+is_still w opened OutOfMemory ps u after S same marker I = I
+is_still w opened (Rows n) ps u after S same marker I = (
   record {
     last = I.0.last;
     found = ap (λ (f : Found). f.append.current) same ∙ I.0.found;
     next = I.0.next;
     all = I.0.all;
+    wanted = wants_still u after same S.size marker I.0.wanted;
   },
   I.1,
 )
 
 pub answers_still : (w opened : ℕ) (a : SyncAnswer) (v u after : View) → Answers w opened v a u
-    → RoundSteps w [] u after → after.part.found ≡ u.part.found → Answers w opened v a after
-answers_still w opened a v u after A S same = record {
+    → RoundSteps w [] u after → after.part.found ≡ u.part.found
+    → after.hands.progress.marker ≡ u.hands.progress.marker → Answers w opened v a after
+answers_still w opened a v u after A S same marker = record {
   puts = A.puts;
   steps = both w A.puts [] v u after A.steps S;
-  is = is_still w opened a A.puts u after S same A.is;
+  is = is_still w opened a A.puts u after S same marker A.is;
   now = now_by a A.steps.steps (S.steps ++ A.steps.steps)
       (λ at n F. found_before at n S.steps A.steps.steps F) A.now;
 }
@@ -263,10 +288,11 @@ pub rows_of : (P Q : ℕ → Type 0) (passed : Passed) (n : ℕ) → passed ≡ 
     → MatchPassed passed P Q → Q n
 rows_of P Q passed n is M = subst (λ p. MatchPassed p P Q) is M
 
--- the last group that there is a word for was found current
-pub full_answers : (w opened group : ℕ) (v after : View) → suc group ≡ group_rows
+-- the last group that there is a word for was found current, and a marker waits for its barrier
+pub waiting_answers : (w opened by start group : ℕ) (v after : View) → suc group ≡ group_rows
+    → v.hands.progress.marker ≡ Some (record { by = by; start = start; barrier = None })
     → Did v w (Look w (Current Append)) group after → Answers w opened v (Rows group_rows) after
-full_answers w opened group v after last D = record {
+waiting_answers w opened by start group v after last waits D = record {
   puts = [];
   steps = one w (Look w (Current Append)) group v after refl D;
   is = (
@@ -275,11 +301,48 @@ full_answers w opened group v after last D = record {
       found = ap (λ (u : View). (found_of Append u.part).current) D.view;
       next = last;
       all = refl;
+      wanted = inl (by, start, ap (λ (u : View). u.hands.progress.marker) D.view ∙ waits);
     },
     refl,
   );
   now = (group, last, inl (refl, refl));
 }
+
+-- or an entry was claimed since the last marker
+pub full_answers : (w opened group key : ℕ) (a : Option SyncAnswer) (v u after : View)
+    → suc group ≡ group_rows → Did v w (Look w (Current Append)) group u
+    → Did u w (Look w Log) key after → IsFullBy v.size.capacity v.hands.progress.marker key a
+    → MayAnswer w opened v a after
+full_answers w opened group key None v u after last D E F =
+    both w [] [] v u after (one w (Look w (Current Append)) group v u refl D)
+    (one w (Look w Log) key u after refl E)
+full_answers w opened group key (Some a) v u after last D E F =
+    subst (λ (x : SyncAnswer). Answers w opened v x after) (sym F.0) (record {
+      puts = [];
+      steps = both w [] [] v u after (one w (Look w (Current Append)) group v u refl D)
+          (one w (Look w Log) key u after refl E);
+      is = (
+        record {
+          last = group;
+          found = ap (λ (x : View). (found_of Append x.part).current) E.view
+              ∙ ap (λ (x : View). (found_of Append x.part).current) D.view;
+          next = last;
+          all = refl;
+          wanted = inr (
+            key,
+            ap (λ (x : View). x.part.found.log) E.view,
+            subst (λ (q : ℕ × Option LastMarker). behind_last q.0 q.1 < key) (λ i. (
+              sym (ap (λ (x : View). x.size.capacity) E.view
+                  ∙ ap (λ (x : View). x.size.capacity) D.view) i,
+              sym (ap (λ (x : View). x.hands.progress.marker) E.view
+                  ∙ ap (λ (x : View). x.hands.progress.marker) D.view) i,
+            )) F.1,
+          );
+        },
+        refl,
+      );
+      now = (group, last, inr (inl (refl, refl)));
+    })
 
 pub may_after : (w opened : ℕ) (a : Option SyncAnswer) (v u after : View) → RoundSteps w [] v u
     → MayAnswer w opened u a after → MayAnswer w opened v a after
@@ -288,9 +351,10 @@ may_after w opened None v u after S A = both w [] [] v u after S A
 
 pub may_still : (w opened : ℕ) (a : Option SyncAnswer) (v u after : View)
     → MayAnswer w opened v a u → RoundSteps w [] u after → after.part.found ≡ u.part.found
-    → MayAnswer w opened v a after
-may_still w opened (Some a) v u after A S same = answers_still w opened a v u after A S same
-may_still w opened None v u after A S same = both w [] [] v u after A S
+    → after.hands.progress.marker ≡ u.hands.progress.marker → MayAnswer w opened v a after
+may_still w opened (Some a) v u after A S same marker =
+    answers_still w opened a v u after A S same marker
+may_still w opened None v u after A S same marker = both w [] [] v u after A S
 
 -- a seat at rest is so behind an answer
 pub may_rest : (w opened : ℕ) (a : Option SyncAnswer) (v after : View)
