@@ -13,4 +13,5 @@ pub mod SyncLists
 pub mod OnlyFirst
 pub mod Sealing
 pub mod SealedApart
+pub mod SealedRows
 pub mod Acknowledged

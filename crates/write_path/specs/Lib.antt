@@ -3,6 +3,7 @@ pub mod Tries
 pub mod Writes
 pub mod Ends
 pub mod Sealed
+pub mod SealedRows
 pub mod Opened
 pub mod Closed
 pub mod Turned
