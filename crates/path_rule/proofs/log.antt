@@ -1,5 +1,7 @@
 -- The log: the last marker, and what is pending up to it.
 pub mod BuiltSteps
 pub mod Lending
+pub mod Marks
+pub mod TrailsTell
 pub mod KeptStays
 pub mod OwnWrites

@@ -4,6 +4,8 @@ pub mod Lasts
 pub mod Kept
 pub mod Boxes
 pub mod Boxed
+pub mod Finds
+pub mod Trails
 pub mod Rule
 pub mod HandsAfter
 pub mod Turns

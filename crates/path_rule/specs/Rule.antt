@@ -53,6 +53,7 @@ use Rattle.path_rule.specs.Boxed.{Boxed}
 use Rattle.path_rule.specs.Boxes.{boxes}
 use Rattle.path_rule.specs.Kept.{MayBeKept}
 use Rattle.path_rule.specs.Lasts.{shown, none_lasting}
+use Rattle.path_rule.specs.Trails.{ViewTells}
 use Rattle.path_rule.specs.Layout.{
   word_at,
   IsWord,
@@ -223,6 +224,8 @@ pub record Ruled {K : Type 0} (shows : K → Lasting) (o : Beside) (size : PathS
   -- each view shows its seat's part and steps
   pub each_seat : (j : ℕ) (v : View) → get_elem? s.views j ≡ some v
       → IsSized size v × Knows core events owner made boss j v.role v.part v.trail v.returned
+  -- and tells what is so of the state
+  pub tells : (j : ℕ) (v : View) → get_elem? s.views j ≡ some v → ViewTells size.capacity core v
 
 -- There was a lawful state, reached by steps of which the seat's own were those of its trail. In it
 -- the step e was allowed.

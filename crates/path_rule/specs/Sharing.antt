@@ -19,7 +19,8 @@ use Rattle.path_rule.specs.declared.view.Role.TheVariants.{Opener, Steps, Spent}
 use Rattle.path_rule.specs.declared.view.View.{View}
 use Rattle.path_rule.specs.Kept.{MayBeKept}
 use Rattle.path_rule.specs.Lasts.{lasting_of, none_lasting, shown}
-use Rattle.path_rule.specs.Rule.{start_of, event_of, steps_by, fresh_view, new_seat}
+use Rattle.path_rule.specs.Rule.{IsFit, start_of, event_of, steps_by, fresh_view, new_seat}
+use Rattle.path_rule.specs.Trails.{TrailTells}
 
 -- the view of the opener once it has handed out a seat, and that of the seat
 abbrev pub one_on : Role → Role
@@ -67,14 +68,16 @@ abbrev pub HasAll : ℕ → ℕ → List Returned → Type 0
 HasAll seats w returned = (z : ℕ) → z < seats
     → (z ≡ w) ⊎ ((n : ℕ) × (b : Returned) × (get_elem? returned n ≡ some b) × (b.number ≡ z))
 
--- There is one run of the machine, which ends in a lawful state with this log key, and in which
--- each seat's steps are those that it made. The keeper holds what is lasting in that state: the
+-- There is one run of the machine, of sizes within the limits, which ends in a lawful state with
+-- this log key, and in which each seat's steps are those that it made, and tell what is so of that
+-- state. The keeper holds what is lasting in that state: the
 -- entries, the synced key, what is dropped, and the count of faults with which the log is stopped,
 -- which has risen; and it may have kept the entries of a sync that was refused.
 pub record Ended (o : Beside) (size : PathSize) (returned : List Returned) (log : ℕ)
     (keeper : Holding) : Type 0 where
   pub core : PathState
   pub events : List Event
+  pub fit : IsFit size
   pub run : Past (start_of size) events core
   pub lawful : IsLawfulPath core
   pub log_is : log ≡ core.log
@@ -84,6 +87,7 @@ pub record Ended (o : Beside) (size : PathSize) (returned : List Returned) (log 
   pub risen : 0 < core.stopped → HasRisen size.at_open core.stopped
   pub each : (n : ℕ) (b : Returned) → get_elem? returned n ≡ some b
       → (b.part ≡ seat_of core b.number) × (map event_of b.trail ≡ steps_by b.number events)
+      × TrailTells size.capacity core b.trail
 
 -- No step was made: the log is at its first key, and the keeper holds that nothing is lasting.
 abbrev pub EndsUnused : Beside → PathSize → ℕ → Holding → Type 0

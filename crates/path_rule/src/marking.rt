@@ -1,6 +1,8 @@
 //! A sync's marker: whether an entry was claimed since the last one, and the claim of the next.
 //! What the seat wrote before ends at or below it.
-ghost use Rattle.std.specs.Prelude.{◌≡◌, [], false, Some, None, IsSome};
+ghost use Rattle.std.specs.Prelude.{◌≡◌, ℕ, [], false, Some, None, IsSome};
+ghost use Rattle.path_core.specs.declared.event.Event.TheVariants.{Look};
+ghost use Rattle.path_core.specs.declared.event.Place.TheVariants.{Log};
 ghost use Rattle.path_rule.specs.Calls.{MayGive};
 ghost use Rattle.path_rule.specs.Desks.{HasDesk};
 ghost use Rattle.path_rule.specs.Lasts.{shows_of};
@@ -12,13 +14,16 @@ ghost use Rattle.path_rule.specs.Members.{
   IsOf,
   IsSame,
   KeepsSizes,
+  Stepped,
 };
 ghost use Rattle.path_rule.specs.Rounds.{RoundSteps, WroteBelow};
-ghost use Rattle.path_rule.specs.SyncAnswers.{KnowsMarker, marker_start};
+ghost use Rattle.path_rule.specs.SyncAnswers.{IsFullBy, KnowsMarker, marker_start};
 
+use crate::answer::SyncAnswer;
 use crate::marker_keys::{is_entry_since, key_behind_marker};
 use crate::table::{Member, PathTable};
 use crate::view::Progress;
+use crate::words::LAST_GROUP;
 use path_core::{Keeper, LastMarker};
 use std::alloc::Allocator;
 use std::sync::Wait;
@@ -51,6 +56,28 @@ impl<K: Keeper, A: Allocator> PathTable<K, A> {
     {
         let log = self.look_log(member);
         is_entry_since(self.size.capacity, marker, log)
+    }
+
+    // What a sync is answered where the last group that there is a word for is current: `Rows`, if
+    // an entry was claimed since the last marker, so a further one wants a barrier.
+    pub(crate) fn look_full(
+        &self,
+        member: &mut Member<K>,
+        marker: Option<LastMarker>,
+    ) -> Option<SyncAnswer>
+        requires { IsOf self.now.table.shared.table_id self.now.size member.old }
+        ensures same { KeepsSizes member.old member.new }
+        ensures looked { (key : ℕ) × Stepped member.old (Look member.old.number Log) key member.new
+            × IsFullBy self.now.size.capacity marker key result }
+        ensures give { MayGive (view_of member.old) → MayGive (view_of member.new) }
+        ensures hands { hands_of member.new ≡ hands_of member.old }
+    {
+        let log = self.look_log(member);
+        if is_entry_since(self.size.capacity, marker, log) {
+            Some(SyncAnswer::Rows(LAST_GROUP + 1))
+        } else {
+            None
+        }
     }
 
     // One try to claim the next marker.

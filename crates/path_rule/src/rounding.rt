@@ -112,7 +112,8 @@ impl<K: Keeper, A: Allocator> PathTable<K, A> {
     {
         let (mut member, progress) = self.progress(member);
         if self.seek_current(&mut member, Order::Append) == LAST_GROUP {
-            return (member, Some(SyncAnswer::Rows(LAST_GROUP + 1)));
+            let answer = self.look_full(&mut member, progress.marker);
+            return (member, answer);
         }
         let (member, claimed) = self.claim_next(rt, member, progress);
         let Some(start) = claimed else {

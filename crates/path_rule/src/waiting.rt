@@ -2,7 +2,8 @@
 //! write order, and of the append order for the last marker.
 ghost use Rattle.std.specs.Prelude.{◌≡◌, ℕ, suc, ◌+◌, ◌<◌, ◌≤◌, true, []};
 ghost use Rattle.op_core.specs.declared.count.Order.TheVariants.{Write, Append};
-ghost use Rattle.path_core.specs.declared.event.Event.TheVariants.{Advance};
+ghost use Rattle.path_core.specs.declared.event.Event.TheVariants.{Advance, Look};
+ghost use Rattle.path_core.specs.declared.event.Place.TheVariants.{Current};
 ghost use Rattle.path_core.specs.declared.seat.Issue.TheVariants.{Rest};
 ghost use Rattle.path_rule.specs.Calls.{Holds, IsPast};
 ghost use Rattle.path_rule.specs.HandsAfter.{issued_hands};
@@ -133,7 +134,8 @@ impl<K: Keeper, A: Allocator> PathTable<K, A> {
 
     /// Issues the barrier of the last marker, which is the member's own and has none, and waits
     /// until it is passed: then the boxes of the groups before the current one may be gathered.
-    /// The boxes of the barrier before it have to be.
+    /// The boxes of the barrier before it have to be. After `Rows` the member only looked, and
+    /// found the last group current.
     pub fn marker_barrier<R: Wait>(&self, rt: &R, holder: Holder<K>) -> (Holder<K>, Passed)
         requires table { IsOf self.now.table.shared.table_id self.now.size holder.member }
         requires marker { (start : ℕ)
@@ -146,7 +148,9 @@ impl<K: Keeper, A: Allocator> PathTable<K, A> {
             (λ g. IsPast Append (view_of result.0.member) g
             × (hands_of result.0.member ≡ issued_hands g (hands_of holder.member)))
             (λ n. (n ≡ 65536) × TurnSaw Append (part_of result.0.member) 65535
-            × (hands_of result.0.member ≡ hands_of holder.member)) }
+            × (hands_of result.0.member ≡ hands_of holder.member)
+            × Stepped holder.member (Look holder.member.number (Current Append)) 65535
+            result.0.member) }
     {
         let Holder { mut member } = holder;
         let current = self.seek_current(&mut member, Order::Append);

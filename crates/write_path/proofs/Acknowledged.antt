@@ -1,12 +1,16 @@
 -- From a write that was logged, over the sync behind it, to what its commit answers.
-use Rattle.std.proofs.Common.{◌≡◌, ℕ, ◌≤◌, List, refl, sym, ◌∙◌, subst, arith}
+use Rattle.std.proofs.Common.{◌≡◌, ℕ, ◌≤◌, List, map, refl, sym, ap, ◌∙◌, subst, arith}
 use Rattle.std.specs.List.{Contains}
 use Rattle.clog_base.specs.Positions.{position_of}
+use Rattle.op_core.specs.declared.count.Order.TheVariants.{Append}
+use Rattle.path_core.specs.declared.event.Cursor.TheVariants.{Synced, Stopped as StoppedCursor}
+use Rattle.path_core.specs.declared.event.Place.TheVariants.{Current, CursorWord}
 use Rattle.path_core.specs.declared.note.EntryNote.{EntryNote}
 use Rattle.path_rule.specs.declared.answer.SyncAnswer.TheVariants.{Done}
 use Rattle.path_rule.specs.declared.view.OwnStep.{OwnStep}
 use Rattle.path_rule.specs.declared.view.PathSize.{PathSize}
 use Rattle.path_rule.specs.declared.view.View.{View}
+use Rattle.path_rule.specs.Rule.{event_of}
 use Rattle.sync_core.specs.declared.SyncCore.TheVariants.{Batch}
 use Rattle.write_path.specs.declared.commit.Commit.{Commit}
 use Rattle.write_path.specs.declared.commit.Commit.TheVariants.{Logged, Durable, Unsynced, Spent}
@@ -14,9 +18,10 @@ use Rattle.write_path.specs.declared.commit.Receipt.{Receipt}
 use Rattle.write_path.specs.declared.commit.SyncFault.TheVariants.{Stopped, OutOfMemory, Rows}
 use Rattle.write_path.specs.declared.prepared.Prepared.{Prepared}
 use Rattle.write_path.specs.Commits.{IsLogged}
-use Rattle.write_path.specs.Ends.{writes_of, IsListed}
+use Rattle.write_path.specs.Ends.{writes_of, IsLast, IsListed}
 use Rattle.write_path.specs.Receipts.{Acknowledges, HasReceipt, IsCommitted, IsLineOf}
 use Rattle.write_path.specs.Syncs.{CoversList}
+use Rattle.write_path.proofs.Sealing.{found_in, stays_last}
 
 -- A synced key that covers a list covers the list's newest write.
 pub reached : (w s start end tables : ℕ) (before : List OwnStep) (p : Prepared) (v : View)
@@ -26,13 +31,14 @@ reached w s start end tables before p v L covers =
     (covers L.note (subst (λ (l : List EntryNote). Contains l L.note) (sym L.list)
     (0, omega arith, refl)))
 
--- A receipt stands where the list does.
-pub stands : (base w : ℕ) (before : List OwnStep) (p : Prepared) (r x : Receipt) (v after : View)
-    → HasReceipt base w before p r v.trail → writes_of after.trail ≡ writes_of v.trail → x ≡ r
+-- A receipt stands where the list does, and the write is the seat's last.
+abbrev pub stands : (base w : ℕ) (before : List OwnStep) (p : Prepared) (r x : Receipt)
+    (v after : View) → (H : HasReceipt base w before p r v.trail)
+    → writes_of after.trail ≡ writes_of v.trail
+    → IsLast H.logged.listed.note (map event_of after.trail) → x ≡ r
     → HasReceipt base w before p x after.trail
-stands base w before p r x v after H same is =
-    let L = H.logged.listed in
-    subst (λ (y : Receipt). HasReceipt base w before p y after.trail) (sym is) (record {
+stands base w before p r x v after H same last is =
+    let L = H.logged.listed in record {
       start = H.start;
       end = H.end;
       logged = record {
@@ -40,6 +46,7 @@ stands base w before p r x v after H same is =
         listed = record {
           note = L.note;
           list = same ∙ L.list;
+          last = last;
           writer = L.writer;
           starts = L.starts;
           ends = L.ends;
@@ -47,32 +54,62 @@ stands base w before p r x v after H same is =
           of = L.of;
         };
       };
-      position = H.position;
-      line = H.line;
-    })
+      position = ap (λ (y : Receipt). y.position) is ∙ H.position;
+      line = λ sizes line m P. ap (λ (y : Receipt). y.line) is ∙ H.line sizes line m P;
+    }
 
 pub acknowledged : (size : PathSize) (w : ℕ) (before : List OwnStep) (p : Prepared) (r : Receipt)
     (c : Commit) (v after : View) → HasReceipt size.base w before p r v.trail
     → Acknowledges w size.at_open v r c after → IsCommitted Batch size w before p c after
 acknowledged size w before p r (Logged x) v after H A = absurd A
 acknowledged size w before p r (Durable x) v after H A = let S = A.1.1 in
-    let K = stands size.base w before p r x v after H S.list A.0 in (
+    let n = H.logged.listed.note in let puts = S.answers.puts in
+    let K = stands size.base w before p r x v after H S.list
+    (stays_last w n puts v after S.answers.steps H.logged.listed.last) A.0 in
+    let up = reached w A.1.0 K.start K.end K.logged.tables before p after K.logged.listed
+    S.covers in (
       K,
       record {
         synced = A.1.0;
         found = S.answers.is.0;
-        reached = reached w A.1.0 K.start K.end K.logged.tables before p after K.logged.listed
-            S.covers;
+        reached = up;
         covers = S.covers;
       },
+      (
+        A.1.0,
+        (let ends = H.logged.listed.ends in omega arith),
+        found_in w n puts v after S.answers.steps H.logged.listed.last (CursorWord Synced) A.1.0
+            S.answers.now,
+      ),
     )
 acknowledged size w before p r (Unsynced x (Stopped at_open now)) v after H A =
-    let I = A.1.answers.is in
-    (stands size.base w before p r x v after H A.1.list A.0, (I.0, I.1, I.2))
+    let S = A.1 in let n = H.logged.listed.note in let puts = S.answers.puts in
+    let I = S.answers.is in (
+      stands size.base w before p r x v after H S.list
+          (stays_last w n puts v after S.answers.steps H.logged.listed.last) A.0,
+      (I.0, I.1, I.2),
+      found_in w n puts v after S.answers.steps H.logged.listed.last (CursorWord StoppedCursor) now
+          S.answers.now,
+    )
 acknowledged size w before p r (Unsynced x OutOfMemory) v after H A =
-    (stands size.base w before p r x v after H A.1.list A.0, tt)
+    let S = A.1 in let n = H.logged.listed.note in let puts = S.answers.puts in (
+      stands size.base w before p r x v after H S.list
+          (stays_last w n puts v after S.answers.steps H.logged.listed.last) A.0,
+      tt,
+      tt,
+    )
 acknowledged size w before p r (Unsynced x (Rows n)) v after H A =
-    (stands size.base w before p r x v after H A.1.list A.0, A.1.answers.is.0)
+    let S = A.1 in let m = H.logged.listed.note in let puts = S.answers.puts in
+    let F = S.answers.now in (
+      stands size.base w before p r x v after H S.list
+          (stays_last w m puts v after S.answers.steps H.logged.listed.last) A.0,
+      S.answers.is.0,
+      (
+        F.0,
+        F.1,
+        found_in w m puts v after S.answers.steps H.logged.listed.last (Current Append) F.0 F.2,
+      ),
+    )
 acknowledged size w before p r (Spent back key) v after H A = absurd A
 
 -- A write that was logged has the receipt of its line and its end.

@@ -11,4 +11,7 @@ pub mod Accounted
 pub mod Outcomes
 pub mod SyncLists
 pub mod OnlyFirst
+pub mod Sealing
+pub mod SealedApart
+pub mod SealedRows
 pub mod Acknowledged

@@ -47,6 +47,7 @@ use Rattle.path_core.specs.declared.seat.Seat.{Seat}
 use Rattle.path_core.specs.Parts.{fresh_seat, no_claim, seat_of}
 use Rattle.path_core.proofs.frame.Runs.{past_sizes}
 use Rattle.path_core.proofs.log.History.{is_history}
+use Rattle.path_core.proofs.runs.EveryRun.{opening_lawful}
 use Rattle.path_rule.specs.declared.lasting.Beside.{Beside}
 use Rattle.path_rule.specs.declared.lasting.Lasting.{Lasting}
 use Rattle.path_rule.specs.declared.trying.PathSeat.{PathSeat}
@@ -62,6 +63,7 @@ use Rattle.path_rule.specs.Lasts.{
 use Rattle.path_rule.specs.Members.{view_of, part_of}
 use Rattle.path_rule.specs.Rule.{start_of, event_of, steps_by}
 use Rattle.path_rule.specs.Sharing.{EndsUnused}
+use Rattle.path_rule.specs.Trails.{TrailTells}
 use Rattle.write_path.specs.Closed.{
   EndsBy,
   IsOfSize,
@@ -69,11 +71,15 @@ use Rattle.write_path.specs.Closed.{
   StaysBeside,
   IsStoppedFor,
   IsSyncedFor,
+  AreStoppedFor,
+  AreSyncedFor,
   all_writes,
 }
 use Rattle.write_path.specs.Opened.{numbers_of}
+use Rattle.write_path.specs.Sealed.{AreSealedApart}
 use Rattle.write_path.proofs.Accounted.{each_once}
 use Rattle.write_path.proofs.Histories.{noted, writes_are, run_notes, by_all, all_noted}
+use Rattle.write_path.proofs.SealedApart.{sealed_apart}
 
 -- ---- where a keeper has stopped, it tells the count of a stopped log
 
@@ -136,6 +142,14 @@ module _ {K : Type 0} (size : PathSize) where
       All-cons Q s seats (each s (All-head P s seats all))
       (known_of x P Q each seats (All-tail P s seats all))
 
+  -- what holds of each seat by two things that do
+  of_both : (P Q R : PathSeat K → Type 0) → ((s : PathSeat K) → P s → Q s → R s)
+      → (seats : List (PathSeat K)) → All P seats → All Q seats → All R seats
+  of_both P Q R each [] p q = All-nil R
+  of_both P Q R each (s ∷ seats) p q =
+      All-cons R s seats (each s (All-head P s seats p) (All-head Q s seats q))
+      (of_both P Q R each seats (All-tail P s seats p) (All-tail Q s seats q))
+
   pub outcome : (o : Beside) (seats : List (PathSeat K)) (end : ℕ) (h : Holding)
       → EndsBy o size seats end h
       → IsPermutation (range_with_len 0 size.seats) (numbers_of seats)
@@ -184,6 +198,24 @@ module _ {K : Type 0} (size : PathSize) where
             (ap (λ (p : Seat). p.found.stopped) (sym is) ∙ found) some in
             stopped_by h.stopped h.faults n some
             (stops ∙ ap fault_count (sym one))) seats E.parts;
+        all_synced = known_of x
+            (λ (s : PathSeat K). TrailTells size.capacity x (view_of s.member).trail)
+            (AreSyncedFor h) (λ s T key F. let low = (T.synced key F).lasting in
+            omega (arith, low, synced)) seats E.tell;
+        all_stopped = known_of x
+            (λ (s : PathSeat K). TrailTells size.capacity x (view_of s.member).trail)
+            (AreStoppedFor h) (λ s T n F some. stopped_by h.stopped h.faults n some
+            (stops ∙ ap fault_count (sym (T.stopped n F some)))) seats E.tell;
+        apart = of_both (λ (s : PathSeat K). map event_of (view_of s.member).trail
+            ≡ steps_by s.member.number e.events)
+            (λ (s : PathSeat K). TrailTells size.capacity x (view_of s.member).trail)
+            (λ (s : PathSeat K). AreSealedApart size.capacity x.notes h.synced
+            (view_of s.member).trail)
+            (λ s own T. subst (λ k. AreSealedApart size.capacity x.notes k
+            (view_of s.member).trail) (sym synced)
+            (sealed_apart size.capacity s.member.number (start_of size) x e.events
+            (view_of s.member).trail (opening_lawful size.tables size.seats size.capacity
+            size.ordinals size.base e.fit) refl e.run z.capacity own T)) seats E.own E.tell;
         logged = subst (λ k. h.logged ≡ filter (is_at_most k) x.notes) (sym synced)
             (ap (λ (k : Lasting). k.logged) same);
         kept_to = e.kept_to;
@@ -229,6 +261,14 @@ module _ {K : Type 0} (size : PathSize) where
             (sym (no_seat seats none_there)) (All-nil (IsSyncedFor h));
         found_stopped = subst (λ (l : List (PathSeat K)). All (IsStoppedFor h) l)
             (sym (no_seat seats none_there)) (All-nil (IsStoppedFor h));
+        all_synced = subst (λ (l : List (PathSeat K)). All (AreSyncedFor h) l)
+            (sym (no_seat seats none_there)) (All-nil (AreSyncedFor h));
+        all_stopped = subst (λ (l : List (PathSeat K)). All (AreStoppedFor h) l)
+            (sym (no_seat seats none_there)) (All-nil (AreStoppedFor h));
+        apart = subst (λ (l : List (PathSeat K)). All (λ (s : PathSeat K).
+            AreSealedApart size.capacity [] h.synced (view_of s.member).trail) l)
+            (sym (no_seat seats none_there)) (All-nil (λ (s : PathSeat K).
+            AreSealedApart size.capacity [] h.synced (view_of s.member).trail));
         logged = ap (λ (k : Lasting). k.logged) same;
         kept_to = 0;
         kept = ap (λ (k : Lasting). k.kept) same;

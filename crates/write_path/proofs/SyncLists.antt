@@ -136,11 +136,13 @@ syncs w opened v a after A = record {
 -- A seat took the Sync turn, made a round of a sync, and gave the turn back.
 pub tried : (w z y opened : ℕ) (h k : Hands) (a : Option SyncAnswer) (v u x after : View)
     → DidAs v w (TakeTurn w Sync) 1 h u → z ≡ w → MayAnswer z opened u a x → y ≡ w
-    → DidAs x y (GiveTurn y Sync) 0 k after → MayAnswer w opened v a after
-tried w z y opened h k a v u x after took same A again gave =
+    → DidAs x y (GiveTurn y Sync) 0 k after → k.progress.marker ≡ x.hands.progress.marker
+    → MayAnswer w opened v a after
+tried w z y opened h k a v u x after took same A again gave marker =
     may_still w opened a v x after
     (may_after w opened a v u x (one_as w (TakeTurn w Sync) 1 h v u refl took)
     (subst (λ i. MayAnswer i opened u a x) same A))
     (subst (λ i. RoundSteps i [] x after) again
     (one_as y (GiveTurn y Sync) 0 k x after refl gave))
     (ap (λ (q : View). q.part.found) gave.view)
+    (ap (λ (q : View). q.hands.progress.marker) gave.view ∙ marker)

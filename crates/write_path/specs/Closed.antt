@@ -3,7 +3,9 @@ use Rattle.std.specs.Prelude.{◌≡◌, ℕ, ◌<◌, ◌≤◌, true, List, []
 use Rattle.std.specs.List.{All, Contains, filter, flat_map, range_with_len}
 use Rattle.std.specs.List.Sorted.{IsPermutation}
 use Rattle.atomic_table.specs.Seated.{TableId}
+use Rattle.path_core.specs.declared.event.Cursor.TheVariants.{Synced, Stopped}
 use Rattle.path_core.specs.declared.event.Event.{Event}
+use Rattle.path_core.specs.declared.event.Place.TheVariants.{CursorWord}
 use Rattle.path_core.specs.declared.note.EntryNote.{EntryNote}
 use Rattle.path_core.specs.declared.state.PathState.{PathState}
 use Rattle.path_core.specs.History.{IsHistory}
@@ -18,12 +20,15 @@ use Rattle.path_rule.specs.declared.table.Opener.{Opener}
 use Rattle.path_rule.specs.declared.trying.PathSeat.{PathSeat}
 use Rattle.path_rule.specs.declared.view.PathSize.{PathSize}
 use Rattle.path_rule.specs.declared.view.Returned.{Returned}
+use Rattle.path_rule.specs.Finds.{Finds}
 use Rattle.path_rule.specs.Lasts.{fault_count, stopped_with}
 use Rattle.path_rule.specs.Members.{view_of, part_of, IsOf, returned_of}
 use Rattle.path_rule.specs.Rule.{start_of, event_of, steps_by}
 use Rattle.path_rule.specs.Sharing.{Ended}
+use Rattle.path_rule.specs.Trails.{TrailTells}
 use Rattle.write_path.specs.declared.resting.Resting.{Resting}
 use Rattle.write_path.specs.Ends.{writes_of}
+use Rattle.write_path.specs.Sealed.{AreSealedApart}
 
 -- A path is closed with all of its seats, in whatever order, or with none where they were not
 -- handed out.
@@ -51,6 +56,9 @@ pub record EndsBy {K : Type 0} (beside : Beside) (size : PathSize) (seats : List
   pub ended : Ended beside size returned end h
   pub own : All (λ (s : PathSeat K). map event_of (view_of s.member).trail
       ≡ steps_by s.member.number ended.events) seats
+  -- and tell what is so of the state that it ended in
+  pub tell : All (λ (s : PathSeat K). TrailTells size.capacity ended.core
+      (view_of s.member).trail) seats
   -- and each seat's part is the machine's
   pub parts : All (λ (s : PathSeat K). part_of s.member
       ≡ seat_of ended.core s.member.number) seats
@@ -62,6 +70,15 @@ IsSyncedFor h s = (key : ℕ) → (part_of s.member).found.synced ≡ Some key �
 -- Where a seat last found or put that the log is stopped, the keeper has stopped, with that count.
 abbrev pub IsStoppedFor : {K : Type 0} → Holding → PathSeat K → Type 0
 IsStoppedFor h s = (n : ℕ) → (part_of s.member).found.stopped ≡ Some n → 0 < n
+    → (h.stopped ≡ true) × (h.faults ≡ n)
+
+-- The same of each synced key, and of each count, that the seat ever found or put.
+abbrev pub AreSyncedFor : {K : Type 0} → Holding → PathSeat K → Type 0
+AreSyncedFor h s =
+    (key : ℕ) → Finds (CursorWord Synced) key (view_of s.member).trail → key ≤ h.synced
+
+abbrev pub AreStoppedFor : {K : Type 0} → Holding → PathSeat K → Type 0
+AreStoppedFor h s = (n : ℕ) → Finds (CursorWord Stopped) n (view_of s.member).trail → 0 < n
     → (h.stopped ≡ true) × (h.faults ≡ n)
 
 -- The keeper that a path gives back has beside its log what the one had over which it was opened:
@@ -106,6 +123,11 @@ pub record IsOutcome {K : Type 0} (size : PathSize) (seats : List (PathSeat K)) 
   -- so it has all that a seat knows to be synced, and has stopped where a seat knows that
   pub found_synced : All (IsSyncedFor h) seats
   pub found_stopped : All (IsStoppedFor h) seats
+  pub all_synced : All (AreSyncedFor h) seats
+  pub all_stopped : All (AreStoppedFor h) seats
+  -- each write that was answered Durable stands apart from its seat's next one
+  pub apart : All (λ (s : PathSeat K). AreSealedApart size.capacity core.notes h.synced
+      (view_of s.member).trail) seats
   -- what is lasting, and what a refused sync kept above it
   pub logged : h.logged ≡ filter (is_at_most h.synced) core.notes
   pub kept_to : ℕ

@@ -1,5 +1,5 @@
 -- How a write ends, and the list of a seat's own writes.
-use Rattle.std.specs.Prelude.{◌≡◌, ℕ, ◌<◌, List, [], ◌∷◌, ◌++◌, IsTrue, Some}
+use Rattle.std.specs.Prelude.{◌≡◌, ℕ, ◌<◌, List, [], ◌∷◌, ◌++◌, map, IsTrue, Some}
 use Rattle.atomic_table.specs.Seated.{TableId}
 use Rattle.clog_base.specs.declared.cell.Table.{Table}
 use Rattle.clog_base.specs.declared.sizes.Sizes.{Sizes}
@@ -8,7 +8,8 @@ use Rattle.op_core.specs.declared.count.Order.TheVariants.{Write}
 use Rattle.path_core.specs.declared.event.Carried.TheVariants.{Deposit, Applied}
 use Rattle.path_core.specs.declared.event.Event.{Event}
 use Rattle.path_core.specs.declared.event.Cursor.TheVariants.{OldestLive}
-use Rattle.path_core.specs.declared.event.Event.TheVariants.{Look, Close}
+use Rattle.path_core.specs.declared.event.ClaimKind.TheVariants.{Entry}
+use Rattle.path_core.specs.declared.event.Event.TheVariants.{Look, Claim, Close}
 use Rattle.path_core.specs.declared.event.Place.TheVariants.{Bound, CursorWord}
 use Rattle.path_core.specs.declared.note.EntryNote.{EntryNote}
 use Rattle.path_core.specs.Allowed.{IsItsPlaces}
@@ -19,6 +20,7 @@ use Rattle.path_rule.specs.declared.view.PathSize.{PathSize}
 use Rattle.path_rule.specs.declared.view.View.{View}
 use Rattle.path_rule.specs.Calls.{Did}
 use Rattle.path_rule.specs.Members.{part_of}
+use Rattle.path_rule.specs.Rule.{event_of}
 use Rattle.write_path.specs.declared.deposited.Deposited.{Deposited}
 use Rattle.write_path.specs.declared.prepared.Prepared.{Prepared}
 use Rattle.write_path.specs.Tries.{Stays}
@@ -33,12 +35,24 @@ abbrev pub writes_of : List OwnStep → List EntryNote
 writes_of [] = []
 writes_of (t ∷ ts) = with_write t.event (writes_of ts)
 
--- The list is the old one and this write: its note is by this seat, has this range and these
--- tables, and says what was prepared.
+-- Write n is the last that these steps logged, the newest one first, and no entry was claimed
+-- since.
+abbrev pub LastBy : EntryNote → Event → Type 0 → Type 0
+LastBy n (Close by order group (Deposit note)) older = note ≡ n
+LastBy n (Claim by from to Entry) older = ⊥
+LastBy n _ older = older
+
+abbrev pub IsLast : EntryNote → List Event → Type 0
+IsLast n [] = ⊥
+IsLast n (e ∷ es) = LastBy n e (IsLast n es)
+
+-- The list is the old one and this write, the seat's last: its note is by this seat, has this range
+-- and these tables, and says what was prepared.
 pub record IsListed (before after : List OwnStep) (by start end tables : ℕ)
     (prepared : Prepared) : Type 0 where
   pub note : EntryNote
   pub list : writes_of after ≡ note ∷ writes_of before
+  pub last : IsLast note (map event_of after)
   pub writer : note.writer.0 ≡ by
   pub starts : note.start.0 ≡ start
   pub ends : note.end.0 ≡ end

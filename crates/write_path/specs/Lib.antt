@@ -2,6 +2,8 @@ pub mod Claims
 pub mod Tries
 pub mod Writes
 pub mod Ends
+pub mod Sealed
+pub mod SealedRows
 pub mod Opened
 pub mod Closed
 pub mod Turned

@@ -1,8 +1,12 @@
 -- What a commit answers, and what is so then of its seat and of the seat's list.
-use Rattle.std.specs.Prelude.{◌≡◌, ℕ, ◌≤◌, List, Some}
+use Rattle.std.specs.Prelude.{◌≡◌, ℕ, suc, ◌≤◌, List, Some}
 use Rattle.clog_base.specs.declared.sizes.Sizes.{Sizes}
 use Rattle.clog_base.specs.Positions.{position_of}
 use Rattle.clog_mutation.specs.declared.mutation.Mutation.{Mutation}
+use Rattle.op_core.specs.declared.count.Order.TheVariants.{Append}
+use Rattle.path_core.specs.declared.event.Cursor.TheVariants.{Stopped as StoppedCursor}
+use Rattle.path_core.specs.declared.event.Place.TheVariants.{Current, CursorWord}
+use Rattle.path_core.specs.declared.note.EntryNote.{EntryNote}
 use Rattle.path_core.specs.Keeper.{HasRisen}
 use Rattle.path_rule.specs.declared.answer.SyncAnswer.{SyncAnswer}
 use Rattle.path_rule.specs.declared.answer.SyncAnswer.TheVariants.{
@@ -14,6 +18,7 @@ use Rattle.path_rule.specs.declared.answer.SyncAnswer.TheVariants.{
 use Rattle.path_rule.specs.declared.view.OwnStep.{OwnStep}
 use Rattle.path_rule.specs.declared.view.PathSize.{PathSize}
 use Rattle.path_rule.specs.declared.view.View.{View}
+use Rattle.path_rule.specs.SyncAnswers.{HasNoGroup}
 use Rattle.sync_core.specs.declared.SyncCore.{SyncCore}
 use Rattle.sync_core.specs.declared.SyncCore.TheVariants.{Batch, Periodic}
 use Rattle.write_path.specs.declared.commit.Commit.{Commit}
@@ -28,6 +33,7 @@ use Rattle.write_path.specs.declared.commit.SyncFault.TheVariants.{
 use Rattle.write_path.specs.declared.prepared.Prepared.{Prepared}
 use Rattle.write_path.specs.Commits.{HasNoRoom, IsLogged}
 use Rattle.write_path.specs.Ends.{writes_of}
+use Rattle.write_path.specs.Sealed.{FoundWhileLast, IsSealed}
 use Rattle.write_path.specs.Syncs.{Syncs, CoversList}
 use Rattle.write_path.specs.Writes.{IsPrepared}
 
@@ -55,15 +61,25 @@ pub record IsDurable (end : ℕ) (v : View) : Type 0 where
   pub covers : CoversList (Done synced) v
 
 -- Why it was not synced, where `opened` is the keeper's count of faults at its opening. The seat
--- found or put the count with which the log is stopped, and it has risen.
+-- found or put the count with which the log is stopped, and it has risen; or it found the last
+-- group that there is a word for current.
 abbrev pub IsUnsynced : ℕ → SyncFault → View → Type 0
 IsUnsynced opened (LogStopped at_open now) v = (at_open ≡ opened) × HasRisen at_open now
     × (v.part.found.stopped ≡ Some now)
 IsUnsynced opened NoMemory v = Unit {0}
-IsUnsynced opened (NoRows n) v = n ≡ 65536
+IsUnsynced opened (NoRows n) v = HasNoGroup n v
 
--- What a commit by seat w answers in a mode. A write waits for a sync in batch mode alone. Spent:
--- it comes back, and the list is as it was.
+-- The seat found so, or put it there, in this commit: behind the write, which was its last.
+abbrev pub IsToldBehind : EntryNote → SyncFault → List OwnStep → Type 0
+IsToldBehind n (LogStopped at_open now) trail =
+    FoundWhileLast n (CursorWord StoppedCursor) now trail
+IsToldBehind n NoMemory trail = Unit {0}
+IsToldBehind n (NoRows groups) trail =
+    (last : ℕ) × (suc last ≡ groups) × FoundWhileLast n (Current Append) last trail
+
+-- What a commit by seat w answers in a mode. A write waits for a sync in batch mode alone. Durable:
+-- it is sealed, so a marker stands behind it before the seat's next one. Spent: it comes back, and
+-- the list is as it was.
 abbrev pub IsCommitted : SyncCore → PathSize → ℕ → List OwnStep → Prepared → Commit → View → Type 0
 IsCommitted (Periodic period) size w before p (Logged r) v =
     HasReceipt size.base w before p r v.trail
@@ -71,9 +87,11 @@ IsCommitted Batch size w before p (Logged r) v = ⊥
 IsCommitted (Periodic period) size w before p (Durable r) v = ⊥
 IsCommitted Batch size w before p (Durable r) v =
     (h : HasReceipt size.base w before p r v.trail) × IsDurable h.end v
+    × IsSealed h.logged.listed.note v.trail
 IsCommitted (Periodic period) size w before p (Unsynced r fault) v = ⊥
 IsCommitted Batch size w before p (Unsynced r fault) v =
-    HasReceipt size.base w before p r v.trail × IsUnsynced size.at_open fault v
+    (h : HasReceipt size.base w before p r v.trail) × IsUnsynced size.at_open fault v
+    × IsToldBehind h.logged.listed.note fault v.trail
 IsCommitted mode size w before p (Spent back key) v = (back ≡ p)
     × (writes_of v.trail ≡ writes_of before) × HasNoRoom size p.size key.0 v
 

@@ -91,9 +91,12 @@ impl<K: Keeper, A: Allocator> WritePath<K, A> {
     }
 
     /// Commits a write: it is logged and applied unless the log has no room for it, and in batch
-    /// mode the log is synced then. The gate is told `Started` before the write registers,
-    /// `Claimed`, `Deposited` and `Finished` once each is done, `Accepted` at each of its tables,
-    /// and `Returned` at the end. No clause says that it returns.
+    /// mode the log is synced then. `Durable` tells a synced key at or above its end that the seat
+    /// found, or put, before it claimed anything further: so a marker stands between the write and
+    /// the seat's next one. `Unsynced` tells what the seat found, or put, behind the write. The
+    /// gate is told `Started` before the write registers, `Claimed`, `Deposited` and `Finished`
+    /// once each is done, `Accepted` at each of its tables, and `Returned` at the end. No clause
+    /// says that it returns.
     pub fn commit<R: Wait, G: Gate>(
         &self,
         rt: &R,

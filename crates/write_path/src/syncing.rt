@@ -106,7 +106,9 @@ impl<K: Keeper, A: Allocator> WritePath<K, A> {
     /// another seat's sync or, where the Sync turn is found free, by a round of its own. `Done`
     /// carries the synced key, at or below which each write of the seat's list ends; `Stopped` the
     /// keeper's count of faults at its opening and the count that the log tells; after
-    /// `OutOfMemory` and `Rows` all is pending still. No clause says that it returns.
+    /// `OutOfMemory` and `Rows` all is pending still. What is answered was found, or put, at a step
+    /// of this call. `Rows` comes where the last group was found current and a marker wants a
+    /// barrier. No clause says that it returns.
     pub fn sync<R: Wait>(
         &self,
         rt: &R,

@@ -29,16 +29,14 @@ use Rattle.std.specs.List.{Contains, count_by, filter, position_or_len}
 use Rattle.std.specs.Option.{option_map}
 use Rattle.std.proofs.lemmas.Bool.{eqb-true, lt-leb, leb-true, ltb-true}
 use Rattle.std.proofs.lemmas.List.{get_or_default}
-use Rattle.std.proofs.lemmas.List.Elements.{Contains-append_left}
 use Rattle.std.proofs.lemmas.Option.{none-some, same_Some}
 use mathlib.Core.Logic.{dite, inl, inr}
 use native.Mathlib.Decide.{dec_le}
 use Rattle.op_core.specs.declared.count.Order.TheVariants.{Write, Append}
 use Rattle.path_core.specs.declared.event.Carried.TheVariants.{Deposit}
 use Rattle.path_core.specs.declared.event.ClaimKind.TheVariants.{Entry, Marker}
-use Rattle.path_core.specs.declared.event.Cursor.TheVariants.{Synced, OldestLive, Stopped}
 use Rattle.path_core.specs.declared.event.Event.{Event}
-use Rattle.path_core.specs.declared.event.Event.TheVariants.{Close, Claim, MoveCurrent, Put}
+use Rattle.path_core.specs.declared.event.Event.TheVariants.{Close, Claim, MoveCurrent}
 use Rattle.path_core.specs.declared.note.EntryNote.{EntryNote}
 use Rattle.path_core.specs.declared.seat.LastMarker.{LastMarker}
 use Rattle.path_core.specs.declared.state.Claim.{Claim as ClaimOf}
@@ -47,16 +45,14 @@ use Rattle.path_core.specs.Allowed.{IsStep}
 use Rattle.path_core.specs.Lawful.{IsLawfulPath}
 use Rattle.path_core.specs.LawfulLog.{is_note_at, is_at_most, entry_claim}
 use Rattle.path_core.specs.Next.{next_of, is_between, claim_of, barred_marker}
-use Rattle.path_core.specs.Parts.{no_claim, is_entry, is_marker, last_marker}
-use Rattle.path_core.proofs.lists.Inserted.{map_old}
+use Rattle.path_core.specs.Parts.{no_claim, is_entry, last_marker}
 use Rattle.path_core.proofs.lists.Replaced.{counted_in, counted_from}
 use Rattle.path_core.proofs.log.Between.{filter_insert}
 use Rattle.path_core.proofs.log.KeepsNotedOnce.{keeps_noted}
 use Rattle.path_core.proofs.log.KeepsNotes.{not_noted, own_range}
 use Rattle.path_core.proofs.log.KeepsOwned.{claims_were, claims_stay, ClaimedNow}
-use Rattle.path_core.proofs.log.LogGrows.{claimed_above}
+use Rattle.path_core.proofs.log.LogGrows.{claimed_above, synced_grows}
 use Rattle.path_core.proofs.log.MarkerSteps.{
-  barred_is_marker,
   barred_start,
   last_marker_stays,
   last_marker_claimed,
@@ -67,6 +63,7 @@ use Rattle.path_core.specs.Parts.{kept_of, last_kept}
 use Rattle.path_rule.specs.Kept.{IsDepositedTo, MayBeKept}
 use Rattle.path_rule.specs.declared.lasting.Beside.{Beside}
 use Rattle.path_rule.specs.Lasts.{shown}
+use Rattle.path_rule.proofs.log.Marks.{marker_stays}
 
 -- no key is above one and not above a lesser one
 between_none : (low key n : ℕ) → key ≤ low → (nat_lt low n && nat_le n key) ≡ false
@@ -111,26 +108,6 @@ module _ (x : PathState) (L : IsLawfulPath x) where
         let f = L.claims_tile_the_log.forward D.claimed.0 D.claimed.1 in
         let b = L.claims_tile_the_log.below_log D.claimed.0 D.claimed.1 in
         let s = ap (λ (c : ClaimOf). c.start) read in let k = D.start in omega arith
-
-    -- a marker at the key
-    abbrev MarkerAt : PathState → Type 0
-    MarkerAt y = (c : ClaimOf) × Contains y.claims c × IsTrue (is_marker c) × (c.start ≡ key)
-
-    marker_stays : (e : Event) → MarkerAt x → MarkerAt (next_of x e)
-    marker_stays (Claim by from to what) M = (
-      M.0,
-      Contains-append_left x.claims (claim_of x.capacity by from.0 to.0 what ∷ []) M.0 M.1,
-      M.2,
-      M.3,
-    )
-    marker_stays (MoveCurrent by Append group) M = (
-      barred_marker by x.append.current M.0,
-      map_old (barred_marker by x.append.current) x.claims M.0 M.1,
-      barred_is_marker by x.append.current M.0 ∙ M.2,
-      barred_start by x.append.current M.0 ∙ M.3,
-    )
-    marker_stays (MoveCurrent by Write group) M = M
-    marker_stays e M = M
 
     -- it is not above the last one
     not_above : (e : Event) → IsStep x e → (k : LastMarker)
@@ -181,26 +158,25 @@ module _ (x : PathState) (L : IsLawfulPath x) where
     claimed_later e a c is low = is
 
     stays_deposited : (e : Event) → IsStep x e → IsDepositedTo (next_of x e) key
-    stays_deposited e a = let M = marker_stays e (D.marker, D.claimed, D.is, D.start) in record {
-      marker = M.0;
-      claimed = M.1;
-      is = M.2;
-      start = M.3;
+    stays_deposited e a = let M = marker_stays x e key (record {
+      marker = D.marker;
+      among = D.claimed;
+      is = D.is;
+      start = D.start;
+    }) in record {
+      marker = M.marker;
+      claimed = M.among;
+      is = M.is;
+      start = M.start;
       not_above = not_above e a;
       noted = λ c h entry low. ⊎_elim
           (λ old. noted_still e a c old entry (D.noted c old entry low))
           (λ new. absurd (claimed_later e a c new low)) (claims_were x e c entry h);
     }
 
-  synced_grows : (e : Event) → IsStep x e → x.synced ≤ (next_of x e).synced
-  synced_grows (Put by Synced value) a = let l = a.row.2 in omega arith
-  synced_grows (Put by (OldestLive t) value) a = omega arith
-  synced_grows (Put by Stopped value) a = omega arith
-  synced_grows e a = omega arith
-
   pub kept_stays : (e : Event) → IsStep x e → (key : ℕ) → MayBeKept x key
       → MayBeKept (next_of x e) key
-  kept_stays e a key may = ⊎_elim (λ low. inl (let g = synced_grows e a in omega arith))
+  kept_stays e a key may = ⊎_elim (λ low. inl (let g = synced_grows x e a in omega arith))
       (λ D. inr (stays_deposited key D e a)) may
 
   -- a deposit leaves what is kept

@@ -58,7 +58,8 @@ use Rattle.path_core.specs.SeatAfter.{seat_after}
 use Rattle.path_core.specs.Whole.{CarriesWhole}
 use Rattle.path_core.specs.Words.{reading, by_of, place_of}
 use Rattle.path_core.proofs.frame.Words.{other_seat, columns, same_elsewhere, left_here}
-use Rattle.path_core.proofs.runs.EveryRun.{past_lawful, opening_lawful}
+use Rattle.path_core.proofs.frame.Runs.{past_sizes}
+use Rattle.path_core.proofs.runs.EveryRun.{keeps_lawful, past_lawful, opening_lawful}
 use Rattle.path_core.proofs.runs.Sizes.{as_many_seats}
 use Rattle.path_core.proofs.seats.Columns.{own_after, Columns}
 use Rattle.path_rule.specs.declared.lasting.Beside.{Beside}
@@ -93,14 +94,16 @@ use Rattle.path_rule.specs.Rule.{
   Was,
 }
 use Rattle.path_rule.proofs.log.BuiltSteps.{still_risen, still_unswitched}
+use Rattle.path_rule.specs.Trails.{ViewTells}
 use Rattle.path_rule.proofs.log.KeptStays.{kept_stays}
+use Rattle.path_rule.proofs.log.TrailsTell.{tells_more, view_still}
 use Rattle.path_rule.proofs.places.SamePlace.{same_place, in_rows}
 
-steps_own : (w : ℕ) (es : List Event) (e : Event) → by_of e ≡ w
+pub steps_own : (w : ℕ) (es : List Event) (e : Event) → by_of e ≡ w
     → steps_by w (e ∷ es) ≡ e ∷ steps_by w es
 steps_own w es e is = ap (λ b. cond b (e ∷ steps_by w es) (steps_by w es)) (eq-eqb (by_of e) w is)
 
-steps_other : (w : ℕ) (es : List Event) (e : Event) → by_of e ≢ w
+pub steps_other : (w : ℕ) (es : List Event) (e : Event) → by_of e ≢ w
     → steps_by w (e ∷ es) ≡ steps_by w es
 steps_other w es e n = ap (λ b. cond b (e ∷ steps_by w es) (steps_by w es)) (ne_eqb (by_of e) w n)
 
@@ -118,6 +121,9 @@ module _ {K : Type 0} (shows : K → Lasting) (o : Beside) (size : PathSize) (s 
   pub core_lawful : IsLawfulPath r.core
   core_lawful = past_lawful r.events (start_of size) r.core
       (opening_lawful size.tables size.seats size.capacity size.ordinals size.base r.fit) r.run
+
+  pub capacity_is : r.core.capacity ≡ size.capacity
+  capacity_is = (past_sizes r.events (start_of size) r.core r.run).capacity
 
   module _ (id w : ℕ) (v : View) (at : get_elem? s.views id ≡ some v)
       (mine : v.role ≡ Steps w) where
@@ -224,6 +230,15 @@ module _ {K : Type 0} (shows : K → Lasting) (o : Beside) (size : PathSize) (s 
                 (other_is j b.number b.part b.trail n q.0, q.1),
           )
 
+      -- the seat's trail tells of this step too, and those that it took in tell what they did
+      own_tells : ViewTells size.capacity x' v'
+      own_tells = let old = r.tells id v at in record {
+        own = tells_more size.capacity r.core core_lawful capacity_is e may
+            (keeps_lawful r.core core_lawful e may whole) v.part found (told_by filed h)
+            (told_of r.core e) told filed v.trail old.own;
+        returned = (view_still size.capacity r.core core_lawful capacity_is e may v old).returned;
+      }
+
       -- with what the keeper may have kept up to a key
       pub plays_to : (key : ℕ) → MayBeKept x' key → (cs : List (ℕ × Slot K)) (a : Act (Slot K))
           → Boxed shows size.seats x'.notes (shown o size.at_open key x') x'.claims x'.append
@@ -278,6 +293,12 @@ module _ {K : Type 0} (shows : K → Lasting) (o : Beside) (size : PathSize) (s 
             ))
             (λ (t : (j ≢ id) × (get_elem? s.views j ≡ some u)). let k = r.each_seat j u t.1 in
             (k.0, others_know j u t.0 k.1))
+            (at_set s.views id j v' u p);
+        tells = λ j u p. ⊎_elim
+            (λ (t : (j ≡ id) × (v' ≡ u)). subst (λ (y : View). ViewTells size.capacity x' y) t.1
+            own_tells)
+            (λ (t : (j ≢ id) × (get_elem? s.views j ≡ some u)). view_still size.capacity r.core
+            core_lawful capacity_is e may u (r.tells j u t.1))
             (at_set s.views id j v' u p);
       }
 

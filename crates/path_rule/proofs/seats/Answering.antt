@@ -4,9 +4,11 @@ use Rattle.std.proofs.Common.{
   ℕ,
   ◌<◌,
   ◌≤◌,
+  suc,
   List,
   [],
   ◌∷◌,
+  ◌++◌,
   Option,
   Some,
   None,
@@ -23,6 +25,7 @@ use Rattle.std.proofs.Common.{
 }
 use Rattle.std.proofs.lemmas.List.{append-nil}
 use mathlib.Core.Logic.{inl, inr}
+use Rattle.op_core.specs.declared.count.Order.TheVariants.{Append}
 use Rattle.path_core.specs.declared.event.Carried.TheVariants.{Nothing, Deposit, Applied}
 use Rattle.path_core.specs.declared.event.Cursor.TheVariants.{Synced, Stopped as StoppedCursor}
 use Rattle.path_core.specs.declared.event.Event.{Event}
@@ -42,14 +45,18 @@ use Rattle.path_core.specs.declared.event.Event.TheVariants.{
   GiveTurn,
   Put,
 }
-use Rattle.path_core.specs.declared.event.Place.TheVariants.{CursorWord}
+use Rattle.path_core.specs.declared.event.Place.{Place}
+use Rattle.path_core.specs.declared.event.Place.TheVariants.{Current, CursorWord, Log}
 use Rattle.path_core.specs.declared.keeper.KeeperFault.{KeeperFault}
 use Rattle.path_core.specs.declared.keeper.KeeperFault.TheVariants.{
   Stopped as KeeperStopped,
   OutOfMemory as KeeperOutOfMemory,
 }
 use Rattle.path_core.specs.declared.seat.Found.{Found}
+use Rattle.path_core.specs.declared.seat.LastMarker.{LastMarker}
+use Rattle.path_core.specs.Holders.{behind_last}
 use Rattle.path_core.specs.Keeper.{HasRisen}
+use Rattle.path_core.specs.Parts.{found_of}
 use Rattle.path_rule.specs.declared.answer.SyncAnswer.{SyncAnswer}
 use Rattle.path_rule.specs.declared.answer.SyncAnswer.TheVariants.{
   Done,
@@ -58,12 +65,26 @@ use Rattle.path_rule.specs.declared.answer.SyncAnswer.TheVariants.{
   Rows,
 }
 use Rattle.path_rule.specs.declared.view.OwnStep.{OwnStep}
+use Rattle.path_rule.specs.declared.view.PathSize.{PathSize}
 use Rattle.path_rule.specs.declared.view.View.{View}
+use Rattle.path_rule.specs.declared.waiting.Passed.{Passed}
+use Rattle.path_rule.specs.declared.waiting.Passed.TheVariants.{Rows as NoRows}
 use Rattle.path_rule.specs.Calls.{Did}
+use Rattle.path_rule.specs.Finds.{Finds}
+use Rattle.path_rule.specs.Layout.{group_rows}
+use Rattle.path_rule.specs.Passes.{MatchPassed}
 use Rattle.path_rule.specs.Rounds.{RoundSteps, EndsBelow, WroteBelow, IsAtRest}
-use Rattle.path_rule.specs.SyncAnswers.{IsAnswer, Answers, MayAnswer, said_by}
+use Rattle.path_rule.specs.SyncAnswers.{
+  FoundNow,
+  WantsBarrier,
+  IsAnswer,
+  Answers,
+  MayAnswer,
+  IsFullBy,
+  said_by,
+}
 use Rattle.path_rule.specs.SyncEnd.{HasSynced, EndsSync, TellsFaults}
-use Rattle.path_rule.proofs.seats.RoundsGo.{one, one_as, both, still_wrote}
+use Rattle.path_rule.proofs.seats.RoundsGo.{one, one_as, both, renamed, still_wrote}
 
 -- ---- what ends below a key ends below a later one
 
@@ -89,36 +110,82 @@ pub wrote_more : (k l : ℕ) → k ≤ l → (ts : List OwnStep) → WroteBelow 
 wrote_more k l up [] B = tt
 wrote_more k l up (t ∷ ts) B = (ends_more k l up t.event B.0, wrote_more k l up ts B.1)
 
+-- ---- what was found stays found with further steps
+
+pub found_before : (at : Place) (n : ℕ) (newer older : List OwnStep) → Finds at n older
+    → Finds at n (newer ++ older)
+found_before at n [] older F = F
+found_before at n (t ∷ ts) older F = inr (found_before at n ts older F)
+
+pub found_after : (at : Place) (n : ℕ) (newer older : List OwnStep) → Finds at n newer
+    → Finds at n (newer ++ older)
+found_after at n [] older F = absurd F
+found_after at n (t ∷ ts) older F =
+    ⊎_elim (λ now. inl now) (λ later. inr (found_after at n ts older later)) F
+
+now_by : (a : SyncAnswer) (ts us : List OwnStep)
+    → ((at : Place) (n : ℕ) → Finds at n ts → Finds at n us) → FoundNow a ts → FoundNow a us
+now_by (Done s) ts us more F = more (CursorWord Synced) s F
+now_by (Stopped at_open now) ts us more F = more (CursorWord StoppedCursor) now F
+now_by OutOfMemory ts us more F = tt
+now_by (Rows n) ts us more F = (F.0, F.1, more (Current Append) F.0 F.2)
+
 -- ---- steps before an answer, and behind it
 
 pub answers_after : (w opened : ℕ) (a : SyncAnswer) (v u after : View) → RoundSteps w [] v u
     → Answers w opened u a after → Answers w opened v a after
 answers_after w opened a v u after S A = record {
   puts = A.puts;
-  steps = subst (λ ps. RoundSteps w ps v after) (append-nil A.puts)
+  steps = renamed w (A.puts ++ []) A.puts v after (append-nil A.puts)
       (both w [] A.puts v u after S A.steps);
   is = A.is;
+  now = now_by a A.steps.steps (A.steps.steps ++ S.steps)
+      (λ at n F. found_after at n A.steps.steps S.steps F) A.now;
 }
 
+wants_still : (u after : View) → after.part.found ≡ u.part.found → after.size ≡ u.size
+    → after.hands.progress.marker ≡ u.hands.progress.marker → WantsBarrier u → WantsBarrier after
+wants_still u after same size marker W = ⊎_elim
+    (λ waits. inl (waits.0, waits.1, marker ∙ waits.2))
+    (λ since. inr (
+      since.0,
+      ap (λ (f : Found). f.log) same ∙ since.1,
+      subst (λ (q : PathSize × Option LastMarker). behind_last q.0.capacity q.1 < since.0)
+          (λ i. (sym size i, sym marker i)) since.2,
+    )) W
+
 is_still : (w opened : ℕ) (a : SyncAnswer) (ps : List Event) (u after : View)
-    → RoundSteps w [] u after → after.part.found ≡ u.part.found → IsAnswer w opened a ps u
+    → RoundSteps w [] u after → after.part.found ≡ u.part.found
+    → after.hands.progress.marker ≡ u.hands.progress.marker → IsAnswer w opened a ps u
     → IsAnswer w opened a ps after
-is_still w opened (Done s) ps u after S same I = (
+is_still w opened (Done s) ps u after S same marker I = (
   ap (λ (f : Found). f.synced) same ∙ I.0,
   still_wrote w s [] u after S I.1,
   I.2,
 )
-is_still w opened (Stopped at_open now) ps u after S same I =
+is_still w opened (Stopped at_open now) ps u after S same marker I =
     (I.0, I.1, ap (λ (f : Found). f.stopped) same ∙ I.2, I.3)
-is_still w opened OutOfMemory ps u after S same I = I
-is_still w opened (Rows n) ps u after S same I = I
+is_still w opened OutOfMemory ps u after S same marker I = I
+is_still w opened (Rows n) ps u after S same marker I = (
+  record {
+    last = I.0.last;
+    found = ap (λ (f : Found). f.append.current) same ∙ I.0.found;
+    next = I.0.next;
+    all = I.0.all;
+    wanted = wants_still u after same S.size marker I.0.wanted;
+  },
+  I.1,
+)
 
 pub answers_still : (w opened : ℕ) (a : SyncAnswer) (v u after : View) → Answers w opened v a u
-    → RoundSteps w [] u after → after.part.found ≡ u.part.found → Answers w opened v a after
-answers_still w opened a v u after A S same = record {
+    → RoundSteps w [] u after → after.part.found ≡ u.part.found
+    → after.hands.progress.marker ≡ u.hands.progress.marker → Answers w opened v a after
+answers_still w opened a v u after A S same marker = record {
   puts = A.puts;
   steps = both w A.puts [] v u after A.steps S;
-  is = is_still w opened a A.puts u after S same A.is;
+  is = is_still w opened a A.puts u after S same marker A.is;
+  now = now_by a A.steps.steps (S.steps ++ A.steps.steps)
+      (λ at n F. found_before at n S.steps A.steps.steps F) A.now;
 }
 
 -- ---- answers of a keeper
@@ -128,7 +195,8 @@ done_answers : (w opened upto s : ℕ) (v after : View) → WroteBelow upto v.tr
 done_answers w opened upto s v after B E =
     let first = one w (Look w (CursorWord Synced)) E.found v E.seen refl E.looked in
     ⊎_elim (λ (old : (upto ≤ E.found) × (s ≡ E.found) × (after ≡ E.seen)).
-    let steps = subst (λ (u : View). RoundSteps w [] v u) (sym old.2) first in record {
+    let steps = one w (Look w (CursorWord Synced)) E.found v after refl
+    (record { view = old.2 ∙ E.looked.view; was = E.looked.was }) in record {
       puts = [];
       steps = steps;
       is = (
@@ -139,6 +207,7 @@ done_answers w opened upto s v after B E =
             (still_wrote w upto [] v after steps B),
         inl refl,
       );
+      now = inl (refl, sym old.1);
     })
     (λ (new : (E.found < upto) × (s ≡ upto) × HasSynced w upto E.seen after).
     let steps = both w [] (Put w Synced upto ∷ []) v E.seen after first
@@ -152,6 +221,7 @@ done_answers w opened upto s v after B E =
             (still_wrote w upto (Put w Synced upto ∷ []) v after steps B),
         inr (ap (λ (k : ℕ). Put w Synced k ∷ []) (sym new.1)),
       );
+      now = inl (refl, sym new.1);
     }) E.ended
 
 stopped_answers : (w opened upto at_open now : ℕ) (v after : View) → at_open ≡ opened
@@ -163,6 +233,7 @@ stopped_answers w opened upto at_open now v after at risen E = record {
       (one w (Look w (CursorWord Synced)) E.found v E.seen refl E.looked)
       (one_as w (Put w StoppedCursor now) now _ E.seen after refl E.ended.1.did);
   is = (at, risen, ap (λ (u : View). u.part.found.stopped) E.ended.1.did.view, inr refl);
+  now = inl (refl, refl);
 }
 
 refused_answers : (w opened upto : ℕ) (v after : View)
@@ -174,6 +245,7 @@ refused_answers w opened upto v after E = record {
       (one_as w (Look w (CursorWord StoppedCursor)) E.ended.1.0 _ E.seen after refl
       E.ended.1.1.did);
   is = refl;
+  now = tt;
 }
 
 pub ends_answers : (w opened upto : ℕ) (v after : View) (r : Result ℕ KeeperFault)
@@ -193,6 +265,7 @@ halted_answers w opened now v after risen D = record {
   puts = [];
   steps = one w (Look w (CursorWord StoppedCursor)) now v after refl D;
   is = (refl, risen, ap (λ (u : View). u.part.found.stopped) D.view, inl refl);
+  now = inl (refl, refl);
 }
 
 -- the synced key was found, at or above one below which all that the seat wrote ends
@@ -207,7 +280,69 @@ found_answers w opened upto s v after up B D =
         wrote_more upto s up after.trail (still_wrote w upto [] v after steps B),
         inl refl,
       );
+      now = inl (refl, refl);
     }
+
+-- what a barrier tells that was not issued
+pub rows_of : (P Q : ℕ → Type 0) (passed : Passed) (n : ℕ) → passed ≡ NoRows n
+    → MatchPassed passed P Q → Q n
+rows_of P Q passed n is M = subst (λ p. MatchPassed p P Q) is M
+
+-- the last group that there is a word for was found current, and a marker waits for its barrier
+pub waiting_answers : (w opened by start group : ℕ) (v after : View) → suc group ≡ group_rows
+    → v.hands.progress.marker ≡ Some (record { by = by; start = start; barrier = None })
+    → Did v w (Look w (Current Append)) group after → Answers w opened v (Rows group_rows) after
+waiting_answers w opened by start group v after last waits D = record {
+  puts = [];
+  steps = one w (Look w (Current Append)) group v after refl D;
+  is = (
+    record {
+      last = group;
+      found = ap (λ (u : View). (found_of Append u.part).current) D.view;
+      next = last;
+      all = refl;
+      wanted = inl (by, start, ap (λ (u : View). u.hands.progress.marker) D.view ∙ waits);
+    },
+    refl,
+  );
+  now = (group, last, inl (refl, refl));
+}
+
+-- or an entry was claimed since the last marker
+pub full_answers : (w opened group key : ℕ) (a : Option SyncAnswer) (v u after : View)
+    → suc group ≡ group_rows → Did v w (Look w (Current Append)) group u
+    → Did u w (Look w Log) key after → IsFullBy v.size.capacity v.hands.progress.marker key a
+    → MayAnswer w opened v a after
+full_answers w opened group key None v u after last D E F =
+    both w [] [] v u after (one w (Look w (Current Append)) group v u refl D)
+    (one w (Look w Log) key u after refl E)
+full_answers w opened group key (Some a) v u after last D E F =
+    subst (λ (x : SyncAnswer). Answers w opened v x after) (sym F.0) (record {
+      puts = [];
+      steps = both w [] [] v u after (one w (Look w (Current Append)) group v u refl D)
+          (one w (Look w Log) key u after refl E);
+      is = (
+        record {
+          last = group;
+          found = ap (λ (x : View). (found_of Append x.part).current) E.view
+              ∙ ap (λ (x : View). (found_of Append x.part).current) D.view;
+          next = last;
+          all = refl;
+          wanted = inr (
+            key,
+            ap (λ (x : View). x.part.found.log) E.view,
+            subst (λ (q : ℕ × Option LastMarker). behind_last q.0 q.1 < key) (λ i. (
+              sym (ap (λ (x : View). x.size.capacity) E.view
+                  ∙ ap (λ (x : View). x.size.capacity) D.view) i,
+              sym (ap (λ (x : View). x.hands.progress.marker) E.view
+                  ∙ ap (λ (x : View). x.hands.progress.marker) D.view) i,
+            )) F.1,
+          );
+        },
+        refl,
+      );
+      now = (group, last, inr (inl (refl, refl)));
+    })
 
 pub may_after : (w opened : ℕ) (a : Option SyncAnswer) (v u after : View) → RoundSteps w [] v u
     → MayAnswer w opened u a after → MayAnswer w opened v a after
@@ -216,9 +351,10 @@ may_after w opened None v u after S A = both w [] [] v u after S A
 
 pub may_still : (w opened : ℕ) (a : Option SyncAnswer) (v u after : View)
     → MayAnswer w opened v a u → RoundSteps w [] u after → after.part.found ≡ u.part.found
-    → MayAnswer w opened v a after
-may_still w opened (Some a) v u after A S same = answers_still w opened a v u after A S same
-may_still w opened None v u after A S same = both w [] [] v u after A S
+    → after.hands.progress.marker ≡ u.hands.progress.marker → MayAnswer w opened v a after
+may_still w opened (Some a) v u after A S same marker =
+    answers_still w opened a v u after A S same marker
+may_still w opened None v u after A S same marker = both w [] [] v u after A S
 
 -- a seat at rest is so behind an answer
 pub may_rest : (w opened : ℕ) (a : Option SyncAnswer) (v after : View)

@@ -49,6 +49,8 @@ use Rattle.path_rule.specs.FirstBoxes.{AreEmpty}
 use Rattle.path_rule.specs.Lasts.{beside_of, lasting_of, stopped_with, none_lasting, IsNew}
 use Rattle.path_rule.specs.Layout.{first_words}
 use Rattle.path_rule.specs.Rule.{start_of, IsFit, Knows, IsSized, Ruled, opener}
+use Rattle.path_rule.specs.Trails.{ViewTells}
+use Rattle.path_rule.proofs.log.TrailsTell.{none_tells}
 use Rattle.path_rule.proofs.seats.Dealing.{at_end}
 use Rattle.path_rule.proofs.seats.FirstWords.{same_all, first_word}
 
@@ -104,6 +106,7 @@ module _ {K : Type 0} (shows : K → Lasting) (o : Beside) where
     words = first_word size;
     fresh = λ w _. (refl, same_all size.seats w fresh_seat);
     each_seat = λ j u e. first_view j u e;
+    tells = λ j u e. first_tells j u e;
   }
     where
       few : (o : Order) → length (groups_of (start_of size) o).tallies ≤ 65536
@@ -128,6 +131,13 @@ module _ {K : Type 0} (shows : K → Lasting) (o : Beside) where
           subst P (some-injective (opener 0 size) u e)
           (refl, (refl, refl, λ n b e'. absurd (some-ne-none b (sym e'))))
       first_view (suc j) u e = absurd (some-ne-none u (sym e))
+
+      first_tells : (j : ℕ) (u : View) → get_elem? (opener 0 size ∷ []) j ≡ some u
+          → ViewTells size.capacity (start_of size) u
+      first_tells zero u e = none_tells size.capacity (start_of size) u
+          (sym (ap (λ (y : View). y.trail) (some-injective (opener 0 size) u e)))
+          (sym (ap (λ (y : View). y.returned) (some-injective (opener 0 size) u e)))
+      first_tells (suc j) u e = absurd (some-ne-none u (sym e))
 
   -- A desk is put in front of the boxes, each of which holds no note.
   pub first_set : (size : PathSize) (xs : List (Slot K)) (desk : Desk K) → AreEmpty xs

@@ -51,7 +51,9 @@ use Rattle.path_rule.specs.Boxes.{HoldsAs, HoldsBox}
 use Rattle.path_rule.specs.Lasts.{shown}
 use Rattle.path_rule.specs.Rule.{IsSeat, Knows, SizedAs, IsSized, Ruled, new_seat}
 use Rattle.path_rule.specs.Sharing.{one_on, handing, handed_by, handed}
+use Rattle.path_rule.specs.Trails.{ViewTells}
 use Rattle.path_rule.proofs.boxes.SameBoxes.{reboxed}
+use Rattle.path_rule.proofs.log.TrailsTell.{none_tells}
 
 -- a function that has another number at one place
 abbrev pub with_owner : (ℕ → ℕ) → ℕ → ℕ → ℕ → ℕ
@@ -187,6 +189,18 @@ module _ {K : Type 0} (shows : K → Lasting) (o : Beside) (size : PathSize) (id
                       absurd (some-ne-none b (sym e')),
                 ),
               )))
+              (at_end (set s.views id (handing v)) (handed v) u j e);
+          tells = λ j u e. ⊎_elim
+              (λ old. ⊎_elim
+              (λ (t : (j ≡ id) × (handing v ≡ u)). subst (λ (y : View).
+              ViewTells size.capacity r.core y) t.1 (let V = r.tells id v at in
+              record { own = V.own; returned = V.returned }))
+              (λ (t : (j ≢ id) × (get_elem? s.views j ≡ some u)). r.tells j u t.1)
+              (at_set s.views id j (handing v) u old))
+              (λ (t : (handed v ≡ u) × (j ≡ new)). subst (λ (y : View).
+              ViewTells size.capacity r.core y) t.0 (subst (λ ρ.
+              ViewTells size.capacity r.core (handed_by ρ v.size)) (sym role)
+              (none_tells size.capacity r.core (new_seat k v.size) refl refl)))
               (at_end (set s.views id (handing v)) (handed v) u j e);
         }
       where

@@ -37,6 +37,7 @@ use Rattle.path_rule.specs.declared.lasting.Beside.{Beside}
 use Rattle.path_rule.specs.declared.lasting.Lasting.{Lasting}
 use Rattle.path_rule.specs.declared.slot.Slot.{Slot}
 use Rattle.path_rule.specs.declared.slot.Slot.TheVariants.{Notes, Turn}
+use Rattle.path_rule.specs.declared.view.OwnStep.{OwnStep}
 use Rattle.path_rule.specs.declared.view.PathSize.{PathSize}
 use Rattle.path_rule.specs.declared.view.Returned.{Returned}
 use Rattle.path_rule.specs.declared.view.Role.{Role}
@@ -45,8 +46,9 @@ use Rattle.path_rule.specs.declared.view.View.{View}
 use Rattle.path_rule.specs.Boxes.{HoldsAs, HoldsBox, IsFree, DeskIs}
 use Rattle.path_rule.specs.FirstBoxes.{HasInFront}
 use Rattle.path_rule.specs.Lasts.{lasting_of, shown}
-use Rattle.path_rule.specs.Rule.{start_of, Knows, Ruled, event_of, steps_by}
+use Rattle.path_rule.specs.Rule.{IsFit, start_of, Knows, Ruled, event_of, steps_by}
 use Rattle.path_rule.specs.Sharing.{Ended, EndsUnused, HasAll}
+use Rattle.path_rule.specs.Trails.{TrailTells, ViewTells}
 use Rattle.path_rule.proofs.boxes.SameBoxes.{holds_none}
 use Rattle.path_rule.proofs.moves.Moving.{core_lawful}
 use Rattle.path_rule.proofs.seats.Untaken.{untaken}
@@ -129,6 +131,7 @@ module _ {K : Type 0} (shows : K → Lasting) (o : Beside) where
       v.returned) role (r.each_seat id v f.1.1).1 in record {
         core = r.core;
         events = r.events;
+        fit = subst IsFit same r.fit;
         run = subst (λ (z : PathSize). Past (start_of z) r.events r.core) same r.run;
         lawful = core_lawful shows o key s r;
         log_is = sym (at_four ws 4 log e) ∙
@@ -138,19 +141,26 @@ module _ {K : Type 0} (shows : K → Lasting) (o : Beside) where
         lasting_is = kept ∙ ap (λ (z : PathSize). shown o z.at_open r.kept_to r.core) same;
         risen = subst (λ (z : PathSize). 0 < r.core.stopped → HasRisen z.at_open r.core.stopped)
             same r.risen;
-        each = one s r k;
+        each = one s r k (r.tells id v f.1.1);
       }
     where
+      sized : (x : PathState) (ts : List OwnStep) → TrailTells key.capacity x ts
+          → TrailTells size.capacity x ts
+      sized x ts T = subst (λ (z : PathSize). TrailTells z.capacity x ts) same T
+
       one : (s : State (Slot K) View) (r : Ruled shows o key s)
           → Knows r.core r.events r.owner r.made r.boss id (Steps w) v.part v.trail v.returned
-          → (n : ℕ) (b : Returned) → get_elem?
+          → ViewTells key.capacity r.core v → (n : ℕ) (b : Returned) → get_elem?
           (record { number = w; part = v.part; trail = v.trail } ∷ v.returned) n ≡ some b
           → (b.part ≡ seat_of r.core b.number) × (map event_of b.trail ≡ steps_by b.number r.events)
-      one s r k zero b q = let is : record { number = w; part = v.part; trail = v.trail } ≡ b =
+          × TrailTells size.capacity r.core b.trail
+      one s r k V zero b q = let is : record { number = w; part = v.part; trail = v.trail } ≡ b =
           some-injective (record { number = w; part = v.part; trail = v.trail }) b q in
           subst (λ (c : Returned). (c.part ≡ seat_of r.core c.number)
-          × (map event_of c.trail ≡ steps_by c.number r.events)) is (k.0.2, k.0.3)
-      one s r k (suc n) b q = let h = (k.1 n b q).0 in (h.2, h.3)
+          × (map event_of c.trail ≡ steps_by c.number r.events)
+          × TrailTells size.capacity r.core c.trail) is (k.0.2, k.0.3, sized r.core v.trail V.own)
+      one s r k V (suc n) b q = let h = (k.1 n b q).0 in
+          (h.2, h.3, sized r.core b.trail (V.returned n b q))
 
   -- no step is anybody's
   nobody : (es : List Event) → ((w : ℕ) → steps_by w es ≡ []) → es ≡ []

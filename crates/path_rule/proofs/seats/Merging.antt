@@ -8,6 +8,7 @@ use Rattle.std.proofs.Common.{
   ◌++◌,
   length,
   set,
+  refl,
   sym,
   ap,
   ◌∙◌,
@@ -35,8 +36,10 @@ use Rattle.path_rule.specs.Boxes.{HoldsBox}
 use Rattle.path_rule.specs.Lasts.{shown}
 use Rattle.path_rule.specs.Rule.{IsSeat, Knows, IsSized, Ruled}
 use Rattle.path_rule.specs.Sharing.{spent, told_by, taking}
+use Rattle.path_rule.specs.Trails.{TrailTells, ViewTells}
 use Rattle.path_rule.proofs.boxes.AtHome.{inside_list}
 use Rattle.path_rule.proofs.boxes.SameBoxes.{reboxed, holds_none}
+use Rattle.path_rule.proofs.log.TrailsTell.{none_tells}
 use Rattle.path_rule.proofs.seats.Untaken.{untaken}
 use Rattle.path_rule.proofs.seats.Dealing.{at_end, with_owner, owner_here, owner_else}
 
@@ -149,8 +152,33 @@ module _ {K : Type 0} (shows : K → Lasting) (o : Beside) (size : PathSize) (id
             (old.0, rest_still s r j x t.0 (still j) old.1))
             (at_set s.views id j (taking v u) x t.1))
             (at_set (set s.views id (taking v u)) other j spent x e);
+        tells = λ j x e. ⊎_elim
+            (λ (t : (j ≡ other) × (spent ≡ x)). subst (λ (y : View).
+            ViewTells size.capacity r.core y) t.1
+            (none_tells size.capacity r.core spent refl refl))
+            (λ (t : (j ≢ other) × (get_elem? (set s.views id (taking v u)) j ≡ some x)). ⊎_elim
+            (λ (k : (j ≡ id) × (taking v u ≡ x)). subst (λ (y : View).
+            ViewTells size.capacity r.core y) k.1
+            (taken_tells s r (r.tells id v at) (r.tells other u there)))
+            (λ (k : (j ≢ id) × (get_elem? s.views j ≡ some x)). r.tells j x k.1)
+            (at_set s.views id j (taking v u) x t.1))
+            (at_set (set s.views id (taking v u)) other j spent x e);
       }
     where
+      taken_tells : (s : State (Slot K) View) (r : Ruled shows o size s)
+          → ViewTells size.capacity r.core v → ViewTells size.capacity r.core u
+          → ViewTells size.capacity r.core (taking v u)
+      taken_tells s r V U = record {
+        own = V.own;
+        returned = λ n b h. subst (λ (ρ : Role). get_elem? (v.returned
+            ++ told_by ρ u.part u.trail) n ≡ some b → TrailTells size.capacity r.core b.trail)
+            (sym seat_is) (λ q. ⊎_elim (λ old. V.returned n b old)
+            (λ (l : (record { number = w; part = u.part; trail = u.trail } ≡ b)
+            × (n ≡ length v.returned)). subst (λ (c : Returned).
+            TrailTells size.capacity r.core c.trail) l.0 U.own)
+            (at_end v.returned (record { number = w; part = u.part; trail = u.trail }) b n q)) h;
+      }
+
       rest_still : (s : State (Slot K) View) (r : Ruled shows o size s) (j : ℕ) (x : View)
           → j ≢ other
           → ((z : ℕ) (p : Seat) (t : List OwnStep) → j ≢ other

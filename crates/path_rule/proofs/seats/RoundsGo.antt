@@ -141,7 +141,7 @@ look_unfiled w by (BoundOf t m) r s is h = absurd is
 -- ---- one step
 
 -- a step leaves what a seat at rest has, and deposits nothing
-record Plain (e : Event) : Type 0 where
+pub record Plain (e : Event) : Type 0 where
   pub write : (g : Option ℕ) → write_after g e ≡ g
   pub append : (g : Option ℕ) → append_after g e ≡ g
   pub claim : (r : Option Range) → claim_after r e ≡ r
@@ -167,7 +167,7 @@ plain e w a c f s b u = record {
   unfiled = u;
 }
 
-is_plain : (w : ℕ) (e : Event) → IsRoundStep w e → Plain e
+pub is_plain : (w : ℕ) (e : Event) → IsRoundStep w e → Plain e
 is_plain w (Look by at) is = plain (Look by at) (λ g. refl) (λ g. refl) (λ r. refl) (λ t b. refl)
     (λ s. tt) (λ key. tt) (λ s r told h. look_unfiled w by at r s is h)
 is_plain w (OpenGroup by o g) is = plain (OpenGroup by o g) (λ g. refl) (λ g. refl) (λ r. refl)
@@ -205,7 +205,7 @@ is_plain w (TakeTurn by (Flush t)) is = absurd is
 is_plain w (GiveTurn by (Flush t)) is = absurd is
 is_plain w (Put by (OldestLive t) value) is = absurd is
 
-rests_still : (e : Event) (p q : Seat) → Plain e → Columns e p q → IsAtRest p → IsAtRest q
+pub rests_still : (e : Event) (p q : Seat) → Plain e → Columns e p q → IsAtRest p → IsAtRest q
 rests_still e p q P C R = record {
   idle = record {
     write = C.write ∙ (P.write p.write ∙ R.idle.write);
@@ -216,7 +216,7 @@ rests_still e p q P C R = record {
       (C.flush t ∙ (P.flush t (is_some (seat_table p t).flush) ∙ ap (λ o. is_some o) (R.flush t)));
 }
 
-pub one_as : (w : ℕ) (e : Event) (n : ℕ) (h : Hands) (v after : View) → IsRoundStep w e
+abbrev pub one_as : (w : ℕ) (e : Event) (n : ℕ) (h : Hands) (v after : View) → IsRoundStep w e
     → DidAs v w e n h after → RoundSteps w (with_put e []) v after
 one_as w e n h v after is d = let P = is_plain w e is in
     let r = reading_at (place_of e) n in let told = told_by false h in record {
@@ -232,8 +232,8 @@ one_as w e n h v after is d = let P = is_plain w e is in
       size = ap (λ (u : View). u.size) d.view;
     }
 
-pub one : (w : ℕ) (e : Event) (n : ℕ) (v after : View) → IsRoundStep w e → Did v w e n after
-    → RoundSteps w (with_put e []) v after
+abbrev pub one : (w : ℕ) (e : Event) (n : ℕ) (v after : View) → IsRoundStep w e
+    → Did v w e n after → RoundSteps w (with_put e []) v after
 one w e n v after is d = one_as w e n v.hands v after is (record { view = d.view; was = d.was })
 
 -- ---- steps together
@@ -250,7 +250,7 @@ none_yet w v after same = record {
   size = ap (λ (u : View). u.size) same;
 }
 
-are_both : (w : ℕ) (ts us : List OwnStep) → AreRoundSteps w ts → AreRoundSteps w us
+pub are_both : (w : ℕ) (ts us : List OwnStep) → AreRoundSteps w ts → AreRoundSteps w us
     → AreRoundSteps w (ts ++ us)
 are_both w [] us A B = B
 are_both w (t ∷ ts) us A B = (A.0, are_both w ts us A.1 B)
@@ -271,12 +271,12 @@ put_on (TakeTurn by turn) ps qs = refl
 put_on (GiveTurn by turn) ps qs = refl
 put_on (Put by cursor value) ps qs = refl
 
-puts_both : (ts us : List OwnStep) → puts_of (ts ++ us) ≡ puts_of ts ++ puts_of us
+pub puts_both : (ts us : List OwnStep) → puts_of (ts ++ us) ≡ puts_of ts ++ puts_of us
 puts_both [] us = refl
 puts_both (t ∷ ts) us =
     ap (with_put t.event) (puts_both ts us) ∙ put_on t.event (puts_of ts) (puts_of us)
 
-pub both : (w : ℕ) (ps qs : List Event) (v u after : View) → RoundSteps w ps v u
+abbrev pub both : (w : ℕ) (ps qs : List Event) (v u after : View) → RoundSteps w ps v u
     → RoundSteps w qs u after → RoundSteps w (qs ++ ps) v after
 both w ps qs v u after A B = record {
   steps = B.steps ++ A.steps;
@@ -289,6 +289,20 @@ both w ps qs v u after A B = record {
   unfiled = λ U. B.unfiled (A.unfiled U);
   returned = B.returned ∙ A.returned;
   size = B.size ∙ A.size;
+}
+
+-- the same steps, where what they put is told otherwise
+abbrev pub renamed : (w : ℕ) (ps qs : List Event) (v after : View) → ps ≡ qs
+    → RoundSteps w ps v after → RoundSteps w qs v after
+renamed w ps qs v after same A = record {
+  steps = A.steps;
+  trail = A.trail;
+  are = A.are;
+  puts_are = A.puts_are ∙ same;
+  rests = A.rests;
+  unfiled = A.unfiled;
+  returned = A.returned;
+  size = A.size;
 }
 
 -- what a seat wrote stays below a key

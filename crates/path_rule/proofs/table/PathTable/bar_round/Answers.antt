@@ -1,9 +1,10 @@
-use Rattle.std.proofs.Common.{[], sym, ◌∙◌, subst}
+use Rattle.std.proofs.Common.{[], refl, sym, ap, ◌∙◌, subst}
+use Rattle.path_rule.specs.declared.answer.SyncAnswer.TheVariants.{Rows}
 use Rattle.path_rule.specs.declared.view.View.{View}
 use Rattle.path_rule.specs.Rounds.{RoundSteps}
 use Rattle.path_rule.specs.SyncAnswers.{Answers}
 use Rattle.path_rule.specs.Turns.{MarkerWaits}
-use Rattle.path_rule.proofs.seats.Answering.{answers_after}
+use Rattle.path_rule.proofs.seats.Answering.{answers_after, rows_of, waiting_answers}
 use Rattle.path_rule.proofs.seats.RoundsGo.{next, still_wrote}
 use Rattle.path_rule.proofs.table.PathTable.bar_round.Goals as goal
 
@@ -48,3 +49,16 @@ returns-clause-answer g c =
     (next w N.result.number [] [] v barred after number first second)
     (subst (λ k. Answers k opened after E.result.1 E.result.0.seat.me.0)
     (T.ensures.same.1 ∙ number) E.ensures.answer)
+
+pub returns-in-Rows-clause-answer : goal.returns-in-Rows-clause-answer
+returns-in-Rows-clause-answer g c =
+    let P = c.progress-member in let M = c.marker_barrier-holder in
+    let opened = c.args.self.now.size.at_open in let w = c.args.member.number in
+    let after = M.result.0.member.seat.me.0 in
+    let told = rows_of _ _ M.result.1 c.in-Rows.groups c.in-Rows.is M.ensures.passed in
+    subst (λ n. Answers w opened c.args.member.seat.me.0 (Rows n) after) (sym told.0)
+    (subst (λ (v : View). Answers w opened v (Rows 65536) after) P.ensures.same.1
+    (subst (λ z. Answers z opened P.result.0.seat.me.0 (Rows 65536) after) P.ensures.same.0.1
+    (waiting_answers P.result.0.number opened w c.args.start 65535 _ _ refl
+    (ap (λ (v : View). v.hands.progress.marker) P.ensures.same.1 ∙ c.requires.marker.1)
+    told.3)))

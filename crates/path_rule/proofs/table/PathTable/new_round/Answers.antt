@@ -1,21 +1,34 @@
-use Rattle.std.proofs.Common.{[], refl, ◌∙◌, subst}
+use Rattle.std.proofs.Common.{[], ℕ, Option, refl, sym, ap, ◌∙◌, subst, arith}
 use Rattle.op_core.specs.declared.count.Order.TheVariants.{Append}
 use Rattle.path_core.specs.declared.event.Event.TheVariants.{Look}
-use Rattle.path_core.specs.declared.event.Place.TheVariants.{Current}
-use Rattle.path_rule.specs.SyncAnswers.{Answers}
-use Rattle.path_rule.proofs.seats.Answering.{answers_after}
+use Rattle.path_core.specs.declared.event.Place.TheVariants.{Current, Log}
+use Rattle.path_core.specs.declared.seat.LastMarker.{LastMarker}
+use Rattle.path_rule.specs.declared.view.PathSize.{PathSize}
+use Rattle.path_rule.specs.declared.view.Progress.{Progress}
+use Rattle.path_rule.specs.declared.view.View.{View}
+use Rattle.path_rule.specs.Calls.{Did}
+use Rattle.path_rule.specs.SyncAnswers.{Answers, IsFullBy, MayAnswer}
+use Rattle.path_rule.proofs.seats.Answering.{answers_after, full_answers}
 use Rattle.path_rule.proofs.seats.RoundsGo.{one, next, from}
 use Rattle.path_rule.proofs.table.PathTable.new_round.Goals as goal
 
 pub returns-then-seek_current-eq-LAST_GROUP-clause-answer :
     goal.returns-then-seek_current-eq-LAST_GROUP-clause-answer
 returns-then-seek_current-eq-LAST_GROUP-clause-answer g c =
-    let P = c.progress-member in let S = c.seek_current in record {
-      puts = [];
-      steps = from c.args.member.number P.result.0.number [] _ _ _ P.ensures.same.0.1
-          P.ensures.same.1 (one _ (Look _ (Current Append)) S.result _ _ refl S.ensures.step);
-      is = (refl, refl);
-    }
+    let P = c.progress-member in let S = c.seek_current in let F = c.look_full-answer in
+    let opened = c.args.self.now.size.at_open in let w = c.args.member.number in
+    let after = F.new.member.seat.me.0 in let L = F.ensures.looked in
+    subst (λ (v : View). MayAnswer w opened v F.result after) P.ensures.same.1
+    (subst (λ z. MayAnswer z opened P.result.0.seat.me.0 F.result after) P.ensures.same.0.1
+    (full_answers P.result.0.number opened S.result L.0 F.result _ _ _
+    (let is = c.if-seek_current-eq-LAST_GROUP.true in omega arith) S.ensures.step
+    (subst (λ z. Did S.new.member.seat.me.0 z (Look z Log) L.0 after) S.ensures.same.1 L.1)
+    (subst (λ (q : ℕ × Option LastMarker). IsFullBy q.0 q.1 L.0 F.result) (λ i. (
+      sym (ap (λ (v : View). v.size.capacity) P.ensures.same.1
+          ∙ ap (λ (z : PathSize). z.capacity) c.requires.table.1) i,
+      (ap (λ (p : Progress). p.marker) P.ensures.found
+          ∙ sym (ap (λ (v : View). v.hands.progress.marker) P.ensures.same.1)) i,
+    )) L.2)))
 
 pub returns-in_default-clause-answer : goal.returns-in_default-clause-answer
 returns-in_default-clause-answer g c =

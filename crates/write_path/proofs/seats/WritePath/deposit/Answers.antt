@@ -19,6 +19,7 @@ use Rattle.std.proofs.Common.{
   ◌∙◌,
   subst,
   arith,
+  map,
 }
 use Rattle.atomic_table.specs.Table.{rest}
 use Rattle.op_core.specs.declared.count.Order.TheVariants.{Append}
@@ -31,8 +32,9 @@ use Rattle.path_rule.specs.declared.view.View.{View}
 use Rattle.path_rule.specs.Boxes.{box_of}
 use Rattle.path_core.specs.Parts.{HoldsNoTurn}
 use Rattle.path_rule.specs.Calls.{Did}
+use Rattle.path_rule.specs.Rule.{event_of}
 use Rattle.path_rule.proofs.seats.Staying.{view_columns, free_stays}
-use Rattle.write_path.specs.Ends.{writes_of}
+use Rattle.write_path.specs.Ends.{writes_of, IsLast}
 use Rattle.write_path.specs.Writes.{IsNoteOf}
 use Rattle.write_path.proofs.BoxKept.{carries_notes}
 use Rattle.write_path.proofs.NoteLaws.{is_depositable}
@@ -199,6 +201,7 @@ returns-clause-listed g c =
       note = C.prepared.note;
       list = ap (λ (v : View). writes_of v.trail) d.view
           ∙ ap (λ (v : View). C.prepared.note ∷ writes_of v.trail) V;
+      last = subst (λ (v : View). IsLast C.prepared.note (map event_of v.trail)) (sym d.view) refl;
       writer = C.by ∙ c.number-number.ensures;
       starts = C.begins;
       ends = C.ends ∙ P.4;

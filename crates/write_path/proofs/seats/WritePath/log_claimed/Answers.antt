@@ -1,4 +1,5 @@
 use Rattle.std.proofs.Common.{◌∙◌}
+use Rattle.write_path.proofs.Sealing.{ends_last}
 use Rattle.write_path.proofs.seats.WritePath.log_claimed.Goals as goal
 
 pub returns-clause-logged : goal.returns-clause-logged
@@ -7,6 +8,8 @@ returns-clause-logged g c = let L = c.deposit-deposited.ensures.listed in record
   listed = record {
     note = L.note;
     list = c.end_write-seat.ensures.ends.list ∙ L.list;
+    last = ends_last L.note c.deposit-deposited.result.0 c.end_write-seat.result.member
+        c.end_write-seat.ensures.ends L.last;
     writer = L.writer;
     starts = L.starts;
     ends = L.ends;

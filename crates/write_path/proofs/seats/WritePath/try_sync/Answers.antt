@@ -31,7 +31,7 @@ invariant_of-result-2 g c =
     let seat = c.args.seat in let opened = c.args.self.now.table.size.at_open in
     let R = may_rest seat.member.number opened S.result.1 seat.member.seat.me.0 _
     (tried seat.member.number _ _ opened _ _ S.result.1 _ _ _ _ h.3 T.same.1 S.ensures.answer
-    (S.ensures.same.1 ∙ T.same.1) G.step) (record {
+    (S.ensures.same.1 ∙ T.same.1) G.step refl) (record {
       idle = seat.idle;
       unclaimed = seat.unclaimed;
       flush = seat.free.flush;
@@ -54,7 +54,7 @@ returns-clause-same g c =
         G.same.0 ∙ (S.ensures.same.0 ∙ (T.same.0 ∙ c.requires.0)),
         may_size seat.member.number opened S.result.1 seat.member.seat.me.0 _
             (tried seat.member.number _ _ opened _ _ S.result.1 _ _ _ _ h.3 T.same.1
-            S.ensures.answer (S.ensures.same.1 ∙ T.same.1) G.step) ∙ c.requires.1,
+            S.ensures.answer (S.ensures.same.1 ∙ T.same.1) G.step refl) ∙ c.requires.1,
       ),
       G.same.1 ∙ (S.ensures.same.1 ∙ T.same.1),
     )
@@ -64,4 +64,4 @@ returns-clause-answer g c =
     let h = (c.take_sync.ensures.hit c.if-take_sync-ne0.false).0 in
     let T = c.take_sync.ensures in let S = c.sync_round-member in
     tried c.args.seat.member.number _ _ c.args.self.now.table.size.at_open _ _ S.result.1 _ _ _ _
-    h.3 T.same.1 S.ensures.answer (S.ensures.same.1 ∙ T.same.1) c.give_sync.ensures.step
+    h.3 T.same.1 S.ensures.answer (S.ensures.same.1 ∙ T.same.1) c.give_sync.ensures.step refl

@@ -23,6 +23,7 @@ returns-in-Ok-clause-written g c =
       listed = record {
         note = L.listed.note;
         list = L.listed.list ∙ ap (λ l. L.listed.note ∷ l) (C.1 ∙ (A.1 ∙ S.1));
+        last = L.listed.last;
         writer = L.listed.writer ∙ (C.0.1 ∙ (A.0.1 ∙ S.0.1));
         starts = L.listed.starts;
         ends = L.listed.ends;

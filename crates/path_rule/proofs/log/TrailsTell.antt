@@ -1,0 +1,192 @@
+-- What trails tell stays so at each step, and a further step of the seat tells the like.
+use Rattle.std.proofs.Common.{
+  ◌≡◌,
+  ℕ,
+  ◌<◌,
+  ◌≤◌,
+  Bool,
+  List,
+  [],
+  ◌∷◌,
+  sym,
+  ap,
+  ◌∙◌,
+  subst,
+  ⊎_elim,
+  arith,
+}
+use Rattle.std.proofs.lemmas.Option.{same_Some}
+use mathlib.Core.Option.{some, some-ne-none}
+use lib.ListN.{get_elem?}
+use Rattle.path_core.specs.declared.event.ClaimKind.TheVariants.{Entry, Marker}
+use Rattle.path_core.specs.declared.event.Cursor.{Cursor}
+use Rattle.path_core.specs.declared.event.Cursor.TheVariants.{Synced, OldestLive, Stopped}
+use Rattle.path_core.specs.declared.event.Event.{Event}
+use Rattle.path_core.specs.declared.event.Event.TheVariants.{
+  Look,
+  Register,
+  Close,
+  OpenGroup,
+  MoveCurrent,
+  Expire,
+  Advance,
+  Claim,
+  Switch,
+  Raise,
+  Finalise,
+  TakeTurn,
+  GiveTurn,
+  Put,
+}
+use Rattle.path_core.specs.declared.event.Place.{Place}
+use Rattle.path_core.specs.declared.event.Place.TheVariants.{CursorWord}
+use Rattle.path_core.specs.declared.seat.Seat.{Seat}
+use Rattle.path_core.specs.declared.state.PathState.{PathState}
+use Rattle.path_core.specs.Allowed.{IsStep}
+use Rattle.path_core.specs.Keys.{after}
+use Rattle.path_core.specs.Lawful.{IsLawfulPath}
+use Rattle.path_core.specs.Next.{next_of}
+use Rattle.path_core.specs.SeatAfter.{Told, seat_after}
+use Rattle.path_core.specs.Words.{reading, place_of}
+use Rattle.path_rule.specs.declared.view.OwnStep.{OwnStep}
+use Rattle.path_rule.specs.declared.view.Returned.{Returned}
+use Rattle.path_rule.specs.declared.view.View.{View}
+use Rattle.path_rule.specs.Finds.{FindsBy}
+use Rattle.path_rule.specs.Layout.{reading_at}
+use Rattle.path_rule.specs.Trails.{IsMark, ClaimsPast, TrailTells, ViewTells}
+use Rattle.path_rule.proofs.log.Marks.{mark_stays, synced_mark, log_past}
+
+pub nothing_tells : (capacity : ℕ) (x : PathState) → TrailTells capacity x []
+nothing_tells capacity x = record {
+  synced = λ key F. absurd F;
+  stopped = λ n F above. absurd F;
+  past = tt;
+}
+
+-- a view with no step that took in no seat
+pub none_tells : (capacity : ℕ) (x : PathState) (v : View) → v.trail ≡ [] → v.returned ≡ []
+    → ViewTells capacity x v
+none_tells capacity x v trail returned = record {
+  own = subst (λ ts. TrailTells capacity x ts) (sym trail) (nothing_tells capacity x);
+  returned = λ n b h. absurd (none_there n b
+      (subst (λ (l : List Returned). get_elem? l n ≡ some b) returned h));
+}
+  where
+    none_there : (n : ℕ) (b : Returned) → get_elem? [] n ≡ some b → ⊥
+    none_there n b e = some-ne-none b (sym e)
+
+-- At a look the seat found what stood there.
+abbrev pub Saw : PathState → Event → ℕ → Type 0
+Saw x (Look by (CursorWord Synced)) found = found ≡ x.synced
+Saw x (Look by (CursorWord Stopped)) found = found ≡ x.stopped
+Saw x _ found = Unit {0}
+
+-- Its part tells so.
+pub saw : (x : PathState) (p : Seat) (by : ℕ) (at : Place) (found : ℕ) (told u : Told)
+    → seat_after p (Look by at) (reading_at at found) told
+    ≡ seat_after p (Look by at) (reading x at) u → (c : Cursor) → at ≡ CursorWord c
+    → Saw x (Look by (CursorWord c)) found
+saw x p by at found told u same c is = by_cursor c (subst (λ (q : Place).
+    seat_after p (Look by q) (reading_at q found) told
+    ≡ seat_after p (Look by q) (reading x q) u) is same)
+  where
+    by_cursor : (c : Cursor)
+        → seat_after p (Look by (CursorWord c)) (reading_at (CursorWord c) found) told
+        ≡ seat_after p (Look by (CursorWord c)) (reading x (CursorWord c)) u
+        → Saw x (Look by (CursorWord c)) found
+    by_cursor Synced e = same_Some found x.synced (ap (λ (s : Seat). s.found.synced) e)
+    by_cursor Stopped e = same_Some found x.stopped (ap (λ (s : Seat). s.found.stopped) e)
+    by_cursor (OldestLive t) e = tt
+
+module _ (capacity : ℕ) (x : PathState) (L : IsLawfulPath x) (fits : x.capacity ≡ capacity)
+    (e : Event) (a : IsStep x e) where
+  -- a stopped log stays so, with its count
+  stays_stopped : (e : Event) → IsStep x e → (n : ℕ) → 0 < n → n ≡ x.stopped
+      → n ≡ (next_of x e).stopped
+  stays_stopped (Put by Stopped value) a n above is = absurd (let z = a.row.2 in omega arith)
+  stays_stopped (Put by Synced value) a n above is = is
+  stays_stopped (Put by (OldestLive t) value) a n above is = is
+  stays_stopped e a n above is = is
+
+  pub tells_still : (ts : List OwnStep) → TrailTells capacity x ts
+      → TrailTells capacity (next_of x e) ts
+  tells_still ts T = record {
+    synced = λ key F. mark_stays x e a key (T.synced key F);
+    stopped = λ n F above. stays_stopped e a n above (T.stopped n F above);
+    past = T.past;
+  }
+
+  pub view_still : (v : View) → ViewTells capacity x v → ViewTells capacity (next_of x e) v
+  view_still v V = record {
+    own = tells_still v.trail V.own;
+    returned = λ n b h. tells_still b.trail (V.returned n b h);
+  }
+
+  module _ (N : IsLawfulPath (next_of x e)) (p : Seat) (found : ℕ) (told u : Told)
+      (same : seat_after p e (reading_at (place_of e) found) told
+      ≡ seat_after p e (reading x (place_of e)) u) where
+    abbrev Same : Event → Type 0
+    Same e = seat_after p e (reading_at (place_of e) found) told
+        ≡ seat_after p e (reading x (place_of e)) u
+
+    new_synced : (e : Event) → IsStep x e → IsLawfulPath (next_of x e) → Same e → (key : ℕ)
+        → FindsBy (CursorWord Synced) key e found → IsMark (next_of x e) key
+    new_synced (Look by at) a N same key F = mark_stays x (Look by at) a key
+        (subst (IsMark x) (sym (saw x p by at found told u same Synced F.0) ∙ F.1)
+        (synced_mark x L))
+    new_synced (Put by Synced value) a N same key F =
+        subst (IsMark (next_of x (Put by Synced value))) F.1
+        (synced_mark (next_of x (Put by Synced value)) N)
+    new_synced (Put by (OldestLive t) value) a N same key F = absurd (let q = F.0 in cc)
+    new_synced (Put by Stopped value) a N same key F = absurd (let q = F.0 in cc)
+    new_synced (Register by o g) a N same key F = absurd F
+    new_synced (Close by o g carried) a N same key F = absurd F
+    new_synced (OpenGroup by o g) a N same key F = absurd F
+    new_synced (MoveCurrent by o g) a N same key F = absurd F
+    new_synced (Expire by o g) a N same key F = absurd F
+    new_synced (Advance by o g) a N same key F = absurd F
+    new_synced (Claim by from to what) a N same key F = absurd F
+    new_synced (Switch by t m part) a N same key F = absurd F
+    new_synced (Raise by t m to) a N same key F = absurd F
+    new_synced (Finalise by t m) a N same key F = absurd F
+    new_synced (TakeTurn by turn) a N same key F = absurd F
+    new_synced (GiveTurn by turn) a N same key F = absurd F
+
+    new_stopped : (e : Event) → Same e → (n : ℕ) → FindsBy (CursorWord Stopped) n e found
+        → n ≡ (next_of x e).stopped
+    new_stopped (Look by at) same n F =
+        sym F.1 ∙ saw x p by at found told u same Stopped F.0
+    new_stopped (Put by Stopped value) same n F = sym F.1
+    new_stopped (Put by (OldestLive t) value) same n F = absurd (let q = F.0 in cc)
+    new_stopped (Put by Synced value) same n F = absurd (let q = F.0 in cc)
+    new_stopped (Register by o g) same n F = absurd F
+    new_stopped (Close by o g carried) same n F = absurd F
+    new_stopped (OpenGroup by o g) same n F = absurd F
+    new_stopped (MoveCurrent by o g) same n F = absurd F
+    new_stopped (Expire by o g) same n F = absurd F
+    new_stopped (Advance by o g) same n F = absurd F
+    new_stopped (Claim by from to what) same n F = absurd F
+    new_stopped (Switch by t m part) same n F = absurd F
+    new_stopped (Raise by t m to) same n F = absurd F
+    new_stopped (Finalise by t m) same n F = absurd F
+    new_stopped (TakeTurn by turn) same n F = absurd F
+    new_stopped (GiveTurn by turn) same n F = absurd F
+
+    -- an entry is claimed at the log key, which no marker found is behind
+    new_past : (e : Event) → IsStep x e → (ts : List OwnStep) → TrailTells capacity x ts
+        → ClaimsPast capacity e ts
+    new_past (Claim by from to Entry) a ts T = λ key F.
+        let low = log_past x L key (T.synced key F) in let at = a.row.3 in
+        subst (λ k. after k key ≤ from.0) fits (omega arith)
+    new_past (Claim by from to Marker) a ts T = tt
+    new_past e a ts T = tt
+
+    pub tells_more : (filed : Bool) (ts : List OwnStep) → TrailTells capacity x ts
+        → TrailTells capacity (next_of x e)
+        (record { event = e; found = found; filed = filed } ∷ ts)
+    tells_more filed ts T = let S = tells_still ts T in record {
+      synced = λ key F. ⊎_elim (λ now. new_synced e a N same key now) (λ old. S.synced key old) F;
+      stopped = λ n F above. ⊎_elim (λ now. new_stopped e same n now)
+          (λ old. S.stopped n old above) F;
+      past = (new_past e a ts T, T.past);
+    }
