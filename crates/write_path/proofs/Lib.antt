@@ -8,7 +8,9 @@ pub mod PlacedAt
 pub mod Handing
 pub mod Histories
 pub mod Accounted
+pub mod NoneDropped
 pub mod Outcomes
 pub mod SyncLists
+pub mod ClaimBehind
 pub mod OnlyFirst
 pub mod Acknowledged
