@@ -42,6 +42,7 @@ stands base w before p r x v after H same last is =
       start = H.start;
       end = H.end;
       logged = record {
+        behind = H.logged.behind;
         tables = H.logged.tables;
         listed = record {
           note = L.note;

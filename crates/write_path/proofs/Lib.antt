@@ -8,8 +8,10 @@ pub mod PlacedAt
 pub mod Handing
 pub mod Histories
 pub mod Accounted
+pub mod NoneDropped
 pub mod Outcomes
 pub mod SyncLists
+pub mod ClaimBehind
 pub mod OnlyFirst
 pub mod Sealing
 pub mod SealedApart

@@ -78,6 +78,7 @@ use Rattle.write_path.specs.Closed.{
 use Rattle.write_path.specs.Opened.{numbers_of}
 use Rattle.write_path.specs.Sealed.{AreSealedApart}
 use Rattle.write_path.proofs.Accounted.{each_once}
+use Rattle.write_path.proofs.NoneDropped.{none_dropped}
 use Rattle.write_path.proofs.Histories.{noted, writes_are, run_notes, by_all, all_noted}
 use Rattle.write_path.proofs.SealedApart.{sealed_apart}
 
@@ -186,6 +187,8 @@ module _ {K : Type 0} (size : PathSize) where
             omega arith;
         synced_is = synced;
         dropped_are = ap (λ (k : Lasting). k.dropped) same;
+        none_dropped = ap (λ (k : Lasting). k.dropped) same
+            ∙ none_dropped x L size.tables e.unswitched;
         stops = stops;
         found_synced = known_of x
             (λ (s : PathSeat K). part_of s.member ≡ seat_of x s.member.number) (IsSyncedFor h)
@@ -256,6 +259,7 @@ module _ {K : Type 0} (size : PathSize) where
         synced_below = omega arith;
         synced_is = synced;
         dropped_are = ap (λ (k : Lasting). k.dropped) same;
+        none_dropped = ap (λ (k : Lasting). k.dropped) same;
         stops = ap (λ (k : Lasting). k.stopped) same;
         found_synced = subst (λ (l : List (PathSeat K)). All (IsSyncedFor h) l)
             (sym (no_seat seats none_there)) (All-nil (IsSyncedFor h));

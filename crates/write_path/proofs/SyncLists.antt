@@ -113,7 +113,7 @@ one_more s (TakeTurn by turn) l B A = A
 one_more s (GiveTurn by turn) l B A = A
 one_more s (Put by cursor value) l B A = A
 
-list_below : (s : ℕ) (ts : List OwnStep) → WroteBelow s ts → AllTo s (writes_of ts)
+pub list_below : (s : ℕ) (ts : List OwnStep) → WroteBelow s ts → AllTo s (writes_of ts)
 list_below s [] B = λ n h. absurd (let inside = h.1 in omega arith)
 list_below s (t ∷ ts) B = one_more s t.event (writes_of ts) B.0 (list_below s ts B.1)
 

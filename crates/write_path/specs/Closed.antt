@@ -119,6 +119,8 @@ pub record IsOutcome {K : Type 0} (size : PathSize) (seats : List (PathSeat K)) 
   -- the keeper has what the run made lasting, dropped and stopped
   pub synced_is : h.synced ≡ core.synced
   pub dropped_are : h.dropped ≡ core.dropped
+  -- no segment has gone, since no memtable was switched
+  pub none_dropped : h.dropped ≡ []
   pub stops : stopped_with h.stopped h.faults ≡ fault_count core.stopped
   -- so it has all that a seat knows to be synced, and has stopped where a seat knows that
   pub found_synced : All (IsSyncedFor h) seats

@@ -1,6 +1,8 @@
 -- What the waiting calls of a write leave of its seat, and what a write answers.
 use Rattle.std.specs.Prelude.{◌≡◌, ℕ, ◌≤◌, List, Some}
+use Rattle.std.specs.List.{Contains}
 use Rattle.atomic_table.specs.Seated.{TableId}
+use Rattle.path_core.specs.declared.note.EntryNote.{EntryNote}
 use Rattle.path_core.specs.Keys.{entry_end, ordinal_of}
 use Rattle.path_rule.specs.declared.table.Member.{Member}
 use Rattle.path_rule.specs.declared.view.OwnStep.{OwnStep}
@@ -22,9 +24,15 @@ pub record HasNoRoom (size : PathSize) (bytes key : ℕ) (v : View) : Type 0 whe
   pub none : size.ordinals ≤ ordinal_of (entry_end size.capacity key bytes)
   pub found : v.part.found.log ≡ Some key
 
--- A write with this range was logged by seat w: the list is the old one and this write.
+-- each write of a seat's list ends at or below a key
+abbrev pub WritesEndBelow : ℕ → List OwnStep → Type 0
+WritesEndBelow key trail = (n : EntryNote) → Contains (writes_of trail) n → n.end.0 ≤ key
+
+-- A write with this range was logged by seat w, behind all of its list: the list is the old one and
+-- this write.
 pub record IsLogged (before : List OwnStep) (w start end : ℕ) (prepared : Prepared)
     (after : List OwnStep) : Type 0 where
+  pub behind : WritesEndBelow start before
   pub tables : ℕ
   pub listed : IsListed before after w start end tables prepared
 

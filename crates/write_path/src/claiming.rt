@@ -1,6 +1,7 @@
 //! A write claims its range of the log, by one try.
-ghost use Rattle.std.specs.Prelude.{◌≡◌, ◌+◌, ◌/◌, ◌≤◌};
+ghost use Rattle.std.specs.Prelude.{◌≡◌, ◌+◌, ◌/◌, ◌≤◌, ⊤};
 ghost use Rattle.path_rule.specs.Members.{view_of, IsOf};
+ghost use Rattle.write_path.specs.Commits.{WritesEndBelow};
 ghost use Rattle.write_path.specs.Claims.{MatchClaim, IsClaim, IsAgain, IsSpent};
 ghost use Rattle.write_path.specs.Tries.{Stays};
 
@@ -42,6 +43,8 @@ impl<K: Keeper, A: Allocator> WritePath<K, A> {
             (view_of a.member))
             (λ a key. IsSpent self.now.table.size (view_of seat.member) seat.member.number size
             key.0 (view_of a.member)) }
+        ensures behind { MatchClaim result
+            (λ c. WritesEndBelow c.start.0 (view_of c.member).trail) (λ a seen. ⊤) (λ a key. ⊤) }
     {
         let Appending {
             mut member,

@@ -1,8 +1,8 @@
 //! A write up to its claim, by calls that wait: each tries until one try is not refused by what
 //! other seats did. The seat's list is as it was.
-ghost use Rattle.std.specs.Prelude.{◌≡◌, ◌+◌, ◌/◌, ◌<◌, ◌≤◌, MatchResult};
+ghost use Rattle.std.specs.Prelude.{◌≡◌, ◌+◌, ◌/◌, ◌<◌, ◌≤◌, IfOk, MatchResult};
 ghost use Rattle.path_rule.specs.Members.{view_of, IsOf};
-ghost use Rattle.write_path.specs.Commits.{HasNoRoom, KeepsList};
+ghost use Rattle.write_path.specs.Commits.{HasNoRoom, KeepsList, WritesEndBelow};
 
 use crate::claimed::Claimed;
 use crate::claiming::TryClaim;
@@ -63,13 +63,14 @@ impl<K: Keeper, A: Allocator> WritePath<K, A> {
     ) -> Result<Claimed<K>, (Appending<K>, Key)>
         requires table { IsOf self.now.table.table.shared.table_id self.now.table.size seat.member }
         requires size { (30 ≤ size) × (size ≤ self.now.table.size.capacity / 2) }
-        ensures { MatchResult result
+        ensures claim { MatchResult result
             (λ c. KeepsList self.now.table.table.shared.table_id self.now.table.size seat.member
             c.member × (c.writing ≡ seat.writing) × (c.group ≡ seat.group)
             × (c.start.0 + size ≡ c.end.0))
             (λ r. KeepsList self.now.table.table.shared.table_id self.now.table.size seat.member
             r.0.member × (r.0.writing ≡ seat.writing) × (r.0.group ≡ seat.group)
             × HasNoRoom self.now.table.size size r.1.0 (view_of r.0.member)) }
+        ensures behind { IfOk result (λ c. WritesEndBelow c.start.0 (view_of c.member).trail) }
     {
         let mut seat = seat;
         for _ in rt.forever() {

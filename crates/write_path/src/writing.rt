@@ -3,7 +3,13 @@ ghost use Rattle.std.specs.Prelude.{◌≡◌, ℕ, ◌+◌, ◌<◌};
 ghost use Rattle.clog_base.specs.declared.sizes.Sizes.{Sizes};
 ghost use Rattle.clog_mutation.specs.declared.mutation.Mutation.{Mutation};
 ghost use Rattle.path_rule.specs.Members.{view_of, IsOf};
-ghost use Rattle.write_path.specs.Commits.{HasNoRoom, IsLogged, IsWritten, KeepsList};
+ghost use Rattle.write_path.specs.Commits.{
+  HasNoRoom,
+  IsLogged,
+  IsWritten,
+  KeepsList,
+  WritesEndBelow,
+};
 ghost use Rattle.write_path.specs.Tries.{Stays};
 ghost use Rattle.write_path.specs.Writes.{IsPrepared, entry_size};
 
@@ -40,6 +46,7 @@ impl<K: Keeper, A: Allocator> WritePath<K, A> {
         requires prepared { (sizes : Sizes) × (line : ℕ) × (m : Mutation)
             × IsPrepared sizes line m prepared × (seat.start.0 + entry_size m ≡ seat.end.0)
             × (sizes.tables ≡ self.now.table.size.tables) }
+        requires behind { WritesEndBelow seat.start.0 (view_of seat.member).trail }
         ensures same { Stays self.now.table.table.shared.table_id self.now.table.size seat.member
             result.member }
         ensures logged { IsLogged (view_of seat.member).trail seat.member.number seat.start.0

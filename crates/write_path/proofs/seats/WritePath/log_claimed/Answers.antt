@@ -4,6 +4,7 @@ use Rattle.write_path.proofs.seats.WritePath.log_claimed.Goals as goal
 
 pub returns-clause-logged : goal.returns-clause-logged
 returns-clause-logged g c = let L = c.deposit-deposited.ensures.listed in record {
+  behind = c.requires.behind;
   tables = c.deposit-deposited.result.0.tables;
   listed = record {
     note = L.note;

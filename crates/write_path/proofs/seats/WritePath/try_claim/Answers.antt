@@ -1,4 +1,6 @@
 use Rattle.std.proofs.Common.{
+  ◌≡◌,
+  ◌+◌,
   ◌-◌,
   ℕ,
   ◌^◌,
@@ -20,6 +22,7 @@ use Rattle.path_core.specs.declared.event.ClaimKind.TheVariants.{Entry}
 use Rattle.path_core.specs.declared.event.Event.TheVariants.{Look, Claim}
 use Rattle.path_core.specs.declared.event.Place.TheVariants.{Log}
 use Rattle.path_core.specs.declared.seat.Range.{Range}
+use Rattle.path_core.specs.Keys.{entry_end}
 use Rattle.path_core.specs.Parts.{HoldsNoTurn}
 use Rattle.path_rule.specs.declared.slot.Slot.TheVariants.{Notes}
 use Rattle.path_rule.specs.declared.view.View.{View}
@@ -27,6 +30,7 @@ use Rattle.path_rule.specs.Boxes.{box_of}
 use Rattle.path_rule.specs.Calls.{Did}
 use Rattle.path_rule.specs.Rule.{view_after}
 use Rattle.path_rule.proofs.seats.Staying.{view_columns, free_stays}
+use Rattle.write_path.proofs.ClaimBehind.{claim_behind}
 use Rattle.write_path.proofs.seats.WritePath.try_claim.Goals as goal
 
 pub invariant_of-seat : goal.invariant_of-seat
@@ -121,6 +125,20 @@ returns-then-found-looked-clause-step g c =
             (λ i. (L.step.view i, L.same.1 i)) D;
       },
     )
+
+pub returns-then-found-looked-clause-behind : goal.returns-then-found-looked-clause-behind
+returns-then-found-looked-clause-behind g c =
+    let D = c.claim-found.ensures.hit (omega arith) in
+    let to = c.in-Some.to in
+    let from = c.look_log-looked.result in
+    let moves = c.in-Some.ensures.moves in
+    let bytes = moves.1 in
+    let long : to - c.from-bytes.result + c.from-bytes.result ≡ to =
+    (let end = moves.0.2 in let size = moves.1 in let is = c.from-bytes.ensures in omega arith) in
+    claim_behind c.look_log-looked.new.member.seat.me.0 c.claim-found.new.member.seat.me.0
+    c.look_log-looked.new.member.number from to D c.size.result.capacity c.from-bytes.result
+    (to - c.from-bytes.result)
+    (moves.0.2 ∙ ap (λ (k : ℕ). entry_end c.size.result.capacity from k) bytes) long
 
 pub returns-else-found-looked-clause-step : goal.returns-else-found-looked-clause-step
 returns-else-found-looked-clause-step g c =

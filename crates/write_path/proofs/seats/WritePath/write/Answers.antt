@@ -1,4 +1,6 @@
-use Rattle.std.proofs.Common.{◌/◌, ◌≤◌, ◌∷◌, ap, ◌∙◌, subst, arith}
+use Rattle.std.proofs.Common.{◌/◌, ◌≤◌, List, ◌∷◌, ap, sym, ◌∙◌, subst, arith}
+use Rattle.std.specs.List.{Contains}
+use Rattle.path_core.specs.declared.note.EntryNote.{EntryNote}
 use Rattle.write_path.proofs.LeastEntry.{entry_least}
 use Rattle.write_path.proofs.seats.WritePath.write.Goals as goal
 
@@ -13,12 +15,14 @@ claim-requires-clause-size g c =
 pub log_claimed-requires-clause-prepared : goal.log_claimed-requires-clause-prepared
 log_claimed-requires-clause-prepared g c =
     let P = c.requires.prepared in let size = P.3.size in let is = c.size.ensures in
-    let sum = c.in-Ok.ensures.3 in (P.0, P.1, P.2, P.3, omega arith, P.4)
+    let sum = c.in-Ok.ensures.claim.3 in (P.0, P.1, P.2, P.3, omega arith, P.4)
 
 pub returns-in-Ok-clause-written : goal.returns-in-Ok-clause-written
 returns-in-Ok-clause-written g c =
-    let L = c.log_claimed.ensures.logged in let C = c.in-Ok.ensures.0 in
+    let L = c.log_claimed.ensures.logged in let C = c.in-Ok.ensures.claim.0 in
     let A = c.append-appending.ensures.0 in let S = c.start-begun.ensures.0 in record {
+      behind = λ n h. L.behind n
+          (subst (λ (l : List EntryNote). Contains l n) (sym (C.1 ∙ (A.1 ∙ S.1))) h);
       tables = L.tables;
       listed = record {
         note = L.listed.note;
