@@ -16,4 +16,5 @@ pub mod OnlyFirst
 pub mod Sealing
 pub mod SealedApart
 pub mod SealedRows
+pub mod Rooms
 pub mod Acknowledged

@@ -1,28 +1,33 @@
 -- What the waiting calls of a write leave of its seat, and what a write answers.
-use Rattle.std.specs.Prelude.{◌≡◌, ℕ, ◌≤◌, List, Some}
+use Rattle.std.specs.Prelude.{◌≡◌, ℕ, ◌≤◌, List, length, Some}
 use Rattle.std.specs.List.{Contains}
 use Rattle.atomic_table.specs.Seated.{TableId}
+use Rattle.path_core.specs.declared.event.Place.TheVariants.{Log}
 use Rattle.path_core.specs.declared.note.EntryNote.{EntryNote}
 use Rattle.path_core.specs.Keys.{entry_end, ordinal_of}
 use Rattle.path_rule.specs.declared.table.Member.{Member}
 use Rattle.path_rule.specs.declared.view.OwnStep.{OwnStep}
 use Rattle.path_rule.specs.declared.view.PathSize.{PathSize}
 use Rattle.path_rule.specs.declared.view.View.{View}
+use Rattle.path_rule.specs.Calls.{FoundSince}
 use Rattle.write_path.specs.declared.prepared.Prepared.{Prepared}
 use Rattle.write_path.specs.declared.writing.Written.{Written}
 use Rattle.write_path.specs.declared.writing.Written.TheVariants.{Logged, Spent}
 use Rattle.write_path.specs.Ends.{writes_of, IsListed}
 use Rattle.write_path.specs.Tries.{Stays}
 
--- It is the same seat of the path, and its list is as it was.
+-- It is the same seat of the path, its list is as it was, and its steps are no fewer.
 abbrev pub KeepsList : {K : Type 0} → TableId → PathSize → Member K → Member K → Type 0
 KeepsList id size m m' = Stays id size m m'
     × (writes_of m'.seat.me.0.trail ≡ writes_of m.seat.me.0.trail)
+    × (length m.seat.me.0.trail ≤ length m'.seat.me.0.trail)
 
--- The seat found this log key, at which an entry of so many bytes has no segment.
-pub record HasNoRoom (size : PathSize) (bytes key : ℕ) (v : View) : Type 0 where
+-- The seat found this log key, at a step behind its first `since` ones. At the key an entry of so
+-- many bytes has no segment.
+pub record HasNoRoom (size : PathSize) (bytes since key : ℕ) (v : View) : Type 0 where
   pub none : size.ordinals ≤ ordinal_of (entry_end size.capacity key bytes)
   pub found : v.part.found.log ≡ Some key
+  pub now : FoundSince since Log key v.trail
 
 -- each write of a seat's list ends at or below a key
 abbrev pub WritesEndBelow : ℕ → List OwnStep → Type 0
@@ -36,9 +41,11 @@ pub record IsLogged (before : List OwnStep) (w start end : ℕ) (prepared : Prep
   pub tables : ℕ
   pub listed : IsListed before after w start end tables prepared
 
--- What a write answers. Spent: it comes back, and the list is as it was.
+-- What a write answers. Spent: it comes back, the list is as it was, and the key was found in this
+-- call.
 abbrev pub IsWritten : PathSize → ℕ → List OwnStep → Prepared → Written → View → Type 0
 IsWritten size w before prepared (Logged start end) v =
     IsLogged before w start.0 end.0 prepared v.trail
 IsWritten size w before prepared (Spent back key) v = (back ≡ prepared)
-    × (writes_of v.trail ≡ writes_of before) × HasNoRoom size prepared.size key.0 v
+    × (writes_of v.trail ≡ writes_of before) × HasNoRoom size prepared.size (length before) key.0
+    v

@@ -1,5 +1,5 @@
 -- What a commit answers, and what is so then of its seat and of the seat's list.
-use Rattle.std.specs.Prelude.{◌≡◌, ℕ, suc, ◌≤◌, List, Some}
+use Rattle.std.specs.Prelude.{◌≡◌, ℕ, suc, ◌≤◌, List, length, Some}
 use Rattle.clog_base.specs.declared.sizes.Sizes.{Sizes}
 use Rattle.clog_base.specs.Positions.{position_of}
 use Rattle.clog_mutation.specs.declared.mutation.Mutation.{Mutation}
@@ -78,8 +78,8 @@ IsToldBehind n (NoRows groups) trail =
     (last : ℕ) × (suc last ≡ groups) × FoundWhileLast n (Current Append) last trail
 
 -- What a commit by seat w answers in a mode. A write waits for a sync in batch mode alone. Durable:
--- it is sealed, so a marker stands behind it before the seat's next one. Spent: it comes back, and
--- the list is as it was.
+-- it is sealed, so a marker stands behind it before the seat's next one. Spent: it comes back,
+-- the list is as it was, and the key was found in this call.
 abbrev pub IsCommitted : SyncCore → PathSize → ℕ → List OwnStep → Prepared → Commit → View → Type 0
 IsCommitted (Periodic period) size w before p (Logged r) v =
     HasReceipt size.base w before p r v.trail
@@ -93,7 +93,7 @@ IsCommitted Batch size w before p (Unsynced r fault) v =
     (h : HasReceipt size.base w before p r v.trail) × IsUnsynced size.at_open fault v
     × IsToldBehind h.logged.listed.note fault v.trail
 IsCommitted mode size w before p (Spent back key) v = (back ≡ p)
-    × (writes_of v.trail ≡ writes_of before) × HasNoRoom size p.size key.0 v
+    × (writes_of v.trail ≡ writes_of before) × HasNoRoom size p.size (length before) key.0 v
 
 -- the answer of a sync to a write that it did not make lasting
 abbrev pub told_by : SyncFault → SyncAnswer

@@ -36,7 +36,7 @@ pub enum Commit {
     Durable(Receipt),
     /// The write is logged and applied, but the sync that it waited for was refused.
     Unsynced(Receipt, SyncFault),
-    /// The write was neither logged nor applied: at this key, which was found, there is no room for
-    /// it, and no further segment. It comes back.
+    /// The write was neither logged nor applied: at this key, which was found in this call, there
+    /// is no room for it, and no further segment. It comes back.
     Spent(Prepared, Key),
 }

@@ -1,6 +1,6 @@
 //! A write up to its claim, by calls that wait: each tries until one try is not refused by what
 //! other seats did. The seat's list is as it was.
-ghost use Rattle.std.specs.Prelude.{◌≡◌, ◌+◌, ◌/◌, ◌<◌, ◌≤◌, IfOk, MatchResult};
+ghost use Rattle.std.specs.Prelude.{◌≡◌, ◌+◌, ◌/◌, ◌<◌, ◌≤◌, length, IfOk, MatchResult};
 ghost use Rattle.path_rule.specs.Members.{view_of, IsOf};
 ghost use Rattle.write_path.specs.Commits.{HasNoRoom, KeepsList, WritesEndBelow};
 
@@ -69,7 +69,8 @@ impl<K: Keeper, A: Allocator> WritePath<K, A> {
             × (c.start.0 + size ≡ c.end.0))
             (λ r. KeepsList self.now.table.table.shared.table_id self.now.table.size seat.member
             r.0.member × (r.0.writing ≡ seat.writing) × (r.0.group ≡ seat.group)
-            × HasNoRoom self.now.table.size size r.1.0 (view_of r.0.member)) }
+            × HasNoRoom self.now.table.size size (length (view_of seat.member).trail) r.1.0
+            (view_of r.0.member)) }
         ensures behind { IfOk result (λ c. WritesEndBelow c.start.0 (view_of c.member).trail) }
     {
         let mut seat = seat;

@@ -33,8 +33,8 @@ pub enum Written {
         /// Where it ends.
         end: Key,
     },
-    /// It was not logged: at this key, which was found, there is no room for it, and no further
-    /// segment. The write comes back.
+    /// It was not logged: at this key, which was found in this call, there is no room for it, and
+    /// no further segment. The write comes back.
     Spent(Prepared, Key),
 }
 
@@ -66,9 +66,9 @@ impl<K: Keeper, A: Allocator> WritePath<K, A> {
         requires groups { (seat.group < 65536) × (seat.writing < 65536) }
         ensures same { KeepsList self.now.table.table.shared.table_id self.now.table.size
             seat.member result.member }
-        ensures room { (bytes key : ℕ)
-            → HasNoRoom self.now.table.size bytes key (view_of seat.member)
-            → HasNoRoom self.now.table.size bytes key (view_of result.member) }
+        ensures room { (bytes since key : ℕ)
+            → HasNoRoom self.now.table.size bytes since key (view_of seat.member)
+            → HasNoRoom self.now.table.size bytes since key (view_of result.member) }
     {
         let begun = self.stop_append(seat);
         self.stop(begun)

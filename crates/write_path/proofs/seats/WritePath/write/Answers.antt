@@ -1,7 +1,9 @@
-use Rattle.std.proofs.Common.{◌/◌, ◌≤◌, List, ◌∷◌, ap, sym, ◌∙◌, subst, arith}
+use Rattle.std.proofs.Common.{ℕ, ◌/◌, ◌≤◌, List, ◌∷◌, length, refl, ap, sym, ◌∙◌, subst, arith}
 use Rattle.std.specs.List.{Contains}
 use Rattle.path_core.specs.declared.note.EntryNote.{EntryNote}
+use Rattle.write_path.specs.Commits.{HasNoRoom}
 use Rattle.write_path.proofs.LeastEntry.{entry_least}
+use Rattle.write_path.proofs.Rooms.{room_since}
 use Rattle.write_path.proofs.seats.WritePath.write.Goals as goal
 
 pub claim-requires-clause-size : goal.claim-requires-clause-size
@@ -35,3 +37,18 @@ returns-in-Ok-clause-written g c =
         of = L.listed.of;
       };
     }
+
+pub returns-in-Err-clause-written : goal.returns-in-Err-clause-written
+returns-in-Err-clause-written g c =
+    let E = c.in-Err.ensures in let A = c.append-appending in let S = c.start-begun.ensures.0 in
+    let L = c.leave.ensures in let size = c.args.self.now.table.size in
+    let before = c.args.seat.member.seat.me.0.trail in
+    let joined = A.result.member.seat.me.0.trail in
+    let key = c.in-Err.key.0 in let after = c.leave.result.member.seat.me.0 in (
+      refl,
+      L.same.1 ∙ (E.0.1 ∙ (A.ensures.0.1 ∙ S.1)),
+      room_since size c.args.prepared.size (length before) (length joined) key after
+          (let a = S.2 in let b = A.ensures.0.2 in omega arith)
+          (subst (λ (bytes : ℕ). HasNoRoom size bytes (length joined) key after) c.size.ensures
+          (L.room c.size.result (length joined) key E.3)),
+    )
