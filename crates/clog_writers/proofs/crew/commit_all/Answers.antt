@@ -1,0 +1,37 @@
+use Rattle.std.proofs.Common.{◌<◌, length, sym, subst, arith}
+use Rattle.clog_applied.specs.History.{share_of}
+use Rattle.clog_writers.specs.declared.worker.Worker.{Worker}
+use Rattle.clog_writers.specs.Crews.{HasLogged, IsReady}
+use Rattle.clog_writers.proofs.crew.commit_all.Goals as goal
+
+pub for_each_mut-requires-clause-accepts : goal.for_each_mut-requires-clause-accepts
+for_each_mut-requires-clause-accepts g c κs within = λ i p inside is.
+    let t = c.args.path.now.table in
+    let ready = c.requires.ready in
+    let lines = share_of t.size.seats i ready.0 in (
+      c.requires.sized,
+      c.requires.periodic,
+      (
+        i,
+        lines,
+        subst (λ (w : Worker g.row.K.Denot).
+            IsReady t.table.shared.table_id t.size c.args.sizes i lines w) (sym is)
+            (ready.1.each i p.now inside),
+      ),
+    )
+
+pub returns : goal.returns
+returns g c = λ mutations ready.
+    let t = c.args.path.now.table in
+    let count = ready.count in
+    let long = c.for_each_mut.auto.s in record {
+      count = omega (arith, count, long);
+      each = λ i d inside.
+          let low : i < length c.args.workers.now = omega (arith, inside, long) in
+          let lines = share_of t.size.seats i mutations in
+          let one = (c.for_each_mut.ensures i d low).1 in
+          subst (HasLogged t.table.shared.table_id t.size i lines) one.left
+          (one.call i lines
+          (subst (IsReady t.table.shared.table_id t.size c.args.sizes i lines)
+          (sym one.argument_is) (ready.each i d low)));
+    }

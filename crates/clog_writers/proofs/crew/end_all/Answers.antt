@@ -1,0 +1,103 @@
+use Rattle.std.proofs.Common.{
+  ◌≡◌,
+  ◌+◌,
+  List,
+  [],
+  ◌∷◌,
+  ◌++◌,
+  length,
+  None,
+  if◌then◌else◌,
+  sym,
+  ap,
+  subst,
+  arith,
+}
+use Rattle.std.proofs.lemmas.List.{nil_from_length}
+use Rattle.std.specs.Vec.{vec_len}
+use Rattle.clog_applied.specs.History.{share_of}
+use Rattle.path_rule.specs.declared.trying.PathSeat.{PathSeat}
+use Rattle.clog_writers.specs.declared.worker.Worker.{Worker}
+use Rattle.clog_writers.proofs.Gathering.{
+  Gathers,
+  all_gathered,
+  next_logged,
+  none_gathered,
+  one_gathered,
+}
+use Rattle.clog_writers.proofs.crew.end_all.Goals as goal
+
+pub loop-worker-init : goal.loop-worker-init
+loop-worker-init g c =
+    let t = c.args.path.now.table in
+    let gives = c.into_iter-worker-iterator.ensures.into_iter_gives in
+    let items = ap length gives.0 in record {
+      goes = λ mutations logged.
+          subst (λ (l : List (Worker g.row.K.Denot)).
+          Gathers t.table.shared.table_id t.size mutations l c.args.seats.now.items None)
+          (sym gives.0)
+          (subst (λ (l : List (PathSeat g.row.K.Denot)). Gathers t.table.shared.table_id t.size
+          mutations c.args.workers.items l None) (sym c.requires.none)
+          (none_gathered t.table.shared.table_id t.size mutations c.args.workers.items logged));
+      room = let none = ap length c.requires.none in
+          omega (arith, items, none, c.args.seats.now.ok, c.requires.room);
+      count = omega (arith, items, gives.1, c.args.workers.ok);
+    }
+
+pub end_share-seat-requires : goal.end_share-seat-requires
+end_share-seat-requires g c =
+    let t = c.args.path.now.table in
+    let l = c.loop-worker in
+    let logged = c.requires.logged in
+    let rest = c.next.new.self.rest.items in (
+      length l.seats.items,
+      share_of t.size.seats (length l.seats.items) logged.0,
+      next_logged t.table.shared.table_id t.size logged.0 c.in-Some.worker rest l.seats.items
+          l.first
+          (subst (λ (ws : List (Worker g.row.K.Denot)). Gathers t.table.shared.table_id t.size
+          logged.0 ws l.seats.items l.first) c.in-Some.ensures.steps.0
+          (l.invariant.goes logged.0 logged.1)),
+    )
+
+pub loop-worker-preserved : goal.loop-worker-preserved
+loop-worker-preserved g c =
+    let t = c.args.path.now.table in
+    let id = t.table.shared.table_id in
+    let l = c.loop-worker in let I = l.invariant in
+    let w = c.in-Some.worker in
+    let rest = c.next.new.self.rest.items in
+    let s = c.end_share-seat.result.0 in
+    let now = c.first_of-first.result in
+    let p = c.push.ensures in
+    let ok = c.if-is_err.ensures.negation in
+    let steps = c.in-Some.ensures.steps in
+    let xs = l.seats.items in
+    let pushed : c.push.new.self.items ≡ xs ++ s ∷ [] =
+    subst (λ b. c.push.new.self.items ≡ (if b then xs ++ s ∷ [] else xs)) ok p.items in
+    let short = ap length steps.0 in record {
+      goes = λ ms logged.
+          let before = subst (λ (ws : List (Worker g.row.K.Denot)). Gathers id t.size ms ws xs
+          l.first) steps.0 (I.goes ms logged) in
+          subst (λ (ss : List (PathSeat g.row.K.Denot)). Gathers id t.size ms rest ss now)
+          (sym pushed)
+          (one_gathered id t.size ms w rest xs l.first c.end_share-seat.result.1 now s before
+          (c.end_share-seat.ensures.ends (length xs) (share_of t.size.seats (length xs) ms)
+          (next_logged id t.size ms w rest xs l.first before))
+          c.end_share-seat.ensures.stops c.first_of-first.ensures.none c.first_of-first.ensures.one);
+      room =
+          let len = subst (λ b. vec_len c.push.new.self
+          ≡ (if b then vec_len l.seats + 1 else vec_len l.seats)) ok p.len in
+          omega (arith, len, short, p.capacity, I.room);
+      count = omega (arith, short, steps.1, I.count);
+    }
+
+pub returns : goal.returns
+returns g c = λ ms logged.
+    let t = c.args.path.now.table in
+    let l = c.loop-worker in let I = l.invariant in
+    let rest = l.worker-iterator.rest.items in
+    let none_left : rest ≡ [] = nil_from_length rest
+    (omega (arith, c.in-None.ensures.steps.0, I.count)) in
+    all_gathered t.table.shared.table_id t.size ms l.seats.items l.first
+    (subst (λ (ws : List (Worker g.row.K.Denot)). Gathers t.table.shared.table_id t.size ms ws
+    l.seats.items l.first) none_left (I.goes ms logged))

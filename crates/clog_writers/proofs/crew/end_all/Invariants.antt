@@ -1,0 +1,15 @@
+use Rattle.std.proofs.Common.{◌≡◌, ◌+◌, ◌≤◌, List, length, vec_capacity, vec_len}
+use Rattle.clog_mutation.specs.declared.mutation.Mutation.{Mutation}
+use Rattle.clog_writers.specs.Crews.{HaveLogged}
+use Rattle.clog_writers.proofs.Gathering.{Gathers}
+use Rattle.clog_writers.proofs.crew.end_all.Given as goal
+
+abbrev pub invariant-loop-worker : goal.invariant-loop-worker
+invariant-loop-worker g l = let t = l.path.table in record {
+  goes : (mutations : List Mutation)
+      → HaveLogged t.table.shared.table_id t.size mutations l.fn.workers.items
+      → Gathers t.table.shared.table_id t.size mutations l.worker-iterator.rest.items
+      l.seats.items l.first;
+  room : vec_len l.seats + length l.worker-iterator.rest.items ≤ vec_capacity l.seats;
+  count : l.worker-iterator.rest.len ≡ length l.worker-iterator.rest.items;
+}

@@ -1,0 +1,54 @@
+use Rattle.std.proofs.Common.{◌≡◌, List, [], ◌∷◌, ◌++◌, length, sym, ap, subst, arith}
+use Rattle.std.specs.List.{AllByRecursion}
+use Rattle.std.proofs.lemmas.List.{nil_from_length}
+use Rattle.clog_mutation.specs.declared.mutation.Mutation.{Mutation}
+use Rattle.clog_mutation.specs.Limits.{IsWithinLimits}
+use Rattle.clog_writers.specs.Crews.{AreDealt}
+use Rattle.clog_writers.proofs.Running.{written_back}
+use Rattle.clog_writers.proofs.Dealt.{DealsOut, all_out, begins_dealing, deals_one}
+use Rattle.clog_writers.proofs.dealing.deal.Goals as goal
+
+pub loop-mutation-init : goal.loop-mutation-init
+loop-mutation-init g c =
+    let gives = c.into_iter-mutation-iterator.ensures.into_iter_gives in
+    record {
+      goes = subst (λ (l : List Mutation). DealsOut c.args.sizes c.args.mutations.items l 0
+          c.in_ok-workers.workers.items) (sym gives.0)
+          (begins_dealing c.args.sizes c.args.mutations.items c.in_ok-workers.workers.items
+          c.in_ok-workers.ensures);
+      within = subst (AllByRecursion IsWithinLimits) (sym gives.0) c.requires.within;
+      count = let items = ap length gives.0 in omega (arith, items, gives.1, c.args.mutations.ok);
+    }
+
+pub loop-mutation-preserved : goal.loop-mutation-preserved
+loop-mutation-preserved g c =
+    let l = c.loop-mutation in let I = l.invariant in
+    let sizes = c.args.sizes in
+    let all = c.args.mutations.items in
+    let rest = c.next.new.self.rest.items in
+    let m = c.in-Some.mutation in
+    let steps = c.in-Some.ensures.steps in record {
+      goes = deals_one sizes all rest m l.line l.workers.items _
+          (subst (λ (r : List Mutation). DealsOut sizes all r l.line l.workers.items) steps.0 I.goes)
+          (λ done dealt is.
+          let more = c.in_ok-give.ensures done m
+          (subst (AreDealt sizes done) (sym c.as_mut_slice.ensures.value) dealt) is
+          c.in_ok-write.ensures in
+          let a = more.count in
+          let b = dealt.count in
+          subst (AreDealt sizes (done ++ m ∷ []))
+          (sym (written_back l.workers.len c.give.new.workers _
+          (omega (arith, a, b, l.workers.ok)))) more);
+      within = (subst (AllByRecursion IsWithinLimits) steps.0 I.within).1;
+      count = let short = ap length steps.0 in omega (arith, short, steps.1, I.count);
+    }
+
+pub returns : goal.returns
+returns g c =
+    let l = c.loop-mutation in let I = l.invariant in
+    let rest = l.mutation-iterator.rest.items in
+    let none_left : rest ≡ [] = nil_from_length rest
+    (omega (arith, c.in-None.ensures.steps.0, I.count)) in
+    all_out c.args.sizes c.args.mutations.items l.line l.workers.items
+    (subst (λ (r : List Mutation). DealsOut c.args.sizes c.args.mutations.items r l.line
+    l.workers.items) none_left I.goes)

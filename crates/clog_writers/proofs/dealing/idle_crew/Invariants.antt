@@ -1,0 +1,10 @@
+use Rattle.std.proofs.Common.{◌≡◌, [], length}
+use Rattle.std.specs.List.{All}
+use Rattle.clog_writers.specs.declared.worker.Worker.{Worker}
+use Rattle.clog_writers.proofs.dealing.idle_crew.Given as goal
+
+abbrev pub invariant-loop : goal.invariant-loop
+invariant-loop g l = record {
+  count : length l.workers.items ≡ l.counter;
+  idle : All (λ (w : Worker g.row.K.Denot). w.writes.items ≡ []) l.workers.items;
+}

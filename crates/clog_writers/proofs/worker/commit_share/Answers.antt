@@ -1,0 +1,26 @@
+use Rattle.std.proofs.Common.{ℕ, refl, sym, ap, ◌∙◌, subst}
+use Rattle.std.proofs.lemmas.Option.{same_Some}
+use Rattle.path_rule.specs.declared.trying.PathSeat.{PathSeat}
+use Rattle.clog_writers.specs.Shares.{ArePrepared, LogsShare, logged_by}
+use Rattle.clog_writers.proofs.worker.commit_share.Goals as goal
+
+pub returns : goal.returns
+returns g c = λ number lines ready.
+    let seated = ready.0 in
+    let same = same_Some seated.seat c.in-Some.seat
+    (sym seated.has ∙ (sym c.take.ensures.value ∙ c.in-Some.is)) in
+    let number_is = ap (λ (s : PathSeat g.row.K.Denot). s.member.number) (sym same)
+    ∙ seated.number_is in
+    let w = c.commit_writes-seat in
+    record {
+      seat = w.result.0;
+      has = refl;
+      of_path = w.ensures.same.0;
+      number_is = w.ensures.same.1 ∙ number_is;
+      logs = subst (λ (k : ℕ). LogsShare k lines (logged_by w.result.0.member) w.result.1)
+          number_is
+          (w.ensures.logs lines
+          (subst (λ (v : _). ArePrepared c.args.sizes lines v.items)
+          (sym c.replace-writes.ensures.value) ready.1));
+      stops = w.ensures.stops;
+    }

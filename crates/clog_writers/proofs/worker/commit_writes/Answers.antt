@@ -1,0 +1,127 @@
+use Rattle.std.proofs.Common.{
+  ℕ,
+  List,
+  ◌∷◌,
+  length,
+  reverse,
+  Some,
+  None,
+  sym,
+  ap,
+  ◌∙◌,
+  subst,
+  refl,
+  arith,
+}
+use Rattle.std.proofs.lemmas.List.{nil_from_length}
+use Rattle.std.proofs.lemmas.Option.{none-some}
+use Rattle.path_core.specs.declared.note.EntryNote.{EntryNote}
+use Rattle.path_rule.specs.Members.{view_of}
+use Rattle.sync_core.specs.declared.SyncCore.{SyncCore}
+use Rattle.write_path.specs.declared.prepared.Prepared.{Prepared}
+use Rattle.write_path.specs.Commits.{IsLogged}
+use Rattle.write_path.specs.Receipts.{IsCommitted}
+use Rattle.clog_writers.specs.Shares.{logged_by}
+use Rattle.clog_writers.proofs.Committing.{
+  GoesOn,
+  begins,
+  ends,
+  logged,
+  next_of,
+  spent,
+  where_logged,
+  where_refused,
+}
+use Rattle.clog_writers.proofs.worker.commit_writes.Goals as goal
+
+pub loop-prepared-init : goal.loop-prepared-init
+loop-prepared-init g c =
+    let gives = c.into_iter-prepared-iterator.ensures.into_iter_gives in
+    let w = c.args.seat.member.number in record {
+      same = (c.requires.table, refl);
+      goes = λ lines prepared. subst (λ (q : List Prepared × List EntryNote).
+          GoesOn c.args.sizes w lines q.0 q.1)
+          (λ i. (sym gives.0 i, reverse (sym c.requires.unused i)))
+          (begins c.args.sizes w lines c.args.writes.items prepared);
+      count = let items = ap length gives.0 in omega (arith, items, gives.1, c.args.writes.ok);
+    }
+
+pub commit-next-requires-clause-table : goal.commit-next-requires-clause-table
+commit-next-requires-clause-table g c = c.loop-prepared.invariant.same.0
+
+pub commit-next-requires-clause-prepared : goal.commit-next-requires-clause-prepared
+commit-next-requires-clause-prepared g c =
+    let I = c.loop-prepared.invariant in
+    let some = c.requires.prepared in
+    let w = c.args.seat.member.number in
+    let rest = c.next.new.self.rest.items in
+    let notes = logged_by c.loop-prepared.seat.member in
+    let goes = subst (λ (ps : List Prepared). GoesOn c.args.sizes w some.0 ps notes)
+    c.in-Some.ensures.steps.0 (I.goes some.0 some.1) in
+    let next = next_of c.args.sizes w some.0 c.in-Some.prepared rest notes goes in (
+      c.args.sizes,
+      next.line.number,
+      next.line.mutation,
+      next.prepared,
+      c.requires.sized.tables,
+      c.requires.sized.capacity,
+    )
+
+pub loop-prepared-preserved : goal.loop-prepared-preserved
+loop-prepared-preserved g c =
+    let l = c.loop-prepared in let I = l.invariant in let w = c.args.seat.member.number in
+    let steps = c.in-Some.ensures.steps in
+    let rest = c.next.new.self.rest.items in
+    let before = (view_of l.seat.member).trail in
+    let v = view_of c.commit-next.result.0.member in
+    let done = subst (λ (mode : SyncCore). IsCommitted mode c.args.path.now.table.size
+    l.seat.member.number before c.in-Some.prepared c.commit-next.result.1 v)
+    c.requires.periodic.1 c.commit-next.ensures.committed in
+    let there = where_logged c.requires.periodic.0 c.args.path.now.table.size
+    l.seat.member.number before c.in-Some.prepared v c.commit-next.result.1 done
+    (sym c.refusal_in.ensures ∙ c.in-None-refusal_in.is) in
+    record {
+      same = (c.commit-next.ensures.same.0, c.commit-next.ensures.same.1 ∙ I.same.1);
+      goes = λ lines prepared.
+          logged c.args.sizes w lines c.in-Some.prepared rest before v.trail there.start there.end
+          (subst (λ (k : ℕ). IsLogged before k there.start there.end c.in-Some.prepared v.trail)
+          I.same.1 there.is)
+          (subst (λ (ps : List Prepared). GoesOn c.args.sizes w lines ps
+          (logged_by l.seat.member)) steps.0 (I.goes lines prepared));
+      count = let short = ap length steps.0 in omega (arith, short, steps.1, I.count);
+    }
+
+pub returns-in-Some-refusal_in-clause-same : goal.returns-in-Some-refusal_in-clause-same
+returns-in-Some-refusal_in-clause-same g c =
+    (c.commit-next.ensures.same.0, c.commit-next.ensures.same.1 ∙ c.loop-prepared.invariant.same.1)
+
+pub returns-in-Some-refusal_in-clause-logs : goal.returns-in-Some-refusal_in-clause-logs
+returns-in-Some-refusal_in-clause-logs g c = λ lines prepared.
+    let l = c.loop-prepared in let I = l.invariant in let w = c.args.seat.member.number in
+    let fault = c.in-Some-refusal_in.fault in
+    let rest = c.next.new.self.rest.items in
+    let before = (view_of l.seat.member).trail in
+    let v = view_of c.commit-next.result.0.member in
+    let done = subst (λ (mode : SyncCore). IsCommitted mode c.args.path.now.table.size
+    l.seat.member.number before c.in-Some.prepared c.commit-next.result.1 v)
+    c.requires.periodic.1 c.commit-next.ensures.committed in
+    let refused = where_refused c.requires.periodic.0 c.args.path.now.table.size
+    l.seat.member.number before c.in-Some.prepared v c.commit-next.result.1 fault done
+    (sym c.refusal_in.ensures ∙ c.in-Some-refusal_in.is) in
+    ends c.args.sizes w lines (c.in-Some.prepared ∷ rest)
+    (logged_by c.commit-next.result.0.member) (Some fault)
+    (spent c.args.sizes w lines c.in-Some.prepared rest before v.trail refused.1
+    (subst (λ (ps : List Prepared). GoesOn c.args.sizes w lines ps (logged_by l.seat.member))
+    c.in-Some.ensures.steps.0 (I.goes lines prepared)))
+    (λ none. absurd (none-some fault (sym none)))
+
+pub returns-clause-same : goal.returns-clause-same
+returns-clause-same g c = c.loop-prepared.invariant.same
+
+pub returns-clause-logs : goal.returns-clause-logs
+returns-clause-logs g c = λ lines prepared.
+    let l = c.loop-prepared in let I = l.invariant in
+    let rest = l.prepared-iterator.rest.items in
+    ends c.args.sizes c.args.seat.member.number lines rest (logged_by l.seat.member) None
+    (I.goes lines prepared)
+    (λ same. nil_from_length rest (omega (arith, c.in-None.ensures.steps.0, I.count)))

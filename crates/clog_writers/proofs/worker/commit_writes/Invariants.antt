@@ -1,0 +1,16 @@
+use Rattle.std.proofs.Common.{◌≡◌, List, length}
+use Rattle.clog_applied.specs.History.{Line}
+use Rattle.write_path.specs.Tries.{Stays}
+use Rattle.clog_writers.specs.Shares.{ArePrepared, logged_by}
+use Rattle.clog_writers.proofs.Committing.{GoesOn}
+use Rattle.clog_writers.proofs.worker.commit_writes.Given as goal
+
+-- the first of the lines are logged, and the writes of the others are left
+abbrev pub invariant-loop-prepared : goal.invariant-loop-prepared
+invariant-loop-prepared g l = let t = l.path.table in record {
+  same : Stays t.table.shared.table_id t.size l.fn.seat.member l.seat.member;
+  goes : (lines : List Line) → ArePrepared l.fn.sizes lines l.fn.writes.items
+      → GoesOn l.fn.sizes l.fn.seat.member.number lines l.prepared-iterator.rest.items
+      (logged_by l.seat.member);
+  count : l.prepared-iterator.rest.len ≡ length l.prepared-iterator.rest.items;
+}

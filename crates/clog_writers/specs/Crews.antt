@@ -1,0 +1,108 @@
+-- Writers that each have a seat of one path, and a share of the lines of a file.
+use Rattle.std.specs.Prelude.{◌≡◌, ℕ, ◌<◌, List, [], length, slice_index_or, Option, Some, None}
+use Rattle.std.specs.List.{Contains}
+use Rattle.atomic_table.specs.Seated.{TableId}
+use Rattle.clog_base.specs.declared.sizes.Sizes.{Sizes}
+use Rattle.clog_mutation.specs.declared.mutation.Mutation.{Mutation}
+use Rattle.clog_applied.specs.History.{Line, share_of}
+use Rattle.path_rule.specs.declared.trying.PathSeat.{PathSeat}
+use Rattle.path_rule.specs.declared.view.PathSize.{PathSize}
+use Rattle.path_rule.specs.Members.{IsOf, part_of, view_of}
+use Rattle.sync_core.specs.declared.SyncCore.{SyncCore}
+use Rattle.sync_core.specs.declared.SyncCore.TheVariants.{Periodic}
+use Rattle.write_path.specs.Commits.{WritesEndBelow}
+use Rattle.write_path.specs.Opened.{size_of}
+use Rattle.write_path.specs.Ends.{writes_of}
+use Rattle.clog_writers.specs.declared.fault.WriteFault.{WriteFault}
+use Rattle.clog_writers.specs.declared.fault.WriteFault.TheVariants.{Spent, Stopped}
+use Rattle.clog_writers.specs.declared.worker.Worker.{Worker}
+use Rattle.clog_writers.specs.Shares.{ArePrepared, LogsShare, logged_by}
+
+-- each of a list is so for its place in it
+abbrev pub Each : {A : Type 0} → (ℕ → A → Type 0) → List A → Type 0
+Each {A} P xs = (i : ℕ) (d : A) → i < length xs → P i (slice_index_or xs i d)
+
+-- A path has these sizes.
+pub record IsSizedAs (size : PathSize) (sizes : Sizes) : Type 0 where
+  pub tables : sizes.tables ≡ size.tables
+  pub writers : sizes.writers ≡ size.seats
+  pub capacity : sizes.capacity ≡ size.capacity
+
+module _ {K : Type 0} where
+  -- the worker has the writes of its lines, all of them prepared
+  abbrev pub IsDealt : Sizes → List Line → Worker K → Type 0
+  IsDealt sizes lines w = ArePrepared sizes lines w.writes.items
+
+  -- each worker has the writes of its share
+  pub record AreDealt (sizes : Sizes) (mutations : List Mutation) (workers : List (Worker K)) :
+      Type 0 where
+    pub count : length workers ≡ sizes.writers
+    pub each : Each
+        (λ (i : ℕ) (w : Worker K). IsDealt sizes (share_of sizes.writers i mutations) w) workers
+
+  -- The worker has the seat of this number, which has written nothing.
+  pub record IsSeated (id : TableId) (size : PathSize) (number : ℕ) (w : Worker K) : Type 0 where
+    pub seat : PathSeat K
+    pub has : w.seat ≡ Some seat
+    pub of_path : IsOf id size seat.member
+    pub number_is : seat.member.number ≡ number
+    pub unused : writes_of (view_of seat.member).trail ≡ []
+
+  -- it is ready to log its lines
+  abbrev pub IsReady : TableId → PathSize → Sizes → ℕ → List Line → Worker K → Type 0
+  IsReady id size sizes number lines w = IsSeated id size number w × IsDealt sizes lines w
+
+  -- The worker has logged its lines, or the first of them.
+  pub record HasLogged (id : TableId) (size : PathSize) (number : ℕ) (lines : List Line)
+      (w : Worker K) : Type 0 where
+    pub seat : PathSeat K
+    pub has : w.seat ≡ Some seat
+    pub of_path : IsOf id size seat.member
+    pub number_is : seat.member.number ≡ number
+    pub logs : LogsShare number lines (logged_by seat.member) w.fault
+    -- it stops only where the log has no room
+    pub stops : (f : WriteFault) → w.fault ≡ Some f → f ≡ Spent
+
+  -- the seat found or put this count of faults, with which the log is stopped
+  abbrev pub KnowsStopped : ℕ → PathSeat K → Type 0
+  KnowsStopped n s = ((part_of s.member).found.stopped ≡ Some n) × (0 < n)
+
+  -- each worker is ready to log its share
+  pub record AreReady (id : TableId) (size : PathSize) (sizes : Sizes) (mutations : List Mutation)
+      (workers : List (Worker K)) : Type 0 where
+    pub count : length workers ≡ size.seats
+    pub each : Each (λ (i : ℕ) (w : Worker K).
+        IsReady id size sizes i (share_of size.seats i mutations) w) workers
+
+  -- each worker has logged its share, or the first of it
+  pub record HaveLogged (id : TableId) (size : PathSize) (mutations : List Mutation)
+      (workers : List (Worker K)) : Type 0 where
+    pub count : length workers ≡ size.seats
+    pub each : Each (λ (i : ℕ) (w : Worker K).
+        HasLogged id size i (share_of size.seats i mutations) w) workers
+
+  -- A seat has logged its share, and knows that it is synced where nothing was refused.
+  pub record HasEnded (id : TableId) (size : PathSize) (number : ℕ) (lines : List Line)
+      (fault : Option WriteFault) (s : PathSeat K) : Type 0 where
+    pub of_path : IsOf id size s.member
+    pub number_is : s.member.number ≡ number
+    pub logs : LogsShare number lines (logged_by s.member) fault
+    pub synced : fault ≡ None → (key : ℕ) × ((part_of s.member).found.synced ≡ Some key)
+        × WritesEndBelow key (view_of s.member).trail
+
+  -- So has each of these seats. Where the log has stopped one of them knows that.
+  pub record HaveEnded (id : TableId) (size : PathSize) (mutations : List Mutation)
+      (fault : Option WriteFault) (seats : List (PathSeat K)) : Type 0 where
+    pub count : length seats ≡ size.seats
+    pub each : Each (λ (i : ℕ) (s : PathSeat K).
+        HasEnded id size i (share_of size.seats i mutations) fault s) seats
+    pub stops : (at_open now : ℕ) → fault ≡ Some (Stopped at_open now)
+        → (s : PathSeat K) × Contains seats s × KnowsStopped now s
+
+-- The path was opened with these sizes over a keeper of this base, in periodic mode.
+pub record IsOpenFor (sizes : Sizes) (base : ℕ) (mode : SyncCore) (size : PathSize) :
+    Type 0 where
+  pub at_open : ℕ
+  pub size_is : size ≡ size_of sizes base at_open
+  pub period : ℕ
+  pub mode_is : mode ≡ Periodic period

@@ -1,0 +1,78 @@
+-- A writer's share of lines: its writes when they are prepared, and what it has logged of them.
+use Rattle.std.specs.Prelude.{
+  ◌≡◌,
+  ℕ,
+  ◌≤◌,
+  List,
+  [],
+  ◌∷◌,
+  ◌++◌,
+  reverse,
+  Option,
+  Some,
+  None,
+  ⊤,
+}
+use Rattle.std.specs.List.{AllPairs}
+use Rattle.clog_base.specs.declared.sizes.Sizes.{Sizes}
+use Rattle.clog_applied.specs.History.{Line}
+use Rattle.path_core.specs.declared.note.EntryNote.{EntryNote}
+use Rattle.path_rule.specs.declared.table.Member.{Member}
+use Rattle.path_rule.specs.Members.{view_of}
+use Rattle.write_path.specs.declared.commit.Commit.{Commit}
+use Rattle.write_path.specs.declared.commit.Commit.TheVariants.{
+  Logged,
+  Durable,
+  Unsynced,
+  Spent as NoRoom,
+}
+use Rattle.write_path.specs.declared.prepared.Prepared.{Prepared}
+use Rattle.write_path.specs.Ends.{writes_of}
+use Rattle.write_path.specs.Writes.{IsNoteOf, IsPrepared}
+use Rattle.clog_writers.specs.declared.fault.WriteFault.{WriteFault}
+use Rattle.clog_writers.specs.declared.fault.WriteFault.TheVariants.{Spent}
+
+-- these are the writes of lines, one by one, with all of their memory
+abbrev pub ArePrepared : Sizes → List Line → List Prepared → Type 0
+ArePrepared sizes [] [] = ⊤
+ArePrepared sizes [] (p ∷ ps) = ⊥
+ArePrepared sizes (l ∷ ls) [] = ⊥
+ArePrepared sizes (l ∷ ls) (p ∷ ps) =
+    IsPrepared sizes l.number l.mutation p × ArePrepared sizes ls ps
+
+-- The note is what a writer deposited for a line.
+pub record IsWriteOf (writer : ℕ) (l : Line) (n : EntryNote) : Type 0 where
+  pub by : n.writer.0 ≡ writer
+  pub is : IsNoteOf l.number l.mutation n
+
+-- these are a writer's notes of lines, one by one
+abbrev pub AreWritesOf : ℕ → List Line → List EntryNote → Type 0
+AreWritesOf writer [] [] = ⊤
+AreWritesOf writer [] (n ∷ ns) = ⊥
+AreWritesOf writer (l ∷ ls) [] = ⊥
+AreWritesOf writer (l ∷ ls) (n ∷ ns) = IsWriteOf writer l n × AreWritesOf writer ls ns
+
+-- entries in the order of the log, none over another
+abbrev pub Rise : List EntryNote → Type 0
+Rise notes = AllPairs (λ (a b : EntryNote). a.end.0 ≤ b.start.0) notes
+
+-- what a seat has logged, the oldest first
+abbrev pub logged_by : {K : Type 0} → Member K → List EntryNote
+logged_by m = reverse (writes_of (view_of m).trail)
+
+-- A writer logged the first of its lines, in order; and all of them, where nothing was refused.
+pub record LogsShare (writer : ℕ) (lines : List Line) (notes : List EntryNote)
+    (fault : Option WriteFault) : Type 0 where
+  pub done : List Line
+  pub left : List Line
+  pub parts : lines ≡ done ++ left
+  pub are : AreWritesOf writer done notes
+  pub rise : Rise notes
+  pub all : fault ≡ None → left ≡ []
+
+-- why a write was not logged, if it was not
+abbrev pub refusal_in : Commit → Option WriteFault
+refusal_in (Logged r) = None
+refusal_in (Durable r) = None
+refusal_in (Unsynced r fault) = None
+refusal_in (NoRoom back key) = Some Spent

@@ -1,0 +1,157 @@
+//! The seats of a path are given to workers, all workers commit their shares in threads, and the
+//! seats come back.
+ghost use Rattle.std.specs.Prelude.{◌≡◌, ◌≤◌, ℕ, List, [], length, Some, vec_capacity};
+ghost use Rattle.clog_mutation.specs.declared.mutation.Mutation.{Mutation};
+ghost use Rattle.clog_applied.specs.History.{Line};
+ghost use Rattle.clog_writers.specs.Crews.{
+  AreDealt,
+  AreReady,
+  HasEnded,
+  HasLogged,
+  HaveEnded,
+  HaveLogged,
+  IsReady,
+  IsSizedAs,
+  KnowsStopped,
+};
+ghost use Rattle.clog_writers.specs.declared.fault.WriteFault.TheVariants.{Stopped};
+ghost use Rattle.sync_core.specs.declared.SyncCore.TheVariants.{Periodic};
+ghost use Rattle.write_path.specs.Opened.{AreNew};
+
+use crate::fault::{WriteFault, first_of, refusal_of};
+use crate::worker::{Worker, commit_share};
+use clog_base::Sizes;
+use path_core::Keeper;
+use std::alloc::Global;
+use std::sync::Wait;
+use std::thread;
+use std::thread::Threads;
+use write_path::{PathSeat, WritePath};
+
+// Gives a worker its seat.
+fn take_seat<K: Keeper + Drop>(worker: &mut Worker<K>, seat: PathSeat<K>)
+    ensures seat { worker.new.seat ≡ Some seat }
+    ensures writes { worker.new.writes ≡ worker.old.writes }
+{
+    worker.seat = Some(seat);
+}
+
+/// Gives each worker its seat.
+pub fn seat_all<K: Keeper + Drop>(
+    path: &WritePath<K, Global>,
+    sizes: Sizes,
+    workers: &mut [Worker<K>],
+    seats: Vec<PathSeat<K>>,
+)
+    requires sized { IsSizedAs path.now.table.size sizes }
+    requires seats { AreNew path.now.table.table.shared.table_id path.now.table.size
+        path.now.table.size.seats seats.items }
+    requires dealt { (mutations : List Mutation) × AreDealt sizes mutations workers.old }
+    ensures { (mutations : List Mutation) → AreDealt sizes mutations workers.old
+        → AreReady path.now.table.table.shared.table_id path.now.table.size sizes mutations
+        workers.new }
+{
+    let mut seats = seats;
+    while let Some(seat) = seats.pop() {
+        let number = seats.len();
+        take_seat(&mut workers[number], seat);
+    }
+}
+
+/// Each worker commits its share in a thread of its own, where one can be started.
+pub fn commit_all<R: Threads + Wait + Sync, K: Keeper + Send>(
+    rt: &R,
+    alloc: Global,
+    path: &WritePath<K, Global>,
+    sizes: Sizes,
+    workers: &mut [Worker<K>],
+)
+    requires sized { IsSizedAs path.now.table.size sizes }
+    requires periodic { (period : ℕ) × (path.now.mode ≡ Periodic period) }
+    requires ready { (mutations : List Mutation)
+        × AreReady path.now.table.table.shared.table_id path.now.table.size sizes mutations
+        workers.old }
+    ensures { (mutations : List Mutation)
+        → AreReady path.now.table.table.shared.table_id path.now.table.size sizes mutations
+        workers.old
+        → HaveLogged path.now.table.table.shared.table_id path.now.table.size mutations
+        workers.new }
+{
+    thread::for_each_mut(
+        rt,
+        workers,
+        64,
+        &|_place, worker: &mut Worker<K>|
+            requires { IsSizedAs path.now.table.size sizes
+                × ((period : ℕ) × (path.now.mode ≡ Periodic period))
+                × ((number : ℕ) × (lines : List Line)
+                × IsReady path.now.table.table.shared.table_id path.now.table.size sizes number
+                lines worker.old) }
+            ensures { (number : ℕ) (lines : List Line)
+                → IsReady path.entry.now.table.table.shared.table_id path.entry.now.table.size
+                sizes number lines worker.old
+                → HasLogged path.entry.now.table.table.shared.table_id path.entry.now.table.size
+                number lines worker.new }
+        { commit_share(rt, alloc, path, sizes, worker) },
+    );
+}
+
+// Syncs the log behind a worker's share, and gives its seat back.
+fn end_share<R: Wait, K: Keeper + Drop>(
+    rt: &R,
+    alloc: Global,
+    path: &WritePath<K, Global>,
+    worker: Worker<K>,
+) -> (PathSeat<K>, Option<WriteFault>)
+    requires { (number : ℕ) × (lines : List Line)
+        × HasLogged path.now.table.table.shared.table_id path.now.table.size number lines worker }
+    ensures ends { (number : ℕ) (lines : List Line)
+        → HasLogged path.now.table.table.shared.table_id path.now.table.size number lines worker
+        → HasEnded path.now.table.table.shared.table_id path.now.table.size number lines result.1
+        result.0 }
+    ensures stops { (at_open now : ℕ) → result.1 ≡ Some (Stopped at_open now)
+        → KnowsStopped now result.0 }
+{
+    let Worker {
+        seat,
+        writes: _,
+        fault,
+    } = worker;
+    match seat {
+        Some(seat) => {
+            let (seat, answer) = path.sync(rt, alloc, seat);
+            (seat, first_of(fault, refusal_of(answer)))
+        }
+        None => unreachable!(),
+    }
+}
+
+/// Syncs the log behind all shares, and gives the seats back, in order. It takes no memory.
+pub fn end_all<R: Wait, K: Keeper + Drop>(
+    rt: &R,
+    alloc: Global,
+    path: &WritePath<K, Global>,
+    workers: Vec<Worker<K>>,
+    seats: &mut Vec<PathSeat<K>>,
+) -> Option<WriteFault>
+    requires logged { (mutations : List Mutation)
+        × HaveLogged path.now.table.table.shared.table_id path.now.table.size mutations
+        workers.items }
+    requires room { length workers.items ≤ vec_capacity seats.old }
+    requires none { seats.old.items ≡ [] }
+    ensures { (mutations : List Mutation)
+        → HaveLogged path.now.table.table.shared.table_id path.now.table.size mutations
+        workers.items
+        → HaveEnded path.now.table.table.shared.table_id path.now.table.size mutations result
+        seats.new.items }
+{
+    let mut first = None;
+    for worker in workers {
+        let (seat, fault) = end_share(rt, alloc, path, worker);
+        first = first_of(first, fault);
+        if seats.push(seat).is_err() {
+            unreachable!()
+        }
+    }
+    first
+}

@@ -1,0 +1,98 @@
+//! The lines of a file are dealt out to workers: line `n`, from 1, goes to the worker of number `n`
+//! modulo their count. All memory of their writes is taken here.
+ghost use Rattle.std.specs.Prelude.{◌≡◌, ℕ, ◌+◌, ◌<◌, ◌^◌, ◌++◌, List, [], ◌∷◌, length, IfOk, OnOk};
+ghost use Rattle.std.specs.List.{AllByRecursion};
+ghost use Rattle.clog_mutation.specs.declared.mutation.Mutation.{Mutation as MutationOf};
+ghost use Rattle.clog_mutation.specs.Limits.{IsWithinLimits};
+ghost use Rattle.clog_spec.specs.Sizes.{most_tables};
+ghost use Rattle.clog_writers.specs.Crews.{AreDealt};
+ghost use Rattle.write_path.specs.Writes.{IsPrepared};
+
+use crate::fault::WriteFault;
+use crate::worker::Worker;
+use clog_base::Sizes;
+use clog_mutation::Mutation;
+use path_core::Keeper;
+use std::alloc::{AllocError, Global};
+use write_path::{PrepareFault, Prepared};
+
+// A worker that has no lines.
+fn idle_worker<K>(alloc: Global) -> Worker<K>
+    ensures { result.writes.items ≡ [] }
+{
+    Worker {
+        seat: None,
+        writes: Vec::new(alloc),
+        fault: None,
+    }
+}
+
+// Workers that have no lines.
+fn idle_crew<K: Keeper + Drop>(alloc: Global, sizes: Sizes) -> Result<Vec<Worker<K>>, WriteFault>
+    ensures { IfOk result (λ v. AreDealt sizes [] v.items) }
+{
+    let mut workers = Vec::new(alloc);
+    for _ in 0..sizes.writers {
+        workers.push(idle_worker(alloc))?;
+    }
+    Ok(workers)
+}
+
+// The write of a line, with all of its memory.
+fn prepare(
+    alloc: Global,
+    sizes: Sizes,
+    line: u32,
+    mutation: Mutation,
+) -> Result<Prepared, WriteFault>
+    requires within { IsWithinLimits mutation }
+    requires tables { sizes.tables ≡ most_tables }
+    ensures { IfOk result (λ p. IsPrepared sizes line mutation p) }
+{
+    match Prepared::make(alloc, sizes, line, mutation) {
+        Ok(prepared) => Ok(prepared),
+        Err(PrepareFault::TooLarge { size, max }) => Err(WriteFault::TooLarge {
+            line,
+            size,
+            most: max,
+        }),
+        Err(PrepareFault::OutOfMemory) => Err(WriteFault::OutOfMemory),
+    }
+}
+
+// Gives the next line's write to the worker that it belongs to.
+fn give<K: Keeper + Drop>(
+    workers: &mut [Worker<K>],
+    sizes: Sizes,
+    line: u32,
+    write: Prepared,
+) -> Result<(), AllocError>
+    requires { length workers.old ≡ sizes.writers }
+    ensures { OnOk result ((lines : List MutationOf) (m : MutationOf)
+        → AreDealt sizes lines workers.old → line ≡ length lines + 1
+        → IsPrepared sizes line m write → AreDealt sizes (lines ++ m ∷ []) workers.new) }
+{
+    let number = (line % u32::from(sizes.writers)) as usize;
+    Ok(workers[number].writes.push(write)?)
+}
+
+/// Deals the lines of a file out to workers that have no seats yet.
+pub fn deal<K: Keeper + Drop>(
+    alloc: Global,
+    sizes: Sizes,
+    mutations: Vec<Mutation>,
+) -> Result<Vec<Worker<K>>, WriteFault>
+    requires few { length mutations.items < 2 ^ 32 }
+    requires within { AllByRecursion IsWithinLimits mutations.items }
+    requires tables { sizes.tables ≡ most_tables }
+    ensures { IfOk result (λ v. AreDealt sizes mutations.items v.items) }
+{
+    let mut workers = idle_crew(alloc, sizes)?;
+    let mut line: u32 = 0;
+    for mutation in mutations {
+        line += 1;
+        let write = prepare(alloc, sizes, line, mutation)?;
+        give(workers.as_mut_slice(), sizes, line, write)?;
+    }
+    Ok(workers)
+}

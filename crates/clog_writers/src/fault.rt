@@ -1,0 +1,99 @@
+//! Why lines were not all logged by their writers.
+ghost use Rattle.std.specs.Prelude.{◌≡◌, ◌⊎◌, ℕ, None, Some};
+ghost use Rattle.clog_writers.specs.declared.fault.WriteFault.TheVariants.{Stopped};
+ghost use Rattle.path_rule.specs.declared.answer.SyncAnswer.TheVariants.{
+  Done,
+  Stopped as LogStopped,
+};
+
+use clog_base::OutOfMemory;
+use std::alloc::{AllocError, AllocFailed};
+use write_path::SyncAnswer;
+
+/// Why lines were not all logged by their writers.
+#[derive(Clone, Copy, Debug, PartialEq, Eq)]
+pub enum WriteFault {
+    /// An entry is larger than half a segment's capacity. Nothing is written.
+    TooLarge {
+        /// The first line whose entry is, from 1.
+        line: u32,
+        /// Its size in bytes, or the greatest `u32` where that is less.
+        size: u32,
+        /// The most bytes that an entry may have.
+        most: u32,
+    },
+    /// Memory was refused.
+    OutOfMemory,
+    /// The log has no further segment for a line.
+    Spent,
+    /// The disk has failed.
+    Stopped {
+        /// Its count of faults when the store was opened.
+        at_open: u64,
+        /// The count now.
+        now: u64,
+    },
+    /// All groups of the append order that there are words for were made: this many.
+    Rows(u64),
+}
+
+impl From<OutOfMemory> for WriteFault {
+    ghost use Rattle.clog_writers.specs.declared.fault.WriteFault.TheVariants.{
+      OutOfMemory as no_memory,
+    };
+
+    ghost from_gives = { λ _ e. e ≡ no_memory };
+
+    fn from(_: OutOfMemory) -> Self {
+        WriteFault::OutOfMemory
+    }
+}
+
+impl From<AllocError> for WriteFault {
+    ghost use Rattle.clog_writers.specs.declared.fault.WriteFault.TheVariants.{
+      OutOfMemory as no_memory,
+    };
+
+    ghost from_gives = { λ _ e. e ≡ no_memory };
+
+    fn from(_: AllocError) -> Self {
+        WriteFault::OutOfMemory
+    }
+}
+
+impl<T: Drop> From<AllocFailed<T>> for WriteFault {
+    ghost use Rattle.clog_writers.specs.declared.fault.WriteFault.TheVariants.{
+      OutOfMemory as no_memory,
+    };
+
+    ghost from_gives = { λ _ e. e ≡ no_memory };
+
+    fn from(_: AllocFailed<T>) -> Self {
+        WriteFault::OutOfMemory
+    }
+}
+
+/// Why a sync was refused, if it was.
+pub(crate) fn refusal_of(answer: SyncAnswer) -> Option<WriteFault>
+    ensures done { result ≡ None → (key : ℕ) × (answer ≡ Done key) }
+    ensures stopped { (at_open now : ℕ) → result ≡ Some (Stopped at_open now)
+        → answer ≡ LogStopped at_open now }
+{
+    match answer {
+        SyncAnswer::Done(_) => None,
+        SyncAnswer::Stopped { at_open, now } => Some(WriteFault::Stopped { at_open, now }),
+        SyncAnswer::OutOfMemory => Some(WriteFault::OutOfMemory),
+        SyncAnswer::Rows(groups) => Some(WriteFault::Rows(groups)),
+    }
+}
+
+/// The first of two faults.
+pub(crate) fn first_of(first: Option<WriteFault>, other: Option<WriteFault>) -> Option<WriteFault>
+    ensures none { result ≡ None → (first ≡ None) × (other ≡ None) }
+    ensures one { (result ≡ first) ⊎ (result ≡ other) }
+{
+    match first {
+        Some(fault) => Some(fault),
+        None => other,
+    }
+}

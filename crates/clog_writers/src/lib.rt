@@ -1,0 +1,16 @@
+//! The lines of a mutation file are logged by 1 to 64 writers, each in a thread of its own
+//! (Cassandra's mutation stage, whose threads call `CommitLog.add`), over a path over a store. Line
+//! `n`, from 1, is written by the writer of number `n` modulo their count, each writer's lines in
+//! order. All memory of the writes is taken before the first of them is written.
+#![tactic(auto)]
+
+mod crew;
+mod dealing;
+mod fault;
+mod logging;
+mod worker;
+
+pub use dealing::deal;
+pub use fault::WriteFault;
+pub use logging::log_shares;
+pub use worker::Worker;
