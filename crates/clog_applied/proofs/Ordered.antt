@@ -11,6 +11,9 @@ use Rattle.std.proofs.Common.{
   [],
   ◌∷◌,
   ◌++◌,
+  Option,
+  Some,
+  None,
   length,
   true,
   refl,
@@ -21,6 +24,7 @@ use Rattle.std.proofs.Common.{
   arith,
 }
 use Rattle.std.specs.Prelude.{Contains}
+use Rattle.std.specs.FinMap as finmap
 use Rattle.std.proofs.lemmas.List.Elements.{Contains-append_right}
 use Rattle.std.proofs.lemmas.Bool.Decides.{nat_tests}
 use Rattle.std.proofs.lemmas.Bool.{cases_eq}
@@ -45,8 +49,10 @@ use Rattle.clog_applied.specs.Asked.{flushes}
 use Rattle.clog_applied.specs.Closed.{ClosedRun}
 use Rattle.clog_applied.specs.Early.{IsLoggedBehind, MayGoBehind, NothingGoesEarly, SaysFile}
 use Rattle.clog_applied.specs.Filed.{
+  BringsNoOther,
   IsAbove,
   IsInOne,
+  IsNewName,
   KeepsOthers,
   TableFilesAreTrue,
   files_of,
@@ -276,6 +282,15 @@ module _ (o : ApplyOptions) (before after : Files) (changes : List Change)
   others name bytes none there =
       c.store.others name bytes none (c.opening.others name bytes none there)
 
+  no_stray : BringsNoOther c.ids before after
+  no_stray name absent held = by (finmap.get c.opened name) refl
+    where
+      by : (o : Option (List ℕ)) → finmap.get c.opened name ≡ o → IsNewName c.ids name
+      by None none = c.store.no_stray name none held
+      by (Some bytes) there =
+          let said = (c.opening.came name bytes there absent).says in
+          inr (inr (_, said.sequence, said.named))
+
   pub nothing_early : NothingGoesEarly o.archive o.drain before after changes c.ids c.history
       c.files
   nothing_early = record {
@@ -289,6 +304,7 @@ module _ (o : ApplyOptions) (before after : Files) (changes : List Change)
     gone = gone;
     drained = drained;
     others = others;
+    no_stray = no_stray;
   }
 
   -- ---- table files

@@ -34,6 +34,7 @@ use Rattle.clog_applied.specs.Appended.{appended, entries_in, IsAppended}
 use Rattle.clog_applied.specs.Asked.{IsBatch, capacity_of, flushes}
 use Rattle.clog_applied.specs.Early.{AreInOrder}
 use Rattle.clog_applied.specs.Filed.{
+  BringsNoOther,
   FollowFrom,
   HoldsSome,
   IsTrueFor,
@@ -123,7 +124,7 @@ pub record IsPut (files : List TableFile) (after : Files) (place : Place) (name 
 
 -- What was appended since the opening is the history. Segments stand as they were appended, but for
 -- those that were dropped, and these are exactly the droppable ones. Table files that were put are
--- there, and of the opening all else.
+-- there, and of the opening all else; no other name has come.
 pub record IsStoreLeft (archive : Bool) (opened after : Files) (later : List Change)
     (ids dropped : List ℕ) (history : List LoggedLine) (files : List TableFile) : Type 0 where
   pub is_appended : IsAppended later ids history
@@ -141,6 +142,7 @@ pub record IsStoreLeft (archive : Bool) (opened after : Files) (later : List Cha
   pub tables : (place : Place) (name : List ℕ) → IsNameOf place name → IsHeld after name
       → (finmap.get after name ≡ finmap.get opened name) ⊎ IsPut files after place name
   pub others : KeepsOthers opened after
+  pub no_stray : BringsNoOther ids opened after
 
 -- ---- a run
 

@@ -23,7 +23,7 @@ use Rattle.clog_table.specs.Refusals.{IsFileOf}
 use Rattle.clog_crash.specs.Droppable.{IsDroppable, Touches}
 use Rattle.clog_crash.specs.Folder.{IsHeld}
 use Rattle.clog_applied.specs.Appended.{appended, entries_in}
-use Rattle.clog_applied.specs.Filed.{IsAbove, KeepsOthers}
+use Rattle.clog_applied.specs.Filed.{BringsNoOther, IsAbove, KeepsOthers}
 use Rattle.clog_applied.specs.History.{LoggedLine, entry_of, logged_at}
 
 -- a name and bytes are those of a table file that says this
@@ -81,7 +81,8 @@ pub record AreInOrder (IsNew : TableFile → Type 0) (archive : Bool) (changes :
       → (name ≡ archive_name_of id) × (appended front id ≡ appended changes id)
 
 -- The run's changes stand in order. No segment of the run is left that may go, the last one among
--- them, and none at all behind a drain. Of before nothing else has gone or changed but segments.
+-- them, and none at all behind a drain. Of before nothing else has gone or changed but segments, and
+-- nothing else has come but the run's segments, their archive names and table files.
 pub record NothingGoesEarly (archive drain : Bool) (before after : Files) (changes : List Change)
     (ids : List ℕ) (history : List LoggedLine) (files : List TableFile) : Type 0 where
   pub order : AreInOrder (EndsAbove before) archive changes ids history files
@@ -89,3 +90,4 @@ pub record NothingGoesEarly (archive drain : Bool) (before after : Files) (chang
       → ¬ IsDroppable files id (entries_in id history)
   pub drained : drain ≡ true → (id : ℕ) → Contains ids id → ¬ IsHeld after (segment_name_of 6 id)
   pub others : KeepsOthers before after
+  pub no_stray : BringsNoOther ids before after

@@ -1,6 +1,7 @@
 -- The table files of a run, and what they say.
 use Rattle.std.specs.Prelude.{
   ◌≡◌,
+  ◌⊎◌,
   ℕ,
   ◌<◌,
   ◌≤◌,
@@ -12,11 +13,17 @@ use Rattle.std.specs.Prelude.{
   ◌∷◌,
   Contains,
   Some,
+  None,
   ⊤,
 }
 use Rattle.std.specs.FinMap as finmap
 use Rattle.std.specs.List.{filter, AllPairs}
-use Rattle.clog_spec.specs.Names.{IsTableName, table_name_of}
+use Rattle.clog_spec.specs.Names.{
+  IsTableName,
+  archive_name_of,
+  segment_name_of,
+  table_name_of,
+}
 use Rattle.clog_base.specs.declared.cell.Cell.{Cell}
 use Rattle.clog_base.specs.declared.cell.CellKey.{CellKey}
 use Rattle.clog_base.specs.declared.cell.Table.{Table}
@@ -28,7 +35,7 @@ use Rattle.clog_mutation.specs.Payload.{cells_of}
 use Rattle.clog_table.specs.declared.table_file.TableFile.{TableFile}
 use Rattle.clog_table.specs.Refusals.{IsFileOf}
 use Rattle.clog_crash.specs.Droppable.{Touches}
-use Rattle.clog_crash.specs.Folder.{IsNameOfSegment}
+use Rattle.clog_crash.specs.Folder.{IsHeld, IsNameOfSegment}
 use Rattle.clog_crash.specs.Readings.{IsTableIn}
 use Rattle.clog_crash.specs.Recovery.{NamesAny}
 use Rattle.clog_crash.specs.Restore.{IsInInterval}
@@ -44,6 +51,18 @@ IsAbove files id = (other : ℕ) → NamesAny files other → other < id
 abbrev pub KeepsOthers : Files → Files → Type 0
 KeepsOthers before now = (name bytes : List ℕ) → ¬ IsNameOfSegment name
     → finmap.get before name ≡ Some bytes → finmap.get now name ≡ Some bytes
+
+-- the name of a segment of these ids, its archive name, or one that table files have
+abbrev pub IsNewName : List ℕ → List ℕ → Type 0
+IsNewName ids name =
+    ((id : ℕ) × Contains ids id × (name ≡ segment_name_of 6 id))
+    ⊎ (((id : ℕ) × Contains ids id × (name ≡ archive_name_of id))
+    ⊎ ((table : ℕ) × (sequence : ℕ) × IsTableName name table sequence))
+
+-- No other name has come.
+abbrev pub BringsNoOther : List ℕ → Files → Files → Type 0
+BringsNoOther ids before now =
+    (name : List ℕ) → finmap.get before name ≡ None → IsHeld now name → IsNewName ids name
 
 -- ---- files one behind the other
 

@@ -26,6 +26,7 @@ use Rattle.std.specs.Prelude.{Contains, IsSome, Option, ◌⊎◌}
 use Rattle.std.specs.FinMap as finmap
 use Rattle.std.proofs.lemmas.Bool.{cases_lt}
 use Rattle.std.proofs.lemmas.List.Elements.{Contains-append_right}
+use Rattle.std.proofs.lemmas.Option.{none-some}
 use Rattle.clog_spec.specs.Names.{IsArchiveName, IsSegmentName, archive_name_of, segment_name_of}
 use Rattle.clog_base.specs.declared.cell.Table.{Table}
 use Rattle.clog_base.proofs.Members.{here, in_map, nothing_there}
@@ -44,6 +45,7 @@ use Rattle.clog_crash.specs.Grown.{appends_of}
 use Rattle.clog_crash.specs.Log.{Write}
 use Rattle.clog_crash.specs.Runs.{placed_log}
 use Rattle.clog_crash.specs.Sections.{segment_bytes}
+use Rattle.clog_crash.proofs.OneMore.{bytes_of}
 use Rattle.clog_crash.proofs.changes.Names.{is_named, not_segment}
 use Rattle.path_core.specs.declared.note.EntryNote.{EntryNote}
 use Rattle.path_core.specs.Keeper.{PutFile}
@@ -61,7 +63,7 @@ use Rattle.clog_store.proofs.FolderReads.{absent_or_held, one_or_none}
 use Rattle.clog_applied.specs.Appended.{appended, entries_in}
 use Rattle.clog_applied.specs.Closed.{IsAnyFile, IsStoreLeft, StaysAs}
 use Rattle.clog_applied.specs.Early.{AreInOrder}
-use Rattle.clog_applied.specs.Filed.{KeepsOthers, StandsBefore}
+use Rattle.clog_applied.specs.Filed.{BringsNoOther, KeepsOthers, StandsBefore}
 use Rattle.clog_applied.specs.History.{LoggedLine, entry_of}
 use Rattle.clog_applied.proofs.Merged.{of_entry}
 use Rattle.clog_layout.specs.Logged.{AreNotesOf}
@@ -208,20 +210,19 @@ module _ (archives : Bool) (opened after : Files) (later : List Change) (log : S
         archive = no_archive id listed;
       }
 
-  -- the name of a segment that is held is that of one of these
-  its_segment : (name : List ℕ) (version id : ℕ) → IsSegmentName name version id
-      → IsHeld after name → (w : Write) × Contains ws w × (0 < length w.sections)
-      × (name ≡ segment_name_of 6 w.id)
-  its_segment name version id named held =
+  -- a name that is held is that of one of these segments, or was held at the opening
+  its_segment_or_old : (name : List ℕ) → IsHeld after name
+      → ((w : Write) × Contains ws w × (0 < length w.sections) × (name ≡ segment_name_of 6 w.id))
+      ⊎ IsHeld opened name
+  its_segment_or_old name held =
       elim (one_or_none (λ (w : Write). (0 < length w.sections) × (name ≡ segment_name_of 6 w.id))
       decides ws) [
-        | inl found ↦ (found.0, found.1, found.2.0, found.2.1)
+        | inl found ↦ inl (found.0, found.1, found.2.0, found.2.1)
         | inr none ↦
             let same = holds.stands.others name (λ bytes row.
             let s = only_segments name bytes row in
             none s.segment s.among (s.some, s.name_is)) in
-            absurd (holds.begun.no_segment
-            (name, subst (λ (o : Option (List ℕ)). IsSome o) same held, (version, (id, named))))
+            inr (subst (λ (o : Option (List ℕ)). IsSome o) same held)
       ]
     where
       decides : (w : Write)
@@ -234,6 +235,24 @@ module _ (archives : Bool) (opened after : Files) (later : List Change) (log : S
         ]
         | inr none ↦ inr (λ both. omega (arith, none, both.0))
       ]
+
+  -- the name of a segment that is held is that of one of these
+  its_segment : (name : List ℕ) (version id : ℕ) → IsSegmentName name version id
+      → IsHeld after name → (w : Write) × Contains ws w × (0 < length w.sections)
+      × (name ≡ segment_name_of 6 w.id)
+  its_segment name version id named held = elim (its_segment_or_old name held) [
+    | inl found ↦ found
+    | inr old ↦ absurd (holds.begun.no_segment (name, old, (version, (id, named))))
+  ]
+
+  no_stray : BringsNoOther ids opened after
+  no_stray name absent held = elim (its_segment_or_old name held) [
+    | inl found ↦ inl (found.0.id, written ws found.0 found.1 found.2, found.3)
+    | inr old ↦ absurd (none_is_none (finmap.get opened name) absent old)
+  ]
+    where
+      none_is_none : (o : Option (List ℕ)) → o ≡ None → IsSome o → ⊥
+      none_is_none o none some = let b = bytes_of o some in none-some b.0 (sym none ∙ b.1)
 
   no_other : (name : List ℕ) (version id : ℕ) → IsSegmentName name version id
       → IsHeld after name → (version ≡ 6) × Contains ids id
@@ -284,4 +303,5 @@ module _ (archives : Bool) (opened after : Files) (later : List Change) (log : S
     rise = λ table. pairs_none (StandsBefore after);
     tables = λ place name named held. inl (tables_stay place name named);
     others = others_stay;
+    no_stray = no_stray;
   }

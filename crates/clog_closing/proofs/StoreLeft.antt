@@ -53,12 +53,13 @@ use Rattle.clog_disk.proofs.Named.{same_or_other}
 use Rattle.clog_crash.specs.Folder.{IsHeld}
 use Rattle.clog_crash.specs.Log.{Write}
 use Rattle.clog_crash.specs.Sections.{segment_bytes}
+use Rattle.clog_crash.proofs.OneMore.{bytes_of}
 use Rattle.clog_crash.proofs.changes.Names.{is_named, not_segment, one_id}
 use Rattle.clog_store.specs.StoreFolder.{Deeds, IsRow, IsSegmentRow, PlacedFile, StoreLog, name_of}
 use Rattle.clog_store.proofs.FolderReads.{absent_or_held, one_or_none}
 use Rattle.clog_applied.specs.Appended.{appended}
 use Rattle.clog_applied.specs.Closed.{IsArchivedAs, StaysAs, StaysOrWent, WentAs}
-use Rattle.clog_applied.specs.Filed.{KeepsOthers}
+use Rattle.clog_applied.specs.Filed.{BringsNoOther, KeepsOthers}
 use Rattle.clog_applied.specs.History.{LoggedLine}
 use Rattle.clog_closing.specs.Stores.{HasEnded, dropped_ids, ids_in, segments_in}
 use Rattle.clog_closing.proofs.Entries.{above_base}
@@ -297,6 +298,65 @@ module _ (sizes : Sizes) (opened after : Files) (later : List Change) (log : Sto
         one.0,
         subst (λ (k : ℕ). Contains ids k) (sym one.1) (written ws s.0 s.1 s.2),
       )
+
+  -- ---- names that have come
+
+  -- the name of a segment that has sections, and the archive name of one
+  abbrev IsOf : (ℕ → List ℕ) → List ℕ → Write → Type 0
+  IsOf name_at name w = (0 < length w.sections) × (name ≡ name_at w.id)
+
+  is_or_not : (name_at : ℕ → List ℕ) (name : List ℕ) (w : Write)
+      → IsOf name_at name w ⊎ (IsOf name_at name w → ⊥)
+  is_or_not name_at name w = elim (cases_lt 0 (length w.sections)) [
+    | inl some ↦ elim (same_or_other name (name_at w.id)) [
+      | inl same ↦ inl (some, same)
+      | inr other ↦ inr (λ both. other both.1)
+    ]
+    | inr none ↦ inr (λ both. omega (arith, none, both.0))
+  ]
+
+  -- a name that is no segment's, no archive's and no table file's is no row
+  no_row_of : (name : List ℕ) → ((w : Write) → Contains ws w → IsOf (segment_name_of 6) name w → ⊥)
+      → ((w : Write) → Contains ws w → IsOf archive_name_of name w → ⊥)
+      → ((p : PlacedFile) → Contains e.folder.placed p → name ≡ name_of p → ⊥)
+      → (bytes : List ℕ) → IsRow log deeds e.folder.placed name bytes → ⊥
+  no_row_of name no_segment no_archive no_table bytes row = elim row [
+    | inl segment ↦ no_segment segment.segment segment.among (segment.some, segment.name_is)
+    | inr other ↦ elim other [
+      | inl archive ↦ no_archive archive.segment (of_past archive.segment archive.among)
+          (archive.some, archive.name_is)
+      | inr table ↦ no_table table.file table.among table.name_is
+    ]
+  ]
+
+  pub no_stray : BringsNoOther ids opened after
+  no_stray name absent held =
+      elim (one_or_none (IsOf (segment_name_of 6) name) (is_or_not (segment_name_of 6) name) ws) [
+        | inl found ↦ inl (found.0.id, written ws found.0 found.1 found.2.0, found.2.1)
+        | inr no_segment ↦
+            elim (one_or_none (IsOf archive_name_of name) (is_or_not archive_name_of name) ws) [
+              | inl found ↦
+                  inr (inl (found.0.id, written ws found.0 found.1 found.2.0, found.2.1))
+              | inr no_archive ↦ elim (one_or_none (λ (p : PlacedFile). name ≡ name_of p)
+                  (λ (p : PlacedFile). same_or_other name (name_of p)) e.folder.placed) [
+                    | inl found ↦ inr (inr (
+                      found.0.put.table,
+                      found.0.sequence,
+                      subst (λ (n : List ℕ).
+                          IsTableName n found.0.put.table found.0.sequence) (sym found.2)
+                          (table_named found.0 found.1),
+                    ))
+                    | inr no_table ↦
+                        let same = e.folder.stands.others name
+                        (no_row_of name (λ w h is. no_segment w h is)
+                        (λ w h is. no_archive w h is) (λ p h is. no_table p h is)) in
+                        absurd (none_is_none (finmap.get after name) (same ∙ absent) held)
+                  ]
+            ]
+      ]
+    where
+      none_is_none : (o : Option (List ℕ)) → o ≡ None → IsSome o → ⊥
+      none_is_none o none some = let b = bytes_of o some in none-some b.0 (sym none ∙ b.1)
 
   -- ---- all else
 

@@ -31,7 +31,6 @@ use Rattle.clog_base.specs.Positions.{IsUpTo, offset_of, ordinal_of, position_of
 use Rattle.clog_base.proofs.Members.{first_or_further, from_map, further, here, in_map}
 use Rattle.clog_disk.specs.declared.change.Change.{Change}
 use Rattle.clog_disk.specs.declared.change.Change.TheVariants as change
-use Rattle.clog_disk.specs.Files.{Files}
 use Rattle.clog_table.specs.declared.table_file.TableFile.{TableFile}
 use Rattle.clog_table.specs.Refusals.{IsFileOf}
 use Rattle.clog_table.proofs.Again.{one_table_file}

@@ -390,6 +390,12 @@ store_went = record {
         };
       });
   others = λ name b none there. absurd (none_there name b there);
+  no_stray = λ name absent held. inr (inr (
+    0,
+    1,
+    subst (λ (n : List ℕ). IsTableName n 0 1)
+        (sym (held_is name held)) is_named_so,
+  ));
 }
 
 -- ---- the run

@@ -211,6 +211,7 @@ module _ (changes : List Change) (history : List LoggedLine) (bytes : List ℕ)
     tables = λ place name named held.
         absurd (not_segment 1000 name place.0.0 place.1 (omega arith) named (held_is name held));
     others = λ name b none there. absurd (none_there name b there);
+    no_stray = λ name absent held. inl (1000, here 1000 [], held_is name held);
   }
 
 -- ---- runs

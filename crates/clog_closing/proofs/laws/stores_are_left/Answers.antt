@@ -1,6 +1,6 @@
 use Rattle.clog_closing.proofs.Logs.{are_files, is_appended}
 use Rattle.clog_closing.proofs.Entries.{an_entry}
-use Rattle.clog_closing.proofs.StoreLeft.{no_other, others, segments}
+use Rattle.clog_closing.proofs.StoreLeft.{no_other, no_stray, others, segments}
 use Rattle.clog_closing.proofs.StoreOrdered.{in_order}
 use Rattle.clog_closing.proofs.StoreTables.{exactly, is_put, rise, tables}
 use Rattle.clog_closing.proofs.laws.stores_are_left.Goals as goal
@@ -28,4 +28,5 @@ returns c sizes opened after later log deeds history e = record {
   rise = rise sizes opened after later log deeds history e;
   tables = tables sizes opened after later log deeds history e;
   others = others sizes opened after later log deeds history e;
+  no_stray = no_stray sizes opened after later log deeds history e;
 }
