@@ -54,6 +54,8 @@ wrong() {
     *:abcdefz | :az | :abz | :abcz | :abcdz | :abcdez) ;;
     *) echo "lines-$told" ;;
     esac
+    # The dump is made in front of the recovery and the drain: what they left is read behind them.
+    [ "$("$program" replay | keys)" = "$told" ] || echo replay
     [ ! -s archived ] || (cd commitlog && sha256sum --quiet -c ../archived) || echo archive
     ls commitlog | grep '^CommitLog-'
 }

@@ -54,6 +54,8 @@ if has strace && strace -o /dev/null true 2>/dev/null; then
             *:abcdefz | :az | :abz | :abcz | :abcdz | :abcdez) ;;
             *) lost="$lost $call $number" ;;
             esac
+            # The dump is made in front of the recovery: what that left is read behind it.
+            [ "$("$program" replay | keys)" = "$told" ] || lost="$lost $call $number:replay"
         done
     done
     that "a run over segments that is killed loses nothing ($lost)" test -z "$lost"

@@ -27,6 +27,10 @@ use std::time::{Clock, Instant};
 use sync_core::SyncCore;
 use worker::{Answered, Plan, prepare_lines};
 
+/// The lines of each writer of a run in memory, in periodic mode and in batch mode.
+const PERIODIC_LINES: u32 = 10000;
+const BATCH_LINES: u32 = 1000;
+
 // Prints what a run in memory came to.
 fn print_run<R: Print>(rt: &R, name: &str, writers: u8, ran: &Ran) -> Result<()> {
     let Answered {
@@ -43,20 +47,22 @@ fn print_run<R: Print>(rt: &R, name: &str, writers: u8, ran: &Ran) -> Result<()>
 // Runs 2, 8 and 64 writers in both modes, and prints their counts.
 fn count_runs<R: Threads + Wait + Clock + Print + Sync>(rt: &R, alloc: Global) -> Result<()> {
     let (mut receipts, mut entries, mut unsynced) = (0usize, 0u64, 0u32);
-    // In batch mode nothing is synced but by the commits.
-    for (name, mode, sync_after) in [
-        ("periodic", SyncCore::periodic(10), 16),
-        ("batch", SyncCore::batch(), 0),
+    // In batch mode nothing is synced but by the commits, so there may be as many syncs as commits,
+    // and a path has groups for 65,535 of them.
+    for (name, mode, lines, sync_after) in [
+        ("periodic", SyncCore::periodic(10), PERIODIC_LINES, 160),
+        ("batch", SyncCore::batch(), BATCH_LINES, 0),
     ] {
         let plan = Plan {
             capacity: 4096,
-            lines: 100,
+            lines,
             sync_after,
         };
         for writers in [2u8, 8, 64] {
             let disk = MemDisk::new(alloc);
             let (mut ran, store) = run_writers(rt, alloc, disk, writers, mode, plan)?;
-            let count = check_run(rt, alloc, &mut ran, store, writers, plan.lines)?;
+            let is_batch = sync_after == 0;
+            let count = check_run(rt, alloc, &mut ran, store, writers, plan.lines, is_batch)?;
             print_run(rt, name, writers, &ran)?;
             receipts = receipts.saturating_add(ran.receipts.len());
             entries = entries.saturating_add(count);
@@ -86,10 +92,11 @@ fn time_runs<R: Threads + Wait + Clock + Print + Sync>(
     let disk = MemDisk::new(alloc);
     let (ran, _store) = run_writers(rt, alloc, disk, writers, SyncCore::periodic(10), plan)?;
     let count = u128::from(lines).max(1);
+    let all = count.saturating_mul(u128::from(writers).max(1));
     println!(rt; "preparing a write: {} ns", alone / count)?;
     println!(rt;
-        "preparing and committing one, each of {writers} writers: {} ns",
-        ran.nanos / count
+        "preparing and committing one of the lines of all {writers} writers: {} ns",
+        ran.nanos / all
     )?;
     Ok(())
 }
@@ -108,7 +115,7 @@ fn batch_run<R: Threads + Wait + Clock + Print + Sync, D: Disk + Send + Drop>(
         sync_after: 0,
     };
     let (mut ran, store) = run_writers(rt, alloc, disk, writers, SyncCore::batch(), plan)?;
-    let commits = check_run(rt, alloc, &mut ran, store, writers, lines)?;
+    let commits = check_run(rt, alloc, &mut ran, store, writers, lines, true)?;
     let syncs = ran.lent.syncs;
     let tenths = commits.saturating_mul(10) / syncs.max(1);
     println!(rt;

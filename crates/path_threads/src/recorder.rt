@@ -16,6 +16,8 @@ pub struct Row {
     pub start: Key,
     /// Where it ends, exclusive.
     pub end: Key,
+    /// The number of the call that made it lasting, from 1.
+    pub sync: u64,
 }
 
 /// What a keeper was lent.
@@ -55,14 +57,15 @@ impl<K> Recorder<K> {
     }
 }
 
-// Adds a row for each entry up to a key, or as many as there is memory for.
-fn add_rows(rows: &mut Vec<Row>, pending: &[EntryNote], upto: Key) {
+// Adds a row for each entry up to a key that a call makes lasting, or as many as there is memory for.
+fn add_rows(rows: &mut Vec<Row>, pending: &[EntryNote], upto: Key, sync: u64) {
     for note in pending {
         let row = Row {
             line: note.line,
             writer: note.writer.0,
             start: note.start,
             end: note.end,
+            sync,
         };
         if note.end <= upto && rows.push(row).is_err() {
             return;
@@ -75,8 +78,9 @@ impl<K: Keeper> Keeper for Recorder<K> {
 
     fn sync(&mut self, pending: &mut Vec<EntryNote>, upto: Key) -> Result<(), KeeperFault> {
         let before = self.lent.rows.len();
-        add_rows(&mut self.lent.rows, pending.as_slice(), upto);
         self.lent.syncs = self.lent.syncs.saturating_add(1);
+        let number = self.lent.syncs;
+        add_rows(&mut self.lent.rows, pending.as_slice(), upto, number);
         let synced = self.keeper.sync(pending, upto);
         if synced.is_err() {
             self.lent.rows.truncate(before);

@@ -124,9 +124,10 @@ pub fn check_run<R: Threads + Sync, D: Disk + Drop>(
     store: Store<D>,
     writers: u8,
     lines: u32,
+    is_batch: bool,
 ) -> Result<u64> {
     let base = u32::try_from(store.base())?;
-    check(&mut ran.lent.rows, &mut ran.receipts, base, writers, lines)?;
+    check(&mut ran.lent.rows, &mut ran.receipts, base, writers, lines, is_batch)?;
     let mut disk = store.into_disk();
     read_again(rt, alloc, &mut disk, &mut ran.receipts)
 }

@@ -54,10 +54,16 @@ fn check_ranges(rows: &mut Vec<Row>) -> Result<()> {
     Ok(())
 }
 
-// The lines of a writer, in the order of the log, are its own, and rise.
-fn check_writer(rows: &[Row], writer: u8, writers: u8) -> Result<()> {
+// The lines of a writer, in the order of the log, are its own, and rise. In batch mode each was made
+// lasting by a sync of its own.
+fn check_writer(rows: &[Row], writer: u8, writers: u8, is_batch: bool) -> Result<()> {
     let mut last = 0;
+    let mut sync = 0;
     for row in rows.iter().filter(|row| row.writer == writer) {
+        if is_batch && row.sync <= sync {
+            bail!("line {} of writer {writer} shares a sync", row.line);
+        }
+        sync = row.sync;
         if row.line <= last
             || row.line.wrapping_sub(1) % u32::from(writers).max(1) != u32::from(writer)
         {
@@ -68,20 +74,21 @@ fn check_writer(rows: &[Row], writer: u8, writers: u8) -> Result<()> {
     Ok(())
 }
 
-/// Checks what was made lasting by so many writers of so many lines each, and by which receipts.
-/// The first segment has the id `base`.
+/// Checks what was made lasting by so many writers of so many lines each, and by which receipts; in
+/// batch mode no two entries of a writer by one sync. The first segment has the id `base`.
 pub fn check(
     rows: &mut Vec<Row>,
     receipts: &mut Vec<Receipt>,
     base: u32,
     writers: u8,
     lines: u32,
+    is_batch: bool,
 ) -> Result<()> {
     check_lines(rows, u32::from(writers).wrapping_mul(lines))?;
     check_receipts(rows.as_slice(), receipts, base)?;
     check_ranges(rows)?;
     for writer in 0..writers {
-        check_writer(rows.as_slice(), writer, writers)?;
+        check_writer(rows.as_slice(), writer, writers, is_batch)?;
     }
     Ok(())
 }

@@ -1,5 +1,6 @@
-//! What runs make of what a crash might have left: of each moment of a folder in memory a sample of
-//! its images is opened by a run that takes nothing, and each answer is told once.
+//! What runs make of what a crash might have left: of each moment of the last run over a folder in
+//! memory a sample of its images is recovered by a run that takes nothing. What that leaves is told
+//! by another, so the recovery itself is read back; each answer is told once.
 use crate::outcome::put_printed;
 use crate::play::{clock_of, words_of};
 use anyhow::Result;
@@ -11,25 +12,37 @@ use std::io::Write;
 use std::sync::Wait;
 use std::thread::Threads;
 
-// What a run with no lines and a dump answers and prints over an image.
-fn opened<T: Threads + Wait + Sync>(rt: &T, alloc: Global, image: MemDisk) -> Result<Vec<u8>> {
+// A run with no lines over a folder: its status, what it printed, and what it left.
+fn run_over<T: Threads + Wait + Sync>(
+    rt: &T,
+    alloc: Global,
+    disk: MemDisk,
+    words: &str,
+) -> Result<(u8, MemSink, MemDisk)> {
     let mut source = MemSource::new(Vec::new(alloc), 65536, Vec::new(alloc));
     let mut sink = MemSink::new(alloc, Vec::new(alloc));
     let clock = clock_of(alloc, 1000, 1000)?;
-    let words = words_of(alloc, "apply --dump")?;
+    let words = words_of(alloc, words)?;
     let gate = OpenGate::new();
-    let (status, _) = run(
+    let (status, left) = run(
         rt,
         alloc,
         &words,
         &mut source,
         &mut sink,
-        image,
+        disk,
         &clock,
         &gate,
     );
+    Ok((status.number(), sink, left))
+}
+
+// What becomes of an image: it is recovered, and then told by a run with a dump.
+fn opened<T: Threads + Wait + Sync>(rt: &T, alloc: Global, image: MemDisk) -> Result<Vec<u8>> {
+    let (recovered, _, left) = run_over(rt, alloc, image, "apply")?;
+    let (status, sink, _) = run_over(rt, alloc, left, "apply --dump")?;
     let mut out = Vec::new(alloc);
-    writeln!(out, "image status {}", status.number())?;
+    writeln!(out, "image status {}", recovered.max(status))?;
     put_printed(&mut out, sink.as_slice())?;
     Ok(out)
 }
@@ -62,16 +75,17 @@ fn put_opened<T: Threads + Wait + Sync>(
     Ok(())
 }
 
-/// Puts what comes of the images of all moments of a folder, each answer once, in the order in
-/// which they come first.
+/// Puts what comes of the images of a folder's moments from one on, each answer once, in the order
+/// in which they come first.
 pub fn put_images<T: Threads + Wait + Sync>(
     rt: &T,
     alloc: Global,
     out: &mut Vec<u8>,
     disk: &MemDisk,
+    first: u64,
 ) -> Result<()> {
     let mut told = Vec::new(alloc);
-    for moment in 0..disk.moment_count().saturating_add(1) {
+    for moment in first..disk.moment_count().saturating_add(1) {
         put_opened(rt, alloc, disk.images(moment)?, &mut told, out)?;
     }
     Ok(())

@@ -20,7 +20,7 @@
 //! | `run WORD ..` | a run with these words takes the input and the failing calls |
 //! | `show NAME` | tells a file's bytes in hexadecimal digits |
 //! | `changes` | tells each change of the folder since the case began, in order |
-//! | `images` | opens a sample of what a crash left at each moment, and tells each answer once |
+//! | `images` | recovers what a crash may leave of the last run at each moment, each answer once |
 //! | `output HEX` | these bytes are told as if a run had printed them |
 //!
 //! A run tells its words, its status, what it printed, each file with its length, and the moment

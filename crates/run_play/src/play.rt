@@ -12,11 +12,12 @@ use std::io::Write;
 use std::sync::Wait;
 use std::thread::Threads;
 
-/// The folder, the moments that the clock tells, and what the next run takes: the input, and the
-/// calls of its source and its sink that fail.
+/// The folder, and its moment when the last run began; the moments that the clock tells; and what
+/// the next run takes: the input, and the calls of its source and its sink that fail.
 #[derive(Drop)]
 pub struct Play {
     disk: MemDisk,
+    begun: u64,
     first: u64,
     next: u64,
     input: Vec<u8>,
@@ -53,6 +54,7 @@ impl Play {
     pub fn new(alloc: Global) -> Result<Play> {
         Ok(Play {
             disk: MemDisk::new(alloc),
+            begun: 0,
             first: 1000,
             next: 2000,
             input: Vec::new(alloc),
@@ -92,7 +94,7 @@ impl Play {
             Step::Run(words) => play = play.run(rt, alloc, words, &mut out)?,
             Step::Show(name) => put_bytes(&mut out, &play.disk, &name)?,
             Step::Changes => put_changes(&mut out, &play.disk)?,
-            Step::Images => put_images(rt, alloc, &mut out, &play.disk)?,
+            Step::Images => put_images(rt, alloc, &mut out, &play.disk, play.begun)?,
             Step::Output(bytes) => put_printed(&mut out, &bytes)?,
         }
         Ok((play, out))
@@ -111,6 +113,7 @@ impl Play {
         let clock = clock_of(alloc, self.first, self.next)?;
         let list = words_of(alloc, words)?;
         let gate = OpenGate::new();
+        let begun = self.disk.moment_count();
         let (status, disk) = run(
             rt,
             alloc,
@@ -123,6 +126,7 @@ impl Play {
         );
         let mut play = Play {
             disk,
+            begun,
             first: self.first,
             next: self.next,
             ..Play::new(alloc)?
