@@ -44,7 +44,7 @@ use Rattle.clog_store.specs.declared.written.StoreFault.{StoreFault}
 use Rattle.clog_store.specs.declared.written.StoreFault.TheVariants.{Stopped, OutOfMemory}
 use Rattle.clog_store.specs.Beside.{StayButOne}
 use Rattle.clog_store.specs.Grows.{Writes}
-use Rattle.clog_store.specs.Life.{ReadsAs, State}
+use Rattle.clog_store.specs.Life.{AllLasts, LastsHere, ReadsAs, State}
 use Rattle.clog_store.specs.NoteLog.{LeavesOthers, NoteState}
 use Rattle.clog_store.specs.Stepped.{HasLogCause, IsQuiet, Passes, StopsBy}
 use Rattle.clog_store.specs.StoreFailed.{HoldsButOne, IsFreeTable}
@@ -312,6 +312,14 @@ on_told {T} P at_open now r result is on =
     by (Ok done) h = h
     by (Err Stopped) h = tt
     by (Err OutOfMemory) h = tt
+
+-- where a call of the log ended well and all its sections last, the segment at hand does
+pub all_last : {D T : Type 0} (files : D → Option Files)
+    (leaves : D → List ℕ → Option (List ℕ) → Type 0) (s : State D) (r : Result T StoreFault)
+    → StopsBy s.is_stopped r → OnOk r (s.synced ≡ length s.sections)
+    → (s.is_stopped ≡ false → LastsHere files leaves s) → OnOk r (AllLasts files leaves s)
+all_last files leaves s (Ok done) stops all here = (all, λ some. here stops some all)
+all_last files leaves s (Err fault) stops all here = tt
 
 pub if_told : {T : Type 0} (P : T → Type 0) (at_open now : ℕ) (r : Result T StoreFault)
     (result : Result T KeeperFault) → result ≡ told_as at_open now r → IfOk r P → IfOk result P

@@ -116,6 +116,13 @@ LastsHere files leaves s =
     0 < length s.sections → s.synced ≡ length s.sections
     → Lasts (files s.disk) (leaves s.disk) (segment_name_of 6 s.id)
 
+-- All sections of the log last, and the segment at hand does under its name.
+abbrev pub AllLasts : {D : Type 0} → (D → Option Files)
+    → (D → List ℕ → Option (List ℕ) → Type 0) → State D → Type 0
+AllLasts files leaves s =
+    (s.synced ≡ length s.sections)
+    × (0 < length s.sections → Lasts (files s.disk) (leaves s.disk) (segment_name_of 6 s.id))
+
 -- what stands from the opening on
 pub record HasBegun {D : Type 0} (files : D → Option Files) (moment : D → ℕ)
     (since : D → ℕ → Files → Type 0) (leaves : D → List ℕ → Option (List ℕ) → Type 0)

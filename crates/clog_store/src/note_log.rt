@@ -16,6 +16,7 @@ ghost use Rattle.std.specs.Prelude.{
   OnOk,
   drop,
   false,
+  length,
   true,
 };
 ghost use Rattle.clog_base.specs.Positions.{ordinal_of};
@@ -23,7 +24,7 @@ ghost use Rattle.clog_disk.specs.Images.{IsLater};
 ghost use Rattle.clog_store.specs.Grows.{Grows, Writes};
 ghost use Rattle.clog_spec.specs.Names.{segment_name_of};
 ghost use Rattle.clog_crash.specs.Sections.{segment_bytes};
-ghost use Rattle.clog_store.specs.Life.{Lives, LivesOn, ReadsAs};
+ghost use Rattle.clog_store.specs.Life.{LastsHere, Lives, LivesOn, ReadsAs};
 ghost use Rattle.clog_store.specs.StoreFolder.{IsSound};
 ghost use Rattle.clog_store.specs.NoteLog.{
   BeginsFrom,
@@ -140,6 +141,7 @@ impl<D: Disk> NoteLog<D> {
         requires may { MayRun self.old upto run.items }
         ensures logs { OnOk result (Logs self.old self.new upto run.items) }
         ensures refused { OnErr result (LogsNot self.old self.new run.items) }
+        ensures all { OnOk result (self.new.log.synced ≡ length self.new.log.sections) }
         ensures goes { GoesOn D.files D.moment D.since D.leaves D.read_at D.lasted_at self.old.log
             self.new.log }
         ensures leaves { Leaves D.files D.changes self.old.log self.new.log }
@@ -183,6 +185,7 @@ impl<D: Disk> NoteLog<D> {
             pending.new.items) }
         ensures refused { OnErr result (HasRefused self.old self.new upto.0 pending.old.items
             pending.new.items) }
+        ensures all { OnOk result (self.new.log.synced ≡ length self.new.log.sections) }
         ensures others { LeavesOthers self.old.log self.new.log (D.files self.old.log.disk)
             (D.files self.new.log.disk) }
         ensures grows { self.new.log.is_stopped ≡ false
@@ -228,6 +231,8 @@ impl<D: Disk> NoteLog<D> {
         ensures reads { self.now.log.is_stopped ≡ false → ReadsAs (D.files self.now.log.disk)
             (segment_name_of 6 self.now.log.id)
             (segment_bytes self.now.log.id self.now.log.sections) }
+        ensures here { self.now.log.is_stopped ≡ false
+            → LastsHere D.files D.leaves self.now.log }
     {
         self.log.fault_count()
     }

@@ -193,6 +193,7 @@ impl<D: Disk> SectionLog<D> {
         ensures sound { IsSound self.now }
         ensures reads { self.now.is_stopped ≡ false → ReadsAs (D.files self.now.disk)
             (segment_name_of 6 self.now.id) (segment_bytes self.now.id self.now.sections) }
+        ensures here { self.now.is_stopped ≡ false → LastsHere D.files D.leaves self.now }
     {
         self.disk.fault_count()
     }

@@ -2,7 +2,7 @@
 ghost use Rattle.std.specs.Prelude.{◌≡◌, OnErr, OnOk, false};
 ghost use Rattle.clog_disk.specs.Images.{IsLater};
 ghost use Rattle.path_core.specs.Keeper.{HasKeeperCause, MaySync, SyncRefused, Syncs};
-ghost use Rattle.clog_store.specs.Life.{Lives, LivesOn};
+ghost use Rattle.clog_store.specs.Life.{AllLasts, Lives, LivesOn};
 ghost use Rattle.clog_store.specs.StoreState.{holding_of};
 
 use crate::store::{Store, told};
@@ -14,7 +14,8 @@ impl<D: Disk> Store<D> {
     /// Makes all pending entries up to a key lasting, and keeps the others pending: what a keeper's
     /// `sync` does (Cassandra's `CommitLog.sync`, which writes a `SyncSegment` for each section). A
     /// key is a segment's ordinal and an offset in it, in bytes. Where the store's log lived, it
-    /// lives on, and what lasted before is in each image of a crash meanwhile.
+    /// lives on, and what lasted before is in each image of a crash meanwhile. At its end a crash
+    /// leaves the segment at hand just as it is, whatever lasted at the opening.
     ///
     /// After an error all are pending as before. `Stopped`: the disk has failed, in this call or in
     /// an earlier one; it has the disk's counts of faults at the opening and now, and each later call
@@ -36,6 +37,7 @@ impl<D: Disk> Store<D> {
             (holding_of D.files D.changes D.moment D.faults D.row.coded.code self.old)
             (holding_of D.files D.changes D.moment D.faults D.row.coded.code self.new) upto.0
             pending.old.items pending.new.items) }
+        ensures lasts { OnOk result (AllLasts D.files D.leaves self.new.notes.log) }
         ensures cause { HasKeeperCause
             (holding_of D.files D.changes D.moment D.faults D.row.coded.code self.old)
             (holding_of D.files D.changes D.moment D.faults D.row.coded.code self.new) result }

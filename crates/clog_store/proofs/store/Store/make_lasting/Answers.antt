@@ -1,6 +1,7 @@
 use Rattle.std.proofs.Common.{◌≡◌, ℕ, refl, sym, ◌∙◌, ap₂, subst}
 use Rattle.std.specs.Prelude.{OnErr, OnOk}
 use Rattle.path_core.specs.Keeper.{HasKeeperCause, MaySync, SyncRefused, Syncs}
+use Rattle.clog_store.specs.Life.{AllLasts}
 use Rattle.clog_store.specs.StoreState.{StoreState, holding_of, told_as}
 use Rattle.clog_store.proofs.OrderSyncs.{synced_goes, synced_settled}
 use Rattle.clog_store.proofs.StoreFolds.{failed_synced, folder_synced}
@@ -12,6 +13,7 @@ use Rattle.clog_store.proofs.StoreKept.{
   store_on,
   syncs_told,
 }
+use Rattle.clog_store.proofs.StorePuts.{all_last, on_told}
 use Rattle.clog_store.proofs.store.Store.make_lasting.Goals as goal
 
 pub sync-outcome-requires : goal.sync-outcome-requires
@@ -164,3 +166,16 @@ returns-clause-quiet g c still =
     c.self.view_is
     (quiet_call i.notes.log.is_stopped n.log.is_stopped (D.faults i.notes.log.disk)
     (D.faults n.log.disk) c.sync-outcome.result is.cause is.stops still)
+
+pub returns-clause-lasts : goal.returns-clause-lasts
+returns-clause-lasts g c =
+    let D = g.D.Disk in
+    let i = c.self.inside in
+    let is = c.sync-outcome.ensures in
+    let n = c.sync-outcome.new.self in
+    let says = c.told.ensures ∙ ap₂ (λ (a b : ℕ). told_as a b c.sync-outcome.result)
+    c.self.invariant.0 c.fault_count.ensures.count in
+    on_told (AllLasts D.files D.leaves n.log) (D.faults i.first.value) (D.faults n.log.disk)
+    c.sync-outcome.result c.told.result says
+    (all_last D.files D.leaves n.log c.sync-outcome.result is.stops is.all
+    c.fault_count.ensures.here)
