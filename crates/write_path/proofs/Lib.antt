@@ -12,6 +12,7 @@ pub mod Outcomes
 pub mod SyncLists
 pub mod OnlyFirst
 pub mod Sealing
+pub mod OwnClaims
 pub mod SealedApart
 pub mod SealedRows
 pub mod Rooms
