@@ -80,9 +80,13 @@ WantsBarrier v =
 -- barrier of a marker wants the next one: so many were made.
 pub record HasNoGroup (n : ℕ) (v : View) : Type 0 where
   pub last : ℕ
+  -- it found this group current
   pub found : (found_of Append v.part).current ≡ Some last
+  -- the next one has the number that is answered
   pub next : suc last ≡ n
+  -- and there is no word for it
   pub all : n ≡ group_rows
+  -- it is wanted
   pub wanted : WantsBarrier v
 
 -- What is so behind an answer, where `opened` is the count of faults at the keeper's opening, and

@@ -18,6 +18,7 @@ use Rattle.path_rule.specs.Finds.{Finds}
 -- The log is lasting up to the key, which is 0 or where a marker starts.
 pub record IsMark (x : PathState) (key : ℕ) : Type 0 where
   pub lasting : key ≤ x.synced
+  -- but for 0, a marker starts there
   pub marker : 0 < key → HasMarkerAt x.claims key
 
 -- An entry is claimed where the log went on behind each synced key that the seat had found, or put,
@@ -37,6 +38,7 @@ pub record TrailTells (capacity : ℕ) (x : PathState) (trail : List OwnStep) : 
   pub synced : (key : ℕ) → Finds (CursorWord Synced) key trail → IsMark x key
   -- each count with which it found the log stopped, or stopped it, is that of the log
   pub stopped : (n : ℕ) → Finds (CursorWord Stopped) n trail → 0 < n → n ≡ x.stopped
+  -- each entry was claimed behind the markers that the seat had found
   pub past : AllClaimPast capacity trail
 
 -- A view's own steps tell it, and those of the seats that it took in.

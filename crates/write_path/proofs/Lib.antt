@@ -14,6 +14,7 @@ pub mod SyncLists
 pub mod ClaimBehind
 pub mod OnlyFirst
 pub mod Sealing
+pub mod OwnClaims
 pub mod SealedApart
 pub mod SealedRows
 pub mod Rooms

@@ -15,11 +15,14 @@ use Rattle.write_path.specs.Ends.{IsLast, writes_of}
 -- place, or put it there.
 pub record FoundWhileLast (n : EntryNote) (at : Place) (value : ℕ) (trail : List OwnStep) :
     Type 0 where
+  -- the step, and those before and after it
   pub later : List OwnStep
   pub step : OwnStep
   pub before : List OwnStep
   pub cut : trail ≡ later ++ step ∷ before
+  -- before it the write was the last, and nothing was claimed since
   pub last : IsLast n (map event_of before)
+  -- it found the number there, or put it
   pub found : FindsBy at value step.event step.found
 
 -- Write n is sealed: while it was the seat's last, the seat found, or put, a synced key at or above
@@ -32,9 +35,13 @@ IsSealed n trail = (key : ℕ) × (n.end.0 ≤ key) × FoundWhileLast n (CursorW
 pub record HasMarkBetween (capacity : ℕ) (history : List EntryNote) (synced from to : ℕ) :
     Type 0 where
   pub key : ℕ
+  -- it lies at or above the one
   pub behind : from ≤ key
+  -- the log goes on behind it at or below the other
   pub before : after capacity key ≤ to
+  -- the log is lasting up to it
   pub lasting : key ≤ synced
+  -- each entry ends at or below it, or starts where the log goes on or above
   pub bare : (n : EntryNote) → Contains history n
       → (n.end.0 ≤ key) ⊎ (after capacity key ≤ n.start.0)
 
