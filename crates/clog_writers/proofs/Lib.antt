@@ -5,3 +5,7 @@ pub mod Dealt
 pub mod Seating
 pub mod Gathering
 pub mod Running
+pub mod Histories
+pub mod Leaving
+pub mod Told
+pub mod Slots

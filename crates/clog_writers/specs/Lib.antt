@@ -1,3 +1,6 @@
 pub mod Shares
 pub mod Crews
 pub mod Logged
+pub mod Placed
+pub mod Planned
+pub mod Written

@@ -8,7 +8,7 @@ ghost use Rattle.clog_spec.specs.Sizes.{most_tables};
 ghost use Rattle.clog_writers.specs.Crews.{AreDealt};
 ghost use Rattle.write_path.specs.Writes.{IsPrepared};
 
-use crate::fault::WriteFault;
+use crate::fault::PlanFault;
 use crate::worker::Worker;
 use clog_base::Sizes;
 use clog_mutation::Mutation;
@@ -28,7 +28,7 @@ fn idle_worker<K>(alloc: Global) -> Worker<K>
 }
 
 // Workers that have no lines.
-fn idle_crew<K: Keeper + Drop>(alloc: Global, sizes: Sizes) -> Result<Vec<Worker<K>>, WriteFault>
+fn idle_crew<K: Keeper + Drop>(alloc: Global, sizes: Sizes) -> Result<Vec<Worker<K>>, PlanFault>
     ensures { IfOk result (λ v. AreDealt sizes [] v.items) }
 {
     let mut workers = Vec::new(alloc);
@@ -44,19 +44,19 @@ fn prepare(
     sizes: Sizes,
     line: u32,
     mutation: Mutation,
-) -> Result<Prepared, WriteFault>
+) -> Result<Prepared, PlanFault>
     requires within { IsWithinLimits mutation }
     requires tables { sizes.tables ≡ most_tables }
     ensures { IfOk result (λ p. IsPrepared sizes line mutation p) }
 {
     match Prepared::make(alloc, sizes, line, mutation) {
         Ok(prepared) => Ok(prepared),
-        Err(PrepareFault::TooLarge { size, max }) => Err(WriteFault::TooLarge {
+        Err(PrepareFault::TooLarge { size, max }) => Err(PlanFault::TooLarge {
             line,
             size,
             most: max,
         }),
-        Err(PrepareFault::OutOfMemory) => Err(WriteFault::OutOfMemory),
+        Err(PrepareFault::OutOfMemory) => Err(PlanFault::OutOfMemory),
     }
 }
 
@@ -76,12 +76,13 @@ fn give<K: Keeper + Drop>(
     Ok(workers[number].writes.push(write)?)
 }
 
-/// Deals the lines of a file out to workers that have no seats yet.
+/// Deals the lines of a file out to workers that have no seats yet. `TooLarge`: the entry of a line is
+/// larger than half a segment's capacity (`CommitLog.add`).
 pub fn deal<K: Keeper + Drop>(
     alloc: Global,
     sizes: Sizes,
     mutations: Vec<Mutation>,
-) -> Result<Vec<Worker<K>>, WriteFault>
+) -> Result<Vec<Worker<K>>, PlanFault>
     requires few { length mutations.items < 2 ^ 32 }
     requires within { AllByRecursion IsWithinLimits mutations.items }
     requires tables { sizes.tables ≡ most_tables }

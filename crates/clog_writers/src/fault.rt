@@ -1,12 +1,12 @@
 //! Why lines were not all logged by their writers.
 ghost use Rattle.std.specs.Prelude.{◌≡◌, ◌⊎◌, ℕ, None, Some};
 ghost use Rattle.clog_writers.specs.declared.fault.WriteFault.TheVariants.{Stopped};
+ghost use Rattle.clog_writers.specs.Written.{unplanned};
 ghost use Rattle.path_rule.specs.declared.answer.SyncAnswer.TheVariants.{
   Done,
   Stopped as LogStopped,
 };
 
-use clog_base::OutOfMemory;
 use std::alloc::{AllocError, AllocFailed};
 use write_path::SyncAnswer;
 
@@ -24,7 +24,7 @@ pub enum WriteFault {
     },
     /// Memory was refused.
     OutOfMemory,
-    /// The log has no further segment for a line.
+    /// The log has no further segment for a line. Other lines are logged.
     Spent,
     /// The disk has failed.
     Stopped {
@@ -37,39 +37,53 @@ pub enum WriteFault {
     Rows(u64),
 }
 
-impl From<OutOfMemory> for WriteFault {
-    ghost use Rattle.clog_writers.specs.declared.fault.WriteFault.TheVariants.{
-      OutOfMemory as no_memory,
-    };
-
-    ghost from_gives = { λ _ e. e ≡ no_memory };
-
-    fn from(_: OutOfMemory) -> Self {
-        WriteFault::OutOfMemory
-    }
+/// Why no line is written: what is taken before the first of them was refused.
+#[derive(Clone, Copy, Debug, PartialEq, Eq)]
+pub enum PlanFault {
+    /// An entry is larger than half a segment's capacity.
+    TooLarge {
+        /// The first line whose entry is, from 1.
+        line: u32,
+        /// Its size in bytes, or the greatest `u32` where that is less.
+        size: u32,
+        /// The most bytes that an entry may have.
+        most: u32,
+    },
+    /// Memory was refused.
+    OutOfMemory,
 }
 
-impl From<AllocError> for WriteFault {
-    ghost use Rattle.clog_writers.specs.declared.fault.WriteFault.TheVariants.{
+impl From<AllocError> for PlanFault {
+    ghost use Rattle.clog_writers.specs.declared.fault.PlanFault.TheVariants.{
       OutOfMemory as no_memory,
     };
 
     ghost from_gives = { λ _ e. e ≡ no_memory };
 
     fn from(_: AllocError) -> Self {
-        WriteFault::OutOfMemory
+        PlanFault::OutOfMemory
     }
 }
 
-impl<T: Drop> From<AllocFailed<T>> for WriteFault {
-    ghost use Rattle.clog_writers.specs.declared.fault.WriteFault.TheVariants.{
+impl<T: Drop> From<AllocFailed<T>> for PlanFault {
+    ghost use Rattle.clog_writers.specs.declared.fault.PlanFault.TheVariants.{
       OutOfMemory as no_memory,
     };
 
     ghost from_gives = { λ _ e. e ≡ no_memory };
 
     fn from(_: AllocFailed<T>) -> Self {
-        WriteFault::OutOfMemory
+        PlanFault::OutOfMemory
+    }
+}
+
+/// A refusal before the first line, as one of the lines.
+pub(crate) fn unplanned(fault: PlanFault) -> WriteFault
+    ensures { result ≡ unplanned fault }
+{
+    match fault {
+        PlanFault::TooLarge { line, size, most } => WriteFault::TooLarge { line, size, most },
+        PlanFault::OutOfMemory => WriteFault::OutOfMemory,
     }
 }
 

@@ -8,9 +8,14 @@ mod crew;
 mod dealing;
 mod fault;
 mod logging;
+mod placing;
+mod planning;
 mod worker;
+mod writing;
 
 pub use dealing::deal;
-pub use fault::WriteFault;
+pub use fault::{PlanFault, WriteFault};
 pub use logging::log_shares;
+pub use planning::{Plan, make_plan};
 pub use worker::Worker;
+pub use writing::write_shares;

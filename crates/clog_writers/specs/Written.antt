@@ -1,0 +1,82 @@
+-- What is left where the lines of a file were logged by writers of a path over a store.
+use Rattle.std.specs.Prelude.{
+  ◌≡◌,
+  ℕ,
+  ◌≤◌,
+  false,
+  List,
+  [],
+  ◌++◌,
+  length,
+  map,
+  Bool,
+  Option,
+  Some,
+  None,
+  Result,
+  Ok,
+  Err,
+}
+use Rattle.clog_io.specs.Causes.{Rose}
+use Rattle.clog_base.specs.declared.sizes.Sizes.{Sizes}
+use Rattle.clog_disk.specs.declared.change.Change.{Change}
+use Rattle.clog_disk.specs.Files.{Files}
+use Rattle.clog_mutation.specs.declared.mutation.Mutation.{Mutation}
+use Rattle.clog_words.specs.declared.request.ApplyOptions.{ApplyOptions}
+use Rattle.sync_core.specs.declared.SyncCore.TheVariants.{Periodic}
+use Rattle.clog_applied.specs.Asked.{capacity_of}
+use Rattle.clog_applied.specs.Closed.{IsClosedPath, IsStoreLeft}
+use Rattle.clog_applied.specs.History.{LoggedLine, logged_at}
+use Rattle.clog_applied.specs.Printed.{AreByLine}
+use Rattle.write_path.specs.declared.commit.Receipt.{Receipt}
+use Rattle.clog_writers.specs.declared.fault.PlanFault.{PlanFault}
+use Rattle.clog_writers.specs.declared.fault.PlanFault.TheVariants as plan
+use Rattle.clog_writers.specs.declared.fault.WriteFault.{WriteFault}
+use Rattle.clog_writers.specs.declared.fault.WriteFault.TheVariants.{OutOfMemory, Stopped, TooLarge}
+
+-- So many writers log all lines, and the log is synced at the end. Nothing is flushed or drained.
+pub record IsAskedBy (options : ApplyOptions) (sizes : Sizes) (archives : Bool) : Type 0 where
+  pub writers : options.writers ≡ sizes.writers
+  pub periodic : options.sync ≡ Periodic 10000
+  pub no_flush : options.flush_at ≡ None
+  pub no_drain : options.drain ≡ false
+  pub capacity : capacity_of options ≡ sizes.capacity
+  pub archive_is : options.archive ≡ archives
+
+-- the receipt of a line that is logged
+abbrev pub line_receipt : LoggedLine → Receipt
+line_receipt w = record { line = w.number; position = logged_at w }
+
+-- All lines were logged: what the path and the store of such a run tell, and the lines' receipts,
+-- in the order of the lines.
+pub record HasWrittenShares (options : ApplyOptions) (base : ℕ) (opened after : Files)
+    (later : List Change) (mutations : List Mutation) (receipts : List Receipt) : Type 0 where
+  pub ids : List ℕ
+  pub history : List LoggedLine
+  pub logged : List LoggedLine
+  pub path : IsClosedPath options mutations base history []
+  pub store : IsStoreLeft options.archive opened after later ids [] history []
+  pub by_line : AreByLine history (length mutations) logged
+  pub receipts_are : receipts ≡ map line_receipt logged
+
+-- What the disk tells of it.
+pub record TellsWrittenShares (options : ApplyOptions) (base : ℕ) (opened : Files)
+    (made : List Change) (told : Option Files) (changes : Option (List Change))
+    (mutations : List Mutation) (receipts : List Receipt) : Type 0 where
+  pub after : Files
+  pub later : List Change
+  pub files_are : told ≡ Some after
+  pub changes_are : changes ≡ Some (made ++ later)
+  pub written : HasWrittenShares options base opened after later mutations receipts
+
+-- Why lines were not all logged, by the disk's counts of faults before and now: it counts one only
+-- where it has failed, and then that is told.
+abbrev pub HasShareCause : {T : Type 0} → ℕ → ℕ → Result T WriteFault → Type 0
+HasShareCause faults now (Ok done) = now ≡ faults
+HasShareCause faults now (Err (Stopped at_open counted)) = (faults ≤ now) × Rose faults now
+HasShareCause faults now (Err other) = now ≡ faults
+
+-- a refusal before the first line, as one of the lines
+abbrev pub unplanned : PlanFault → WriteFault
+unplanned (plan.TooLarge line size most) = TooLarge line size most
+unplanned plan.OutOfMemory = OutOfMemory

@@ -1,0 +1,53 @@
+//! What is made for a file's lines before the first of them is written.
+ghost use Rattle.std.specs.Prelude.{◌≡◌, ◌<◌, ◌^◌, length, IfOk};
+ghost use Rattle.std.specs.List.{AllByRecursion};
+ghost use Rattle.clog_spec.specs.Sizes.{most_tables};
+ghost use Rattle.clog_mutation.specs.Limits.{IsWithinLimits};
+ghost use Rattle.clog_writers.specs.Planned.{IsPlanFor};
+
+use crate::dealing::deal;
+use crate::fault::PlanFault;
+use crate::worker::Worker;
+use clog_base::{Position, Sizes};
+use clog_mutation::Mutation;
+use path_core::Keeper;
+use std::alloc::Global;
+use write_path::{PathSeat, Receipt};
+
+/// Workers with their shares of lines, room for their seats, and a place for the receipt of each
+/// line.
+#[derive(Drop)]
+pub struct Plan<K> {
+    /// The workers, each with the writes of its share.
+    pub workers: Vec<Worker<K>>,
+    /// Room for a seat of each.
+    pub room: Vec<PathSeat<K>>,
+    /// A place for the receipt of each line.
+    pub receipts: Vec<Receipt>,
+}
+
+/// Takes all memory that the writing of lines takes. `TooLarge`: the entry of a line is larger than
+/// half a segment's capacity (`CommitLog.add`).
+pub fn make_plan<K: Keeper + Drop>(
+    alloc: Global,
+    sizes: Sizes,
+    mutations: Vec<Mutation>,
+) -> Result<Plan<K>, PlanFault>
+    requires few { length mutations.items < 2 ^ 32 }
+    requires within { AllByRecursion IsWithinLimits mutations.items }
+    requires tables { sizes.tables ≡ most_tables }
+    ensures { IfOk result (λ p. IsPlanFor sizes mutations.items p) }
+{
+    let none = Receipt {
+        line: 0,
+        position: Position { id: 0, offset: 0 },
+    };
+    let receipts = vec![in alloc; none; mutations.len()]?;
+    let room = Vec::with_capacity(alloc, usize::from(sizes.writers))?;
+    let workers = deal(alloc, sizes, mutations)?;
+    Ok(Plan {
+        workers,
+        room,
+        receipts,
+    })
+}
