@@ -17,4 +17,6 @@ pub mod Sealing
 pub mod SealedApart
 pub mod SealedRows
 pub mod Rooms
+pub mod Growing
 pub mod Acknowledged
+pub mod Promises
