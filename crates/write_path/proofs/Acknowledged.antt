@@ -4,12 +4,14 @@ use Rattle.std.specs.List.{Contains}
 use Rattle.clog_base.specs.Positions.{position_of}
 use Rattle.op_core.specs.declared.count.Order.TheVariants.{Append}
 use Rattle.path_core.specs.declared.event.Cursor.TheVariants.{Synced, Stopped as StoppedCursor}
+use Rattle.path_core.specs.declared.event.Event.{Event}
 use Rattle.path_core.specs.declared.event.Place.TheVariants.{Current, CursorWord}
 use Rattle.path_core.specs.declared.note.EntryNote.{EntryNote}
 use Rattle.path_rule.specs.declared.answer.SyncAnswer.TheVariants.{Done}
 use Rattle.path_rule.specs.declared.view.OwnStep.{OwnStep}
 use Rattle.path_rule.specs.declared.view.PathSize.{PathSize}
 use Rattle.path_rule.specs.declared.view.View.{View}
+use Rattle.path_rule.specs.Rounds.{RoundSteps}
 use Rattle.path_rule.specs.Rule.{event_of}
 use Rattle.sync_core.specs.declared.SyncCore.TheVariants.{Batch}
 use Rattle.write_path.specs.declared.commit.Commit.{Commit}
@@ -19,8 +21,10 @@ use Rattle.write_path.specs.declared.commit.SyncFault.TheVariants.{Stopped, OutO
 use Rattle.write_path.specs.declared.prepared.Prepared.{Prepared}
 use Rattle.write_path.specs.Commits.{IsLogged}
 use Rattle.write_path.specs.Ends.{writes_of, IsLast, IsListed}
+use Rattle.write_path.specs.Grown.{HasGrown}
 use Rattle.write_path.specs.Receipts.{Acknowledges, HasReceipt, IsCommitted, IsLineOf}
 use Rattle.write_path.specs.Syncs.{CoversList}
+use Rattle.write_path.proofs.Growing.{both}
 use Rattle.write_path.proofs.Sealing.{found_in, stays_last}
 
 -- A synced key that covers a list covers the list's newest write.
@@ -31,13 +35,18 @@ reached w s start end tables before p v L covers =
     (covers L.note (subst (λ (l : List EntryNote). Contains l L.note) (sym L.list)
     (0, omega arith, refl)))
 
+-- a trail grows by a sync's steps
+by_rounds : (w : ℕ) (puts : List Event) (v after : View) → RoundSteps w puts v after
+    → HasGrown v.trail after.trail
+by_rounds w puts v after S = record { newer = S.steps; is = S.trail }
+
 -- A receipt stands where the list does, and the write is the seat's last.
 abbrev pub stands : (base w : ℕ) (before : List OwnStep) (p : Prepared) (r x : Receipt)
     (v after : View) → (H : HasReceipt base w before p r v.trail)
     → writes_of after.trail ≡ writes_of v.trail
-    → IsLast H.logged.listed.note (map event_of after.trail) → x ≡ r
+    → IsLast H.logged.listed.note (map event_of after.trail) → HasGrown v.trail after.trail → x ≡ r
     → HasReceipt base w before p x after.trail
-stands base w before p r x v after H same last is =
+stands base w before p r x v after H same last grown is =
     let L = H.logged.listed in record {
       start = H.start;
       end = H.end;
@@ -54,6 +63,7 @@ stands base w before p r x v after H same last is =
           tables_are = L.tables_are;
           of = L.of;
         };
+        grown = both before v.trail after.trail H.logged.grown grown;
       };
       position = ap (λ (y : Receipt). y.position) is ∙ H.position;
       line = λ sizes line m P. ap (λ (y : Receipt). y.line) is ∙ H.line sizes line m P;
@@ -66,7 +76,8 @@ acknowledged size w before p r (Logged x) v after H A = absurd A
 acknowledged size w before p r (Durable x) v after H A = let S = A.1.1 in
     let n = H.logged.listed.note in let puts = S.answers.puts in
     let K = stands size.base w before p r x v after H S.list
-    (stays_last w n puts v after S.answers.steps H.logged.listed.last) A.0 in
+    (stays_last w n puts v after S.answers.steps H.logged.listed.last)
+    (by_rounds w puts v after S.answers.steps) A.0 in
     let up = reached w A.1.0 K.start K.end K.logged.tables before p after K.logged.listed
     S.covers in (
       K,
@@ -87,7 +98,8 @@ acknowledged size w before p r (Unsynced x (Stopped at_open now)) v after H A =
     let S = A.1 in let n = H.logged.listed.note in let puts = S.answers.puts in
     let I = S.answers.is in (
       stands size.base w before p r x v after H S.list
-          (stays_last w n puts v after S.answers.steps H.logged.listed.last) A.0,
+          (stays_last w n puts v after S.answers.steps H.logged.listed.last)
+          (by_rounds w puts v after S.answers.steps) A.0,
       (I.0, I.1, I.2),
       found_in w n puts v after S.answers.steps H.logged.listed.last (CursorWord StoppedCursor) now
           S.answers.now,
@@ -95,7 +107,8 @@ acknowledged size w before p r (Unsynced x (Stopped at_open now)) v after H A =
 acknowledged size w before p r (Unsynced x OutOfMemory) v after H A =
     let S = A.1 in let n = H.logged.listed.note in let puts = S.answers.puts in (
       stands size.base w before p r x v after H S.list
-          (stays_last w n puts v after S.answers.steps H.logged.listed.last) A.0,
+          (stays_last w n puts v after S.answers.steps H.logged.listed.last)
+          (by_rounds w puts v after S.answers.steps) A.0,
       tt,
       tt,
     )
@@ -103,7 +116,8 @@ acknowledged size w before p r (Unsynced x (Rows n)) v after H A =
     let S = A.1 in let m = H.logged.listed.note in let puts = S.answers.puts in
     let F = S.answers.now in (
       stands size.base w before p r x v after H S.list
-          (stays_last w m puts v after S.answers.steps H.logged.listed.last) A.0,
+          (stays_last w m puts v after S.answers.steps H.logged.listed.last)
+          (by_rounds w puts v after S.answers.steps) A.0,
       S.answers.is.0,
       (
         F.0,

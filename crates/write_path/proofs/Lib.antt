@@ -18,4 +18,6 @@ pub mod OwnClaims
 pub mod SealedApart
 pub mod SealedRows
 pub mod Rooms
+pub mod Growing
 pub mod Acknowledged
+pub mod Promises

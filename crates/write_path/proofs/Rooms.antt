@@ -1,5 +1,5 @@
 -- That a key without room was found in a call stays so while its seat goes on.
-use Rattle.std.proofs.Common.{◌≡◌, ℕ, ◌≤◌, false, List, [], ◌∷◌, Some, subst, sym, ⊎_elim, arith}
+use Rattle.std.proofs.Common.{◌≡◌, ℕ, ◌≤◌, false, List, [], ◌∷◌, Some, length, refl, subst, sym, ⊎_elim, arith}
 use mathlib.Core.Logic.{inl, inr}
 use Rattle.op_core.specs.declared.count.Order.{Order}
 use Rattle.op_core.specs.declared.count.Order.TheVariants.{Write, Append}
@@ -11,7 +11,10 @@ use Rattle.path_rule.specs.declared.view.PathSize.{PathSize}
 use Rattle.path_rule.specs.declared.view.View.{View}
 use Rattle.path_rule.specs.Calls.{Did, FoundSince}
 use Rattle.path_rule.specs.Rule.{view_after}
+use Rattle.write_path.specs.Claims.{IsSpent}
 use Rattle.write_path.specs.Commits.{HasNoRoom}
+use Rattle.write_path.specs.Grown.{HasGrown}
+use Rattle.write_path.proofs.Growing.{no_shorter}
 
 -- what was found behind more steps was found behind fewer
 found_since : (a b : ℕ) → a ≤ b → (at : Place) (n : ℕ) (ts : List OwnStep) → FoundSince b at n ts
@@ -43,3 +46,14 @@ room_behind size bytes since key w g n o v after D R =
     by_order : (o : Order) → (view_after v (Close w o g Nothing) n false).part.found.log ≡ Some key
     by_order Write = R.found
     by_order Append = R.found
+
+-- A try to claim that found no room finds it in this call, however far the call had come.
+pub no_room_here : (size : PathSize) (bytes key w : ℕ) (before : List OwnStep) (v after : View)
+    → HasGrown before v.trail → IsSpent size v w bytes key after
+    → HasNoRoom size bytes (length before) key after
+no_room_here size bytes key w before v after G S =
+    subst (HasNoRoom size bytes (length before) key) (sym S.view) (record {
+      none = S.none;
+      found = refl;
+      now = inl (no_shorter before v.trail G, refl, refl);
+    })

@@ -77,7 +77,7 @@ claims_or_finds : (m : EntryNote) (key found : ℕ) (e : Event) → ClaimsNote m
 claims_or_finds m key found (Claim by from to what) C F = F
 claims_or_finds m key found e C F = C
 
-key_found : (key : ℕ) (newer : List OwnStep) (t : OwnStep) (older : List OwnStep)
+pub key_found : (key : ℕ) (newer : List OwnStep) (t : OwnStep) (older : List OwnStep)
     → FindsBy (CursorWord Synced) key t.event t.found
     → Finds (CursorWord Synced) key (newer ++ t ∷ older)
 key_found key [] t older F = inl F

@@ -127,7 +127,7 @@ pub record IsOutcome {K : Type 0} (size : PathSize) (seats : List (PathSeat K)) 
   pub found_stopped : All (IsStoppedFor h) seats
   pub all_synced : All (AreSyncedFor h) seats
   pub all_stopped : All (AreStoppedFor h) seats
-  -- each write that was answered Durable stands apart from its seat's next one
+  -- each sealed write stands apart from each later one of its seat
   pub apart : All (λ (s : PathSeat K). AreSealedApart size.capacity core.notes h.synced
       (view_of s.member).trail) seats
   -- what is lasting, and what a refused sync kept above it

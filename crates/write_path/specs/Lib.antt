@@ -2,6 +2,7 @@ pub mod Claims
 pub mod Tries
 pub mod Writes
 pub mod Ends
+pub mod Grown
 pub mod Sealed
 pub mod SealedRows
 pub mod Opened
@@ -10,3 +11,4 @@ pub mod Turned
 pub mod Syncs
 pub mod Commits
 pub mod Receipts
+pub mod Promised

@@ -1,4 +1,4 @@
-//! A write commits: it is logged and applied, and in batch mode the log is synced before it is
+//! A write commits: it is logged and placed, and in batch mode the log is synced before it is
 //! answered (`CommitLog.add`, `BatchCommitLogService`). In periodic mode it waits for no sync and
 //! takes no memory (`PeriodicCommitLogService`).
 ghost use Rattle.std.specs.Prelude.{◌≡◌, ℕ, List};
@@ -90,7 +90,7 @@ impl<K: Keeper, A: Allocator> WritePath<K, A> {
         }
     }
 
-    /// Commits a write: it is logged and applied unless the log has no room for it, and in batch
+    /// Commits a write: it is logged and placed unless the log has no room for it, and in batch
     /// mode the log is synced then. `Durable` tells a synced key at or above its end that the seat
     /// found, or put, before it claimed anything further: so a marker stands between the write and
     /// the seat's next one. `Unsynced` tells what the seat found, or put, behind the write. The

@@ -70,8 +70,9 @@ impl<K: Keeper + Drop> WritePath<K, Global> {
     /// Closes the path with all of its seats, or with none where they were not handed out. It gives
     /// the keeper back, and where the log ends: what the seats wrote, together, is a lawful
     /// history, and the keeper has its part up to the synced key. It goes back to the disk of the
-    /// keeper over which the path was opened. A marker stands between each write that was answered
-    /// `Durable` and its seat's next one.
+    /// keeper over which the path was opened. A marker stands between each write that is sealed in
+    /// its seat's trail and each later one of that seat. What commits and syncs have answered is so
+    /// of the trails at the end too (`what_close_keeps`).
     pub fn close(self, seats: Vec<PathSeat<K>>) -> (K, Outcome)
         requires seats { AreOf self.table.table.shared.table_id self.table.size seats.items }
         requires all { AreAll self.opener self.table.size.seats (numbers_of seats.items) }

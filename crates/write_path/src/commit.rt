@@ -1,4 +1,5 @@
-//! What a commit answers: how far a write has got, and by what it is known.
+//! What a commit answers: how far a write has got, and by what it is known. A write is placed when
+//! it has its memtable at each of its tables; its updates are put into none yet.
 use crate::prepared::Prepared;
 use clog_base::{Key, Position};
 
@@ -11,7 +12,7 @@ pub struct Receipt {
     pub position: Position,
 }
 
-/// Why a write that is logged and applied was not made lasting by its commit.
+/// Why a write that is logged and placed was not made lasting by its commit.
 #[derive(Clone, Copy, Debug, PartialEq, Eq)]
 pub enum SyncFault {
     /// The log is stopped.
@@ -30,13 +31,13 @@ pub enum SyncFault {
 /// What a commit answers.
 #[derive(Drop)]
 pub enum Commit {
-    /// The write is logged and applied. It lasts once a sync has come up to its position.
+    /// The write is logged and placed. It lasts once a sync has come up to its position.
     Logged(Receipt),
-    /// The write is logged and applied, and the log is lasting up to its position.
+    /// The write is logged and placed, and the log is lasting up to its position.
     Durable(Receipt),
-    /// The write is logged and applied, but the sync that it waited for was refused.
+    /// The write is logged and placed, but the sync that it waited for was refused.
     Unsynced(Receipt, SyncFault),
-    /// The write was neither logged nor applied: at this key, which was found in this call, there
+    /// The write was neither logged nor placed: at this key, which was found in this call, there
     /// is no room for it, and no further segment. It comes back.
     Spent(Prepared, Key),
 }

@@ -1,4 +1,4 @@
-//! A seat whose entry is deposited: what is left of its write is to apply it.
+//! A seat whose entry is deposited: what is left of its write is to place it at its tables.
 ghost use Rattle.std.specs.Prelude.{◌≡◌, ◌^◌, ◌<◌, [], Some, None};
 ghost use Rattle.path_core.specs.Parts.{HoldsNoTurn};
 

@@ -1,4 +1,4 @@
-//! A write that has deposited its entry is applied and ends, by single tries that are never
+//! A write that has deposited its entry is placed and ends, by single tries that are never
 //! refused. At each of its tables it tries the oldest live memtable, which accepts it; then it
 //! leaves the write order, and its seat is idle again.
 ghost use Rattle.std.specs.Prelude.{◌≡◌, ◌≢◌, ℕ, suc, ◌<◌, List, IsTrue, Some};
@@ -122,7 +122,7 @@ impl<K: Keeper, A: Allocator> WritePath<K, A> {
         seat
     }
 
-    /// Applies a write at each of its tables in ascending order, and ends it: the seat is idle
+    /// Places a write at each of its tables in ascending order, and ends it: the seat is idle
     /// again, and its list has the write. The gate is told each time that a memtable has accepted
     /// it.
     pub fn end_write<G: Gate>(&self, seat: Deposited<K>, gate: &G) -> PathSeat<K>

@@ -1,18 +1,29 @@
-//! Laws of notes, and of writes that a marker stands behind. Each is the contract of a function
-//! that does nothing.
+//! Laws of notes, of writes that a marker stands behind, and of what an answer promises for the
+//! close of the path. Each is the contract of a function that does nothing.
 ghost use Rattle.std.specs.Prelude.{◌≡◌, ℕ, ◌+◌, ◌≤◌, ◌++◌, List};
+ghost use Rattle.std.specs.List.{Contains};
 ghost use Rattle.clog_base.specs.declared.sizes.Sizes.{Sizes};
 ghost use Rattle.clog_mutation.specs.declared.mutation.Mutation.{Mutation};
 ghost use Rattle.clog_mutation.specs.Limits.{IsWithinLimits};
 ghost use Rattle.path_core.specs.declared.event.ClaimKind.TheVariants.{Entry};
 ghost use Rattle.path_core.specs.declared.note.EntryNote.{EntryNote};
+ghost use Rattle.path_core.specs.Keeper.{Holding};
 ghost use Rattle.path_core.specs.Keys.{least_entry, MovesLog, claimed_size, claim_start};
 ghost use Rattle.path_core.specs.Whole.{IsWhole};
 ghost use Rattle.path_rule.specs.declared.view.OwnStep.{OwnStep};
+ghost use Rattle.path_rule.specs.declared.view.PathSize.{PathSize};
+ghost use Rattle.path_rule.specs.Members.{view_of};
 ghost use Rattle.write_path.specs.declared.prepared.Prepared.{Prepared};
-ghost use Rattle.write_path.specs.Sealed.{IsSealed};
+ghost use Rattle.write_path.specs.Closed.{IsOutcome};
+ghost use Rattle.write_path.specs.Commits.{IsLogged};
+ghost use Rattle.write_path.specs.Grown.{HasGrown};
+ghost use Rattle.write_path.specs.Promised.{WasDone, WasDurable};
+ghost use Rattle.write_path.specs.Sealed.{HasMarkBetween, IsSealed};
 ghost use Rattle.write_path.specs.SealedRows.{behind_it, before_it, behind_a_claim};
 ghost use Rattle.write_path.specs.Writes.{entry_size, IsNoteOf, IsClaimed, IsDepositable};
+
+use path_core::Keeper;
+use path_rule::PathSeat;
 
 /// The note of a prepared write may be deposited once it is claimed.
 pub fn note_laws()
@@ -43,4 +54,27 @@ pub fn what_seals_a_write()
     // Whatever the seat does then, the write stays sealed.
     ensures stays { (n : EntryNote) (newer trail : List OwnStep) → IsSealed n trail
         → IsSealed n (newer ++ trail) }
+{}
+
+/// What a seat was promised is so when the path is closed, whatever the seats did between.
+pub fn what_close_keeps<K: Keeper>()
+    // The keeper has each write that a commit answered `Durable`.
+    ensures durable { (size : PathSize) (seats : List (PathSeat K)) (end : ℕ) (h : Holding)
+        → IsOutcome size seats end h → (s : PathSeat K) → Contains seats s → (n : EntryNote)
+        → WasDurable size s.member.number n (view_of s.member).trail → Contains h.logged n }
+    // It has synced to each key that a sync answered `Done` with, and has each write that was of
+    // the seat's list then.
+    ensures done { (size : PathSize) (seats : List (PathSeat K)) (end : ℕ) (h : Holding)
+        → IsOutcome size seats end h → (s : PathSeat K) → Contains seats s
+        → (key : ℕ) (n : EntryNote) → WasDone s.member.number key n (view_of s.member).trail
+        → (key ≤ h.synced) × Contains h.logged n }
+    // A marker stands between a write that was answered `Durable` and each one that its seat logged
+    // behind it.
+    ensures apart { (size : PathSize) (seats : List (PathSeat K)) (end : ℕ) (h : Holding)
+        → (o : IsOutcome size seats end h) → (s : PathSeat K) → Contains seats s
+        → (n : EntryNote) (before after : List OwnStep) (start to : ℕ) (p : Prepared)
+        → WasDurable size s.member.number n before
+        → (l : IsLogged before s.member.number start to p after)
+        → HasGrown after (view_of s.member).trail
+        → HasMarkBetween size.capacity o.core.notes h.synced n.end.0 l.listed.note.start.0 }
 {}

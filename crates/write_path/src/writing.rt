@@ -26,7 +26,7 @@ use std::sync::Wait;
 /// What a write answers.
 #[derive(Drop)]
 pub enum Written {
-    /// It is logged, in this range, and applied. The log need not be lasting up to there.
+    /// It is logged, in this range, and placed. The log need not be lasting up to there.
     Logged {
         /// Where its range begins.
         start: Key,
@@ -39,7 +39,7 @@ pub enum Written {
 }
 
 impl<K: Keeper, A: Allocator> WritePath<K, A> {
-    // A claimed write is logged, applied and ended: the seat's list is the old one and this write.
+    // A claimed write is logged, placed and ended: the seat's list is the old one and this write.
     fn log_claimed<G: Gate>(&self, seat: Claimed<K>, prepared: Prepared, gate: &G) -> PathSeat<K>
         requires table { IsOf self.now.table.table.shared.table_id self.now.table.size seat.member }
         requires groups { (seat.group < 65536) × (seat.writing < 65536) }
@@ -75,7 +75,7 @@ impl<K: Keeper, A: Allocator> WritePath<K, A> {
     }
 
     /// Writes what was prepared, unless the log has no room for it. It takes no memory, and after
-    /// its claim it is always applied. The gate is told how far it is, up to `Finished`. No clause
+    /// its claim it is always placed. The gate is told how far it is, up to `Finished`. No clause
     /// says that it returns.
     pub fn write<R: Wait, G: Gate>(
         &self,

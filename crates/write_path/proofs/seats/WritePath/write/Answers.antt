@@ -2,6 +2,7 @@ use Rattle.std.proofs.Common.{ℕ, ◌/◌, ◌≤◌, List, ◌∷◌, length, 
 use Rattle.std.specs.List.{Contains}
 use Rattle.path_core.specs.declared.note.EntryNote.{EntryNote}
 use Rattle.write_path.specs.Commits.{HasNoRoom}
+use Rattle.write_path.proofs.Growing.{both, no_shorter}
 use Rattle.write_path.proofs.LeastEntry.{entry_least}
 use Rattle.write_path.proofs.Rooms.{room_since}
 use Rattle.write_path.proofs.seats.WritePath.write.Goals as goal
@@ -36,6 +37,12 @@ returns-in-Ok-clause-written g c =
         tables_are = L.listed.tables_are;
         of = L.listed.of;
       };
+      grown = both c.args.seat.member.seat.me.0.trail c.in-Ok.claimed.member.seat.me.0.trail
+          c.log_claimed.result.member.seat.me.0.trail
+          (both c.args.seat.member.seat.me.0.trail c.append-appending.result.member.seat.me.0.trail
+          c.in-Ok.claimed.member.seat.me.0.trail
+          (both c.args.seat.member.seat.me.0.trail c.start-begun.result.member.seat.me.0.trail
+          c.append-appending.result.member.seat.me.0.trail S.2 A.2) C.2) L.grown;
     }
 
 pub returns-in-Err-clause-written : goal.returns-in-Err-clause-written
@@ -43,12 +50,16 @@ returns-in-Err-clause-written g c =
     let E = c.in-Err.ensures.claim in let A = c.append-appending in let S = c.start-begun.ensures.0 in
     let L = c.leave.ensures in let size = c.args.self.now.table.size in
     let before = c.args.seat.member.seat.me.0.trail in
+    let begun = c.start-begun.result.member.seat.me.0.trail in
     let joined = A.result.member.seat.me.0.trail in
+    let refused = c.in-Err.refused.member.seat.me.0.trail in
+    let grown = both before begun joined S.2 A.ensures.0.2 in
     let key = c.in-Err.key.0 in let after = c.leave.result.member.seat.me.0 in (
       refl,
       L.same.1 ∙ (E.0.1 ∙ (A.ensures.0.1 ∙ S.1)),
       room_since size c.args.prepared.size (length before) (length joined) key after
-          (let a = S.2 in let b = A.ensures.0.2 in omega arith)
+          (no_shorter before joined grown)
           (subst (λ (bytes : ℕ). HasNoRoom size bytes (length joined) key after) c.size.ensures
           (L.room c.size.result (length joined) key E.3)),
+      both before refused after.trail (both before joined refused grown E.0.2) L.same.2,
     )

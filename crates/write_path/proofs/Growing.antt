@@ -1,0 +1,139 @@
+-- A seat's trail grows from step to step, and over calls one behind another.
+use Rattle.std.proofs.Common.{
+  ◌≡◌,
+  ◌⊎◌,
+  ℕ,
+  ◌+◌,
+  ◌≤◌,
+  false,
+  List,
+  [],
+  ◌∷◌,
+  ◌++◌,
+  length,
+  refl,
+  sym,
+  ap,
+  ◌∙◌,
+  subst,
+  ⊎_elim,
+  arith,
+}
+use Rattle.std.proofs.lemmas.List.{append_assoc, length-append}
+use Rattle.atomic_table.specs.Seated.{TableId}
+use Rattle.op_core.specs.declared.count.Order.{Order}
+use Rattle.op_core.specs.declared.count.Order.TheVariants.{Write, Append}
+use Rattle.path_core.specs.declared.event.Carried.TheVariants.{Nothing, Applied}
+use Rattle.path_core.specs.declared.event.ClaimKind.TheVariants.{Entry}
+use Rattle.path_core.specs.declared.event.Event.{Event}
+use Rattle.path_core.specs.declared.event.Event.TheVariants.{Look, Register, Claim, Close}
+use Rattle.path_core.specs.declared.event.Place.TheVariants.{Count, Current, Log}
+use Rattle.path_rule.specs.declared.table.Member.{Member}
+use Rattle.path_rule.specs.declared.view.OwnStep.{OwnStep}
+use Rattle.path_rule.specs.declared.view.PathSize.{PathSize}
+use Rattle.path_rule.specs.declared.view.View.{View}
+use Rattle.path_rule.specs.Calls.{Did, Started}
+use Rattle.write_path.specs.declared.deposited.Deposited.{Deposited}
+use Rattle.write_path.specs.Claims.{IsClaim, IsAgain, IsSpent}
+use Rattle.write_path.specs.Commits.{KeepsList}
+use Rattle.write_path.specs.Ends.{writes_of, EndsWrite}
+use Rattle.write_path.specs.Grown.{HasGrown}
+use Rattle.write_path.specs.Tries.{Stays, Joined, OnlyLooked}
+
+-- by no step, by one, and by those of two calls
+pub unmoved : (a b : List OwnStep) → b ≡ a → HasGrown a b
+unmoved a b same = record { newer = []; is = same }
+
+pub both : (a b c : List OwnStep) → HasGrown a b → HasGrown b c → HasGrown a c
+both a b c G H = record {
+  newer = H.newer ++ G.newer;
+  is = H.is ∙ (ap (λ l. H.newer ++ l) G.is ∙ sym (append_assoc H.newer G.newer a));
+}
+
+pub one_step : (v : View) (w : ℕ) (e : Event) (n : ℕ) (after : View) → Did v w e n after
+    → HasGrown v.trail after.trail
+one_step v w e n after D = record {
+  newer = record { event = e; found = n; filed = false } ∷ [];
+  is = ap (λ (u : View). u.trail) D.view;
+}
+
+-- so it is as long at least
+pub no_shorter : (a b : List OwnStep) → HasGrown a b → length a ≤ length b
+no_shorter a b G = let long = ap (λ (l : List OwnStep). length l) G.is in
+    let sum = length-append G.newer a in omega arith
+
+abbrev step : Event → ℕ → OwnStep
+step e n = record { event = e; found = n; filed = false }
+
+-- a write that ends, by its looks and its last step
+pub ended : {K : Type 0} (s : Deposited K) (after : Member K) → EndsWrite s after
+    → HasGrown s.member.seat.me.0.trail after.seat.me.0.trail
+ended s after E = both s.member.seat.me.0.trail E.before.trail after.seat.me.0.trail
+    (record { newer = E.tried.looks; is = E.tried.trail })
+    (one_step E.before s.member.number (Close s.member.number Write s.writing (Applied E.places))
+    E.found after.seat.me.0 E.did)
+
+-- ---- by the single tries, which leave the list
+
+module _ {K : Type 0} (id : TableId) (size : PathSize) (m m' : Member K)
+    (stays : Stays id size m m') where
+  by : (u : View) (newer : List OwnStep) → m'.seat.me.0 ≡ u → u.trail ≡ newer ++ m.seat.me.0.trail
+      → writes_of u.trail ≡ writes_of m.seat.me.0.trail → KeepsList id size m m'
+  by u newer view trail list = (
+    stays,
+    ap (λ (v : View). writes_of v.trail) view ∙ list,
+    record { newer = newer; is = ap (λ (v : View). v.trail) view ∙ trail },
+  )
+
+  -- a look at the current group of an order and one at its count
+  abbrev looks : Order → ℕ → ℕ → List OwnStep
+  looks o g k = step (Look m.number (Count o g)) k ∷ step (Look m.number (Current o)) g ∷ []
+
+  pub started : (g : ℕ) → Started m.seat.me.0 m.number Write g m'.seat.me.0
+      → KeepsList id size m m'
+  started g S = by _ (step (Register m.number Write g) (S.looked + 1) ∷ looks Write g S.looked)
+      S.did.view refl refl
+
+  pub joined : (g : ℕ) → Joined m.seat.me.0 m.number g m'.seat.me.0 → KeepsList id size m m'
+  joined g J = by _ (step (Register m.number Append g) (J.looked + 1) ∷ looks Append g J.looked)
+      J.did.view refl refl
+
+  pub only_looked : (o : Order) (k n : ℕ)
+      → OnlyLooked o m.seat.me.0 m.number k n m'.seat.me.0 → KeepsList id size m m'
+  only_looked o k n L = let g = L.refused.group in ⊎_elim
+      (λ once. by _ (looks o g k) once refl refl)
+      (λ again. by _ (step (Look m.number (Count o g)) n ∷ looks o g k) again refl refl)
+      L.refused.view
+
+  pub claimed : (to : ℕ) → IsClaim m.seat.me.0 m.number to m'.seat.me.0 → KeepsList id size m m'
+  claimed to C = by _ (step (Claim m.number (record { 0 = C.looked }) (record { 0 = to }) Entry) to
+      ∷ step (Look m.number Log) C.looked ∷ []) C.did.view refl refl
+
+  pub again : (k n : ℕ) → IsAgain m.seat.me.0 m.number k n m'.seat.me.0 → KeepsList id size m m'
+  again k n A = by _ (step (Look m.number Log) n ∷ step (Look m.number Log) k ∷ []) A.view refl
+      refl
+
+  pub spent : (bytes key : ℕ) → IsSpent size m.seat.me.0 m.number bytes key m'.seat.me.0
+      → KeepsList id size m m'
+  spent bytes key S = by _ (step (Look m.number Log) key ∷ []) S.view refl refl
+
+  -- a seat that leaves an order with nothing
+  pub left : (o : Order) (g n : ℕ)
+      → Did m.seat.me.0 m.number (Close m.number o g Nothing) n m'.seat.me.0
+      → KeepsList id size m m'
+  left o g n D = by _ (step (Close m.number o g Nothing) n ∷ []) D.view refl refl
+
+-- ---- by calls one behind another
+
+pub keeps_on : {K : Type 0} (id : TableId) (size : PathSize) (m m' m'' : Member K)
+    → KeepsList id size m m' → KeepsList id size m' m'' → KeepsList id size m m''
+keeps_on id size m m' m'' A B = (
+  (B.0.0, B.0.1 ∙ A.0.1),
+  B.1 ∙ A.1,
+  both m.seat.me.0.trail m'.seat.me.0.trail m''.seat.me.0.trail A.2 B.2,
+)
+
+-- a seat that made no step, as a call begins
+pub keeps_first : {K : Type 0} (id : TableId) (size : PathSize) (m : Member K)
+    → (m.seat.table_id ≡ id) × (m.seat.me.0.size ≡ size) → KeepsList id size m m
+keeps_first id size m of = ((of, refl), refl, unmoved m.seat.me.0.trail m.seat.me.0.trail refl)

@@ -1,0 +1,25 @@
+use Rattle.std.proofs.Common.{◌∙◌}
+use Rattle.op_core.specs.declared.count.Order.TheVariants.{Append}
+use Rattle.write_path.proofs.Growing.{joined, keeps_on, only_looked}
+use Rattle.write_path.proofs.seats.WritePath.append.Goals as goal
+
+pub returns-in-Ok : goal.returns-in-Ok
+returns-in-Ok g c = let t = c.args.self.now.table in let m = c.loop.seat.member in
+    let r = c.in-Ok in let a = r.appending in (
+      keeps_on t.table.shared.table_id t.size c.args.seat.member m a.member c.loop.invariant.keeps
+          (joined t.table.shared.table_id t.size m a.member r.ensures.same.0 a.group
+          r.ensures.step),
+      r.ensures.same.1 ∙ c.loop.invariant.group,
+      r.ensures.same.2,
+    )
+
+pub loop-preserved : goal.loop-preserved
+loop-preserved g c = let t = c.args.self.now.table in let m = c.loop.seat.member in
+    let r = c.in-Err in let m' = r.refused.member in record {
+      next = tt;
+      finite = tt;
+      keeps = keeps_on t.table.shared.table_id t.size c.args.seat.member m m'
+          c.loop.invariant.keeps (only_looked t.table.shared.table_id t.size m m'
+          r.ensures.same.0 Append r._seen.looked r._seen.found r.ensures.step);
+      group = r.ensures.same.1 ∙ c.loop.invariant.group;
+    }

@@ -1,0 +1,38 @@
+-- What a seat was promised by an answer, as it stands at that moment and at each later one.
+use Rattle.std.specs.Prelude.{◌≡◌, ℕ, List}
+use Rattle.std.specs.List.{Contains}
+use Rattle.path_core.specs.declared.note.EntryNote.{EntryNote}
+use Rattle.path_rule.specs.declared.answer.SyncAnswer.TheVariants.{Done}
+use Rattle.path_rule.specs.declared.view.OwnStep.{OwnStep}
+use Rattle.path_rule.specs.declared.view.PathSize.{PathSize}
+use Rattle.path_rule.specs.declared.view.View.{View}
+use Rattle.sync_core.specs.declared.SyncCore.TheVariants.{Batch}
+use Rattle.write_path.specs.declared.commit.Commit.TheVariants.{Durable}
+use Rattle.write_path.specs.declared.commit.Receipt.{Receipt}
+use Rattle.write_path.specs.declared.prepared.Prepared.{Prepared}
+use Rattle.write_path.specs.Ends.{writes_of}
+use Rattle.write_path.specs.Grown.{HasGrown}
+use Rattle.write_path.specs.Receipts.{IsCommitted}
+use Rattle.write_path.specs.Syncs.{Syncs}
+
+-- A commit of seat w logged write n and answered it Durable, when this was the seat's trail, or
+-- earlier.
+pub record WasDurable (size : PathSize) (w : ℕ) (n : EntryNote) (trail : List OwnStep) :
+    Type 0 where
+  pub before : List OwnStep
+  pub prepared : Prepared
+  pub receipt : Receipt
+  pub after : View
+  pub committed : IsCommitted Batch size w before prepared (Durable receipt) after
+  pub note : committed.0.logged.listed.note ≡ n
+  pub since : HasGrown after.trail trail
+
+-- A sync of seat w was answered Done with a key while its list had write n, when this was the
+-- seat's trail, or earlier.
+pub record WasDone (w key : ℕ) (n : EntryNote) (trail : List OwnStep) : Type 0 where
+  pub opened : ℕ
+  pub before : View
+  pub after : View
+  pub syncs : Syncs w opened before (Done key) after
+  pub listed : Contains (writes_of after.trail) n
+  pub since : HasGrown after.trail trail
