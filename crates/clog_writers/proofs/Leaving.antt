@@ -84,6 +84,7 @@ module _ (sizes : Sizes) (base : ℕ) (mutations : List Mutation) (notes : List 
         shares = λ writer low. shares options.writers writer count low;
         follow = λ table. tt;
         are_true = λ file among. absurd (nothing_there file among);
+        for_some = λ file among. absurd (nothing_there file among);
         drained = λ all. absurd (true≢false (sym all ∙ asked.no_drain));
         none = λ same. refl;
         flushed = λ most is. absurd (none-some most (sym asked.no_flush ∙ is));

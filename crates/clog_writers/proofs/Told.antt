@@ -26,7 +26,6 @@ use Rattle.clog_store.specs.StoreState.{
   holding_of,
   store_over,
 }
-use Rattle.clog_lines.specs.Written.{HasBrought}
 use Rattle.clog_lines.proofs.Brought.{written_by}
 use Rattle.clog_lines.proofs.Written.{told_of}
 use Rattle.write_path.specs.declared.commit.Receipt.{Receipt}
@@ -43,6 +42,7 @@ use Rattle.clog_writers.specs.declared.fault.WriteFault.TheVariants.{
 use Rattle.clog_writers.specs.Logged.{GoesOnAlone, LogsShares}
 use Rattle.clog_writers.specs.Placed.{AreAtTheirLines}
 use Rattle.clog_writers.specs.Written.{
+  AppendsLog,
   HasShareCause,
   IsAskedBy,
   TellsWrittenShares,
@@ -129,11 +129,11 @@ module _ {D : Type 0} (files : D → Option Files) (changes : D → Option (List
     changed = has.growth.changes_are
         ∙ ap (λ (x : D). option_map (λ made. made ++ has.growth.added) (changes x)) its_disk
 
-    pub brought : HasBrought changes a.notes.log.disk b.notes.log.disk false ws
+    pub brought : AppendsLog changes a.notes.log.disk b.notes.log.disk ws
     brought = record {
       added = has.growth.added;
       changes_are = changed;
-      alone = λ none. has.alone;
+      alone = has.alone;
       brought = written_by b.notes.log has.growth.part (appends_of has.growth.added)
           has.growth.brought has.growth.grown;
     }

@@ -14,6 +14,7 @@ use Rattle.std.specs.Prelude.{
   Some,
   None,
   Result,
+  option_map,
   Ok,
   Err,
 }
@@ -24,10 +25,14 @@ use Rattle.clog_disk.specs.Files.{Files}
 use Rattle.clog_mutation.specs.declared.mutation.Mutation.{Mutation}
 use Rattle.clog_words.specs.declared.request.ApplyOptions.{ApplyOptions}
 use Rattle.sync_core.specs.declared.SyncCore.TheVariants.{Periodic}
+use Rattle.clog_crash.specs.Grown.{appends_of}
+use Rattle.clog_crash.specs.Log.{Write}
+use Rattle.clog_store.specs.Grows.{AreAppends}
 use Rattle.clog_applied.specs.Asked.{capacity_of}
 use Rattle.clog_applied.specs.Closed.{IsClosedPath, IsStoreLeft}
 use Rattle.clog_applied.specs.History.{LoggedLine, logged_at}
 use Rattle.clog_applied.specs.Printed.{AreByLine}
+use Rattle.clog_lines.specs.Written.{IsWrittenBy}
 use Rattle.write_path.specs.declared.commit.Receipt.{Receipt}
 use Rattle.clog_writers.specs.declared.fault.PlanFault.{PlanFault}
 use Rattle.clog_writers.specs.declared.fault.PlanFault.TheVariants as plan
@@ -58,6 +63,14 @@ pub record HasWrittenShares (options : ApplyOptions) (base : ℕ) (opened after 
   pub store : IsStoreLeft options.archive opened after later ids [] history []
   pub by_line : AreByLine history (length mutations) logged
   pub receipts_are : receipts ≡ map line_receipt logged
+
+-- The disk's further changes since it was so are appends alone, which have brought these segments.
+pub record AppendsLog {D : Type 0} (changes : D → Option (List Change)) (before now : D)
+    (log : List Write) : Type 0 where
+  pub added : List Change
+  pub changes_are : changes now ≡ option_map (λ made. made ++ added) (changes before)
+  pub alone : AreAppends added
+  pub brought : IsWrittenBy (appends_of added) log
 
 -- What the disk tells of it.
 pub record TellsWrittenShares (options : ApplyOptions) (base : ℕ) (opened : Files)

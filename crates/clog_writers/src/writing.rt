@@ -25,10 +25,14 @@ ghost use Rattle.clog_mutation.specs.Limits.{IsWithinLimits};
 ghost use Rattle.clog_words.specs.declared.request.ApplyOptions.{ApplyOptions};
 ghost use Rattle.clog_crash.specs.Log.{Write};
 ghost use Rattle.clog_store.specs.StoreState.{store_over};
-ghost use Rattle.clog_lines.specs.Written.{HasBrought};
 ghost use Rattle.clog_writers.specs.declared.fault.WriteFault.TheVariants.{Stopped};
 ghost use Rattle.clog_writers.specs.Planned.{IsPlanFor};
-ghost use Rattle.clog_writers.specs.Written.{HasShareCause, IsAskedBy, TellsWrittenShares};
+ghost use Rattle.clog_writers.specs.Written.{
+  AppendsLog,
+  HasShareCause,
+  IsAskedBy,
+  TellsWrittenShares,
+};
 
 use crate::fault::{WriteFault, unplanned};
 use crate::logging::log_shares;
@@ -89,7 +93,7 @@ fn write_plan<R: Threads + Wait + Sync, D: Disk + Send + Drop>(
         → IfOk result.1 (λ receipts. TellsWrittenShares options store.notes.base opened made
         (D.files result.0) (D.changes result.0) mutations receipts.items) }
     ensures wrote { (log : List Write)
-        × HasBrought D.changes store.notes.log.disk result.0 false log }
+        × AppendsLog D.changes store.notes.log.disk result.0 log }
     ensures told { SameTold (D.files store.notes.log.disk) (D.files result.0) }
     ensures later { IsLater D.moment D.read_at D.lasted_at store.notes.log.disk result.0 }
     ensures cause { HasShareCause (D.faults store.notes.log.disk) (D.faults result.0) result.1 }
@@ -135,7 +139,7 @@ pub fn write_shares<R: Threads + Wait + Sync, D: Disk + Send + Drop>(
         → IfOk result.1 (λ receipts. TellsWrittenShares options store.notes.base opened made
         (D.files result.0) (D.changes result.0) mutations.items receipts.items) }
     ensures wrote { (log : List Write)
-        × HasBrought D.changes store.notes.log.disk result.0 false log }
+        × AppendsLog D.changes store.notes.log.disk result.0 log }
     ensures told { SameTold (D.files store.notes.log.disk) (D.files result.0) }
     ensures later { IsLater D.moment D.read_at D.lasted_at store.notes.log.disk result.0 }
     ensures cause { HasShareCause (D.faults store.notes.log.disk) (D.faults result.0) result.1 }

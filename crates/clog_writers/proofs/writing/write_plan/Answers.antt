@@ -9,11 +9,10 @@ use Rattle.clog_io.specs.Causes.{Rose}
 use Rattle.path_core.specs.declared.note.EntryNote.{EntryNote}
 use Rattle.path_core.specs.Keeper.{IsFresh}
 use Rattle.clog_store.specs.StoreState.{holding_of}
-use Rattle.clog_lines.specs.Written.{HasBrought}
 use Rattle.clog_lines.proofs.Synced.{is_fresh}
 use Rattle.write_path.specs.declared.commit.Receipt.{Receipt}
 use Rattle.clog_writers.specs.Placed.{AreAtTheirLines}
-use Rattle.clog_writers.specs.Written.{IsAskedBy, TellsWrittenShares}
+use Rattle.clog_writers.specs.Written.{AppendsLog, IsAskedBy, TellsWrittenShares}
 use Rattle.clog_writers.proofs.Running.{written_back}
 use Rattle.clog_writers.proofs.Told.{
   at_ok,
@@ -43,7 +42,7 @@ returns-clause-wrote g c =
     let b = c.log_shares-store.result.0 in
     let told = c.into_disk.ensures in
     subst (λ (d : g.row.D.Denot). (log : List Write)
-    × HasBrought D.changes a.notes.log.disk d false log) (sym told.disk) (
+    × AppendsLog D.changes a.notes.log.disk d log) (sym told.disk) (
       _,
       brought D.files D.changes D.moment D.faults g.row.D.coded c.disks_tell_both.ensures a b
           c.requires.fresh c.log_shares-store.ensures.alone told.alone,

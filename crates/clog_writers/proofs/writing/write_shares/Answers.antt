@@ -2,9 +2,8 @@ use Rattle.std.proofs.Common.{List, false, sym, ap, subst}
 use Rattle.std.specs.Prelude.{Err}
 use Rattle.std.specs.Global.{Vec}
 use Rattle.clog_crash.specs.Log.{Write}
-use Rattle.clog_lines.specs.Written.{HasBrought}
 use Rattle.write_path.specs.declared.commit.Receipt.{Receipt}
-use Rattle.clog_writers.specs.Written.{HasShareCause}
+use Rattle.clog_writers.specs.Written.{AppendsLog, HasShareCause}
 use Rattle.clog_writers.proofs.Told.{brought, planned_cause, still_alone}
 use Rattle.clog_writers.proofs.writing.write_shares.Goals as goal
 
@@ -14,7 +13,7 @@ returns-in-Err-clause-wrote g c =
     let a = c.args.store in
     let told = c.into_disk.ensures in
     subst (λ (d : g.row.D.Denot). (log : List Write)
-    × HasBrought D.changes a.notes.log.disk d false log) (sym told.disk) (
+    × AppendsLog D.changes a.notes.log.disk d log) (sym told.disk) (
       _,
       brought D.files D.changes D.moment D.faults g.row.D.coded c.disks_tell_both.ensures a a
           c.requires.fresh
