@@ -180,7 +180,8 @@ module _ {K : Type 0} (id : TableId) (size : PathSize) (mutations : List Mutatio
       let s = of_place p.seat p.there in
       let known = s.synced refl in
       let low = known.2 n p.among in
-      let reached = All-contains (IsSyncedFor h) seats p.seat o.found_synced p.there known.0 known.1 in
+      let reached =
+      All-contains (IsSyncedFor h) seats p.seat o.found_synced p.there known.0 known.1 in
       omega (arith, low, reached)
 
   pub all_logged : h.logged ≡ o.core.notes

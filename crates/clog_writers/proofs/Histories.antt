@@ -1,5 +1,32 @@
 -- What writers have logged, as lines of a history.
-use Rattle.std.proofs.Common.{◌≡◌, ℕ, zero, suc, ◌+◌, ◌%◌, ◌<◌, ◌≤◌, ◌==◌, inl, inr, Bool, true, false, List, [], ◌∷◌, get_or, length, map, refl, sym, ap, ◌∙◌, subst, arith}
+use Rattle.std.proofs.Common.{
+  ◌≡◌,
+  ℕ,
+  zero,
+  suc,
+  ◌+◌,
+  ◌%◌,
+  ◌<◌,
+  ◌≤◌,
+  ◌==◌,
+  inl,
+  inr,
+  Bool,
+  true,
+  false,
+  List,
+  [],
+  ◌∷◌,
+  get_or,
+  length,
+  map,
+  refl,
+  sym,
+  ap,
+  ◌∙◌,
+  subst,
+  arith,
+}
 use Rattle.std.specs.Prelude.{Contains}
 use Rattle.std.specs.List.{filter, range_with_len}
 use Rattle.std.proofs.lemmas.Bool.{eq-eqb}
@@ -9,7 +36,16 @@ use Rattle.clog_base.proofs.Members.{first_or_further, further, here, nothing_th
 use Rattle.clog_mutation.specs.declared.mutation.Mutation.{Mutation}
 use Rattle.clog_mutation.specs.Payload.{payload_of}
 use Rattle.clog_mutation.proofs.Decoding.{one_mutation}
-use Rattle.clog_applied.specs.History.{Line, LoggedLine, is_by, is_for, line_of, numbered, share_of, written_by}
+use Rattle.clog_applied.specs.History.{
+  Line,
+  LoggedLine,
+  is_by,
+  is_for,
+  line_of,
+  numbered,
+  share_of,
+  written_by,
+}
 use Rattle.clog_applied.specs.Printed.{number_of}
 use Rattle.clog_applied.proofs.Lists.{from_filter, in_filter, kept_one, left_one}
 use Rattle.clog_notes.specs.Entries.{entry_of}

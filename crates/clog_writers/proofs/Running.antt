@@ -139,7 +139,9 @@ module _ {K : Type 0} (sizes : Sizes) (base : ℕ) (before now : Holding)
   pub unopened : (workers : List (Worker K)) → ShowsAsBefore before now
       → EndsShares sizes base before now workers (Some OutOfMemory)
   unopened workers same =
-      refused workers (alone_by sizes base before now fresh (stays_beside before now (ap (λ (l : Lasting). l.beside) same))
+      refused workers
+      (alone_by sizes base before now fresh
+      (stays_beside before now (ap (λ (l : Lasting). l.beside) same))
       (ap (λ (l : Lasting). l.dropped) same ∙ fresh.none_dropped))
 
   module _ (id : TableId) (size : PathSize) (at_open : ℕ) (is : size ≡ size_of sizes base at_open)

@@ -1,5 +1,26 @@
 -- What a store tells of its disk once writers have logged over it, whatever was answered.
-use Rattle.std.proofs.Common.{◌≡◌, ℕ, ◌<◌, ◌≤◌, Bool, true, false, List, ◌++◌, Option, Some, length, take, refl, sym, ◌∙◌, ap, subst, append-nil, arith}
+use Rattle.std.proofs.Common.{
+  ◌≡◌,
+  ℕ,
+  ◌<◌,
+  ◌≤◌,
+  Bool,
+  true,
+  false,
+  List,
+  ◌++◌,
+  Option,
+  Some,
+  length,
+  take,
+  refl,
+  sym,
+  ◌∙◌,
+  ap,
+  subst,
+  append-nil,
+  arith,
+}
 use Rattle.std.specs.Prelude.{Err, IfOk, Ok, Result, is_some, option_map}
 use Rattle.std.proofs.Math.Seq.{take-nil}
 use base.Stored.{Coded, Gv}

@@ -9,7 +9,8 @@ use Rattle.write_path.specs.declared.commit.Receipt.{Receipt}
 abbrev pub receipt_of : ℕ → EntryNote → Receipt
 receipt_of base n = record { line = n.line; position = position_of base n.end.0 }
 
--- At a place stands the receipt of one of these entries that is of the place's line, counted from 1.
+-- At a place stands the receipt of one of these entries that is of the place's line, which is
+-- counted from 1.
 pub record HasItsReceipt (base : ℕ) (notes : List EntryNote) (receipts : List Receipt) (i : ℕ) :
     Type 0 where
   pub note : EntryNote

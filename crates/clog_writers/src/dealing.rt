@@ -76,8 +76,8 @@ fn give<K: Keeper + Drop>(
     Ok(workers[number].writes.push(write)?)
 }
 
-/// Deals the lines of a file out to workers that have no seats yet. `TooLarge`: the entry of a line is
-/// larger than half a segment's capacity (`CommitLog.add`).
+/// Deals the lines of a file out to workers that have no seats yet. `TooLarge`: the entry of a line
+/// is larger than half a segment's capacity (`CommitLog.add`).
 pub fn deal<K: Keeper + Drop>(
     alloc: Global,
     sizes: Sizes,

@@ -121,7 +121,7 @@ fn write_plan<R: Threads + Wait + Sync, D: Disk + Send + Drop>(
 /// Whatever is answered, the disk's further changes are appends alone, which have brought segments.
 /// `TooLarge`: the entry of a line is larger than half a segment's capacity; `OutOfMemory`: memory
 /// was refused, before a line was written or by the sync; `Spent`: the log has no further segment;
-/// `Rows`: no further group for a barrier; `Stopped`: the disk has failed, of which its counts tell.
+/// `Rows`: no further group for a barrier; `Stopped`: the disk has failed, with its fault counts.
 pub fn write_shares<R: Threads + Wait + Sync, D: Disk + Send + Drop>(
     rt: &R,
     alloc: Global,

@@ -83,7 +83,8 @@ loop-worker-preserved g c =
           (one_gathered id t.size ms w rest xs l.first c.end_share-seat.result.1 now s before
           (c.end_share-seat.ensures.ends (length xs) (share_of t.size.seats (length xs) ms)
           (next_logged id t.size ms w rest xs l.first before))
-          c.end_share-seat.ensures.stops c.first_of-first.ensures.none c.first_of-first.ensures.one);
+          c.end_share-seat.ensures.stops c.first_of-first.ensures.none
+          c.first_of-first.ensures.one);
       room =
           let len = subst (λ b. vec_len c.push.new.self
           ≡ (if b then vec_len l.seats + 1 else vec_len l.seats)) ok p.len in

@@ -29,7 +29,8 @@ loop-mutation-preserved g c =
     let m = c.in-Some.mutation in
     let steps = c.in-Some.ensures.steps in record {
       goes = deals_one sizes all rest m l.line l.workers.items _
-          (subst (λ (r : List Mutation). DealsOut sizes all r l.line l.workers.items) steps.0 I.goes)
+          (subst (λ (r : List Mutation). DealsOut sizes all r l.line l.workers.items) steps.0
+          I.goes)
           (λ done dealt is.
           let more = c.in_ok-give.ensures done m
           (subst (AreDealt sizes done) (sym c.as_mut_slice.ensures.value) dealt) is

@@ -25,7 +25,9 @@ pub returns-in-Err-clause-cause : goal.returns-in-Err-clause-cause
 returns-in-Err-clause-cause g c =
     let D = g.D.Disk in
     let a = c.args.store in
-    subst (λ f. HasShareCause {T = Vec Receipt} (D.faults a.notes.log.disk) (D.faults c.into_disk.result) (Err f))
+    subst (λ f. HasShareCause {T = Vec Receipt} (D.faults a.notes.log.disk)
+    (D.faults c.into_disk.result) (Err f))
     (sym c.unplanned.ensures)
-    (planned_cause (Vec Receipt) (D.faults a.notes.log.disk) (D.faults c.into_disk.result) c.in-Err.fault
+    (planned_cause (Vec Receipt) (D.faults a.notes.log.disk) (D.faults c.into_disk.result)
+    c.in-Err.fault
     (ap D.faults c.into_disk.ensures.disk))
