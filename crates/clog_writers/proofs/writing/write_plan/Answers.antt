@@ -130,7 +130,7 @@ returns-clause-written g c = λ ms options opened made plan asked is made_is.
     (D.changes b.notes.log.disk) ms xs) c.base-base.ensures.base
     (written D.files D.changes D.moment D.faults g.row.D.coded c.disks_tell_both.ensures a b
     c.requires.fresh alone told.alone c.args.sizes base ms
-    (c.log_shares-store.ensures.logs ms plan.dealt so.1) runs told.notes (told.sound runs)
+    (c.log_shares-store.ensures.logs ms plan.dealt so.1) runs told.notes told.sound
     (told.folder runs) options a.archives
     (subst (λ (z : Sizes). IsAskedBy options z a.archives) (sym c.requires.sizes) asked) xs placed
     (lent ∙ plan.receipts) opened made is made_is))))
