@@ -20,3 +20,4 @@ pub mod MayGives
 pub mod Placing
 pub mod Accepting
 pub mod OldestBelow
+pub mod OldestMoves

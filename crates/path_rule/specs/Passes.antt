@@ -1,9 +1,14 @@
 -- What a barrier answers, and a try to move the oldest group on.
-use Rattle.std.specs.Prelude.{ℕ}
+use Rattle.std.specs.Prelude.{◌≡◌, ◌≢◌, ℕ, suc, ◌^◌, length}
+use Rattle.op_core.specs.declared.count.Order.{Order}
+use Rattle.path_core.specs.declared.event.Event.TheVariants.{Advance as AdvanceStep}
+use Rattle.path_core.specs.declared.event.Place.TheVariants.{Count, Oldest}
 use Rattle.path_rule.specs.declared.advancing.Advance.{Advance}
 use Rattle.path_rule.specs.declared.advancing.Advance.TheVariants.{Moved, Running}
+use Rattle.path_rule.specs.declared.view.View.{View}
 use Rattle.path_rule.specs.declared.waiting.Passed.{Passed as PassedOf}
 use Rattle.path_rule.specs.declared.waiting.Passed.TheVariants.{Passed, Rows}
+use Rattle.path_rule.specs.Calls.{Did, FoundSince, acts}
 
 abbrev pub MatchPassed : PassedOf → (ℕ → Type 0) → (ℕ → Type 0) → Type 0
 MatchPassed (Passed g) P Q = P g
@@ -12,3 +17,23 @@ MatchPassed (Rows n) P Q = Q n
 abbrev pub MatchAdvance : Advance → (ℕ → Type 0) → (ℕ → ℕ → Type 0) → Type 0
 MatchAdvance (Moved group) P Q = P group
 MatchAdvance (Running group count) P Q = Q group count
+
+-- Seat w moved the oldest group of an order on to this one, by its last step, and only looked
+-- before. In this call it found the group before it the oldest, and that one's count finished.
+pub record HasMovedOn (o : Order) (w group : ℕ) (v after : View) : Type 0 where
+  pub before : ℕ
+  pub next : group ≡ suc before
+  pub oldest : FoundSince (length v.trail) (Oldest o) before after.trail
+  pub finished : FoundSince (length v.trail) (Count o before) (2 ^ 63) after.trail
+  -- what it knew before its last step
+  pub looked : View
+  pub only : acts looked.trail ≡ acts v.trail
+  pub did : Did looked w (AdvanceStep w o group) group after
+
+-- The oldest group of an order runs still: the seat found it the oldest in this call, and this as
+-- its count, and only looked.
+pub record RunsStill (o : Order) (group count : ℕ) (v after : View) : Type 0 where
+  pub oldest : FoundSince (length v.trail) (Oldest o) group after.trail
+  pub found : FoundSince (length v.trail) (Count o group) count after.trail
+  pub unfinished : count ≢ 2 ^ 63
+  pub only : acts after.trail ≡ acts v.trail

@@ -1,10 +1,9 @@
 //! One try to move the oldest group of an order on (`OpOrder.Barrier.await`, one look of it).
-ghost use Rattle.std.specs.Prelude.{◌≡◌, ◌≢◌, ℕ, suc, ◌^◌, [], length};
-ghost use Rattle.path_core.specs.declared.event.Place.TheVariants.{Count};
+ghost use Rattle.std.specs.Prelude.{◌≡◌, []};
 ghost use Rattle.path_core.specs.declared.seat.Issue.TheVariants.{Rest};
-ghost use Rattle.path_rule.specs.Calls.{Holds, FoundSince, acts};
+ghost use Rattle.path_rule.specs.Calls.{Holds};
 ghost use Rattle.path_rule.specs.Members.{view_of, hands_of, IsOf, KeepsSizes};
-ghost use Rattle.path_rule.specs.Passes.{MatchAdvance};
+ghost use Rattle.path_rule.specs.Passes.{HasMovedOn, MatchAdvance, RunsStill};
 ghost use Rattle.path_rule.specs.Rounds.{RoundSteps};
 
 use crate::table::{Member, PathTable};
@@ -28,8 +27,8 @@ pub enum Advance {
 }
 
 impl<K: Keeper, A: Allocator> PathTable<K, A> {
-    /// Moves the oldest group of an order on where its count is found finished. Where it runs
-    /// still, only looks were made.
+    /// Moves the oldest group of an order on, by its last step, where its count is found finished.
+    /// Where it runs still, only looks were made.
     pub fn try_advance(&self, member: &mut Member<K>, order: Order) -> Advance
         requires table { IsOf self.now.table.shared.table_id self.now.size member.old }
         requires turn { Holds Rest (view_of member.old) }
@@ -38,13 +37,10 @@ impl<K: Keeper, A: Allocator> PathTable<K, A> {
         ensures turn { Holds Rest (view_of member.new) }
         ensures hands { hands_of member.new ≡ hands_of member.old }
         ensures answer { MatchAdvance result
-            (λ group. (before : ℕ) × (group ≡ suc before)
-            × FoundSince (length (view_of member.old).trail) (Count order before) (2 ^ 63)
-            (view_of member.new).trail)
-            (λ group count. (count ≢ 2 ^ 63)
-            × FoundSince (length (view_of member.old).trail) (Count order group) count
-            (view_of member.new).trail
-            × (acts (view_of member.new).trail ≡ acts (view_of member.old).trail)) }
+            (λ group. HasMovedOn order member.old.number group (view_of member.old)
+            (view_of member.new))
+            (λ group count. RunsStill order group count (view_of member.old)
+            (view_of member.new)) }
     {
         let current = self.seek_current(member, order);
         let group = self.seek_oldest(member, order);

@@ -46,7 +46,7 @@ fn long_payload(alloc: Global) -> Result<Vec<u8>, Fail> {
 }
 
 // A path with one seat, over a keeper in memory whose first segment is 7, of so many segments.
-fn one_seat(
+pub(crate) fn one_seat(
     alloc: Global,
     sizes: Sizes,
     mode: SyncCore,
@@ -115,7 +115,7 @@ fn spent(commit: &Commit) -> Option<(u32, Key)> {
     }
 }
 
-fn done(answer: SyncAnswer) -> Option<u64> {
+pub(crate) fn done(answer: SyncAnswer) -> Option<u64> {
     match answer {
         SyncAnswer::Done(key) => Some(key),
         _ => None,

@@ -40,4 +40,6 @@ pub use writing::Written;
 #[cfg(test)]
 mod commit_tests;
 #[cfg(test)]
+mod sync_tests;
+#[cfg(test)]
 mod tests;

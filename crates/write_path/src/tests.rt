@@ -5,11 +5,11 @@ ghost use Rattle.path_rule.specs.Members.{IsOf};
 ghost use Rattle.write_path.specs.Tries.{Stays};
 ghost use Rattle.write_path.specs.Writes.{IsPrepared};
 
-use crate::{PathSeat, Prepared, TryClaim, WritePath};
+use crate::{Advance, PathSeat, Prepared, TryClaim, WritePath};
 use clog_base::{Key, OutOfMemory, Sizes, Table};
 use clog_io::OpenGate;
 use clog_mutation::{Mutation, decode};
-use path_core::{Keeper, ListKeeper, Turn};
+use path_core::{Keeper, ListKeeper, Order, Turn};
 use std::alloc::Global;
 use std::test::*;
 use sync_core::SyncCore;
@@ -117,9 +117,11 @@ fn one_seat_has_the_turn(rt: HostRuntime) -> Result<(), Fail> {
     let (Some(one), Some(zero)) = (seats.pop(), seats.pop()) else {
         return Err(Fail::new("no two seats"));
     };
-    let Ok(holder) = path.try_turn(zero, Turn::Sync) else {
+    let Ok(mut holder) = path.try_turn(zero, Turn::Sync) else {
         return Err(Fail::new("the turn is taken"));
     };
+    let oldest = path.try_advance(&mut holder, Order::Append);
+    assert_eq!(&rt; oldest, Advance::Running { group: 0, count: 0 });
     let Err((one, found)) = path.try_turn(one, Turn::Sync) else {
         return Err(Fail::new("the turn is free"));
     };

@@ -1,27 +1,16 @@
 //! The Sync turn: an idle seat takes it by one try, moves the oldest group of an order on by one
 //! try, and gives the turn back. Flush turns come with the switching of memtables.
-ghost use Rattle.std.specs.Prelude.{
-  ◌≡◌,
-  ◌≢◌,
-  ℕ,
-  suc,
-  ◌^◌,
-  false,
-  [],
-  length,
-  IfOk,
-  MatchResult,
-};
+ghost use Rattle.std.specs.Prelude.{◌≡◌, false, [], IfOk, MatchResult};
 ghost use Rattle.path_core.specs.declared.event.Event.TheVariants.{Look, GiveTurn};
-ghost use Rattle.path_core.specs.declared.event.Place.TheVariants.{Count, TurnWord};
+ghost use Rattle.path_core.specs.declared.event.Place.TheVariants.{TurnWord};
 ghost use Rattle.path_core.specs.declared.event.Turn.TheVariants.{Sync};
 ghost use Rattle.path_core.specs.declared.seat.Issue.TheVariants.{Rest};
 ghost use Rattle.path_core.specs.Next.{has_filed};
-ghost use Rattle.path_rule.specs.Calls.{Holds, FoundSince, acts};
+ghost use Rattle.path_rule.specs.Calls.{Holds};
 ghost use Rattle.path_rule.specs.HandsAfter.{unswept_hands};
 ghost use Rattle.path_rule.specs.Lasts.{shows_of};
 ghost use Rattle.path_rule.specs.Members.{view_of, hands_of, IsOf, Stepped, SteppedAs};
-ghost use Rattle.path_rule.specs.Passes.{MatchAdvance};
+ghost use Rattle.path_rule.specs.Passes.{HasMovedOn, MatchAdvance, RunsStill};
 ghost use Rattle.path_rule.specs.Rounds.{IsAtRest, RoundSteps};
 ghost use Rattle.write_path.specs.Tries.{Stays};
 ghost use Rattle.write_path.specs.Turned.{TookTurn, HoldsDesk};
@@ -83,8 +72,8 @@ impl<K: Keeper, A: Allocator> WritePath<K, A> {
         PathSeat { member }
     }
 
-    /// Moves the oldest group of an order on where its count is found finished. Where the group
-    /// runs still, only looks were made, and it says what it found as its count.
+    /// Moves the oldest group of an order on, by its last step, where its count is found finished.
+    /// Where the group runs still, only looks were made, and it says what it found as its count.
     pub fn try_advance(&self, seat: &mut TurnSeat<K>, order: Order) -> Advance
         requires { IsOf self.now.table.table.shared.table_id self.now.table.size seat.old.member }
         ensures same { Stays self.now.table.table.shared.table_id self.now.table.size
@@ -94,13 +83,10 @@ impl<K: Keeper, A: Allocator> WritePath<K, A> {
         ensures desk { HoldsDesk (shows_of K.holds) seat.old.member
             → HoldsDesk (shows_of K.holds) seat.new.member }
         ensures answer { MatchAdvance result
-            (λ group. (before : ℕ) × (group ≡ suc before)
-            × FoundSince (length (view_of seat.old.member).trail) (Count order before) (2 ^ 63)
-            (view_of seat.new.member).trail)
-            (λ group count. (count ≢ 2 ^ 63)
-            × FoundSince (length (view_of seat.old.member).trail) (Count order group) count
-            (view_of seat.new.member).trail
-            × (acts (view_of seat.new.member).trail ≡ acts (view_of seat.old.member).trail)) }
+            (λ group. HasMovedOn order seat.old.member.number group (view_of seat.old.member)
+            (view_of seat.new.member))
+            (λ group count. RunsStill order group count (view_of seat.old.member)
+            (view_of seat.new.member)) }
     {
         self.table.try_advance(&mut seat.member, order)
     }

@@ -1,0 +1,34 @@
+//! Syncs of a path on which nothing was written.
+use crate::SyncAnswer;
+use crate::commit_tests::{done, one_seat};
+use clog_base::Sizes;
+use std::alloc::Global;
+use std::sync::Wait;
+use std::test::*;
+use sync_core::SyncCore;
+
+// Two syncs of a path that was just opened.
+fn sync_twice<R: Wait>(
+    rt: &R,
+    alloc: Global,
+    mode: SyncCore,
+) -> Result<(SyncAnswer, SyncAnswer), Fail> {
+    let Some(sizes) = Sizes::make(16, 1, 4096, 4) else {
+        return Err(Fail::new("no sizes"));
+    };
+    let (path, seat) = one_seat(alloc, sizes, mode)?;
+    let (seat, first) = path.sync(rt, alloc, seat);
+    let (_seat, second) = path.sync(rt, alloc, seat);
+    Ok((first, second))
+}
+
+#[test]
+fn a_fresh_path_is_synced_to_its_start(rt: HostRuntime) -> Result<(), Fail> {
+    let (first, second) = sync_twice(&rt, rt.alloc(), SyncCore::batch())?;
+    assert_eq!(&rt; done(first), Some(0));
+    assert_eq!(&rt; done(second), Some(0));
+    let (first, second) = sync_twice(&rt, rt.alloc(), SyncCore::periodic(10))?;
+    assert_eq!(&rt; done(first), Some(0));
+    assert_eq!(&rt; done(second), Some(0));
+    Ok(())
+}
