@@ -50,7 +50,7 @@ pub recovery_changes : (first : Files) (made : List Change) (now : Option (List 
 recovery_changes first made now all =
     let ids = all.0 in
     let are = all.1 in
-    let done = all.2 in
+    let done = all.2.0 in
     let puts = map publish done.puts.puts in
     let removes = map removal ids in
     let now_is : now ≡ Some ((made ++ puts) ++ removes) =

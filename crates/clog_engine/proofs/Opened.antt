@@ -189,12 +189,14 @@ module _ {D C : Type 0} (disk : DiskTells D) (clock : ClockTells C)
   pub keeps_all : (now : D) → SameTold (disk.files looked) (disk.files now)
       → ((first : Files) → disk.files looked ≡ Some first
       → Told (disk.files now) (KeepsFolder first))
+      → ((first : Files) → disk.files looked ≡ Some first
+      → Told (disk.files now) (KeepsOthers first))
       → ((first : Files) → disk.files looked ≡ Some first → LastsAll first (disk.leaves looked)
       → LeavesOnly disk.moment disk.since looked now (KeepsFolder first))
       → ((first : Files) → disk.files looked ≡ Some first
       → RecoversFirst first (disk.changes looked) (disk.changes now))
       → KeepsAll (outside_at now)
-  keeps_all now told keeps any recovers = record {
+  keeps_all now told keeps stay any recovers = record {
     told = same_told now told;
     changes = if_told (disk.files start) (disk.files looked)
         (λ (first : Files). RecoversFirst first (disk.changes start) (disk.changes now))
@@ -203,6 +205,8 @@ module _ {D C : Type 0} (disk : DiskTells D) (clock : ClockTells C)
         still.changes_are (recovers first is));
     same = if_told (disk.files start) (disk.files looked)
         (λ (first : Files). Told (disk.files now) (KeepsFolder first)) still.same.files keeps;
+    others = if_told (disk.files start) (disk.files looked)
+        (λ (first : Files). Told (disk.files now) (KeepsOthers first)) still.same.files stay;
     lasts = if_told (disk.files start) (disk.files looked)
         (λ (first : Files). LastsAll first (disk.leaves start) → (image : Files)
         → disk.since now (disk.moment start) image → KeepsFolder first image)

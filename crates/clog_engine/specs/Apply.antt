@@ -180,12 +180,14 @@ pub record IsApplied (o : Outside) (options : ApplyOptions) (report bytes : List
 
 -- ---- the run is refused
 
--- The run broke off before any line was written. The folder restores the same.
+-- The run broke off before any line was written. The folder restores the same, and each file of
+-- before that is no segment stands as it was.
 pub record KeepsAll (o : Outside) : Type 0 where
   pub told : SameTold o.files o.files_now
   -- the changes are those of a recovery, or the first of them
   pub changes : IfSome o.files (λ before. RecoversFirst before o.changes o.changes_now)
   pub same : IfSome o.files (λ before. Told o.files_now (KeepsFolder before))
+  pub others : IfSome o.files (λ before. Told o.files_now (KeepsOthers before))
   -- and whatever a crash leaves, where all of it lasted
   pub lasts : IfSome o.files (λ before. LastsAll before o.leaves
       → (image : Files) → o.since image → KeepsFolder before image)

@@ -4,7 +4,6 @@ use Rattle.std.proofs.Common.{
   ℕ,
   List,
   [],
-  ◌∷◌,
   ◌++◌,
   map,
   take,
@@ -16,7 +15,6 @@ use Rattle.std.proofs.Common.{
   refl,
   sym,
   ap,
-  subst,
   ◌∙◌,
   append_assoc,
   inl,
@@ -26,15 +24,13 @@ use Rattle.std.proofs.Common.{
 use Rattle.std.specs.Prelude.{option_map}
 use Rattle.std.specs.FinMap as finmap
 use Rattle.std.proofs.lemmas.List.{append-nil, map-append, take_all}
-use Rattle.std.proofs.lemmas.List.Elements.{Contains-append_cases}
-use Rattle.clog_base.proofs.Members.{nothing_there, only_one}
+use Rattle.clog_base.proofs.Members.{nothing_there}
 use Rattle.clog_disk.specs.declared.change.Change.{Change}
-use Rattle.clog_disk.specs.declared.change.Change.TheVariants as change
 use Rattle.clog_disk.specs.Files.{Files}
 use Rattle.clog_crash.specs.Folder.{IsHeld}
 use Rattle.clog_folder.proofs.Listed.{held_of, listed_of}
 use Rattle.clog_store.specs.Coming.{HaveRemoved}
-use Rattle.clog_store.specs.Filing.{HasPut, IsRecoveryPut, publish}
+use Rattle.clog_store.specs.Filing.{HasPut, HaveAllLive, publish}
 use Rattle.clog_store.specs.Named.{AreSegmentIds}
 use Rattle.clog_store.specs.Opened.{RecoversAll, RecoversFirst}
 use Rattle.clog_store.proofs.Recovered.{removed_none}
@@ -47,12 +43,12 @@ Puts = List (List ℕ × List ℕ)
 
 -- ---- files are put
 
-nothing_put : (before : Changes) → before
+pub nothing_put : (before : Changes) → before
     ≡ option_map (λ changes. changes ++ map publish []) before
 nothing_put None = refl
 nothing_put (Some changes) = ap Some (sym (append-nil changes))
 
-put_behind : (before : Changes) (puts more : Puts)
+pub put_behind : (before : Changes) (puts more : Puts)
     → option_map (λ changes. changes ++ map publish more)
     (option_map (λ changes. changes ++ map publish puts) before)
     ≡ option_map (λ changes. changes ++ map publish (puts ++ more)) before
@@ -65,32 +61,8 @@ pub put_none : (first : Files) (before now : Changes) → now ≡ before → Has
 put_none first before now same = record {
   puts = [];
   are = λ put there. absurd (nothing_there put there);
+  ascend = λ i j d less within. absurd (omega (arith, within));
   behind = same ∙ nothing_put before;
-}
-
-pub put_one : (first : Files) (before now : Changes) (name bytes : List ℕ)
-    → IsRecoveryPut first name bytes
-    → now ≡ option_map (λ changes. changes ++ change.Publish name bytes ∷ []) before
-    → HasPut first before now
-put_one first before now name bytes is adds = record {
-  puts = (name, bytes) ∷ [];
-  are = λ put there.
-      subst (λ (p : List ℕ × List ℕ). IsRecoveryPut first p.0 p.1)
-      (only_one (name, bytes) put there) is;
-  behind = adds;
-}
-
-pub put_then : (first : Files) (before mid now : Changes) → HasPut first before mid
-    → HasPut first mid now → HasPut first before now
-put_then first before mid now one more = record {
-  puts = one.puts ++ more.puts;
-  are = λ put there. elim (Contains-append_cases one.puts more.puts put there) [
-    | inl early ↦ one.are put early
-    | inr late ↦ more.are put late
-  ];
-  behind = more.behind
-      ∙ ap (option_map (λ (changes : List Change). changes ++ map publish more.puts)) one.behind
-      ∙ put_behind before one.puts more.puts;
 }
 
 -- ---- and segments removed
@@ -116,22 +88,31 @@ pub only_puts : (first : Files) (before now : Changes) → HasPut first before n
 only_puts first before now puts = (
   [],
   inl refl,
-  record { between = now; puts = puts; removes = removed_none now },
+  record {
+    between = now;
+    puts = puts;
+    removes = removed_none now;
+    each = λ id there. absurd (nothing_there id there);
+  },
 )
 
 pub then_all : (first : Files) (before mid now : Changes) (ids : List ℕ)
-    → AreSegmentIds (IsHeld first) ids → HasPut first before mid → HaveRemoved ids mid now
-    → RecoversAll first before now
-then_all first before mid now ids are puts removes =
-    (ids, are, record { between = mid; puts = puts; removes = removes })
+    → AreSegmentIds (IsHeld first) ids → (puts : HasPut first before mid)
+    → HaveAllLive first puts.puts → HaveRemoved ids mid now → RecoversAll first before now
+then_all first before mid now ids are puts each removes = (
+  ids,
+  are,
+  (record { between = mid; puts = puts; removes = removes; each = λ id there. each }, each),
+)
 
 pub then_some : (first : Files) (before mid now : Changes) (ids : List ℕ) (n : ℕ)
-    → AreSegmentIds (IsHeld first) ids → HasPut first before mid
-    → HaveRemoved (take n ids) mid now → RecoversFirst first before now
-then_some first before mid now ids n are puts removes = (
+    → AreSegmentIds (IsHeld first) ids → (puts : HasPut first before mid)
+    → HaveAllLive first puts.puts → HaveRemoved (take n ids) mid now
+    → RecoversFirst first before now
+then_some first before mid now ids n are puts each removes = (
   take n ids,
   inr (ids, are, (n, refl)),
-  record { between = mid; puts = puts; removes = removes },
+  record { between = mid; puts = puts; removes = removes; each = λ id there. each },
 )
 
 -- all of them are the first of them
@@ -140,5 +121,5 @@ pub first_of_all : (first : Files) (before now : Changes) → RecoversAll first 
 first_of_all first before now is = (
   is.0,
   inr (is.0, is.1, (length is.0, sym (take_all (length is.0) is.0 (omega arith)))),
-  is.2,
+  is.2.0,
 )

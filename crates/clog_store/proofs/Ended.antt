@@ -81,7 +81,7 @@ Pairs = List (CellKey × Cell)
 -- ---- table files stand for all of the log
 
 -- a cell that is logged is of one of the tables
-table_there : (r : List ℕ → List ℕ) (pair : CellKey × Cell) → IsLoggedCellIn r pair
+pub table_there : (r : List ℕ → List ℕ) (pair : CellKey × Cell) → IsLoggedCellIn r pair
     → pair.0.table.0 < most_tables
 table_there r pair c =
     let m = c.cell.mutation in
@@ -91,7 +91,7 @@ table_there r pair c =
     subst (λ (p : CellKey × Cell). p.0.table.0 < most_tables) u.2 stored.table
 
 -- it stands among the rows, by its key
-row_of : (P : CellKey × Cell → Type 0) (rows : Pairs) (key : CellKey) (cell : Cell)
+pub row_of : (P : CellKey × Cell → Type 0) (rows : Pairs) (key : CellKey) (cell : Cell)
     (found : Option Cell) → found_at rows key ≡ found → IsNewestAmong P key found → P (key, cell)
     → (other : Cell) × Contains rows (key, other)
 row_of P rows key cell None is newest p = absurd (newest cell p)

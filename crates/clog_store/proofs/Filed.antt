@@ -23,7 +23,7 @@ use Rattle.std.proofs.Common.{
   inr,
   arith,
 }
-use Rattle.std.specs.Prelude.{IsSome, Err, unwrap_or}
+use Rattle.std.specs.Prelude.{IsErr, IsSome, Err, Ok, Result, unwrap_or}
 use Rattle.std.specs.FinMap as finmap
 use Rattle.std.proofs.lemmas.Bool.{cases_lt}
 use Rattle.clog_spec.specs.Names.{IsTableName, table_name_of}
@@ -58,10 +58,13 @@ use Rattle.clog_crash.proofs.rest.Standing.{reads_same}
 use Rattle.clog_folder.specs.declared.fault.OpenFault.{OpenFault}
 use Rattle.clog_folder.specs.declared.fault.OpenFault.TheVariants.{Disk, OutOfMemory}
 use Rattle.clog_folder.proofs.Listed.{listed_of}
+use Rattle.clog_store.specs.Beside.{StayButOne}
 use Rattle.clog_store.specs.Coming.{IsRecovering, MayComeHere, MayComeTo}
 use Rattle.clog_store.specs.Filing.{
+  FiledBy,
   FiledNow,
   IsFiledTo,
+  IsFullFolder,
   IsReady,
   IsRecoveryPut,
   SettledTo,
@@ -157,7 +160,7 @@ module _ (first : Files) (names : List (List ℕ)) (cells : Pairs) (top : Positi
       abbrev later : Files
       later = finmap.insert now name bytes
 
-      named : IsTableName name table.0 sequence
+      pub named : IsTableName name table.0 sequence
       named = record {
         form = refl;
         table_fits = spelled.is_file.table;
@@ -186,6 +189,7 @@ module _ (first : Files) (names : List (List ℕ)) (cells : Pairs) (top : Positi
         spelled = spelled;
         free = free_first;
         is_recovery_file = is_recovery_file;
+        some = let has = there.1 in omega (arith, has);
       }
 
       pub is_new : IsNewFile now (bytes_at now) file sequence bytes
@@ -303,6 +307,35 @@ module _ (first : Files) (names : List (List ℕ)) (cells : Pairs) (top : Positi
           is_put first names cells top ready table member.0 member.1 now is sequence bytes spelled
           next fits
 
+      pub named_now : (told : Option Files) → FiledNow first cells table.0 told
+          → IsTableName (table_name_of table.0 sequence) table.0 sequence
+      named_now None is = absurd is
+      named_now (Some now) is =
+          named first names cells top ready table member.0 member.1 now is sequence bytes spelled
+          next fits
+
+      stays_with : (f : Files) (now : Option Files) → IsFiledTo first cells table.0 f
+          → Told now (λ g. (other : List ℕ) → (other ≡ table_name_of table.0 sequence → ⊥)
+          → finmap.get g other ≡ finmap.get f other)
+          → Told now (IsSameFolder first) → Told now (IsFullFolder first)
+      stays_with f None filed others same = absurd same
+      stays_with f (Some g) filed others same = (
+        same,
+        λ other its there.
+            others other (λ e.
+            let no : Some its ≡ None =
+            sym there ∙ ap (finmap.get first) e ∙ (is_put_now (Some f) filed).free in
+            cc)
+            ∙ filed.stand other its there,
+      )
+
+      -- it was refused
+      pub refused_filed : (told now : Option Files) → FiledNow first cells table.0 told
+          → StayButOne (table_name_of table.0 sequence) told now
+          → Told now (IsSameFolder first) → Told now (IsFullFolder first)
+      refused_filed None now is stay same = absurd is
+      refused_filed (Some f) now is stay same = stays_with f now is (stay f refl) same
+
       pub may_come_to : (told : Option Files) → FiledNow first cells table.0 told
           → MayComeTo first told put sequence bytes
       may_come_to None is = absurd is
@@ -357,10 +390,17 @@ settled_show first cells n None leaves is image left = absurd is
 settled_show first cells n (Some now) leaves is image left =
     same_then first now image is.0.same (settled_images now leaves is.1 image left)
 
-pub still_same : (first : Files) (cells : Pairs) (n : ℕ) (told : Option Files)
-    → FiledNow first cells n told → Told told (IsSameFolder first)
-still_same first cells n None is = absurd is
-still_same first cells n (Some now) is = is.same
+still_full : (first : Files) (cells : Pairs) (n : ℕ) (told : Option Files)
+    → FiledNow first cells n told → Told told (IsFullFolder first)
+still_full first cells n None is = absurd is
+still_full first cells n (Some now) is = (is.same, is.stand)
+
+-- a step was refused that has done nothing
+pub still_by : {T : Type 0} (first : Files) (cells : Pairs) (n : ℕ) (told : Option Files)
+    (r : Result T OpenFault) → IsErr r → FiledNow first cells n told
+    → FiledBy first cells (n + 1) told r
+still_by first cells n told (Ok x) refused filed = cc
+still_by first cells n told (Err fault) refused filed = still_full first cells n told filed
 
 -- a step behind others that counted no fault
 pub cause_from : (first before now : ℕ) (fault : OpenFault) → before ≡ first

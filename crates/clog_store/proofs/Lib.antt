@@ -61,10 +61,12 @@ mod OrderSyncs
 mod OtherFiles
 pub mod Outcomes
 mod Picking
+mod PutTables
 mod Ready
 mod Recovered
 mod Recovery
 mod SegmentsGo
+mod ShownNotes
 mod Stays
 mod StoreBeside
 mod StoreDropped

@@ -12,29 +12,34 @@ use Rattle.std.proofs.Common.{
   IfSome,
   refl,
   sym,
+  ◌∙◌,
   subst,
 }
 use Rattle.std.specs.Prelude.{IsSome, false}
 use Rattle.std.specs.List.{flat_map}
+use Rattle.std.specs.FinMap as finmap
+use Rattle.clog_spec.specs.Names.{IsSegmentName, segment_name_of}
 use Rattle.clog_spec.specs.Sizes.{most_tables}
 use Rattle.clog_base.specs.declared.cell.Cell.{Cell}
 use Rattle.clog_base.specs.declared.cell.CellKey.{CellKey}
 use Rattle.clog_base.specs.declared.position.Position.{Position}
 use Rattle.clog_disk.specs.Files.{Files, Lists, SameTold, Told}
 use Rattle.clog_crash.specs.Flush.{IsSameFolder, IsSettled}
-use Rattle.clog_crash.specs.Folder.{IsHeld}
+use Rattle.clog_crash.specs.Folder.{IsHeld, IsNameOfSegment}
 use Rattle.clog_crash.specs.Recovery.{NamesAny}
 use Rattle.clog_crash.specs.Restore.{IsUndamaged}
+use Rattle.clog_crash.proofs.changes.Names.{is_named}
 use Rattle.clog_crash.proofs.flush.Recovered.{same_itself}
 use Rattle.clog_folder.specs.declared.folder.Folder.{Folder}
 use Rattle.clog_folder.specs.Folder.{IsHeldOf, payloads_of}
 use Rattle.clog_folder.proofs.Listed.{held_of, listed_of}
+use Rattle.clog_store.specs.Beside.{StayButSegments}
 use Rattle.clog_store.specs.Coming.{AreGone, AreThere, IsRecovering, Recovers}
-use Rattle.clog_store.specs.Filing.{FiledNow, IsReady, SettledTo}
+use Rattle.clog_store.specs.Filing.{FiledNow, IsFiledTo, IsFullFolder, IsReady, SettledTo}
 use Rattle.clog_store.specs.Live.{AreLive, IsTop}
 use Rattle.clog_store.specs.Named.{AreSegmentIds}
-use Rattle.clog_store.specs.Opened.{IsRecovered}
-use Rattle.clog_store.proofs.Ended.{all_ids_covered, are_there, is_recovered}
+use Rattle.clog_store.specs.Opened.{IsRecovered, OthersStay}
+use Rattle.clog_store.proofs.Ended.{all_ids_covered, are_there, is_recovered, listed_id}
 use Rattle.clog_store.proofs.Filed.{filed_none}
 use Rattle.clog_store.proofs.Ready.{ready_of}
 
@@ -120,6 +125,52 @@ module _ (first : Files) (names : List (List ℕ)) (cells : Pairs) (top : Positi
   recovered_told (Some f) now filed gone base above =
       subst (λ (o : Option Files). Told o (IsRecovered first base)) (sym gone)
       (is_recovered first names cells top ready f filed ids are held_name listed_name base above)
+
+-- ---- what is no segment stands
+
+pub others_yet : (first : Files) (told : Option Files) → told ≡ Some first
+    → Told told (OthersStay first)
+others_yet first told is =
+    subst (λ (o : Option Files). Told o (OthersStay first)) (sym is)
+    (λ name bytes apart there. there)
+
+pub full_same : (first : Files) (told : Option Files) → Told told (IsFullFolder first)
+    → Told told (IsSameFolder first)
+full_same first None is = absurd is
+full_same first (Some now) is = is.0
+
+pub full_others : (first : Files) (told : Option Files) → Told told (IsFullFolder first)
+    → Told told (OthersStay first)
+full_others first None is = absurd is
+full_others first (Some now) is = λ name bytes apart there. is.1 name bytes there
+
+module _ (first : Files) (names : List (List ℕ)) (cells : Pairs) (ids : List ℕ)
+    (are : AreSegmentIds (Contains names) ids) where
+  apart_from : (name : List ℕ) → (IsNameOfSegment name → ⊥) → (id : ℕ) → Contains ids id
+      → name ≡ segment_name_of 6 id → ⊥
+  apart_from name apart id listed same =
+      let s = listed_id (Contains names) ids are id listed in
+      apart (
+        6,
+        (
+          id,
+          subst (λ (n : List ℕ). IsSegmentName n 6 id) (sym same) (is_named id s.1.2.id_fits),
+        ),
+      )
+
+  others_then : (f : Files) (now : Option Files) → IsFiledTo first cells most_tables f
+      → Told now (λ g. (name : List ℕ)
+      → ((id : ℕ) → Contains ids id → name ≡ segment_name_of 6 id → ⊥)
+      → finmap.get g name ≡ finmap.get f name) → Told now (OthersStay first)
+  others_then f None filed stay = absurd stay
+  others_then f (Some g) filed stay =
+      λ name bytes apart there.
+      stay name (apart_from name apart) ∙ filed.stand name bytes there
+
+  pub others_told : (told now : Option Files) → FiledNow first cells most_tables told
+      → StayButSegments ids told now → Told now (OthersStay first)
+  others_told None now filed stay = absurd filed
+  others_told (Some f) now filed stay = others_then f now filed (stay f refl)
 
 -- where the disk tells no files there is nothing to show
 pub if_told_first : (old told : Option Files) (P : Files → Type 0) → SameTold old told

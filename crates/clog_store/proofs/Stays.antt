@@ -26,6 +26,7 @@ use Rattle.std.specs.List.{Contains}
 use Rattle.std.specs.FinMap as finmap
 use Rattle.std.proofs.lemmas.List.{take-append-drop}
 use Rattle.std.proofs.lemmas.List.Elements.{Contains-append_right}
+use Rattle.clog_spec.specs.Names.{segment_name_of}
 use Rattle.clog_base.proofs.Members.{here}
 use Rattle.clog_disk.specs.Files.{
   AppendsTo,
@@ -40,7 +41,7 @@ use Rattle.clog_disk.specs.Files.{
 use Rattle.clog_disk.proofs.Named.{put_there}
 use Rattle.clog_disk.specs.Files.{SameTold}
 use Rattle.clog_disk.specs.Images.{Lasts, TurnsLike, TurnsTo}
-use Rattle.clog_store.specs.Beside.{ImagesButOne, StayButOne}
+use Rattle.clog_store.specs.Beside.{ImagesButOne, StayButOne, StayButSegments}
 use Rattle.clog_store.specs.Discards.{
   all_gone_at,
   first_gone_at,
@@ -62,6 +63,32 @@ now_as own f g now is same = subst (StayIn own f) (sym is) same
 -- nothing has changed
 pub stay_same : (own : List ℕ) (told now : Option Files) → now ≡ told → StayButOne own told now
 stay_same own told now same f is = now_as own f f now (same ∙ is) (λ name apart. refl)
+
+-- ---- one segment after another
+
+pub stay_yet : (ids : List ℕ) (told : Option Files) → StayButSegments ids told told
+stay_yet ids told f is =
+    subst (λ (o : Option Files). Told o (λ g. (name : List ℕ)
+    → ((id : ℕ) → Contains ids id → name ≡ segment_name_of 6 id → ⊥)
+    → finmap.get g name ≡ finmap.get f name)) (sym is) (λ name apart. refl)
+
+stays_further : (ids : List ℕ) (id : ℕ) (f m : Files) (now : Option Files) → Contains ids id
+    → ((name : List ℕ) → ((o : ℕ) → Contains ids o → name ≡ segment_name_of 6 o → ⊥)
+    → finmap.get m name ≡ finmap.get f name)
+    → StayIn (segment_name_of 6 id) m now
+    → Told now (λ g. (name : List ℕ)
+    → ((o : ℕ) → Contains ids o → name ≡ segment_name_of 6 o → ⊥)
+    → finmap.get g name ≡ finmap.get f name)
+stays_further ids id f m None there before now = absurd now
+stays_further ids id f m (Some g) there before now =
+    λ name apart. now name (apart id there) ∙ before name apart
+
+pub stay_more : (ids : List ℕ) (told mid now : Option Files) (id : ℕ) → Contains ids id
+    → StayButSegments ids told mid → StayButOne (segment_name_of 6 id) mid now
+    → StayButSegments ids told now
+stay_more ids told None now id there before more f is = absurd (before f is)
+stay_more ids told (Some m) now id there before more f is =
+    stays_further ids id f m now there (before f is) (more m refl)
 
 -- ---- bytes come behind those of the file
 

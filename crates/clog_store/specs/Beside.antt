@@ -11,6 +11,13 @@ StayButOne own told now =
     (f : Files) → told ≡ Some f → Told now (λ g. (name : List ℕ) → (name ≡ own → ⊥)
     → finmap.get g name ≡ finmap.get f name)
 
+-- Where the disk tells its files, each name but those of these segments reads as before.
+abbrev pub StayButSegments : List ℕ → Option Files → Option Files → Type 0
+StayButSegments ids told now =
+    (f : Files) → told ≡ Some f → Told now (λ g. (name : List ℕ)
+    → ((id : ℕ) → Contains ids id → name ≡ segment_name_of 6 id → ⊥)
+    → finmap.get g name ≡ finmap.get f name)
+
 -- A crash leaves of each name but these only what it left before.
 abbrev pub ImagesBut : (List ℕ → Type 0) → (List ℕ → Option (List ℕ) → Type 0)
     → (List ℕ → Option (List ℕ) → Type 0) → Type 0

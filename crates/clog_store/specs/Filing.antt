@@ -6,9 +6,11 @@ use Rattle.std.specs.Prelude.{
   ℕ,
   ◌<◌,
   ◌≤◌,
+  ◌+◌,
   List,
   ◌++◌,
   map,
+  length,
   Option,
   Some,
   None,
@@ -16,6 +18,7 @@ use Rattle.std.specs.Prelude.{
   Contains,
   Result,
 }
+use Rattle.std.specs.List.{AllPairs}
 use Rattle.std.specs.declared.result.Result.TheVariants as result
 use Rattle.std.specs.FinMap as finmap
 use Rattle.clog_spec.specs.Names.{IsSegmentName, IsTableName, table_name_of}
@@ -38,6 +41,7 @@ use Rattle.clog_crash.specs.Restore.{IsUndamaged}
 use Rattle.clog_folder.specs.declared.fault.OpenFault.{OpenFault}
 use Rattle.clog_folder.specs.declared.fault.OpenFault.TheVariants.{Disk, OutOfMemory}
 use Rattle.clog_store.specs.Named.{HasSequence, OneHas}
+use Rattle.clog_store.specs.StoreFailed.{AllStay}
 
 -- What is known of a folder that is to be recovered: its names, the cells that its log restores,
 -- and where its log ends if it restores any.
@@ -52,7 +56,8 @@ pub record IsReady (first : Files) (names : List (List ℕ)) (cells : List (Cell
       → IsSkippedIn (bytes_at first) table at ⊎ (¬ IsSkippedIn (bytes_at first) table at)
 
 -- These bytes are put at this name, which is free, by a recovery: a file of one table that stands
--- for the whole log. Its sequence is 1, or one more than the greatest that the table has.
+-- for the whole log, with at least one cell. Its sequence is 1, or one more than the greatest that
+-- the table has.
 pub record IsRecoveryPut (first : Files) (name bytes : List ℕ) : Type 0 where
   pub file : TableFile
   pub sequence : ℕ
@@ -61,6 +66,7 @@ pub record IsRecoveryPut (first : Files) (name bytes : List ℕ) : Type 0 where
   pub spelled : IsFileOf file.table bytes file
   pub free : finmap.get first name ≡ None
   pub is_recovery_file : IsRecoveryFile (bytes_at first) file
+  pub some : 0 < length file.cells
 
 -- what is there now and was not before was put by a recovery
 abbrev pub AreRecoveryPuts : Files → Files → Type 0
@@ -71,11 +77,55 @@ AreRecoveryPuts first now = (name bytes : List ℕ) → finmap.get now name ≡ 
 abbrev pub publish : List ℕ × List ℕ → Change
 publish put = change.Publish put.0 put.1
 
--- Behind the changes that there were a recovery has put some files, and done nothing else.
+-- the file has a name of this table
+abbrev pub IsPutOf : ℕ → List ℕ × List ℕ → Type 0
+IsPutOf table put = (sequence : ℕ) × IsTableName put.0 table sequence
+
+-- one of the files is of this table
+abbrev pub HaveTable : List (List ℕ × List ℕ) → ℕ → Type 0
+HaveTable puts table =
+    (put : List ℕ × List ℕ) × Contains puts put × IsPutOf table put
+
+-- each table of which the log restores a cell has one of the files
+abbrev pub HaveAllLive : Files → List (List ℕ × List ℕ) → Type 0
+HaveAllLive first puts = (pair : CellKey × Cell) → IsLoggedCellIn (bytes_at first) pair
+    → HaveTable puts pair.0.table.0
+
+-- the first file is of a lower table than the second
+abbrev pub IsOfLowerTable : List ℕ × List ℕ → List ℕ × List ℕ → Type 0
+IsOfLowerTable a b = (low high : ℕ) → IsPutOf low a → IsPutOf high b → low < high
+
+-- Behind the changes that there were a recovery has put some files, in the order of their tables
+-- and one a table at most, and done nothing else.
 pub record HasPut (first : Files) (before now : Option (List Change)) : Type 0 where
   pub puts : List (List ℕ × List ℕ)
   pub are : (put : List ℕ × List ℕ) → Contains puts put → IsRecoveryPut first put.0 put.1
+  pub ascend : AllPairs IsOfLowerTable puts
   pub behind : now ≡ option_map (λ changes. changes ++ map publish puts) before
+
+-- They are of tables from one on up to below another, and each of these that has cells has one.
+pub record HasPutFrom (first : Files) (cells : List (CellKey × Cell)) (low high : ℕ)
+    (before now : Option (List Change)) : Type 0 where
+  pub puts : List (List ℕ × List ℕ)
+  pub are : (put : List ℕ × List ℕ) → Contains puts put → IsRecoveryPut first put.0 put.1
+  pub ascend : AllPairs IsOfLowerTable puts
+  pub behind : now ≡ option_map (λ changes. changes ++ map publish puts) before
+  pub within : (put : List ℕ × List ℕ) → Contains puts put → (table : ℕ) → IsPutOf table put
+      → (low ≤ table) × (table < high)
+  pub each : (pair : CellKey × Cell) → Contains cells pair → low ≤ pair.0.table.0
+      → pair.0.table.0 < high → HaveTable puts pair.0.table.0
+
+-- one table's file was put, if it has cells, or nothing has changed
+abbrev pub PutsTable : {T : Type 0} → Files → List (CellKey × Cell) → ℕ → Option (List Change)
+    → Option (List Change) → Result T OpenFault → Type 0
+PutsTable first cells n before now (result.Ok x) = HasPutFrom first cells n (n + 1) before now
+PutsTable first cells n before now (result.Err refusal) = now ≡ before
+
+-- those of the tables below n were put, or of the first of them
+abbrev pub PutsTables : {T : Type 0} → Files → List (CellKey × Cell) → ℕ → Option (List Change)
+    → Option (List Change) → Result T OpenFault → Type 0
+PutsTables first cells n before now (result.Ok x) = HasPutFrom first cells 0 n before now
+PutsTables first cells n before now (result.Err refusal) = HasPut first before now
 
 -- The tables below n that the log has cells of have their files. Nothing else has changed.
 pub record IsFiledTo (first : Files) (cells : List (CellKey × Cell)) (n : ℕ) (now : Files) : Type 0
@@ -92,8 +142,7 @@ pub record IsFiledTo (first : Files) (cells : List (CellKey × Cell)) (n : ℕ) 
         ≡ finmap.get first (table_name_of table.0 sequence)
     pub segments : (name : List ℕ) (version id : ℕ) → IsSegmentName name version id
         → finmap.get now name ≡ finmap.get first name
-    pub stand : (name bytes : List ℕ) → finmap.get first name ≡ Some bytes
-        → finmap.get now name ≡ Some bytes
+    pub stand : AllStay first now
     pub came : AreRecoveryPuts first now
 
 -- where the disk tells its files, they are such
@@ -106,11 +155,15 @@ abbrev pub SettledTo : Files → List (CellKey × Cell) → ℕ → Option Files
 SettledTo first cells n told leaves =
     Told told (λ now. IsFiledTo first cells n now × IsSettled now leaves)
 
--- the files after a step: a refused one leaves the same folder
+-- the same folder, in which each file of before stands
+abbrev pub IsFullFolder : Files → Files → Type 0
+IsFullFolder first now = IsSameFolder first now × AllStay first now
+
+-- the files after a step: a refused one leaves the same folder, and what was there
 abbrev pub FiledBy : {T : Type 0} → Files → List (CellKey × Cell) → ℕ → Option Files
     → Result T OpenFault → Type 0
 FiledBy first cells n told (result.Ok x) = FiledNow first cells n told
-FiledBy first cells n told (result.Err refusal) = Told told (IsSameFolder first)
+FiledBy first cells n told (result.Err refusal) = Told told (IsFullFolder first)
 
 -- what becomes of the count of faults in a step, and why it is refused
 abbrev pub StepCause : {T : Type 0} → ℕ → ℕ → Result T OpenFault → Type 0

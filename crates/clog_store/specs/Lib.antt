@@ -18,6 +18,7 @@ pub mod Publishes
 pub mod Resting
 pub mod Several
 pub mod Stepped
+pub mod ShownNotes
 pub mod StoreDrops
 pub mod StoreFailed
 pub mod StoreFolder

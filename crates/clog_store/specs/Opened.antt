@@ -8,6 +8,7 @@ use Rattle.std.specs.Prelude.{
   List,
   [],
   take,
+  Contains,
   Option,
   Some,
   false,
@@ -50,7 +51,7 @@ use Rattle.clog_folder.specs.declared.fault.OpenFault.TheVariants.{
 use Rattle.clog_folder.specs.Folder.{CanBeRead, HasDamage, HasLongSegment, IsHeldOf}
 use Rattle.clog_store.specs.declared.opening.Known.{Known}
 use Rattle.clog_store.specs.Coming.{HaveRemoved}
-use Rattle.clog_store.specs.Filing.{AreRecoveryPuts, HasPut}
+use Rattle.clog_store.specs.Filing.{AreRecoveryPuts, HasPut, HaveAllLive}
 use Rattle.clog_store.specs.Life.{State}
 use Rattle.clog_store.specs.Named.{
   AreSegmentIds,
@@ -69,14 +70,18 @@ pub record CanBeOpened (files : Files) : Type 0 where
   pub few : ¬ HoldsName files IsLateTable
   pub low : (id : ℕ) → NamesAny files id → id < id_limit
 
+-- each file whose name is no segment's stands as it was
+abbrev pub OthersStay : Files → Files → Type 0
+OthersStay first now = (name bytes : List ℕ) → ¬ IsNameOfSegment name
+    → finmap.get first name ≡ Some bytes → finmap.get now name ≡ Some bytes
+
 -- A recovered folder has the same newest cells, no damage, and no segment. Each other file stands
 -- as it was, and what came are the files that recovery puts. No table file reaches into a segment
 -- from the base on.
 pub record IsRecovered (first : Files) (base : ℕ) (now : Files) : Type 0 where
   pub same : IsSameFolder first now
   pub no_segment : ¬ HasSegmentFile now
-  pub others : (name bytes : List ℕ) → ¬ IsNameOfSegment name
-      → finmap.get first name ≡ Some bytes → finmap.get now name ≡ Some bytes
+  pub others : OthersStay first now
   pub came : AreRecoveryPuts first now
   pub below : (file : TableFile) → IsTableIn (bytes_at now) file → file.upper.id < base
 
@@ -94,11 +99,13 @@ HasRows files = (rows : List (CellKey × Cell)) × IsRestored files rows
 -- ---- what it changes
 
 -- First files are put, and then these segments are removed, in this order; nothing else is done.
+-- None goes before each table of which the log restores a cell has its file.
 pub record HasRecovered (first : Files) (removed : List ℕ) (before now : Option (List Change))
     : Type 0 where
   pub between : Option (List Change)
   pub puts : HasPut first before between
   pub removes : HaveRemoved removed between now
+  pub each : (id : ℕ) → Contains removed id → HaveAllLive first puts.puts
 
 -- the first of the segments' ids, or none
 abbrev pub AreFirstIds : Files → List ℕ → Type 0
@@ -110,10 +117,12 @@ abbrev pub RecoversFirst : Files → Option (List Change) → Option (List Chang
 RecoversFirst first before now =
     (removed : List ℕ) × AreFirstIds first removed × HasRecovered first removed before now
 
--- all segments are removed, in the order of their ids
+-- Each table of which the log restores a cell gets its file, and all segments are removed, in the
+-- order of their ids.
 abbrev pub RecoversAll : Files → Option (List Change) → Option (List Change) → Type 0
 RecoversAll first before now =
-    (ids : List ℕ) × AreSegmentIds (IsHeld first) ids × HasRecovered first ids before now
+    (ids : List ℕ) × AreSegmentIds (IsHeld first) ids
+    × ((done : HasRecovered first ids before now) × HaveAllLive first done.puts.puts)
 
 -- ---- why it is refused
 

@@ -43,7 +43,7 @@ pub use folder_laws::{
     an_opened_folder_is_a_stores, due_segments_of_a_store_are_covered,
     due_segments_of_a_store_may_be_dropped, what_a_store_may_publish_is_true,
 };
-pub use lasting::what_lasts_stays;
+pub use lasting::{what_is_logged_lasts, what_lasts_stays, what_was_logged_stays};
 pub use laws::a_recovery_puts_one_file_a_table;
 pub use next::write_section;
 pub use note_log::NoteLog;

@@ -227,6 +227,7 @@ impl<D: Disk> NoteLog<D> {
     pub fn fault_count(&self) -> u64
         ensures count { result ≡ D.faults self.now.log.disk }
         ensures fits { D.faults self.now.log.disk < 2 ^ 64 }
+        ensures noted { IsNoteLog self.now }
         ensures sound { IsSound self.now.log }
         ensures reads { self.now.log.is_stopped ≡ false → ReadsAs (D.files self.now.log.disk)
             (segment_name_of 6 self.now.log.id)

@@ -19,6 +19,7 @@ ghost use Rattle.clog_store.specs.Opened.{
   LeavesAlone,
   Looks,
   Opens,
+  OthersStay,
   RecoversAll,
   RecoversFirst,
 };
@@ -50,6 +51,8 @@ fn recover_folder<D: Disk>(
         → RecoversFirst first (D.changes disk.old) (D.changes disk.new) }
     ensures recovers { (first : Files) → D.files disk.old ≡ Some first
         → OnOk result (RecoversAll first (D.changes disk.old) (D.changes disk.new)) }
+    ensures others { (first : Files) → D.files disk.old ≡ Some first
+        → Told (D.files disk.new) (OthersStay first) }
     ensures same { (first : Files) → D.files disk.old ≡ Some first
         → Told (D.files disk.new) (IsSameFolder first) }
     ensures files { (first : Files) → D.files disk.old ≡ Some first → (base : ℕ)
@@ -120,15 +123,17 @@ fn look<D: Disk>(alloc: Global, disk: &mut D, moment: u64) -> Result<Known, Open
 ///
 /// Table files are read first, then segments, each refused where it is the first that is bad; then
 /// the limits on sequences and on ids are looked at. Recovery puts files of new names, each with
-/// the newest cells of one table that the log restores, and then removes the segments in the order
-/// of their ids; it changes nothing else.
+/// the newest cells of one table that the log restores, one for each table that has such cells, in
+/// the order of tables; then it removes the segments in the order of their ids. It changes nothing
+/// else.
 ///
 /// - `Disk`: only where the disk's count of faults has risen in this call. Else it stays.
 /// - `BadTable`, `Damaged`, `Limit`: exactly where the folder is so. The disk is then as it was.
 /// - `OutOfMemory`: memory was refused.
 ///
-/// Whatever is answered, the folder restores the same, and so does each image of a crash meanwhile
-/// where all that was there lasted before.
+/// Whatever is answered, each file whose name is no segment's stands as it was, and the folder
+/// restores the same, and so does each image of a crash meanwhile where all that was there lasted
+/// before.
 pub fn recover<D: Disk>(alloc: Global, disk: &mut D, moment: u64) -> Result<u64, OpenFault>
     requires moment { moment < 2 ^ 62 }
     ensures told { SameTold (D.files disk.old) (D.files disk.new) }
@@ -146,6 +151,8 @@ pub fn recover<D: Disk>(alloc: Global, disk: &mut D, moment: u64) -> Result<u64,
         → RecoversFirst first (D.changes disk.old) (D.changes disk.new) }
     ensures recovers { (first : Files) → D.files disk.old ≡ Some first
         → OnOk result (RecoversAll first (D.changes disk.old) (D.changes disk.new)) }
+    ensures others { (first : Files) → D.files disk.old ≡ Some first
+        → Told (D.files disk.new) (OthersStay first) }
     ensures keeps { (first : Files) → D.files disk.old ≡ Some first
         → Told (D.files disk.new) (KeepsFolder first) }
     ensures restored { (first : Files) → D.files disk.old ≡ Some first

@@ -25,6 +25,7 @@ ghost use Rattle.clog_disk.specs.declared.disk.DiskFault.TheVariants.{NoSuchFile
 ghost use Rattle.clog_table.specs.declared.table_file.TableFile.{TableFile};
 ghost use Rattle.clog_crash.specs.Flush.{IsSameFolder};
 ghost use Rattle.clog_crash.specs.Folder.{IsHeld};
+ghost use Rattle.clog_store.specs.Beside.{StayButOne, StayButSegments};
 ghost use Rattle.clog_store.specs.Coming.{
   AreGone,
   AreThere,
@@ -50,6 +51,8 @@ pub fn put_recovered<D: Disk>(
     ensures told { SameTold (D.files disk.old) (D.files disk.new) }
     ensures puts { OnOk result (PutsAt (D.files disk.old) (D.files disk.new)
         (table_name_of table.0 sequence) (Some bytes.now)) }
+    ensures others { StayButOne (table_name_of table.0 sequence) (D.files disk.old)
+        (D.files disk.new) }
     ensures adds { Adds (change.Publish (table_name_of table.0 sequence) bytes.now)
         (D.changes disk.old) (D.changes disk.new) result }
     ensures later { IsLater D.moment D.read_at D.lasted_at disk.old disk.new }
@@ -74,6 +77,8 @@ pub fn take_recovered<D: Disk>(disk: &mut D, segment: u64) -> Result<(), DiskFau
     ensures told { SameTold (D.files disk.old) (D.files disk.new) }
     ensures puts { OnOk result (PutsAt (D.files disk.old) (D.files disk.new)
         (segment_name_of 6 segment) None) }
+    ensures others { StayButOne (segment_name_of 6 segment) (D.files disk.old)
+        (D.files disk.new) }
     ensures adds { Adds (change.Remove (segment_name_of 6 segment)) (D.changes disk.old)
         (D.changes disk.new) result }
     ensures later { IsLater D.moment D.read_at D.lasted_at disk.old disk.new }
@@ -100,6 +105,7 @@ pub fn take_all_recovered<D: Disk>(disk: &mut D, segments: &[u64]) -> Result<(),
     ensures later { IsLater D.moment D.read_at D.lasted_at disk.old disk.new }
     ensures cause { HasDiskCause (D.faults disk.old) (D.faults disk.new) result }
     ensures found { result ≢ Err no_file }
+    ensures others { StayButSegments segments.now (D.files disk.old) (D.files disk.new) }
     ensures removes { RemovesFirst segments.now (D.changes disk.old) (D.changes disk.new) result }
     ensures files { (first : Files) → Recovers first (D.files disk.old) segments.now
         → Told (D.files disk.new) (IsSameFolder first) }

@@ -12,8 +12,9 @@ ghost use Rattle.clog_crash.specs.Flush.{IsSameFolder};
 ghost use Rattle.clog_store.specs.Filing.{
   FiledBy,
   FiledNow,
-  HasPut,
   IsReady,
+  PutsTable,
+  PutsTables,
   SettledTo,
   StepCause,
 };
@@ -47,7 +48,7 @@ fn put_table_of<D: Disk>(
     ensures cause { StepCause (D.faults disk.old) (D.faults disk.new) result }
     ensures puts { (first : Files) → IsReady first names.now cells.now top
         → FiledNow first cells.now table.0 (D.files disk.old)
-        → HasPut first (D.changes disk.old) (D.changes disk.new) }
+        → PutsTable first cells.now table.0 (D.changes disk.old) (D.changes disk.new) result }
     ensures files { (first : Files) → IsReady first names.now cells.now top
         → FiledNow first cells.now table.0 (D.files disk.old)
         → FiledBy first cells.now (table.0 + 1) (D.files disk.new) result }
@@ -87,7 +88,8 @@ pub(crate) fn put_tables<D: Disk>(
     ensures cause { StepCause (D.faults disk.old) (D.faults disk.new) result }
     ensures puts { (first : Files) → IsReady first names.now cells.now top
         → FiledNow first cells.now 0 (D.files disk.old)
-        → HasPut first (D.changes disk.old) (D.changes disk.new) }
+        → PutsTables first cells.now most_tables (D.changes disk.old) (D.changes disk.new)
+        result }
     ensures files { (first : Files) → IsReady first names.now cells.now top
         → FiledNow first cells.now 0 (D.files disk.old)
         → FiledBy first cells.now most_tables (D.files disk.new) result }

@@ -40,6 +40,7 @@ ghost use Rattle.clog_store.specs.Opened.{
   LeftAlone,
   OpenRefused,
   OpensAs,
+  OthersStay,
   RecoversAll,
   RecoversFirst,
 };
@@ -143,8 +144,9 @@ impl<D: Disk> SectionLog<D> {
     /// Opens a folder: it is read and recovered, and its log goes on at the base. The moment is one
     /// in milliseconds. For each refusal see `recover`; the disk comes back then.
     ///
-    /// Whatever is answered, the folder restores the same, and so does each image of a crash
-    /// meanwhile where all that was there lasted before; then all lasts at the opening too.
+    /// Whatever is answered, each file whose name is no segment's stands as it was, and the folder
+    /// restores the same, and so does each image of a crash meanwhile where all that was there
+    /// lasted before; then all lasts at the opening too.
     pub fn open(alloc: Global, disk: D, moment: u64) -> Result<SectionLog<D>, (D, OpenFault)>
         requires moment { moment < 2 ^ 62 }
         ensures opens { IfOk result (λ log. OpensAs (D.files disk) (D.files log.disk) moment
@@ -175,6 +177,8 @@ impl<D: Disk> SectionLog<D> {
         ensures later { HandsOn (IsLater D.moment D.read_at D.lasted_at disk) result }
         ensures keeps { (first : Files) → D.files disk ≡ Some first
             → HandsOn (λ now. Told (D.files now) (KeepsFolder first)) result }
+        ensures others { (first : Files) → D.files disk ≡ Some first
+            → HandsOn (λ now. Told (D.files now) (OthersStay first)) result }
         ensures any_moment { (first : Files) → D.files disk ≡ Some first
             → LastsAll first (D.leaves disk)
             → HandsOn (λ now. LeavesOnly D.moment D.since disk now (KeepsFolder first)) result }

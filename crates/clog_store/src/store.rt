@@ -21,6 +21,7 @@ ghost use Rattle.clog_store.specs.Opened.{
   LeftAlone,
   OpenRefused,
   OpensAs,
+  OthersStay,
   RecoversAll,
   RecoversFirst,
 };
@@ -165,8 +166,9 @@ impl<D: Disk> Store<D> {
     /// that the folder named. The moment is one in milliseconds. For each refusal see `recover`; the
     /// disk comes back then.
     ///
-    /// Whatever is answered, the folder restores the same, and so does each image of a crash
-    /// meanwhile where all that was there lasted before; then all lasts at the opening too.
+    /// Whatever is answered, each file whose name is no segment's stands as it was, and the folder
+    /// restores the same, and so does each image of a crash meanwhile where all that was there
+    /// lasted before; then all lasts at the opening too.
     pub fn open(
         alloc: Global,
         disk: D,
@@ -200,6 +202,8 @@ impl<D: Disk> Store<D> {
         ensures later { HandsOver (IsLater D.moment D.read_at D.lasted_at disk) result }
         ensures keeps { (first : Files) → D.files disk ≡ Some first
             → HandsOver (λ now. Told (D.files now) (KeepsFolder first)) result }
+        ensures others { (first : Files) → D.files disk ≡ Some first
+            → HandsOver (λ now. Told (D.files now) (OthersStay first)) result }
         ensures any_moment { (first : Files) → D.files disk ≡ Some first
             → LastsAll first (D.leaves disk)
             → HandsOver (λ now. LeavesOnly D.moment D.since disk now (KeepsFolder first)) result }

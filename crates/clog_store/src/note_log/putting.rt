@@ -86,6 +86,7 @@ impl<D: Disk> NoteLog<D> {
             (take self.old.log.synced self.old.log.sections)
             (file_at self.old.base file cells.now) sequence) }
         ensures log { self.new ≡ record self.old { log = self.new.log } }
+        ensures noted { IsNoteLog self.new }
         ensures passes { Passes self.old.log self.new.log result }
         ensures stays { self.old.log.is_stopped ≡ true → self.new ≡ self.old }
         ensures comes { OnOk result (HasCome (D.files self.old.log.disk)

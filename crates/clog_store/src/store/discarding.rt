@@ -20,6 +20,7 @@ ghost use Rattle.path_core.specs.Keeper.{DropRefused, Drops, HasKeeperCause};
 ghost use Rattle.clog_store.specs.Discarding.{IsWithin, fault_of};
 ghost use Rattle.clog_store.specs.Dropping.{ArePublished};
 ghost use Rattle.clog_store.specs.Life.{Lives, LivesOn};
+ghost use Rattle.clog_store.specs.NoteLog.{IsNoteLog};
 ghost use Rattle.clog_store.specs.Stepped.{HasLogCause, StopsBy};
 ghost use Rattle.clog_store.specs.StoreDrops.{
   AreDueIn,
@@ -267,6 +268,7 @@ impl<D: Disk> Store<D> {
         ensures quiet { self.new.notes.log.is_stopped ≡ false
             → D.faults self.new.notes.log.disk ≡ D.faults self.old.notes.log.disk }
         ensures first { self.new.first ≡ self.old.first }
+        ensures noted { IsNoteLog self.new.notes }
         ensures later { IsLater D.moment D.read_at D.lasted_at self.old.notes.log.disk
             self.new.notes.log.disk }
         ensures lives { Lives D.files D.moment D.since D.leaves D.read_at D.lasted_at

@@ -33,6 +33,7 @@ impl<D: Disk> Store<D> {
     fn reach(&mut self, upper: Key) -> Result<(), KeeperFault>
         requires { upper.0 ≤ after self.old.notes.sizes.capacity self.old.notes.synced }
         ensures moved { HasMoved self.old self.new }
+        ensures noted { IsNoteLog self.new.notes }
         ensures far { OnOk result (HasReached self.new.notes upper.0) }
         ensures goes { GoesOn D.files D.moment D.since D.leaves D.read_at D.lasted_at
             self.old.notes.log self.new.notes.log }
@@ -83,6 +84,7 @@ impl<D: Disk> Store<D> {
             (put_of file cells.now)) }
         ensures refused { OnErr result (HasMoved self.old self.new) }
         ensures first { self.new.first ≡ self.old.first }
+        ensures noted { IsNoteLog self.new.notes }
         ensures goes { GoesOn D.files D.moment D.since D.leaves D.read_at D.lasted_at
             self.old.notes.log self.new.notes.log }
         ensures quiet { IsQuiet D.faults self.old.notes.log self.new.notes.log }
@@ -148,6 +150,7 @@ impl<D: Disk> Store<D> {
         ensures quiet { self.new.notes.log.is_stopped ≡ false
             → D.faults self.new.notes.log.disk ≡ D.faults self.old.notes.log.disk }
         ensures first { self.new.first ≡ self.old.first }
+        ensures noted { IsNoteLog self.new.notes }
         ensures later { IsLater D.moment D.read_at D.lasted_at self.old.notes.log.disk
             self.new.notes.log.disk }
         ensures lives { Lives D.files D.moment D.since D.leaves D.read_at D.lasted_at

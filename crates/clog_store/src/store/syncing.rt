@@ -3,6 +3,7 @@ ghost use Rattle.std.specs.Prelude.{◌≡◌, OnErr, OnOk, false};
 ghost use Rattle.clog_disk.specs.Images.{IsLater};
 ghost use Rattle.path_core.specs.Keeper.{HasKeeperCause, MaySync, SyncRefused, Syncs};
 ghost use Rattle.clog_store.specs.Life.{AllLasts, Lives, LivesOn};
+ghost use Rattle.clog_store.specs.NoteLog.{IsNoteLog};
 ghost use Rattle.clog_store.specs.StoreState.{holding_of};
 
 use crate::store::{Store, told};
@@ -44,6 +45,7 @@ impl<D: Disk> Store<D> {
         ensures quiet { self.new.notes.log.is_stopped ≡ false
             → D.faults self.new.notes.log.disk ≡ D.faults self.old.notes.log.disk }
         ensures first { self.new.first ≡ self.old.first }
+        ensures noted { IsNoteLog self.new.notes }
         ensures later { IsLater D.moment D.read_at D.lasted_at self.old.notes.log.disk
             self.new.notes.log.disk }
         ensures lives { Lives D.files D.moment D.since D.leaves D.read_at D.lasted_at

@@ -2,6 +2,7 @@
 //! count of faults.
 ghost use Rattle.std.specs.Prelude.{◌≡◌, false, true};
 ghost use Rattle.clog_io.specs.Causes.{Rose};
+ghost use Rattle.clog_store.specs.NoteLog.{IsNoteLog};
 
 use crate::store::Store;
 use clog_base::Sizes;
@@ -27,6 +28,7 @@ impl<D: Disk> Store<D> {
     /// where it has, the count has risen since, or stands at the greatest `u64`.
     pub fn fault_count(&self) -> u64
         ensures count { result ≡ D.faults self.now.notes.log.disk }
+        ensures noted { IsNoteLog self.now.notes }
         ensures quiet { self.now.notes.log.is_stopped ≡ false
             → D.faults self.now.notes.log.disk ≡ D.faults self.now.first }
         ensures risen { self.now.notes.log.is_stopped ≡ true

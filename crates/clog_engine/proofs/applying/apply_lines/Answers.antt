@@ -43,7 +43,7 @@ returns-in-Err-open-clause-applies g c left left_now f h bytes taken sized =
     let o = outside_with left left_now f h g.D.Disk g.C.Clock start now c.args.clock.now in
     let kept = keeps_all g.D.Disk g.C.Clock left left_now f h start looked c.args.clock.now
     (g.met.D.Disk.only_now start) still now c.in-Err-open.ensures.told c.in-Err-open.ensures.keeps
-    c.in-Err-open.ensures.any_moment c.in-Err-open.ensures.changes in
+    c.in-Err-open.ensures.others c.in-Err-open.ensures.any_moment c.in-Err-open.ensures.changes in
     subst (λ (s : Status). ApplyRefuses options s o) (sym c.folder_status.ensures)
     (folder_refuses options (folder_status refusal) o
     (bytes, taken, record { mutations = c.args.lines.mutations; sized = sized })
@@ -137,4 +137,4 @@ returns-in-Err-report_of-clause-applies g c left left_now f h bytes taken sized 
     (outside_with left left_now f h g.D.Disk g.C.Clock start d at)) (sym c.into_disk.ensures.disk)
     (keeps_all g.D.Disk g.C.Clock left left_now f h start looked at
     (g.met.D.Disk.only_now start) c.in-Ok.ensures.keeps c.in-Ok-open.store.notes.log.disk
-    opening.told opening.keeps opening.any_moment opening.changes)))
+    opening.told opening.keeps opening.others opening.any_moment opening.changes)))

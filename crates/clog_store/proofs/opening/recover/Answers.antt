@@ -26,6 +26,7 @@ use Rattle.clog_store.proofs.OpenedWhole.{
   told_keeps,
 }
 use Rattle.clog_store.proofs.Outcomes.{one_call}
+use Rattle.clog_store.proofs.Recovery.{others_yet}
 use Rattle.clog_store.proofs.opening.recover.Goals as goal
 
 -- ---- it is not opened
@@ -233,3 +234,17 @@ returns-clause-changes g c first is =
     subst (λ (before : Option (List Change)). RecoversFirst first before new)
     c.look.ensures.keeps.changes_are
     (c.recover_folder.ensures.changes first (c.look.ensures.keeps.same.files ∙ is))
+
+-- ---- what is no segment stands
+
+pub returns-in-Err-clause-others : goal.returns-in-Err-clause-others
+returns-in-Err-clause-others g c first is =
+    others_yet first (g.D.Disk.files c.look.new.disk) (c.look.ensures.keeps.same.files ∙ is)
+
+pub returns-in-Ok-recover_folder-clause-others : goal.returns-in-Ok-recover_folder-clause-others
+returns-in-Ok-recover_folder-clause-others g c first is =
+    c.recover_folder.ensures.others first (c.look.ensures.keeps.same.files ∙ is)
+
+pub returns-clause-others : goal.returns-clause-others
+returns-clause-others g c first is =
+    c.recover_folder.ensures.others first (c.look.ensures.keeps.same.files ∙ is)

@@ -1,6 +1,7 @@
 use Rattle.std.proofs.Common.{List, [], Contains, refl, sym, subst}
 use Rattle.std.specs.Prelude.{false}
 use Rattle.std.specs.List.{flat_map}
+use Rattle.clog_spec.specs.Sizes.{most_tables}
 use Rattle.clog_disk.proofs.Moments.{started, goes_on_by}
 use Rattle.clog_crash.specs.Flush.{IsSameFolder}
 use Rattle.clog_folder.specs.declared.segment.SegmentHeld.{SegmentHeld}
@@ -19,10 +20,15 @@ use Rattle.clog_store.proofs.Changed.{
 }
 use Rattle.clog_store.proofs.Filed.{settled_show}
 use Rattle.clog_store.proofs.Live.{sized}
+use Rattle.clog_store.proofs.PutTables.{all_live, has_put}
 use Rattle.clog_store.proofs.Recovery.{
   begins,
   begins_settled,
+  full_others,
+  full_same,
   if_told_first,
+  others_told,
+  others_yet,
   ready_told,
   recovered_told,
   recovering_told,
@@ -83,8 +89,8 @@ returns-in-Err-clause-same g c first is =
     let ready = ready_told first (D.files old) is folder c.requires.held names cells top
     c.requires.lists c.in_ok-cells.ensures is_top in
     let mid = c.put_tables.new.disk in
-    c.in-Err.ensures.files first ready
-    (begins first (D.files old) is folder c.requires.held cells)
+    full_same first (D.files mid) (c.in-Err.ensures.files first ready
+    (begins first (D.files old) is folder c.requires.held cells))
 
 pub returns-in-Err-clause-any_moment : goal.returns-in-Err-clause-any_moment
 returns-in-Err-clause-any_moment g c first is settled =
@@ -295,7 +301,7 @@ returns-in-Err-clause-changes g c first is =
     let ready = ready_told first (D.files old) is folder c.requires.held names cells top
     c.requires.lists c.in_ok-cells.ensures is_top in
     let mid = c.put_tables.new.disk in
-    let puts = c.put_tables.ensures.puts first ready
+    let puts = c.in-Err.ensures.puts first ready
     (begins first (D.files old) is folder c.requires.held cells) in
     only_puts first (D.changes old) (D.changes mid) puts
 
@@ -313,12 +319,14 @@ returns-in-Ok-take_all_recovered-clause-recovers g c first is =
     let ready = ready_told first (D.files old) is folder c.requires.held names cells top
     c.requires.lists c.in_ok-cells.ensures is_top in
     let mid = c.put_tables.new.disk in
-    let puts = c.put_tables.ensures.puts first ready
+    let from = c.in-Ok.ensures.puts first ready
     (begins first (D.files old) is folder c.requires.held cells) in
+    let puts = has_put first cells 0 most_tables (D.changes old) (D.changes mid) from in
+    let each = all_live first names cells top ready (D.changes old) (D.changes mid) from in
     let are = ids_held first names ready.lists c.deref.result.now
     (subst (AreSegmentIds (Contains names)) (sym c.deref.ensures.value) c.in_ok-ids.ensures) in
     let new = c.take_all_recovered.new.disk in
-    then_all first (D.changes old) (D.changes mid) (D.changes new) c.deref.result.now are puts
+    then_all first (D.changes old) (D.changes mid) (D.changes new) c.deref.result.now are puts each
     c.in-Ok-take_all_recovered.ensures.removes
 
 pub returns-in-Ok-take_all_recovered-clause-changes :
@@ -335,13 +343,15 @@ returns-in-Ok-take_all_recovered-clause-changes g c first is =
     let ready = ready_told first (D.files old) is folder c.requires.held names cells top
     c.requires.lists c.in_ok-cells.ensures is_top in
     let mid = c.put_tables.new.disk in
-    let puts = c.put_tables.ensures.puts first ready
+    let from = c.in-Ok.ensures.puts first ready
     (begins first (D.files old) is folder c.requires.held cells) in
+    let puts = has_put first cells 0 most_tables (D.changes old) (D.changes mid) from in
+    let each = all_live first names cells top ready (D.changes old) (D.changes mid) from in
     let are = ids_held first names ready.lists c.deref.result.now
     (subst (AreSegmentIds (Contains names)) (sym c.deref.ensures.value) c.in_ok-ids.ensures) in
     let new = c.take_all_recovered.new.disk in
     first_of_all first (D.changes old) (D.changes new)
-    (then_all first (D.changes old) (D.changes mid) (D.changes new) c.deref.result.now are puts
+    (then_all first (D.changes old) (D.changes mid) (D.changes new) c.deref.result.now are puts each
     c.in-Ok-take_all_recovered.ensures.removes)
 
 pub returns-clause-changes : goal.returns-clause-changes
@@ -357,11 +367,82 @@ returns-clause-changes g c first is =
     let ready = ready_told first (D.files old) is folder c.requires.held names cells top
     c.requires.lists c.in_ok-cells.ensures is_top in
     let mid = c.put_tables.new.disk in
-    let puts = c.put_tables.ensures.puts first ready
+    let from = c.in-Ok.ensures.puts first ready
     (begins first (D.files old) is folder c.requires.held cells) in
+    let puts = has_put first cells 0 most_tables (D.changes old) (D.changes mid) from in
+    let each = all_live first names cells top ready (D.changes old) (D.changes mid) from in
     let are = ids_held first names ready.lists c.deref.result.now
     (subst (AreSegmentIds (Contains names)) (sym c.deref.ensures.value) c.in_ok-ids.ensures) in
     let new = c.take_all_recovered.new.disk in
     let removes = c.in-Err-take_all_recovered.ensures.removes in
     then_some first (D.changes old) (D.changes mid) (D.changes new) c.deref.result.now removes.0
-    are puts removes.1
+    are puts each removes.1
+
+-- ---- what is no segment stands
+
+pub returns-in_err-ids-clause-others : goal.returns-in_err-ids-clause-others
+returns-in_err-ids-clause-others g c first is =
+    others_yet first (g.D.Disk.files c.args.disk.now) is
+
+pub returns-in_err-cells-clause-others : goal.returns-in_err-cells-clause-others
+returns-in_err-cells-clause-others g c first is =
+    others_yet first (g.D.Disk.files c.args.disk.now) is
+
+pub returns-in-Err-clause-others : goal.returns-in-Err-clause-others
+returns-in-Err-clause-others g c first is =
+    let D = g.D.Disk in
+    let old = c.args.disk.now in
+    let folder = c.args.folder.now in
+    let names = c.args.names.now in
+    let cells = c.in_ok-cells.cells in
+    let top = c.top_of-top.result in
+    let is_top = subst (λ (hs : List SegmentHeld). IsTop (flat_map payloads_of hs) top)
+    c.as_slice.ensures c.top_of-top.ensures in
+    let ready = ready_told first (D.files old) is folder c.requires.held names cells top
+    c.requires.lists c.in_ok-cells.ensures is_top in
+    let mid = c.put_tables.new.disk in
+    full_others first (D.files mid) (c.in-Err.ensures.files first ready
+    (begins first (D.files old) is folder c.requires.held cells))
+
+pub returns-in-Ok-take_all_recovered-clause-others :
+    goal.returns-in-Ok-take_all_recovered-clause-others
+returns-in-Ok-take_all_recovered-clause-others g c first is =
+    let D = g.D.Disk in
+    let old = c.args.disk.now in
+    let folder = c.args.folder.now in
+    let names = c.args.names.now in
+    let cells = c.in_ok-cells.cells in
+    let top = c.top_of-top.result in
+    let is_top = subst (λ (hs : List SegmentHeld). IsTop (flat_map payloads_of hs) top)
+    c.as_slice.ensures c.top_of-top.ensures in
+    let ready = ready_told first (D.files old) is folder c.requires.held names cells top
+    c.requires.lists c.in_ok-cells.ensures is_top in
+    let mid = c.put_tables.new.disk in
+    let are = subst (AreSegmentIds (Contains names)) (sym c.deref.ensures.value)
+    c.in_ok-ids.ensures in
+    others_told first names cells c.deref.result.now are (D.files mid)
+    (D.files c.take_all_recovered.new.disk)
+    (c.in-Ok.ensures.files first ready
+    (begins first (D.files old) is folder c.requires.held cells))
+    c.take_all_recovered.ensures.others
+
+pub returns-clause-others : goal.returns-clause-others
+returns-clause-others g c first is =
+    let D = g.D.Disk in
+    let old = c.args.disk.now in
+    let folder = c.args.folder.now in
+    let names = c.args.names.now in
+    let cells = c.in_ok-cells.cells in
+    let top = c.top_of-top.result in
+    let is_top = subst (λ (hs : List SegmentHeld). IsTop (flat_map payloads_of hs) top)
+    c.as_slice.ensures c.top_of-top.ensures in
+    let ready = ready_told first (D.files old) is folder c.requires.held names cells top
+    c.requires.lists c.in_ok-cells.ensures is_top in
+    let mid = c.put_tables.new.disk in
+    let are = subst (AreSegmentIds (Contains names)) (sym c.deref.ensures.value)
+    c.in_ok-ids.ensures in
+    others_told first names cells c.deref.result.now are (D.files mid)
+    (D.files c.take_all_recovered.new.disk)
+    (c.in-Ok.ensures.files first ready
+    (begins first (D.files old) is folder c.requires.held cells))
+    c.take_all_recovered.ensures.others

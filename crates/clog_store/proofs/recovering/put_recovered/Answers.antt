@@ -1,7 +1,8 @@
-use Rattle.std.proofs.Common.{◌∙◌, [], sym, ap}
+use Rattle.std.proofs.Common.{◌∙◌, ℕ, List, [], Some, sym, ap, subst}
 use Rattle.clog_spec.specs.Names.{table_name_of}
 use Rattle.clog_base.specs.declared.cell.Table.{Table}
 use Rattle.clog_crash.specs.Flush.{IsSameFolder}
+use Rattle.clog_store.specs.Beside.{StayButOne}
 use Rattle.clog_store.proofs.Recovered.{
   here_show,
   here_for_file,
@@ -10,6 +11,7 @@ use Rattle.clog_store.proofs.Recovered.{
   file_stands,
 }
 use Rattle.clog_store.proofs.Outcomes.{ok_both, one_call}
+use Rattle.clog_store.proofs.Stays.{stay_put}
 use Rattle.clog_store.proofs.recovering.put_recovered.Goals as goal
 
 pub returns-clause-comes : goal.returns-clause-comes
@@ -47,3 +49,13 @@ returns-clause-files g c first file table_is may =
     file_stands first _ c.publish.result file c.args.sequence c.args.bytes.now name_is
     (D.files c.args.disk.now) (D.files c.publish.new.self) c.publish.ensures.puts
     c.publish.ensures.maybe may
+
+pub returns-clause-others : goal.returns-clause-others
+returns-clause-others g c =
+    let D = g.D.Disk in
+    let before = c.args.disk.now in
+    let after = c.publish.new.self in
+    subst (λ (name : List ℕ). StayButOne name (D.files before) (D.files after))
+    c.table_name.ensures
+    (stay_put c.table_name.result (Some c.args.bytes.now) (D.files before) (D.files after)
+    c.publish.result c.publish.ensures.puts c.publish.ensures.maybe)

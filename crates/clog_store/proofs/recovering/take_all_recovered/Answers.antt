@@ -15,6 +15,7 @@ use Rattle.std.proofs.Common.{
   arith,
 }
 use Rattle.std.proofs.lemmas.List.{drop_more, drop_all, take_all, take_more}
+use Rattle.std.proofs.lemmas.List.Elements.{Contains-get_or}
 use Rattle.clog_disk.proofs.Moments.{started, goes_on_by, later_still}
 use Rattle.clog_disk.proofs.Telling.{same_told_self, same_told_then}
 use Rattle.clog_crash.specs.Flush.{IsSameFolder}
@@ -29,6 +30,7 @@ use Rattle.clog_store.proofs.Recovered.{
   is_there,
   others_there,
 }
+use Rattle.clog_store.proofs.Stays.{stay_more, stay_yet}
 use Rattle.clog_store.proofs.recovering.take_all_recovered.Goals as goal
 
 pub loop-segment-init : goal.loop-segment-init
@@ -43,6 +45,7 @@ loop-segment-init g c =
         lasted_then = λ t le. (λ has. has, λ has. has);
       };
       faults = refl;
+      others = stay_yet c.args.segments.now (D.files old);
       there = c.requires.there;
       removed = removed_none (D.changes old);
       files = λ first may. may;
@@ -86,6 +89,9 @@ loop-segment-preserved g c =
           c.take_recovered.ensures.later;
       faults = c.in_ok-take_recovered.ensures.cause.quiet (λ e. cc)
           ∙ c.loop-segment.invariant.faults;
+      others = stay_more xs (D.files old) (D.files before) (D.files after) (get_or xs i 0)
+          (Contains-get_or xs i 0 c.loop-segment-test.true) c.loop-segment.invariant.others
+          c.take_recovered.ensures.others;
       there = others_there (D.files before) (D.files after) (get_or xs i 0) (drop (i + 1) xs)
           (subst (λ (l : List ℕ). IfSome (D.files before) (λ f. AreThere f l)) split
           c.loop-segment.invariant.there) c.in_ok-take_recovered.ensures.puts;
@@ -167,3 +173,13 @@ returns-clause-files g c first may =
     same_of first (D.files c.loop-segment.disk)
     (drop c.loop-segment.segment-index c.args.segments.now)
     (c.loop-segment.invariant.files first may)
+
+pub returns-in_err-take_recovered-clause-others : goal.returns-in_err-take_recovered-clause-others
+returns-in_err-take_recovered-clause-others g c =
+    let D = g.D.Disk in
+    let i = c.loop-segment.segment-index in
+    let xs = c.args.segments.now in
+    stay_more xs (D.files c.args.disk.now) (D.files c.loop-segment.disk)
+    (D.files c.take_recovered.new.disk) (get_or xs i 0)
+    (Contains-get_or xs i 0 c.loop-segment-test.true) c.loop-segment.invariant.others
+    c.take_recovered.ensures.others

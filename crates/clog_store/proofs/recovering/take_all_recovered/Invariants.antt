@@ -2,6 +2,7 @@ use Rattle.std.proofs.Common.{◌≡◌, IfSome, Option, drop, take}
 use Rattle.clog_disk.specs.Files.{Files, SameTold}
 use Rattle.clog_disk.specs.Images.{IsLater, LeavesOnly}
 use Rattle.clog_crash.specs.Flush.{IsSameFolder}
+use Rattle.clog_store.specs.Beside.{StayButSegments}
 use Rattle.clog_store.specs.Coming.{IsRecovering, Recovers, AreGone, AreThere, HaveRemoved}
 use Rattle.clog_store.proofs.recovering.take_all_recovered.Given as goal
 
@@ -11,6 +12,7 @@ invariant-loop-segment g l = record {
   told : SameTold (g.D.Disk.files l.fn.disk) (g.D.Disk.files l.disk);
   later : IsLater g.D.Disk.moment g.D.Disk.read_at g.D.Disk.lasted_at l.fn.disk l.disk;
   faults : g.D.Disk.faults l.disk ≡ g.D.Disk.faults l.fn.disk;
+  others : StayButSegments l.segments (g.D.Disk.files l.fn.disk) (g.D.Disk.files l.disk);
   there : IfSome (g.D.Disk.files l.disk) (λ f. AreThere f (drop l.segment-index l.segments));
   removed : HaveRemoved (take l.segment-index l.segments) (g.D.Disk.changes l.fn.disk)
       (g.D.Disk.changes l.disk);

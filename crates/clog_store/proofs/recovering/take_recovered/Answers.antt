@@ -1,5 +1,6 @@
-use Rattle.std.proofs.Common.{◌∷◌}
+use Rattle.std.proofs.Common.{ℕ, List, ◌∷◌, None, subst}
 use Rattle.clog_crash.specs.Flush.{IsSameFolder}
+use Rattle.clog_store.specs.Beside.{StayButOne}
 use Rattle.clog_store.proofs.Recovered.{
   here_show,
   segment_shows,
@@ -7,6 +8,7 @@ use Rattle.clog_store.proofs.Recovered.{
   segment_stands,
 }
 use Rattle.clog_store.proofs.Outcomes.{ok_both, one_call}
+use Rattle.clog_store.proofs.Stays.{stay_put}
 use Rattle.clog_store.proofs.recovering.take_recovered.Goals as goal
 
 pub returns-clause-goes : goal.returns-clause-goes
@@ -36,3 +38,13 @@ returns-clause-files g c first others may =
     segment_stands first _ c.remove.result c.args.segment others c.segment_name.ensures
     (D.files c.args.disk.now) (D.files c.remove.new.self) c.remove.ensures.puts
     c.remove.ensures.maybe may
+
+pub returns-clause-others : goal.returns-clause-others
+returns-clause-others g c =
+    let D = g.D.Disk in
+    let before = c.args.disk.now in
+    let after = c.remove.new.self in
+    subst (λ (name : List ℕ). StayButOne name (D.files before) (D.files after))
+    c.segment_name.ensures
+    (stay_put c.segment_name.result None (D.files before) (D.files after) c.remove.result
+    c.remove.ensures.puts c.remove.ensures.maybe)

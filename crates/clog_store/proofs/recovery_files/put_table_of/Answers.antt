@@ -9,22 +9,25 @@ use Rattle.clog_table.specs.Format.{file_of}
 use Rattle.clog_table.specs.Limits.{IsWithinLimits}
 use Rattle.clog_crash.specs.Flush.{IsSameFolder}
 use Rattle.clog_store.specs.Live.{start}
-use Rattle.clog_store.proofs.Changed.{put_none, put_one}
 use Rattle.clog_store.proofs.Filed.{
   filed_told,
   is_put_now,
   may_come_here,
   may_come_to,
+  named_now,
   none_filed_now,
   none_of,
   none_settled_now,
   put_filed,
+  refused_filed,
   settled_show,
   settled_with,
   some_of,
   spelled_of,
+  still_by,
 }
 use Rattle.clog_store.proofs.Live.{from_start, within_limits}
+use Rattle.clog_store.proofs.PutTables.{none_from, one_from}
 use Rattle.clog_store.proofs.recovery_files.put_table_of.Goals as goal
 
 pub encode_parts-requires : goal.encode_parts-requires
@@ -102,8 +105,11 @@ returns-in-Ok-clause-puts g c first ready filed =
     c.len.ensures.len (λ e. omega (arith, c.if-len-eq0.false, e)) in
     let spelled = spelled_of table cells c.in_ok-part.part c.args.top c.in_ok-bytes.bytes.items
     c.deref.result.now c.in_ok-part.ensures c.deref.ensures.value c.in_ok-bytes.ensures in
-    put_one first (D.changes before) (D.changes after)
+    one_from first cells table c.next_sequence.result (D.changes before) (D.changes after)
     (table_name_of table.0 c.next_sequence.result) c.deref.result.now
+    (named_now first c.args.names.now cells c.args.top ready table some c.next_sequence.result
+    c.deref.result.now spelled c.next_sequence.ensures.next
+    (c.next_sequence.ensures.fits c.requires.few) (D.files before) filed)
     (is_put_now first c.args.names.now cells c.args.top ready table some c.next_sequence.result
     c.deref.result.now spelled c.next_sequence.ensures.next
     (c.next_sequence.ensures.fits c.requires.few)
@@ -150,9 +156,7 @@ returns-in-Ok-clause-any_moment g c first ready settled =
     (c.next_sequence.ensures.fits c.requires.few) (D.files before) (D.leaves before) settled)
 
 pub returns-clause-puts : goal.returns-clause-puts
-returns-clause-puts g c first ready filed =
-    put_none first (g.D.Disk.changes c.args.disk.now) (g.D.Disk.changes c.put_recovered.new.disk)
-    c.in-Err.ensures.adds
+returns-clause-puts g c first ready filed = c.in-Err.ensures.adds
 
 pub returns-clause-files : goal.returns-clause-files
 returns-clause-files g c first ready filed =
@@ -166,10 +170,14 @@ returns-clause-files g c first ready filed =
     let spelled = spelled_of table cells c.in_ok-part.part c.args.top c.in_ok-bytes.bytes.items
     c.deref.result.now c.in_ok-part.ensures c.deref.ensures.value c.in_ok-bytes.ensures in
     let file = file_of table start c.args.top (part_on table cells) in
-    c.put_recovered.ensures.files first file refl
+    refused_filed first c.args.names.now cells c.args.top ready table some
+    c.next_sequence.result c.deref.result.now spelled c.next_sequence.ensures.next
+    (c.next_sequence.ensures.fits c.requires.few) (D.files before) (D.files after) filed
+    c.put_recovered.ensures.others
+    (c.put_recovered.ensures.files first file refl
     (may_come_to first c.args.names.now cells c.args.top ready table some
     c.next_sequence.result c.deref.result.now spelled c.next_sequence.ensures.next
-    (c.next_sequence.ensures.fits c.requires.few) (D.files before) filed)
+    (c.next_sequence.ensures.fits c.requires.few) (D.files before) filed))
 
 pub returns-clause-any_moment : goal.returns-clause-any_moment
 returns-clause-any_moment g c first ready settled =
@@ -190,3 +198,19 @@ returns-clause-any_moment g c first ready settled =
 
 pub put_recovered-requires-clause-fits : goal.put_recovered-requires-clause-fits
 put_recovered-requires-clause-fits g c = c.next_sequence.ensures.fits c.requires.few
+
+pub returns-then-len-eq0-clause-puts : goal.returns-then-len-eq0-clause-puts
+returns-then-len-eq0-clause-puts g c first ready filed =
+    none_from first c.args.cells.now c.args.table (g.D.Disk.changes c.args.disk.now)
+    (none_of c.args.table c.args.cells.now c.in_ok-part.part c.len.result c.in_ok-part.ensures
+    c.len.ensures.len (omega (arith, c.if-len-eq0.true)))
+
+pub returns-in_err-part-clause-files : goal.returns-in_err-part-clause-files
+returns-in_err-part-clause-files g c first ready filed =
+    still_by first c.args.cells.now c.args.table.0 (g.D.Disk.files c.args.disk.now)
+    c.from_residual.result c.from_residual.ensures.0 filed
+
+pub returns-in_err-bytes-clause-files : goal.returns-in_err-bytes-clause-files
+returns-in_err-bytes-clause-files g c first ready filed =
+    still_by first c.args.cells.now c.args.table.0 (g.D.Disk.files c.args.disk.now)
+    c.from_residual-in_err-bytes.result c.from_residual-in_err-bytes.ensures.0 filed

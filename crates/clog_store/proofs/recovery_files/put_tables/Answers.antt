@@ -2,8 +2,8 @@ use Rattle.std.proofs.Common.{refl, ◌∙◌, arith}
 use Rattle.clog_disk.proofs.Moments.{started, goes_on_by, later_still}
 use Rattle.clog_disk.proofs.Telling.{same_told_self, same_told_then}
 use Rattle.clog_crash.specs.Flush.{IsSameFolder}
-use Rattle.clog_store.proofs.Changed.{put_none, put_then}
 use Rattle.clog_store.proofs.Filed.{cause_from, settled_show}
+use Rattle.clog_store.proofs.PutTables.{has_put_on, more_from, none_before}
 use Rattle.clog_store.proofs.recovery_files.put_tables.Goals as goal
 
 pub loop-number-init : goal.loop-number-init
@@ -18,7 +18,7 @@ loop-number-init g c =
         lasted_then = λ t le. (λ has. has, λ has. has);
       };
       faults = refl;
-      puts = λ first ready filed. put_none first (D.changes old) (D.changes old) refl;
+      puts = λ first ready filed. none_before first c.args.cells.now (D.changes old);
       files = λ first ready filed. filed;
       settled = λ first ready settled. settled;
       only = λ first ready settled. started D.moment D.since old (IsSameFolder first)
@@ -40,9 +40,9 @@ loop-number-preserved g c =
           c.put_table_of.ensures.later;
       faults = c.in-Ok.ensures.cause ∙ i.faults;
       puts = λ first ready filed.
-          put_then first (D.changes old) (D.changes before) (D.changes after)
-          (i.puts first ready filed)
-          (c.put_table_of.ensures.puts first ready (i.files first ready filed));
+          more_from first c.args.cells.now c.loop-number.number (D.changes old)
+          (D.changes before) (D.changes after) (i.puts first ready filed)
+          (c.in-Ok.ensures.puts first ready (i.files first ready filed));
       files = λ first ready filed. c.in-Ok.ensures.files first ready (i.files first ready filed);
       settled = λ first ready settled. c.in-Ok.ensures.settles first ready
           (i.settled first ready settled);
@@ -78,9 +78,10 @@ pub returns-in-Err-clause-puts : goal.returns-in-Err-clause-puts
 returns-in-Err-clause-puts g c first ready filed =
     let D = g.D.Disk in
     let i = c.loop-number.invariant in
-    put_then first (D.changes c.args.disk.now) (D.changes c.loop-number.disk)
-    (D.changes c.put_table_of.new.disk) (i.puts first ready filed)
-    (c.put_table_of.ensures.puts first ready (i.files first ready filed))
+    has_put_on first c.args.cells.now 0 c.loop-number.number (D.changes c.args.disk.now)
+    (D.changes c.loop-number.disk) (D.changes c.put_table_of.new.disk)
+    (i.puts first ready filed)
+    (c.in-Err.ensures.puts first ready (i.files first ready filed))
 
 pub returns-in-Err-clause-files : goal.returns-in-Err-clause-files
 returns-in-Err-clause-files g c first ready filed =

@@ -2,7 +2,7 @@ use Rattle.std.proofs.Common.{◌≡◌}
 use Rattle.clog_disk.specs.Files.{Files, SameTold}
 use Rattle.clog_disk.specs.Images.{IsLater, LeavesOnly}
 use Rattle.clog_crash.specs.Flush.{IsSameFolder}
-use Rattle.clog_store.specs.Filing.{FiledNow, HasPut, IsReady, SettledTo}
+use Rattle.clog_store.specs.Filing.{FiledNow, HasPutFrom, IsReady, SettledTo}
 use Rattle.clog_store.proofs.recovery_files.put_tables.Given as goal
 
 -- the tables seen have their files
@@ -13,7 +13,8 @@ invariant-loop-number g l = record {
   faults : g.D.Disk.faults l.disk ≡ g.D.Disk.faults l.fn.disk;
   puts : (first : Files) → IsReady first l.names l.cells l.top
       → FiledNow first l.cells 0 (g.D.Disk.files l.fn.disk)
-      → HasPut first (g.D.Disk.changes l.fn.disk) (g.D.Disk.changes l.disk);
+      → HasPutFrom first l.cells 0 l.number (g.D.Disk.changes l.fn.disk)
+      (g.D.Disk.changes l.disk);
   files : (first : Files) → IsReady first l.names l.cells l.top
       → FiledNow first l.cells 0 (g.D.Disk.files l.fn.disk)
       → FiledNow first l.cells l.number (g.D.Disk.files l.disk);

@@ -15,3 +15,17 @@ invariant_of-self g c =
       written = i.written;
     } in
     noted_passed s c.publish.new.self c.publish.result c.publish.ensures.passes c.self.invariant
+
+pub returns-clause-noted : goal.returns-clause-noted
+returns-clause-noted g c =
+    let i = c.self.inside in
+    let s : NoteState g.row.D.Denot = record {
+      log = i.log;
+      base = i.base;
+      sizes = i.sizes;
+      synced = i.synced;
+      logged = i.logged.items;
+      kept = i.kept.items;
+      written = i.written;
+    } in
+    noted_passed s c.publish.new.self c.publish.result c.publish.ensures.passes c.self.invariant

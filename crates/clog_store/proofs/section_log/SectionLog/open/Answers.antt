@@ -1,4 +1,5 @@
 use Rattle.std.proofs.Common.{ℕ, sym, subst}
+use Rattle.clog_store.specs.Opened.{RecoversAll}
 use Rattle.clog_store.proofs.Anywhere.{rests_wherever}
 use Rattle.clog_store.proofs.Ends.{end_opened, none_opened}
 use Rattle.clog_store.proofs.OpenedWhole.{lasted_now, rests_told}
@@ -35,3 +36,9 @@ returns-in-Ok-clause-lives g c lasted =
     c.begin.ensures.lives
     (subst (λ (t : ℕ). D.lasted_at disk t) c.begin.ensures.opened
     (subst (λ d. D.lasted_at d c.begin.result.opened) c.begin.ensures.disk lasted))
+
+pub returns-in-Ok-clause-recovers : goal.returns-in-Ok-clause-recovers
+returns-in-Ok-clause-recovers g c first is =
+    let D = g.D.Disk in
+    subst (λ d. RecoversAll first (D.changes c.args.disk) (D.changes d)) (sym c.begin.ensures.disk)
+    (c.in-Ok.ensures.recovers first is)

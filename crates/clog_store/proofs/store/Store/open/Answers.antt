@@ -1,3 +1,6 @@
+use Rattle.std.proofs.Common.{sym, subst}
+use Rattle.clog_store.specs.Opened.{RecoversAll}
+use Rattle.clog_store.specs.StoreState.{StoreState}
 use Rattle.clog_store.proofs.StoreFolds.{opened_folder}
 use Rattle.clog_store.proofs.store.Store.open.Goals as goal
 
@@ -6,3 +9,10 @@ begin-requires-clause-folder g c =
     let D = g.D.Disk in
     opened_folder (D.files c.args.disk) (D.files c.in-Ok.log.disk) c.args.moment c.in-Ok.log.id
     c.args.archives c.in-Ok.ensures.told c.in-Ok.ensures.opens
+
+pub returns-in-Ok-clause-recovers : goal.returns-in-Ok-clause-recovers
+returns-in-Ok-clause-recovers g c first is =
+    let D = g.D.Disk in
+    subst (λ (x : StoreState g.row.D.Denot).
+    RecoversAll first (D.changes c.args.disk) (D.changes x.notes.log.disk)) (sym c.begin.ensures)
+    (c.in-Ok.ensures.recovers first is)
