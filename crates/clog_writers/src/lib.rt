@@ -10,6 +10,8 @@ mod fault;
 mod logging;
 mod placing;
 mod planning;
+#[cfg(test)]
+mod tests;
 mod worker;
 mod writing;
 
