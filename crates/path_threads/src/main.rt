@@ -29,6 +29,7 @@ use worker::{Answered, Plan, prepare_lines};
 
 /// The lines of each writer of a run in memory, in periodic mode and in batch mode.
 const PERIODIC_LINES: u32 = 10000;
+
 const BATCH_LINES: u32 = 1000;
 
 // Prints what a run in memory came to.

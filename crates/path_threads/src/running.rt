@@ -127,7 +127,14 @@ pub fn check_run<R: Threads + Sync, D: Disk + Drop>(
     is_batch: bool,
 ) -> Result<u64> {
     let base = u32::try_from(store.base())?;
-    check(&mut ran.lent.rows, &mut ran.receipts, base, writers, lines, is_batch)?;
+    check(
+        &mut ran.lent.rows,
+        &mut ran.receipts,
+        base,
+        writers,
+        lines,
+        is_batch,
+    )?;
     let mut disk = store.into_disk();
     read_again(rt, alloc, &mut disk, &mut ran.receipts)
 }
