@@ -1,5 +1,5 @@
-//! Writers over a disk in memory. The lines are equal, so that the bytes are the same whoever claims
-//! first; they were worked out by hand and by Python's struct and zlib.
+//! Writers over a disk in memory. The lines are equal, so that the bytes are the same whoever
+//! claims first; they were worked out by hand and by Python's struct and zlib.
 ghost use Rattle.std.specs.Prelude.{IfOk};
 ghost use Rattle.std.specs.List.{AllByRecursion};
 ghost use Rattle.clog_mutation.specs.Limits.{IsWithinLimits};

@@ -57,7 +57,8 @@ impl<K> Recorder<K> {
     }
 }
 
-// Adds a row for each entry up to a key that a call makes lasting, or as many as there is memory for.
+// Adds a row for each entry up to a key that a call makes lasting, or as many as there is memory
+// for.
 fn add_rows(rows: &mut Vec<Row>, pending: &[EntryNote], upto: Key, sync: u64) {
     for note in pending {
         let row = Row {

@@ -54,8 +54,8 @@ fn check_ranges(rows: &mut Vec<Row>) -> Result<()> {
     Ok(())
 }
 
-// The lines of a writer, in the order of the log, are its own, and rise. In batch mode each was made
-// lasting by a sync of its own.
+// The lines of a writer, in the order of the log, are its own, and rise. In batch mode each was
+// made lasting by a sync of its own.
 fn check_writer(rows: &[Row], writer: u8, writers: u8, is_batch: bool) -> Result<()> {
     let mut last = 0;
     let mut sync = 0;
