@@ -28,9 +28,9 @@ use sync_core::SyncCore;
 use worker::{Answered, Plan, prepare_lines};
 
 /// The lines of each writer of a run in memory, in periodic mode and in batch mode.
-const PERIODIC_LINES: u32 = 10000;
+const PERIODIC_LINES: u32 = 1000;
 
-const BATCH_LINES: u32 = 1000;
+const BATCH_LINES: u32 = 200;
 
 // Prints what a run in memory came to.
 fn print_run<R: Print>(rt: &R, name: &str, writers: u8, ran: &Ran) -> Result<()> {
@@ -51,7 +51,7 @@ fn count_runs<R: Threads + Wait + Clock + Print + Sync>(rt: &R, alloc: Global) -
     // In batch mode nothing is synced but by the commits, so there may be as many syncs as commits,
     // and a path has groups for 65,535 of them.
     for (name, mode, lines, sync_after) in [
-        ("periodic", SyncCore::periodic(10), PERIODIC_LINES, 160),
+        ("periodic", SyncCore::periodic(10), PERIODIC_LINES, 16),
         ("batch", SyncCore::batch(), BATCH_LINES, 0),
     ] {
         let plan = Plan {
