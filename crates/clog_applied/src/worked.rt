@@ -1,10 +1,11 @@
 //! Worked rows: what runs over an empty folder do keeps what a run promises.
-ghost use Rattle.std.specs.Prelude.{◌++◌, ◌∷◌, ℕ, List, [], false, true};
+ghost use Rattle.std.specs.Prelude.{◌++◌, ◌∷◌, ℕ, Bool, List, [], false, true};
 ghost use Rattle.sync_core.specs.declared.SyncCore.TheVariants.{Batch, Periodic};
 ghost use Rattle.clog_disk.specs.Files.{Files, no_files};
+ghost use Rattle.clog_table.specs.declared.table_file.TableFile.{TableFile};
 ghost use Rattle.clog_applied.specs.Applied.{IsAppliedRun};
 ghost use Rattle.clog_applied.specs.Closed.{IsAnyFile};
-ghost use Rattle.clog_applied.specs.Early.{AreInOrder};
+ghost use Rattle.clog_applied.specs.Early.{AreInOrder, AreRunChanges};
 ghost use Rattle.clog_applied.specs.Filed.{FollowFrom, first_of};
 ghost use Rattle.clog_applied.specs.History.{HoldsShares};
 ghost use Rattle.clog_applied.specs.Log.{AreSyncedApart};
@@ -26,6 +27,7 @@ ghost use Rattle.clog_applied.specs.Worked.{
   report_of_one,
   report_of_two,
   second_bytes,
+  strays,
   the_end,
   twice_logged,
   two_lines,
@@ -54,8 +56,9 @@ pub fn a_drained_line_is_in_a_table_file()
 
 /// Worked lists that no run leaves. Whatever else is left and printed: a segment that goes before the
 /// table file comes that holds it, a table file that comes before the log behind it, and a segment
-/// that goes without its archive name where archives are kept. Besides, a line that is logged twice, or not at all, two entries of one writer in one section in batch mode,
-/// and table files with a gap between them.
+/// that goes without its archive name where archives are kept. Besides, a foreign name that comes
+/// and goes again, a line that is logged twice, or not at all, two entries of one writer in one
+/// section in batch mode, and table files with a gap between them.
 pub fn wrong_runs_are_refused()
     ensures gone_early { (after : Files) (report : List ℕ) → ¬ IsAppliedRun
         (asked (Periodic 10000) true) no_files after gone_early one_line report }
@@ -63,6 +66,8 @@ pub fn wrong_runs_are_refused()
         (asked (Periodic 10000) true) no_files after come_early one_line report }
     ensures unarchived { (after : Files) (report : List ℕ) → ¬ IsAppliedRun asked_to_archive
         no_files after drained_changes one_line report }
+    ensures stray { (archive : Bool) (ids : List ℕ) (files : List TableFile)
+        → ¬ AreRunChanges archive ids files strays }
     ensures twice { ¬ HoldsShares 1 one_line twice_logged }
     ensures not_logged { ¬ HoldsShares 1 one_line [] }
     ensures in_one_section { ¬ AreSyncedApart both_changes both_logged }

@@ -6,6 +6,8 @@ pub mod Logs
 pub mod Openings
 pub mod Segments
 mod StoreLeft
+pub mod StoreNames
+pub mod StoreOnly
 pub mod StoreOrdered
 mod StoreTables
 pub mod Tables

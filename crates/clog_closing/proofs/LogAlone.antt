@@ -29,7 +29,13 @@ use Rattle.std.proofs.lemmas.List.Elements.{Contains-append_right}
 use Rattle.std.proofs.lemmas.Option.{none-some}
 use Rattle.clog_spec.specs.Names.{IsArchiveName, IsSegmentName, archive_name_of, segment_name_of}
 use Rattle.clog_base.specs.declared.cell.Table.{Table}
-use Rattle.clog_base.proofs.Members.{here, in_map, nothing_there}
+use Rattle.clog_base.proofs.Members.{
+  first_or_further,
+  further,
+  here,
+  in_map,
+  nothing_there,
+}
 use Rattle.clog_base.proofs.NameLaws.{one_segment, segment_is_no_other}
 use Rattle.clog_disk.specs.declared.change.Change.{Change}
 use Rattle.clog_disk.specs.declared.change.Change.TheVariants as change
@@ -60,9 +66,9 @@ use Rattle.clog_store.specs.StoreFolder.{
   no_deeds,
 }
 use Rattle.clog_store.proofs.FolderReads.{absent_or_held, one_or_none}
-use Rattle.clog_applied.specs.Appended.{appended, entries_in}
+use Rattle.clog_applied.specs.Appended.{IsSegmentOf, appended, entries_in}
 use Rattle.clog_applied.specs.Closed.{IsAnyFile, IsStoreLeft, StaysAs}
-use Rattle.clog_applied.specs.Early.{AreInOrder}
+use Rattle.clog_applied.specs.Early.{AreInOrder, AreRunChanges, IsRunChange}
 use Rattle.clog_applied.specs.Filed.{BringsNoOther, KeepsOthers, StandsBefore}
 use Rattle.clog_applied.specs.History.{LoggedLine, entry_of}
 use Rattle.clog_applied.proofs.Merged.{of_entry}
@@ -72,6 +78,37 @@ use Rattle.clog_closing.specs.Logs.{AreStoredInOrder, written_ids}
 use Rattle.clog_closing.proofs.Entries.{above_base as from_base, an_entry as entry_at}
 use Rattle.clog_closing.proofs.Logs.{are_files, is_appended, of_log, written}
 use Rattle.clog_closing.proofs.Tables.{note_of_line}
+
+-- an append is among the appends
+pub in_appends : (cs : List Change) (name bytes : List ℕ) → Contains cs (change.Append name bytes)
+    → Contains (appends_of cs) (name, bytes)
+in_appends [] name bytes h = absurd (nothing_there (change.Append name bytes) h)
+in_appends (change.Append n b ∷ cs) name bytes h =
+    elim (first_or_further (change.Append n b) cs (change.Append name bytes) h) [
+      | inl same ↦
+          let names : n ≡ name = cc in
+          let all : b ≡ bytes = cc in
+          subst (λ (x : List ℕ). Contains ((n, b) ∷ appends_of cs) (x, bytes)) names
+          (subst (λ (x : List ℕ). Contains ((n, b) ∷ appends_of cs) (n, x)) all
+          (here (n, b) (appends_of cs)))
+      | inr more ↦
+          further (n, b) (appends_of cs) (name, bytes) (in_appends cs name bytes more)
+    ]
+in_appends (change.Publish n b ∷ cs) name bytes h =
+    elim (first_or_further (change.Publish n b) cs (change.Append name bytes) h) [
+      | inl same ↦ absurd cc
+      | inr more ↦ in_appends cs name bytes more
+    ]
+in_appends (change.Link old new ∷ cs) name bytes h =
+    elim (first_or_further (change.Link old new) cs (change.Append name bytes) h) [
+      | inl same ↦ absurd cc
+      | inr more ↦ in_appends cs name bytes more
+    ]
+in_appends (change.Remove n ∷ cs) name bytes h =
+    elim (first_or_further (change.Remove n) cs (change.Append name bytes) h) [
+      | inl same ↦ absurd cc
+      | inr more ↦ in_appends cs name bytes more
+    ]
 
 -- a change that is an append puts and removes nothing
 module _ (changes : List Change) (alone : AreAppends changes) where
@@ -96,7 +133,7 @@ module _ (changes : List Change) (alone : AreAppends changes) where
   }
 
 -- an entry of a line touches a table
-touches_one : (w : LoggedLine) → IsStored w.mutation
+pub touches_one : (w : LoggedLine) → IsStored w.mutation
     → (table : Table) × Touches (entry_of w) table
 touches_one w stored = by w.mutation.updates refl
   where
@@ -267,6 +304,21 @@ module _ (archives : Bool) (opened after : Files) (later : List Change) (log : S
 
   -- ---- all of it
 
+  only_appends : (archive : Bool) → AreRunChanges archive ids [] later
+  only_appends archive c among =
+      by c (alone c among) (λ name bytes is.
+      let o = grows.only (name, bytes)
+      (in_appends later name bytes (subst (λ (x : Change). Contains later x) is among)) in
+      record { id = o.0.id; listed = written ws o.0 o.1 o.2; named = o.3 })
+    where
+      by : (c : Change) → IsAppend c
+          → ((name bytes : List ℕ) → c ≡ change.Append name bytes → IsSegmentOf ids name)
+          → IsRunChange archive ids [] c
+      by (change.Append name bytes) is of = of name bytes refl
+      by (change.Publish name bytes) is of = absurd is
+      by (change.Link old new) is of = absurd is
+      by (change.Remove name) is of = absurd is
+
   tables_stay : (place : Place) (name : List ℕ) → IsNameOf place name
       → finmap.get after name ≡ finmap.get opened name
   tables_stay place name named =
@@ -293,6 +345,7 @@ module _ (archives : Bool) (opened after : Files) (later : List Change) (log : S
         places are;
     some = an_entry;
     order = in_order later alone ids history [] archive;
+    only = only_appends archive;
     dropped_exactly = λ id listed. (
       λ gone. absurd (nothing_there id gone),
       λ d. absurd (not_droppable log.base id log.logged history are d),

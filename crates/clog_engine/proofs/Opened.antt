@@ -1,6 +1,28 @@
 -- What a run leaves once its folder was opened, whether its lines were written or not.
-use Rattle.std.proofs.Common.{◌≡◌, ℕ, List, ◌++◌, length, Option, Some, None, Result, Ok as ok, Err as err, true, inr, refl, sym, ap, subst, ◌∙◌, append_assoc}
+use Rattle.std.proofs.Common.{
+  ◌≡◌,
+  ℕ,
+  List,
+  ◌++◌,
+  length,
+  map,
+  Option,
+  Some,
+  None,
+  Result,
+  Ok as ok,
+  Err as err,
+  true,
+  inr,
+  refl,
+  sym,
+  ap,
+  subst,
+  ◌∙◌,
+  append_assoc,
+}
 use Rattle.std.specs.Prelude.{IfSome, OnOk, ⊤}
+use Rattle.std.specs.FinMap as finmap
 use Rattle.clog_base.specs.declared.cell.Cell.{Cell}
 use Rattle.clog_base.specs.declared.cell.CellKey.{CellKey}
 use Rattle.clog_io.specs.declared.clock.Clock.{Ghosts as ClockTells}
@@ -15,12 +37,13 @@ use Rattle.clog_crash.specs.Log.{Write}
 use Rattle.clog_crash.specs.Restore.{IsRestored}
 use Rattle.clog_folder.specs.Passing.{IsUntouched as IsDiskUntouched}
 use Rattle.clog_applied.specs.Asked.{capacity_of}
-use Rattle.clog_applied.specs.Filed.{KeepsOthers}
+use Rattle.clog_applied.specs.Filed.{BringsNoOther, IsNewName, KeepsOthers}
 use Rattle.path_core.specs.declared.keeper.KeeperFault.{KeeperFault}
 use Rattle.path_core.specs.declared.keeper.KeeperFault.TheVariants.{OutOfMemory, Stopped}
 use Rattle.path_core.specs.declared.note.EntryNote.{EntryNote}
 use Rattle.clog_store.specs.Opened.{
   IsOpened,
+  IsRecovered,
   KeepsFolder,
   OpensAs,
   RecoversAll,
@@ -28,10 +51,12 @@ use Rattle.clog_store.specs.Opened.{
 }
 use Rattle.clog_store.specs.StoreFailed.{AllStay}
 use Rattle.clog_store.proofs.OpenedWhole.{keeps_same, lasts_on}
+use Rattle.clog_closing.specs.Logs.{id_of}
 use Rattle.clog_closing.proofs.Openings.{recovery_changes}
 use Rattle.clog_base.specs.declared.sizes.Sizes.{Sizes}
 use Rattle.clog_lines.specs.Written.{
   AreLaidFor,
+  BringsOnly,
   HasBrought,
   HasWriteCause,
   LeavesLines,
@@ -96,6 +121,18 @@ pub told_then : (a b c : Option Files) → SameTold a b → SameTold b c → Sam
 told_then None b c first next = subst (λ (o : Option Files). SameTold o c) first next
 told_then (Some x) None c first next = absurd first
 told_then (Some x) (Some y) c first next = next
+
+-- no other name has come over an opening, and then
+brings_over : (base : ℕ) (first then after : Files) (ids : List ℕ) → IsRecovered first base then
+    → BringsNoOther ids then after → BringsNoOther ids first after
+brings_over base first then after ids recovered brings name absent held =
+    by (finmap.get then name) refl
+  where
+    by : (o : Option (List ℕ)) → finmap.get then name ≡ o → IsNewName ids name
+    by None is = brings name is held
+    by (Some bytes) is =
+        let put = recovered.came name bytes is absent in
+        inr (inr (put.file.table.0, put.sequence, put.named))
 
 -- ---- how a run ends whose lines were to be written
 
@@ -223,6 +260,18 @@ module _ {D C : Type 0} (disk : DiskTells D) (clock : ClockTells C)
       → LeavesOnly disk.moment disk.since looked opened (KeepsFolder first))
       (recovers : (first : Files) → disk.files looked ≡ Some first
       → RecoversAll first (disk.changes looked) (disk.changes opened)) where
+    -- no other name has come than those of a log, over the opening too
+    no_stray : (now : D) (first : Files) → disk.files looked ≡ Some first → (log : List Write)
+        → BringsOnly disk.files opened now log → SameTold (disk.files opened) (disk.files now)
+        → Told (disk.files now) (BringsNoOther (map id_of log) first)
+    no_stray now first is log brings told =
+        let then = opened_as (disk.files looked) (disk.files opened) moment base first is opens in
+        let after = told_as (disk.files now) (λ f. ⊤)
+        (subst (λ (o : Option Files). SameTold o (disk.files now)) then.1 told) in
+        subst (λ (o : Option Files). Told o (BringsNoOther (map id_of log) first)) (sym after.1)
+        (brings_over base first then.0 after.0 (map id_of log) then.2.recovered
+        (brings then.0 after.0 then.1 after.1))
+
     -- what was appended behind the recovery
     written : (now : D) (options : ApplyOptions) (ms : List Mutation) (first : Files)
         → disk.files looked ≡ Some first → (log : List Write)
@@ -240,11 +289,17 @@ module _ {D C : Type 0} (disk : DiskTells D) (clock : ClockTells C)
 
     pub wrote : (now : D) (options : ApplyOptions) (ms : List Mutation) → (log : List Write)
         × HasBrought disk.changes opened now options.archive options.drain ms log
+        × BringsOnly disk.files opened now log → SameTold (disk.files opened) (disk.files now)
         → Wrote (outside_at now) options ms
-    wrote now options ms has = if_told (disk.files start) (disk.files looked)
+    wrote now options ms has told = if_told (disk.files start) (disk.files looked)
         (λ (first : Files).
-        (log : List Write) × HasWrittenLog (outside_at now) options first ms log)
-        still.same.files (λ first is. (has.0, written now options ms first is has.0 has.1))
+        (log : List Write) × HasWrittenLog (outside_at now) options first ms log
+        × Told (disk.files now) (BringsNoOther (map id_of log) first))
+        still.same.files (λ first is. (
+          has.0,
+          written now options ms first is has.0 has.1,
+          no_stray now first is has.0 has.2 told,
+        ))
 
     -- what is no segment stands as it was
     pub others : (now : D) → SameTold (disk.files opened) (disk.files now)
@@ -269,6 +324,7 @@ module _ {D C : Type 0} (disk : DiskTells D) (clock : ClockTells C)
         → LeavesLines disk.changes disk.moment disk.since disk.leaves opened now (bytes_at then)
         options.archive options.drain ms least)
         → LastsFirst (outside_at now) options ms least
+    unfolding written
     lasts_first now options ms least leaves = if_told (disk.files start) (disk.files looked)
         (λ (first : Files). LastsAll first (disk.leaves start)
         → LeavesFirst (outside_at now) options first ms least) still.same.files (λ first is lasts.
@@ -287,6 +343,9 @@ module _ {D C : Type 0} (disk : DiskTells D) (clock : ClockTells C)
               kept opening lines;
           now = λ image left chance.
               adds_lines first then.0 image ms least kept (lines.at_last image left chance);
+          at_drain = λ beyond image left chance.
+              adds_lines first then.0 image ms (length ms) kept
+              (lines.at_drain beyond image left chance);
         })
 
     -- and where all are written, the run's promises are kept

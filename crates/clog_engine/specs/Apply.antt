@@ -1,5 +1,26 @@
 -- What `apply` does to the disk and reports, and why it does not.
-use Rattle.std.specs.Prelude.{◌≡◌, ◌⊎◌, ℕ, ◌<◌, ◌≤◌, List, [], ◌∷◌, ◌++◌, length, take, false, Contains, Option, Some, IfSome, option_map, ⊤, Result}
+use Rattle.std.specs.Prelude.{
+  ◌≡◌,
+  ◌⊎◌,
+  ℕ,
+  ◌<◌,
+  ◌≤◌,
+  List,
+  [],
+  ◌∷◌,
+  ◌++◌,
+  length,
+  map,
+  take,
+  false,
+  Contains,
+  Option,
+  Some,
+  IfSome,
+  option_map,
+  ⊤,
+  Result,
+}
 use Rattle.std.specs.declared.result.Result.TheVariants as result
 use Rattle.std.specs.List.{flat_map}
 use Rattle.clog_base.specs.declared.cell.Cell.{Cell}
@@ -42,10 +63,17 @@ use Rattle.clog_store.specs.Opened.{
 use Rattle.clog_applied.specs.Applied.{IsAppliedRun}
 use Rattle.clog_applied.specs.Asked.{capacity_of}
 use Rattle.clog_applied.specs.Closed.{ClosedRun}
-use Rattle.clog_applied.specs.Filed.{KeepsOthers}
+use Rattle.clog_applied.specs.Filed.{BringsNoOther, KeepsOthers}
 use Rattle.clog_applied.specs.History.{LoggedLine}
 use Rattle.clog_applied.specs.Printed.{ReportIsPrinted}
-use Rattle.clog_lines.specs.Written.{AreLaidFor, AreMadeFor, IsWrittenBy, SaysFirst}
+use Rattle.clog_closing.specs.Logs.{id_of}
+use Rattle.clog_lines.specs.Written.{
+  AreLaidFor,
+  AreMadeFor,
+  GoesBeyond,
+  IsWrittenBy,
+  SaysFirst,
+}
 use Rattle.clog_engine.specs.declared.status.Status.{Status}
 use Rattle.clog_engine.specs.declared.status.Status.TheVariants.{
   BadLine,
@@ -99,14 +127,16 @@ pub record HasWrittenLog (o : Outside) (options : ApplyOptions) (before : Files)
   pub made_for : AreMadeFor options.archive options.drain mutations added
   pub brought : IsWrittenBy (appends_of added) log
 
--- Where the disk tells its files, that is all that was changed.
+-- Where the disk tells its files, that is all that was changed, and no other name has come than those
+-- of these segments, their archive names and table files.
 abbrev pub Wrote : Outside → ApplyOptions → List Mutation → Type 0
 Wrote o options mutations = IfSome o.files
-    (λ before. (log : List Write) × HasWrittenLog o options before mutations log)
+    (λ before. (log : List Write) × HasWrittenLog o options before mutations log
+    × Told o.files_now (BringsNoOther (map id_of log) before))
 
 -- A crash at any moment of the run leaves what restores so, and a crash now at least so many of the
 -- lines, where nothing passes by chance for what was written: the segments that were appended,
--- which say the first of the lines.
+-- which say the first of the lines. Where the changes go beyond appends, it leaves all of them.
 pub record LeavesFirst (o : Outside) (options : ApplyOptions) (before : Files)
     (mutations : List Mutation) (least : ℕ) : Type 0 where
   pub log : List Write
@@ -116,6 +146,8 @@ pub record LeavesFirst (o : Outside) (options : ApplyOptions) (before : Files)
       → AddsFirst before mutations 0 image
   pub now : (image : Files) → IsImage o.leaves_now image → NoChances log image
       → AddsFirst before mutations least image
+  pub at_drain : GoesBeyond wrote.added → (image : Files) → IsImage o.leaves_now image
+      → NoChances log image → AddsFirst before mutations (length mutations) image
 
 -- Where the disk tells its files, and all of them lasted before, a crash leaves that.
 abbrev pub LastsFirst : Outside → ApplyOptions → List Mutation → ℕ → Type 0

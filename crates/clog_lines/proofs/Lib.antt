@@ -1,3 +1,4 @@
+pub mod Begins
 pub mod Begun
 pub mod Brought
 pub mod Crashing

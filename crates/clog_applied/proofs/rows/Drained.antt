@@ -37,7 +37,7 @@ use Rattle.clog_spec.specs.Names.{archive_name_of, segment_name_of, IsTableName}
 use Rattle.clog_base.specs.declared.cell.Table.{Table}
 use Rattle.clog_base.specs.declared.position.Position.{Position}
 use Rattle.clog_base.specs.Positions.{IsUpTo}
-use Rattle.clog_base.proofs.Members.{further, here, only_one}
+use Rattle.clog_base.proofs.Members.{first_or_further, further, here, only_one}
 use Rattle.clog_base.proofs.NameLaws.{archive_is_no_table, one_table, segment_is_no_other}
 use Rattle.clog_cells.proofs.Merging.{of_itself, of_same}
 use Rattle.clog_disk.specs.declared.change.Change.{Change}
@@ -71,7 +71,7 @@ use Rattle.clog_crash.proofs.worked.Files.{
   one_in_order,
   stored,
 }
-use Rattle.clog_applied.specs.Appended.{IsAppended, appended, entries_in}
+use Rattle.clog_applied.specs.Appended.{IsAppended, IsSegmentOf, appended, entries_in}
 use Rattle.clog_applied.specs.Applied.{IsAppliedRun}
 use Rattle.clog_applied.specs.Closed.{
   IsAnyFile,
@@ -79,7 +79,7 @@ use Rattle.clog_applied.specs.Closed.{
   IsStoreLeft,
   StaysOrWent,
 }
-use Rattle.clog_applied.specs.Early.{AreInOrder, IsPublishedIn}
+use Rattle.clog_applied.specs.Early.{AreInOrder, AreRunChanges, IsPublishedIn, IsRunChange}
 use Rattle.clog_applied.specs.Filed.{
   FollowFrom,
   HoldsSome,
@@ -107,6 +107,7 @@ use Rattle.clog_applied.specs.Worked.{
   file_name,
   file_to,
   goes_in,
+  goes_out,
   line_at,
   log_name,
   one_line,
@@ -338,6 +339,21 @@ of_each P one none table = elim (cases_eq 0 table.0) [
 none_apart : AllPairs (StandsBefore with_file) []
 none_apart i j d low high = absurd (omega (arith, high))
 
+-- each change is one of the run
+its_changes : AreRunChanges false (1000 ∷ []) (f ∷ []) drained_changes
+its_changes c h = elim (first_or_further goes_in (comes f ∷ goes_out ∷ []) c h) [
+  | inl same ↦ subst (IsRunChange false (1000 ∷ []) (f ∷ [])) same its_segment
+  | inr more ↦ elim (first_or_further (comes f) (goes_out ∷ []) c more) [
+    | inl same ↦ subst (IsRunChange false (1000 ∷ []) (f ∷ [])) same
+        (f, here f [], record { sequence = 1; named = is_named_so; spelled = spelled })
+    | inr last ↦ subst (IsRunChange false (1000 ∷ []) (f ∷ [])) (only_one goes_out c last)
+        its_segment
+  ]
+]
+  where
+    its_segment : IsSegmentOf (1000 ∷ []) log_name
+    its_segment = record { id = 1000; listed = here 1000 []; named = refl }
+
 store_went : IsStoreLeft false no_files with_file drained_changes (1000 ∷ []) (1000 ∷ [])
     one_logged (f ∷ [])
 store_went = record {
@@ -347,6 +363,7 @@ store_went = record {
   some = all_of_one (λ (id : ℕ). (w : LoggedLine) × Contains one_logged w × (w.id ≡ id)) 1000
       (line_at 1 28, here (line_at 1 28) [], refl);
   order = in_order;
+  only = its_changes;
   dropped_exactly = all_of_one
       (λ (id : ℕ). Contains (1000 ∷ []) id ↔ IsDroppable (f ∷ []) id (entries_in id one_logged))
       1000 (λ listed. droppable, λ d. here 1000 []);

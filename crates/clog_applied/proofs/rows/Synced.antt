@@ -62,6 +62,7 @@ use Rattle.clog_applied.specs.History.{
   share_of,
   written_by,
 }
+use Rattle.clog_applied.specs.Early.{IsRunChange}
 use Rattle.clog_applied.specs.Log.{AreSyncedApart, HasMarkBetween}
 use Rattle.clog_applied.specs.Printed.{ReportIsPrinted, applied_line, receipt_line}
 use Rattle.clog_applied.specs.Worked.{
@@ -143,6 +144,13 @@ module _ (changes : List Change) (history : List LoggedLine) (bytes : List ℕ)
       (subst (λ (cs : List Change). Contains cs c) (sym is)
       (Contains-append_right front (c ∷ rest) c (here c rest)))
 
+  is_one : (c : Change) → IsAppendOf c → IsRunChange false (1000 ∷ []) [] c
+  is_one (change.Append name bytes) is =
+      record { id = 1000; listed = here 1000 []; named = is }
+  is_one (change.Publish name bytes) is = absurd is
+  is_one (change.Link old new) is = absurd is
+  is_one (change.Remove name) is = absurd is
+
   nowhere : (name : List ℕ) → (name ≡ log_name → ⊥)
       → finmap.get (with_log bytes) name ≡ None
   nowhere name apart =
@@ -184,6 +192,7 @@ module _ (changes : List Change) (history : List LoggedLine) (bytes : List ℕ)
       archived_whole = λ front rest id name h is.
           absurd (no_cut front rest (change.Link (segment_name_of 6 id) name) is);
     };
+    only = λ c h. is_one c (all c h);
     dropped_exactly = all_of_one
         (λ (id : ℕ). Contains [] id ↔ IsDroppable [] id (entries_in id history)) 1000 (
           λ none. absurd (nothing_there 1000 none),

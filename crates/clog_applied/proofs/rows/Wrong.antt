@@ -5,6 +5,7 @@ use Rattle.std.proofs.Common.{
   ◌<◌,
   ◌≤◌,
   ◌^◌,
+  Bool,
   inl,
   List,
   [],
@@ -22,6 +23,7 @@ use Rattle.sync_core.specs.declared.SyncCore.TheVariants.{Periodic}
 use Rattle.clog_spec.specs.Names.{segment_name_of}
 use Rattle.clog_base.specs.declared.position.Position.{Position}
 use Rattle.clog_base.proofs.Members.{further, here, in_map, only_one}
+use Rattle.clog_base.proofs.NameLaws.{archive_is_no_table}
 use Rattle.clog_disk.specs.declared.change.Change.{Change}
 use Rattle.clog_disk.specs.declared.change.Change.TheVariants as change
 use Rattle.clog_disk.specs.Files.{Files, no_files}
@@ -30,12 +32,14 @@ use Rattle.clog_mutation.specs.declared.mutation.Update.{Update}
 use Rattle.clog_mutation.specs.Stored.{IsStored}
 use Rattle.clog_scan.specs.Segment.{Entry}
 use Rattle.clog_table.specs.Format.{table_file_bytes}
+use Rattle.clog_table.specs.declared.table_file.TableFile.{TableFile}
 use Rattle.clog_crash.specs.Droppable.{Touches}
 use Rattle.clog_crash.specs.Grown.{Append, appends_of}
 use Rattle.clog_crash.specs.Worked.{first_table, the_mutation, the_segment}
 use Rattle.clog_crash.proofs.changes.Names.{one_id}
 use Rattle.clog_applied.specs.Appended.{IsAppended, entries_in, segments_of}
 use Rattle.clog_applied.specs.Applied.{IsAppliedRun}
+use Rattle.clog_applied.specs.Early.{AreRunChanges}
 use Rattle.clog_applied.specs.Filed.{FollowFrom, first_of}
 use Rattle.clog_applied.specs.History.{
   HoldsShares,
@@ -61,6 +65,10 @@ use Rattle.clog_applied.specs.Worked.{
   line_at,
   log_name,
   one_line,
+  stray_comes,
+  stray_goes,
+  stray_name,
+  strays,
   the_end,
   twice_logged,
   with_gap,
@@ -193,3 +201,13 @@ not_apart apart =
 pub no_gap : ¬ FollowFrom (first_of 1000) with_gap
 no_gap follow =
     let clash : 68 ≡ 60 = ap (λ (p : Position). p.offset) follow.2.0 in omega (arith, clash)
+
+-- ---- a name that no run gives
+
+pub not_stray : (archive : Bool) (ids : List ℕ) (files : List TableFile)
+    → ¬ AreRunChanges archive ids files strays
+not_stray archive ids files only =
+    let is = only stray_comes (further goes_in (stray_comes ∷ stray_goes ∷ []) stray_comes
+    (here stray_comes (stray_goes ∷ []))) in
+    archive_is_no_table stray_name 2000 (record { form = refl; id_fits = omega arith })
+    is.0.table.0 is.2.sequence is.2.named

@@ -4,6 +4,7 @@ use Rattle.clog_applied.proofs.rows.Wrong.{
   not_come_early,
   not_gone_early,
   not_none,
+  not_stray,
   not_twice,
 }
 use Rattle.clog_applied.proofs.rows.Archived.{not_unarchived}
@@ -17,6 +18,9 @@ returns-clause-come_early c = not_come_early
 
 pub returns-clause-unarchived : goal.returns-clause-unarchived
 returns-clause-unarchived c = not_unarchived
+
+pub returns-clause-stray : goal.returns-clause-stray
+returns-clause-stray c = not_stray
 
 pub returns-clause-twice : goal.returns-clause-twice
 returns-clause-twice c = not_twice

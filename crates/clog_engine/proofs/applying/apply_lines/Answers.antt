@@ -6,6 +6,7 @@ use Rattle.path_core.specs.declared.note.EntryNote.{EntryNote}
 use Rattle.path_core.specs.Keys.{first_offset}
 use Rattle.clog_lines.specs.Written.{
   AreLaidFor,
+  BringsOnly,
   HasBrought,
   HasWriteCause,
   LeavesLines,
@@ -106,8 +107,9 @@ returns-in-Ok-report_of-clause-applies g c left left_now f h bytes taken sized =
     let has_written = wrote g.D.Disk g.C.Clock left left_now f h start looked at only still opened
     c.now_ms.result store.notes.base opening.opens opening.any_moment opening.recovers now
     options ms (subst (λ (x : Bool). (log : List Write)
-    × HasBrought g.D.Disk.changes opened now x options.drain ms log) archives
-    (c.write_lines-disk.ensures.wrote ms laid_there)) in
+    × HasBrought g.D.Disk.changes opened now x options.drain ms log
+    × BringsOnly g.D.Disk.files opened now log) archives
+    (c.write_lines-disk.ensures.wrote ms laid_there)) c.write_lines-disk.ensures.told in
     let stays = others g.D.Disk g.C.Clock left left_now f h start looked at only still opened
     c.now_ms.result store.notes.base opening.opens opening.any_moment opening.recovers now
     c.write_lines-disk.ensures.told c.write_lines-disk.ensures.stay in
