@@ -7,6 +7,7 @@ pub mod Filed
 pub mod Flushed
 pub mod History
 pub mod Log
+pub mod Onward
 pub mod Opening
 pub mod Printed
 pub mod Worked

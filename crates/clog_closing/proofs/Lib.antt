@@ -1,5 +1,7 @@
 pub mod Dropping
+pub mod Ends
 pub mod Entries
+pub mod Followed
 pub mod Following
 pub mod LogAlone
 pub mod Logs

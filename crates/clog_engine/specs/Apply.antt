@@ -65,6 +65,7 @@ use Rattle.clog_applied.specs.Asked.{capacity_of}
 use Rattle.clog_applied.specs.Closed.{ClosedRun}
 use Rattle.clog_applied.specs.Filed.{BringsNoOther, KeepsOthers}
 use Rattle.clog_applied.specs.History.{LoggedLine}
+use Rattle.clog_applied.specs.Onward.{ReachesNoFurther}
 use Rattle.clog_applied.specs.Printed.{ReportIsPrinted}
 use Rattle.clog_closing.specs.Logs.{id_of}
 use Rattle.clog_lines.specs.Written.{
@@ -162,7 +163,8 @@ BeginsIn id [] = ⊤
 BeginsIn id (w ∷ ws) = w.id ≡ id
 
 -- The folder was opened at a moment that the clock told, from which and from the ids that it named
--- the base is; the first line stands there, and the run is closed. So its promises are kept.
+-- the base is; the first line stands there, and the run is closed and reaches no further than its
+-- lines. So its promises are kept.
 pub record IsRun (o : Outside) (options : ApplyOptions) (mutations : List Mutation)
     (report : List ℕ) (before after : Files) (added : List Change) : Type 0 where
   pub closed : ClosedRun options before after added mutations
@@ -170,6 +172,8 @@ pub record IsRun (o : Outside) (options : ApplyOptions) (mutations : List Mutati
   pub told : o.tells moment
   pub opened : IsOpened before moment closed.base closed.opened
   pub begins : BeginsIn closed.base closed.history
+  pub reach : ReachesNoFurther options closed.base closed.later closed.ids closed.history
+      closed.files
   pub printed : ReportIsPrinted options after (length mutations) closed.history report
   pub kept : IsAppliedRun options before after added mutations report
 

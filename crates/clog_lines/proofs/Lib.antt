@@ -6,6 +6,7 @@ pub mod Emptied
 pub mod Going
 pub mod Leaving
 pub mod Noting
+pub mod Reaches
 pub mod Showing
 pub mod Synced
 pub mod Written

@@ -54,6 +54,7 @@ use Rattle.clog_applied.specs.Closed.{IsAnyFile, IsClosedPath, IsStoreLeft}
 use Rattle.clog_applied.specs.Early.{AreInOrder, AreRunChanges, ComeLast}
 use Rattle.clog_applied.specs.Filed.{BringsNoOther, IsTrueFor}
 use Rattle.clog_applied.specs.History.{LoggedLine, logged_at, share_of, written_by}
+use Rattle.clog_applied.specs.Onward.{ReachesNoFurther}
 use Rattle.clog_applied.specs.Printed.{AreByLine}
 use Rattle.clog_closing.specs.Logs.{id_of}
 use Rattle.clog_layout.specs.Laid.{AreLaid}
@@ -179,6 +180,8 @@ pub record HasWritten (options : ApplyOptions) (base : ℕ) (opened after : File
   pub store : IsStoreLeft options.archive opened after later ids dropped history files
   pub undrained : options.drain ≡ false → (dropped ≡ []) × (files ≡ [])
   pub lines : AreLaidLines base mutations notes history
+  -- how far it reaches
+  pub reach : ReachesNoFurther options base later ids history files
   -- each line once, in order, and where its entry stands
   pub by_line : AreByLine history (length mutations) history
   pub positions : map logged_at history ≡ map (λ (n : EntryNote). position_of base n.end.0) notes
