@@ -11,3 +11,5 @@ pub mod Onward
 pub mod Opening
 pub mod Printed
 pub mod Worked
+pub mod WorkedRuns
+pub mod WorkedWrong

@@ -29,13 +29,7 @@ use Rattle.std.proofs.lemmas.List.Elements.{Contains-append_right}
 use Rattle.std.proofs.lemmas.Option.{none-some}
 use Rattle.clog_spec.specs.Names.{IsArchiveName, IsSegmentName, archive_name_of, segment_name_of}
 use Rattle.clog_base.specs.declared.cell.Table.{Table}
-use Rattle.clog_base.proofs.Members.{
-  first_or_further,
-  further,
-  here,
-  in_map,
-  nothing_there,
-}
+use Rattle.clog_base.proofs.Members.{here, in_map, nothing_there}
 use Rattle.clog_base.proofs.NameLaws.{one_segment, segment_is_no_other}
 use Rattle.clog_disk.specs.declared.change.Change.{Change}
 use Rattle.clog_disk.specs.declared.change.Change.TheVariants as change
@@ -71,6 +65,7 @@ use Rattle.clog_applied.specs.Closed.{IsAnyFile, IsStoreLeft, StaysAs}
 use Rattle.clog_applied.specs.Early.{AreInOrder, AreRunChanges, IsRunChange}
 use Rattle.clog_applied.specs.Filed.{BringsNoOther, KeepsOthers, StandsBefore}
 use Rattle.clog_applied.specs.History.{LoggedLine, entry_of}
+use Rattle.clog_applied.proofs.Changes.{in_appends}
 use Rattle.clog_applied.proofs.Merged.{of_entry}
 use Rattle.clog_layout.specs.Logged.{AreNotesOf}
 use Rattle.clog_layout.proofs.Standing.{pairs_none}
@@ -78,37 +73,6 @@ use Rattle.clog_closing.specs.Logs.{AreStoredInOrder, written_ids}
 use Rattle.clog_closing.proofs.Entries.{above_base as from_base, an_entry as entry_at}
 use Rattle.clog_closing.proofs.Logs.{are_files, is_appended, of_log, written}
 use Rattle.clog_closing.proofs.Tables.{note_of_line}
-
--- an append is among the appends
-pub in_appends : (cs : List Change) (name bytes : List ℕ) → Contains cs (change.Append name bytes)
-    → Contains (appends_of cs) (name, bytes)
-in_appends [] name bytes h = absurd (nothing_there (change.Append name bytes) h)
-in_appends (change.Append n b ∷ cs) name bytes h =
-    elim (first_or_further (change.Append n b) cs (change.Append name bytes) h) [
-      | inl same ↦
-          let names : n ≡ name = cc in
-          let all : b ≡ bytes = cc in
-          subst (λ (x : List ℕ). Contains ((n, b) ∷ appends_of cs) (x, bytes)) names
-          (subst (λ (x : List ℕ). Contains ((n, b) ∷ appends_of cs) (n, x)) all
-          (here (n, b) (appends_of cs)))
-      | inr more ↦
-          further (n, b) (appends_of cs) (name, bytes) (in_appends cs name bytes more)
-    ]
-in_appends (change.Publish n b ∷ cs) name bytes h =
-    elim (first_or_further (change.Publish n b) cs (change.Append name bytes) h) [
-      | inl same ↦ absurd cc
-      | inr more ↦ in_appends cs name bytes more
-    ]
-in_appends (change.Link old new ∷ cs) name bytes h =
-    elim (first_or_further (change.Link old new) cs (change.Append name bytes) h) [
-      | inl same ↦ absurd cc
-      | inr more ↦ in_appends cs name bytes more
-    ]
-in_appends (change.Remove n ∷ cs) name bytes h =
-    elim (first_or_further (change.Remove n) cs (change.Append name bytes) h) [
-      | inl same ↦ absurd cc
-      | inr more ↦ in_appends cs name bytes more
-    ]
 
 -- a change that is an append puts and removes nothing
 module _ (changes : List Change) (alone : AreAppends changes) where

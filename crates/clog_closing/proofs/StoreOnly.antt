@@ -59,10 +59,11 @@ use Rattle.clog_applied.specs.Early.{
   SaysFile,
 }
 use Rattle.clog_applied.specs.History.{LoggedLine, entry_of, logged_at}
+use Rattle.clog_applied.proofs.Changes.{in_appends}
 use Rattle.clog_applied.proofs.Merged.{of_entry}
 use Rattle.clog_layout.proofs.Lines.{is_position}
 use Rattle.clog_closing.specs.Stores.{GoesInOrder, files_by, ids_in, segments_in}
-use Rattle.clog_closing.proofs.LogAlone.{in_appends, touches_one}
+use Rattle.clog_closing.proofs.LogAlone.{touches_one}
 use Rattle.clog_closing.proofs.Logs.{written}
 use Rattle.clog_closing.proofs.StoreOrdered.{in_order}
 use Rattle.clog_closing.proofs.Tables.{note_of_line}
