@@ -1,7 +1,6 @@
 # A real folder, run after run: what earlier runs left is recovered, and no line is lost.
 . "$top/checks/lib"
 
-keys() { grep -o '"key":"."' | cut -c8 | tr -d '\n'; }
 cell() { printf '{"column":"c","key":"%s","table":0,"ts":1,"value":"v"}' "$1"; }
 put() { echo '{"key":"'"$1"'","updates":[{"table":0,"column":"c","ts":1,"value":"v"}]}'; }
 
@@ -39,7 +38,7 @@ $(cell c)" '' "$pinsilver" apply --dump
 # that an earlier program may have left unfinished.)
 fresh
 put a | expect 'before a removal that is refused' 0 'applied 1' '' "$pinsilver" apply
-if has strace && strace -o /dev/null true 2>/dev/null; then
+if traces; then
     put b | expect 'a removal is refused' 6 'error 6: disk fault' \
         'pinsilver: remove commitlog/CommitLog-6-*.log: Input/output error' \
         strace -o "$box/trace" -e trace=unlink,unlinkat \
