@@ -18,6 +18,15 @@ fresh
 that 'a part may be left, and no more' test "$(segment_size)" -le 4096
 
 fresh
+before=data
+make_before
+prepare
+expect 'nor may a table file' 6 'error 6: disk fault' \
+    'pinsilver: publish commitlog/Table-0-2.tbl: File too large' \
+    sh -c 'trap "" XFSZ; ulimit -f 8; exec "$0" apply' "$program" <input
+that 'nothing is lost by it' test -z "$(lost 2>&1)"
+
+fresh
 mkdir small
 mounts() { [ "$(id -u)" -eq 0 ] && mount -t tmpfs -o "$1" none small 2>/dev/null; }
 mounts size=64k || { skipped 'no mount'; exit 0; }
@@ -39,10 +48,10 @@ leave_files() {
     for number in $(seq "$1"); do rm "filler/$number"; done
 }
 
-# Tries with more and more room, by one of these.
+# Tries with more and more room, by one of these, over segments of so many units of 1024 bytes.
 try_each() {
     room=0 wrong=
-    while prepare && "$1" "$room" && ! "$program" apply --segment-kib 4 --drain --archive \
+    while prepare && "$1" "$room" && ! "$program" apply --segment-kib "$2" --drain --archive \
         <input >../said 2>../told && [ "$room" -lt 40 ]; do
         [ "$(cat ../said)" = 'error 6: disk fault' ] && [ "$(wc -l <../told)" -eq 1 ] &&
             grep -q '^pinsilver: .* commitlog/.*: No space left on device$' ../told ||
@@ -55,8 +64,8 @@ try_each() {
         room=$((room + 1))
     done
     rm -r filler
-    that "$1, over $before: with room for 0 to $room nothing is lost ($wrong)" \
-        test -z "$wrong" -a "$room" -gt 3 -a "$room" -lt 40
+    that "$1, over $before, $2: with room for 0 to $room nothing is lost ($wrong)" \
+        test -z "$wrong" -a "$room" -gt 2 -a "$room" -lt 40
 }
 
 mounts size=256k,nr_inodes=60 || exit 1
@@ -64,7 +73,10 @@ cd small || exit 1
 make_before
 for room_of in leave leave_files; do
     : >../calls
-    for before in data nothing; do try_each "$room_of"; done
+    for before in data nothing; do
+        try_each "$room_of" 4
+        try_each "$room_of" 64
+    done
     told=$(sort -u ../calls | tr '\n' ' ')
     that "$room_of: each call that wants room was told ($told)" \
         test "$told" = 'append link publish '
