@@ -31,6 +31,10 @@ gone='No such file or directory'
 expect 'replay: a listed segment is gone' 6 'error 6: disk fault' \
     "pinsilver: measure commitlog/$first: $gone" without "$first" getdents64 2 replay
 prepare
+expect 'replay: a segment is gone within the listing, as if it had gone before' 0 'segments 1
+tables 1
+**' '' without "$first" getdents64 1 replay
+prepare
 expect 'replay: a listed table file is gone' 6 'error 6: disk fault' \
     "pinsilver: measure commitlog/Table-0-1.tbl: $gone" without Table-0-1.tbl getdents64 2 replay
 prepare
