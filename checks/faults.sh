@@ -13,42 +13,50 @@ unfinished=commitlog/being-published-by-pinsilver-and-may-be-removed-where-no-pr
 # the paths that it was about.
 refuse() {
     prepare
-    strace -y -o trace -e trace="$1" -e inject="$1":error="$2":when="$3" \
+    strace -y -s 0 -o trace -e trace="$1" -e inject="$1":error="$2":when="$3" \
         "$program" $words <input >said 2>told
     ended=$?
     hit=$(grep INJECTED trace)
 }
 
-# The file that it was about: the segment, where that was to get its archive name.
-file_of() {
-    printf '%s\n' "$hit" | grep -o '\(CommitLog-6\|Table\)-[0-9-]*[.][a-z]*' | tail -n 1
+# tells CALL..: whether the line on standard error begins with one of these calls of the disk.
+tells() {
+    for call in "$@"; do
+        case $text in "pinsilver: $call"*) return ;; esac
+    done
+    false
 }
 
-# Which calls of the disk may have failed, and on which file.
-may_tell() {
-    file=commitlog/$(file_of)
+# Whether it tells a call that may have failed, and the file. (Of a segment that was to get its
+# archive name, that is the segment.)
+tells_the_call() {
+    file=${hit##*commitlog/}
+    file=${file#Archive-}
+    file=commitlog/${file%%[\">]*}:
     case $hit in
-    *Archive-*) echo "link $file:" ;;
-    rename*) echo "publish $file:" ;;
-    unlink*) echo "remove $file:" ;;
-    *being-published*) printf '%s\n' 'publish commitlog/Table-' 'link commitlog/CommitLog-6-' ;;
-    fsync*CommitLog*) echo "sync $file:" ;;
-    fsync*) printf '%s\n' 'publish commitlog/Table-' 'remove commitlog/CommitLog-6-' \
-        'sync commitlog/CommitLog-6-' 'link commitlog/CommitLog-6-' ;;
-    write* | fcntl* | *O_WRONLY* | *AT_EMPTY_PATH*) echo "append $file:" ;;
-    statx*) printf '%s\n' 'list commitlog:' "measure $file:" "read $file:" "publish $file:" \
-        "remove $file:" "link $file:" ;;
-    *CommitLog* | *Table-*) printf '%s\n' "read $file:" "link $file:" ;;
-    *) printf '%s\n' 'list commitlog:' 'append commitlog/CommitLog-6-' ;;
+    *Archive-*) tells "link $file" ;;
+    rename*) tells "publish $file" ;;
+    unlink*) tells "remove $file" ;;
+    *being-published*) tells 'publish commitlog/Table-' 'link commitlog/CommitLog-6-' ;;
+    fsync*CommitLog*) tells "sync $file" ;;
+    fsync*) tells 'sync commitlog/CommitLog-6-' 'publish commitlog/Table-' \
+        'link commitlog/CommitLog-6-' 'remove commitlog/CommitLog-6-' ;;
+    write* | fcntl* | *O_WRONLY* | *AT_EMPTY_PATH*) tells "append $file" ;;
+    statx*) tells 'list commitlog:' "measure $file" "read $file" "publish $file" "link $file" \
+        "remove $file" ;;
+    *CommitLog* | *Table-*) tells "read $file" "link $file" ;;
+    *) tells 'list commitlog:' 'append commitlog/CommitLog-6-' ;;
     esac
 }
 
+# Whether a file has one line, which is then `text`.
+has_a_line() { { read -r text && ! read -r more; } <"$1"; }
+
 # Whether the fault is told once, in the system's words.
 is_told() {
-    [ "$ended" -eq 6 ] && [ "$(cat said)" = 'error 6: disk fault' ] &&
-        [ "$(wc -l <told)" -eq 1 ] && grep -q "[^ ]: $1\$" told || return 1
-    may_tell | sed 's/^/pinsilver: /' >may
-    grep -qF -f may told
+    [ "$ended" -eq 6 ] && has_a_line said && [ "$text" = 'error 6: disk fault' ] &&
+        has_a_line told && tells_the_call || return 1
+    case $text in *[!\ ]": $1") ;; *) false ;; esac
 }
 
 # Refuses each of a kind of call. An earlier program's unfinished file is removed if it can be: only
@@ -61,7 +69,8 @@ refuse_each() {
             wrong="$wrong $number:$ended:$(cat said told)" ;;
         *commitlog* | *', ".", '*)
             is_told "$3" || wrong="$wrong $number:$ended:$(cat said told):$hit"
-            cut -d' ' -f2 told >>calls ;;
+            text=${text#* }
+            echo "${text%% *}" >>calls ;;
         *) continue ;;
         esac
         tried=$((tried + 1))
