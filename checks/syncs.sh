@@ -2,7 +2,7 @@
 . "$top/checks/lib"
 
 fresh
-if ! has strace || ! strace -o /dev/null true 2>/dev/null; then
+if ! traces; then
     skipped 'no strace'
     exit 0
 fi
