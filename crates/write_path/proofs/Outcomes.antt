@@ -82,12 +82,12 @@ use Rattle.write_path.specs.Closed.{
   all_writes,
 }
 use Rattle.write_path.specs.Opened.{numbers_of}
-use Rattle.write_path.specs.Sealed.{AreSealedApart}
+use Rattle.write_path.specs.Sealed.{AreSealed, AreSealedApart}
 use Rattle.write_path.proofs.Accounted.{each_once, each_there}
 use Rattle.write_path.proofs.FewSegments.{few_segments}
 use Rattle.write_path.proofs.NoneDropped.{none_dropped}
 use Rattle.write_path.proofs.Histories.{noted, writes_are, run_notes, by_all, all_noted}
-use Rattle.write_path.proofs.SealedApart.{sealed_apart}
+use Rattle.write_path.proofs.SealedApart.{behind_sealed, sealed_apart}
 
 -- ---- where a keeper has stopped, it tells the count of a stopped log
 
@@ -237,6 +237,16 @@ module _ {K : Type 0} (size : PathSize) where
             (λ (s : PathSeat K). TrailTells size.capacity x (view_of s.member).trail)
             (AreStoppedFor h) (λ s T n F some. stopped_by h.stopped h.faults n some
             (stops ∙ ap fault_count (sym (T.stopped n F some)))) seats E.tell;
+        sealed = of_both (λ (s : PathSeat K). map event_of (view_of s.member).trail
+            ≡ steps_by s.member.number e.events)
+            (λ (s : PathSeat K). TrailTells size.capacity x (view_of s.member).trail)
+            (λ (s : PathSeat K). AreSealed size.capacity x.notes h.synced
+            (view_of s.member).trail)
+            (λ s own T. subst (λ k. AreSealed size.capacity x.notes k
+            (view_of s.member).trail) (sym synced)
+            (behind_sealed size.capacity s.member.number (start_of size) x e.events
+            (view_of s.member).trail (opening_lawful size.tables size.seats size.capacity
+            size.ordinals size.base e.fit) refl e.run z.capacity own T)) seats E.own E.tell;
         apart = of_both (λ (s : PathSeat K). map event_of (view_of s.member).trail
             ≡ steps_by s.member.number e.events)
             (λ (s : PathSeat K). TrailTells size.capacity x (view_of s.member).trail)
@@ -302,6 +312,10 @@ module _ {K : Type 0} (size : PathSize) where
             (sym (no_seat seats none_there)) (All-nil (AreSyncedFor h));
         all_stopped = subst (λ (l : List (PathSeat K)). All (AreStoppedFor h) l)
             (sym (no_seat seats none_there)) (All-nil (AreStoppedFor h));
+        sealed = subst (λ (l : List (PathSeat K)). All (λ (s : PathSeat K).
+            AreSealed size.capacity [] h.synced (view_of s.member).trail) l)
+            (sym (no_seat seats none_there)) (All-nil (λ (s : PathSeat K).
+            AreSealed size.capacity [] h.synced (view_of s.member).trail));
         apart = subst (λ (l : List (PathSeat K)). All (λ (s : PathSeat K).
             AreSealedApart size.capacity [] h.synced (view_of s.member).trail) l)
             (sym (no_seat seats none_there)) (All-nil (λ (s : PathSeat K).

@@ -44,7 +44,7 @@ use Rattle.path_rule.specs.Sharing.{Ended}
 use Rattle.path_rule.specs.Trails.{TrailTells}
 use Rattle.write_path.specs.declared.resting.Resting.{Resting}
 use Rattle.write_path.specs.Ends.{writes_of}
-use Rattle.write_path.specs.Sealed.{AreSealedApart}
+use Rattle.write_path.specs.Sealed.{AreSealed, AreSealedApart}
 
 -- A path is closed with all of its seats, in whatever order, or with none where they were not
 -- handed out.
@@ -153,7 +153,9 @@ pub record IsOutcome {K : Type 0} (size : PathSize) (seats : List (PathSeat K)) 
   pub found_stopped : All (IsStoppedFor h) seats
   pub all_synced : All (AreSyncedFor h) seats
   pub all_stopped : All (AreStoppedFor h) seats
-  -- each sealed write stands apart from each later one of its seat
+  -- a marker stands behind each sealed write, and in front of each later one of its seat
+  pub sealed : All (λ (s : PathSeat K). AreSealed size.capacity core.notes h.synced
+      (view_of s.member).trail) seats
   pub apart : All (λ (s : PathSeat K). AreSealedApart size.capacity core.notes h.synced
       (view_of s.member).trail) seats
   -- what is lasting, and what a refused sync kept above it

@@ -32,7 +32,7 @@ ghost use Rattle.write_path.specs.Commits.{IsLogged};
 ghost use Rattle.write_path.specs.Ends.{writes_of};
 ghost use Rattle.write_path.specs.Grown.{HasGrown};
 ghost use Rattle.write_path.specs.Promised.{WasDone, WasDurable, WasSpent};
-ghost use Rattle.write_path.specs.Sealed.{HasMarkBetween, IsSealed};
+ghost use Rattle.write_path.specs.Sealed.{HasMarkBehind, HasMarkBetween, IsSealed};
 ghost use Rattle.write_path.specs.SealedRows.{behind_it, before_it, behind_a_claim};
 ghost use Rattle.write_path.specs.Writes.{entry_size, IsNoteOf, IsClaimed, IsDepositable};
 
@@ -76,6 +76,11 @@ pub fn what_close_keeps<K: Keeper>()
     ensures durable { (size : PathSize) (seats : List (PathSeat K)) (end : ℕ) (h : Holding)
         → IsOutcome size seats end h → (s : PathSeat K) → Contains seats s → (n : EntryNote)
         → WasDurable size s.member.number n (view_of s.member).trail → Contains h.logged n }
+    // A marker stands behind it, also where its seat logged no other.
+    ensures marked { (size : PathSize) (seats : List (PathSeat K)) (end : ℕ) (h : Holding)
+        → (o : IsOutcome size seats end h) → (s : PathSeat K) → Contains seats s → (n : EntryNote)
+        → WasDurable size s.member.number n (view_of s.member).trail
+        → HasMarkBehind size.capacity o.core.notes h.synced n.end.0 }
     // It has synced to each key that a sync answered `Done` with, and has each write that was of
     // the seat's list then.
     ensures done { (size : PathSize) (seats : List (PathSeat K)) (end : ℕ) (h : Holding)
