@@ -1,7 +1,6 @@
 -- A seat's trail grows from step to step, and over calls one behind another.
 use Rattle.std.proofs.Common.{
   ◌≡◌,
-  ◌⊎◌,
   ℕ,
   ◌+◌,
   ◌≤◌,
@@ -15,7 +14,6 @@ use Rattle.std.proofs.Common.{
   sym,
   ap,
   ◌∙◌,
-  subst,
   ⊎_elim,
   arith,
 }

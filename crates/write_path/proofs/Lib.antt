@@ -9,6 +9,7 @@ pub mod Handing
 pub mod Histories
 pub mod Accounted
 pub mod NoneDropped
+pub mod FewSegments
 pub mod Outcomes
 pub mod SyncLists
 pub mod ClaimBehind
@@ -21,3 +22,4 @@ pub mod Rooms
 pub mod Growing
 pub mod Acknowledged
 pub mod Promises
+pub mod Spending

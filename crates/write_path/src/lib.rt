@@ -30,7 +30,7 @@ pub use commit::{Commit, Receipt, SyncFault};
 pub use deposited::Deposited;
 pub use fault::PrepareFault;
 pub use finishing::Accept;
-pub use laws::{note_laws, what_close_keeps, what_seals_a_write};
+pub use laws::{note_laws, what_close_keeps, what_seals_a_write, what_spends_a_path};
 pub use path_rule::{Advance, Begun, PathSeat, Seen, SyncAnswer};
 pub use prepared::Prepared;
 pub use seats::{Appending, WritePath};
