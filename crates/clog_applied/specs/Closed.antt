@@ -70,8 +70,8 @@ pub record HasFlushed (most : ℕ) (table : Table) (writer : ℕ) (history : Lis
   pub few : sum_by (updates_at table) rest < most
 
 -- The seats' lists together are a lawful history, each of them the writer's share in order. Files
--- follow one another, are true for it, and each stands for an entry. Behind a drain each entry lies in a file of each table
--- that it touches, and with a flush limit each writer has flushed.
+-- follow one another, are true for it, and each stands for an entry. Behind a drain each entry lies
+-- in a file of each table that it touches, and with a flush limit each writer has flushed.
 pub record IsClosedPath (options : ApplyOptions) (mutations : List Mutation) (base : ℕ)
     (history : List LoggedLine) (files : List TableFile) : Type 0 where
   pub lawful : IsLawful (capacity_of options) history

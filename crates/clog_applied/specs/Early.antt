@@ -81,8 +81,8 @@ pub record AreInOrder (IsNew : TableFile → Type 0) (archive : Bool) (changes :
       → (name ≡ archive_name_of id) × (appended front id ≡ appended changes id)
 
 -- The run's changes stand in order. No segment of the run is left that may go, the last one among
--- them, and none at all behind a drain. Of before nothing else has gone or changed but segments, and
--- nothing else has come but the run's segments, their archive names and table files.
+-- them, and none at all behind a drain. Of before nothing else has gone or changed but segments,
+-- and nothing else has come but the run's segments, their archive names and table files.
 pub record NothingGoesEarly (archive drain : Bool) (before after : Files) (changes : List Change)
     (ids : List ℕ) (history : List LoggedLine) (files : List TableFile) : Type 0 where
   pub order : AreInOrder (EndsAbove before) archive changes ids history files

@@ -10,3 +10,5 @@ pub mod Log
 pub mod Opening
 pub mod Printed
 pub mod Worked
+pub mod WorkedRuns
+pub mod WorkedWrong

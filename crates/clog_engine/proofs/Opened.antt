@@ -1,6 +1,29 @@
 -- What a run leaves once its folder was opened, whether its lines were written or not.
-use Rattle.std.proofs.Common.{◌≡◌, ℕ, List, ◌++◌, length, Option, Some, None, Result, Ok as ok, Err as err, true, inr, refl, sym, ap, subst, ◌∙◌, append_assoc}
+use Rattle.std.proofs.Common.{
+  ◌≡◌,
+  ℕ,
+  List,
+  ◌++◌,
+  length,
+  Option,
+  Some,
+  None,
+  Result,
+  Ok as ok,
+  Err as err,
+  true,
+  inl,
+  inr,
+  refl,
+  sym,
+  ap,
+  subst,
+  ◌∙◌,
+  append_assoc,
+  arith,
+}
 use Rattle.std.specs.Prelude.{IfSome, OnOk, ⊤}
+use Rattle.std.specs.FinMap as finmap
 use Rattle.clog_base.specs.declared.cell.Cell.{Cell}
 use Rattle.clog_base.specs.declared.cell.CellKey.{CellKey}
 use Rattle.clog_io.specs.declared.clock.Clock.{Ghosts as ClockTells}
@@ -8,12 +31,13 @@ use Rattle.clog_io.specs.Bytes.{TakesAll}
 use Rattle.clog_disk.specs.declared.change.Change.{Change}
 use Rattle.clog_disk.specs.declared.disk.Disk.{Ghosts as DiskTells}
 use Rattle.clog_disk.specs.Files.{Files, SameTold, Told, bytes_at}
-use Rattle.clog_disk.specs.Images.{IsImage, LastsAll, LeavesOnly, Unchanged}
+use Rattle.clog_disk.specs.Images.{IsImage, LastsAll, LeavesOnly}
 use Rattle.clog_mutation.specs.declared.mutation.Mutation.{Mutation}
 use Rattle.clog_words.specs.declared.request.ApplyOptions.{ApplyOptions}
 use Rattle.clog_crash.specs.Log.{Write}
 use Rattle.clog_crash.specs.Restore.{IsRestored}
 use Rattle.clog_folder.specs.Passing.{IsUntouched as IsDiskUntouched}
+use Rattle.clog_folder.proofs.Passing.{both, no_call}
 use Rattle.clog_applied.specs.Asked.{capacity_of}
 use Rattle.clog_applied.specs.Filed.{KeepsOthers}
 use Rattle.path_core.specs.declared.keeper.KeeperFault.{KeeperFault}
@@ -51,7 +75,7 @@ use Rattle.clog_engine.specs.Apply.{
   Wrote,
 }
 use Rattle.clog_engine.specs.Input.{IsSized}
-use Rattle.clog_engine.specs.Outside.{Outside, outside_with}
+use Rattle.clog_engine.specs.Outside.{IsLeftAlone, Outside, outside_with}
 use Rattle.clog_engine.specs.Refusal.{ended_as}
 use Rattle.clog_engine.specs.Report.{IsReport, head_of}
 use Rattle.clog_engine.specs.Request.{IsDoable}
@@ -78,18 +102,6 @@ pub opened_as : (looked told : Option Files) (moment base : ℕ) (first : Files)
 opened_as looked told moment base first is opens =
     told_as told (IsOpened first moment base)
     (subst (λ (o : Option Files). OpensAs o told moment base) is opens)
-
-pub unchanged_on : (files looked now : Option Files)
-    (old leaves new : List ℕ → Option (List ℕ) → Type 0) → Unchanged files looked old leaves
-    → Unchanged looked now leaves new → Unchanged files now old new
-unchanged_on files looked now old leaves new first second = record {
-  files = second.files ∙ first.files;
-  images = record {
-    fewer = λ name left has.
-        first.images.fewer name left (second.images.fewer name left has);
-    more = λ name left has. second.images.more name left (first.images.more name left has);
-  };
-}
 
 -- files that are told stay told over two calls
 pub told_then : (a b c : Option Files) → SameTold a b → SameTold b c → SameTold a c
@@ -165,6 +177,34 @@ ended_applies (err OutOfMemory) options o report bytes ms taken sized reported r
 
 -- ---- by a disk
 
+-- one that was left alone between two moments of a run
+left_over : {D C : Type 0} (disk : DiskTells D) (clock : ClockTells C)
+    (left left_now : Option (List ℕ)) (f g : ℕ) (start now : D) (at : C)
+    → ((image : Files) → disk.since start (disk.moment start) image
+    → IsImage (disk.leaves start) image)
+    → IsDiskUntouched disk.files disk.changes disk.leaves disk.moment disk.since disk.read_at
+    disk.lasted_at disk.faults start now
+    → IsLeftAlone (outside_with left left_now f g disk clock start now at)
+left_over disk clock left left_now f g start now at only still = record {
+  still = still.same;
+  meanwhile = λ image since.
+      elim (still.time.nothing_else (disk.moment start) image (omega arith) since) [
+        | inl old ↦ only image old
+        | inr new ↦ λ name. still.same.images.fewer name (finmap.get image name) (new name)
+      ];
+}
+
+-- one that was not called
+pub uncalled_alone : {D C : Type 0} (disk : DiskTells D) (clock : ClockTells C)
+    (left left_now : Option (List ℕ)) (f g : ℕ) (start : D) (at : C)
+    → ((image : Files) → disk.since start (disk.moment start) image
+    → IsImage (disk.leaves start) image)
+    → IsLeftAlone (outside_with left left_now f g disk clock start start at)
+uncalled_alone disk clock left left_now f g start at only =
+    left_over disk clock left left_now f g start start at only
+    (no_call disk.files disk.changes disk.leaves disk.moment disk.since disk.read_at
+    disk.lasted_at disk.faults start)
+
 module _ {D C : Type 0} (disk : DiskTells D) (clock : ClockTells C)
     (left left_now : Option (List ℕ)) (f g : ℕ) (start looked : D) (at : C)
     (only : (image : Files) → disk.since start (disk.moment start) image
@@ -178,6 +218,18 @@ module _ {D C : Type 0} (disk : DiskTells D) (clock : ClockTells C)
       → SameTold (disk.files start) (disk.files now)
   same_told now told =
       subst (λ (o : Option Files). SameTold o (disk.files now)) still.same.files told
+
+  -- a disk that was only looked at, and then left alone
+  pub looked_alone : IsLeftAlone (outside_at looked)
+  looked_alone = left_over disk clock left left_now f g start looked at only still
+
+  pub left_alone : (now : D)
+      → IsDiskUntouched disk.files disk.changes disk.leaves disk.moment disk.since disk.read_at
+      disk.lasted_at disk.faults looked now → IsLeftAlone (outside_at now)
+  left_alone now alone =
+      left_over disk clock left left_now f g start now at only
+      (both disk.files disk.changes disk.leaves disk.moment disk.since disk.read_at disk.lasted_at
+      disk.faults start looked now still alone)
 
   -- what lasted lasts
   lasting : (first : Files) → LastsAll first (disk.leaves start)

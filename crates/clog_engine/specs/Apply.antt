@@ -65,7 +65,7 @@ use Rattle.clog_engine.specs.Input.{
   IsSized,
   Takes,
 }
-use Rattle.clog_engine.specs.Outside.{Outside, IsUntouched}
+use Rattle.clog_engine.specs.Outside.{Outside, IsLeftAlone}
 use Rattle.clog_engine.specs.Report.{IsReport, head_of}
 use Rattle.clog_engine.specs.Request.{AreSizesOf}
 
@@ -204,9 +204,9 @@ pub record IsPartly (options : ApplyOptions) (o : Outside) : Type 0 where
   pub others : IfSome o.files (λ before. Told o.files_now (KeepsOthers before))
   pub lasts : LastsFirst o options mutations 0
 
--- the disk is as it was, or the folder restores the same, or the first of the lines came
+-- the disk was left alone, or the folder restores the same, or the first of the lines came
 abbrev pub LeavesPart : ApplyOptions → Outside → Type 0
-LeavesPart options o = IsUntouched o ⊎ (KeepsAll o ⊎ IsPartly options o)
+LeavesPart options o = IsLeftAlone o ⊎ (KeepsAll o ⊎ IsPartly options o)
 
 -- the whole file was read, and each of its lines is good
 abbrev pub ReadsGood : ApplyOptions → Outside → Type 0
@@ -215,32 +215,32 @@ ReadsGood options o = ReadsToEnd o (IsGood (capacity_of options))
 -- Why nothing is reported, and what is left of the disk: each row with all that comes before it.
 abbrev pub ApplyRefuses : ApplyOptions → Status → Outside → Type 0
 ApplyRefuses options (BadLine number cause) o =
-    ReadsToEnd o (λ bytes. HasBadLine bytes number cause) × IsUntouched o
+    ReadsToEnd o (λ bytes. HasBadLine bytes number cause) × IsLeftAlone o
 ApplyRefuses options (TooLarge number size most) o =
     ReadsToEnd o (λ bytes. HasLargeLine (capacity_of options) bytes number size most)
-    × IsUntouched o
-ApplyRefuses options ReadFault o = Rose o.source_faults o.source_faults_now × IsUntouched o
+    × IsLeftAlone o
+ApplyRefuses options ReadFault o = Rose o.source_faults o.source_faults_now × IsLeftAlone o
 ApplyRefuses options DiskFault o =
     ReadsGood options o × Rose o.disk_faults o.disk_faults_now × LeavesPart options o
 ApplyRefuses options (Damaged name at cause) o =
     ReadsGood options o × IfSome o.files (λ files. HasDamage files name at cause)
-    × IsUntouched o
+    × IsLeftAlone o
 ApplyRefuses options (BadTable name fault) o =
     ReadsGood options o × IfSome o.files (λ files. IsFirstBad files name fault)
-    × IsUntouched o
+    × IsLeftAlone o
 ApplyRefuses options OutOfMemory o = LeavesPart options o
 ApplyRefuses options (Limit FileBytes most) o =
-    (most ≡ file_limit) × IfSome o.left (λ bytes. file_limit < length bytes) × IsUntouched o
+    (most ≡ file_limit) × IfSome o.left (λ bytes. file_limit < length bytes) × IsLeftAlone o
 ApplyRefuses options (Limit Lines most) o =
-    (most ≡ line_limit) × ReadsToEnd o HasManyLines × IsUntouched o
+    (most ≡ line_limit) × ReadsToEnd o HasManyLines × IsLeftAlone o
 ApplyRefuses options (Limit SegmentBytes most) o =
     (most ≡ file_limit) × ReadsGood options o × IfSome o.files (HasLongSegment false)
-    × IsUntouched o
+    × IsLeftAlone o
 ApplyRefuses options (Limit TableFiles most) o =
     (most ≡ sequence_limit) × ReadsGood options o × IfSome o.files HasManyTables
-    × IsUntouched o
+    × IsLeftAlone o
 ApplyRefuses options (Limit Ids most) o =
-    (most ≡ id_limit) × ReadsGood options o × IfSome o.files HasGreatId × IsUntouched o
+    (most ≡ id_limit) × ReadsGood options o × IfSome o.files HasGreatId × IsLeftAlone o
 ApplyRefuses options other o = ⊥
 
 -- a report, or why there is none
