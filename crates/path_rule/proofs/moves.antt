@@ -8,6 +8,7 @@ pub mod ClaimSteps
 pub mod HolderFacts
 pub mod TurnFacts
 pub mod TurnSteps
+pub mod TableTurns
 pub mod AppendOpened
 pub mod AppendBarriers
 pub mod GatherSteps

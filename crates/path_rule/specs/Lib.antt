@@ -12,6 +12,7 @@ pub mod Turns
 pub mod Accepted
 pub mod Told
 pub mod TurnTold
+pub mod TableTold
 pub mod Desks
 pub mod Calls
 pub mod SyncEnd

@@ -32,6 +32,8 @@ mod slot;
 mod sweeping;
 mod syncing;
 mod table;
+mod table_plays;
+mod table_turn;
 mod trying;
 mod turn;
 mod turn_plays;

@@ -28,6 +28,9 @@ pub(crate) const STOPPED: usize = 6;
 /// 1 while a seat holds the Sync turn.
 pub(crate) const SYNC_TURN: usize = 7;
 
+/// The Flush turn of table 0, 1 while a seat holds it: four words on for each next table.
+pub(crate) const FLUSH_TURN: usize = 9;
+
 /// The oldest live memtable of table 0: four words on for each next table.
 pub(crate) const OLDEST_LIVE: usize = 10;
 
