@@ -123,3 +123,14 @@ expect 'while it stands nothing can be published' 6 'error 6: disk fault' \
     'pinsilver: publish commitlog/Table-0-2.tbl: File exists' strace -o trace \
     -e trace=unlink -e inject=unlink:error=EROFS "$program" apply <input
 that 'nothing is lost by both' test -z "$(lost 2>&1)"
+
+# Two faults are told each by its line.
+before=nothing
+prepare
+if [ -c /dev/full ]; then
+    expect 'a sync is refused, and the output is full' 6 '' \
+        'pinsilver: sync commitlog/CommitLog-6-*.log: Input/output error
+pinsilver: write standard output: No space left on device' sh -c 'strace -o trace -e trace=fsync \
+        -e inject=fsync:error=EIO:when=1 "$0" apply >/dev/full' "$program" <input
+    that 'nothing is lost by these' test -z "$(lost 2>&1)"
+fi
