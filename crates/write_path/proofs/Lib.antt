@@ -12,7 +12,7 @@ pub mod NoneDropped
 pub mod Outcomes
 pub mod SyncLists
 pub mod ClaimBehind
-pub mod OnlyFirst
+pub mod Trying
 pub mod Sealing
 pub mod OwnClaims
 pub mod SealedApart
