@@ -9,6 +9,7 @@ pub mod Trails
 pub mod Rule
 pub mod HandsAfter
 pub mod Turns
+pub mod Switches
 pub mod Accepted
 pub mod Told
 pub mod TurnTold
@@ -22,5 +23,6 @@ pub mod Rounds
 pub mod Sweeps
 pub mod SyncAnswers
 pub mod Marks
+pub mod Switched
 pub mod Sharing
 pub mod FirstBoxes

@@ -16,7 +16,7 @@ use Rattle.path_core.specs.declared.seat.FoundGroups.{FoundGroups}
 use Rattle.path_core.specs.declared.seat.Seat.{Seat}
 use Rattle.path_core.specs.declared.seat.Switching.TheVariants.{Settled, WithBarrier}
 use Rattle.path_core.specs.declared.seat.SyncTurn.{SyncTurn}
-use Rattle.path_core.specs.Parts.{found_of, marker_of, stage_of}
+use Rattle.path_core.specs.Parts.{found_of, marker_of, seat_table, stage_of}
 use Rattle.path_rule.specs.declared.view.Hands.{Hands}
 use Rattle.path_rule.specs.declared.view.View.{View}
 
@@ -52,12 +52,16 @@ abbrev pub IsSwitchThrough : ℕ → Seat → Type 0
 IsSwitchThrough t p = (stage_of p t ≡ Some Settled)
     ⊎ ((m g : ℕ) × (stage_of p t ≡ Some (WithBarrier m g)) × FoundPast p g)
 
+-- The seat knows that the table has this memtable: it is the first, or its write tries it.
+abbrev pub KnowsMemtable : Seat → ℕ → ℕ → Type 0
+KnowsMemtable p t m = (m ≡ 0) ⊎ ((seat_table p t).trying ≡ Some m)
+
 -- The seat knows that there is such a place.
 abbrev pub Sighted : View → Place → Type 0
 Sighted v (Count o g) = ((found_of o v.part).current ≡ Some g)
     ⊎ (((found_of o v.part).oldest ≡ Some g) ⊎ TurnOld o v.part g)
 Sighted v (Newest t) = t.0 < v.size.tables
-Sighted v (Bound t m) = (t.0 < v.size.tables) × (m ≡ 0)
+Sighted v (Bound t m) = (t.0 < v.size.tables) × KnowsMemtable v.part t.0 m
 Sighted v (TurnWord (Flush t)) = t.0 < v.size.tables
 Sighted v (CursorWord (OldestLive t)) = t.0 < v.size.tables
 Sighted v _ = Unit {0}

@@ -30,6 +30,8 @@ mod rule;
 mod seeking;
 mod slot;
 mod sweeping;
+mod switches;
+mod switching;
 mod syncing;
 mod table;
 mod table_plays;
@@ -55,6 +57,7 @@ pub use laws::{
 pub use opening::open;
 pub use rule::PathRule;
 pub use slot::{Desk, Slot};
+pub use switches::Switched;
 pub use table::{Member, Opener, PathTable};
 pub use trying::{Begun, PathSeat, Seen};
 pub use view::{Hands, OwnStep, PathKey, PathSize, Progress, Returned, Role, View};

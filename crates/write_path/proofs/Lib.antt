@@ -13,7 +13,7 @@ pub mod FewSegments
 pub mod Outcomes
 pub mod SyncLists
 pub mod ClaimBehind
-pub mod OnlyFirst
+pub mod Trying
 pub mod Sealing
 pub mod OwnClaims
 pub mod SealedApart

@@ -216,7 +216,7 @@ module _ {K : Type 0} (size : PathSize) where
         synced_is = synced;
         dropped_are = ap (λ (k : Lasting). k.dropped) same;
         none_dropped = ap (λ (k : Lasting). k.dropped) same
-            ∙ none_dropped x L size.tables e.unswitched;
+            ∙ none_dropped x L e.unfiled;
         stops = stops;
         found_synced = known_of x
             (λ (s : PathSeat K). part_of s.member ≡ seat_of x s.member.number) (IsSyncedFor h)
