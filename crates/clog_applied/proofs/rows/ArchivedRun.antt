@@ -23,7 +23,7 @@ use Rattle.std.specs.List.{AllPairs}
 use Rattle.std.specs.FinMap as finmap
 use Rattle.clog_spec.specs.Names.{IsArchiveName, IsTableName, archive_name_of}
 use Rattle.clog_base.specs.declared.cell.Table.{Table}
-use Rattle.clog_base.proofs.Members.{here}
+use Rattle.clog_base.proofs.Members.{first_or_further, here, only_one}
 use Rattle.clog_base.proofs.NameLaws.{archive_is_no_table, one_table, segment_is_no_other}
 use Rattle.clog_disk.specs.Files.{bytes_at, no_files}
 use Rattle.clog_disk.proofs.Named.{put_here, put_there, same_or_other}
@@ -38,7 +38,7 @@ use Rattle.clog_crash.proofs.OneMore.{bytes_of}
 use Rattle.clog_crash.proofs.changes.Names.{is_named, not_segment}
 use Rattle.clog_crash.proofs.changes.Nothing.{reads_as}
 use Rattle.clog_crash.proofs.worked.Files.{is_segment_file}
-use Rattle.clog_applied.specs.Appended.{appended, entries_in}
+use Rattle.clog_applied.specs.Appended.{IsSegmentOf, appended, entries_in}
 use Rattle.clog_applied.specs.Closed.{IsStoreLeft, StaysOrWent}
 use Rattle.clog_applied.specs.Early.{AreRunChanges, IsRunChange}
 use Rattle.clog_applied.specs.Filed.{StandsBefore}
