@@ -1,5 +1,5 @@
 -- The appends among changes.
-use Rattle.std.proofs.Common.{ℕ, inl, inr, List, [], ◌∷◌, subst}
+use Rattle.std.proofs.Common.{◌≡◌, ℕ, inl, inr, List, [], ◌∷◌, subst}
 use Rattle.std.specs.Prelude.{Contains}
 use Rattle.clog_base.proofs.Members.{first_or_further, further, here, nothing_there}
 use Rattle.clog_disk.specs.declared.change.Change.{Change}
