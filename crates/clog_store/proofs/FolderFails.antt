@@ -46,7 +46,14 @@ use Rattle.path_core.specs.declared.note.EntryNote.{EntryNote}
 use Rattle.clog_store.specs.Grows.{segments_with}
 use Rattle.clog_store.specs.NoteLog.{IsNotOf, LeavesOthers, NoteState}
 use Rattle.clog_store.specs.StoreFailed.{AllStay, HoldsButOne}
-use Rattle.clog_store.specs.StoreFolder.{Deeds, HoldsStore, IsSound, StoreLog, log_of}
+use Rattle.clog_store.specs.StoreFolder.{
+  Deeds,
+  HoldsStore,
+  IsRow,
+  IsSound,
+  StoreLog,
+  log_of,
+}
 use Rattle.clog_store.proofs.AllGo.{archive_named}
 use Rattle.clog_store.proofs.FolderNames.{AreBelow, id_below, segment_absent}
 use Rattle.clog_store.proofs.FolderReads.{absent_or_held}
@@ -210,18 +217,23 @@ module _ (first f : Files) (log : StoreLog) (deeds : Deeds) (low : AreBelow log)
         ) in
         omega (arith, before, above)
 
+    -- no name that was there has come since
+    pub no_row : (name bytes : List ℕ) → finmap.get first name ≡ Some bytes → (other : List ℕ)
+        → IsRow log deeds holds.placed name other → ⊥
+    no_row name bytes there other row = elim row [
+      | inl r ↦ no_segment name bytes there r.segment.id
+          (id_below first f log deeds holds low fits r.segment r.among) r.name_is
+      | inr more ↦ elim more [
+        | inl r ↦ no_archive name bytes there r.segment.id
+            (omega (arith, low r.segment r.among, fits)) (omega (arith, r.id_is)) r.name_is
+        | inr r ↦ none-some bytes (sym (holds.are_placed.each r.file r.among).free
+            ∙ ap (finmap.get first) (sym r.name_is) ∙ there)
+      ]
+    ]
+
     pub all_stay_held : AllStay first f
     all_stay_held name bytes there =
-        holds.stands.others name (λ other row. elim row [
-          | inl r ↦ no_segment name bytes there r.segment.id
-              (id_below first f log deeds holds low fits r.segment r.among) r.name_is
-          | inr more ↦ elim more [
-            | inl r ↦ no_archive name bytes there r.segment.id
-                (omega (arith, low r.segment r.among, fits)) (omega (arith, r.id_is)) r.name_is
-            | inr r ↦ none-some bytes (sym (holds.are_placed.each r.file r.among).free
-                ∙ ap (finmap.get first) (sym r.name_is) ∙ there)
-          ]
-        ]) ∙ there
+        holds.stands.others name (no_row name bytes there) ∙ there
 
 -- whether or not the disk has failed
 pub all_stay : (first g : Files) (log : StoreLog) (deeds : Deeds) → AreBelow log

@@ -31,6 +31,7 @@ pub mod Lived
 mod LivedCalls
 mod LivedRolls
 pub mod Looking
+mod NamesKept
 mod NoteBegun
 mod NoteCuts
 mod NoteDue

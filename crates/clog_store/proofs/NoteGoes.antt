@@ -8,6 +8,7 @@ use Rattle.std.proofs.Common.{
   false,
   inl,
   inr,
+  length,
   refl,
   sym,
   ◌∙◌,
@@ -27,6 +28,7 @@ use Rattle.clog_store.specs.Life.{Lives, LivesOn, State}
 use Rattle.clog_store.specs.NoteSteps.{GoesOn}
 use Rattle.clog_store.specs.Stepped.{HasLogCause, Keeps, Settles}
 use Rattle.clog_store.proofs.Lived.{lives_further, lives_still}
+use Rattle.clog_store.proofs.NamesKept.{names_rolled, names_still, names_then}
 
 module _ {D : Type 0} (files : D → Option Files) (moment : D → ℕ)
     (since : D → ℕ → Files → Type 0) (leaves : D → List ℕ → Option (List ℕ) → Type 0)
@@ -56,6 +58,7 @@ module _ {D : Type 0} (files : D → Option Files) (moment : D → ℕ)
     later = later_same s.disk;
     lives = λ lives.
         lives_still files moment since leaves read_at lasted_at s only lives;
+    names = names_still files leaves s;
   }
 
   pub goes_then : (a b c : State D) → Going a b → Going b c → Going a c
@@ -66,21 +69,24 @@ module _ {D : Type 0} (files : D → Option Files) (moment : D → ℕ)
         let on = first.lives lives in
         lives_further files moment since leaves read_at lasted_at a b c lives.began on
         (next.lives on.lives);
+    names = names_then files leaves a b c first.names next.names;
   }
 
   -- the disk is not called
   pub goes_rolled : {T : Type 0} (a b : State D) (rolled : State D) (result : Result T StoreFault)
       → ((image : Files) → since a.disk (moment a.disk) image → IsImage (leaves a.disk) image)
-      → rolled.disk ≡ a.disk → rolled.opened ≡ a.opened → OnOk result (b ≡ rolled)
-      → OnErr result (b ≡ a)
+      → rolled.disk ≡ a.disk → rolled.opened ≡ a.opened → rolled.is_stopped ≡ a.is_stopped
+      → a.synced ≡ length a.sections → OnOk result (b ≡ rolled) → OnErr result (b ≡ a)
       → (Living a → OnOk result (LivingOn a b)) → Going a b
-  goes_rolled a b rolled (Ok done) only same opened rolls refused lives = record {
+  goes_rolled a b rolled (Ok done) only same opened stops all rolls refused lives = record {
     opened = ap (λ (s : State D). s.opened) rolls ∙ opened;
     later = subst (λ (d : D). IsLater moment read_at lasted_at a.disk d)
         (sym same ∙ sym (ap (λ (s : State D). s.disk) rolls)) (later_same a.disk);
     lives = lives;
+    names = names_rolled files leaves a b (ap (λ (s : State D). s.disk) rolls ∙ same)
+        (ap (λ (s : State D). s.is_stopped) rolls ∙ stops) all;
   }
-  goes_rolled a b rolled (Err fault) only same opened rolls refused lives =
+  goes_rolled a b rolled (Err fault) only same opened stops all rolls refused lives =
       subst (λ (s : State D). Going a s) (sym refused) (goes_still a only)
 
 -- each call is of a log of the same opening

@@ -9,6 +9,7 @@ use Rattle.clog_disk.specs.Files.{Files}
 use Rattle.clog_disk.specs.Images.{IsLater}
 use Rattle.clog_crash.specs.Readings.{Reading}
 use Rattle.clog_store.specs.Life.{Lives, LivesOn, State}
+use Rattle.clog_store.specs.NamesLast.{NamesGoOn}
 use Rattle.clog_store.specs.NoteLog.{IsNoteLog, NoteState, Stands}
 use Rattle.clog_store.specs.NoteSteps.{GoesOn}
 use Rattle.clog_store.specs.Stepped.{Passes}
@@ -83,9 +84,10 @@ pub passes_goes : {D : Type 0} (files : D → Option Files) (moment : D → ℕ)
     → IsLater moment read_at lasted_at before.disk now.disk
     → (Lives files moment since leaves read_at lasted_at before
     → LivesOn files moment since leaves read_at lasted_at before now)
+    → NamesGoOn files leaves before now
     → GoesOn files moment since leaves read_at lasted_at before now
-passes_goes files moment since leaves read_at lasted_at before now {T} r passes later lives =
-    record { opened = by r passes; later = later; lives = lives }
+passes_goes files moment since leaves read_at lasted_at before now {T} r passes later lives names =
+    record { opened = by r passes; later = later; lives = lives; names = names }
   where
     by : (x : Result T StoreFault) → Passes before now x → now.opened ≡ before.opened
     by (Ok x) is = ap (λ s. s.opened) is

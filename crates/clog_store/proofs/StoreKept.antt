@@ -41,6 +41,7 @@ use Rattle.std.specs.Prelude.{
 }
 use Rattle.std.specs.List.Sorted.{IsPermutation}
 use Rattle.std.proofs.lemmas.List.Sorted.{IsPermutation-refl}
+use Rattle.std.specs.FinMap as finmap
 use Rattle.std.proofs.lemmas.Bool.{ltb-false, ltb-true, true≢false}
 use base.Stored.{Gv}
 use Rattle.clog_spec.specs.Names.{segment_name_of}
@@ -49,7 +50,7 @@ use Rattle.clog_base.proofs.Members.{nothing_there, only_one}
 use Rattle.clog_io.specs.Causes.{Rose}
 use Rattle.clog_disk.specs.declared.change.Change.{Change}
 use Rattle.clog_disk.specs.Files.{Files}
-use Rattle.clog_disk.specs.Images.{IsLater}
+use Rattle.clog_disk.specs.Images.{IsLater, LastsAs}
 use Rattle.clog_disk.proofs.Moments.{later_still}
 use Rattle.clog_scan.specs.Cut.{Section}
 use Rattle.clog_crash.specs.Grown.{Append, appends_of, grown}
@@ -72,6 +73,7 @@ use Rattle.clog_store.specs.declared.written.StoreFault.{StoreFault}
 use Rattle.clog_store.specs.declared.written.StoreFault.TheVariants.{Stopped, OutOfMemory}
 use Rattle.clog_store.specs.Grows.{IsGrown, Writes}
 use Rattle.clog_store.specs.Life.{State}
+use Rattle.clog_store.specs.NamesLast.{NamesLast}
 use Rattle.clog_store.specs.NoteLog.{HasRefused, HasSynced, NoteState}
 use Rattle.clog_store.specs.Stepped.{HasLogCause, StopsBy}
 use Rattle.clog_store.specs.StoreFailed.{AllStay}
@@ -83,6 +85,7 @@ use Rattle.clog_store.specs.StoreFolder.{
   log_of,
   no_deeds,
 }
+use Rattle.clog_store.specs.StoreNames.{RowsLast}
 use Rattle.clog_store.specs.StoreOrder.{AreOrdered, AreSettled}
 use Rattle.clog_store.specs.StoreState.{
   AppendsAlone,
@@ -99,7 +102,7 @@ use Rattle.clog_store.specs.StoreState.{
   told_as,
 }
 use Rattle.clog_store.proofs.Cuts.{put_none}
-use Rattle.clog_store.proofs.FolderFails.{all_stay, but_none}
+use Rattle.clog_store.proofs.FolderFails.{all_stay, but_none, no_row}
 use Rattle.clog_store.proofs.NoteGrows.{added_both, appends_both, no_appends, nothing_added}
 use Rattle.clog_store.proofs.OrderGoes.{ordered_appended}
 use Rattle.clog_store.proofs.OrderSyncs.{GoesOnWith}
@@ -325,6 +328,17 @@ module _ {D : Type 0} (files : D → Option Files) (changes : D → Option (List
   all_stay_of s kept first now at_first at_now =
       all_stay first now (log_of s.notes) (deeds_by s) kept.sound.below kept.sound.stored.fits
       (left_of s kept first now at_first at_now)
+
+  -- each name that it wrote lasts
+  pub rows_last : (leaves : D → List ℕ → Option (List ℕ) → Type 0) (s : StoreState D)
+      → Keeping s → NamesLast files leaves s.first s.notes.log → RowsLast files leaves s
+  rows_last leaves s kept lasts runs first now at_first at_now holds name bytes row shut =
+      let there : finmap.get now name ≡ Some bytes = holds.stands.rows name bytes row in
+      elim (lasts runs first now at_first at_now name shut) [
+        | inl so ↦ subst (LastsAs (leaves s.notes.log.disk) name) there so
+        | inr stays ↦ absurd (no_row first now (log_of s.notes) (deeds_by s) kept.sound.below
+            kept.sound.stored.fits holds name bytes (sym stays.reads ∙ there) bytes row)
+      ]
 
   module _ (s : StoreState D) (n : NoteState D) (kept : Keeping s)
       (opened : n.log.opened ≡ s.notes.log.opened)

@@ -8,6 +8,7 @@ pub mod Grows
 pub mod Life
 pub mod Live
 pub mod Named
+pub mod NamesLast
 pub mod NoteLog
 pub mod NoteSections
 pub mod NoteSteps
@@ -22,6 +23,7 @@ pub mod ShownNotes
 pub mod StoreDrops
 pub mod StoreFailed
 pub mod StoreFolder
+pub mod StoreNames
 pub mod StoreOrder
 pub mod StoreState
 pub mod WorkedOrder

@@ -34,6 +34,7 @@ use Rattle.path_core.specs.Keeper.{FollowTo, Holding, MayWrite}
 use Rattle.clog_store.specs.declared.written.StoreFault.{StoreFault}
 use Rattle.clog_store.specs.Grows.{Writes}
 use Rattle.clog_store.specs.Life.{Lives, LivesOn, State, past_with}
+use Rattle.clog_store.specs.NamesLast.{NamesGoOn}
 use Rattle.clog_store.specs.NoteLog.{
   BeginsFrom,
   HasLog,
@@ -45,8 +46,8 @@ use Rattle.clog_store.specs.NoteLog.{
   end_behind,
 }
 
--- From a state of a log to a later one: it is the log of one opening, time has gone on, and a log
--- that lived lives on.
+-- From a state of a log to a later one: it is the log of one opening, time has gone on, a log that
+-- lived lives on, and names that lasted last.
 pub record GoesOn {D : Type 0} (files : D → Option Files) (moment : D → ℕ)
     (since : D → ℕ → Files → Type 0) (leaves : D → List ℕ → Option (List ℕ) → Type 0)
     (read_at : D → ℕ → Option Reading) (lasted_at : D → ℕ → Type 0) (before now : State D) : Type 0
@@ -55,6 +56,7 @@ pub record GoesOn {D : Type 0} (files : D → Option Files) (moment : D → ℕ)
     pub later : IsLater moment read_at lasted_at before.disk now.disk
     pub lives : Lives files moment since leaves read_at lasted_at before
         → LivesOn files moment since leaves read_at lasted_at before now
+    pub names : NamesGoOn files leaves before now
 
 -- The log goes forward and leaves the other files, and the changes of its disk bring what it
 -- writes, whether or not the disk has failed meanwhile.

@@ -29,6 +29,7 @@ ghost use Rattle.clog_crash.specs.Log.{Write};
 ghost use Rattle.clog_crash.specs.Readings.{Reading};
 ghost use Rattle.clog_store.specs.Beside.{ImagesButOne, StayButOne};
 ghost use Rattle.clog_store.specs.Coming.{MayCome, MayGo};
+ghost use Rattle.clog_store.specs.NamesLast.{EachLasts};
 ghost use Rattle.clog_store.specs.Resting.{RestsAt, ShowsBehind};
 
 use clog_base::{Table, segment_name, table_name};
@@ -50,6 +51,8 @@ pub fn put_table<D: Disk>(
         (D.files disk.new) }
     ensures elsewhere { ImagesButOne (table_name_of table.0 sequence) (D.leaves disk.old)
         (D.leaves disk.new) }
+    ensures names_last { result ≢ Err failed → EachLasts (D.files disk.old) (D.leaves disk.old)
+        (D.files disk.new) (D.leaves disk.new) }
     ensures adds { Adds (change.Publish (table_name_of table.0 sequence) bytes.now)
         (D.changes disk.old) (D.changes disk.new) result }
     ensures later { IsLater D.moment D.read_at D.lasted_at disk.old disk.new }
@@ -84,6 +87,8 @@ pub fn take_away<D: Disk>(disk: &mut D, segment: u64) -> Result<(), DiskFault>
         (D.files disk.new) }
     ensures elsewhere { ImagesButOne (segment_name_of 6 segment) (D.leaves disk.old)
         (D.leaves disk.new) }
+    ensures names_last { result ≢ Err failed → EachLasts (D.files disk.old) (D.leaves disk.old)
+        (D.files disk.new) (D.leaves disk.new) }
     ensures adds { Adds (change.Remove (segment_name_of 6 segment)) (D.changes disk.old)
         (D.changes disk.new) result }
     ensures later { IsLater D.moment D.read_at D.lasted_at disk.old disk.new }

@@ -57,6 +57,7 @@ ghost use Rattle.clog_store.specs.Discards.{
   named_at,
   refused_by,
 };
+ghost use Rattle.clog_store.specs.NamesLast.{EachLasts};
 ghost use Rattle.clog_store.specs.Resting.{ShowsBehind};
 
 use crate::changing::take_away;
@@ -95,6 +96,8 @@ fn name_archive<D: Disk>(disk: &mut D, id: u64, archives: bool) -> Result<(), Di
     ensures same { result ≢ Err failed → OnErr result (D.files disk.new ≡ D.files disk.old) }
     ensures others { StayButOne (archive_name_of id) (D.files disk.old) (D.files disk.new) }
     ensures elsewhere { ImagesButOne (archive_name_of id) (D.leaves disk.old) (D.leaves disk.new) }
+    ensures names_last { result ≢ Err failed → EachLasts (D.files disk.old) (D.leaves disk.old)
+        (D.files disk.new) (D.leaves disk.new) }
     ensures linked { OnErr result (archives ≡ true) }
     ensures changes { NamesBy archives id (D.changes disk.old) (D.changes disk.new) result }
     ensures stays { (r : Reading) (past : List Write) (last : ℕ) (old kept : List Section)
@@ -141,6 +144,8 @@ fn drop_segment<D: Disk>(
         result }
     ensures elsewhere { ImagesBut (IsEitherName (base + ordinal)) (D.leaves disk.old)
         (D.leaves disk.new) }
+    ensures names_last { refused_by result ≢ Err failed → EachLasts (D.files disk.old)
+        (D.leaves disk.old) (D.files disk.new) (D.leaves disk.new) }
     ensures changes { GoesBy archives (base + ordinal) (D.changes disk.old) (D.changes disk.new)
         result }
     ensures goes { (r : Reading) (past : List Write) (last : ℕ) (old kept : List Section)
@@ -201,6 +206,8 @@ pub fn drop_segments<D: Disk>(
         (D.files disk.new) result }
     ensures elsewhere { ImagesBut (IsOfGone base ordinals.now) (D.leaves disk.old)
         (D.leaves disk.new) }
+    ensures names_last { halted_by result ≢ Err failed → EachLasts (D.files disk.old)
+        (D.leaves disk.old) (D.files disk.new) (D.leaves disk.new) }
     ensures changes { AllGoBy archives base ordinals.now (D.changes disk.old) (D.changes disk.new)
         result }
     ensures goes { (r : Reading) (past : List Write) (last : ℕ) (old kept : List Section)

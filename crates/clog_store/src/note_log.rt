@@ -25,6 +25,7 @@ ghost use Rattle.clog_store.specs.Grows.{Grows, Writes};
 ghost use Rattle.clog_spec.specs.Names.{segment_name_of};
 ghost use Rattle.clog_crash.specs.Sections.{segment_bytes};
 ghost use Rattle.clog_store.specs.Life.{LastsHere, Lives, LivesOn, ReadsAs};
+ghost use Rattle.clog_store.specs.NamesLast.{NamesGoOn};
 ghost use Rattle.clog_store.specs.StoreFolder.{IsSound};
 ghost use Rattle.clog_store.specs.NoteLog.{
   BeginsFrom,
@@ -191,6 +192,7 @@ impl<D: Disk> NoteLog<D> {
         ensures grows { self.new.log.is_stopped ≡ false
             → Grows D.changes self.old.log self.new.log }
         ensures writes { Writes D.changes self.old.log self.new.log }
+        ensures names_last { NamesGoOn D.files D.leaves self.old.log self.new.log }
         ensures stays { self.old.log.is_stopped ≡ true → self.new ≡ self.old }
         ensures opened { self.new.log.opened ≡ self.old.log.opened }
         ensures later { IsLater D.moment D.read_at D.lasted_at self.old.log.disk self.new.log.disk }

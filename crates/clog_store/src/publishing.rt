@@ -16,6 +16,7 @@ ghost use Rattle.clog_crash.specs.Log.{Write};
 ghost use Rattle.clog_crash.specs.Readings.{Reading};
 ghost use Rattle.path_core.specs.Keeper.{Holding, MayPublish, PutFile};
 ghost use Rattle.clog_store.specs.Beside.{ImagesButOne, StayButOne};
+ghost use Rattle.clog_store.specs.NamesLast.{EachLasts};
 ghost use Rattle.clog_store.specs.OnDisk.{IsAllOnDisk, file_on};
 ghost use Rattle.clog_store.specs.Publishes.{HasCome, IsNumbered, MayPut, file_at};
 ghost use Rattle.clog_store.specs.Resting.{RestsAt, ShowsBehind};
@@ -61,6 +62,8 @@ pub fn publish_file<D: Disk>(
         (D.files disk.new) }
     ensures elsewhere { ImagesButOne (table_name_of file.table.0 sequence) (D.leaves disk.old)
         (D.leaves disk.new) }
+    ensures names_last { result ≢ Err failed → EachLasts (D.files disk.old) (D.leaves disk.old)
+        (D.files disk.new) (D.leaves disk.new) }
     ensures same { result ≢ Err failed → OnErr result (Unchanged (D.files disk.old)
         (D.files disk.new) (D.leaves disk.old) (D.leaves disk.new)) }
     ensures rests { (r : Reading) (past : List Write) (id : ℕ) (old kept : List Section)

@@ -26,6 +26,7 @@ ghost use Rattle.clog_store.specs.Life.{
   ReadsAs,
   ShownSince,
 };
+ghost use Rattle.clog_store.specs.NamesLast.{NamesGoOn};
 ghost use Rattle.clog_store.specs.StoreFolder.{IsSound};
 ghost use Rattle.clog_store.specs.Stepped.{
   AddsBytes,
@@ -214,6 +215,7 @@ impl<D: Disk> SectionLog<D> {
             bytes.now result }
         ensures others { StayButOne (segment_name_of 6 self.old.id) (D.files self.old.disk)
             (D.files self.new.disk) }
+        ensures names_last { NamesGoOn D.files D.leaves self.old self.new }
         ensures later { IsLater D.moment D.read_at D.lasted_at self.old.disk self.new.disk }
         ensures cause { HasLogCause self.old.is_stopped (D.faults self.old.disk)
             (D.faults self.new.disk) result }
@@ -245,6 +247,7 @@ impl<D: Disk> SectionLog<D> {
     /// Makes the sections last that are kept.
     pub fn settle(&mut self) -> Result<(), StoreFault>
         ensures settles { Settles self.old self.new result }
+        ensures names_last { NamesGoOn D.files D.leaves self.old self.new }
         ensures stays { self.old.is_stopped ≡ true → self.new ≡ self.old }
         ensures same { D.files self.new.disk ≡ D.files self.old.disk }
         ensures quiet { D.changes self.new.disk ≡ D.changes self.old.disk }

@@ -1,11 +1,23 @@
 //! The steps by which sections come to last: their bytes are kept behind those of the segment, and
 //! then made to last. A store changes its own numbers between the two.
-ghost use Rattle.std.specs.Prelude.{◌≡◌, ◌≢◌, ◌⊎◌, ◌++◌, [], ℕ, List, OnOk, OnErr, Err};
+ghost use Rattle.std.specs.Prelude.{
+  ◌≡◌,
+  ◌≢◌,
+  ◌⊎◌,
+  ◌++◌,
+  [],
+  ℕ,
+  List,
+  OnOk,
+  OnErr,
+  Err,
+  Some,
+};
 ghost use Rattle.clog_spec.specs.Names.{segment_name_of};
 ghost use Rattle.clog_disk.specs.Causes.{Finds, HasDiskCause};
 ghost use Rattle.clog_disk.specs.Changes.{Adds};
-ghost use Rattle.clog_disk.specs.Files.{AppendsTo, IsEnd, SameTold};
-ghost use Rattle.clog_disk.specs.Images.{IsLater, Lasts, LeavesOnly, SameImages};
+ghost use Rattle.clog_disk.specs.Files.{AppendsTo, Files, IsEnd, SameTold};
+ghost use Rattle.clog_disk.specs.Images.{IsLater, Lasts, LeavesOnly, SameImages, Within};
 ghost use Rattle.clog_disk.specs.declared.change.Change.TheVariants as change;
 ghost use Rattle.clog_disk.specs.declared.disk.DiskFault.TheVariants.{
   Failed as failed,
@@ -15,7 +27,7 @@ ghost use Rattle.clog_scan.specs.Cut.{Section};
 ghost use Rattle.clog_crash.specs.Log.{Write};
 ghost use Rattle.clog_crash.specs.Readings.{Reading};
 ghost use Rattle.clog_crash.specs.Sections.{Brings};
-ghost use Rattle.clog_store.specs.Beside.{StayButOne};
+ghost use Rattle.clog_store.specs.Beside.{ImagesButOne, StayButOne};
 ghost use Rattle.clog_store.specs.Resting.{RestsAt, ShowsBehind};
 
 use clog_base::segment_name;
@@ -39,6 +51,8 @@ pub fn keep_sections<D: Disk>(
     ensures cause { HasDiskCause (D.faults disk.old) (D.faults disk.new) result }
     ensures found { result ≢ Err no_file }
     ensures others { StayButOne (segment_name_of 6 id) (D.files disk.old) (D.files disk.new) }
+    ensures elsewhere { (f : Files) → D.files disk.old ≡ Some f
+        → ImagesButOne (segment_name_of 6 id) (D.leaves disk.old) (D.leaves disk.new) }
     ensures kept { (r : Reading) (past : List Write) (old kept new : List Section)
         → Brings id old kept new bytes.now
         → RestsAt (D.files disk.old) (D.leaves disk.old) r past id old kept
@@ -71,6 +85,7 @@ pub fn settle_sections<D: Disk>(disk: &mut D, id: u64) -> Result<(), DiskFault>
     ensures finds { Finds (D.files disk.old) (segment_name_of 6 id) result }
     ensures here { OnOk result (Lasts (D.files disk.old) (D.leaves disk.new)
         (segment_name_of 6 id)) }
+    ensures fewer { Within (D.leaves disk.old) (D.leaves disk.new) }
     ensures lasts { (r : Reading) (past : List Write) (old kept : List Section)
         → RestsAt (D.files disk.old) (D.leaves disk.old) r past id old kept
         → OnOk result

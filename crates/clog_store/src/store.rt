@@ -25,9 +25,11 @@ ghost use Rattle.clog_store.specs.Opened.{
   RecoversAll,
   RecoversFirst,
 };
+ghost use Rattle.clog_store.specs.NamesLast.{NamesLast};
 ghost use Rattle.clog_store.specs.NoteLog.{IsNoteLog};
 ghost use Rattle.clog_store.specs.StoreFailed.{AllStay};
 ghost use Rattle.clog_store.specs.StoreFolder.{HoldsStore, IsSound, fresh_log, no_deeds};
+ghost use Rattle.clog_store.specs.StoreNames.{RowsLast};
 ghost use Rattle.clog_store.specs.StoreOrder.{AreSettled};
 ghost use Rattle.clog_store.specs.StoreState.{
   AppendsAlone,
@@ -100,6 +102,7 @@ pub struct Store<D: Disk> {
 
 impl<D: Disk> Model for Store<D> {
     ghost use Rattle.std.specs.Prelude.{◌≡◌};
+    ghost use Rattle.clog_store.specs.NamesLast.{NamesLast};
     ghost use Rattle.clog_store.specs.StoreState.{IsStore, StoreState};
 
     ghost Value = { StoreState D };
@@ -121,7 +124,8 @@ impl<D: Disk> Model for Store<D> {
           files = s.files.items;
           dropped = s.dropped.items;
           archived = s.archived.items;
-        }) };
+        })
+        × NamesLast D.files D.leaves s.first.value s.notes.log };
 }
 
 // What a path is answered, with the disk's counts of faults at the opening and now.
@@ -230,7 +234,10 @@ impl<D: Disk> Store<D> {
     /// table files that stand for it. Its folder holds just what the store wrote and what was there
     /// at the opening, but for the one file with which the disk has failed; each file that was
     /// there at the opening stays. Where the store has not stopped and all sections of the segment
-    /// at hand last, its name does, whatever lasted at the opening.
+    /// at hand last, its name does, whatever lasted at the opening. So does each other name that it
+    /// wrote: of the segments that it has left, of those that it archived, and of the table files
+    /// that it put. At each name but that of the segment at hand a crash leaves just what is read
+    /// there, or nothing has changed there since the opening.
     ///
     /// Where the store has not stopped, the disk has counted no fault since the opening; else the
     /// count has risen, or stands at the greatest `u64`.
@@ -260,6 +267,8 @@ impl<D: Disk> Store<D> {
             → LastsNow D.files D.leaves D.read_at D.lasted_at self.notes.log }
         ensures here { self.notes.log.is_stopped ≡ false
             → LastsHere D.files D.leaves self.notes.log }
+        ensures names { NamesLast D.files D.leaves self.first self.notes.log }
+        ensures rows { RowsLast D.files D.leaves self }
     {
         self.notes.into_log().into_disk()
     }

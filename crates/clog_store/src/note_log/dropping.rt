@@ -24,6 +24,7 @@ ghost use Rattle.clog_store.specs.Discards.{AreDroppable};
 ghost use Rattle.clog_store.specs.Dropping.{AreDue, ArePublished};
 ghost use Rattle.clog_store.specs.Grows.{Writes};
 ghost use Rattle.clog_store.specs.Life.{Lives, LivesOn, ReadsAs};
+ghost use Rattle.clog_store.specs.NamesLast.{NamesGoOn};
 ghost use Rattle.clog_store.specs.NoteLog.{HasLog, IsNoteLog, LeavesOthers};
 ghost use Rattle.clog_store.specs.Stepped.{HasLogCause, Passes, StopsBy};
 ghost use Rattle.clog_store.specs.StoreDrops.{AreEarlier};
@@ -93,6 +94,7 @@ impl<D: Disk> NoteLog<D> {
         ensures others { LeavesOthers self.old.log self.new.log (D.files self.old.log.disk)
             (D.files self.new.log.disk) }
         ensures writes { Writes D.changes self.old.log self.new.log }
+        ensures names_last { NamesGoOn D.files D.leaves self.old.log self.new.log }
         ensures opened { self.new.log.opened ≡ self.old.log.opened }
         ensures later { IsLater D.moment D.read_at D.lasted_at self.old.log.disk
             self.new.log.disk }
@@ -120,6 +122,7 @@ impl<D: Disk> NoteLog<D> {
             (take self.old.log.synced self.old.log.sections) (self.old.base + o)) }
         ensures notes { self.new ≡ record self.old { log = self.new.log } }
         ensures passes { Passes self.old.log self.new.log (fault_of result) }
+        ensures names_last { NamesGoOn D.files D.leaves self.old.log self.new.log }
         ensures within { IsWithin archives (length ordinals.now) result }
         ensures told { SameTold (D.files self.old.log.disk) (D.files self.new.log.disk) }
         ensures files { DropsFiles archives self.old.base ordinals.now

@@ -18,6 +18,7 @@ ghost use Rattle.clog_disk.specs.Images.{IsLater};
 ghost use Rattle.path_core.specs.Keys.{after};
 ghost use Rattle.clog_store.specs.Grows.{Writes};
 ghost use Rattle.clog_store.specs.Life.{Lives, LivesOn};
+ghost use Rattle.clog_store.specs.NamesLast.{NamesGoOn};
 ghost use Rattle.clog_store.specs.NoteLog.{BeginsFrom, IsShortOf, LeavesOthers};
 ghost use Rattle.clog_store.specs.NoteSteps.{Enters, GoesOn};
 ghost use Rattle.clog_store.specs.Stepped.{HasLogCause, StopsBy};
@@ -43,6 +44,7 @@ impl<D: Disk> NoteLog<D> {
         ensures others { LeavesOthers self.old.log self.new.log (D.files self.old.log.disk)
             (D.files self.new.log.disk) }
         ensures writes { Writes D.changes self.old.log self.new.log }
+        ensures names_last { NamesGoOn D.files D.leaves self.old.log self.new.log }
         ensures stays { self.old.log.is_stopped ≡ true → self.new ≡ self.old }
         ensures opened { self.new.log.opened ≡ self.old.log.opened }
         ensures later { IsLater D.moment D.read_at D.lasted_at self.old.log.disk self.new.log.disk }

@@ -24,6 +24,7 @@ ghost use Rattle.clog_store.specs.Discarding.{
 };
 ghost use Rattle.clog_store.specs.Discards.{AreDroppable};
 ghost use Rattle.clog_store.specs.Life.{Lives, LivesOn};
+ghost use Rattle.clog_store.specs.NamesLast.{NamesGoOn};
 ghost use Rattle.clog_store.specs.Stepped.{HasLogCause, Passes, StopsBy};
 
 use crate::discarding::drop_segments;
@@ -51,6 +52,7 @@ impl<D: Disk> SectionLog<D> {
         requires covered { IfSome (D.files self.old.disk) (λ f. (o : ℕ) → Contains ordinals.now o
             → IsCovered f self.old.id (take self.old.synced self.old.sections) (base + o)) }
         ensures passes { Passes self.old self.new (fault_of result) }
+        ensures names_last { NamesGoOn D.files D.leaves self.old self.new }
         ensures stays { self.old.is_stopped ≡ true → self.new ≡ self.old }
         ensures none { self.old.is_stopped ≡ true → HasDroppedNone result }
         ensures within { self.old.is_stopped ≡ false

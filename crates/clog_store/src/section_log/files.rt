@@ -5,6 +5,7 @@ ghost use Rattle.clog_disk.specs.Files.{SameTold};
 ghost use Rattle.clog_disk.specs.Images.{IsLater};
 ghost use Rattle.clog_store.specs.Beside.{StayButOne};
 ghost use Rattle.clog_store.specs.Life.{Lives, LivesOn};
+ghost use Rattle.clog_store.specs.NamesLast.{NamesGoOn};
 ghost use Rattle.clog_store.specs.Publishes.{HasCome, IsNumbered, IsTrueHere, file_at};
 ghost use Rattle.clog_store.specs.Stepped.{HasLogCause, Passes, StopsBy};
 ghost use Rattle.clog_store.specs.declared.written.StoreFault.TheVariants.{
@@ -33,6 +34,7 @@ impl<D: Disk> SectionLog<D> {
         requires may { IfSome (D.files self.old.disk) (λ f. IsTrueHere f self.old.id
             (take self.old.synced self.old.sections) (file_at base file cells.now) sequence) }
         ensures passes { Passes self.old self.new result }
+        ensures names_last { NamesGoOn D.files D.leaves self.old self.new }
         ensures stays { self.old.is_stopped ≡ true → self.new ≡ self.old }
         ensures comes { OnOk result (HasCome (D.files self.old.disk) (D.files self.new.disk)
             (D.changes self.old.disk) (D.changes self.new.disk) (file_at base file cells.now)

@@ -3,6 +3,7 @@ ghost use Rattle.std.specs.Prelude.{◌≡◌, IfOk, true};
 ghost use Rattle.clog_disk.specs.Files.{Lists};
 ghost use Rattle.clog_disk.specs.Images.{IsLater};
 ghost use Rattle.clog_store.specs.Life.{Lives, LivesOn};
+ghost use Rattle.clog_store.specs.NamesLast.{NamesGoOn};
 ghost use Rattle.clog_store.specs.Stepped.{HasLogCause, Passes, StopsBy};
 
 use crate::section_log::SectionLog;
@@ -15,6 +16,7 @@ impl<D: Disk> SectionLog<D> {
     pub fn names(&mut self) -> Result<Rows<Name>, StoreFault>
         ensures names { IfOk result (λ names. Lists (D.files self.new.disk) names) }
         ensures passes { Passes self.old self.new result }
+        ensures names_last { NamesGoOn D.files D.leaves self.old self.new }
         ensures stays { self.old.is_stopped ≡ true → self.new ≡ self.old }
         ensures same { D.files self.new.disk ≡ D.files self.old.disk }
         ensures quiet { D.changes self.new.disk ≡ D.changes self.old.disk }

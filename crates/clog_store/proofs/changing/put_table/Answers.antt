@@ -7,6 +7,7 @@ use Rattle.clog_store.proofs.Beside.{comes_show, rests_with, rests_for_file}
 use Rattle.clog_store.proofs.Kept.{rests_show, rests_on}
 use Rattle.clog_store.proofs.Outcomes.{ok_both, err_then, one_call}
 use Rattle.clog_store.proofs.Stays.{stay_put, turned}
+use Rattle.clog_store.proofs.NamesKept.{each_by}
 use Rattle.clog_store.proofs.changing.put_table.Goals as goal
 
 pub returns-clause-comes : goal.returns-clause-comes
@@ -64,3 +65,14 @@ returns-clause-elsewhere g c =
     let after = D.leaves c.publish.new.self in
     subst (λ (name : List ℕ). ImagesButOne name before after) c.table_name.ensures
     (turned c.table_name.result (Some c.args.bytes.now) before after c.publish.ensures.crash)
+
+pub returns-clause-names_last : goal.returns-clause-names_last
+returns-clause-names_last g c other =
+    let D = g.D.Disk in
+    let before = c.args.disk.now in
+    let after = c.publish.new.self in
+    let is = c.publish.ensures in
+    each_by (D.files before) (D.files after) (D.leaves before) (D.leaves after)
+    c.table_name.result (Some c.args.bytes.now) c.publish.result other is.puts is.lasts
+    (turned c.table_name.result (Some c.args.bytes.now) (D.leaves before) (D.leaves after)
+    is.crash) is.refused

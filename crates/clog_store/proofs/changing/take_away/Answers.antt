@@ -5,6 +5,7 @@ use Rattle.clog_store.proofs.Beside.{goes_show, rests_without, rests_for_none}
 use Rattle.clog_store.proofs.Kept.{rests_show, rests_on}
 use Rattle.clog_store.proofs.Outcomes.{ok_both, err_then, one_call}
 use Rattle.clog_store.proofs.Stays.{stay_put, turned}
+use Rattle.clog_store.proofs.NamesKept.{each_by}
 use Rattle.clog_store.proofs.changing.take_away.Goals as goal
 
 pub returns-clause-goes : goal.returns-clause-goes
@@ -56,3 +57,13 @@ returns-clause-elsewhere g c =
     let after = D.leaves c.remove.new.self in
     subst (λ (name : List ℕ). ImagesButOne name before after) c.segment_name.ensures
     (turned c.segment_name.result None before after c.remove.ensures.crash)
+
+pub returns-clause-names_last : goal.returns-clause-names_last
+returns-clause-names_last g c other =
+    let D = g.D.Disk in
+    let before = c.args.disk.now in
+    let after = c.remove.new.self in
+    let is = c.remove.ensures in
+    each_by (D.files before) (D.files after) (D.leaves before) (D.leaves after)
+    c.segment_name.result None c.remove.result other is.puts is.lasts
+    (turned c.segment_name.result None (D.leaves before) (D.leaves after) is.crash) is.refused

@@ -12,6 +12,7 @@ use Rattle.clog_store.proofs.AllGo.{
   still_there,
 }
 use Rattle.clog_store.proofs.Stays.{unnamed}
+use Rattle.clog_store.proofs.NamesKept.{each_then}
 use Rattle.clog_store.proofs.discarding.drop_segment.Goals as goal
 use Rattle.std.specs.declared.result.Result.TheVariants.{Err}
 
@@ -111,3 +112,28 @@ pub returns-in-Err-take_away-clause-elsewhere : goal.returns-in-Err-take_away-cl
 returns-in-Err-take_away-clause-elsewhere g c name left apart is =
     c.name_archive.ensures.elsewhere name left (λ own. apart (inr own))
     (c.take_away.ensures.elsewhere name left (λ own. apart (inl own)) is)
+
+-- ---- which names last
+
+pub returns-in-Err-clause-names_last : goal.returns-in-Err-clause-names_last
+returns-in-Err-clause-names_last g c other = c.in-Err.ensures.names_last other
+
+pub returns-in-Ok-clause-names_last : goal.returns-in-Ok-clause-names_last
+returns-in-Ok-clause-names_last g c other =
+    let D = g.D.Disk in
+    let before = c.args.disk.now in
+    let mid = c.name_archive.new.disk in
+    let after = c.take_away.new.disk in
+    each_then (D.files before) (D.files mid) (D.files after) (D.leaves before) (D.leaves mid)
+    (D.leaves after) c.take_away.ensures.told (c.in_default.ensures.names_last (λ e. cc))
+    (c.in-Ok.ensures.names_last (λ e. cc))
+
+pub returns-in-Err-take_away-clause-names_last : goal.returns-in-Err-take_away-clause-names_last
+returns-in-Err-take_away-clause-names_last g c other =
+    let D = g.D.Disk in
+    let before = c.args.disk.now in
+    let mid = c.name_archive.new.disk in
+    let after = c.take_away.new.disk in
+    each_then (D.files before) (D.files mid) (D.files after) (D.leaves before) (D.leaves mid)
+    (D.leaves after) c.take_away.ensures.told (c.in_default.ensures.names_last (λ e. cc))
+    (c.in-Err-take_away.ensures.names_last other)

@@ -38,6 +38,7 @@ use Rattle.clog_store.proofs.AllGo.{
 }
 use Rattle.clog_store.proofs.Kept.{rests_show}
 use Rattle.clog_store.proofs.Stays.{in_all, next_named}
+use Rattle.clog_store.proofs.NamesKept.{each_same, each_then}
 use Rattle.clog_store.proofs.discarding.drop_segments.Goals as goal
 
 pub loop-done-init : goal.loop-done-init
@@ -60,6 +61,8 @@ loop-done-init g c =
       gone = all_gone_none (D.files disk) c.args.archives c.args.base;
       changes = behind_none (D.changes disk) (D.changes disk) refl;
       elsewhere = λ name left apart is. is;
+      names = each_same (D.files disk) (D.files disk) (D.leaves disk) (D.leaves disk) refl
+          (λ name left is. is);
       may = λ r past last old kept may. may;
       only = λ r past last old kept may.
           started D.moment D.since disk (ShowsBehind r past last old kept) (λ image left.
@@ -132,6 +135,9 @@ loop-done-preserved g c =
       elsewhere = λ name left apart here.
           is.elsewhere name left apart (c.drop_segment.ensures.elsewhere name left
           (λ own. apart (o, in_all i xs o (drop (i + 1) xs) split, own)) here);
+      names = each_then (D.files first) (D.files before) (D.files after) (D.leaves first)
+          (D.leaves before) (D.leaves after) c.drop_segment.ensures.told is.names
+          (c.in-Ok.ensures.names_last (λ e. cc));
       may = λ r past last old kept may.
           c.in-Ok.ensures.goes r past last old kept (drop (i + 1) xs)
           (subst (MayAllGo (D.files before) (D.leaves before) r past last old kept base) split
@@ -179,3 +185,13 @@ returns-in-Err-clause-elsewhere g c name left apart here =
       in_all i xs o (drop (i + 1) xs) (drop_more xs i 0 c.loop-done-test.true),
       own,
     )) here)
+
+pub returns-in-Err-clause-names_last : goal.returns-in-Err-clause-names_last
+returns-in-Err-clause-names_last g c other =
+    let D = g.D.Disk in
+    let first = c.args.disk.now in
+    let before = c.loop-done.disk in
+    let after = c.drop_segment.new.disk in
+    each_then (D.files first) (D.files before) (D.files after) (D.leaves first) (D.leaves before)
+    (D.leaves after) c.drop_segment.ensures.told c.loop-done.invariant.names
+    (c.in-Err.ensures.names_last other)

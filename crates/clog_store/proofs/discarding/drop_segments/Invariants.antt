@@ -13,6 +13,7 @@ use Rattle.clog_store.specs.Discards.{
   all_go_by,
   all_gone_at,
 }
+use Rattle.clog_store.specs.NamesLast.{EachLasts}
 use Rattle.clog_store.specs.Resting.{ShowsBehind}
 use Rattle.clog_store.proofs.discarding.drop_segments.Given as goal
 
@@ -31,6 +32,8 @@ invariant-loop-done g l =
       changes : AreBehind (all_go_by l.archives l.base (take l.done l.ordinals))
           (D.changes l.fn.disk) (D.changes l.disk);
       elsewhere : ImagesBut (IsOfGone l.base l.ordinals) (D.leaves l.fn.disk) (D.leaves l.disk);
+      names : EachLasts (D.files l.fn.disk) (D.leaves l.fn.disk) (D.files l.disk)
+          (D.leaves l.disk);
       may : (r : Reading) (past : List Write) (last : ℕ) (old kept : List Section)
           → MayAllGo (D.files l.fn.disk) (D.leaves l.fn.disk) r past last old kept l.base l.ordinals
           → MayAllGo (D.files l.disk) (D.leaves l.disk) r past last old kept l.base

@@ -8,6 +8,7 @@ use Rattle.clog_store.proofs.AllGo.{all_rest, link_rests, link_shows, named_by}
 use Rattle.clog_store.proofs.Kept.{rests_show}
 use Rattle.clog_store.proofs.Outcomes.{ok_both, one_call}
 use Rattle.clog_store.proofs.Stays.{linked, stay_put, stay_same}
+use Rattle.clog_store.proofs.NamesKept.{each_linked, each_same}
 use Rattle.clog_store.proofs.discarding.name_archive.Goals as goal
 
 pub returns-then-archives-clause-changes : goal.returns-then-archives-clause-changes
@@ -77,3 +78,21 @@ returns-then-archives-clause-elsewhere g c =
 
 pub returns-clause-elsewhere : goal.returns-clause-elsewhere
 returns-clause-elsewhere g c name left apart is = is
+
+pub returns-then-archives-clause-names_last : goal.returns-then-archives-clause-names_last
+returns-then-archives-clause-names_last g c other =
+    let D = g.D.Disk in
+    let before = c.args.disk.now in
+    let after = c.link.new.self in
+    let is = c.link.ensures in
+    each_linked (D.files before) (D.files after) (D.leaves before) (D.leaves after)
+    c.segment_name.result c.archive_name.result c.link.result other is.puts is.lasts
+    (linked (D.files before) (D.leaves before) (D.leaves after) c.segment_name.result
+    c.archive_name.result is.crash) is.refused
+
+pub returns-clause-names_last : goal.returns-clause-names_last
+returns-clause-names_last g c other =
+    let D = g.D.Disk in
+    let disk = c.args.disk.now in
+    each_same (D.files disk) (D.files disk) (D.leaves disk) (D.leaves disk) refl
+    (λ name left is. is)

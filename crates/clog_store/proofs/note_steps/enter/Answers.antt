@@ -1,4 +1,4 @@
-use Rattle.std.proofs.Common.{◌<◌, refl, ap, arith}
+use Rattle.std.proofs.Common.{◌<◌, ◌∙◌, length, refl, sym, ap, arith}
 use Rattle.std.proofs.lemmas.Bool.Decides.{nat_tests}
 use Rattle.clog_store.proofs.NoteGoes.{goes_rolled, goes_still, goes_then, settled_opened}
 use Rattle.clog_store.proofs.NoteLeaves.{leaves_entered, leaves_same, leaves_settled}
@@ -8,16 +8,18 @@ pub returns-clause-goes : goal.returns-clause-goes
 returns-clause-goes g c =
     let D = g.D.Disk in
     let mid = c.settle.new.self in
+    let settled = c.in_ok-settle.ensures.settles in
     goes_then D.files D.moment D.since D.leaves D.read_at D.lasted_at c.args.log.now mid
     c.roll.new.self (record {
       opened = settled_opened c.args.log.now mid c.settle.result c.settle.ensures.settles;
       later = c.settle.ensures.later;
       lives = c.settle.ensures.lives;
+      names = c.settle.ensures.names_last;
     })
     (goes_rolled D.files D.moment D.since D.leaves D.read_at D.lasted_at mid c.roll.new.self _
-    c.roll.result (g.met.D.Disk.only_now mid.disk) refl refl c.roll.ensures.rolls
-    c.roll.ensures.refused
-    c.roll.ensures.lives)
+    c.roll.result (g.met.D.Disk.only_now mid.disk) refl refl refl
+    (ap (λ s. s.synced) settled ∙ ap (λ s. length s.sections) (sym settled))
+    c.roll.ensures.rolls c.roll.ensures.refused c.roll.ensures.lives)
 
 pub returns-then-id-clause-goes : goal.returns-then-id-clause-goes
 returns-then-id-clause-goes g c =

@@ -80,6 +80,7 @@ returns-in-Ok-clause-goes g c = record {
       c.keep.ensures.keeps;
   later = c.keep.ensures.later;
   lives = c.keep.ensures.lives;
+  names = c.keep.ensures.names_last;
 }
 
 pub returns-in-Err-clause-goes : goal.returns-in-Err-clause-goes

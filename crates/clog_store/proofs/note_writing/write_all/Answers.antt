@@ -25,6 +25,7 @@ returns-in-Ok-clause-goes g c =
           c.settle.ensures.settles;
       later = c.settle.ensures.later;
       lives = c.settle.ensures.lives;
+      names = c.settle.ensures.names_last;
     })
 
 pub returns-in-Ok-clause-leaves : goal.returns-in-Ok-clause-leaves

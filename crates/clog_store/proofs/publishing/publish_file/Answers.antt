@@ -5,6 +5,7 @@ use Rattle.clog_store.specs.Resting.{ShowsBehind}
 use Rattle.clog_store.proofs.FilePut.{added, may_come, put_rests, spelled_at}
 use Rattle.clog_store.proofs.Kept.{rests_show}
 use Rattle.clog_store.proofs.Outcomes.{ok_both}
+use Rattle.clog_store.proofs.NamesKept.{each_same}
 use Rattle.clog_store.proofs.publishing.publish_file.Goals as goal
 
 pub returns-in_default-clause-any_moment : goal.returns-in_default-clause-any_moment
@@ -54,3 +55,10 @@ returns-clause-any_moment g c r past id old kept may =
     (spelled_at c.args.base c.args.file c.args.cells.now _ _ c.in-Ok.bytes.items c.deref.result.now
     c.in-Ok.ensures c.position-lower.ensures c.position-upper.ensures (sym c.deref.ensures.value))
     may)
+
+pub returns-in_default-clause-names_last : goal.returns-in_default-clause-names_last
+returns-in_default-clause-names_last g c other =
+    let D = g.D.Disk in
+    let disk = c.args.disk.now in
+    each_same (D.files disk) (D.files disk) (D.leaves disk) (D.leaves disk) refl
+    (λ name left is. is)

@@ -1,9 +1,10 @@
 use Rattle.std.proofs.Common.{◌++◌, List, ℕ, length, subst}
-use Rattle.clog_store.specs.Beside.{StayButOne}
+use Rattle.clog_store.specs.Beside.{ImagesButOne, StayButOne}
 use Rattle.clog_store.specs.Resting.{ShowsBehind}
 use Rattle.clog_store.proofs.Kept.{rests_show, rests_show_more, rests_on, torn_show, rests_kept}
 use Rattle.clog_store.proofs.Outcomes.{ok_then, err_then, one_call}
 use Rattle.clog_store.proofs.Stays.{stay_appended}
+use Rattle.clog_store.proofs.NamesKept.{torn_elsewhere}
 use Rattle.clog_store.proofs.sections.keep_sections.Goals as goal
 
 pub returns-clause-kept : goal.returns-clause-kept
@@ -56,3 +57,13 @@ returns-clause-others g c =
     (stay_appended c.segment_name.result c.args.bytes.now (length c.args.bytes.now)
     (D.files before) (D.files after) c.append_at.result c.append_at.ensures.appends
     c.append_at.ensures.maybe)
+
+pub returns-clause-elsewhere : goal.returns-clause-elsewhere
+returns-clause-elsewhere g c f is =
+    let D = g.D.Disk in
+    let before = c.args.disk.now in
+    let after = c.append_at.new.self in
+    subst (λ (name : List ℕ). ImagesButOne name (D.leaves before) (D.leaves after))
+    c.segment_name.ensures
+    (torn_elsewhere (D.files before) (D.leaves before) (D.leaves after) c.segment_name.result
+    (length c.args.bytes.now) c.append_at.ensures.crash f is)

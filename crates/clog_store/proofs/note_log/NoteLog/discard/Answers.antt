@@ -1,7 +1,8 @@
-use Rattle.std.proofs.Common.{ℕ, ◌+◌, Contains, sym, subst, take}
+use Rattle.std.proofs.Common.{ℕ, ◌+◌, Contains, ap, sym, subst, take}
 use Rattle.std.specs.Prelude.{IfSome}
 use Rattle.clog_crash.specs.Flush.{IsCovered}
 use Rattle.clog_store.specs.NoteLog.{NoteState}
+use Rattle.clog_store.proofs.NamesKept.{names_from}
 use Rattle.clog_store.proofs.note_log.NoteLog.discard.Goals as goal
 
 pub discard-requires-clause-covered : goal.discard-requires-clause-covered
@@ -10,3 +11,8 @@ discard-requires-clause-covered g c =
     → Contains c.args.ordinals.now o
     → IsCovered f x.log.id (take x.log.synced x.log.sections) (x.base + o))) (sym c.self.view_is)
     c.requires.covered
+
+pub returns-clause-names_last : goal.returns-clause-names_last
+returns-clause-names_last g c =
+    names_from g.D.Disk.files g.D.Disk.leaves
+    (ap (λ (x : NoteState g.row.D.Denot). x.log) c.self.view_is) c.discard.ensures.names_last

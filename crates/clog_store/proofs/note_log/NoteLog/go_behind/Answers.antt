@@ -26,6 +26,7 @@ use Rattle.clog_store.proofs.NoteDue.{
 }
 use Rattle.clog_store.proofs.NoteGrows.{grows_same, writes_of}
 use Rattle.clog_store.proofs.NoteLeaves.{leaves_same}
+use Rattle.clog_store.proofs.NamesKept.{names_still}
 use Rattle.clog_store.proofs.note_log.NoteLog.go_behind.Goals as goal
 
 -- ---- behind the segment at hand
@@ -198,3 +199,6 @@ returns-clause-lives g c lives =
     let log = c.args.self.now.log in
     lives_still D.files D.moment D.since D.leaves D.read_at D.lasted_at log
     (g.met.D.Disk.only_now log.disk) lives
+
+pub returns-clause-names_last : goal.returns-clause-names_last
+returns-clause-names_last g c = names_still g.D.Disk.files g.D.Disk.leaves c.args.self.now.log

@@ -1,9 +1,10 @@
-use Rattle.std.proofs.Common.{◌≡◌, refl, sym, ◌∙◌, subst}
+use Rattle.std.proofs.Common.{◌≡◌, refl, sym, ◌∙◌, ap, subst}
 use Rattle.clog_store.specs.NoteLog.{BeginsFrom, NoteState}
 use Rattle.clog_store.proofs.Lived.{lives_still}
 use Rattle.clog_store.proofs.NoteGrows.{grows_same, writes_of}
 use Rattle.clog_store.proofs.NoteLeaves.{leaves_same}
 use Rattle.clog_store.proofs.NoteReaches.{noted_on}
+use Rattle.clog_store.proofs.NamesKept.{names_from, names_still}
 use Rattle.clog_store.proofs.note_log.NoteLog.go_on.Goals as goal
 
 pub returns-then-is_stopped-clause-others : goal.returns-then-is_stopped-clause-others
@@ -39,3 +40,12 @@ invariant_of-self g c =
     (subst (λ (x : NoteState g.row.D.Denot). x.written ≡ 0) (sym c.self.view_is) c.requires.none)
     (subst (λ (x : NoteState g.row.D.Denot). BeginsFrom x.base c.args.id x.kept)
     (sym c.self.view_is) c.requires.begins) c.self.invariant c.enter.result c.enter.ensures.enters
+
+pub returns-then-is_stopped-clause-names_last : goal.returns-then-is_stopped-clause-names_last
+returns-then-is_stopped-clause-names_last g c =
+    names_still g.D.Disk.files g.D.Disk.leaves c.args.self.now.log
+
+pub returns-clause-names_last : goal.returns-clause-names_last
+returns-clause-names_last g c =
+    names_from g.D.Disk.files g.D.Disk.leaves
+    (ap (λ (x : NoteState g.row.D.Denot). x.log) c.self.view_is) c.enter.ensures.goes.names

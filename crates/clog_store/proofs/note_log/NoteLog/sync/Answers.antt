@@ -6,6 +6,7 @@ use Rattle.clog_store.proofs.Lived.{lives_still}
 use Rattle.clog_store.proofs.NoteGrows.{grows_of, grows_same, writes_of}
 use Rattle.clog_store.proofs.NoteLeaves.{leaves_same}
 use Rattle.clog_store.proofs.NoteSynced.{may_run}
+use Rattle.clog_store.proofs.NamesKept.{names_still}
 use Rattle.clog_store.proofs.note_log.NoteLog.sync.Goals as goal
 
 pub returns-then-is_stopped-clause-lives : goal.returns-then-is_stopped-clause-lives
@@ -86,3 +87,17 @@ pub returns-in_err-log_run-clause-grows : goal.returns-in_err-log_run-clause-gro
 returns-in_err-log_run-clause-grows g c still =
     grows_of g.D.Disk.changes c.args.self.now.log c.log_run.new.self.log
     c.log_run.ensures.leaves.brings still
+
+-- ---- which names last
+
+pub returns-then-is_stopped-clause-names_last : goal.returns-then-is_stopped-clause-names_last
+returns-then-is_stopped-clause-names_last g c =
+    names_still g.D.Disk.files g.D.Disk.leaves c.args.self.now.log
+
+pub returns-in_err-run-clause-names_last : goal.returns-in_err-run-clause-names_last
+returns-in_err-run-clause-names_last g c =
+    names_still g.D.Disk.files g.D.Disk.leaves c.args.self.now.log
+
+pub returns-then-not-may_begin-clause-names_last : goal.returns-then-not-may_begin-clause-names_last
+returns-then-not-may_begin-clause-names_last g c =
+    names_still g.D.Disk.files g.D.Disk.leaves c.args.self.now.log

@@ -4,6 +4,7 @@ use Rattle.clog_crash.specs.Flush.{IsCovered}
 use Rattle.clog_store.specs.Life.{Lives, State}
 use Rattle.clog_store.proofs.Lived.{lives_from, lives_still}
 use Rattle.clog_store.proofs.SegmentsGo.{all_went, first_went, not_failed, some_went}
+use Rattle.clog_store.proofs.NamesKept.{names_beside, names_from, names_still, names_stopped}
 use Rattle.clog_store.proofs.section_log.SectionLog.discard.Goals as goal
 
 -- ---- what it keeps
@@ -176,3 +177,47 @@ returns-in-Failed-clause-lives g c lives =
     is.told is.later c.args.archives c.args.base xs covered is.any_moment is.elsewhere).1
     (subst (Lives D.files D.moment D.since D.leaves D.read_at D.lasted_at) (sym c.self.view_is)
     lives))
+
+-- ---- which names last
+
+pub returns-then-self-clause-names_last : goal.returns-then-self-clause-names_last
+returns-then-self-clause-names_last g c = names_still g.D.Disk.files g.D.Disk.leaves c.args.self.now
+
+pub returns-in-Ok-clause-names_last : goal.returns-in-Ok-clause-names_last
+returns-in-Ok-clause-names_last g c =
+    let D = g.D.Disk in
+    let s = c.self.inside in
+    let before : State g.row.D.Denot = record {
+      disk = s.disk;
+      opened = s.opened;
+      past = s.past.items;
+      id = s.id;
+      sections = s.sections.items;
+      synced = s.synced;
+      is_stopped = s.is_stopped;
+    } in
+    names_from D.files D.leaves c.self.view_is
+    (names_beside D.files D.leaves before c.drop_segments.new.disk s.sections.items refl
+    c.drop_segments.ensures.told (c.in-Ok.ensures.names_last (λ e. cc)))
+
+pub returns-in-OutOfMemory-clause-names_last : goal.returns-in-OutOfMemory-clause-names_last
+returns-in-OutOfMemory-clause-names_last g c =
+    let D = g.D.Disk in
+    let s = c.self.inside in
+    let before : State g.row.D.Denot = record {
+      disk = s.disk;
+      opened = s.opened;
+      past = s.past.items;
+      id = s.id;
+      sections = s.sections.items;
+      synced = s.synced;
+      is_stopped = s.is_stopped;
+    } in
+    names_from D.files D.leaves c.self.view_is
+    (names_beside D.files D.leaves before c.drop_segments.new.disk s.sections.items refl
+    c.drop_segments.ensures.told
+    (c.in-Err.ensures.names_last
+    (not_failed (Err c.in-Err.halt.fault) refl c.in-OutOfMemory.is)))
+
+pub returns-in-Failed-clause-names_last : goal.returns-in-Failed-clause-names_last
+returns-in-Failed-clause-names_last g c = names_stopped g.D.Disk.files g.D.Disk.leaves _ _ refl

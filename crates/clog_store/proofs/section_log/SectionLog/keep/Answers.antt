@@ -26,6 +26,15 @@ use Rattle.clog_store.proofs.Lived.{lives_from, lives_still}
 use Rattle.clog_store.proofs.LivedCalls.{lives_kept, lives_same, lives_torn}
 use Rattle.clog_store.proofs.Outcomes.{no_failure}
 use Rattle.clog_store.proofs.Stays.{lasts_same, stay_same}
+use Rattle.clog_disk.proofs.Telling.{same_told_self}
+use Rattle.clog_store.proofs.NamesKept.{
+  each_same,
+  names_beside,
+  names_from,
+  names_kept,
+  names_still,
+  names_stopped,
+}
 use Rattle.clog_store.proofs.section_log.SectionLog.keep.Goals as goal
 
 -- the disk is not called
@@ -321,3 +330,78 @@ invariant_of-self-in-Err-Failed g c =
     c.keep_sections.ensures.later x (λ r rests.
     c.keep_sections.ensures.any_moment r s.past.items (take s.synced ss) (drop s.synced ss) (x ∷ [])
     brings rests)))
+
+-- ---- which names last
+
+pub returns-then-self-clause-names_last : goal.returns-then-self-clause-names_last
+returns-then-self-clause-names_last g c = names_still g.D.Disk.files g.D.Disk.leaves c.args.self.now
+
+pub returns-in_err-push-clause-names_last : goal.returns-in_err-push-clause-names_last
+returns-in_err-push-clause-names_last g c =
+    let D = g.D.Disk in
+    let s = c.self.inside in
+    let before : State g.row.D.Denot = record {
+      disk = s.disk;
+      opened = s.opened;
+      past = s.past.items;
+      id = s.id;
+      sections = s.sections.items;
+      synced = s.synced;
+      is_stopped = s.is_stopped;
+    } in
+    names_from D.files D.leaves c.self.view_is
+    (names_beside D.files D.leaves before s.disk c.push.new.self.items c.in_err-push.ensures.items
+    (same_told_self (D.files s.disk))
+    (each_same (D.files s.disk) (D.files s.disk) (D.leaves s.disk) (D.leaves s.disk) refl
+    (λ name left is. is)))
+
+pub returns-in-Ok-clause-names_last : goal.returns-in-Ok-clause-names_last
+returns-in-Ok-clause-names_last g c =
+    let D = g.D.Disk in
+    let s = c.self.inside in
+    let before : State g.row.D.Denot = record {
+      disk = s.disk;
+      opened = s.opened;
+      past = s.past.items;
+      id = s.id;
+      sections = s.sections.items;
+      synced = s.synced;
+      is_stopped = s.is_stopped;
+    } in
+    let is = c.keep_sections.ensures in
+    let more = c.in_ok-push.ensures.items in
+    names_from D.files D.leaves c.self.view_is
+    (names_kept D.files D.leaves before c.keep_sections.new.disk c.push.new.self.items
+    (omega (
+      arith,
+      c.self.invariant.few,
+      ap length more,
+      length-append s.sections.items (c.args.section ∷ []),
+    )) is.told is.others is.elsewhere)
+
+pub returns-in-Err-OutOfMemory-clause-names_last : goal.returns-in-Err-OutOfMemory-clause-names_last
+returns-in-Err-OutOfMemory-clause-names_last g c =
+    let D = g.D.Disk in
+    let s = c.self.inside in
+    let before : State g.row.D.Denot = record {
+      disk = s.disk;
+      opened = s.opened;
+      past = s.past.items;
+      id = s.id;
+      sections = s.sections.items;
+      synced = s.synced;
+      is_stopped = s.is_stopped;
+    } in
+    let is = c.keep_sections.ensures in
+    let mid = c.keep_sections.new.disk in
+    names_from D.files D.leaves c.self.view_is
+    (names_beside D.files D.leaves before mid c.take_back.new.sections.items
+    (c.take_back.ensures s.sections.items c.args.section c.in_ok-push.ensures.items) is.told
+    (each_same (D.files s.disk) (D.files mid) (D.leaves s.disk) (D.leaves mid)
+    (no_failure c.keep_sections.result c.in-Err-OutOfMemory.is
+    c.in-Err-OutOfMemory.field-0-is (λ other. is.same other))
+    (no_failure c.keep_sections.result c.in-Err-OutOfMemory.is
+    c.in-Err-OutOfMemory.field-0-is (λ other. is.images other)).fewer))
+
+pub returns-in-Err-Failed-clause-names_last : goal.returns-in-Err-Failed-clause-names_last
+returns-in-Err-Failed-clause-names_last g c = names_stopped g.D.Disk.files g.D.Disk.leaves _ _ refl

@@ -1,7 +1,8 @@
-use Rattle.std.proofs.Common.{sym, subst}
+use Rattle.std.proofs.Common.{refl, sym, subst}
 use Rattle.clog_store.specs.Life.{Lives, State}
 use Rattle.clog_store.proofs.Lived.{lives_from, lives_still}
 use Rattle.clog_store.proofs.Untouched.{failed, untouched}
+use Rattle.clog_store.proofs.NamesKept.{names_asked, names_from, names_still, names_stopped}
 use Rattle.clog_store.proofs.section_log.SectionLog.names.Goals as goal
 
 pub returns-then-self-clause-lives : goal.returns-then-self-clause-lives
@@ -138,3 +139,45 @@ returns-in-Err-Failed-clause-lives g c lives =
     is.same is.time).1
     (subst (Lives D.files D.moment D.since D.leaves D.read_at D.lasted_at) (sym c.self.view_is)
     lives))
+
+-- ---- which names last
+
+pub returns-then-self-clause-names_last : goal.returns-then-self-clause-names_last
+returns-then-self-clause-names_last g c = names_still g.D.Disk.files g.D.Disk.leaves c.args.self.now
+
+pub returns-in-Ok-clause-names_last : goal.returns-in-Ok-clause-names_last
+returns-in-Ok-clause-names_last g c =
+    let D = g.D.Disk in
+    let s = c.self.inside in
+    let before : State g.row.D.Denot = record {
+      disk = s.disk;
+      opened = s.opened;
+      past = s.past.items;
+      id = s.id;
+      sections = s.sections.items;
+      synced = s.synced;
+      is_stopped = s.is_stopped;
+    } in
+    let same = c.list.ensures.same in
+    names_from D.files D.leaves c.self.view_is
+    (names_asked D.files D.leaves before c.list.new.self same)
+
+pub returns-in-Err-OutOfMemory-clause-names_last : goal.returns-in-Err-OutOfMemory-clause-names_last
+returns-in-Err-OutOfMemory-clause-names_last g c =
+    let D = g.D.Disk in
+    let s = c.self.inside in
+    let before : State g.row.D.Denot = record {
+      disk = s.disk;
+      opened = s.opened;
+      past = s.past.items;
+      id = s.id;
+      sections = s.sections.items;
+      synced = s.synced;
+      is_stopped = s.is_stopped;
+    } in
+    let same = c.list.ensures.same in
+    names_from D.files D.leaves c.self.view_is
+    (names_asked D.files D.leaves before c.list.new.self same)
+
+pub returns-in-Err-Failed-clause-names_last : goal.returns-in-Err-Failed-clause-names_last
+returns-in-Err-Failed-clause-names_last g c = names_stopped g.D.Disk.files g.D.Disk.leaves _ _ refl

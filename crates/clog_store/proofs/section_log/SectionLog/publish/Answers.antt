@@ -10,6 +10,8 @@ use Rattle.clog_store.proofs.Lived.{lives_from, lives_still}
 use Rattle.clog_store.proofs.OtherFiles.{broken, end_beside, passed, put_wherever, table_aside}
 use Rattle.clog_store.proofs.Outcomes.{no_failure}
 use Rattle.clog_store.proofs.Stays.{lasts_beside, lasts_same}
+use Rattle.clog_store.proofs.NamesKept.{names_beside, names_from, names_still, names_stopped}
+use Rattle.clog_store.proofs.SegmentsGo.{not_failed}
 use Rattle.clog_store.proofs.section_log.SectionLog.publish.Goals as goal
 
 -- ---- what it keeps
@@ -300,3 +302,47 @@ returns-in-Err-Failed-clause-lives g c lives =
     (may at on r rests))).1
     (subst (Lives D.files D.moment D.since D.leaves D.read_at D.lasted_at) (sym c.self.view_is)
     lives))
+
+-- ---- which names last
+
+pub returns-then-self-clause-names_last : goal.returns-then-self-clause-names_last
+returns-then-self-clause-names_last g c = names_still g.D.Disk.files g.D.Disk.leaves c.args.self.now
+
+pub returns-in-Ok-clause-names_last : goal.returns-in-Ok-clause-names_last
+returns-in-Ok-clause-names_last g c =
+    let D = g.D.Disk in
+    let s = c.self.inside in
+    let before : State g.row.D.Denot = record {
+      disk = s.disk;
+      opened = s.opened;
+      past = s.past.items;
+      id = s.id;
+      sections = s.sections.items;
+      synced = s.synced;
+      is_stopped = s.is_stopped;
+    } in
+    names_from D.files D.leaves c.self.view_is
+    (names_beside D.files D.leaves before c.publish_file.new.disk s.sections.items refl
+    c.publish_file.ensures.told (c.in-Ok.ensures.names_last (λ e. cc)))
+
+pub returns-in-Err-OutOfMemory-clause-names_last : goal.returns-in-Err-OutOfMemory-clause-names_last
+returns-in-Err-OutOfMemory-clause-names_last g c =
+    let D = g.D.Disk in
+    let s = c.self.inside in
+    let before : State g.row.D.Denot = record {
+      disk = s.disk;
+      opened = s.opened;
+      past = s.past.items;
+      id = s.id;
+      sections = s.sections.items;
+      synced = s.synced;
+      is_stopped = s.is_stopped;
+    } in
+    names_from D.files D.leaves c.self.view_is
+    (names_beside D.files D.leaves before c.publish_file.new.disk s.sections.items refl
+    c.publish_file.ensures.told
+    (c.publish_file.ensures.names_last
+    (not_failed c.publish_file.result c.in-Err-OutOfMemory.is c.in-Err-OutOfMemory.field-0-is)))
+
+pub returns-in-Err-Failed-clause-names_last : goal.returns-in-Err-Failed-clause-names_last
+returns-in-Err-Failed-clause-names_last g c = names_stopped g.D.Disk.files g.D.Disk.leaves _ _ refl

@@ -1,4 +1,17 @@
-use Rattle.std.proofs.Common.{◌<◌, ◌∙◌, ℕ, Option, length, take, drop, true, sym, subst, arith}
+use Rattle.std.proofs.Common.{
+  ◌<◌,
+  ◌∙◌,
+  ℕ,
+  Option,
+  length,
+  take,
+  drop,
+  true,
+  refl,
+  sym,
+  subst,
+  arith,
+}
 use Rattle.std.proofs.lemmas.Bool.{true≢false}
 use Rattle.std.proofs.lemmas.Bool.Decides.{nat_tests}
 use Rattle.clog_spec.specs.Names.{segment_name_of}
@@ -12,6 +25,14 @@ use Rattle.clog_store.proofs.Begun.{begun_on}
 use Rattle.clog_store.proofs.Ends.{end_same}
 use Rattle.clog_store.proofs.Lived.{lives_from, lives_still, same_told}
 use Rattle.clog_store.proofs.LivedCalls.{lives_same, lives_settled, lives_stopped}
+use Rattle.clog_store.proofs.NamesKept.{
+  each_same,
+  names_beside,
+  names_from,
+  names_settled,
+  names_still,
+  names_stopped,
+}
 use Rattle.clog_store.proofs.section_log.SectionLog.settle.Goals as goal
 
 pub returns-then-self-clause-lives : goal.returns-then-self-clause-lives
@@ -280,3 +301,53 @@ invariant_of-self-in-Err-Failed g c =
     (drop s.synced ss))) some (λ r rests.
     c.settle_sections.ensures.any_moment r s.past.items (take s.synced ss) (drop s.synced ss)
     rests)))
+
+-- ---- which names last
+
+pub returns-then-self-clause-names_last : goal.returns-then-self-clause-names_last
+returns-then-self-clause-names_last g c = names_still g.D.Disk.files g.D.Disk.leaves c.args.self.now
+
+pub returns-then-self-len-clause-names_last : goal.returns-then-self-len-clause-names_last
+returns-then-self-len-clause-names_last g c =
+    names_still g.D.Disk.files g.D.Disk.leaves c.args.self.now
+
+pub returns-in-Ok-clause-names_last : goal.returns-in-Ok-clause-names_last
+returns-in-Ok-clause-names_last g c =
+    let D = g.D.Disk in
+    let s = c.self.inside in
+    let before : State g.row.D.Denot = record {
+      disk = s.disk;
+      opened = s.opened;
+      past = s.past.items;
+      id = s.id;
+      sections = s.sections.items;
+      synced = s.synced;
+      is_stopped = s.is_stopped;
+    } in
+    let is = c.settle_sections.ensures in
+    names_from D.files D.leaves c.self.view_is
+    (names_settled D.files D.leaves before c.settle_sections.new.disk c.len-self-inside.result
+    is.same is.fewer c.in-Ok.ensures.here)
+
+pub returns-in-Err-OutOfMemory-clause-names_last : goal.returns-in-Err-OutOfMemory-clause-names_last
+returns-in-Err-OutOfMemory-clause-names_last g c =
+    let D = g.D.Disk in
+    let s = c.self.inside in
+    let before : State g.row.D.Denot = record {
+      disk = s.disk;
+      opened = s.opened;
+      past = s.past.items;
+      id = s.id;
+      sections = s.sections.items;
+      synced = s.synced;
+      is_stopped = s.is_stopped;
+    } in
+    let is = c.settle_sections.ensures in
+    let new = c.settle_sections.new.disk in
+    names_from D.files D.leaves c.self.view_is
+    (names_beside D.files D.leaves before new s.sections.items refl
+    (same_told (D.files s.disk) (D.files new) is.same)
+    (each_same (D.files s.disk) (D.files new) (D.leaves s.disk) (D.leaves new) is.same is.fewer))
+
+pub returns-in-Err-Failed-clause-names_last : goal.returns-in-Err-Failed-clause-names_last
+returns-in-Err-Failed-clause-names_last g c = names_stopped g.D.Disk.files g.D.Disk.leaves _ _ refl

@@ -1,5 +1,7 @@
 use Rattle.std.proofs.Common.{◌≡◌, ◌∙◌, sym, ap, subst}
+use Rattle.clog_store.specs.NamesLast.{NamesLast}
 use Rattle.clog_store.specs.StoreState.{IsStore, StoreState, store_over}
+use Rattle.clog_store.proofs.NamesKept.{names_at_first}
 use Rattle.clog_store.proofs.StoreKept.{store_begun}
 use Rattle.clog_store.proofs.store.Store.begin.Goals as goal
 
@@ -30,4 +32,6 @@ invariant_of-result g c =
           (store_begun D.files D.changes D.moment D.faults D.read_at D.lasted_at log c.args.sizes
           c.args.archives c.requires.no_past c.requires.none c.requires.opened c.requires.runs
           c.fault_count-at_open.ensures.sound c.requires.folder),
+      subst (λ (s : StoreState g.row.D.Denot). NamesLast D.files D.leaves s.first s.notes.log) is
+          (names_at_first D.files D.leaves log),
     )

@@ -25,6 +25,7 @@ invariant_of-self g c =
           (subst (λ (l : List ℕ). IsStore D.files D.changes D.moment D.faults D.read_at
           D.lasted_at (record s { archived = l })) (sym c.make_room.ensures.b)
           c.self.invariant.1),
+      c.self.invariant.2,
     )
 
 pub invariant_of-self-2 : goal.invariant_of-self-2
@@ -46,6 +47,7 @@ invariant_of-self-2 g c =
           (subst (λ (l : List ℕ). IsStore D.files D.changes D.moment D.faults D.read_at
           D.lasted_at (record s { archived = l })) (sym c.make_room.ensures.b)
           c.self.invariant.1),
+      c.self.invariant.2,
     )
 
 pub returns-in_err-make_room-clause-same : goal.returns-in_err-make_room-clause-same

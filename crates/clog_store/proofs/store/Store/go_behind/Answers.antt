@@ -7,6 +7,7 @@ use Rattle.clog_store.specs.StoreState.{StoreState, holding_of}
 use Rattle.clog_store.proofs.OrderSyncs.{goes_for_none, settled_same}
 use Rattle.clog_store.proofs.StoreFolds.{folder_failed, folder_with}
 use Rattle.clog_store.proofs.StoreKept.{store_on}
+use Rattle.clog_store.proofs.NamesKept.{names_on}
 use Rattle.clog_store.proofs.store.Store.go_behind.Goals as goal
 
 pub go_behind-outcome-requires-clause-due : goal.go_behind-outcome-requires-clause-due
@@ -75,4 +76,5 @@ invariant_of-self g c =
           (goes_for_none s n is.others.more
           (ap (λ (x : NoteState g.row.D.Denot). x.base) is.same) is.others.past
           (ap (λ (x : NoteState g.row.D.Denot). x.logged) is.same)),
+      names_on D.files D.leaves s.first s.notes.log n.log c.self.invariant.2 is.names_last,
     )

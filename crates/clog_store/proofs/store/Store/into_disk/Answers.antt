@@ -1,5 +1,7 @@
 use Rattle.std.proofs.Common.{◌≡◌, ◌∙◌, Some, false, sym, ap, subst}
+use Rattle.clog_store.specs.NamesLast.{NamesLast}
 use Rattle.clog_store.specs.StoreFolder.{IsSound}
+use Rattle.clog_store.specs.StoreNames.{RowsLast}
 use Rattle.clog_store.specs.StoreOrder.{AreSettled}
 use Rattle.clog_store.specs.Life.{State}
 use Rattle.clog_store.specs.StoreFailed.{AllStay}
@@ -10,7 +12,7 @@ use Rattle.clog_store.specs.StoreState.{
   HoldsItButOne,
   StoreState,
 }
-use Rattle.clog_store.proofs.StoreKept.{all_stay_of, left_of}
+use Rattle.clog_store.proofs.StoreKept.{all_stay_of, left_of, rows_last}
 use Rattle.clog_store.proofs.store.Store.into_disk.Goals as goal
 
 pub returns-clause-folder : goal.returns-clause-folder
@@ -54,3 +56,16 @@ pub returns-clause-ordered : goal.returns-clause-ordered
 returns-clause-ordered g c =
     subst (λ (x : StoreState g.row.D.Denot). HasOrdered g.D.Disk.changes x) c.self.view_is
     c.self.invariant.1.order.ordered
+
+pub returns-clause-names : goal.returns-clause-names
+returns-clause-names g c =
+    subst (λ (x : StoreState g.row.D.Denot).
+    NamesLast g.D.Disk.files g.D.Disk.leaves x.first x.notes.log) c.self.view_is
+    c.self.invariant.2
+
+pub returns-clause-rows : goal.returns-clause-rows
+returns-clause-rows g c =
+    let D = g.D.Disk in
+    subst (λ (x : StoreState g.row.D.Denot). RowsLast D.files D.leaves x) c.self.view_is
+    (rows_last D.files D.changes D.moment D.faults D.read_at D.lasted_at D.leaves _
+    c.self.invariant.1 c.self.invariant.2)

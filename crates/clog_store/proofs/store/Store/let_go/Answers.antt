@@ -18,6 +18,7 @@ use Rattle.clog_store.specs.StoreFolder.{with_gone}
 use Rattle.clog_store.specs.StoreState.{IsStore, StoreState, deeds_by}
 use Rattle.clog_store.proofs.Lived.{lives_still}
 use Rattle.clog_store.proofs.StoreLetGo.{all_covered, droppable, let_go_with, none_let_go}
+use Rattle.clog_store.proofs.NamesKept.{names_on}
 use Rattle.clog_store.proofs.store.Store.let_go.Goals as goal
 
 pub discard-outcome-requires-clause-droppable : goal.discard-outcome-requires-clause-droppable
@@ -100,8 +101,12 @@ invariant_of-self-2 g c =
     c.make_room.ensures.a ∙ ap (λ (k : ℕ). i.dropped.items ++ take k os) c.dropped_by-gone.ensures)
     (c.add_archived.ensures ∙ ap (λ (l : List ℕ).
     if i.archives then l ++ take c.archived_by-named.result os else l) c.make_room.ensures.b
-    ∙ ap (λ (k : ℕ). (with_gone (deeds_by s) (take k os)).archived) c.archived_by-named.ensures) in
-    (c.self.invariant.0, both.0)
+    ∙ ap (λ (k : ℕ). (with_gone (deeds_by s) (take k os)).archived)
+    c.archived_by-named.ensures) in (
+      c.self.invariant.0,
+      both.0,
+      names_on D.files D.leaves s.first s.notes.log n.log c.self.invariant.2 is.names_last,
+    )
 
 pub returns-clause-goes : goal.returns-clause-goes
 returns-clause-goes g c =
@@ -168,6 +173,7 @@ invariant_of-self g c =
           (subst (λ (l : List ℕ). IsStore D.files D.changes D.moment D.faults D.read_at
           D.lasted_at (record s { archived = l })) (sym c.make_room.ensures.b)
           c.self.invariant.1),
+      c.self.invariant.2,
     )
 
 pub returns-in_err-make_room-clause-goes : goal.returns-in_err-make_room-clause-goes

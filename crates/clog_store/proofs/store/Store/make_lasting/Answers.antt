@@ -14,6 +14,7 @@ use Rattle.clog_store.proofs.StoreKept.{
   syncs_told,
 }
 use Rattle.clog_store.proofs.StorePuts.{all_last, on_told}
+use Rattle.clog_store.proofs.NamesKept.{names_on}
 use Rattle.clog_store.proofs.store.Store.make_lasting.Goals as goal
 
 pub sync-outcome-requires : goal.sync-outcome-requires
@@ -80,6 +81,7 @@ invariant_of-self g c =
           c.self.invariant.1.order.settled c.args.upto.0 c.args.pending.now.items
           c.sync-outcome.new.pending.items may c.sync-outcome.result is.syncs is.refused
           (D.files s.notes.log.disk) (D.files n.log.disk) is.others),
+      names_on D.files D.leaves s.first s.notes.log n.log c.self.invariant.2 is.names_last,
     )
 
 pub returns-clause-syncs : goal.returns-clause-syncs

@@ -20,6 +20,7 @@ use Rattle.clog_store.proofs.StorePuts.{
   quiet_on,
   store_still,
 }
+use Rattle.clog_store.proofs.NamesKept.{names_on}
 use Rattle.clog_store.proofs.store.Store.next_sequence.Goals as goal
 
 pub invariant_of-self : goal.invariant_of-self
@@ -48,6 +49,7 @@ invariant_of-self g c =
           (asked_still D.files D.changes D.moment D.faults D.read_at D.lasted_at s n.log
           c.self.invariant.1 c.next_sequence-outcome.result is.passes is.goes.later is.cause
           is.stops (λ was. sym is.log ∙ is.stays was) is.same)),
+      names_on D.files D.leaves s.first s.notes.log n.log c.self.invariant.2 is.goes.names,
     )
 
 pub returns-clause-moved : goal.returns-clause-moved

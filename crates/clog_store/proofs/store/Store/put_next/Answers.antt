@@ -24,6 +24,7 @@ use Rattle.clog_store.proofs.StorePuts.{
   store_put,
   store_still,
 }
+use Rattle.clog_store.proofs.NamesKept.{names_on}
 use Rattle.clog_store.proofs.store.Store.put_next.Goals as goal
 
 pub returns-in_err-reserve-clause-goes : goal.returns-in_err-reserve-clause-goes
@@ -136,6 +137,7 @@ invariant_of-self-in-Err g c =
           (free_table D.files D.changes D.moment D.faults D.read_at D.lasted_at
           g.row.D.coded.code g.met.D.Disk.tells_both s c.self.invariant.1 runs noted c.args.file
           c.args.cells.now may c.args.sequence next far)))),
+      names_on D.files D.leaves s.first s.notes.log n.log c.self.invariant.2 is.goes.names,
     )
 
 pub invariant_of-self-in-Ok : goal.invariant_of-self-in-Ok
@@ -190,6 +192,7 @@ invariant_of-self-in-Ok g c =
           c.self.invariant.1 runs noted c.args.file c.args.cells.now may c.args.sequence next.starts
           next.fits n.log (passes_same s.notes n.log c.put.result is.passes)
           (as_passed s.notes n.log c.put.result is.passes) come.bytes come.spelled come.adds))),
+      names_on D.files D.leaves s.first s.notes.log n.log c.self.invariant.2 is.goes.names,
     )
 
 pub returns-in-Ok-clause-quiet : goal.returns-in-Ok-clause-quiet

@@ -4,6 +4,7 @@ use Rattle.clog_store.specs.Stepped.{IsQuiet}
 use Rattle.clog_store.specs.StoreState.{HasMoved, StoreState, holding_of, told_as}
 use Rattle.clog_store.proofs.StoreKept.{keeper_cause, rose_of}
 use Rattle.clog_store.proofs.StorePuts.{on_told, quiet_on, store_gone_on}
+use Rattle.clog_store.proofs.NamesKept.{names_on}
 use Rattle.clog_store.proofs.store.Store.reach.Goals as goal
 
 pub invariant_of-self : goal.invariant_of-self
@@ -26,6 +27,7 @@ invariant_of-self g c =
           g.met.D.Disk.tells_both s n c.self.invariant.1 is.same is.goes.opened is.goes.later
           is.writes is.others is.stays c.reach-outcome.result is.cause is.stops told.sound
           told.reads,
+      names_on D.files D.leaves s.first s.notes.log n.log c.self.invariant.2 is.goes.names,
     )
 
 pub returns-clause-moved : goal.returns-clause-moved
