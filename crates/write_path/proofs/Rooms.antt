@@ -1,5 +1,20 @@
 -- That a key without room was found in a call stays so while its seat goes on.
-use Rattle.std.proofs.Common.{◌≡◌, ℕ, ◌≤◌, false, List, [], ◌∷◌, Some, length, refl, subst, sym, ⊎_elim, arith}
+use Rattle.std.proofs.Common.{
+  ◌≡◌,
+  ℕ,
+  ◌≤◌,
+  false,
+  List,
+  [],
+  ◌∷◌,
+  Some,
+  length,
+  refl,
+  subst,
+  sym,
+  ⊎_elim,
+  arith,
+}
 use mathlib.Core.Logic.{inl, inr}
 use Rattle.op_core.specs.declared.count.Order.{Order}
 use Rattle.op_core.specs.declared.count.Order.TheVariants.{Write, Append}

@@ -41,6 +41,12 @@ pub use writing::Written;
 #[cfg(test)]
 mod commit_tests;
 #[cfg(test)]
+mod refusing_tests;
+#[cfg(test)]
+mod rolling_tests;
+#[cfg(test)]
+mod rows_tests;
+#[cfg(test)]
 mod sync_tests;
 #[cfg(test)]
 mod tests;
