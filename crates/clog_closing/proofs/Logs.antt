@@ -92,7 +92,7 @@ place_is base n w is =
     let id = is.id in
     λ i. (sym id i, entry i)
 
-places_are : (base : ℕ) (notes : List EntryNote) (history : List LoggedLine)
+pub places_are : (base : ℕ) (notes : List EntryNote) (history : List LoggedLine)
     → AreNotesOf base notes history → places_of base notes ≡ map placed_line history
 places_are base [] [] are = refl
 places_are base [] (w ∷ ws) are = absurd are

@@ -1,5 +1,8 @@
 pub mod Rising
 pub mod Committing
+pub mod Firsts
+pub mod Owned
+pub mod FirstLogged
 pub mod Ending
 pub mod Totals
 pub mod Dealt
@@ -10,3 +13,7 @@ pub mod Histories
 pub mod Leaving
 pub mod Told
 pub mod Slots
+pub mod Counted
+pub mod Crashing
+pub mod LeftBy
+pub mod OneWriter

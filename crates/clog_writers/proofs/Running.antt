@@ -29,6 +29,7 @@ use Rattle.std.proofs.lemmas.Option.{none-some, same_Some}
 use Rattle.atomic_table.specs.Seated.{TableId}
 use Rattle.clog_base.specs.declared.sizes.Sizes.{Sizes}
 use Rattle.clog_mutation.specs.declared.mutation.Mutation.{Mutation}
+use Rattle.path_core.specs.declared.note.EntryNote.{EntryNote}
 use Rattle.path_core.specs.Keeper.{Holding, IsFresh}
 use Rattle.path_rule.specs.declared.lasting.Lasting.{Lasting}
 use Rattle.path_rule.specs.declared.trying.PathSeat.{PathSeat}
@@ -41,8 +42,9 @@ use Rattle.clog_writers.specs.declared.fault.WriteFault.{WriteFault}
 use Rattle.clog_writers.specs.declared.fault.WriteFault.TheVariants.{OutOfMemory, Spent, Stopped}
 use Rattle.clog_writers.specs.declared.worker.Worker.{Worker}
 use Rattle.clog_writers.specs.Crews.{AreDealt, AreReady, HaveEnded, HaveLogged, IsSizedAs}
-use Rattle.clog_writers.specs.Logged.{EndsShares, GoesOnAlone, HoldShares}
+use Rattle.clog_writers.specs.Logged.{EndsShares, GoesOnAlone, HoldFirsts, HoldShares}
 use Rattle.clog_writers.proofs.Ending.{hold_shares, none_kept}
+use Rattle.clog_writers.proofs.FirstLogged.{hold_firsts, none_held, none_written}
 use Rattle.clog_writers.proofs.Totals.{few_writes}
 
 -- what a slice of a whole list of workers is written back to
@@ -130,11 +132,12 @@ module _ (sizes : Sizes) (base : ℕ) (before now : Holding) (fresh : IsFresh ba
 module _ {K : Type 0} (sizes : Sizes) (base : ℕ) (before now : Holding)
     (fresh : IsFresh base sizes before) where
   -- where memory was refused before
-  refused : (workers : List (Worker K)) → GoesOnAlone before now
+  refused : (workers : List (Worker K)) → GoesOnAlone before now → now.logged ++ now.kept ≡ []
       → EndsShares sizes base before now workers (Some OutOfMemory)
-  refused workers alone = record {
+  refused workers alone empty = record {
     alone = alone;
     logs = λ ms dealt none. absurd (none-some OutOfMemory (sym none));
+    firsts = λ ms dealt. none_held sizes.writers ms (now.logged ++ now.kept) empty;
     stops = λ at_open n is. absurd (not_stopped at_open n is);
     spent = λ ms dealt no. absurd (let q : OutOfMemory ≡ Spent =
         same_Some OutOfMemory Spent no in cc);
@@ -147,14 +150,19 @@ module _ {K : Type 0} (sizes : Sizes) (base : ℕ) (before now : Holding)
       (alone_by sizes base before now fresh
       (stays_beside before now (ap (λ (l : Lasting). l.beside) same))
       (ap (λ (l : Lasting). l.dropped) same ∙ fresh.none_dropped))
+      (ap (λ (l : Lasting). l.logged ++ l.kept) same
+      ∙ ap (λ (l : List EntryNote). l ++ before.kept) fresh.nothing_logged ∙ fresh.nothing_kept)
+
+  pub unseated : (size : PathSize) (seats : List (PathSeat K)) (end : ℕ)
+      → IsOutcome size seats end now → StaysBeside before now → seats ≡ []
+      → (workers : List (Worker K)) → EndsShares sizes base before now workers (Some OutOfMemory)
+  unseated size seats end o beside none workers =
+      refused workers (alone_by sizes base before now fresh beside o.none_dropped)
+      (none_written size seats end now o none)
 
   module _ (id : TableId) (size : PathSize) (at_open : ℕ) (is : size ≡ size_of sizes base at_open)
       (seats : List (PathSeat K)) (end : ℕ) (o : IsOutcome size seats end now)
       (beside : StaysBeside before now) where
-    pub unseated : (workers : List (Worker K))
-        → EndsShares sizes base before now workers (Some OutOfMemory)
-    unseated workers = refused workers (alone_by sizes base before now fresh beside o.none_dropped)
-
     pub ran : (workers : List (Worker K)) (fault : Option WriteFault) (some : List Mutation)
         → AreDealt sizes some workers
         → ((ms : List Mutation) → AreDealt sizes ms workers → HaveEnded id size ms fault seats)
@@ -170,6 +178,9 @@ module _ {K : Type 0} (sizes : Sizes) (base : ℕ) (before now : Holding)
                 (hold_shares id size ms seats all end now o);
             none_kept = none_kept id size ms seats all end now o;
           };
+      firsts = λ ms given.
+          subst (λ (z : PathSize). HoldFirsts z.seats ms (now.logged ++ now.kept)) is
+          (hold_firsts id size ms fault seats (ended ms given) end now o);
       stops = λ a n stopped.
           let one = (ended some dealt).stops a n stopped in
           (All-contains (IsStoppedFor now) seats one.0 o.found_stopped one.1 n one.2.0 one.2.1).0;

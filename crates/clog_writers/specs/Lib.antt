@@ -4,3 +4,5 @@ pub mod Logged
 pub mod Placed
 pub mod Planned
 pub mod Written
+pub mod Left
+pub mod Worked

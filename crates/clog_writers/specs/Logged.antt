@@ -12,6 +12,7 @@ use Rattle.std.specs.Prelude.{
   true,
   List,
   [],
+  ◌++◌,
   length,
   Option,
   Some,
@@ -29,7 +30,7 @@ use Rattle.clog_writers.specs.declared.fault.WriteFault.{WriteFault}
 use Rattle.clog_writers.specs.declared.fault.WriteFault.TheVariants.{Spent, Stopped}
 use Rattle.clog_writers.specs.declared.worker.Worker.{Worker}
 use Rattle.clog_writers.specs.Crews.{AreDealt}
-use Rattle.clog_writers.specs.Shares.{AreWritesOf}
+use Rattle.clog_writers.specs.Shares.{AreFirstWrites, AreWritesOf}
 
 -- The keeper goes on from the disk of the one before, and has done nothing beside its log.
 pub record GoesOnAlone (before now : Holding) : Type 0 where
@@ -54,6 +55,14 @@ pub record HoldShares (capacity writers : ℕ) (mutations : List Mutation) (note
       → AreWritesOf writer (share_of writers writer mutations)
       (filter (is_note_of writer) notes)
 
+-- Of these entries each writer's are the first of its share of the lines, in order.
+pub record HoldFirsts (writers : ℕ) (mutations : List Mutation) (notes : List EntryNote) : Type 0
+  where
+    pub known : (n : EntryNote) → Contains notes n → n.writer.0 < writers
+    pub firsts : (writer : ℕ) → writer < writers
+        → AreFirstWrites writer (share_of writers writer mutations)
+        (filter (is_note_of writer) notes)
+
 -- The keeper has made lasting all shares, and nothing else.
 pub record LogsShares (sizes : Sizes) (base : ℕ) (mutations : List Mutation) (now : Holding) :
     Type 0 where
@@ -62,12 +71,14 @@ pub record LogsShares (sizes : Sizes) (base : ℕ) (mutations : List Mutation) (
   pub none_kept : now.kept ≡ []
 
 -- What became of the shares that were dealt out to workers: where nothing was refused all of them
--- are logged.
+-- are logged. Whatever was, what is lasting and what is kept are the first of each.
 pub record EndsShares {K : Type 0} (sizes : Sizes) (base : ℕ) (before now : Holding)
     (workers : List (Worker K)) (fault : Option WriteFault) : Type 0 where
   pub alone : GoesOnAlone before now
   pub logs : (mutations : List Mutation) → AreDealt sizes mutations workers → fault ≡ None
       → LogsShares sizes base mutations now
+  pub firsts : (mutations : List Mutation) → AreDealt sizes mutations workers
+      → HoldFirsts sizes.writers mutations (now.logged ++ now.kept)
   pub stops : (at_open count : ℕ) → fault ≡ Some (Stopped at_open count) → now.stopped ≡ true
   -- it has no room only for many lines
   pub spent : (mutations : List Mutation) → AreDealt sizes mutations workers → fault ≡ Some Spent

@@ -52,6 +52,13 @@ AreWritesOf writer [] (n ∷ ns) = ⊥
 AreWritesOf writer (l ∷ ls) [] = ⊥
 AreWritesOf writer (l ∷ ls) (n ∷ ns) = IsWriteOf writer l n × AreWritesOf writer ls ns
 
+-- A writer's notes are those of the first of its lines, in order.
+pub record AreFirstWrites (writer : ℕ) (lines : List Line) (notes : List EntryNote) : Type 0 where
+  pub done : List Line
+  pub left : List Line
+  pub parts : lines ≡ done ++ left
+  pub are : AreWritesOf writer done notes
+
 -- entries in the order of the log, none over another
 abbrev pub Rise : List EntryNote → Type 0
 Rise notes = AllPairs (λ (a b : EntryNote). a.end.0 ≤ b.start.0) notes

@@ -33,11 +33,14 @@ use Rattle.clog_applied.specs.Closed.{IsClosedPath, IsStoreLeft}
 use Rattle.clog_applied.specs.History.{LoggedLine, logged_at}
 use Rattle.clog_applied.specs.Printed.{AreByLine}
 use Rattle.clog_lines.specs.Written.{IsWrittenBy}
+use Rattle.path_core.specs.declared.note.EntryNote.{EntryNote}
 use Rattle.write_path.specs.declared.commit.Receipt.{Receipt}
 use Rattle.clog_writers.specs.declared.fault.PlanFault.{PlanFault}
 use Rattle.clog_writers.specs.declared.fault.PlanFault.TheVariants as plan
 use Rattle.clog_writers.specs.declared.fault.WriteFault.{WriteFault}
 use Rattle.clog_writers.specs.declared.fault.WriteFault.TheVariants.{OutOfMemory, Stopped, TooLarge}
+use Rattle.clog_writers.specs.Logged.{HoldShares}
+use Rattle.clog_writers.specs.Placed.{AreAtTheirLines}
 
 -- So many writers log all lines, and the log is synced at the end. Nothing is flushed or drained.
 pub record IsAskedBy (options : ApplyOptions) (sizes : Sizes) (archives : Bool) : Type 0 where
@@ -71,6 +74,15 @@ pub record AppendsLog {D : Type 0} (changes : D → Option (List Change)) (befor
   pub changes_are : changes now ≡ option_map (λ made. made ++ added) (changes before)
   pub alone : AreAppends added
   pub brought : IsWrittenBy (appends_of added) log
+
+-- All lines were logged, and these are their receipts, in the order of the lines, whether or not
+-- the disk tells anything.
+pub record HasReceipts (sizes : Sizes) (base : ℕ) (mutations : List Mutation)
+    (receipts : List Receipt) : Type 0 where
+  pub notes : List EntryNote
+  pub holds : HoldShares sizes.capacity sizes.writers mutations notes
+  pub placed : AreAtTheirLines base notes receipts
+  pub long : length receipts ≡ length mutations
 
 -- What the disk tells of it.
 pub record TellsWrittenShares (options : ApplyOptions) (base : ℕ) (opened : Files)

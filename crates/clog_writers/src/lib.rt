@@ -7,9 +7,11 @@
 mod crew;
 mod dealing;
 mod fault;
+mod laws;
 mod logging;
 mod placing;
 mod planning;
+mod rows;
 #[cfg(test)]
 mod tests;
 mod worker;
@@ -17,7 +19,12 @@ mod writing;
 
 pub use dealing::deal;
 pub use fault::{PlanFault, WriteFault};
+pub use laws::{
+    first_lines_are_those_of_one_writer, one_writer_logs_the_first_lines,
+    the_first_of_a_history_are_the_first_of_each,
+};
 pub use logging::log_shares;
 pub use planning::{Plan, make_plan};
+pub use rows::a_line_comes_behind_the_earlier_ones_of_its_writer;
 pub use worker::Worker;
 pub use writing::write_shares;

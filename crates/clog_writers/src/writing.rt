@@ -16,23 +16,27 @@ ghost use Rattle.std.specs.Prelude.{
   is_some,
   length,
   Err,
+  option_map,
   IfOk,
 };
 ghost use Rattle.std.specs.List.{AllByRecursion};
 ghost use Rattle.clog_spec.specs.Sizes.{most_tables};
 ghost use Rattle.clog_disk.specs.declared.change.Change.{Change};
-ghost use Rattle.clog_disk.specs.Files.{Files, SameTold};
+ghost use Rattle.clog_disk.specs.Files.{Files, SameTold, bytes_at};
 ghost use Rattle.clog_disk.specs.Images.{IsLater};
 ghost use Rattle.clog_io.specs.Causes.{Rose};
 ghost use Rattle.clog_mutation.specs.declared.mutation.Mutation.{Mutation as MutationOf};
 ghost use Rattle.clog_mutation.specs.Limits.{IsWithinLimits};
 ghost use Rattle.clog_words.specs.declared.request.ApplyOptions.{ApplyOptions};
 ghost use Rattle.clog_crash.specs.Log.{Write};
+ghost use Rattle.clog_store.specs.StoreFailed.{AllStay};
 ghost use Rattle.clog_store.specs.StoreState.{store_over};
 ghost use Rattle.clog_writers.specs.declared.fault.WriteFault.TheVariants.{Spent, Stopped};
+ghost use Rattle.clog_writers.specs.Left.{LeavesShares, least_of};
 ghost use Rattle.clog_writers.specs.Planned.{IsPlanFor};
 ghost use Rattle.clog_writers.specs.Written.{
   AppendsLog,
+  HasReceipts,
   HasShareCause,
   IsAskedBy,
   TellsWrittenShares,
@@ -79,6 +83,11 @@ fn disks_tell_both<D: Disk>(_store: &Store<D>)
     ensures { (d : D) → is_some (D.changes d) ≡ is_some (D.files d) }
 {}
 
+// A disk's names read at the moment as its files do. The law is for contracts alone.
+fn disks_read_now<D: Disk>(_store: &Store<D>)
+    ensures { (d : D) → D.read_at d (D.moment d) ≡ option_map bytes_at (D.files d) }
+{}
+
 // Writes the lines of a plan.
 fn write_plan<R: Threads + Wait + Sync, D: Disk + Send + Drop>(
     rt: &R,
@@ -97,15 +106,25 @@ fn write_plan<R: Threads + Wait + Sync, D: Disk + Send + Drop>(
         → D.files store.notes.log.disk ≡ Some opened → D.changes store.notes.log.disk ≡ Some made
         → IfOk result.1 (λ receipts. TellsWrittenShares options store.notes.base opened made
         (D.files result.0) (D.changes result.0) mutations receipts.items) }
+    ensures receipts { (mutations : List MutationOf) → IsPlanFor sizes mutations plan
+        → IfOk result.1 (λ r. HasReceipts sizes store.notes.base mutations r.items) }
+    ensures shown { (mutations : List MutationOf) (opened : Files)
+        → IsPlanFor sizes mutations plan → D.files store.notes.log.disk ≡ Some opened
+        → D.lasted_at store.notes.log.disk (D.moment store.notes.log.disk)
+        → LeavesShares D.changes D.moment D.since D.leaves store.notes.log.disk result.0
+        (bytes_at opened) sizes.writers mutations (least_of result.1 mutations) }
     ensures spent { (mutations : List MutationOf) → IsPlanFor sizes mutations plan
         → result.1 ≡ Err Spent → sizes.ordinals ≤ 1 + (2 * length mutations - 1) }
     ensures wrote { (log : List Write)
         × AppendsLog D.changes store.notes.log.disk result.0 log }
+    ensures stay { (opened now : Files) → D.files store.notes.log.disk ≡ Some opened
+        → D.files result.0 ≡ Some now → AllStay opened now }
     ensures told { SameTold (D.files store.notes.log.disk) (D.files result.0) }
     ensures later { IsLater D.moment D.read_at D.lasted_at store.notes.log.disk result.0 }
     ensures cause { HasShareCause (D.faults store.notes.log.disk) (D.faults result.0) result.1 }
 {
     disks_tell_both(&store);
+    disks_read_now(&store);
     let at_open = store.fault_count();
     let base = store.base();
     let Plan {
@@ -126,6 +145,11 @@ fn write_plan<R: Threads + Wait + Sync, D: Disk + Send + Drop>(
 /// and the log is synced once, at the end. The receipts are in the order of the lines.
 ///
 /// Whatever is answered, the disk's further changes are appends alone, which have brought segments.
+/// Where all lasted before, each image of a crash since then restores what the folder restored, and
+/// the first of the lines that were appended, in the order of the log, which are the first of each
+/// writer's; at `Ok` each image of now restores all lines. Each file that was there stands as it
+/// was.
+///
 /// `TooLarge`: the entry of a line is larger than half a segment's capacity; `OutOfMemory`: memory
 /// was refused, before a line was written or by the sync; `Spent`: the log has no further segment,
 /// so it may have at most two segments for each line; `Rows`: no further group for a barrier;
@@ -146,15 +170,25 @@ pub fn write_shares<R: Threads + Wait + Sync, D: Disk + Send + Drop>(
         → D.files store.notes.log.disk ≡ Some opened → D.changes store.notes.log.disk ≡ Some made
         → IfOk result.1 (λ receipts. TellsWrittenShares options store.notes.base opened made
         (D.files result.0) (D.changes result.0) mutations.items receipts.items) }
+    ensures receipts { IfOk result.1
+        (λ r. HasReceipts store.notes.sizes store.notes.base mutations.items r.items) }
+    ensures shown { (opened : Files) → D.files store.notes.log.disk ≡ Some opened
+        → D.lasted_at store.notes.log.disk (D.moment store.notes.log.disk)
+        → LeavesShares D.changes D.moment D.since D.leaves store.notes.log.disk result.0
+        (bytes_at opened) store.notes.sizes.writers mutations.items
+        (least_of result.1 mutations.items) }
     ensures spent { result.1 ≡ Err Spent
         → store.notes.sizes.ordinals ≤ 1 + (2 * length mutations.items - 1) }
     ensures wrote { (log : List Write)
         × AppendsLog D.changes store.notes.log.disk result.0 log }
+    ensures stay { (opened now : Files) → D.files store.notes.log.disk ≡ Some opened
+        → D.files result.0 ≡ Some now → AllStay opened now }
     ensures told { SameTold (D.files store.notes.log.disk) (D.files result.0) }
     ensures later { IsLater D.moment D.read_at D.lasted_at store.notes.log.disk result.0 }
     ensures cause { HasShareCause (D.faults store.notes.log.disk) (D.faults result.0) result.1 }
 {
     disks_tell_both(&store);
+    disks_read_now(&store);
     let sizes = store.sizes();
     match make_plan(alloc, sizes, mutations) {
         Ok(plan) => write_plan(rt, alloc, store, sizes, plan),

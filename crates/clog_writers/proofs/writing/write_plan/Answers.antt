@@ -1,4 +1,16 @@
-use Rattle.std.proofs.Common.{◌≡◌, ℕ, List, length, sym, ◌∙◌, ap, subst}
+use Rattle.std.proofs.Common.{
+  ◌≡◌,
+  ℕ,
+  ◌≤◌,
+  List,
+  arith,
+  false,
+  length,
+  sym,
+  ◌∙◌,
+  ap,
+  subst,
+}
 use Rattle.std.specs.Prelude.{IfOk}
 use Rattle.std.specs.Global.{Vec}
 use Rattle.clog_base.specs.declared.sizes.Sizes.{Sizes}
@@ -8,11 +20,16 @@ use Rattle.clog_disk.specs.Images.{IsLater}
 use Rattle.clog_io.specs.Causes.{Rose}
 use Rattle.path_core.specs.declared.note.EntryNote.{EntryNote}
 use Rattle.path_core.specs.Keeper.{IsFresh}
+use Rattle.clog_store.specs.Life.{lasting_in}
 use Rattle.clog_store.specs.StoreState.{holding_of}
 use Rattle.clog_lines.proofs.Synced.{is_fresh}
 use Rattle.write_path.specs.declared.commit.Receipt.{Receipt}
+use Rattle.clog_writers.specs.Left.{least_of}
 use Rattle.clog_writers.specs.Placed.{AreAtTheirLines}
-use Rattle.clog_writers.specs.Written.{AppendsLog, IsAskedBy, TellsWrittenShares}
+use Rattle.clog_writers.specs.Written.{AppendsLog, HasReceipts, IsAskedBy, TellsWrittenShares}
+use Rattle.clog_writers.proofs.Counted.{as_many_lines}
+use Rattle.clog_writers.proofs.Crashing.{lasting}
+use Rattle.clog_writers.proofs.LeftBy.{least_reached, left_by}
 use Rattle.clog_writers.proofs.Running.{written_back}
 use Rattle.clog_writers.proofs.Told.{
   at_ok,
@@ -35,6 +52,60 @@ log_shares-store-requires-clause-fresh g c κs within =
     (is_fresh D.files D.changes D.moment D.faults g.row.D.coded.code a c.requires.fresh
     c.requires.runs))
 
+pub returns-clause-receipts : goal.returns-clause-receipts
+returns-clause-receipts g c = λ ms plan.
+    let b = c.log_shares-store.result.0 in
+    let put = c.place_receipts.ensures in
+    let xs = c.place_receipts.new.receipts in
+    let lent : length xs ≡ length c.args.plan.receipts.items =
+    put.long ∙ ap length c.as_mut_slice.ensures.value in
+    let back = written_back c.args.plan.receipts.len xs _ (c.args.plan.receipts.ok.0 ∙ sym lent) in
+    at_ok c.ended-outcome.result _
+    (λ r. HasReceipts c.args.sizes c.args.store.notes.base ms r.items)
+    c.ended-outcome.ensures.ok (λ r so.
+    subst (λ (l : List Receipt). HasReceipts c.args.sizes c.args.store.notes.base ms l)
+    (sym back ∙ ap (λ (v : Vec Receipt). v.items) (sym so.0))
+    (record {
+      notes = b.notes.logged;
+      holds = (c.log_shares-store.ensures.logs ms plan.dealt so.1).notes;
+      placed = subst (λ (k : ℕ). AreAtTheirLines k b.notes.logged xs) c.base-base.ensures.base
+          (subst (λ (l : List EntryNote). AreAtTheirLines c.base-base.result l xs)
+          c.logged.ensures put.placed);
+      long = lent ∙ plan.receipts;
+    }))
+
+pub returns-clause-shown : goal.returns-clause-shown
+returns-clause-shown g c = λ ms opened plan is lasted.
+    let D = g.D.Disk in
+    let b = c.log_shares-store.result.0 in
+    let told = c.into_disk.ensures in
+    let shares = c.log_shares-store.ensures in
+    let sizes = c.args.sizes in
+    left_by D.files D.changes D.moment D.faults D.since D.leaves D.read_at D.lasted_at
+    g.row.D.coded c.disks_tell_both.ensures c.disks_read_now.ensures c.args.store b
+    c.requires.fresh shares.alone c.into_disk.result
+    (record {
+      disk = told.disk;
+      opened = told.opened;
+      later = told.later;
+      appends = told.alone;
+      notes = told.notes;
+      stored = told.stored;
+      shown = told.shown;
+      lasts = told.lasts;
+    })
+    sizes.writers (least_of c.ended-outcome.result ms) ms (shares.firsts ms plan.dealt)
+    (least_reached c.ended-outcome.result ms (lasting_in b.notes.log)
+    (at_ok c.ended-outcome.result _ (λ receipts. length ms ≤ lasting_in b.notes.log)
+    c.ended-outcome.ensures.ok (λ receipts so.
+    let some = sizes.within.some_writer in
+    let many = as_many_lines sizes.capacity sizes.writers ms b.notes.logged
+    (omega (arith, some)) (shares.logs ms plan.dealt so.1).notes in
+    let all = lasting b.notes told.notes told.stored sizes.writers ms
+    (shares.firsts ms plan.dealt) in
+    omega (arith, many, all))))
+    opened is lasted
+
 pub returns-clause-wrote : goal.returns-clause-wrote
 returns-clause-wrote g c =
     let D = g.D.Disk in
@@ -47,6 +118,13 @@ returns-clause-wrote g c =
       brought D.files D.changes D.moment D.faults g.row.D.coded c.disks_tell_both.ensures a b
           c.requires.fresh c.log_shares-store.ensures.alone told.alone,
     )
+
+pub returns-clause-stay : goal.returns-clause-stay
+returns-clause-stay g c = λ opened now is is_now.
+    let D = g.D.Disk in
+    let its = its_disk D.files D.changes D.moment D.faults g.row.D.coded c.disks_tell_both.ensures
+    c.args.store c.log_shares-store.result.0 c.requires.fresh c.log_shares-store.ensures.alone in
+    c.into_disk.ensures.stay opened now (ap D.files its ∙ is) is_now
 
 pub returns-clause-told : goal.returns-clause-told
 returns-clause-told g c =

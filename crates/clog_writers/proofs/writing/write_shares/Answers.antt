@@ -1,10 +1,13 @@
-use Rattle.std.proofs.Common.{◌≡◌, List, sym, ap, subst}
+use Rattle.std.proofs.Common.{◌≡◌, List, ◌++◌, sym, ap, ◌∙◌, subst, arith}
 use Rattle.std.specs.Prelude.{Err}
 use Rattle.std.specs.Global.{Vec}
 use Rattle.clog_crash.specs.Log.{Write}
+use Rattle.clog_store.specs.StoreState.{StoreState}
 use Rattle.write_path.specs.declared.commit.Receipt.{Receipt}
 use Rattle.clog_writers.specs.declared.fault.WriteFault.TheVariants.{Spent}
 use Rattle.clog_writers.specs.Written.{AppendsLog, HasShareCause}
+use Rattle.clog_writers.proofs.FirstLogged.{none_held}
+use Rattle.clog_writers.proofs.LeftBy.{left_by}
 use Rattle.clog_writers.proofs.Told.{brought, not_spent, planned_cause, refused_by, still_alone}
 use Rattle.clog_writers.proofs.writing.write_shares.Goals as goal
 
@@ -21,6 +24,36 @@ returns-in-Err-clause-wrote g c =
           (still_alone D.files D.changes D.moment D.faults g.row.D.coded.code a c.requires.fresh)
           told.alone,
     )
+
+pub returns-in-Err-clause-stay : goal.returns-in-Err-clause-stay
+returns-in-Err-clause-stay g c = λ opened now is is_now.
+    let first = ap (λ (s : StoreState g.row.D.Denot). s.first) c.requires.fresh in
+    c.into_disk.ensures.stay opened now (ap g.D.Disk.files first ∙ is) is_now
+
+pub returns-in-Err-clause-shown : goal.returns-in-Err-clause-shown
+returns-in-Err-clause-shown g c = λ opened is lasted.
+    let D = g.D.Disk in
+    let a = c.args.store in
+    let told = c.into_disk.ensures in
+    let ms = c.args.mutations.items in
+    left_by D.files D.changes D.moment D.faults D.since D.leaves D.read_at D.lasted_at
+    g.row.D.coded c.disks_tell_both.ensures c.disks_read_now.ensures a a c.requires.fresh
+    (still_alone D.files D.changes D.moment D.faults g.row.D.coded.code a c.requires.fresh)
+    c.into_disk.result
+    (record {
+      disk = told.disk;
+      opened = told.opened;
+      later = told.later;
+      appends = told.alone;
+      notes = told.notes;
+      stored = told.stored;
+      shown = told.shown;
+      lasts = told.lasts;
+    })
+    a.notes.sizes.writers 0 ms
+    (none_held a.notes.sizes.writers ms (a.notes.logged ++ a.notes.kept)
+    (ap (λ (s : StoreState g.row.D.Denot). s.notes.logged ++ s.notes.kept) c.requires.fresh))
+    (omega arith) opened is lasted
 
 pub returns-in-Err-clause-cause : goal.returns-in-Err-clause-cause
 returns-in-Err-clause-cause g c =

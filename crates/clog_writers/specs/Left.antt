@@ -1,0 +1,75 @@
+-- What a crash leaves while writers log the lines of a file, and once they have.
+use Rattle.std.specs.Prelude.{
+  ◌≡◌,
+  ℕ,
+  ◌<◌,
+  List,
+  ◌++◌,
+  length,
+  map,
+  Contains,
+  Option,
+  Result,
+  Ok,
+  Err,
+}
+use Rattle.std.specs.List.{flat_map}
+use Rattle.clog_disk.specs.declared.change.Change.{Change}
+use Rattle.clog_disk.specs.Files.{Files}
+use Rattle.clog_disk.specs.Images.{IsImage, SinceThen}
+use Rattle.clog_mutation.specs.declared.mutation.Mutation.{Mutation}
+use Rattle.clog_crash.specs.Log.{NoChances, Write}
+use Rattle.clog_crash.specs.Readings.{Reading}
+use Rattle.clog_crash.specs.Runs.{placed_of}
+use Rattle.clog_applied.specs.History.{Line, LoggedLine, entry_of, share_of, written_by}
+use Rattle.clog_lines.specs.Written.{RestoresLines}
+use Rattle.clog_writers.specs.declared.fault.WriteFault.{WriteFault}
+use Rattle.clog_writers.specs.Written.{AppendsLog}
+
+-- The first of these lines, in order.
+pub record AreFirstLines (all first : List Line) : Type 0 where
+  pub rest : List Line
+  pub parts : all ≡ first ++ rest
+
+-- Of a history each writer's lines are the first of its share, in order.
+pub record HoldsFirsts (writers : ℕ) (mutations : List Mutation) (history : List LoggedLine)
+    : Type 0 where
+  pub known : (w : LoggedLine) → Contains history w → w.writer < writers
+  pub firsts : (writer : ℕ) → writer < writers
+      → AreFirstLines (share_of writers writer mutations) (written_by writer history)
+
+-- The entries of a log are those of such a history, in order, each at its place.
+pub record SaysShares (writers : ℕ) (mutations : List Mutation) (log : List Write)
+    (history : List LoggedLine) : Type 0 where
+  pub holds : HoldsFirsts writers mutations history
+  pub says : flat_map placed_of log ≡ map (λ (w : LoggedLine). (w.id, entry_of w)) history
+
+-- what the lines of a history say, in order
+abbrev pub said_by : List LoggedLine → List Mutation
+said_by history = map (λ (w : LoggedLine). w.mutation) history
+
+-- The image restores what was restored before, and the first of a history, at least so many lines.
+-- It is not damaged.
+abbrev pub RestoresShares : Reading → List LoggedLine → ℕ → Files → Type 0
+RestoresShares r history least image = RestoresLines r (said_by history) least image
+
+-- The segments that were appended, which say the first of each writer's share. What a crash leaves
+-- since a disk was so, and what it leaves of it now, where nothing passes by chance for what was
+-- written.
+pub record LeavesShares {D : Type 0} (changes : D → Option (List Change)) (moment : D → ℕ)
+    (since : D → ℕ → Files → Type 0) (leaves : D → List ℕ → Option (List ℕ) → Type 0)
+    (before now : D) (r : Reading) (writers : ℕ) (mutations : List Mutation) (least : ℕ) : Type 0
+  where
+    pub log : List Write
+    pub history : List LoggedLine
+    pub wrote : AppendsLog changes before now log
+    pub says : SaysShares writers mutations log history
+    pub meanwhile : SinceThen moment since (moment before) now
+        (λ image. NoChances log image → RestoresShares r history 0 image)
+    pub at_last : (image : Files) → IsImage (leaves now) image → NoChances log image
+        → RestoresShares r history least image
+
+-- so many lines last for sure
+abbrev pub least_of : {T : Type 0} → Result T WriteFault → List Mutation → ℕ
+least_of (Ok done) mutations = length mutations
+least_of (Err fault) mutations = 0
