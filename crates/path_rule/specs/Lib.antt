@@ -9,13 +9,13 @@ pub mod Trails
 pub mod Rule
 pub mod HandsAfter
 pub mod Turns
-pub mod Switches
 pub mod Accepted
 pub mod Told
 pub mod TurnTold
 pub mod TableTold
 pub mod Desks
 pub mod Calls
+pub mod Switches
 pub mod SyncEnd
 pub mod Members
 pub mod Passes

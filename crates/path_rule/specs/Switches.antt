@@ -1,9 +1,20 @@
 -- What the holder of a table's Flush turn found of its memtables, or put there, while it held it.
-use Rattle.std.specs.Prelude.{◌≡◌, ℕ, ◌≤◌, Some}
+use Rattle.std.specs.Prelude.{◌≡◌, ◌⊎◌, ℕ, ◌≤◌, Some}
+use Rattle.op_core.specs.declared.count.Order.TheVariants.{Write}
 use Rattle.path_core.specs.declared.seat.FlushTurn.{FlushTurn}
 use Rattle.path_core.specs.declared.seat.Seat.{Seat}
+use Rattle.path_core.specs.declared.seat.Switching.TheVariants.{WithBarrier}
 use Rattle.path_core.specs.declared.state.Bound.TheVariants.{Raising}
-use Rattle.path_core.specs.Parts.{seat_table}
+use Rattle.path_core.specs.Parts.{seat_table, stage_of}
+use Rattle.path_rule.specs.declared.view.View.{View}
+use Rattle.path_rule.specs.Calls.{IsPast}
+use Rattle.path_rule.specs.Turns.{IsSwitchThrough}
+
+-- The newest switch of a table is through, so that its turn may be given back: the seat began none,
+-- or the barrier of the last one is passed, as the seat found with the Sync turn or without it.
+abbrev pub MayGiveFlush : ℕ → View → Type 0
+MayGiveFlush t v = IsSwitchThrough t v.part
+    ⊎ ((m g : ℕ) × (stage_of v.part t ≡ Some (WithBarrier m g)) × IsPast Write v g)
 
 -- the newest memtable
 abbrev pub FlushNewest : ℕ → Seat → ℕ → Type 0

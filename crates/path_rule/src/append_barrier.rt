@@ -11,7 +11,7 @@ ghost use Rattle.path_core.specs.declared.event.Event.TheVariants.{
 };
 ghost use Rattle.path_core.specs.declared.seat.Issue.TheVariants.{Rest, Opened, Moved};
 ghost use Rattle.path_core.specs.Allowed.{IsAllowed};
-ghost use Rattle.path_core.specs.Parts.{marker_of};
+ghost use Rattle.path_core.specs.Parts.{marker_of, stage_of};
 ghost use Rattle.path_rule.specs.Calls.{Holds};
 ghost use Rattle.path_rule.specs.HandsAfter.{issued_hands};
 ghost use Rattle.path_rule.specs.Members.{
@@ -110,6 +110,8 @@ impl<K: Keeper, A: Allocator> PathTable<K, A> {
         ensures turn { Holds Rest (view_of member.new)
             × KeepsCurrent Append (part_of member.old) (part_of member.new) }
         ensures hands { hands_of member.new ≡ hands_of member.old }
+        ensures stages { (t : ℕ) → stage_of (part_of member.new) t
+            ≡ stage_of (part_of member.old) t }
     {
         self.table
             .shared

@@ -5,7 +5,7 @@ ghost use Rattle.std.specs.Prelude.{◌≡◌, ℕ, ◌<◌, ◌^◌};
 ghost use Rattle.path_core.specs.declared.event.Event.TheVariants.{Look};
 ghost use Rattle.path_core.specs.declared.event.Place.TheVariants.{Count, Current, Oldest};
 ghost use Rattle.path_core.specs.declared.seat.Issue.TheVariants.{Rest};
-ghost use Rattle.path_core.specs.Parts.{marker_of};
+ghost use Rattle.path_core.specs.Parts.{marker_of, stage_of};
 ghost use Rattle.path_rule.specs.Calls.{Holds};
 ghost use Rattle.path_rule.specs.Layout.{word_at};
 ghost use Rattle.path_rule.specs.Members.{view_of, part_of, hands_of, IsOf, KeepsSizes, Stepped};
@@ -63,6 +63,8 @@ impl<K: Keeper, A: Allocator> PathTable<K, A> {
             × TurnSaw order (part_of member.new) result }
         ensures marker { marker_of (part_of member.new) ≡ marker_of (part_of member.old) }
         ensures hands { hands_of member.new ≡ hands_of member.old }
+        ensures stages { (t : ℕ) → stage_of (part_of member.new) t
+            ≡ stage_of (part_of member.old) t }
     {
         self.table
             .shared
@@ -80,6 +82,8 @@ impl<K: Keeper, A: Allocator> PathTable<K, A> {
         ensures turn { Holds Rest (view_of member.new) × TurnOld order (part_of member.new) result
             × KeepsCurrent order (part_of member.old) (part_of member.new) }
         ensures hands { hands_of member.new ≡ hands_of member.old }
+        ensures stages { (t : ℕ) → stage_of (part_of member.new) t
+            ≡ stage_of (part_of member.old) t }
     {
         self.table
             .shared
@@ -101,6 +105,8 @@ impl<K: Keeper, A: Allocator> PathTable<K, A> {
         ensures below { (c : ℕ) → result ≡ 2 ^ 63 → TurnSaw order (part_of member.old) c
             → group < c }
         ensures hands { hands_of member.new ≡ hands_of member.old }
+        ensures stages { (t : ℕ) → stage_of (part_of member.new) t
+            ≡ stage_of (part_of member.old) t }
     {
         self.table
             .shared

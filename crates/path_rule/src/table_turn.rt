@@ -6,8 +6,8 @@ ghost use Rattle.path_core.specs.declared.event.Place.TheVariants.{TurnWord};
 ghost use Rattle.path_core.specs.declared.event.Turn.TheVariants.{Flush};
 ghost use Rattle.path_core.specs.Parts.{seat_table, IsIdle};
 ghost use Rattle.path_core.specs.SeatAfter.{new_flush};
-ghost use Rattle.path_rule.specs.Members.{part_of, IsOf, KeepsBoxes, Stepped};
-ghost use Rattle.path_rule.specs.Turns.{IsSwitchThrough};
+ghost use Rattle.path_rule.specs.Members.{view_of, part_of, IsOf, KeepsBoxes, Stepped};
+ghost use Rattle.path_rule.specs.Switches.{MayGiveFlush};
 
 use crate::table::{Member, PathTable};
 use crate::table_plays::{GiveFlush, TakeFlush};
@@ -50,7 +50,7 @@ impl<K: Keeper, A: Allocator> PathTable<K, A> {
     pub fn give_flush(&self, member: &mut Member<K>, table: Table)
         requires table { IsOf self.now.table.shared.table_id self.now.size member.old }
         requires there { table.0 < self.now.size.tables }
-        requires through { IsSwitchThrough table.0 (part_of member.old) }
+        requires through { MayGiveFlush table.0 (view_of member.old) }
         ensures same { KeepsBoxes member.old member.new }
         ensures step { Stepped member.old (GiveTurn member.old.number (Flush table)) 0 member.new }
         ensures others { (t : ℕ) → t ≢ table.0

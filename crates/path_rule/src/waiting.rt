@@ -1,10 +1,12 @@
 //! Barriers that wait until all operations before them are closed (`OpOrder.Barrier.await`): of the
 //! write order, and of the append order for the last marker.
-ghost use Rattle.std.specs.Prelude.{◌≡◌, ℕ, suc, ◌+◌, ◌<◌, ◌≤◌, true, []};
+ghost use Rattle.std.specs.Prelude.{◌≡◌, ℕ, suc, ◌+◌, ◌<◌, ◌≤◌, true, [], Some};
 ghost use Rattle.op_core.specs.declared.count.Order.TheVariants.{Write, Append};
 ghost use Rattle.path_core.specs.declared.event.Event.TheVariants.{Advance, Look};
 ghost use Rattle.path_core.specs.declared.event.Place.TheVariants.{Current};
 ghost use Rattle.path_core.specs.declared.seat.Issue.TheVariants.{Rest};
+ghost use Rattle.path_core.specs.declared.seat.Switching.TheVariants.{Waiting, WithBarrier};
+ghost use Rattle.path_core.specs.Parts.{stage_of};
 ghost use Rattle.path_rule.specs.Calls.{Holds, IsPast};
 ghost use Rattle.path_rule.specs.HandsAfter.{issued_hands};
 ghost use Rattle.path_rule.specs.Members.{
@@ -68,6 +70,8 @@ impl<K: Keeper, A: Allocator> PathTable<K, A> {
         ensures turn { Holds Rest (view_of member.new)
             × KeepsCurrent order (part_of member.old) (part_of member.new) }
         ensures hands { hands_of member.new ≡ hands_of member.old }
+        ensures stages { (t : ℕ) → stage_of (part_of member.new) t
+            ≡ stage_of (part_of member.old) t }
     {
         match order {
             Order::Write => self.advance_write(member, group, oldest, current),
@@ -91,6 +95,8 @@ impl<K: Keeper, A: Allocator> PathTable<K, A> {
         ensures past { (h : ℕ) × TurnOld order (part_of result.member) h × (current ≤ h) }
         ensures saw { TurnSaw order (part_of result.member) current }
         ensures hands { hands_of result.member ≡ hands_of holder.member }
+        ensures stages { (t : ℕ) → stage_of (part_of result.member) t
+            ≡ stage_of (part_of holder.member) t }
     {
         let Holder { mut member } = holder;
         for _ in rt.forever() {
@@ -108,9 +114,9 @@ impl<K: Keeper, A: Allocator> PathTable<K, A> {
         unreachable!()
     }
 
-    /// Issues a barrier of the write order, and waits until it is passed. Where the last group that
-    /// there is a word for is the current one, it answers `Rows` and issues nothing. No clause says
-    /// that it returns.
+    /// Issues a barrier of the write order, and waits until it is passed. A memtable that waits for
+    /// its barrier has this one then. Where the last group that there is a word for is the current
+    /// one, it answers `Rows` and issues nothing. No clause says that it returns.
     pub fn barrier<R: Wait>(&self, rt: &R, holder: Holder<K>) -> (Holder<K>, Passed)
         requires { IsOf self.now.table.shared.table_id self.now.size holder.member }
         ensures same { KeepsSizes holder.member result.0.member }
@@ -119,6 +125,11 @@ impl<K: Keeper, A: Allocator> PathTable<K, A> {
         ensures passed { MatchPassed result.1
             (λ g. IsPast Write (view_of result.0.member) g)
             (λ n. (n ≡ 65536) × TurnSaw Write (part_of result.0.member) 65535) }
+        ensures issued { (t memtable : ℕ)
+            → stage_of (part_of holder.member) t ≡ Some (Waiting memtable)
+            → MatchPassed result.1
+            (λ g. stage_of (part_of result.0.member) t ≡ Some (WithBarrier memtable g))
+            (λ n. stage_of (part_of result.0.member) t ≡ Some (Waiting memtable)) }
     {
         let Holder { mut member } = holder;
         let current = self.seek_current(&mut member, Order::Write);

@@ -1,6 +1,6 @@
 //! The steps of a barrier of the write order, each with what its holder knows since: how far the
 //! issue has got (`Holds`), and the current group (`TurnSaw`).
-ghost use Rattle.std.specs.Prelude.{◌≡◌, ℕ, suc, ◌<◌, ◌≤◌};
+ghost use Rattle.std.specs.Prelude.{◌≡◌, ℕ, suc, ◌<◌, ◌≤◌, Some};
 ghost use Rattle.op_core.specs.declared.count.Order.TheVariants.{Write};
 ghost use Rattle.path_core.specs.declared.event.Event.TheVariants.{
   OpenGroup,
@@ -9,8 +9,13 @@ ghost use Rattle.path_core.specs.declared.event.Event.TheVariants.{
   Advance,
 };
 ghost use Rattle.path_core.specs.declared.seat.Issue.TheVariants.{Rest, Opened, Moved};
+ghost use Rattle.path_core.specs.declared.seat.Switching.TheVariants.{Waiting, WithBarrier};
+ghost use Rattle.path_core.specs.Allowed.{WantsBarrier};
+ghost use Rattle.path_core.specs.Holders.{HasWaiting};
+ghost use Rattle.path_core.specs.Parts.{stage_of};
 ghost use Rattle.path_rule.specs.Calls.{Holds};
 ghost use Rattle.path_rule.specs.Members.{view_of, part_of, hands_of, IsOf, KeepsSizes, Stepped};
+ghost use Rattle.path_rule.specs.Rule.{Was};
 ghost use Rattle.path_rule.specs.Turns.{TurnSaw, TurnOld, TurnGone, KeepsCurrent};
 
 use crate::table::{Member, PathTable};
@@ -20,7 +25,7 @@ use path_core::Keeper;
 use std::alloc::Allocator;
 
 impl<K: Keeper, A: Allocator> PathTable<K, A> {
-    // Makes the next group.
+    // Makes the next group. Where a switched memtable waits for its barrier, the barrier is for it.
     pub(crate) fn open_write(&self, member: &mut Member<K>, group: u64, current: u64)
         requires table { IsOf self.now.table.shared.table_id self.now.size member.old }
         requires turn { Holds Rest (view_of member.old)
@@ -30,13 +35,19 @@ impl<K: Keeper, A: Allocator> PathTable<K, A> {
         ensures step { Stepped member.old (OpenGroup member.old.number Write group) 0 member.new }
         ensures turn { Holds (Opened Write) (view_of member.new)
             × KeepsCurrent Write (part_of member.old) (part_of member.new) }
+        ensures wanted { HasWaiting (part_of member.old)
+            → (was : Was (view_of member.old) member.old.number
+            (OpenGroup member.old.number Write group))
+            × WantsBarrier Write was.core member.old.number }
+        ensures stages { (t : ℕ) → stage_of (part_of member.new) t
+            ≡ stage_of (part_of member.old) t }
     {
         self.table
             .shared
             .store::<OpenWrite<K>>(&mut member.seat, WRITE_COUNTS + 2 * group as usize, 0);
     }
 
-    // Makes it the current one.
+    // Makes it the current one. What waited for its barrier has it: the group that was current.
     pub(crate) fn move_write(&self, member: &mut Member<K>, group: u64, current: u64)
         requires table { IsOf self.now.table.shared.table_id self.now.size member.old }
         requires turn { Holds (Opened Write) (view_of member.old)
@@ -46,6 +57,9 @@ impl<K: Keeper, A: Allocator> PathTable<K, A> {
             member.new }
         ensures turn { Holds (Moved Write) (view_of member.new)
             × TurnSaw Write (part_of member.new) group }
+        ensures issued { (t memtable : ℕ)
+            → stage_of (part_of member.old) t ≡ Some (Waiting memtable)
+            → stage_of (part_of member.new) t ≡ Some (WithBarrier memtable current) }
     {
         self.table
             .shared
@@ -63,6 +77,8 @@ impl<K: Keeper, A: Allocator> PathTable<K, A> {
             member.new }
         ensures turn { Holds Rest (view_of member.new)
             × KeepsCurrent Write (part_of member.old) (part_of member.new) }
+        ensures stages { (t : ℕ) → stage_of (part_of member.new) t
+            ≡ stage_of (part_of member.old) t }
     {
         self.table.shared.fetch_add::<ExpireWrite<K>>(
             &mut member.seat,
@@ -91,6 +107,8 @@ impl<K: Keeper, A: Allocator> PathTable<K, A> {
         ensures turn { Holds Rest (view_of member.new)
             × KeepsCurrent Write (part_of member.old) (part_of member.new) }
         ensures hands { hands_of member.new ≡ hands_of member.old }
+        ensures stages { (t : ℕ) → stage_of (part_of member.new) t
+            ≡ stage_of (part_of member.old) t }
     {
         self.table
             .shared

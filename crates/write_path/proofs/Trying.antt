@@ -2,12 +2,10 @@
 use Rattle.std.proofs.Common.{
   ◌≡◌,
   ℕ,
-  ◌<◌,
   nat_le,
   Bool,
   true,
   false,
-  Option,
   Some,
   None,
   is_some,

@@ -13,6 +13,7 @@ use Rattle.std.proofs.Common.{
   true,
   false,
   length,
+  get_or,
   Option,
   Some,
   None,
@@ -34,19 +35,39 @@ use Rattle.std.proofs.lemmas.Bool.{false≢true}
 use Rattle.std.proofs.Math.ListN.{get_or-map as get_or-map_default}
 use Rattle.clog_base.specs.declared.cell.Table.{Table}
 use Rattle.clog_base.specs.declared.position.Key.{Key}
+use Rattle.op_core.specs.declared.count.Order.{Order}
+use Rattle.op_core.specs.declared.count.Order.TheVariants.{Append, Write}
+use Rattle.op_core.specs.Tallies.{is_finished}
 use Rattle.path_core.specs.declared.event.Cursor.TheVariants.{OldestLive}
 use Rattle.path_core.specs.declared.event.Event.{Event}
-use Rattle.path_core.specs.declared.event.Event.TheVariants.{Look, Switch, Raise, Finalise}
-use Rattle.path_core.specs.declared.event.Place.TheVariants.{Bound, CursorWord, Log, Newest}
+use Rattle.path_core.specs.declared.event.Event.TheVariants.{
+  Finalise,
+  Look,
+  MoveCurrent,
+  Raise,
+  Switch,
+}
+use Rattle.path_core.specs.declared.event.Place.TheVariants.{
+  Bound,
+  Count,
+  Current,
+  CursorWord,
+  Log,
+  Newest,
+  Oldest,
+}
 use Rattle.path_core.specs.declared.event.SwitchPart.TheVariants.{Open, Mark}
 use Rattle.path_core.specs.declared.seat.FlushTurn.{FlushTurn}
+use Rattle.path_core.specs.declared.seat.FoundGroups.{FoundGroups}
 use Rattle.path_core.specs.declared.seat.Marked.{Marked}
+use Rattle.path_core.specs.declared.seat.Seat.{Seat}
 use Rattle.path_core.specs.declared.seat.SeatTable.{SeatTable}
 use Rattle.path_core.specs.declared.seat.Switching.{Switching}
 use Rattle.path_core.specs.declared.seat.Switching.TheVariants.{
   Begun,
   Marked as MarkedStage,
   Waiting,
+  WithBarrier,
 }
 use Rattle.path_core.specs.declared.state.Bound.{Bound as BoundOf}
 use Rattle.path_core.specs.declared.state.Bound.TheVariants.{Raising, Final}
@@ -54,19 +75,25 @@ use Rattle.path_core.specs.LawfulSeats.{IsRaisingFrom}
 use Rattle.path_core.specs.Parts.{is_at, seat_table, stage_of, untouched}
 use Rattle.path_core.specs.SeatAfter.{raised_stage}
 use Rattle.path_core.specs.SeatParts.{
+  barrier_issued,
   begins_at,
   bound_found,
+  current_found,
+  finished_found,
   has_note_of,
   is_raising,
+  keeps,
   key_found,
   log_found,
   made_final,
+  oldest_found,
   raised_to,
+  with_barrier,
 }
 use Rattle.path_core.specs.Words.{reading}
 use Rattle.path_core.proofs.tables.StageTells.{stage_exact}
 use Rattle.path_rule.specs.declared.view.View.{View}
-use Rattle.path_rule.specs.Layout.{bound_in, bound_word, word_of}
+use Rattle.path_rule.specs.Layout.{bound_in, bound_word, tally_in, word_of}
 use Rattle.path_rule.specs.Rule.{view_after, Was}
 use Rattle.path_rule.specs.Switches.{FlushNewest, FlushOldest, FlushRaised}
 use Rattle.path_rule.proofs.moves.SwitchSteps.{turn_at}
@@ -124,6 +151,43 @@ raised_now f to raised =
     by true = refl
     by false = refl
 
+-- what is found of an order's groups leaves the tables
+keeps_tables : (o : Order) (f : FoundGroups → FoundGroups) (s : Seat)
+    → (keeps o f s).tables ≡ s.tables
+keeps_tables Write f s = refl
+keeps_tables Append f s = refl
+
+-- and so the stages of switches
+pub current_stages : (v : View) (w n : ℕ) (o : Order) (t : ℕ)
+    → stage_of (view_after v (Look w (Current o)) n false).part t ≡ stage_of v.part t
+current_stages v w n o t = ap (λ ts. stage_in (get_or ts t untouched).flush)
+    (keeps_tables o (current_found n) v.part)
+
+pub oldest_stages : (v : View) (w n : ℕ) (o : Order) (t : ℕ)
+    → stage_of (view_after v (Look w (Oldest o)) n false).part t ≡ stage_of v.part t
+oldest_stages v w n o t = ap (λ ts. stage_in (get_or ts t untouched).flush)
+    (keeps_tables o (oldest_found n) v.part)
+
+pub count_stages : (v : View) (w n : ℕ) (o : Order) (g t : ℕ)
+    → stage_of (view_after v (Look w (Count o g)) n false).part t ≡ stage_of v.part t
+count_stages v w n o g t = by (is_finished (tally_in n))
+  where
+    by : (b : Bool) → stage_in (get_or (if b then keeps o (finished_found g) v.part
+        else v.part).tables t untouched).flush ≡ stage_of v.part t
+    by true = ap (λ ts. stage_in (get_or ts t untouched).flush)
+        (keeps_tables o (finished_found g) v.part)
+    by false = refl
+
+-- a memtable that waits has its barrier, once the next group is current
+pub barrier_stage : (v : View) (w t g current f : ℕ) → stage_of v.part t ≡ Some (Waiting f)
+    → stage_of (view_after v (MoveCurrent w Write g) current false).part t
+    ≡ Some (WithBarrier f current)
+barrier_stage v w t g current f waits =
+    ap (λ (st : SeatTable). stage_in st.flush)
+    (get_or-map_default (barrier_issued current) v.part.tables t untouched)
+    ∙ (restaged (with_barrier current) (seat_table v.part t).flush
+    ∙ ap (λ o. option_map (with_barrier current) o) waits)
+
 module _ (v : View) (w : ℕ) (t : Table) (few : t.0 < 16) where
   inside : (e : Event) → Was v w e → t.0 < length v.part.tables
   inside e was = table_inside v w e was t.0 few
@@ -162,10 +226,10 @@ module _ (v : View) (w : ℕ) (t : Table) (few : t.0 < 16) where
       → seat_table (view_after v (Look w (Newest t)) n false).part u ≡ seat_table v.part u
   newest_leaves n u apart = get_or-set_other v.part.tables t.0 u _ untouched apart
 
-  pub oldest_found : (n : ℕ) → Was v w (Look w (CursorWord (OldestLive t)))
+  pub least_found : (n : ℕ) → Was v w (Look w (CursorWord (OldestLive t)))
       → IsTrue (is_some (seat_table v.part t.0).flush)
       → FlushOldest t.0 (view_after v (Look w (CursorWord (OldestLive t))) n false).part n
-  oldest_found n was held = let k = held_turn (seat_table v.part t.0).flush held in (
+  least_found n was held = let k = held_turn (seat_table v.part t.0).flush held in (
     record k.0 { oldest_live = Some n },
     ap (λ (st : SeatTable). st.flush)
         (get_or-set_same v.part.tables t.0 _ untouched (inside _ was))

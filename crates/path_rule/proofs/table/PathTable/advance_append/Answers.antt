@@ -1,6 +1,7 @@
 use Rattle.std.proofs.Common.{refl, sym, ap, ◌∙◌, subst, arith}
 use Rattle.op_core.specs.declared.count.Order.TheVariants.{Append}
 use Rattle.path_core.specs.declared.seat.Issue.TheVariants.{Rest}
+use Rattle.path_core.specs.Parts.{stage_of}
 use Rattle.path_rule.specs.declared.view.View.{View}
 use Rattle.path_rule.specs.Calls.{Holds}
 use Rattle.path_rule.specs.Turns.{TurnSaw}
@@ -50,3 +51,8 @@ returns-clause-turn g c = let m = c.args.member.now in let v = m.seat.me.0 in
       (λ k s. subst (λ (z : View). TurnSaw Append z.part k) e
           (know.advanced_saw v m.number c.args.group Append c.args.group k s)),
     )
+
+pub returns-clause-stages : goal.returns-clause-stages
+returns-clause-stages g c = let m = c.args.member.now in
+    let q = c.store.ensures.2 m.number m.role in
+    λ t. ap (λ (v : View). stage_of v.part t) q.0.0

@@ -28,6 +28,7 @@ loop-preserved-then-count g c =
           (one _ (Look _ (Oldest c.args.order)) O.result _ _ refl O.ensures.step))
           (one _ (Look _ (Count c.args.order O.result)) C.result _ _ refl C.ensures.step)) A.steps;
       hands = A.hands ∙ (C.ensures.hands ∙ (O.ensures.hands ∙ I.hands));
+      stages = λ t. A.stages t ∙ (C.ensures.stages t ∙ (O.ensures.stages t ∙ I.stages t));
     }
 
 pub loop-preserved : goal.loop-preserved
@@ -46,6 +47,7 @@ loop-preserved g c =
           (one _ (Look _ (Oldest c.args.order)) O.result _ _ refl O.ensures.step))
           (one _ (Look _ (Count c.args.order O.result)) C.result _ _ refl C.ensures.step);
       hands = C.ensures.hands ∙ (O.ensures.hands ∙ I.hands);
+      stages = λ t. C.ensures.stages t ∙ (O.ensures.stages t ∙ I.stages t);
     }
 
 pub loop-init : goal.loop-init
@@ -60,4 +62,9 @@ loop-init g c = record {
   saw = c.requires.current.0;
   steps = none_yet c.args.holder.member.number _ _ refl;
   hands = refl;
+  stages = λ t. refl;
 }
+
+pub returns-then-oldest-current-clause-stages : goal.returns-then-oldest-current-clause-stages
+returns-then-oldest-current-clause-stages g c =
+    λ t. c.seek_oldest-oldest.ensures.stages t ∙ c.loop.invariant.stages t

@@ -1,5 +1,6 @@
-use Rattle.std.proofs.Common.{◌≡◌, []}
+use Rattle.std.proofs.Common.{◌≡◌, ℕ, []}
 use Rattle.path_core.specs.declared.seat.Issue.TheVariants.{Rest}
+use Rattle.path_core.specs.Parts.{stage_of}
 use Rattle.path_rule.specs.Calls.{Holds}
 use Rattle.path_rule.specs.Rounds.{RoundSteps}
 use Rattle.path_rule.specs.Turns.{TurnSaw}
@@ -17,4 +18,6 @@ invariant-loop g l = record {
   saw : TurnSaw l.order l.member.seat.me.0.part l.current;
   steps : RoundSteps l.initial.member.number [] l.initial.member.seat.me.0 l.member.seat.me.0;
   hands : l.member.seat.me.0.hands ≡ l.initial.member.seat.me.0.hands;
+  stages : (t : ℕ) → stage_of l.member.seat.me.0.part t
+      ≡ stage_of l.initial.member.seat.me.0.part t;
 }

@@ -1,6 +1,7 @@
 use Rattle.std.proofs.Common.{refl, sym, ap, ◌∙◌, subst, arith}
 use Rattle.op_core.specs.declared.count.Order.TheVariants.{Write}
 use Rattle.path_core.specs.declared.seat.Issue.TheVariants.{Rest}
+use Rattle.path_core.specs.Parts.{stage_of}
 use Rattle.path_rule.specs.declared.view.View.{View}
 use Rattle.path_rule.specs.Calls.{Holds}
 use Rattle.path_rule.specs.Turns.{TurnSaw}
@@ -46,3 +47,9 @@ returns-clause-turn g c = let m = c.args.member.now in let v = m.seat.me.0 in
 pub returns-clause-hands : goal.returns-clause-hands
 returns-clause-hands g c = let m = c.args.member.now in let q = c.store.ensures.2 m.number m.role in
     ap (λ (v : View). v.hands) q.0.0
+
+pub returns-clause-stages : goal.returns-clause-stages
+returns-clause-stages g c = let m = c.args.member.now in let q = c.store.ensures.2 m.number m.role
+    in
+    let d = q in
+    λ t. ap (λ (v : View). stage_of v.part t) d.0.0

@@ -33,3 +33,14 @@ pub returns-clause-passed : goal.returns-clause-passed
 returns-clause-passed g c =
     let past = c.advance_to-holder.ensures.past in let high = past.2 in
     (past.0, past.1, omega arith)
+
+pub returns-then-current-eq-LAST_GROUP-clause-issued :
+    goal.returns-then-current-eq-LAST_GROUP-clause-issued
+returns-then-current-eq-LAST_GROUP-clause-issued g c =
+    λ t f waits. c.seek_current-current.ensures.stages t ∙ waits
+
+pub returns-clause-issued : goal.returns-clause-issued
+returns-clause-issued g c = let S = c.seek_current-current.ensures in
+    λ t f waits. c.advance_to-holder.ensures.stages t ∙ (c.expire_write.ensures.stages t
+    ∙ c.move_write.ensures.issued t f
+    (c.open_write.ensures.stages t ∙ (S.stages t ∙ waits)))

@@ -1,6 +1,7 @@
 use Rattle.std.proofs.Common.{refl, sym, ap, ◌∙◌, subst, arith}
 use Rattle.op_core.specs.declared.count.Order.TheVariants.{Write}
 use Rattle.path_core.specs.declared.seat.Issue.TheVariants.{Rest}
+use Rattle.path_core.specs.Parts.{stage_of}
 use Rattle.path_rule.specs.declared.view.View.{View}
 use Rattle.path_rule.specs.Calls.{Holds}
 use Rattle.path_rule.specs.Turns.{TurnSaw}
@@ -46,3 +47,9 @@ returns-clause-turn g c = let m = c.args.member.now in let v = m.seat.me.0 in
       (λ k s. subst (λ (z : View). TurnSaw Write z.part k) e
           (know.expired_saw v m.number c.fetch_add.result Write c.args.group k s)),
     )
+
+pub returns-clause-stages : goal.returns-clause-stages
+returns-clause-stages g c = let m = c.args.member.now in
+    let q = c.fetch_add.ensures.2 m.number c.args.group m.role c.requires.turn.3 refl in
+    let d = q in
+    λ t. ap (λ (v : View). stage_of v.part t) d.0.0

@@ -8,7 +8,7 @@ use Rattle.path_rule.specs.Lasts.{beside_of, shows_of}
 use Rattle.path_rule.specs.Switches.{FlushOldest}
 use Rattle.path_rule.proofs.moves.Looks.{looks}
 use Rattle.path_rule.proofs.seats.Accepting.{oldest_leaves, oldest_small, tries_oldest}
-use Rattle.path_rule.proofs.seats.SwitchStages.{oldest_found}
+use Rattle.path_rule.proofs.seats.SwitchStages.{least_found}
 use Rattle.path_rule.proofs.table.PathTable.look_oldest_live.Goals as goal
 
 pub load-requires : goal.load-requires
@@ -75,4 +75,4 @@ returns-clause-turn g c = let m = c.args.member.now in
     let q = c.load.ensures.2 m.number (CursorWord (OldestLive c.args.table)) m.role
     (omega arith) refl in
     λ held. subst (λ (v : View). FlushOldest c.args.table.0 v.part c.load.result) (sym q.0.0.0)
-    (oldest_found m.seat.me.0 m.number c.args.table (omega arith) c.load.result q.1.0 held)
+    (least_found m.seat.me.0 m.number c.args.table (omega arith) c.load.result q.1.0 held)

@@ -1,11 +1,13 @@
 use Rattle.std.proofs.Common.{refl, sym, ap, ◌∙◌, subst, arith}
 use Rattle.op_core.specs.declared.count.Order.TheVariants.{Write}
 use Rattle.path_core.specs.declared.seat.Issue.TheVariants.{Moved}
+use Rattle.path_core.specs.Parts.{stage_of}
 use Rattle.path_rule.specs.declared.view.View.{View}
 use Rattle.path_rule.specs.Calls.{Holds}
 use Rattle.path_rule.specs.Turns.{TurnSaw}
 use Rattle.path_rule.proofs.moves.WriteBarriers.{moves_write}
 use Rattle.path_rule.proofs.seats.HolderIssues as know
+use Rattle.path_rule.proofs.seats.SwitchStages.{barrier_stage}
 use Rattle.path_rule.specs.Lasts.{beside_of, shows_of}
 use Rattle.path_rule.proofs.table.PathTable.move_write.Goals as goal
 
@@ -45,3 +47,9 @@ returns-clause-turn g c = let m = c.args.member.now in let v = m.seat.me.0 in
           (λ (z : View). TurnSaw Write z.part c.args.group) e
           (know.moved_saw v m.number c.args.current Write c.args.group c.requires.turn.0.held),
     )
+
+pub returns-clause-issued : goal.returns-clause-issued
+returns-clause-issued g c = let m = c.args.member.now in
+    let q = c.store.ensures.2 m.number c.args.current m.role c.requires.turn.1 in let d = q in
+    λ t f waits. ap (λ (v : View). stage_of v.part t) d.0.0
+    ∙ barrier_stage m.seat.me.0 m.number t c.args.group c.args.current f waits

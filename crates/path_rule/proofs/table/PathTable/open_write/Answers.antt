@@ -1,6 +1,9 @@
 use Rattle.std.proofs.Common.{refl, sym, ap, ◌∙◌, subst, arith}
 use Rattle.op_core.specs.declared.count.Order.TheVariants.{Write}
 use Rattle.path_core.specs.declared.seat.Issue.TheVariants.{Opened}
+use Rattle.path_core.specs.Holders.{HasWaiting}
+use Rattle.path_core.proofs.tables.BarrierTells.{wanted_by_stage}
+use Rattle.path_core.specs.Parts.{stage_of}
 use Rattle.path_rule.specs.declared.view.View.{View}
 use Rattle.path_rule.specs.Calls.{Holds}
 use Rattle.path_rule.specs.Turns.{TurnSaw}
@@ -45,3 +48,14 @@ returns-clause-turn g c = let m = c.args.member.now in let v = m.seat.me.0 in
       (λ k s. subst (λ (z : View). TurnSaw Write z.part k) e
           (know.opened_saw v m.number 0 Write c.args.group k s)),
     )
+
+pub returns-clause-stages : goal.returns-clause-stages
+returns-clause-stages g c = let m = c.args.member.now in
+    let q = c.store.ensures.2 m.number c.args.group m.role c.requires.turn.3 refl in let d = q in
+    λ t. ap (λ (v : View). stage_of v.part t) d.0.0
+
+pub returns-clause-wanted : goal.returns-clause-wanted
+returns-clause-wanted g c = let m = c.args.member.now in
+    let q = c.store.ensures.2 m.number c.args.group m.role c.requires.turn.3 refl in let d = q in
+    λ waits. let was = d.0.1 in
+    (was, (wanted_by_stage was.core was.lawful m.number).1 (subst HasWaiting was.part waits))

@@ -2,6 +2,7 @@ use Rattle.std.proofs.Common.{refl, sym, ap, ◌∙◌, subst, arith}
 use mathlib.Core.Logic.{inr}
 use Rattle.path_core.specs.declared.event.Place.TheVariants.{Count}
 use Rattle.path_core.specs.declared.seat.Issue.TheVariants.{Rest}
+use Rattle.path_core.specs.Parts.{stage_of}
 use Rattle.path_rule.specs.declared.view.View.{View}
 use Rattle.path_rule.specs.Calls.{Holds}
 use Rattle.path_rule.specs.Turns.{TurnSaw, TurnOld, TurnGone}
@@ -10,6 +11,7 @@ use Rattle.path_rule.proofs.places.SamePlace.{in_rows}
 use Rattle.path_rule.proofs.seats.HolderLooks as know
 use Rattle.path_rule.proofs.seats.OldestBelow.{gone_below}
 use Rattle.path_rule.specs.Lasts.{beside_of, shows_of}
+use Rattle.path_rule.proofs.seats.SwitchStages.{count_stages}
 use Rattle.path_rule.proofs.table.PathTable.seek_count.Goals as goal
 
 pub load-requires : goal.load-requires
@@ -78,3 +80,10 @@ returns-clause-below g c k full saw = let m = c.args.member.now in
     c.count_word.ensures in let was = q.1.0 in
     gone_below was.core was.lawful m.number m.seat.me.0.part was.part c.args.order c.args.group k
     (q.1.1 ∙ full) c.requires.turn.1 saw
+
+pub returns-clause-stages : goal.returns-clause-stages
+returns-clause-stages g c = let m = c.args.member.now in
+    let q = c.load.ensures.2 m.number (Count c.args.order c.args.group) m.role c.requires.turn.2
+    c.count_word.ensures in
+    λ t. ap (λ (v : View). stage_of v.part t) q.0.0.0
+    ∙ count_stages m.seat.me.0 m.number c.load.result c.args.order c.args.group t

@@ -2,6 +2,7 @@ use Rattle.std.proofs.Common.{refl, sym, ap, ◌∙◌, subst, arith}
 use Rattle.path_core.specs.declared.event.Place.TheVariants.{Current}
 use Rattle.path_core.specs.declared.seat.Issue.TheVariants.{Rest}
 use Rattle.path_core.specs.Parts.{marker_of}
+use Rattle.path_core.specs.Parts.{stage_of}
 use Rattle.path_rule.specs.declared.view.View.{View}
 use Rattle.path_rule.specs.Calls.{Holds}
 use Rattle.path_rule.specs.Turns.{TurnSaw}
@@ -10,6 +11,7 @@ use Rattle.path_rule.proofs.moves.StepFacts.{current_below}
 use Rattle.path_rule.proofs.places.SamePlace.{in_rows}
 use Rattle.path_rule.proofs.seats.HolderLooks as know
 use Rattle.path_rule.specs.Lasts.{beside_of, shows_of}
+use Rattle.path_rule.proofs.seats.SwitchStages.{current_stages}
 use Rattle.path_rule.proofs.table.PathTable.seek_current.Goals as goal
 
 pub load-requires : goal.load-requires
@@ -73,3 +75,10 @@ returns-clause-marker g c = let m = c.args.member.now in
     c.current_word.ensures in
     ap (λ (v : View). marker_of v.part) q.0.0.0
     ∙ know.current_marker m.seat.me.0 m.number c.load.result c.args.order
+
+pub returns-clause-stages : goal.returns-clause-stages
+returns-clause-stages g c = let m = c.args.member.now in
+    let q = c.load.ensures.2 m.number (Current c.args.order) m.role tt
+    c.current_word.ensures in
+    λ t. ap (λ (v : View). stage_of v.part t) q.0.0.0
+    ∙ current_stages m.seat.me.0 m.number c.load.result c.args.order t

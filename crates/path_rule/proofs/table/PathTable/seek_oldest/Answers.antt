@@ -1,6 +1,7 @@
 use Rattle.std.proofs.Common.{refl, sym, ap, ◌∙◌, subst, arith}
 use Rattle.path_core.specs.declared.event.Place.TheVariants.{Oldest}
 use Rattle.path_core.specs.declared.seat.Issue.TheVariants.{Rest}
+use Rattle.path_core.specs.Parts.{stage_of}
 use Rattle.path_rule.specs.declared.view.View.{View}
 use Rattle.path_rule.specs.Calls.{Holds}
 use Rattle.path_rule.specs.Turns.{TurnSaw, TurnOld}
@@ -9,6 +10,7 @@ use Rattle.path_rule.proofs.moves.StepFacts.{oldest_below}
 use Rattle.path_rule.proofs.places.SamePlace.{in_rows}
 use Rattle.path_rule.proofs.seats.HolderLooks as know
 use Rattle.path_rule.specs.Lasts.{beside_of, shows_of}
+use Rattle.path_rule.proofs.seats.SwitchStages.{oldest_stages}
 use Rattle.path_rule.proofs.table.PathTable.seek_oldest.Goals as goal
 
 pub load-requires : goal.load-requires
@@ -67,3 +69,10 @@ returns-clause-below g c = let m = c.args.member.now in
     let q = c.load.ensures.2 m.number (Oldest c.args.order) m.role tt
     c.oldest_word.ensures in
     oldest_below m.seat.me.0 m.number c.load.result c.args.order q.1.0 q.1.1
+
+pub returns-clause-stages : goal.returns-clause-stages
+returns-clause-stages g c = let m = c.args.member.now in
+    let q = c.load.ensures.2 m.number (Oldest c.args.order) m.role tt
+    c.oldest_word.ensures in
+    λ t. ap (λ (v : View). stage_of v.part t) q.0.0.0
+    ∙ oldest_stages m.seat.me.0 m.number c.load.result c.args.order t

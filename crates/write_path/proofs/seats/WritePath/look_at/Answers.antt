@@ -1,19 +1,4 @@
-use Rattle.std.proofs.Common.{
-  ℕ,
-  ◌<◌,
-  ◌^◌,
-  [],
-  ◌∷◌,
-  false,
-  Option,
-  Some,
-  is_some,
-  refl,
-  sym,
-  ap,
-  ◌∙◌,
-  subst,
-}
+use Rattle.std.proofs.Common.{ℕ, ◌<◌, ◌^◌, [], ◌∷◌, false, refl, sym, ap, ◌∙◌, subst}
 use mathlib.Core.Logic.{inr}
 use Rattle.path_core.specs.declared.event.Event.TheVariants.{Look}
 use Rattle.path_core.specs.declared.event.Place.TheVariants.{Bound}

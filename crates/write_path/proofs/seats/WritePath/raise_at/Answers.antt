@@ -6,7 +6,6 @@ use Rattle.std.proofs.Common.{
   ◌∷◌,
   false,
   Option,
-  Some,
   is_some,
   refl,
   sym,
@@ -20,7 +19,6 @@ use Rattle.path_rule.specs.declared.view.View.{View}
 use Rattle.path_rule.specs.Layout.{bound_word}
 use Rattle.path_rule.proofs.seats.Staying.{view_columns, free_stays}
 use Rattle.write_path.specs.Ends.{writes_of}
-use Rattle.write_path.proofs.Trying.{end_of}
 use Rattle.write_path.proofs.seats.WritePath.raise_at.Goals as goal
 
 pub raise_bound-requires-clause-writer : goal.raise_bound-requires-clause-writer
