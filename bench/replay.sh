@@ -17,8 +17,8 @@ begun_with() {
     lines "$1" | awk -v word="$2" '{ sub(/"key0/, "\"" word "0"); print }'
 }
 
-# Lines from standard input become one more segment of the folder. `apply` takes no folder that has
-# one, so each is made in a folder of its own; ids are milliseconds, and differ.
+# Lines from standard input become one more segment of the folder. `apply` would recover one that is
+# there, so each is made in a folder of its own; ids are milliseconds, and differ.
 segment() {
     rm -rf "$work/made"
     mkdir -p "$work/made" "$work/run/commitlog"

@@ -2,13 +2,6 @@
 # leaves. With an archive each segment has its archive name before it goes.
 . "$top/checks/lib"
 
-value=$(head -c 1900 /dev/zero | tr '\0' x)
-put() {
-    echo '{"key":"'"$1"'","updates":[{"table":'"$2"',"column":"c","ts":1,"value":"'"$value"'"}]}'
-}
-lines() { for key in "$@"; do put "$key" 0; done; }
-keys() { grep -o '"key":"."' | cut -c8 | tr -d '\n'; }
-
 fresh
 (lines a b c; put d 3) >input
 expect 'four lines of two tables' 0 'applied 4' '' \
@@ -33,7 +26,7 @@ expect 'an empty file leaves nothing' 0 'applied 0' '' sh -c \
 # killed the first lines are there, in order, and of before all; what had its archive name keeps it,
 # and the next run leaves no segment.
 fresh
-if ! has strace || ! strace -o /dev/null true 2>/dev/null; then
+if ! traces; then
     skipped 'no strace'
     exit 0
 fi

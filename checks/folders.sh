@@ -37,5 +37,20 @@ apply_line expect 'commitlog may not be written' 6 'error 6: disk fault' \
 chmod 333 commitlog
 apply_line expect 'commitlog may not be read' 6 'error 6: disk fault' \
     'pinsilver: list commitlog: Permission denied' as_user "$program" apply
+expect 'nor can it be replayed' 6 'error 6: disk fault' \
+    'pinsilver: list commitlog: Permission denied' as_user "$program" replay
 chmod 755 commitlog
 that 'nothing is left there' test -z "$(ls commitlog)"
+
+fresh
+apply_line "$program" apply >/dev/null
+name=$(ls commitlog)
+chmod 600 "commitlog/$name"
+if [ "$(id -u)" -eq 0 ]; then
+    give commitlog
+    for words in replay "scan $name" apply; do
+        apply_line expect "a segment may not be read, $words" 6 'error 6: disk fault' \
+            "pinsilver: read commitlog/$name: Permission denied" as_user "$program" $words
+    done
+    that 'it is as it was' test "$(ls commitlog):$(segment_size)" = "$name:60"
+fi

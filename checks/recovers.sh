@@ -1,7 +1,6 @@
 # A real folder, run after run: what earlier runs left is recovered, and no line is lost.
 . "$top/checks/lib"
 
-keys() { grep -o '"key":"."' | cut -c8 | tr -d '\n'; }
 cell() { printf '{"column":"c","key":"%s","table":0,"ts":1,"value":"v"}' "$1"; }
 put() { echo '{"key":"'"$1"'","updates":[{"table":0,"column":"c","ts":1,"value":"v"}]}'; }
 
@@ -39,7 +38,7 @@ $(cell c)" '' "$pinsilver" apply --dump
 # that an earlier program may have left unfinished.)
 fresh
 put a | expect 'before a removal that is refused' 0 'applied 1' '' "$pinsilver" apply
-if has strace && strace -o /dev/null true 2>/dev/null; then
+if traces; then
     put b | expect 'a removal is refused' 6 'error 6: disk fault' \
         'pinsilver: remove commitlog/CommitLog-6-*.log: Input/output error' \
         strace -o "$box/trace" -e trace=unlink,unlinkat \
@@ -70,16 +69,19 @@ else
     skipped 'no strace'
 fi
 
-# Of a run that is killed at any moment the first lines are there, in order; all, where it has said
-# so. The next run recovers them, and what an earlier program left unfinished goes.
+# Of a run that is killed at any moment what was there before and the first lines are there, in
+# order; all, where it has said so. The next run recovers them, and what an earlier program left
+# unfinished goes.
 fresh
 awk 'BEGIN { for (i = 1; i <= 20000; i++)
-    printf "{\"key\":\"%05d\",\"updates\":[{\"table\":0,\"column\":\"c\",\"ts\":1,\"value\":\"v\"}]}\n", i }' \
-    >lines
+    printf "{\"key\":\"%05d\",\"updates\":[{\"table\":0,\"column\":\"c\",\"ts\":1," \
+        "\"value\":\"v\"}]}\n", i }' >lines
+(echo 00000; sed 's/.*"key":"\([0-9]*\)".*/\1/' lines) >all
 lost=
 killed=0
 for number in $(seq 50); do
     rm -rf commitlog
+    put 00000 | "$program" apply >/dev/null
     (exec "$program" apply --segment-kib 64 <lines >said 2>/dev/null) &
     sleep "$(awk -v n="$number" 'BEGIN { srand(n); printf "%.3f", rand() * 0.12 }')"
     kill -9 $! 2>/dev/null && killed=$((killed + 1))
@@ -87,9 +89,8 @@ for number in $(seq 50); do
     "$program" apply </dev/null >recovered 2>/dev/null || lost="$lost $number:status"
     "$program" replay | sed -n 's/.*"key":"\([0-9]*\)".*/\1/p' >found
     count=$(wc -l <found)
-    head -n "$count" lines | sed 's/.*"key":"\([0-9]*\)".*/\1/' | cmp -s - found ||
-        lost="$lost $number:$count"
-    [ ! -s said ] || [ "$count" -eq 20000 ] || lost="$lost $number:said"
+    head -n "$count" all | cmp -s - found && [ "$count" -gt 0 ] || lost="$lost $number:$count"
+    [ ! -s said ] || [ "$count" -eq 20001 ] || lost="$lost $number:said"
 done
 that "a run that is killed at any moment ($killed of 50) loses nothing ($lost)" test -z "$lost"
 that 'some were killed' test "$killed" -gt 0

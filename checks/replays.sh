@@ -24,3 +24,13 @@ expect 'damage below another segment' 7 "error 7: $name at 20: MarkerTarget 60" 
 expect 'read past it' 0 "$(counts 2 0 0 0 0)" '' "$pinsilver" replay --ignore-errors
 that 'the damaged file is left' cmp -s cut "commitlog/$name"
 that 'the folder is left' test "$(ls commitlog | wc -l)" -eq 2
+
+fresh
+apply_line "$pinsilver" apply --drain >/dev/null
+head -c 57 commitlog/Table-0-1.tbl >cut
+cp cut commitlog/Table-0-1.tbl
+for words in replay 'replay --ignore-errors' apply 'apply --dump'; do
+    apply_line expect "a damaged table file, $words" 8 'error 8: Table-0-1.tbl: Short' '' \
+        "$pinsilver" $words
+done
+that 'it is left too' cmp -s cut commitlog/Table-0-1.tbl

@@ -1,11 +1,6 @@
 # Lines over several segments: receipts, what a run that is killed leaves, and recovery.
 . "$top/checks/lib"
 
-value=$(head -c 1900 /dev/zero | tr '\0' x)
-put() { echo '{"key":"'"$1"'","updates":[{"table":0,"column":"c","ts":1,"value":"'"$value"'"}]}'; }
-lines() { for key in "$@"; do put "$key"; done; }
-keys() { grep -o '"key":"."' | cut -c8 | tr -d '\n'; }
-
 # What `scan` says of the segments, one after another, as receipts.
 receipts() {
     for name in commitlog/CommitLog-6-*.log; do
@@ -40,7 +35,7 @@ EOF
 
 # Of a run that is killed the first lines are there, in order, and of before all.
 fresh
-if has strace && strace -o /dev/null true 2>/dev/null; then
+if traces; then
     lost=
     for call in openat write fsync rename unlink; do
         for number in 1 2 3 4 5 6 7 8 9 10; do

@@ -55,8 +55,10 @@ apply_line expect 'commitlog is no folder' 6 'error 6: disk fault' \
 fresh
 mkdir commitlog
 if truncate -s 67108865 commitlog/CommitLog-6-5.log 2>/dev/null; then
-    expect 'a segment too long' 10 'error 10: limit segment-bytes 67108864' '' \
-        "$pinsilver" scan CommitLog-6-5.log
+    for words in 'scan CommitLog-6-5.log' apply 'apply --dump' replay 'replay --ignore-errors'; do
+        apply_line expect "a segment too long, $words" 10 \
+            'error 10: limit segment-bytes 67108864' '' "$pinsilver" $words
+    done
 else
     skipped 'no truncate'
 fi
@@ -73,6 +75,15 @@ mkdir commitlog
 printf '\0\0\0\1%033d' 0 | tr 0 '\0' >commitlog/Table-0-4611686018427387905.tbl
 apply_line expect 'a table file comes before its sequence' 8 \
     'error 8: Table-0-4611686018427387905.tbl: HeadCheck' '' "$pinsilver" apply
+
+# The last sequence that is taken; the recovery of the run behind it puts the next one.
+fresh
+apply_line "$program" apply --drain >/dev/null
+mv commitlog/Table-0-1.tbl commitlog/Table-0-4611686018427387904.tbl
+apply_line expect 'a sequence at its limit' 0 'applied 1' '' "$pinsilver" apply
+apply_line expect 'it is recovered behind it' 0 'applied 1' '' "$pinsilver" apply
+apply_line expect 'a sequence above its limit' 10 \
+    'error 10: limit table-files 4611686018427387904' '' "$pinsilver" apply
 
 # Too little memory for the file's bytes.
 fresh

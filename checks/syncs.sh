@@ -2,7 +2,7 @@
 . "$top/checks/lib"
 
 fresh
-if ! has strace || ! strace -o /dev/null true 2>/dev/null; then
+if ! traces; then
     skipped 'no strace'
     exit 0
 fi
@@ -35,3 +35,16 @@ fresh
 apply_line expect 'the sync of the folder above is refused' 6 'error 6: disk fault' \
     'pinsilver: sync commitlog/CommitLog-6-*.log: Input/output error' \
     strace -o "$box/trace" -e trace=fsync -e inject=fsync:error=EIO:when=3 "$program" apply
+
+# The file that stands for a segment was put by a run that ended before the segment went: its name
+# lasts before the next run removes the segment.
+fresh
+apply_line "$program" apply >/dev/null
+apply_line strace -o "$box/trace" -e trace=unlink,unlinkat \
+    -e inject=unlink,unlinkat:error=EIO:when=2 "$program" apply >/dev/null 2>&1
+that 'a file and its segment are left' sh -c \
+    '[ "$(ls commitlog | sed "s/CommitLog-6-.*/segment/" | tr "\n" " ")" = "segment Table-0-1.tbl " ]'
+expect 'the segment goes' 0 'applied 0' '' strace -o "$box/trace" -y \
+    -e trace=fsync,unlink,unlinkat "$program" apply </dev/null
+that 'behind a sync of the names' sh -c \
+    'sed "/unlink.*CommitLog-6-/q" "$0" | grep -q "fsync(.*/commitlog>.*= 0$"' "$box/trace"

@@ -1,3 +1,4 @@
+pub mod Changes
 pub mod Covered
 pub mod Limits
 pub mod Lines

@@ -7,6 +7,7 @@ use Rattle.std.proofs.Common.{
   List,
   [],
   ◌∷◌,
+  length,
   map,
   inl,
   inr,
@@ -98,6 +99,15 @@ module _ {A : Type 0} (p : A → Bool) where
       by_case false e rest =
           let n = counts_none x xs e in
           let r = rest (omega (arith, n, some)) in (r.0, further x xs r.0 r.1, r.2)
+
+  -- where each of them has it, all are counted
+  pub all_counted : (xs : List A) → ((x : A) → Contains xs x → p x ≡ true)
+      → count_by p xs ≡ length xs
+  all_counted [] all = refl
+  all_counted (x ∷ xs) all =
+      let one = counts_one x xs (all x (here x xs)) in
+      let rest = all_counted xs (λ y h. all y (further x xs y h)) in
+      omega (arith, one, rest)
 
 -- those that another test keeps are all counted
 pub count_of_filtered : {A : Type 0} (p q : A → Bool) (xs : List A)

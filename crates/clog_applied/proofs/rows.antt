@@ -1,7 +1,14 @@
 -- Worked rows.
 pub mod Archived
+pub mod ArchivedRun
 pub mod Bytes
 pub mod Drained
 pub mod Empty
+pub mod FiledRuns
+pub mod LargeLine
+pub mod NextRun
+pub mod Plain
 pub mod Synced
+pub mod TwoSegments
 pub mod Wrong
+pub mod WrongLines

@@ -32,7 +32,7 @@ use Rattle.clog_crash.specs.Folder.{IsHeld, Place, IsNameOf, IsGoodTable}
 use Rattle.clog_crash.specs.Readings.{IsTableIn}
 use Rattle.clog_applied.specs.Appended.{appended, entries_in, IsAppended}
 use Rattle.clog_applied.specs.Asked.{IsBatch, capacity_of, flushes}
-use Rattle.clog_applied.specs.Early.{AreInOrder}
+use Rattle.clog_applied.specs.Early.{AreInOrder, AreRunChanges}
 use Rattle.clog_applied.specs.Filed.{
   BringsNoOther,
   FollowFrom,
@@ -70,8 +70,8 @@ pub record HasFlushed (most : ℕ) (table : Table) (writer : ℕ) (history : Lis
   pub few : sum_by (updates_at table) rest < most
 
 -- The seats' lists together are a lawful history, each of them the writer's share in order. Files
--- follow one another, are true for it, and each stands for an entry. Behind a drain each entry lies in a file of each table
--- that it touches, and with a flush limit each writer has flushed.
+-- follow one another, are true for it, and each stands for an entry. Behind a drain each entry lies
+-- in a file of each table that it touches, and with a flush limit each writer has flushed.
 pub record IsClosedPath (options : ApplyOptions) (mutations : List Mutation) (base : ℕ)
     (history : List LoggedLine) (files : List TableFile) : Type 0 where
   pub lawful : IsLawful (capacity_of options) history
@@ -122,7 +122,8 @@ pub record IsPut (files : List TableFile) (after : Files) (place : Place) (name 
   pub listed : Contains files file
   pub good : IsGoodTable after place name file
 
--- What was appended since the opening is the history. Segments stand as they were appended, but for
+-- What was appended since the opening is the history, and no other change was made than those of the
+-- run's own segments and table files. Segments stand as they were appended, but for
 -- those that were dropped, and these are exactly the droppable ones. Table files that were put are
 -- there, and of the opening all else; no other name has come.
 pub record IsStoreLeft (archive : Bool) (opened after : Files) (later : List Change)
@@ -131,6 +132,7 @@ pub record IsStoreLeft (archive : Bool) (opened after : Files) (later : List Cha
   pub bytes : (id : ℕ) → Contains ids id → IsFile (appended later id)
   pub some : (id : ℕ) → Contains ids id → (w : LoggedLine) × Contains history w × (w.id ≡ id)
   pub order : AreInOrder IsAnyFile archive later ids history files
+  pub only : AreRunChanges archive ids files later
   pub dropped_exactly : (id : ℕ) → Contains ids id
       → Contains dropped id ↔ IsDroppable files id (entries_in id history)
   pub segments : (id : ℕ) → Contains ids id

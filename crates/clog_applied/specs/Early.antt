@@ -22,7 +22,7 @@ use Rattle.clog_table.specs.declared.table_file.TableFile.{TableFile}
 use Rattle.clog_table.specs.Refusals.{IsFileOf}
 use Rattle.clog_crash.specs.Droppable.{IsDroppable, Touches}
 use Rattle.clog_crash.specs.Folder.{IsHeld}
-use Rattle.clog_applied.specs.Appended.{appended, entries_in}
+use Rattle.clog_applied.specs.Appended.{IsSegmentOf, appended, entries_in}
 use Rattle.clog_applied.specs.Filed.{BringsNoOther, IsAbove, KeepsOthers}
 use Rattle.clog_applied.specs.History.{LoggedLine, entry_of, logged_at}
 
@@ -80,9 +80,40 @@ pub record AreInOrder (IsNew : TableFile → Type 0) (archive : Bool) (changes :
       → changes ≡ front ++ change.Link (segment_name_of 6 id) name ∷ rest
       → (name ≡ archive_name_of id) × (appended front id ≡ appended changes id)
 
+-- the archive name of one of these segments is given to it
+pub record IsNamedFor (ids : List ℕ) (old new : List ℕ) : Type 0 where
+  pub segment : IsSegmentOf ids old
+  pub new_is : new ≡ archive_name_of segment.id
+
+-- A change that a run makes behind its opening: bytes for one of its segments, one of its table
+-- files, the archive name of such a segment where archives are kept, or its removal.
+abbrev pub IsRunChange : Bool → List ℕ → List TableFile → Change → Type 0
+IsRunChange archive ids files (change.Append name bytes) = IsSegmentOf ids name
+IsRunChange archive ids files (change.Publish name bytes) =
+    (file : TableFile) × Contains files file × SaysFile name bytes file
+IsRunChange archive ids files (change.Link old new) = (archive ≡ true) × IsNamedFor ids old new
+IsRunChange archive ids files (change.Remove name) = IsSegmentOf ids name
+
+-- each of these changes is such a one
+abbrev pub AreRunChanges : Bool → List ℕ → List TableFile → List Change → Type 0
+AreRunChanges archive ids files changes =
+    (c : Change) → Contains changes c → IsRunChange archive ids files c
+
+-- all entries of the history are among what was appended
+abbrev pub HoldsAll : List LoggedLine → List Change → Type 0
+HoldsAll history front =
+    (w : LoggedLine) → Contains history w → w.end ≤ length (appended front w.id)
+
+-- Wherever changes are cut at the coming of a file or at a removal, all entries are in front.
+pub record ComeLast (changes : List Change) (history : List LoggedLine) : Type 0 where
+  pub published : (front rest : List Change) (name bytes : List ℕ)
+      → changes ≡ front ++ change.Publish name bytes ∷ rest → HoldsAll history front
+  pub removed : (front rest : List Change) (name : List ℕ)
+      → changes ≡ front ++ change.Remove name ∷ rest → HoldsAll history front
+
 -- The run's changes stand in order. No segment of the run is left that may go, the last one among
--- them, and none at all behind a drain. Of before nothing else has gone or changed but segments, and
--- nothing else has come but the run's segments, their archive names and table files.
+-- them, and none at all behind a drain. Of before nothing else has gone or changed but segments,
+-- and nothing else has come but the run's segments, their archive names and table files.
 pub record NothingGoesEarly (archive drain : Bool) (before after : Files) (changes : List Change)
     (ids : List ℕ) (history : List LoggedLine) (files : List TableFile) : Type 0 where
   pub order : AreInOrder (EndsAbove before) archive changes ids history files

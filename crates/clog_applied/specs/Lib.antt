@@ -7,6 +7,9 @@ pub mod Filed
 pub mod Flushed
 pub mod History
 pub mod Log
+pub mod Onward
 pub mod Opening
 pub mod Printed
 pub mod Worked
+pub mod WorkedRuns
+pub mod WorkedWrong

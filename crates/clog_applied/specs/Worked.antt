@@ -141,6 +141,19 @@ far_end = record { id = 1001; offset = 0 }
 abbrev pub come_early : List Change
 come_early = comes (file_to far_end) ∷ goes_in ∷ goes_out ∷ []
 
+-- the archive name of a segment that the run does not have comes, and goes again
+abbrev pub stray_name : List ℕ
+stray_name = archive_name_of 2000
+
+abbrev pub stray_comes : Change
+stray_comes = change.Publish stray_name []
+
+abbrev pub stray_goes : Change
+stray_goes = change.Remove stray_name
+
+abbrev pub strays : List Change
+strays = goes_in ∷ stray_comes ∷ stray_goes ∷ []
+
 abbrev pub twice_logged : List LoggedLine
 twice_logged = line_at 1 28 ∷ line_at 1 60 ∷ []
 

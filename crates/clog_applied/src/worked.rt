@@ -1,37 +1,39 @@
 //! Worked rows: what runs over an empty folder do keeps what a run promises.
-ghost use Rattle.std.specs.Prelude.{◌++◌, ◌∷◌, ℕ, List, [], false, true};
+ghost use Rattle.std.specs.Prelude.{◌≡◌, ◌++◌, false, length, true};
 ghost use Rattle.sync_core.specs.declared.SyncCore.TheVariants.{Batch, Periodic};
-ghost use Rattle.clog_disk.specs.Files.{Files, no_files};
+ghost use Rattle.clog_disk.specs.Files.{no_files};
+ghost use Rattle.clog_mutation.specs.declared.mutation.Mutation.{Mutation};
+ghost use Rattle.clog_mutation.specs.Payload.{payload_of};
+ghost use Rattle.clog_mutation.specs.Stored.{IsStored};
 ghost use Rattle.clog_applied.specs.Applied.{IsAppliedRun};
-ghost use Rattle.clog_applied.specs.Closed.{IsAnyFile};
-ghost use Rattle.clog_applied.specs.Early.{AreInOrder};
-ghost use Rattle.clog_applied.specs.Filed.{FollowFrom, first_of};
-ghost use Rattle.clog_applied.specs.History.{HoldsShares};
-ghost use Rattle.clog_applied.specs.Log.{AreSyncedApart};
 ghost use Rattle.clog_applied.specs.Worked.{
   archived_changes,
   asked,
   asked_to_archive,
   both_bytes,
   both_changes,
-  both_logged,
-  come_early,
   drained_changes,
   each_changes,
-  file_to,
   first_bytes,
-  gone_early,
   one_line,
-  one_logged,
   report_of_one,
   report_of_two,
   second_bytes,
-  the_end,
-  twice_logged,
   two_lines,
   with_file,
-  with_gap,
   with_log,
+};
+ghost use Rattle.clog_applied.specs.WorkedRuns.{
+  asked_for_small,
+  asked_to_flush,
+  large_changes,
+  large_lines,
+  next_changes,
+  report_of_large,
+  report_of_next,
+  with_archive,
+  with_both,
+  with_next,
 };
 
 /// Two lines, each with an entry of 32 bytes. With one sync they stand in one section, from 28 to
@@ -44,27 +46,29 @@ pub fn lines_are_synced_once_or_each()
 {}
 
 /// One line, drained: its segment gets it, a table file comes up to its end, and the segment goes;
-/// where archives are kept, behind its archive name.
+/// where archives are kept, behind its archive name, under which it stays. The same comes of one
+/// update, where the writer flushes at one.
 pub fn a_drained_line_is_in_a_table_file()
     ensures applied { IsAppliedRun (asked (Periodic 10000) true) no_files with_file drained_changes
         one_line report_of_one }
-    ensures archived { AreInOrder IsAnyFile true archived_changes (1000 ∷ []) one_logged
-        (file_to the_end ∷ []) }
+    ensures archived { IsAppliedRun asked_to_archive no_files with_archive archived_changes one_line
+        report_of_one }
+    ensures flushed { IsAppliedRun asked_to_flush no_files with_file drained_changes one_line
+        report_of_one }
 {}
 
-/// Worked lists that no run leaves. Whatever else is left and printed: a segment that goes before the
-/// table file comes that holds it, a table file that comes before the log behind it, and a segment
-/// that goes without its archive name where archives are kept. Besides, a line that is logged twice, or not at all, two entries of one writer in one section in batch mode,
-/// and table files with a gap between them.
-pub fn wrong_runs_are_refused()
-    ensures gone_early { (after : Files) (report : List ℕ) → ¬ IsAppliedRun
-        (asked (Periodic 10000) true) no_files after gone_early one_line report }
-    ensures come_early { (after : Files) (report : List ℕ) → ¬ IsAppliedRun
-        (asked (Periodic 10000) true) no_files after come_early one_line report }
-    ensures unarchived { (after : Files) (report : List ℕ) → ¬ IsAppliedRun asked_to_archive
-        no_files after drained_changes one_line report }
-    ensures twice { ¬ HoldsShares 1 one_line twice_logged }
-    ensures not_logged { ¬ HoldsShares 1 one_line [] }
-    ensures in_one_section { ¬ AreSyncedApart both_changes both_logged }
-    ensures gap { ¬ FollowFrom (first_of 1000) with_gap }
+/// One line over the folder that such a run has left: it stands in the next segment, behind all
+/// that the table file stands for.
+pub fn a_line_comes_behind_a_table_file()
+    ensures { IsAppliedRun (asked (Periodic 10000) false) with_file with_next next_changes one_line
+        report_of_next }
+{}
+
+/// Two lines whose entries have 2048 bytes each, in segments of at most 4096: the second line
+/// stands in the next segment. There is such a line.
+pub fn lines_go_on_in_the_next_segment()
+    ensures applied { (m : Mutation) → IsStored m → length (payload_of m) ≡ 2036
+        → IsAppliedRun asked_for_small no_files (with_both m) (large_changes m) (large_lines m)
+        report_of_large }
+    ensures a_line { (m : Mutation) × IsStored m × (length (payload_of m) ≡ 2036) }
 {}

@@ -60,11 +60,12 @@ use Rattle.clog_store.specs.StoreFolder.{
   no_deeds,
 }
 use Rattle.clog_store.proofs.FolderReads.{absent_or_held, one_or_none}
-use Rattle.clog_applied.specs.Appended.{appended, entries_in}
+use Rattle.clog_applied.specs.Appended.{IsSegmentOf, appended, entries_in}
 use Rattle.clog_applied.specs.Closed.{IsAnyFile, IsStoreLeft, StaysAs}
-use Rattle.clog_applied.specs.Early.{AreInOrder}
+use Rattle.clog_applied.specs.Early.{AreInOrder, AreRunChanges, IsRunChange}
 use Rattle.clog_applied.specs.Filed.{BringsNoOther, KeepsOthers, StandsBefore}
 use Rattle.clog_applied.specs.History.{LoggedLine, entry_of}
+use Rattle.clog_applied.proofs.Changes.{in_appends}
 use Rattle.clog_applied.proofs.Merged.{of_entry}
 use Rattle.clog_layout.specs.Logged.{AreNotesOf}
 use Rattle.clog_layout.proofs.Standing.{pairs_none}
@@ -96,7 +97,7 @@ module _ (changes : List Change) (alone : AreAppends changes) where
   }
 
 -- an entry of a line touches a table
-touches_one : (w : LoggedLine) → IsStored w.mutation
+pub touches_one : (w : LoggedLine) → IsStored w.mutation
     → (table : Table) × Touches (entry_of w) table
 touches_one w stored = by w.mutation.updates refl
   where
@@ -267,6 +268,21 @@ module _ (archives : Bool) (opened after : Files) (later : List Change) (log : S
 
   -- ---- all of it
 
+  only_appends : (archive : Bool) → AreRunChanges archive ids [] later
+  only_appends archive c among =
+      by c (alone c among) (λ name bytes is.
+      let o = grows.only (name, bytes)
+      (in_appends later name bytes (subst (λ (x : Change). Contains later x) is among)) in
+      record { id = o.0.id; listed = written ws o.0 o.1 o.2; named = o.3 })
+    where
+      by : (c : Change) → IsAppend c
+          → ((name bytes : List ℕ) → c ≡ change.Append name bytes → IsSegmentOf ids name)
+          → IsRunChange archive ids [] c
+      by (change.Append name bytes) is of = of name bytes refl
+      by (change.Publish name bytes) is of = absurd is
+      by (change.Link old new) is of = absurd is
+      by (change.Remove name) is of = absurd is
+
   tables_stay : (place : Place) (name : List ℕ) → IsNameOf place name
       → finmap.get after name ≡ finmap.get opened name
   tables_stay place name named =
@@ -293,6 +309,7 @@ module _ (archives : Bool) (opened after : Files) (later : List Change) (log : S
         places are;
     some = an_entry;
     order = in_order later alone ids history [] archive;
+    only = only_appends archive;
     dropped_exactly = λ id listed. (
       λ gone. absurd (nothing_there id gone),
       λ d. absurd (not_droppable log.base id log.logged history are d),

@@ -103,7 +103,7 @@ places_are base (n ∷ ns) (w ∷ ws) are =
 
 -- ---- ids
 
-rising : (ws : List Write) → AllPairs (λ (a b : Write). a.id < b.id) ws
+pub rising : (ws : List Write) → AllPairs (λ (a b : Write). a.id < b.id) ws
     → AllPairs (λ (a b : ℕ). a < b) (map id_of ws)
 rising [] rise = pairs_none (λ (a b : ℕ). a < b)
 rising (w ∷ ws) rise =

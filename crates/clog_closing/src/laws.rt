@@ -12,6 +12,9 @@ ghost use Rattle.std.specs.Prelude.{
   Some,
   Contains,
   Bool,
+  length,
+  ◌<◌,
+  ◌≤◌,
 };
 ghost use Rattle.clog_cells.specs.Merge.{IsMergeOf};
 ghost use Rattle.clog_base.specs.declared.cell.Table.{Table};
@@ -20,6 +23,10 @@ ghost use Rattle.clog_disk.specs.declared.change.Change.{Change};
 ghost use Rattle.clog_disk.specs.Files.{Files};
 ghost use Rattle.clog_scan.specs.Cut.{Section};
 ghost use Rattle.clog_scan.specs.Laws.{IsFile};
+ghost use Rattle.clog_spec.specs.Sizes.{file_limit};
+ghost use Rattle.clog_mutation.specs.declared.mutation.Mutation.{Mutation};
+ghost use Rattle.clog_words.specs.declared.request.ApplyOptions.{ApplyOptions};
+ghost use Rattle.clog_crash.specs.Folder.{HoldsName};
 ghost use Rattle.clog_crash.specs.Droppable.{IsDroppable};
 ghost use Rattle.clog_crash.specs.Grown.{appends_of};
 ghost use Rattle.clog_crash.specs.Log.{Write};
@@ -39,13 +46,16 @@ ghost use Rattle.path_core.specs.Whole.{IsWhole};
 ghost use Rattle.clog_store.specs.Grows.{AreAppends, IsGrown, segments_with};
 ghost use Rattle.clog_store.specs.Notes.{places_of};
 ghost use Rattle.clog_store.specs.OnDisk.{file_on};
-ghost use Rattle.clog_store.specs.Opened.{IsOpened, RecoversAll};
+ghost use Rattle.clog_store.specs.Named.{IsLateTable, id_limit};
+ghost use Rattle.clog_store.specs.Opened.{CanBeOpened, IsOpened, RecoversAll};
 ghost use Rattle.clog_store.specs.StoreFolder.{Deeds, HoldsStore, StoreLog, no_deeds};
 ghost use Rattle.clog_applied.specs.Appended.{IsAppended, appended, entries_in};
-ghost use Rattle.clog_applied.specs.Closed.{IsAnyFile, IsStoreLeft};
+ghost use Rattle.clog_applied.specs.Asked.{capacity_of};
+ghost use Rattle.clog_applied.specs.Closed.{ClosedRun, IsAnyFile, IsStoreLeft};
 ghost use Rattle.clog_applied.specs.Early.{AreInOrder};
 ghost use Rattle.clog_applied.specs.Filed.{FollowFrom, IsTrueFor, files_of, first_of};
 ghost use Rattle.clog_applied.specs.History.{LoggedLine};
+ghost use Rattle.clog_applied.specs.Onward.{ReachesNoFurther};
 ghost use Rattle.clog_applied.specs.Opening.{IsOpening, IsRecoveryChange};
 ghost use Rattle.clog_layout.specs.Logged.{AreNotesOf};
 ghost use Rattle.clog_closing.specs.Logs.{AreStoredInOrder, written_ids};
@@ -69,6 +79,17 @@ pub fn openings_are_those_of_runs()
         → IsOpened first moment base now
         → ((c : Change) → Contains recovery c → IsRecoveryChange first c)
         → IsOpening first now recovery base }
+{}
+
+/// A run may be followed by another: where its folder could be opened before, it can be behind it,
+/// unless its ids come to their limit or a table's sequences do.
+pub fn a_run_may_follow()
+    ensures { (o : ApplyOptions) (before after : Files) (changes : List Change)
+        (mutations : List Mutation) → (run : ClosedRun o before after changes mutations)
+        → ReachesNoFurther o run.base run.later run.ids run.history run.files
+        → CanBeOpened before → capacity_of o ≤ file_limit
+        → run.base + length run.ids < id_limit → ¬ HoldsName after IsLateTable
+        → CanBeOpened after }
 {}
 
 /// Where a disk's changes have brought just the sections of a log, and these hold just the entries

@@ -233,13 +233,16 @@ impl Held {
         done
     }
 
-    /// Removes a file, so that it stays gone.
+    /// Removes a file, so that it stays gone. All other names last before it goes.
     pub(crate) fn remove<R: Files<File = File> + AllocGlobal>(
         &mut self,
         rt: &R,
         name: &Name,
     ) -> io::Result<()> {
         self.let_go_of(name)?;
+        // A file that stands for this one may have got its name by a program that was killed before
+        // the name lasted.
+        self.sync_names()?;
         self.names_last = false;
         remove_regular(rt, name)?;
         self.sync_names()

@@ -33,14 +33,14 @@ use Rattle.clog_engine.specs.declared.status.Status.TheVariants.{
 use Rattle.clog_engine.specs.Apply.{ApplyRefuses, KeepsAll, LeavesPart, ReadsGood}
 use Rattle.clog_engine.specs.Before.{FolderRefuses}
 use Rattle.clog_engine.specs.Laying.{FileRefused}
-use Rattle.clog_engine.specs.Outside.{IsUntouched, Outside}
+use Rattle.clog_engine.specs.Outside.{IsLeftAlone, Outside}
 use Rattle.clog_engine.specs.Refusal.{folder_status}
 
 -- ---- the file is refused
 
 pub file_refuses : (options : ApplyOptions) (status : Status) (o : Outside)
     → FileRefused (capacity_of options) o.left o.left_now o.source_faults o.source_faults_now status
-    → IsUntouched o → ApplyRefuses options status o
+    → IsLeftAlone o → ApplyRefuses options status o
 file_refuses n Ok o refused still = absurd refused
 file_refuses n Usage o refused still = absurd refused
 file_refuses n (BadLine number cause) o refused still = (refused, still)
@@ -64,7 +64,7 @@ file_refuses n (Absent name) o refused still = absurd refused
 abbrev pub LeftBy : ApplyOptions → Status → Outside → Type 0
 LeftBy options DiskFault o = LeavesPart options o
 LeftBy options OutOfMemory o = LeavesPart options o
-LeftBy options other o = IsUntouched o
+LeftBy options other o = IsLeftAlone o
 
 pub folder_refuses : (options : ApplyOptions) (status : Status) (o : Outside)
     → ReadsGood options o → FolderRefuses o.files o.disk_faults o.disk_faults_now status
@@ -88,7 +88,7 @@ folder_refuses n (Limit TableFiles most) o good refused left = (refused.0, good,
 folder_refuses n (Absent name) o good refused left = absurd refused
 
 -- where nothing has changed
-pub left_still : (options : ApplyOptions) (status : Status) (o : Outside) → IsUntouched o
+pub left_still : (options : ApplyOptions) (status : Status) (o : Outside) → IsLeftAlone o
     → LeftBy options status o
 left_still n DiskFault o still = inl still
 left_still n OutOfMemory o still = inl still
@@ -96,7 +96,7 @@ left_still n other o still = still
 
 -- where it was not opened
 pub left_closed : (options : ApplyOptions) (refusal : OpenFault) (o : Outside) (alone : Type 0)
-    → LeftAlone alone refusal → (alone → IsUntouched o) → KeepsAll o
+    → LeftAlone alone refusal → (alone → IsLeftAlone o) → KeepsAll o
     → LeftBy options (folder_status refusal) o
 left_closed n folder.Disk o alone left still kept = inr (inl kept)
 left_closed n folder.OutOfMemory o alone left still kept = inr (inl kept)

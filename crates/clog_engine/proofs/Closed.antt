@@ -215,6 +215,7 @@ run_of o options before opened after recovery later sizes ms notes moment base c
       told = tells;
       opened = is_opened;
       begins = first_there sizes laid.raw notes base w.history laid.laid w.lines.notes;
+      reach = w.reach;
       printed = printed;
       kept = with_report options before after all ms report run printed;
     }

@@ -1,6 +1,30 @@
 -- What a run leaves once its folder was opened, whether its lines were written or not.
-use Rattle.std.proofs.Common.{◌≡◌, ℕ, List, ◌++◌, length, Option, Some, None, Result, Ok as ok, Err as err, true, inr, refl, sym, ap, subst, ◌∙◌, append_assoc}
+use Rattle.std.proofs.Common.{
+  ◌≡◌,
+  ℕ,
+  List,
+  ◌++◌,
+  length,
+  map,
+  Option,
+  Some,
+  None,
+  Result,
+  Ok as ok,
+  Err as err,
+  true,
+  inl,
+  inr,
+  refl,
+  sym,
+  ap,
+  subst,
+  ◌∙◌,
+  append_assoc,
+  arith,
+}
 use Rattle.std.specs.Prelude.{IfSome, OnOk, ⊤}
+use Rattle.std.specs.FinMap as finmap
 use Rattle.clog_base.specs.declared.cell.Cell.{Cell}
 use Rattle.clog_base.specs.declared.cell.CellKey.{CellKey}
 use Rattle.clog_io.specs.declared.clock.Clock.{Ghosts as ClockTells}
@@ -8,19 +32,21 @@ use Rattle.clog_io.specs.Bytes.{TakesAll}
 use Rattle.clog_disk.specs.declared.change.Change.{Change}
 use Rattle.clog_disk.specs.declared.disk.Disk.{Ghosts as DiskTells}
 use Rattle.clog_disk.specs.Files.{Files, SameTold, Told, bytes_at}
-use Rattle.clog_disk.specs.Images.{IsImage, LastsAll, LeavesOnly, Unchanged}
+use Rattle.clog_disk.specs.Images.{IsImage, LastsAll, LeavesOnly}
 use Rattle.clog_mutation.specs.declared.mutation.Mutation.{Mutation}
 use Rattle.clog_words.specs.declared.request.ApplyOptions.{ApplyOptions}
 use Rattle.clog_crash.specs.Log.{Write}
 use Rattle.clog_crash.specs.Restore.{IsRestored}
 use Rattle.clog_folder.specs.Passing.{IsUntouched as IsDiskUntouched}
+use Rattle.clog_folder.proofs.Passing.{both, no_call}
 use Rattle.clog_applied.specs.Asked.{capacity_of}
-use Rattle.clog_applied.specs.Filed.{KeepsOthers}
+use Rattle.clog_applied.specs.Filed.{BringsNoOther, IsNewName, KeepsOthers}
 use Rattle.path_core.specs.declared.keeper.KeeperFault.{KeeperFault}
 use Rattle.path_core.specs.declared.keeper.KeeperFault.TheVariants.{OutOfMemory, Stopped}
 use Rattle.path_core.specs.declared.note.EntryNote.{EntryNote}
 use Rattle.clog_store.specs.Opened.{
   IsOpened,
+  IsRecovered,
   KeepsFolder,
   OpensAs,
   RecoversAll,
@@ -28,10 +54,12 @@ use Rattle.clog_store.specs.Opened.{
 }
 use Rattle.clog_store.specs.StoreFailed.{AllStay}
 use Rattle.clog_store.proofs.OpenedWhole.{keeps_same, lasts_on}
+use Rattle.clog_closing.specs.Logs.{id_of}
 use Rattle.clog_closing.proofs.Openings.{recovery_changes}
 use Rattle.clog_base.specs.declared.sizes.Sizes.{Sizes}
 use Rattle.clog_lines.specs.Written.{
   AreLaidFor,
+  BringsOnly,
   HasBrought,
   HasWriteCause,
   LeavesLines,
@@ -51,7 +79,7 @@ use Rattle.clog_engine.specs.Apply.{
   Wrote,
 }
 use Rattle.clog_engine.specs.Input.{IsSized}
-use Rattle.clog_engine.specs.Outside.{Outside, outside_with}
+use Rattle.clog_engine.specs.Outside.{IsLeftAlone, Outside, outside_with}
 use Rattle.clog_engine.specs.Refusal.{ended_as}
 use Rattle.clog_engine.specs.Report.{IsReport, head_of}
 use Rattle.clog_engine.specs.Request.{IsDoable}
@@ -79,23 +107,23 @@ opened_as looked told moment base first is opens =
     told_as told (IsOpened first moment base)
     (subst (λ (o : Option Files). OpensAs o told moment base) is opens)
 
-pub unchanged_on : (files looked now : Option Files)
-    (old leaves new : List ℕ → Option (List ℕ) → Type 0) → Unchanged files looked old leaves
-    → Unchanged looked now leaves new → Unchanged files now old new
-unchanged_on files looked now old leaves new first second = record {
-  files = second.files ∙ first.files;
-  images = record {
-    fewer = λ name left has.
-        first.images.fewer name left (second.images.fewer name left has);
-    more = λ name left has. second.images.more name left (first.images.more name left has);
-  };
-}
-
 -- files that are told stay told over two calls
 pub told_then : (a b c : Option Files) → SameTold a b → SameTold b c → SameTold a c
 told_then None b c first next = subst (λ (o : Option Files). SameTold o c) first next
 told_then (Some x) None c first next = absurd first
 told_then (Some x) (Some y) c first next = next
+
+-- no other name has come over an opening, and then
+brings_over : (base : ℕ) (first then after : Files) (ids : List ℕ) → IsRecovered first base then
+    → BringsNoOther ids then after → BringsNoOther ids first after
+brings_over base first then after ids recovered brings name absent held =
+    by (finmap.get then name) refl
+  where
+    by : (o : Option (List ℕ)) → finmap.get then name ≡ o → IsNewName ids name
+    by None is = brings name is held
+    by (Some bytes) is =
+        let put = recovered.came name bytes is absent in
+        inr (inr (put.file.table.0, put.sequence, put.named))
 
 -- ---- how a run ends whose lines were to be written
 
@@ -165,6 +193,34 @@ ended_applies (err OutOfMemory) options o report bytes ms taken sized reported r
 
 -- ---- by a disk
 
+-- one that was left alone between two moments of a run
+left_over : {D C : Type 0} (disk : DiskTells D) (clock : ClockTells C)
+    (left left_now : Option (List ℕ)) (f g : ℕ) (start now : D) (at : C)
+    → ((image : Files) → disk.since start (disk.moment start) image
+    → IsImage (disk.leaves start) image)
+    → IsDiskUntouched disk.files disk.changes disk.leaves disk.moment disk.since disk.read_at
+    disk.lasted_at disk.faults start now
+    → IsLeftAlone (outside_with left left_now f g disk clock start now at)
+left_over disk clock left left_now f g start now at only still = record {
+  still = still.same;
+  meanwhile = λ image since.
+      elim (still.time.nothing_else (disk.moment start) image (omega arith) since) [
+        | inl old ↦ only image old
+        | inr new ↦ λ name. still.same.images.fewer name (finmap.get image name) (new name)
+      ];
+}
+
+-- one that was not called
+pub uncalled_alone : {D C : Type 0} (disk : DiskTells D) (clock : ClockTells C)
+    (left left_now : Option (List ℕ)) (f g : ℕ) (start : D) (at : C)
+    → ((image : Files) → disk.since start (disk.moment start) image
+    → IsImage (disk.leaves start) image)
+    → IsLeftAlone (outside_with left left_now f g disk clock start start at)
+uncalled_alone disk clock left left_now f g start at only =
+    left_over disk clock left left_now f g start start at only
+    (no_call disk.files disk.changes disk.leaves disk.moment disk.since disk.read_at
+    disk.lasted_at disk.faults start)
+
 module _ {D C : Type 0} (disk : DiskTells D) (clock : ClockTells C)
     (left left_now : Option (List ℕ)) (f g : ℕ) (start looked : D) (at : C)
     (only : (image : Files) → disk.since start (disk.moment start) image
@@ -178,6 +234,18 @@ module _ {D C : Type 0} (disk : DiskTells D) (clock : ClockTells C)
       → SameTold (disk.files start) (disk.files now)
   same_told now told =
       subst (λ (o : Option Files). SameTold o (disk.files now)) still.same.files told
+
+  -- a disk that was only looked at, and then left alone
+  pub looked_alone : IsLeftAlone (outside_at looked)
+  looked_alone = left_over disk clock left left_now f g start looked at only still
+
+  pub left_alone : (now : D)
+      → IsDiskUntouched disk.files disk.changes disk.leaves disk.moment disk.since disk.read_at
+      disk.lasted_at disk.faults looked now → IsLeftAlone (outside_at now)
+  left_alone now alone =
+      left_over disk clock left left_now f g start now at only
+      (both disk.files disk.changes disk.leaves disk.moment disk.since disk.read_at disk.lasted_at
+      disk.faults start looked now still alone)
 
   -- what lasted lasts
   lasting : (first : Files) → LastsAll first (disk.leaves start)
@@ -223,6 +291,18 @@ module _ {D C : Type 0} (disk : DiskTells D) (clock : ClockTells C)
       → LeavesOnly disk.moment disk.since looked opened (KeepsFolder first))
       (recovers : (first : Files) → disk.files looked ≡ Some first
       → RecoversAll first (disk.changes looked) (disk.changes opened)) where
+    -- no other name has come than those of a log, over the opening too
+    no_stray : (now : D) (first : Files) → disk.files looked ≡ Some first → (log : List Write)
+        → BringsOnly disk.files opened now log → SameTold (disk.files opened) (disk.files now)
+        → Told (disk.files now) (BringsNoOther (map id_of log) first)
+    no_stray now first is log brings told =
+        let then = opened_as (disk.files looked) (disk.files opened) moment base first is opens in
+        let after = told_as (disk.files now) (λ f. ⊤)
+        (subst (λ (o : Option Files). SameTold o (disk.files now)) then.1 told) in
+        subst (λ (o : Option Files). Told o (BringsNoOther (map id_of log) first)) (sym after.1)
+        (brings_over base first then.0 after.0 (map id_of log) then.2.recovered
+        (brings then.0 after.0 then.1 after.1))
+
     -- what was appended behind the recovery
     written : (now : D) (options : ApplyOptions) (ms : List Mutation) (first : Files)
         → disk.files looked ≡ Some first → (log : List Write)
@@ -240,11 +320,17 @@ module _ {D C : Type 0} (disk : DiskTells D) (clock : ClockTells C)
 
     pub wrote : (now : D) (options : ApplyOptions) (ms : List Mutation) → (log : List Write)
         × HasBrought disk.changes opened now options.archive options.drain ms log
+        × BringsOnly disk.files opened now log → SameTold (disk.files opened) (disk.files now)
         → Wrote (outside_at now) options ms
-    wrote now options ms has = if_told (disk.files start) (disk.files looked)
+    wrote now options ms has told = if_told (disk.files start) (disk.files looked)
         (λ (first : Files).
-        (log : List Write) × HasWrittenLog (outside_at now) options first ms log)
-        still.same.files (λ first is. (has.0, written now options ms first is has.0 has.1))
+        (log : List Write) × HasWrittenLog (outside_at now) options first ms log
+        × Told (disk.files now) (BringsNoOther (map id_of log) first))
+        still.same.files (λ first is. (
+          has.0,
+          written now options ms first is has.0 has.1,
+          no_stray now first is has.0 has.2 told,
+        ))
 
     -- what is no segment stands as it was
     pub others : (now : D) → SameTold (disk.files opened) (disk.files now)
@@ -269,6 +355,7 @@ module _ {D C : Type 0} (disk : DiskTells D) (clock : ClockTells C)
         → LeavesLines disk.changes disk.moment disk.since disk.leaves opened now (bytes_at then)
         options.archive options.drain ms least)
         → LastsFirst (outside_at now) options ms least
+    unfolding written
     lasts_first now options ms least leaves = if_told (disk.files start) (disk.files looked)
         (λ (first : Files). LastsAll first (disk.leaves start)
         → LeavesFirst (outside_at now) options first ms least) still.same.files (λ first is lasts.
@@ -287,6 +374,9 @@ module _ {D C : Type 0} (disk : DiskTells D) (clock : ClockTells C)
               kept opening lines;
           now = λ image left chance.
               adds_lines first then.0 image ms least kept (lines.at_last image left chance);
+          at_drain = λ beyond image left chance.
+              adds_lines first then.0 image ms (length ms) kept
+              (lines.at_drain beyond image left chance);
         })
 
     -- and where all are written, the run's promises are kept

@@ -15,7 +15,7 @@ use Rattle.clog_engine.specs.Replaying.{ReplaysFolder}
 use Rattle.clog_engine.specs.Request.{Asks}
 use Rattle.clog_engine.specs.Scanning.{Scans}
 use Rattle.clog_engine.specs.Faults.{fault_line}
-use Rattle.clog_engine.specs.Outside.{Outside, IsUntouched, Sinks, Writes, Breaks}
+use Rattle.clog_engine.specs.Outside.{Outside, IsLeftAlone, Sinks, Writes, Breaks}
 use Rattle.clog_engine.specs.Apply.{Applies}
 use Rattle.clog_engine.specs.Quiet.{TellsFaults}
 
@@ -26,17 +26,17 @@ pub record IsUnread (o : Outside) : Type 0 where
 
 -- What is asked for is done and reported, or is refused; no request at all is refused.
 abbrev pub Does : Option Built → Outside → Result (List ℕ) Status → Type 0
-Does None o outcome = (outcome ≡ result.Err Usage) × IsUntouched o × IsUnread o
+Does None o outcome = (outcome ≡ result.Err Usage) × IsLeftAlone o × IsUnread o
 Does (Some (Apply options)) o outcome = Applies options o outcome
 Does (Some (Replay options)) o outcome =
     ReplaysFolder options.ignore_errors o.files o.disk_faults o.disk_faults_now outcome
-    × IsUntouched o × IsUnread o
+    × IsLeftAlone o × IsUnread o
 Does (Some (Scan id)) o outcome =
-    Scans id o.files o.disk_faults o.disk_faults_now outcome × IsUntouched o × IsUnread o
+    Scans id o.files o.disk_faults o.disk_faults_now outcome × IsLeftAlone o × IsUnread o
 
 -- Memory for the words was refused.
 abbrev pub HasNoWords : Outside → Result (List ℕ) Status → Type 0
-HasNoWords o outcome = (outcome ≡ result.Err OutOfMemory) × IsUntouched o × IsUnread o
+HasNoWords o outcome = (outcome ≡ result.Err OutOfMemory) × IsLeftAlone o × IsUnread o
 
 -- What the words ask for is done, or refused.
 pub record DoesWhatIsAsked (words : List (String Global)) (o : Outside)

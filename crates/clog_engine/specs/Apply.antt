@@ -1,5 +1,26 @@
 -- What `apply` does to the disk and reports, and why it does not.
-use Rattle.std.specs.Prelude.{◌≡◌, ◌⊎◌, ℕ, ◌<◌, ◌≤◌, List, [], ◌∷◌, ◌++◌, length, take, false, Contains, Option, Some, IfSome, option_map, ⊤, Result}
+use Rattle.std.specs.Prelude.{
+  ◌≡◌,
+  ◌⊎◌,
+  ℕ,
+  ◌<◌,
+  ◌≤◌,
+  List,
+  [],
+  ◌∷◌,
+  ◌++◌,
+  length,
+  map,
+  take,
+  false,
+  Contains,
+  Option,
+  Some,
+  IfSome,
+  option_map,
+  ⊤,
+  Result,
+}
 use Rattle.std.specs.declared.result.Result.TheVariants as result
 use Rattle.std.specs.List.{flat_map}
 use Rattle.clog_base.specs.declared.cell.Cell.{Cell}
@@ -42,10 +63,18 @@ use Rattle.clog_store.specs.Opened.{
 use Rattle.clog_applied.specs.Applied.{IsAppliedRun}
 use Rattle.clog_applied.specs.Asked.{capacity_of}
 use Rattle.clog_applied.specs.Closed.{ClosedRun}
-use Rattle.clog_applied.specs.Filed.{KeepsOthers}
+use Rattle.clog_applied.specs.Filed.{BringsNoOther, KeepsOthers}
 use Rattle.clog_applied.specs.History.{LoggedLine}
+use Rattle.clog_applied.specs.Onward.{ReachesNoFurther}
 use Rattle.clog_applied.specs.Printed.{ReportIsPrinted}
-use Rattle.clog_lines.specs.Written.{AreLaidFor, AreMadeFor, IsWrittenBy, SaysFirst}
+use Rattle.clog_closing.specs.Logs.{id_of}
+use Rattle.clog_lines.specs.Written.{
+  AreLaidFor,
+  AreMadeFor,
+  GoesBeyond,
+  IsWrittenBy,
+  SaysFirst,
+}
 use Rattle.clog_engine.specs.declared.status.Status.{Status}
 use Rattle.clog_engine.specs.declared.status.Status.TheVariants.{
   BadLine,
@@ -65,7 +94,7 @@ use Rattle.clog_engine.specs.Input.{
   IsSized,
   Takes,
 }
-use Rattle.clog_engine.specs.Outside.{Outside, IsUntouched}
+use Rattle.clog_engine.specs.Outside.{Outside, IsLeftAlone}
 use Rattle.clog_engine.specs.Report.{IsReport, head_of}
 use Rattle.clog_engine.specs.Request.{AreSizesOf}
 
@@ -99,14 +128,16 @@ pub record HasWrittenLog (o : Outside) (options : ApplyOptions) (before : Files)
   pub made_for : AreMadeFor options.archive options.drain mutations added
   pub brought : IsWrittenBy (appends_of added) log
 
--- Where the disk tells its files, that is all that was changed.
+-- Where the disk tells its files, that is all that was changed, and no other name has come than those
+-- of these segments, their archive names and table files.
 abbrev pub Wrote : Outside → ApplyOptions → List Mutation → Type 0
 Wrote o options mutations = IfSome o.files
-    (λ before. (log : List Write) × HasWrittenLog o options before mutations log)
+    (λ before. (log : List Write) × HasWrittenLog o options before mutations log
+    × Told o.files_now (BringsNoOther (map id_of log) before))
 
 -- A crash at any moment of the run leaves what restores so, and a crash now at least so many of the
 -- lines, where nothing passes by chance for what was written: the segments that were appended,
--- which say the first of the lines.
+-- which say the first of the lines. Where the changes go beyond appends, it leaves all of them.
 pub record LeavesFirst (o : Outside) (options : ApplyOptions) (before : Files)
     (mutations : List Mutation) (least : ℕ) : Type 0 where
   pub log : List Write
@@ -116,6 +147,8 @@ pub record LeavesFirst (o : Outside) (options : ApplyOptions) (before : Files)
       → AddsFirst before mutations 0 image
   pub now : (image : Files) → IsImage o.leaves_now image → NoChances log image
       → AddsFirst before mutations least image
+  pub at_drain : GoesBeyond wrote.added → (image : Files) → IsImage o.leaves_now image
+      → NoChances log image → AddsFirst before mutations (length mutations) image
 
 -- Where the disk tells its files, and all of them lasted before, a crash leaves that.
 abbrev pub LastsFirst : Outside → ApplyOptions → List Mutation → ℕ → Type 0
@@ -130,7 +163,8 @@ BeginsIn id [] = ⊤
 BeginsIn id (w ∷ ws) = w.id ≡ id
 
 -- The folder was opened at a moment that the clock told, from which and from the ids that it named
--- the base is; the first line stands there, and the run is closed. So its promises are kept.
+-- the base is; the first line stands there, and the run is closed and reaches no further than its
+-- lines. So its promises are kept.
 pub record IsRun (o : Outside) (options : ApplyOptions) (mutations : List Mutation)
     (report : List ℕ) (before after : Files) (added : List Change) : Type 0 where
   pub closed : ClosedRun options before after added mutations
@@ -138,6 +172,8 @@ pub record IsRun (o : Outside) (options : ApplyOptions) (mutations : List Mutati
   pub told : o.tells moment
   pub opened : IsOpened before moment closed.base closed.opened
   pub begins : BeginsIn closed.base closed.history
+  pub reach : ReachesNoFurther options closed.base closed.later closed.ids closed.history
+      closed.files
   pub printed : ReportIsPrinted options after (length mutations) closed.history report
   pub kept : IsAppliedRun options before after added mutations report
 
@@ -204,9 +240,9 @@ pub record IsPartly (options : ApplyOptions) (o : Outside) : Type 0 where
   pub others : IfSome o.files (λ before. Told o.files_now (KeepsOthers before))
   pub lasts : LastsFirst o options mutations 0
 
--- the disk is as it was, or the folder restores the same, or the first of the lines came
+-- the disk was left alone, or the folder restores the same, or the first of the lines came
 abbrev pub LeavesPart : ApplyOptions → Outside → Type 0
-LeavesPart options o = IsUntouched o ⊎ (KeepsAll o ⊎ IsPartly options o)
+LeavesPart options o = IsLeftAlone o ⊎ (KeepsAll o ⊎ IsPartly options o)
 
 -- the whole file was read, and each of its lines is good
 abbrev pub ReadsGood : ApplyOptions → Outside → Type 0
@@ -215,32 +251,32 @@ ReadsGood options o = ReadsToEnd o (IsGood (capacity_of options))
 -- Why nothing is reported, and what is left of the disk: each row with all that comes before it.
 abbrev pub ApplyRefuses : ApplyOptions → Status → Outside → Type 0
 ApplyRefuses options (BadLine number cause) o =
-    ReadsToEnd o (λ bytes. HasBadLine bytes number cause) × IsUntouched o
+    ReadsToEnd o (λ bytes. HasBadLine bytes number cause) × IsLeftAlone o
 ApplyRefuses options (TooLarge number size most) o =
     ReadsToEnd o (λ bytes. HasLargeLine (capacity_of options) bytes number size most)
-    × IsUntouched o
-ApplyRefuses options ReadFault o = Rose o.source_faults o.source_faults_now × IsUntouched o
+    × IsLeftAlone o
+ApplyRefuses options ReadFault o = Rose o.source_faults o.source_faults_now × IsLeftAlone o
 ApplyRefuses options DiskFault o =
     ReadsGood options o × Rose o.disk_faults o.disk_faults_now × LeavesPart options o
 ApplyRefuses options (Damaged name at cause) o =
     ReadsGood options o × IfSome o.files (λ files. HasDamage files name at cause)
-    × IsUntouched o
+    × IsLeftAlone o
 ApplyRefuses options (BadTable name fault) o =
     ReadsGood options o × IfSome o.files (λ files. IsFirstBad files name fault)
-    × IsUntouched o
+    × IsLeftAlone o
 ApplyRefuses options OutOfMemory o = LeavesPart options o
 ApplyRefuses options (Limit FileBytes most) o =
-    (most ≡ file_limit) × IfSome o.left (λ bytes. file_limit < length bytes) × IsUntouched o
+    (most ≡ file_limit) × IfSome o.left (λ bytes. file_limit < length bytes) × IsLeftAlone o
 ApplyRefuses options (Limit Lines most) o =
-    (most ≡ line_limit) × ReadsToEnd o HasManyLines × IsUntouched o
+    (most ≡ line_limit) × ReadsToEnd o HasManyLines × IsLeftAlone o
 ApplyRefuses options (Limit SegmentBytes most) o =
     (most ≡ file_limit) × ReadsGood options o × IfSome o.files (HasLongSegment false)
-    × IsUntouched o
+    × IsLeftAlone o
 ApplyRefuses options (Limit TableFiles most) o =
     (most ≡ sequence_limit) × ReadsGood options o × IfSome o.files HasManyTables
-    × IsUntouched o
+    × IsLeftAlone o
 ApplyRefuses options (Limit Ids most) o =
-    (most ≡ id_limit) × ReadsGood options o × IfSome o.files HasGreatId × IsUntouched o
+    (most ≡ id_limit) × ReadsGood options o × IfSome o.files HasGreatId × IsLeftAlone o
 ApplyRefuses options other o = ⊥
 
 -- a report, or why there is none

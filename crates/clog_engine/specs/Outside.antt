@@ -9,7 +9,7 @@ use Rattle.clog_io.specs.Bytes.{AppendsPrefix}
 use Rattle.clog_disk.specs.declared.change.Change.{Change}
 use Rattle.clog_disk.specs.declared.disk.Disk.{Ghosts as DiskTells}
 use Rattle.clog_disk.specs.Files.{Files}
-use Rattle.clog_disk.specs.Images.{Unchanged}
+use Rattle.clog_disk.specs.Images.{IsImage, Unchanged}
 
 -- the source, the disk and the clock
 pub record Outside : Type 1 where
@@ -63,6 +63,12 @@ outside_of source disk clock s s_now d d_now c =
 -- No file has changed, and a crash leaves just what it left before.
 abbrev pub IsUntouched : Outside → Type 0
 IsUntouched o = Unchanged o.files o.files_now o.leaves o.leaves_now
+
+-- The same, and so it was at each moment of the run: what a crash then might have left, it might
+-- have left before.
+pub record IsLeftAlone (o : Outside) : Type 0 where
+  pub still : IsUntouched o
+  pub meanwhile : (image : Files) → o.since image → IsImage o.leaves image
 
 -- the sink: what it holds, where it tells it, and its faults
 pub record Sinks : Type 0 where

@@ -1,7 +1,7 @@
 //! The command `replay`: what the folder restores to, and how much was read of it (Cassandra's
 //! `CommitLogReplayer`, which writes it to tables in place of printing it).
 ghost use Rattle.std.specs.Prelude.{◌≡◌, ◌≤◌, ◌++◌, OnOk, IfOk};
-ghost use Rattle.clog_disk.specs.Images.{Unchanged};
+ghost use Rattle.clog_folder.specs.Passing.{IsUntouched};
 ghost use Rattle.clog_engine.specs.Quiet.{TellsEach};
 ghost use Rattle.clog_engine.specs.Replaying.{ReplaysFolder, counts_lines, replay_report};
 ghost use Rattle.clog_engine.specs.Report.{numbered_line};
@@ -61,8 +61,8 @@ pub(crate) fn replay_folder<T: Threads + Sync, D: Disk, G: Gate + Sync>(
     requires { (1 ≤ options.workers) × (options.workers ≤ 64) }
     ensures replays { ReplaysFolder options.ignore_errors (D.files disk.old) (D.faults disk.old)
         (D.faults disk.new) result }
-    ensures same { Unchanged (D.files disk.old) (D.files disk.new) (D.leaves disk.old)
-        (D.leaves disk.new) }
+    ensures keeps { IsUntouched D.files D.changes D.leaves D.moment D.since D.read_at D.lasted_at
+        D.faults disk.old disk.new }
     ensures quiet { TellsEach (D.faults disk.old) (D.faults disk.new) result }
 {
     let ignore = options.ignore_errors;

@@ -1,8 +1,7 @@
 //! The command `scan`: one segment's file is read whole, and its report tells what it holds
 //! (Cassandra's `CommitLogReader`, which also decodes the payloads).
-ghost use Rattle.std.specs.Prelude.{◌≤◌};
 ghost use Rattle.clog_spec.specs.Names.{segment_name_of};
-ghost use Rattle.clog_disk.specs.Images.{Unchanged};
+ghost use Rattle.clog_folder.specs.Passing.{IsUntouched};
 ghost use Rattle.clog_engine.specs.Quiet.{TellsEach};
 ghost use Rattle.clog_engine.specs.Scanning.{Scans};
 ghost use Rattle.clog_engine.specs.SegmentFile.{FindsFile, GivesSegmentFile};
@@ -20,10 +19,9 @@ use std::alloc::Global;
 fn find_file<D: Disk>(disk: &mut D, name: &Name) -> Result<(), Status>
     ensures finds { FindsFile (D.files disk.old) (D.faults disk.old) (D.faults disk.new) name.now
         result }
-    ensures same { Unchanged (D.files disk.old) (D.files disk.new) (D.leaves disk.old)
-        (D.leaves disk.new) }
+    ensures keeps { IsUntouched D.files D.changes D.leaves D.moment D.since D.read_at D.lasted_at
+        D.faults disk.old disk.new }
     ensures quiet { TellsEach (D.faults disk.old) (D.faults disk.new) result }
-    ensures later { D.faults disk.old ≤ D.faults disk.new }
 {
     match disk.list() {
         Ok(names) if names.as_slice().contains(name) => Ok(()),
@@ -36,8 +34,8 @@ fn find_file<D: Disk>(disk: &mut D, name: &Name) -> Result<(), Status>
 fn segment_file<D: Disk>(disk: &mut D, id: u64) -> Result<Vec<u8>, Status>
     ensures gives { GivesSegmentFile (D.files disk.old) (D.faults disk.old) (D.faults disk.new)
         (segment_name_of 6 id) result }
-    ensures same { Unchanged (D.files disk.old) (D.files disk.new) (D.leaves disk.old)
-        (D.leaves disk.new) }
+    ensures keeps { IsUntouched D.files D.changes D.leaves D.moment D.since D.read_at D.lasted_at
+        D.faults disk.old disk.new }
     ensures quiet { TellsEach (D.faults disk.old) (D.faults disk.new) result }
 {
     let name = segment_name(id);
@@ -51,8 +49,8 @@ fn segment_file<D: Disk>(disk: &mut D, id: u64) -> Result<Vec<u8>, Status>
 /// What the segment of an id holds. Of the disk the listing and that file are looked at alone.
 pub(crate) fn scan_segment<D: Disk>(alloc: Global, disk: &mut D, id: u64) -> Result<Bytes, Status>
     ensures scans { Scans id (D.files disk.old) (D.faults disk.old) (D.faults disk.new) result }
-    ensures same { Unchanged (D.files disk.old) (D.files disk.new) (D.leaves disk.old)
-        (D.leaves disk.new) }
+    ensures keeps { IsUntouched D.files D.changes D.leaves D.moment D.since D.read_at D.lasted_at
+        D.faults disk.old disk.new }
     ensures quiet { TellsEach (D.faults disk.old) (D.faults disk.new) result }
 {
     let bytes = segment_file(disk, id)?;

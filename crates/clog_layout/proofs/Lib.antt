@@ -1,3 +1,4 @@
 pub mod Lines
 pub mod Places
+pub mod Reaching
 pub mod Standing

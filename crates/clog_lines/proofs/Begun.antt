@@ -1,7 +1,31 @@
 -- A drain that has begun, however far it has come, also where the disk has failed meanwhile: what
 -- was appended is the lines, and table files and removals stand in order.
-use Rattle.std.proofs.Common.{◌≡◌, ℕ, ◌≤◌, inl, inr, List, [], ◌∷◌, ◌++◌, Option, length, take, zero, suc, refl, sym, ◌∙◌, ap, subst, arith, append_assoc, append-nil}
-use Rattle.std.specs.Prelude.{drop}
+use Rattle.std.proofs.Common.{
+  ◌≡◌,
+  ℕ,
+  ◌≤◌,
+  inl,
+  inr,
+  false,
+  List,
+  [],
+  ◌∷◌,
+  ◌++◌,
+  Option,
+  length,
+  take,
+  zero,
+  suc,
+  refl,
+  sym,
+  ◌∙◌,
+  ap,
+  subst,
+  arith,
+  append_assoc,
+  append-nil,
+}
+use Rattle.std.specs.Prelude.{Contains, drop}
 use Rattle.std.specs.List.{flat_map}
 use Rattle.std.proofs.lemmas.List.{
   length-append,
@@ -9,9 +33,10 @@ use Rattle.std.proofs.lemmas.List.{
   take-append-drop,
   take-append-le,
 }
+use Rattle.std.proofs.lemmas.List.Elements.{Contains-append_left}
 use Rattle.clog_spec.specs.Sizes.{header_size}
 use Rattle.clog_base.specs.declared.sizes.Sizes.{Sizes}
-use Rattle.clog_base.proofs.Members.{nothing_there}
+use Rattle.clog_base.proofs.Members.{from_map, nothing_there}
 use Rattle.clog_disk.specs.declared.change.Change.{Change}
 use Rattle.clog_mutation.specs.declared.mutation.Mutation.{Mutation}
 use Rattle.clog_scan.specs.Cut.{Section, last_until}
@@ -23,16 +48,25 @@ use Rattle.clog_crash.specs.Runs.{Placed, placed, placed_log, placed_of}
 use Rattle.clog_crash.specs.Sections.{IsStored}
 use Rattle.clog_crash.proofs.life.Runs.{placed-append}
 use Rattle.clog_crash.proofs.rest.Sectioned.{stored_front}
+use Rattle.clog_table.specs.declared.table_file.TableFile.{TableFile}
 use Rattle.path_core.specs.declared.note.EntryNote.{EntryNote}
-use Rattle.clog_store.specs.NoteLog.{IsNoteLog}
+use Rattle.path_core.specs.Keeper.{Holding, PutFile}
+use Rattle.clog_store.specs.NoteLog.{HasLog, IsNoteLog}
 use Rattle.clog_store.specs.Notes.{places_of}
+use Rattle.clog_store.specs.OnDisk.{file_on}
 use Rattle.clog_store.specs.StoreFolder.{Deeds, IsSound, StoreLog, log_of}
-use Rattle.clog_store.specs.StoreOrder.{AreOrdered}
+use Rattle.clog_store.specs.StoreOrder.{AreOrdered, AreSettled}
 use Rattle.clog_store.specs.StoreState.{HasGrown, HasOrdered, StoreState, deeds_by}
 use Rattle.clog_store.proofs.OrderGoes.{ordered_appended}
+use Rattle.clog_applied.specs.Filed.{IsTrueFor}
+use Rattle.clog_applied.specs.History.{LoggedLine}
+use Rattle.clog_layout.specs.Laid.{synced_to}
+use Rattle.clog_layout.proofs.Standing.{parted}
 use Rattle.clog_closing.specs.Stores.{GoesInOrder, files_by, ids_in}
 use Rattle.clog_closing.proofs.Logs.{is_appended}
+use Rattle.clog_closing.proofs.StoreOnly.{come_last, only}
 use Rattle.clog_closing.proofs.StoreOrdered.{in_order as runs_in_order}
+use Rattle.clog_closing.proofs.Tables.{is_true}
 use Rattle.clog_lines.specs.Written.{AreLaidFor, HasGoneInOrder}
 use Rattle.clog_lines.proofs.Leaving.{history, in_order, is_a_history, lines}
 
@@ -79,7 +113,10 @@ between past id part more count all few whole first =
 
 module _ {D : Type 0} (changes : D → Option (List Change)) (b : StoreState D)
     (ordered : HasOrdered changes b) (notes : IsNoteLog b.notes) (sound : IsSound b.notes.log)
-    (none_kept : b.notes.kept ≡ []) where
+    (none_kept : b.notes.kept ≡ []) (settled : AreSettled b.notes b.files)
+    (wide : (put : PutFile) → Contains b.files put
+    → (put.lower ≡ 0) × (put.upper ≡ synced_to b.notes.logged))
+    (none_archived : b.archives ≡ false → b.archived ≡ []) where
   abbrev growth : HasGrown changes b.first b.notes.log
   growth = ordered.growth
 
@@ -136,8 +173,11 @@ module _ {D : Type 0} (changes : D → Option (List Change)) (b : StoreState D)
       (λ m h. absurd (nothing_there m h)) (λ o h. h) (λ o h. h) growth.added []
       ordered.ordered (λ c h. absurd (nothing_there c h)) refl)
 
-  module _ (sizes : Sizes) (mutations : List Mutation)
-      (out : AreLaidFor sizes mutations b.notes.logged) where
+  module _ (mutations : List Mutation)
+      (out : AreLaidFor b.notes.sizes mutations b.notes.logged) where
+    abbrev sizes : Sizes
+    sizes = b.notes.sizes
+
     goes : GoesInOrder sizes growth.added log deeds
         (history sizes b.notes.base mutations b.notes.logged out)
     goes = record {
@@ -154,8 +194,47 @@ module _ {D : Type 0} (changes : D → Option (List Change)) (b : StoreState D)
       notes = (lines sizes b.notes.base mutations b.notes.logged out).notes;
     }
 
-    pub has_gone : HasGoneInOrder b.archives mutations growth.added
-    has_gone = record {
+    abbrev its : List LoggedLine
+    its = history sizes b.notes.base mutations b.notes.logged out
+
+    -- files reach as far as the notes
+    reaches : (put : PutFile) → Contains b.files put → (n : EntryNote)
+        → Contains b.notes.logged n → n.end.0 ≤ put.upper
+    reaches put among n listed =
+        let low = (parted sizes sizes.within.least_capacity sizes.within.greatest_capacity out.raw
+        b.notes.logged out.laid).low n listed in
+        let up = (wide put among).1 in
+        omega (arith, low, up)
+
+    -- the files that were put are true, in the words of a keeper that has logged these notes
+    its_true : (k : Holding) → (file : TableFile) → Contains (files_by log deeds) file
+        → IsTrueFor its file
+    its_true k file listed =
+        let h : Holding = record k {
+          base = b.notes.base;
+          sizes = b.notes.sizes;
+          synced = b.notes.synced;
+          logged = b.notes.logged;
+          kept = b.notes.kept;
+        } in
+        let has : HasLog b.notes h = record {
+          base_is = refl;
+          sizes_are = refl;
+          synced_is = refl;
+          logged_are = refl;
+          kept_are = refl;
+        } in
+        let p = from_map (file_on b.notes.base) b.files file listed in
+        subst (IsTrueFor its) p.2
+        (is_true h its sizes.within.greatest_capacity
+        (is_a_history sizes b.notes.base mutations b.notes.logged out)
+        (lines sizes b.notes.base mutations b.notes.logged out).notes
+        (λ n among. (notes.good n
+        (Contains-append_left b.notes.logged b.notes.kept n among)).whole) p.0
+        (settled h has p.0 p.1).merged)
+
+    pub has_gone : Holding → HasGoneInOrder b.archives mutations growth.added
+    has_gone k = record {
       ids = ids_in log;
       history = history sizes b.notes.base mutations b.notes.logged out;
       files = files_by log deeds;
@@ -166,4 +245,7 @@ module _ {D : Type 0} (changes : D → Option (List Change)) (b : StoreState D)
           goes.places goes.notes;
       order = runs_in_order sizes growth.added log deeds
           (history sizes b.notes.base mutations b.notes.logged out) goes;
+      only = only sizes growth.added log deeds its goes none_archived;
+      last = come_last sizes growth.added log deeds its goes reaches;
+      are_true = its_true k;
     }

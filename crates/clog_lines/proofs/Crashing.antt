@@ -42,7 +42,13 @@ use Rattle.clog_store.specs.Life.{LivesOn, MayGoOnIn, ShowsOn, State, lasting_in
 use Rattle.clog_store.specs.Notes.{places_of}
 use Rattle.clog_store.proofs.Lived.{at_both}
 use Rattle.clog_layout.specs.Logged.{AreEntriesOf}
-use Rattle.clog_lines.specs.Written.{AreLaidFor, HasBrought, LeavesLines, RestoresLines}
+use Rattle.clog_lines.specs.Written.{
+  AreLaidFor,
+  GoesBeyond,
+  HasBrought,
+  LeavesLines,
+  RestoresLines,
+}
 use Rattle.clog_lines.proofs.Showing.{
   noted_payload,
   of_lines,
@@ -131,9 +137,10 @@ module _ {D : Type 0} (files : D → Option Files) (changes : D → Option (List
         (shown ws goes_on none) le
 
     pub leaves_lines : (least : ℕ) (archives drain : Bool) → least ≤ lasting_in b
-        → HasBrought changes a.disk b.disk archives drain mutations ws
+        → (wrote : HasBrought changes a.disk b.disk archives drain mutations ws)
+        → (GoesBeyond wrote.added → length mutations ≤ lasting_in b)
         → LeavesLines changes moment since leaves a.disk b.disk r archives drain mutations least
-    leaves_lines least archives drain le wrote =
+    leaves_lines least archives drain le wrote full =
         let now = told in
         let shown = at_both (files b.disk) (read_at b.disk b.opened) (λ f q. (at : ℕ)
         → MayGoOnIn b.id b.sections at
@@ -155,4 +162,7 @@ module _ {D : Type 0} (files : D → Option Files) (changes : D → Option (List
               (λ image h none. as_shown (lasting_in a) 0 image h (omega arith) none);
           at_last = λ image left none.
               as_shown (lasting_in b) least image (lasts b.id (inl refl) image left) le none;
+          at_drain = λ beyond image left none.
+              as_shown (lasting_in b) (length mutations) image (lasts b.id (inl refl) image left)
+              (full beyond) none;
         }

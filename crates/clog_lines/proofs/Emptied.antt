@@ -70,7 +70,7 @@ use Rattle.clog_store.specs.StoreState.{
   deeds_by,
   holding_of,
 }
-use Rattle.clog_applied.specs.Closed.{IsStoreLeft}
+use Rattle.clog_applied.specs.Closed.{IsClosedPath, IsStoreLeft}
 use Rattle.clog_applied.specs.Filed.{HoldsSome, IsTrueFor}
 use Rattle.clog_applied.specs.History.{LoggedLine, entry_of, logged_at}
 use Rattle.clog_layout.specs.Laid.{synced_to}
@@ -102,8 +102,12 @@ use Rattle.clog_closing.proofs.Tables.{
 use Rattle.clog_memtable.specs.declared.flushing.Memtable.{Memtable}
 use Rattle.clog_memtable.specs.Flushing.{file_of, files_of}
 use Rattle.clog_memtable.specs.Touched.{AreMemtablesOf}
+use Rattle.clog_closing.proofs.Ends.{ends_with, ids_rise}
+use Rattle.clog_closing.proofs.Logs.{is_appended}
+use Rattle.clog_applied.specs.Onward.{ReachesNoFurther}
 use Rattle.clog_lines.specs.Drained.{HasDrained}
 use Rattle.clog_lines.specs.Written.{AreLaidFor, IsAskedBy, TellsWritten}
+use Rattle.clog_lines.proofs.Reaches.{reaches_drained}
 use Rattle.clog_lines.proofs.Leaving.{
   AreFilesFor,
   all_brought,
@@ -436,6 +440,29 @@ module _ {D : Type 0} (files : D → Option Files) (changes : D → Option (List
         (its_files sizes mutations b.notes.logged out ms drained.are b.notes.base h whole options
         asked.drain_is)
 
+    abbrev its_path : IsClosedPath options mutations b.notes.base logged_lines its_table_files
+    its_path =
+        path sizes b.notes.base mutations b.notes.logged out options b.archives true asked
+        its_table_files for_files
+
+    reach : ReachesNoFurther options b.notes.base later (ids_in log) logged_lines its_table_files
+    reach =
+        let base = b.notes.base in
+        let ns = b.notes.logged in
+        let l = b.notes.log in
+        let grows = all_brought changes b.first l ordered.growth runs in
+        let stands = in_order l (appends_of later) grows sound in
+        let said = (lines sizes base mutations ns out).notes in
+        subst (λ (fs : List PutFile). ReachesNoFurther options base later (ids_in log) logged_lines
+        (map (file_on base) fs)) (sym puts_are)
+        (reaches_drained sizes base out.raw ns out.laid
+        (is_a_history sizes base mutations ns out) logged_lines said options its_path.lawful later
+        (ids_in log)
+        (ids_rise later base l.past l.id l.sections ns logged_lines grows stands places said)
+        (ends_with later base l.past l.id l.sections ns logged_lines grows stands places said)
+        (is_appended later base l.past l.id l.sections ns logged_lines grows stands places
+        said).no_other ms drained.are)
+
     -- what the disk tells of lines that it has logged and drained
     pub tells_drained : (opened : Files) (made : List Change) → files b.first ≡ Some opened
         → changes b.first ≡ Some made
@@ -454,14 +481,14 @@ module _ {D : Type 0} (files : D → Option Files) (changes : D → Option (List
             dropped = dropped_ids log deeds;
             history = logged_lines;
             files = its_table_files;
-            path = path sizes base mutations b.notes.logged out options b.archives true asked
-                its_table_files for_files;
+            path = its_path;
             store = subst (λ (archive : Bool). IsStoreLeft archive opened now.after later
                 (ids_in log) (dropped_ids log deeds) logged_lines its_table_files)
                 (sym asked.archive_is)
                 (law sizes opened now.after later log deeds logged_lines
                 (ended opened now.after (folder opened now.after is now.files_are)));
             undrained = λ none. absurd (true≢false (sym asked.drain_is ∙ none));
+            reach = reach;
             lines = lines sizes base mutations b.notes.logged out;
             by_line = by_line sizes base mutations b.notes.logged out;
             positions = positions sizes base mutations b.notes.logged out;

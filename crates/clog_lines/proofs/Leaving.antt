@@ -81,9 +81,12 @@ use Rattle.clog_layout.specs.Logged.{AreEntriesOf, AreLaidLines, AreNotesOf}
 use Rattle.clog_layout.proofs.Lines.{is_position, laid_lines, lawful}
 use Rattle.clog_layout.proofs.Standing.{is_history}
 use Rattle.clog_closing.specs.Logs.{AreStoredInOrder, written_ids}
+use Rattle.clog_closing.proofs.Ends.{ends_with, ids_rise}
 use Rattle.clog_closing.proofs.LogAlone.{is_left}
+use Rattle.clog_closing.proofs.Logs.{is_appended}
 use Rattle.clog_closing.proofs.Tables.{note_of_line}
 use Rattle.clog_lines.specs.Written.{AreLaidFor, IsAskedBy, TellsWritten}
+use Rattle.clog_lines.proofs.Reaches.{reaches}
 
 -- ---- the lines of laid notes, one by one
 
@@ -279,6 +282,10 @@ module _ {D : Type 0} (files : D → Option Files) (changes : D → Option (List
       (folder opened after is now.files_are) in
       let base = b.notes.base in
       let said = lines sizes base mutations b.notes.logged out in
+      let its = history sizes base mutations b.notes.logged out in
+      let its_path = path sizes base mutations b.notes.logged out options archives false asked []
+      (no_files sizes base mutations b.notes.logged out options asked.drain_is) in
+      let log = b.notes.log in
       record {
         after = after;
         later = later;
@@ -289,12 +296,20 @@ module _ {D : Type 0} (files : D → Option Files) (changes : D → Option (List
           dropped = [];
           history = history sizes base mutations b.notes.logged out;
           files = [];
-          path = path sizes base mutations b.notes.logged out options archives false asked []
-              (no_files sizes base mutations b.notes.logged out options asked.drain_is);
+          path = its_path;
           store = is_left b.archives opened after later (log_of b.notes)
               (history sizes base mutations b.notes.logged out) holds grows appended.alone stands
               places said.notes options.archive;
           undrained = λ none. (refl, refl);
+          reach = reaches sizes base out.raw b.notes.logged out.laid
+              (is_a_history sizes base mutations b.notes.logged out) its said.notes options
+              its_path.lawful later (written_ids ws)
+              (ids_rise later base log.past log.id log.sections b.notes.logged its grows stands
+              places said.notes)
+              (ends_with later base log.past log.id log.sections b.notes.logged its grows stands
+              places said.notes)
+              (is_appended later base log.past log.id log.sections b.notes.logged its grows stands
+              places said.notes).no_other;
           lines = said;
           by_line = by_line sizes base mutations b.notes.logged out;
           positions = positions sizes base mutations b.notes.logged out;

@@ -1,3 +1,4 @@
+pub mod Begins
 pub mod Begun
 pub mod Brought
 pub mod Crashing
@@ -5,6 +6,7 @@ pub mod Emptied
 pub mod Going
 pub mod Leaving
 pub mod Noting
+pub mod Reaches
 pub mod Showing
 pub mod Synced
 pub mod Written

@@ -1,6 +1,7 @@
 -- What `write_lines` tells, from what its store was made to do and what that tells at its end.
 use Rattle.std.proofs.Common.{
   ◌≡◌,
+  ◌⊎◌,
   ℕ,
   ◌≤◌,
   inl,
@@ -22,10 +23,11 @@ use Rattle.std.proofs.Common.{
   subst,
   arith,
 }
-use Rattle.std.specs.Prelude.{Err, Ok, OnErr, OnOk, Result, is_some, option_map, ◌||◌}
+use Rattle.std.specs.Prelude.{Contains, Err, Ok, OnErr, OnOk, Result, is_some, option_map, ◌||◌}
 use Rattle.std.proofs.lemmas.Bool.{true≢false}
 use Rattle.std.proofs.lemmas.List.Elements.{Contains-append_left}
 use base.Stored.{Gv}
+use Rattle.clog_base.specs.declared.sizes.Sizes.{Sizes}
 use Rattle.clog_io.specs.Causes.{Rose}
 use Rattle.clog_disk.specs.declared.change.Change.{Change}
 use Rattle.clog_disk.specs.Files.{Files, SameTold, bytes_at}
@@ -43,28 +45,32 @@ use Rattle.path_core.specs.Keeper.{
   Holding,
   IsFresh,
   Opening,
+  PutFile,
   is_stopped,
 }
 use Rattle.clog_store.specs.Life.{Lives, LivesOn, lasting_in}
 use Rattle.clog_store.specs.NoteLog.{IsNoteLog}
 use Rattle.clog_store.specs.Notes.{places_of}
-use Rattle.clog_store.specs.StoreFolder.{IsSound}
-use Rattle.clog_store.specs.Grows.{segments_with}
+use Rattle.clog_store.specs.StoreFolder.{IsSound, log_of}
+use Rattle.clog_store.specs.StoreOrder.{AreSettled}
+use Rattle.clog_store.specs.Grows.{AreAppends, segments_with}
 use Rattle.clog_crash.specs.Grown.{appends_of}
 use Rattle.clog_crash.specs.Log.{Write}
-use Rattle.clog_lines.proofs.Begun.{has_gone}
 use Rattle.clog_lines.proofs.Brought.{written_by}
 use Rattle.clog_store.specs.StoreState.{
   AppendsAlone,
   HasGrown,
   HasOrdered,
   HoldsIt,
+  HoldsItButOne,
   StoreState,
+  deeds_by,
   holding_of,
   store_over,
 }
 use Rattle.clog_lines.specs.Drained.{
   EndsAs,
+  HasBegun,
   HasLogged,
   HasDrained,
   HasNoDeeds,
@@ -75,6 +81,8 @@ use Rattle.clog_lines.specs.Drained.{
 use Rattle.clog_lines.specs.Written.{
   AreLaidFor,
   AreMadeFor,
+  BringsOnly,
+  GoesBeyond,
   HasBrought,
   HasGoneInOrder,
   HasWriteCause,
@@ -83,6 +91,10 @@ use Rattle.clog_lines.specs.Written.{
   TellsWritten,
   least_of,
 }
+use Rattle.clog_layout.specs.Laid.{synced_to}
+use Rattle.clog_closing.proofs.StoreNames.{brings_but_one}
+use Rattle.clog_lines.proofs.Begins.{begun_of_all}
+use Rattle.clog_lines.proofs.Begun.{has_gone}
 use Rattle.clog_lines.proofs.Crashing.{as_many, leaves_lines, says}
 use Rattle.clog_lines.proofs.Emptied.{StoresAreLeft, tells_drained}
 use Rattle.clog_lines.proofs.Leaving.{tells_written}
@@ -158,6 +170,12 @@ module _ {D : Type 0} (files : D → Option Files) (changes : D → Option (List
 
   abbrev ws : List Write
   ws = segments_with b.notes.log.past b.notes.log.id b.notes.log.sections
+
+  -- names that have come, also where its disk has failed
+  pub brings_of : HoldsItButOne files b → BringsOnly files a.notes.log.disk b.notes.log.disk ws
+  brings_of left opened after is now =
+      brings_but_one opened (log_of b.notes) (deeds_by b) after
+      (left opened after (ap files its_disk ∙ is) now)
 
   -- ---- all are written
 
@@ -257,7 +275,8 @@ module _ {D : Type 0} (files : D → Option Files) (changes : D → Option (List
   -- ---- what it has appended since
 
   module _ (alone : AppendsAlone changes b) (ordered : HasOrdered changes b)
-      (notes : IsNoteLog b.notes) (sound : IsSound b.notes.log) (mutations : List Mutation)
+      (settled : AreSettled b.notes b.files) (notes : IsNoteLog b.notes)
+      (sound : IsSound b.notes.log) (mutations : List Mutation)
       (out : AreLaidFor a.notes.sizes mutations laid) where
     abbrev Brought : Type 0
     Brought = HasBrought changes a.notes.log.disk b.notes.log.disk a.archives drain mutations ws
@@ -274,34 +293,52 @@ module _ {D : Type 0} (files : D → Option Files) (changes : D → Option (List
           growth.grown;
     }
 
-    by_appends : HasNoDeeds (Held b) → Brought
+    -- appends alone, or all notes are logged
+    abbrev IsBrought : Type 0
+    IsBrought =
+        (has : Brought) × (AreAppends has.added ⊎ HasLogged (Held a) (Held b) laid)
+
+    by_appends : HasNoDeeds (Held b) → IsBrought
+    unfolding brought_by
     by_appends none =
         let has = alone (none_done files changes moment faults code b none) in
-        brought_by has.growth (inl has.alone)
+        (brought_by has.growth (inl has.alone), inl has.alone)
 
-    by_drain : drain ≡ true → HasLogged (Held a) (Held b) laid → Brought
-    by_drain full logged =
+    by_drained : drain ≡ true → HasLogged (Held a) (Held b) laid
+        → HasBegun (Held b) (synced_to laid) → Brought
+    by_drained full logged begun =
         let archives : b.archives ≡ a.archives = ap (λ (o : Opening). o.archives) logged.opening_is
         in brought_by ordered.growth (inr (
           full,
           subst (λ (x : Bool). HasGoneInOrder x mutations ordered.growth.added) archives
-              (has_gone changes b ordered notes sound logged.none_kept a.notes.sizes mutations
-              (subst (AreLaidFor a.notes.sizes mutations) (sym logged.logged_are) out)),
+              (has_gone changes b ordered notes sound logged.none_kept settled
+              (subst (λ (l : List EntryNote). (put : PutFile) → Contains b.files put
+              → (put.lower ≡ 0) × (put.upper ≡ synced_to l)) (sym logged.logged_are) begun.wide)
+              begun.none_archived mutations
+              (subst (λ (x : Sizes). AreLaidFor x mutations b.notes.logged)
+              (sym logged.sizes_are)
+              (subst (AreLaidFor a.notes.sizes mutations) (sym logged.logged_are) out)) (Held b)),
         ))
+
+    by_drain : drain ≡ true → HasLogged (Held a) (Held b) laid
+        → HasBegun (Held b) (synced_to laid) → IsBrought
+    by_drain full logged begun = (by_drained full logged begun, inr logged)
 
     -- whatever was answered
     pub brought_of : {T : Type 0} (r : Result T KeeperFault)
         → OnOk r (LogsAll (Held a) (Held b) laid drain)
-        → OnErr r (LogsPart (Held a) (Held b) laid drain) → Brought
+        → OnErr r (LogsPart (Held a) (Held b) laid drain) → IsBrought
     brought_of (Ok done) ok err = by_case drain refl
       where
-        by_case : (d : Bool) → drain ≡ d → Brought
-        by_case true is = by_drain is ok.logged
+        by_case : (d : Bool) → drain ≡ d → IsBrought
+        by_case true is =
+            by_drain is ok.logged (begun_of_all (Held b) laid
+            (subst (λ (d : Bool). IsDrainedAs d (Held b) laid) is ok.deeds))
         by_case false is =
             by_appends (subst (λ (d : Bool). IsDrainedAs d (Held b) laid) is ok.deeds)
     brought_of (Err fault) ok err = elim err [
       | inl refused ↦ by_appends refused.no_deeds
-      | inr part ↦ by_drain part.0 part.1
+      | inr part ↦ by_drain part.0 part.1 part.2
     ]
 
   -- ---- what a crash leaves
@@ -317,6 +354,7 @@ module _ {D : Type 0} (files : D → Option Files) (changes : D → Option (List
       (is : files a.notes.log.disk ≡ Some opened)
       (lasted : lasted_at a.notes.log.disk a.notes.log.opened)
       (has : HasBrought changes a.notes.log.disk b.notes.log.disk a.archives drain mutations ws)
+      (made : AreAppends has.added ⊎ HasLogged (Held a) (Held b) laid)
     where
       abbrev Leaves : ℕ → Type 0
       Leaves least =
@@ -326,6 +364,26 @@ module _ {D : Type 0} (files : D → Option Files) (changes : D → Option (List
       living : LivesOn files moment since leaves read_at lasted_at a.notes.log b.notes.log
       living = on (lives lasted)
 
+      first_all : HasLogged (Held a) (Held b) laid → AreFirst laid (Held b) notes.stands.shown
+      first_all logged =
+          first_logged (Held a) (Held b) laid logged notes.stands.shown
+
+      -- where all notes are logged, all lines last
+      last_all : HasLogged (Held a) (Held b) laid → length mutations ≤ lasting_in b.notes.log
+      last_all logged =
+          let lasts = as_many a.notes.sizes mutations laid out b.notes.base b.notes.log.past
+          b.notes.log.id (take b.notes.log.synced b.notes.log.sections)
+          (notes.stands.lasts ∙ ap (places_of b.notes.base)
+          (all_logged (Held a) (Held b) laid logged
+          notes.stands.lasting)) in
+          omega (arith, lasts)
+
+      all_last : GoesBeyond has.added → length mutations ≤ lasting_in b.notes.log
+      all_last beyond = elim made [
+        | inl alone ↦ absurd (beyond.other (alone beyond.change beyond.listed))
+        | inr logged ↦ last_all logged
+      ]
+
       first_lines : AreFirst laid (Held b) notes.stands.shown → (least : ℕ)
           → least ≤ lasting_in b.notes.log → Leaves least
       first_lines first least le =
@@ -334,20 +392,11 @@ module _ {D : Type 0} (files : D → Option Files) (changes : D → Option (List
           (reads_now a.notes.log.disk) opened is mutations out.raw out.entries first.count
           (says a.notes.sizes mutations laid out b.notes.base b.notes.log.past b.notes.log.id
           b.notes.log.sections first.count (b.notes.logged ++ take notes.stands.shown b.notes.kept)
-          notes.stands.all first.are) least a.archives drain le has
-
-      first_all : HasLogged (Held a) (Held b) laid → AreFirst laid (Held b) notes.stands.shown
-      first_all logged =
-          first_logged (Held a) (Held b) laid logged notes.stands.shown
+          notes.stands.all first.are) least a.archives drain le has all_last
 
       shown_all : HasLogged (Held a) (Held b) laid → Leaves (length mutations)
       shown_all logged =
-          let lasts = as_many a.notes.sizes mutations laid out b.notes.base b.notes.log.past
-          b.notes.log.id (take b.notes.log.synced b.notes.log.sections)
-          (notes.stands.lasts ∙ ap (places_of b.notes.base)
-          (all_logged (Held a) (Held b) laid logged
-          notes.stands.lasting)) in
-          first_lines (first_all logged) (length mutations) (omega (arith, lasts))
+          first_lines (first_all logged) (length mutations) (last_all logged)
 
       shown_part : LogsPart (Held a) (Held b) laid drain → Leaves 0
       shown_part part = elim part [

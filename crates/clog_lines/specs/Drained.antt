@@ -17,7 +17,14 @@ use Rattle.std.specs.Prelude.{
 use Rattle.clog_spec.specs.Sizes.{most_segments, most_tables}
 use Rattle.path_core.specs.declared.keeper.KeeperFault.{KeeperFault}
 use Rattle.path_core.specs.declared.note.EntryNote.{EntryNote}
-use Rattle.path_core.specs.Keeper.{Holding, IsParted, MayDrop, TellsCounts, is_stopped}
+use Rattle.path_core.specs.Keeper.{
+  Holding,
+  IsParted,
+  MayDrop,
+  PutFile,
+  TellsCounts,
+  is_stopped,
+}
 use Rattle.clog_layout.specs.Laid.{synced_to}
 use Rattle.clog_memtable.specs.declared.flushing.Memtable.{Memtable}
 use Rattle.clog_memtable.specs.Flushing.{files_of}
@@ -87,8 +94,20 @@ pub record LogsAll (before now : Holding) (notes : List EntryNote) (drain : Bool
   pub logged : HasLogged before now notes
   pub deeds : IsDrainedAs drain now notes
 
+-- However far a drain up to a key has come: each table file that was put has the whole log up to the
+-- key in its interval, and where the keeper does not archive no segment has an archive name.
+pub record HasBegun (h : Holding) (upper : ℕ) : Type 0 where
+  pub wide : (put : PutFile) → Contains h.files put → (put.lower ≡ 0) × (put.upper ≡ upper)
+  pub none_archived : h.opening.archives ≡ false → h.archived ≡ []
+
+-- each of these memtables has the whole log up to a key
+abbrev pub ReachTo : ℕ → List Memtable → Type 0
+ReachTo upper memtables = (m : Memtable) → Contains memtables m
+    → (m.interval.lower.0 ≡ 0) × (m.interval.upper.0 ≡ upper)
+
 -- what is done where something was refused: nothing; or the notes are logged, and not all is
 -- drained
 abbrev pub LogsPart : Holding → Holding → List EntryNote → Bool → Type 0
 LogsPart before now notes drain =
-    HasRefused before now notes ⊎ ((drain ≡ true) × HasLogged before now notes)
+    HasRefused before now notes
+    ⊎ ((drain ≡ true) × HasLogged before now notes × HasBegun now (synced_to notes))

@@ -47,13 +47,16 @@ use Rattle.path_core.specs.declared.keeper.KeeperFault.{KeeperFault}
 use Rattle.path_core.specs.declared.keeper.KeeperFault.TheVariants.{OutOfMemory, Stopped}
 use Rattle.path_core.specs.declared.note.EntryNote.{EntryNote}
 use Rattle.path_core.specs.Keys.{first_offset}
-use Rattle.clog_store.specs.Grows.{AreAppends}
+use Rattle.clog_store.specs.Grows.{AreAppends, IsAppend}
 use Rattle.clog_applied.specs.Asked.{capacity_of}
 use Rattle.clog_applied.specs.Appended.{IsAppended}
 use Rattle.clog_applied.specs.Closed.{IsAnyFile, IsClosedPath, IsStoreLeft}
-use Rattle.clog_applied.specs.Early.{AreInOrder}
+use Rattle.clog_applied.specs.Early.{AreInOrder, AreRunChanges, ComeLast}
+use Rattle.clog_applied.specs.Filed.{BringsNoOther, IsTrueFor}
 use Rattle.clog_applied.specs.History.{LoggedLine, logged_at, share_of, written_by}
+use Rattle.clog_applied.specs.Onward.{ReachesNoFurther}
 use Rattle.clog_applied.specs.Printed.{AreByLine}
+use Rattle.clog_closing.specs.Logs.{id_of}
 use Rattle.clog_layout.specs.Laid.{AreLaid}
 use Rattle.clog_layout.specs.Logged.{AreEntriesOf, AreLaidLines}
 
@@ -84,7 +87,8 @@ pub record IsWrittenBy (appends : List Append) (log : List Write) : Type 0 where
       → (w : Write) × Contains log w × (0 < length w.sections) × (a.0 ≡ segment_name_of 6 w.id)
 
 -- Changes by which a drain has begun: the entries of all lines were appended, by one writer and in
--- order, and some table files have come and segments gone, each in its turn.
+-- order, and then some table files have come, which are true, and segments gone, each in its turn.
+-- Nothing else was changed.
 pub record HasGoneInOrder (archives : Bool) (mutations : List Mutation) (changes : List Change)
     : Type 0 where
   pub ids : List ℕ
@@ -94,6 +98,9 @@ pub record HasGoneInOrder (archives : Bool) (mutations : List Mutation) (changes
   pub lines : written_by 0 history ≡ share_of 1 0 mutations
   pub is_appended : IsAppended changes ids history
   pub order : AreInOrder IsAnyFile archives changes ids history files
+  pub only : AreRunChanges archives ids files changes
+  pub last : ComeLast changes history
+  pub are_true : (file : TableFile) → Contains files file → IsTrueFor history file
 
 -- Changes by which lines are written: appends alone, or those of a drain that has begun.
 abbrev pub AreMadeFor : Bool → Bool → List Mutation → List Change → Type 0
@@ -109,8 +116,21 @@ pub record HasBrought {D : Type 0} (changes : D → Option (List Change)) (befor
   pub made_for : AreMadeFor archives drain mutations added
   pub brought : IsWrittenBy (appends_of added) log
 
+-- Where a disk tells its files, no other name has come since than those of these segments, their
+-- archive names and table files.
+abbrev pub BringsOnly : {D : Type 0} → (D → Option Files) → D → D → List Write → Type 0
+BringsOnly files before now log = (opened after : Files) → files before ≡ Some opened
+    → files now ≡ Some after → BringsNoOther (map id_of log) opened after
+
+-- one of the changes is no append
+pub record GoesBeyond (changes : List Change) : Type 0 where
+  pub change : Change
+  pub listed : Contains changes change
+  pub other : IsAppend change → ⊥
+
 -- The segments that were written, which say the first of these lines. What a crash leaves since a
 -- disk was so, and what it leaves of it now, where nothing passes by chance for what was written.
+-- Where the changes go beyond appends, all lines last.
 pub record LeavesLines {D : Type 0} (changes : D → Option (List Change)) (moment : D → ℕ)
     (since : D → ℕ → Files → Type 0) (leaves : D → List ℕ → Option (List ℕ) → Type 0)
     (before now : D) (r : Reading) (archives drain : Bool) (mutations : List Mutation)
@@ -123,6 +143,8 @@ pub record LeavesLines {D : Type 0} (changes : D → Option (List Change)) (mome
         (λ image. NoChances log image → RestoresLines r mutations 0 image)
     pub at_last : (image : Files) → IsImage (leaves now) image → NoChances log image
         → RestoresLines r mutations least image
+    pub at_drain : GoesBeyond wrote.added → (image : Files) → IsImage (leaves now) image
+        → NoChances log image → RestoresLines r mutations (length mutations) image
 
 -- so many lines last for sure
 abbrev pub least_of : {T : Type 0} → Result T KeeperFault → List Mutation → ℕ
@@ -158,6 +180,8 @@ pub record HasWritten (options : ApplyOptions) (base : ℕ) (opened after : File
   pub store : IsStoreLeft options.archive opened after later ids dropped history files
   pub undrained : options.drain ≡ false → (dropped ≡ []) × (files ≡ [])
   pub lines : AreLaidLines base mutations notes history
+  -- how far it reaches
+  pub reach : ReachesNoFurther options base later ids history files
   -- each line once, in order, and where its entry stands
   pub by_line : AreByLine history (length mutations) history
   pub positions : map logged_at history ≡ map (λ (n : EntryNote). position_of base n.end.0) notes

@@ -8,7 +8,14 @@ ghost use Rattle.clog_memtable.specs.Flushing.{FlushesAll, MayFlush};
 ghost use Rattle.path_core.specs.Keeper.{Drops};
 ghost use Rattle.clog_store.specs.Life.{Lives, LivesOn};
 ghost use Rattle.clog_store.specs.StoreState.{holding_of};
-ghost use Rattle.clog_lines.specs.Drained.{EndsAs, HasDrainedBy, HasNoDeeds, KeepsLog};
+ghost use Rattle.clog_lines.specs.Drained.{
+  EndsAs,
+  HasBegun,
+  HasDrainedBy,
+  HasNoDeeds,
+  KeepsLog,
+  ReachTo,
+};
 
 use clog_base::MOST_SEGMENTS;
 use clog_disk::Disk;
@@ -25,6 +32,11 @@ fn flush_each<D: Disk>(store: &mut Store<D>, memtables: &[Memtable]) -> Result<(
         (holding_of D.files D.changes D.moment D.faults D.row.coded.code store.old)
         (holding_of D.files D.changes D.moment D.faults D.row.coded.code store.new)
         memtables.now) }
+    ensures begun { (upper : ℕ) → ReachTo upper memtables.now
+        → HasBegun
+        (holding_of D.files D.changes D.moment D.faults D.row.coded.code store.old) upper
+        → HasBegun
+        (holding_of D.files D.changes D.moment D.faults D.row.coded.code store.new) upper }
     ensures keeps { KeepsLog
         (holding_of D.files D.changes D.moment D.faults D.row.coded.code store.old)
         (holding_of D.files D.changes D.moment D.faults D.row.coded.code store.new) }
@@ -58,6 +70,10 @@ fn drop_all<D: Disk>(store: &mut Store<D>) -> Result<(), KeeperFault>
         (holding_of D.files D.changes D.moment D.faults D.row.coded.code store.old)
         (holding_of D.files D.changes D.moment D.faults D.row.coded.code store.new)
         most_segments count) }
+    ensures begun { (upper : ℕ) → HasBegun
+        (holding_of D.files D.changes D.moment D.faults D.row.coded.code store.old) upper
+        → HasBegun
+        (holding_of D.files D.changes D.moment D.faults D.row.coded.code store.new) upper }
     ensures keeps { KeepsLog
         (holding_of D.files D.changes D.moment D.faults D.row.coded.code store.old)
         (holding_of D.files D.changes D.moment D.faults D.row.coded.code store.new) }
@@ -89,6 +105,11 @@ pub(crate) fn drain<D: Disk>(
     ensures drains { OnOk result (HasDrainedBy
         (holding_of D.files D.changes D.moment D.faults D.row.coded.code store.new)
         memtables.now) }
+    ensures begun { (upper : ℕ) → ReachTo upper memtables.now
+        → HasBegun
+        (holding_of D.files D.changes D.moment D.faults D.row.coded.code store.old) upper
+        → HasBegun
+        (holding_of D.files D.changes D.moment D.faults D.row.coded.code store.new) upper }
     ensures keeps { KeepsLog
         (holding_of D.files D.changes D.moment D.faults D.row.coded.code store.old)
         (holding_of D.files D.changes D.moment D.faults D.row.coded.code store.new) }

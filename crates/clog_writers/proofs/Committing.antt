@@ -19,6 +19,7 @@ use Rattle.std.proofs.Common.{
   subst,
   arith,
   append_assoc,
+  length,
 }
 use Rattle.std.specs.Prelude.{Contains}
 use Rattle.std.proofs.lemmas.List.{reverse-append}
@@ -34,10 +35,12 @@ use Rattle.clog_base.specs.declared.sizes.Sizes.{Sizes}
 use Rattle.clog_mutation.specs.declared.mutation.Mutation.{Mutation}
 use Rattle.clog_applied.specs.History.{Line}
 use Rattle.path_core.specs.declared.note.EntryNote.{EntryNote}
+use Rattle.path_rule.specs.declared.trying.PathSeat.{PathSeat}
 use Rattle.path_rule.specs.declared.view.OwnStep.{OwnStep}
 use Rattle.clog_layout.proofs.Standing.{pairs_none}
 use Rattle.path_rule.specs.declared.view.PathSize.{PathSize}
 use Rattle.path_rule.specs.declared.view.View.{View}
+use Rattle.path_rule.specs.Members.{view_of}
 use Rattle.sync_core.specs.declared.SyncCore.TheVariants.{Periodic}
 use Rattle.write_path.specs.declared.commit.Commit.{Commit}
 use Rattle.write_path.specs.declared.commit.Commit.TheVariants.{
@@ -49,10 +52,14 @@ use Rattle.write_path.specs.declared.commit.Commit.TheVariants.{
 use Rattle.write_path.specs.declared.prepared.Prepared.{Prepared}
 use Rattle.write_path.specs.Commits.{IsLogged}
 use Rattle.write_path.specs.Ends.{writes_of}
+use Rattle.write_path.specs.Grown.{HasGrown}
+use Rattle.write_path.specs.Promised.{WasSpent}
 use Rattle.write_path.specs.Receipts.{IsCommitted}
 use Rattle.write_path.specs.Writes.{IsNoteOf, IsPrepared}
 use Rattle.clog_writers.specs.declared.fault.WriteFault.{WriteFault}
 use Rattle.clog_writers.specs.declared.fault.WriteFault.TheVariants.{Spent}
+use Rattle.write_path.proofs.Growing.{both}
+use Rattle.clog_writers.specs.Crews.{KnowsSpent}
 use Rattle.clog_writers.specs.Shares.{
   ArePrepared,
   AreWritesOf,
@@ -192,3 +199,35 @@ module _ (k : ℕ) (size : PathSize) (w : ℕ) (before : List OwnStep) (p : Prep
   where_refused (Durable r) f is some = absurd is
   where_refused (Unsynced r fault) f is some = absurd is
   where_refused (NoRoom back key) f is some = (sym (same_Some Spent f some), is.1)
+
+  -- the key without room was found in this commit
+  pub where_spent : (c : Commit) (f : WriteFault) → IsCommitted (Periodic k) size w before p c v
+      → refusal_in c ≡ Some f → (key : ℕ) × WasSpent size p.size key v.trail
+  where_spent (Logged r) f is some = absurd (none-some f some)
+  where_spent (Durable r) f is some = absurd is
+  where_spent (Unsynced r fault) f is some = absurd is
+  where_spent (NoRoom back key) f is some = (
+    key.0,
+    record {
+      since = length before;
+      after = v;
+      spent = is.2;
+      grown = record { newer = []; is = refl };
+    },
+  )
+
+-- a seat that has found no room tells it also behind a sync
+pub spent_still : {K : Type 0} (size : PathSize) (s t : PathSeat K)
+    → HasGrown (view_of s.member).trail (view_of t.member).trail → KnowsSpent size s
+    → KnowsSpent size t
+spent_still size s t grown (bytes, key, small, S) = (
+  bytes,
+  key,
+  small,
+  record {
+    since = S.since;
+    after = S.after;
+    spent = S.spent;
+    grown = both S.after.trail (view_of s.member).trail (view_of t.member).trail S.grown grown;
+  },
+)

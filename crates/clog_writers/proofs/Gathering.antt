@@ -35,9 +35,16 @@ use Rattle.clog_applied.specs.History.{Line, share_of}
 use Rattle.path_rule.specs.declared.trying.PathSeat.{PathSeat}
 use Rattle.path_rule.specs.declared.view.PathSize.{PathSize}
 use Rattle.clog_writers.specs.declared.fault.WriteFault.{WriteFault}
-use Rattle.clog_writers.specs.declared.fault.WriteFault.TheVariants.{Stopped}
+use Rattle.clog_writers.specs.declared.fault.WriteFault.TheVariants.{Spent, Stopped}
 use Rattle.clog_writers.specs.declared.worker.Worker.{Worker}
-use Rattle.clog_writers.specs.Crews.{HasEnded, HasLogged, HaveEnded, HaveLogged, KnowsStopped}
+use Rattle.clog_writers.specs.Crews.{
+  HasEnded,
+  HasLogged,
+  HaveEnded,
+  HaveLogged,
+  KnowsSpent,
+  KnowsStopped,
+}
 
 -- the share of a number
 abbrev its : PathSize → List Mutation → ℕ → List Line
@@ -54,6 +61,7 @@ module _ {K : Type 0} (id : TableId) (size : PathSize) where
         → HasEnded id size i (its size ms i) first (get_or seats i d)
     pub stops : (at_open now : ℕ) → first ≡ Some (Stopped at_open now)
         → (s : PathSeat K) × Contains seats s × KnowsStopped now s
+    pub spent : first ≡ Some Spent → (s : PathSeat K) × Contains seats s × KnowsSpent size s
 
   pub none_gathered : (ms : List Mutation) (ws : List (Worker K)) → HaveLogged id size ms ws
       → Gathers ms ws [] None
@@ -65,6 +73,7 @@ module _ {K : Type 0} (id : TableId) (size : PathSize) where
         (all.each i d inside);
     done = λ i d inside. absurd (omega (arith, inside));
     stops = λ at_open now is. absurd (none-some (Stopped at_open now) is);
+    spent = λ is. absurd (none-some Spent is);
   }
 
   -- the next one
@@ -98,9 +107,10 @@ module _ {K : Type 0} (id : TableId) (size : PathSize) where
       → Gathers ms (w ∷ rest) seats first
       → HasEnded id size (length seats) (its size ms (length seats)) fault s
       → ((at_open n : ℕ) → fault ≡ Some (Stopped at_open n) → KnowsStopped n s)
+      → (fault ≡ Some Spent → KnowsSpent size s)
       → (now ≡ None → (first ≡ None) × (fault ≡ None)) → (now ≡ first) ⊎ (now ≡ fault)
       → Gathers ms rest (seats ++ s ∷ []) now
-  one_gathered ms w rest seats first fault now s g ends knows none one =
+  one_gathered ms w rest seats first fault now s g ends knows knows_spent none one =
       let long = length_push seats s in
       let count = g.count in
       record {
@@ -129,6 +139,12 @@ module _ {K : Type 0} (id : TableId) (size : PathSize) where
               (old.0, Contains-append_left seats (s ∷ []) old.0 old.1, old.2)
           | inr same ↦ (s, Contains-push seats s, knows at_open n (sym same ∙ is))
         ];
+        spent = λ is. elim one [
+          | inl same ↦
+              let old = g.spent (sym same ∙ is) in
+              (old.0, Contains-append_left seats (s ∷ []) old.0 old.1, old.2)
+          | inr same ↦ (s, Contains-push seats s, knows_spent (sym same ∙ is))
+        ];
       }
 
   pub all_gathered : (ms : List Mutation) (seats : List (PathSeat K)) (first : Option WriteFault)
@@ -137,4 +153,5 @@ module _ {K : Type 0} (id : TableId) (size : PathSize) where
     count = let count = g.count in omega (arith, count);
     each = g.done;
     stops = g.stops;
+    spent = g.spent;
   }

@@ -1,6 +1,7 @@
 pub mod Rising
 pub mod Committing
 pub mod Ending
+pub mod Totals
 pub mod Dealt
 pub mod Seating
 pub mod Gathering

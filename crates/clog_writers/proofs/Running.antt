@@ -36,12 +36,14 @@ use Rattle.path_rule.specs.declared.view.PathSize.{PathSize}
 use Rattle.write_path.specs.Closed.{IsOutcome, IsStoppedFor, StaysBeside}
 use Rattle.write_path.specs.Opened.{ShowsAsBefore, numbers_of, size_of}
 use Rattle.write_path.proofs.Outcomes.{stays_beside}
+use Rattle.write_path.proofs.Spending.{segments_spent}
 use Rattle.clog_writers.specs.declared.fault.WriteFault.{WriteFault}
-use Rattle.clog_writers.specs.declared.fault.WriteFault.TheVariants.{OutOfMemory, Stopped}
+use Rattle.clog_writers.specs.declared.fault.WriteFault.TheVariants.{OutOfMemory, Spent, Stopped}
 use Rattle.clog_writers.specs.declared.worker.Worker.{Worker}
 use Rattle.clog_writers.specs.Crews.{AreDealt, AreReady, HaveEnded, HaveLogged, IsSizedAs}
 use Rattle.clog_writers.specs.Logged.{EndsShares, GoesOnAlone, HoldShares}
 use Rattle.clog_writers.proofs.Ending.{hold_shares, none_kept}
+use Rattle.clog_writers.proofs.Totals.{few_writes}
 
 -- what a slice of a whole list of workers is written back to
 pub written_back : {A : Type 0} (n : ℕ) (xs ys : List A) → n ≡ length xs
@@ -134,6 +136,8 @@ module _ {K : Type 0} (sizes : Sizes) (base : ℕ) (before now : Holding)
     alone = alone;
     logs = λ ms dealt none. absurd (none-some OutOfMemory (sym none));
     stops = λ at_open n is. absurd (not_stopped at_open n is);
+    spent = λ ms dealt no. absurd (let q : OutOfMemory ≡ Spent =
+        same_Some OutOfMemory Spent no in cc);
   }
 
   pub unopened : (workers : List (Worker K)) → ShowsAsBefore before now
@@ -169,4 +173,10 @@ module _ {K : Type 0} (sizes : Sizes) (base : ℕ) (before now : Holding)
       stops = λ a n stopped.
           let one = (ended some dealt).stops a n stopped in
           (All-contains (IsStoppedFor now) seats one.0 o.found_stopped one.1 n one.2.0 one.2.1).0;
+      spent = λ ms given no_room.
+          let e = ended ms given in
+          let k = e.spent no_room in
+          let most = segments_spent size seats end now o k.0 k.1 k.2.0 k.2.1 k.2.2 k.2.3 in
+          let few = few_writes id size ms fault seats e in
+          let same = ap (λ (z : PathSize). z.ordinals) is in omega (arith, most, few, same);
     }

@@ -107,6 +107,19 @@ pub planned_cause : (T : Type 0) (at_open now : ℕ) (f : PlanFault) → now ≡
 planned_cause T at_open now (plan.TooLarge line size most) same = same
 planned_cause T at_open now plan.OutOfMemory same = same
 
+-- it is not for want of segments
+abbrev pub refused_by : (T : Type 0) → WriteFault → Result T WriteFault
+refused_by T f = Err f
+
+abbrev fault_in : {T : Type 0} → Result T WriteFault → WriteFault
+fault_in (Ok x) = OutOfMemory
+fault_in (Err f) = f
+
+pub not_spent : (T : Type 0) (f : PlanFault) → refused_by T (unplanned f) ≡ refused_by T Spent → ⊥
+not_spent T (plan.TooLarge line size most) is =
+    absurd (let q : TooLarge line size most ≡ Spent = ap fault_in is in cc)
+not_spent T plan.OutOfMemory is = absurd (let q : OutOfMemory ≡ Spent = ap fault_in is in cc)
+
 -- a store that was just opened has done nothing
 pub still_alone : {D : Type 0} (files : D → Option Files) (changes : D → Option (List Change))
     (moment faults : D → ℕ) (code : D → Gv) (a : StoreState D)

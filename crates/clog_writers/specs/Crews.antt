@@ -1,5 +1,18 @@
 -- Writers that each have a seat of one path, and a share of the lines of a file.
-use Rattle.std.specs.Prelude.{◌≡◌, ℕ, ◌<◌, List, [], length, slice_index_or, Option, Some, None}
+use Rattle.std.specs.Prelude.{
+  ◌≡◌,
+  ℕ,
+  ◌/◌,
+  ◌<◌,
+  ◌≤◌,
+  List,
+  [],
+  length,
+  slice_index_or,
+  Option,
+  Some,
+  None,
+}
 use Rattle.std.specs.List.{Contains}
 use Rattle.atomic_table.specs.Seated.{TableId}
 use Rattle.clog_base.specs.declared.sizes.Sizes.{Sizes}
@@ -13,6 +26,7 @@ use Rattle.sync_core.specs.declared.SyncCore.TheVariants.{Periodic}
 use Rattle.write_path.specs.Commits.{WritesEndBelow}
 use Rattle.write_path.specs.Opened.{size_of}
 use Rattle.write_path.specs.Ends.{writes_of}
+use Rattle.write_path.specs.Promised.{WasSpent}
 use Rattle.clog_writers.specs.declared.fault.WriteFault.{WriteFault}
 use Rattle.clog_writers.specs.declared.fault.WriteFault.TheVariants.{Spent, Stopped}
 use Rattle.clog_writers.specs.declared.worker.Worker.{Worker}
@@ -52,6 +66,11 @@ module _ {K : Type 0} where
   abbrev pub IsReady : TableId → PathSize → Sizes → ℕ → List Line → Worker K → Type 0
   IsReady id size sizes number lines w = IsSeated id size number w × IsDealt sizes lines w
 
+  -- the seat found that an entry, of a size that may be, has no segment
+  abbrev pub KnowsSpent : PathSize → PathSeat K → Type 0
+  KnowsSpent size s = (bytes key : ℕ) × (bytes ≤ size.capacity / 2)
+      × WasSpent size bytes key (view_of s.member).trail
+
   -- The worker has logged its lines, or the first of them.
   pub record HasLogged (id : TableId) (size : PathSize) (number : ℕ) (lines : List Line)
       (w : Worker K) : Type 0 where
@@ -60,8 +79,9 @@ module _ {K : Type 0} where
     pub of_path : IsOf id size seat.member
     pub number_is : seat.member.number ≡ number
     pub logs : LogsShare number lines (logged_by seat.member) w.fault
-    -- it stops only where the log has no room
+    -- it stops only where the log has no room, which its seat has found
     pub stops : (f : WriteFault) → w.fault ≡ Some f → f ≡ Spent
+    pub spent : w.fault ≡ Some Spent → KnowsSpent size seat
 
   -- the seat found or put this count of faults, with which the log is stopped
   abbrev pub KnowsStopped : ℕ → PathSeat K → Type 0
@@ -90,7 +110,7 @@ module _ {K : Type 0} where
     pub synced : fault ≡ None → (key : ℕ) × ((part_of s.member).found.synced ≡ Some key)
         × WritesEndBelow key (view_of s.member).trail
 
-  -- So has each of these seats. Where the log has stopped one of them knows that.
+  -- So has each of these seats. Where the log has stopped, or has no room, one of them knows that.
   pub record HaveEnded (id : TableId) (size : PathSize) (mutations : List Mutation)
       (fault : Option WriteFault) (seats : List (PathSeat K)) : Type 0 where
     pub count : length seats ≡ size.seats
@@ -98,6 +118,7 @@ module _ {K : Type 0} where
         HasEnded id size i (share_of size.seats i mutations) fault s) seats
     pub stops : (at_open now : ℕ) → fault ≡ Some (Stopped at_open now)
         → (s : PathSeat K) × Contains seats s × KnowsStopped now s
+    pub spent : fault ≡ Some Spent → (s : PathSeat K) × Contains seats s × KnowsSpent size s
 
 -- The path was opened with these sizes over a keeper of this base, in periodic mode.
 pub record IsOpenFor (sizes : Sizes) (base : ℕ) (mode : SyncCore) (size : PathSize) :

@@ -1,5 +1,22 @@
 -- What a keeper holds once writers have logged their shares.
-use Rattle.std.specs.Prelude.{◌≡◌, ℕ, ◌<◌, ◌==◌, Bool, true, List, [], Option, Some, None}
+use Rattle.std.specs.Prelude.{
+  ◌≡◌,
+  ℕ,
+  ◌+◌,
+  ◌-◌,
+  ◌*◌,
+  ◌<◌,
+  ◌≤◌,
+  ◌==◌,
+  Bool,
+  true,
+  List,
+  [],
+  length,
+  Option,
+  Some,
+  None,
+}
 use Rattle.std.specs.List.{Contains, filter}
 use Rattle.clog_base.specs.declared.sizes.Sizes.{Sizes}
 use Rattle.clog_mutation.specs.declared.mutation.Mutation.{Mutation}
@@ -9,7 +26,7 @@ use Rattle.path_core.specs.History.{IsHistory}
 use Rattle.path_core.specs.Keeper.{Holding}
 use Rattle.path_core.specs.Whole.{IsWhole}
 use Rattle.clog_writers.specs.declared.fault.WriteFault.{WriteFault}
-use Rattle.clog_writers.specs.declared.fault.WriteFault.TheVariants.{Stopped}
+use Rattle.clog_writers.specs.declared.fault.WriteFault.TheVariants.{Spent, Stopped}
 use Rattle.clog_writers.specs.declared.worker.Worker.{Worker}
 use Rattle.clog_writers.specs.Crews.{AreDealt}
 use Rattle.clog_writers.specs.Shares.{AreWritesOf}
@@ -52,3 +69,6 @@ pub record EndsShares {K : Type 0} (sizes : Sizes) (base : ℕ) (before now : Ho
   pub logs : (mutations : List Mutation) → AreDealt sizes mutations workers → fault ≡ None
       → LogsShares sizes base mutations now
   pub stops : (at_open count : ℕ) → fault ≡ Some (Stopped at_open count) → now.stopped ≡ true
+  -- it has no room only for many lines
+  pub spent : (mutations : List Mutation) → AreDealt sizes mutations workers → fault ≡ Some Spent
+      → sizes.ordinals ≤ 1 + (2 * length mutations - 1)

@@ -12,9 +12,10 @@ ghost use Rattle.clog_writers.specs.Crews.{
   HaveLogged,
   IsReady,
   IsSizedAs,
+  KnowsSpent,
   KnowsStopped,
 };
-ghost use Rattle.clog_writers.specs.declared.fault.WriteFault.TheVariants.{Stopped};
+ghost use Rattle.clog_writers.specs.declared.fault.WriteFault.TheVariants.{Spent, Stopped};
 ghost use Rattle.sync_core.specs.declared.SyncCore.TheVariants.{Periodic};
 ghost use Rattle.write_path.specs.Opened.{AreNew};
 
@@ -111,6 +112,9 @@ fn end_share<R: Wait, K: Keeper + Drop>(
         result.0 }
     ensures stops { (at_open now : ℕ) → result.1 ≡ Some (Stopped at_open now)
         → KnowsStopped now result.0 }
+    ensures spent { (number : ℕ) (lines : List Line)
+        → HasLogged path.now.table.table.shared.table_id path.now.table.size number lines worker
+        → result.1 ≡ Some Spent → KnowsSpent path.now.table.size result.0 }
 {
     let Worker {
         seat,

@@ -1,6 +1,6 @@
 //! Why lines were not all logged by their writers.
 ghost use Rattle.std.specs.Prelude.{◌≡◌, ◌⊎◌, ℕ, None, Some};
-ghost use Rattle.clog_writers.specs.declared.fault.WriteFault.TheVariants.{Stopped};
+ghost use Rattle.clog_writers.specs.declared.fault.WriteFault.TheVariants.{Spent, Stopped};
 ghost use Rattle.clog_writers.specs.Written.{unplanned};
 ghost use Rattle.path_rule.specs.declared.answer.SyncAnswer.TheVariants.{
   Done,
@@ -92,6 +92,7 @@ pub(crate) fn refusal_of(answer: SyncAnswer) -> Option<WriteFault>
     ensures done { result ≡ None → (key : ℕ) × (answer ≡ Done key) }
     ensures stopped { (at_open now : ℕ) → result ≡ Some (Stopped at_open now)
         → answer ≡ LogStopped at_open now }
+    ensures not_spent { result ≡ Some Spent → ⊥ }
 {
     match answer {
         SyncAnswer::Done(_) => None,

@@ -1,7 +1,7 @@
 //! A writer in its thread: it commits the writes of its share, one after another.
 ghost use Rattle.std.specs.Prelude.{◌≡◌, ℕ, List, [], Some};
 ghost use Rattle.clog_applied.specs.History.{Line};
-ghost use Rattle.clog_writers.specs.Crews.{HasLogged, IsReady, IsSizedAs};
+ghost use Rattle.clog_writers.specs.Crews.{HasLogged, IsReady, IsSizedAs, KnowsSpent};
 ghost use Rattle.clog_writers.specs.Shares.{ArePrepared, LogsShare, logged_by, refusal_in};
 ghost use Rattle.clog_writers.specs.declared.fault.WriteFault.{WriteFault as WriteFaultOf};
 ghost use Rattle.clog_writers.specs.declared.fault.WriteFault.TheVariants.{Spent};
@@ -59,6 +59,7 @@ fn commit_writes<R: Wait, K: Keeper>(
     ensures logs { (lines : List Line) → ArePrepared sizes lines writes.items
         → LogsShare seat.member.number lines (logged_by result.0.member) result.1 }
     ensures stops { (f : WriteFaultOf) → result.1 ≡ Some f → f ≡ Spent }
+    ensures spent { result.1 ≡ Some Spent → KnowsSpent path.now.table.size result.0 }
 {
     let mut seat = seat;
     for prepared in writes {

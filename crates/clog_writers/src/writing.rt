@@ -2,6 +2,9 @@
 //! disk back.
 ghost use Rattle.std.specs.Prelude.{
   ◌≡◌,
+  ◌+◌,
+  ◌-◌,
+  ◌*◌,
   ◌<◌,
   ◌≤◌,
   ◌^◌,
@@ -12,6 +15,7 @@ ghost use Rattle.std.specs.Prelude.{
   false,
   is_some,
   length,
+  Err,
   IfOk,
 };
 ghost use Rattle.std.specs.List.{AllByRecursion};
@@ -25,7 +29,7 @@ ghost use Rattle.clog_mutation.specs.Limits.{IsWithinLimits};
 ghost use Rattle.clog_words.specs.declared.request.ApplyOptions.{ApplyOptions};
 ghost use Rattle.clog_crash.specs.Log.{Write};
 ghost use Rattle.clog_store.specs.StoreState.{store_over};
-ghost use Rattle.clog_writers.specs.declared.fault.WriteFault.TheVariants.{Stopped};
+ghost use Rattle.clog_writers.specs.declared.fault.WriteFault.TheVariants.{Spent, Stopped};
 ghost use Rattle.clog_writers.specs.Planned.{IsPlanFor};
 ghost use Rattle.clog_writers.specs.Written.{
   AppendsLog,
@@ -59,6 +63,7 @@ fn ended(
     requires stopped { (a n : ℕ) → fault ≡ Some (Stopped a n) → Rose at_open now }
     ensures ok { IfOk result (λ r. (r ≡ receipts) × (fault ≡ None) × (Rose at_open now → ⊥)) }
     ensures cause { HasShareCause at_open now result }
+    ensures spent { result ≡ Err Spent → fault ≡ Some Spent }
 {
     if now != at_open || now == u64::MAX {
         return Err(WriteFault::Stopped { at_open, now });
@@ -92,6 +97,8 @@ fn write_plan<R: Threads + Wait + Sync, D: Disk + Send + Drop>(
         → D.files store.notes.log.disk ≡ Some opened → D.changes store.notes.log.disk ≡ Some made
         → IfOk result.1 (λ receipts. TellsWrittenShares options store.notes.base opened made
         (D.files result.0) (D.changes result.0) mutations receipts.items) }
+    ensures spent { (mutations : List MutationOf) → IsPlanFor sizes mutations plan
+        → result.1 ≡ Err Spent → sizes.ordinals ≤ 1 + (2 * length mutations - 1) }
     ensures wrote { (log : List Write)
         × AppendsLog D.changes store.notes.log.disk result.0 log }
     ensures told { SameTold (D.files store.notes.log.disk) (D.files result.0) }
@@ -120,8 +127,9 @@ fn write_plan<R: Threads + Wait + Sync, D: Disk + Send + Drop>(
 ///
 /// Whatever is answered, the disk's further changes are appends alone, which have brought segments.
 /// `TooLarge`: the entry of a line is larger than half a segment's capacity; `OutOfMemory`: memory
-/// was refused, before a line was written or by the sync; `Spent`: the log has no further segment;
-/// `Rows`: no further group for a barrier; `Stopped`: the disk has failed, with its fault counts.
+/// was refused, before a line was written or by the sync; `Spent`: the log has no further segment,
+/// so it may have at most two segments for each line; `Rows`: no further group for a barrier;
+/// `Stopped`: the disk has failed, with its fault counts.
 pub fn write_shares<R: Threads + Wait + Sync, D: Disk + Send + Drop>(
     rt: &R,
     alloc: Global,
@@ -138,6 +146,8 @@ pub fn write_shares<R: Threads + Wait + Sync, D: Disk + Send + Drop>(
         → D.files store.notes.log.disk ≡ Some opened → D.changes store.notes.log.disk ≡ Some made
         → IfOk result.1 (λ receipts. TellsWrittenShares options store.notes.base opened made
         (D.files result.0) (D.changes result.0) mutations.items receipts.items) }
+    ensures spent { result.1 ≡ Err Spent
+        → store.notes.sizes.ordinals ≤ 1 + (2 * length mutations.items - 1) }
     ensures wrote { (log : List Write)
         × AppendsLog D.changes store.notes.log.disk result.0 log }
     ensures told { SameTold (D.files store.notes.log.disk) (D.files result.0) }

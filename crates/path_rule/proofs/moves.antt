@@ -8,6 +8,9 @@ pub mod ClaimSteps
 pub mod HolderFacts
 pub mod TurnFacts
 pub mod TurnSteps
+pub mod TableTurns
+pub mod BoundSteps
+pub mod SwitchSteps
 pub mod AppendOpened
 pub mod AppendBarriers
 pub mod GatherSteps

@@ -19,5 +19,6 @@ pub mod HolderIssues
 pub mod MayGives
 pub mod Placing
 pub mod Accepting
+pub mod SwitchStages
 pub mod OldestBelow
 pub mod OldestMoves

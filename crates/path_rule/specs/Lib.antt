@@ -9,9 +9,11 @@ pub mod Trails
 pub mod Rule
 pub mod HandsAfter
 pub mod Turns
+pub mod Switches
 pub mod Accepted
 pub mod Told
 pub mod TurnTold
+pub mod TableTold
 pub mod Desks
 pub mod Calls
 pub mod SyncEnd
@@ -21,5 +23,6 @@ pub mod Rounds
 pub mod Sweeps
 pub mod SyncAnswers
 pub mod Marks
+pub mod Switched
 pub mod Sharing
 pub mod FirstBoxes

@@ -15,7 +15,6 @@ use Rattle.std.specs.Prelude.{
   ◌∷◌,
   map,
   length,
-  replicate,
   slice_index,
   None,
 }
@@ -27,14 +26,14 @@ use Rattle.clog_base.specs.Sizes.{IsWithinLimits}
 use Rattle.op_core.specs.declared.count.Order.{Order}
 use Rattle.path_core.specs.declared.event.Cursor.TheVariants.{Synced, OldestLive, Stopped}
 use Rattle.path_core.specs.declared.event.Event.{Event}
-use Rattle.path_core.specs.declared.event.Event.TheVariants.{Switch, Raise, Finalise, Put}
+use Rattle.path_core.specs.declared.event.Event.TheVariants.{Put}
 use Rattle.path_core.specs.declared.event.Place.{Place}
 use Rattle.path_core.specs.declared.seat.Seat.{Seat}
 use Rattle.path_core.specs.declared.state.PathState.{PathState}
 use Rattle.path_core.specs.Allowed.{IsStep}
 use Rattle.path_core.specs.Keeper.{HasRisen}
 use Rattle.path_core.specs.Lawful.{IsLawfulPath}
-use Rattle.path_core.specs.Parts.{fresh_seat, fresh_table, seat_of, groups_of, table_of}
+use Rattle.path_core.specs.Parts.{fresh_seat, seat_of, groups_of, table_of}
 use Rattle.path_core.specs.Runs.{opening, Past}
 use Rattle.path_core.specs.SeatAfter.{Told, seat_after}
 use Rattle.path_core.specs.Whole.{CarriesWhole}
@@ -170,12 +169,9 @@ SizedAs size (Opener k) z = z ≡ size
 abbrev pub IsSized : PathSize → View → Type 0
 IsSized size v = SizedAs size v.role v.size
 
--- A step of a kind that is built: none switches a memtable, and the log is stopped only with a
--- count of faults that has risen.
+-- A step of a kind that is built: none retires a memtable, and the log is stopped only with a count
+-- of faults that has risen.
 abbrev pub IsBuilt : ℕ → Event → Type 0
-IsBuilt opened (Switch by t m part) = ⊥
-IsBuilt opened (Raise by t m to) = ⊥
-IsBuilt opened (Finalise by t m) = ⊥
 IsBuilt opened (Put by (OldestLive t) value) = ⊥
 IsBuilt opened (Put by Synced value) = Unit {0}
 IsBuilt opened (Put by Stopped value) = HasRisen opened value
@@ -219,8 +215,8 @@ pub record Ruled {K : Type 0} (shows : K → Lasting) (o : Beside) (size : PathS
       s.views
   -- a stopped log tells a count of faults that has risen since the keeper was opened
   pub risen : 0 < core.stopped → HasRisen size.at_open core.stopped
-  -- no memtable was switched: each table has its first one alone, which is live
-  pub unswitched : core.tables ≡ replicate size.tables fresh_table
+  -- no memtable was retired, so there is no table file
+  pub unfiled : core.files ≡ []
   -- each view shows its seat's part and steps
   pub each_seat : (j : ℕ) (v : View) → get_elem? s.views j ≡ some v
       → IsSized size v × Knows core events owner made boss j v.role v.part v.trail v.returned
@@ -241,4 +237,3 @@ pub record Was (v : View) (w : ℕ) (e : Event) : Type 0 where
   pub part : v.part ≡ seat_of core w
   pub rows : HasRows core
   pub risen : 0 < core.stopped → HasRisen v.size.at_open core.stopped
-  pub unswitched : core.tables ≡ replicate v.size.tables fresh_table

@@ -1,5 +1,5 @@
 -- Seats are handed out and taken back, and what is known of a table that was closed.
-use Rattle.std.specs.Prelude.{◌≡◌, ◌⊎◌, ◌<◌, ℕ, suc, List, [], ◌∷◌, ◌++◌, map, replicate}
+use Rattle.std.specs.Prelude.{◌≡◌, ◌⊎◌, ◌<◌, ℕ, suc, List, [], ◌∷◌, ◌++◌, map}
 use mathlib.Core.Option.{some}
 use lib.ListN.{get_elem?}
 use Rattle.path_core.specs.declared.event.Event.{Event}
@@ -8,7 +8,7 @@ use Rattle.path_core.specs.declared.state.PathState.{PathState}
 use Rattle.path_core.specs.Keeper.{Holding, HasRisen}
 use Rattle.path_core.specs.Keys.{first_offset}
 use Rattle.path_core.specs.Lawful.{IsLawfulPath}
-use Rattle.path_core.specs.Parts.{fresh_table, seat_of}
+use Rattle.path_core.specs.Parts.{seat_of}
 use Rattle.path_core.specs.Runs.{Past}
 use Rattle.path_rule.specs.declared.lasting.Beside.{Beside}
 use Rattle.path_rule.specs.declared.view.OwnStep.{OwnStep}
@@ -81,7 +81,7 @@ pub record Ended (o : Beside) (size : PathSize) (returned : List Returned) (log 
   pub run : Past (start_of size) events core
   pub lawful : IsLawfulPath core
   -- no memtable was switched
-  pub unswitched : core.tables ≡ replicate size.tables fresh_table
+  pub unfiled : core.files ≡ []
   pub log_is : log ≡ core.log
   pub kept_to : ℕ
   pub may_be_kept : MayBeKept core kept_to

@@ -6,7 +6,7 @@ use Rattle.path_core.specs.declared.event.ClaimKind.TheVariants.{Entry}
 use Rattle.path_core.specs.declared.event.Cursor.TheVariants.{Synced, Stopped}
 use Rattle.path_core.specs.declared.event.Event.{Event}
 use Rattle.path_core.specs.declared.event.Event.TheVariants.{Claim}
-use Rattle.path_core.specs.declared.event.Place.TheVariants.{CursorWord}
+use Rattle.path_core.specs.declared.event.Place.TheVariants.{CursorWord, Log}
 use Rattle.path_core.specs.declared.state.PathState.{PathState}
 use Rattle.path_core.specs.Keys.{after}
 use Rattle.path_core.specs.Steps.{HasMarkerAt}
@@ -36,6 +36,8 @@ AllClaimPast capacity (t ∷ ts) = ClaimsPast capacity t.event ts × AllClaimPas
 pub record TrailTells (capacity : ℕ) (x : PathState) (trail : List OwnStep) : Type 0 where
   -- each synced key that the seat found, or put, is a mark
   pub synced : (key : ℕ) → Finds (CursorWord Synced) key trail → IsMark x key
+  -- each log key that the seat found is at or below that of the log
+  pub come : (key : ℕ) → Finds Log key trail → key ≤ x.log
   -- each count with which it found the log stopped, or stopped it, is that of the log
   pub stopped : (n : ℕ) → Finds (CursorWord Stopped) n trail → 0 < n → n ≡ x.stopped
   -- each entry was claimed behind the markers that the seat had found

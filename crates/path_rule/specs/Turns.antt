@@ -14,8 +14,9 @@ use Rattle.path_core.specs.declared.event.Place.TheVariants.{
 use Rattle.path_core.specs.declared.event.Turn.TheVariants.{Flush}
 use Rattle.path_core.specs.declared.seat.FoundGroups.{FoundGroups}
 use Rattle.path_core.specs.declared.seat.Seat.{Seat}
+use Rattle.path_core.specs.declared.seat.Switching.TheVariants.{Settled, WithBarrier}
 use Rattle.path_core.specs.declared.seat.SyncTurn.{SyncTurn}
-use Rattle.path_core.specs.Parts.{found_of, marker_of}
+use Rattle.path_core.specs.Parts.{found_of, marker_of, seat_table, stage_of}
 use Rattle.path_rule.specs.declared.view.Hands.{Hands}
 use Rattle.path_rule.specs.declared.view.View.{View}
 
@@ -41,12 +42,26 @@ abbrev pub TurnRuns : Seat → ℕ → Type 0
 TurnRuns p key = (t : SyncTurn) × (k : ℕ) × (p.sync ≡ Some t) × (t.stopped ≡ Some 0)
     × (t.synced ≡ Some k) × (k < key)
 
+-- The barrier of a group of the write order is passed: the seat found a later group as the oldest.
+abbrev pub FoundPast : Seat → ℕ → Type 0
+FoundPast p g = (h : ℕ) × ((found_of Write p).oldest ≡ Some h) × (g < h)
+
+-- The newest switch of a table whose turn the seat holds is through: the seat began none, or the
+-- barrier of the last one is passed.
+abbrev pub IsSwitchThrough : ℕ → Seat → Type 0
+IsSwitchThrough t p = (stage_of p t ≡ Some Settled)
+    ⊎ ((m g : ℕ) × (stage_of p t ≡ Some (WithBarrier m g)) × FoundPast p g)
+
+-- The seat knows that the table has this memtable: it is the first, or its write tries it.
+abbrev pub KnowsMemtable : Seat → ℕ → ℕ → Type 0
+KnowsMemtable p t m = (m ≡ 0) ⊎ ((seat_table p t).trying ≡ Some m)
+
 -- The seat knows that there is such a place.
 abbrev pub Sighted : View → Place → Type 0
 Sighted v (Count o g) = ((found_of o v.part).current ≡ Some g)
     ⊎ (((found_of o v.part).oldest ≡ Some g) ⊎ TurnOld o v.part g)
 Sighted v (Newest t) = t.0 < v.size.tables
-Sighted v (Bound t m) = (t.0 < v.size.tables) × (m ≡ 0)
+Sighted v (Bound t m) = (t.0 < v.size.tables) × KnowsMemtable v.part t.0 m
 Sighted v (TurnWord (Flush t)) = t.0 < v.size.tables
 Sighted v (CursorWord (OldestLive t)) = t.0 < v.size.tables
 Sighted v _ = Unit {0}

@@ -1,6 +1,7 @@
 //! The steps of a writer on the append order, with the box that it has while it is in a group.
 ghost use Rattle.std.specs.Prelude.{
   ◌≡◌,
+  ℕ,
   ◌≢◌,
   ◌+◌,
   ◌<◌,
@@ -20,7 +21,7 @@ ghost use Rattle.path_core.specs.declared.event.Carried.TheVariants.{Nothing, De
 ghost use Rattle.path_core.specs.declared.event.Event.TheVariants.{Look, Register, Close};
 ghost use Rattle.path_core.specs.declared.event.Place.TheVariants.{Count, Current};
 ghost use Rattle.path_core.specs.declared.note.EntryNote.{EntryNote};
-ghost use Rattle.path_core.specs.Parts.{HoldsNoTurn, found_of};
+ghost use Rattle.path_core.specs.Parts.{HoldsNoTurn, found_of, seat_table};
 ghost use Rattle.path_core.specs.Whole.{IsWhole};
 ghost use Rattle.path_rule.specs.declared.slot.Slot.TheVariants.{Notes};
 ghost use Rattle.path_rule.specs.Boxes.{box_of};
@@ -163,6 +164,7 @@ impl<K: Keeper, A: Allocator> PathTable<K, A> {
         ensures step { (note : EntryNote) → HasDeposit member.old group note
             → Stepped member.old (Close member.old.number Append group (Deposit note)) result
             member.new }
+        ensures untried { (t : ℕ) → (seat_table (part_of member.new) t).trying ≡ None }
     {
         self.table
             .shared

@@ -28,11 +28,27 @@ pub(crate) const STOPPED: usize = 6;
 /// 1 while a seat holds the Sync turn.
 pub(crate) const SYNC_TURN: usize = 7;
 
+/// The newest memtable of table 0: four words on for each next table.
+pub(crate) const NEWEST: usize = 8;
+
+/// How many memtables of a table there are words for.
+pub(crate) const MEMTABLES: u64 = 256;
+
+/// The Flush turn of table 0, 1 while a seat holds it: four words on for each next table.
+pub(crate) const FLUSH_TURN: usize = 9;
+
 /// The oldest live memtable of table 0: four words on for each next table.
 pub(crate) const OLDEST_LIVE: usize = 10;
 
-/// The bounds of the tables' first memtables: one word on for each next table.
-pub(crate) const FIRST_BOUNDS: usize = 131_144;
+/// The bounds of the tables' first memtables: one word on for each next table, sixteen for each
+/// next memtable.
+pub(crate) const BOUNDS: usize = 131_144;
+
+/// The mark of a raising bound, above all keys.
+pub(crate) const RAISING: u64 = 0x4000_0000_0000_0000;
+
+/// The mark of a final bound.
+pub(crate) const FINAL: u64 = 0x8000_0000_0000_0000;
 
 /// The counts of the groups of the write order: two words on for each next group.
 pub(crate) const WRITE_COUNTS: usize = 72;

@@ -1,7 +1,6 @@
 -- A seat's trail grows from step to step, and over calls one behind another.
 use Rattle.std.proofs.Common.{
   ◌≡◌,
-  ◌⊎◌,
   ℕ,
   ◌+◌,
   ◌≤◌,
@@ -15,7 +14,6 @@ use Rattle.std.proofs.Common.{
   sym,
   ap,
   ◌∙◌,
-  subst,
   ⊎_elim,
   arith,
 }
@@ -69,7 +67,7 @@ step e n = record { event = e; found = n; filed = false }
 pub ended : {K : Type 0} (s : Deposited K) (after : Member K) → EndsWrite s after
     → HasGrown s.member.seat.me.0.trail after.seat.me.0.trail
 ended s after E = both s.member.seat.me.0.trail E.before.trail after.seat.me.0.trail
-    (record { newer = E.tried.looks; is = E.tried.trail })
+    (record { newer = E.tried.tries; is = E.tried.trail })
     (one_step E.before s.member.number (Close s.member.number Write s.writing (Applied E.places))
     E.found after.seat.me.0 E.did)
 

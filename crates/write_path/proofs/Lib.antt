@@ -9,10 +9,11 @@ pub mod Handing
 pub mod Histories
 pub mod Accounted
 pub mod NoneDropped
+pub mod FewSegments
 pub mod Outcomes
 pub mod SyncLists
 pub mod ClaimBehind
-pub mod OnlyFirst
+pub mod Trying
 pub mod Sealing
 pub mod OwnClaims
 pub mod SealedApart
@@ -21,3 +22,4 @@ pub mod Rooms
 pub mod Growing
 pub mod Acknowledged
 pub mod Promises
+pub mod Spending

@@ -1,5 +1,22 @@
--- Where no memtable was switched there is no table file, so no segment has gone.
-use Rattle.std.proofs.Common.{◌≡◌, ℕ, ◌≤◌, ◌==◌, List, [], ◌∷◌, get_or, length, replicate, refl, sym, ap, ◌∙◌, subst, arith}
+-- Where there is no table file no segment has gone.
+use Rattle.std.proofs.Common.{
+  ◌≡◌,
+  ℕ,
+  ◌≤◌,
+  ◌==◌,
+  List,
+  [],
+  ◌∷◌,
+  get_or,
+  length,
+  replicate,
+  refl,
+  sym,
+  ap,
+  ◌∙◌,
+  subst,
+  arith,
+}
 use Rattle.std.specs.List.{Contains, filter}
 use Rattle.std.proofs.lemmas.Bool.{and_parts, eqb-true}
 use mathlib.Core.Logic.{inl, inr}
@@ -8,29 +25,22 @@ use Rattle.clog_mutation.specs.declared.mutation.Update.{Update}
 use Rattle.path_core.specs.declared.note.EntryNote.{EntryNote}
 use Rattle.path_core.specs.declared.state.Claim.{Claim}
 use Rattle.path_core.specs.declared.state.PathState.{PathState}
-use Rattle.path_core.specs.declared.state.TableState.{TableState}
 use Rattle.path_core.specs.declared.state.WrittenFile.{WrittenFile}
 use Rattle.path_core.specs.Droppable.{IsDroppable}
 use Rattle.path_core.specs.Keys.{ordinal_of}
 use Rattle.path_core.specs.Lawful.{IsLawfulPath}
 use Rattle.path_core.specs.LawfulLog.{entry_claim, is_at_most}
-use Rattle.path_core.specs.Parts.{fresh_table, is_entry, is_entry_in, table_of}
+use Rattle.path_core.specs.Parts.{is_entry, is_entry_in}
 use Rattle.path_core.proofs.files.DroppedInFiles.{is_in_file_of}
 use Rattle.path_core.proofs.lists.Passing.{any_to, filter_from}
 use Rattle.path_core.proofs.log.ClaimEnds.{entry_is_long, one_or_apart}
-use Rattle.path_rule.proofs.seats.FirstWords.{same_all}
 
-module _ (x : PathState) (L : IsLawfulPath x) (k : ℕ)
-    (unswitched : x.tables ≡ replicate k fresh_table) where
-  is_fresh : (t : ℕ) → table_of x t ≡ fresh_table
-  is_fresh t = ap (λ (l : List TableState). get_or l t fresh_table) unswitched
-      ∙ same_all k t fresh_table
-
+module _ (x : PathState) (L : IsLawfulPath x) (unfiled : x.files ≡ []) where
   no_file : (f : WrittenFile) → Contains x.files f → ⊥
-  no_file f h =
-      let retired = (L.last_file_is_retired.each f h).retired in
-      let oldest = ap (λ (t : TableState). t.oldest_live) (is_fresh f.table) in
-      absurd (omega (arith, retired, oldest))
+  no_file f h = none_in (subst (λ (l : List WrittenFile). Contains l f) unfiled h)
+    where
+      none_in : Contains [] f → ⊥
+      none_in q = absurd (omega (arith, q.0))
 
   -- a segment that may go has an entry that is a note
   note_of : (o : ℕ) → IsDroppable x o

@@ -4,7 +4,10 @@ use Rattle.std.proofs.Common.{
   ℕ,
   zero,
   suc,
+  ◌-◌,
+  ◌*◌,
   ◌<◌,
+  ◌≤◌,
   Bool,
   true,
   false,
@@ -29,7 +32,7 @@ use Rattle.std.specs.List.{All, filter, range_with_len}
 use Rattle.std.specs.List.Sorted.{IsPermutation}
 use Rattle.std.proofs.lemmas.Bool.{false≢true}
 use Rattle.std.proofs.lemmas.List.{get_or_default, length-replicate}
-use Rattle.std.proofs.lemmas.List.Elements.{All-nil, All-cons, All-head, All-tail}
+use Rattle.std.proofs.lemmas.List.Elements.{All-nil, All-cons, All-contains, All-head, All-tail}
 use Rattle.std.proofs.lemmas.List.Sorted.{
   IsPermutation-refl,
   IsPermutation-sym,
@@ -45,7 +48,9 @@ use Rattle.path_core.specs.Next.{is_between}
 use Rattle.path_core.specs.declared.state.PathState.{PathState}
 use Rattle.path_core.specs.declared.seat.Seat.{Seat}
 use Rattle.path_core.specs.Parts.{fresh_seat, no_claim, seat_of}
+use Rattle.path_core.specs.Keys.{ordinal_of}
 use Rattle.path_core.proofs.frame.Runs.{past_sizes}
+use Rattle.path_core.proofs.lists.Inserted.{map_from}
 use Rattle.path_core.proofs.log.History.{is_history}
 use Rattle.path_core.proofs.runs.EveryRun.{opening_lawful}
 use Rattle.path_rule.specs.declared.lasting.Beside.{Beside}
@@ -61,7 +66,7 @@ use Rattle.path_rule.specs.Lasts.{
   fault_count,
 }
 use Rattle.path_rule.specs.Members.{view_of, part_of}
-use Rattle.path_rule.specs.Rule.{start_of, event_of, steps_by}
+use Rattle.path_rule.specs.Rule.{IsFit, start_of, event_of, steps_by}
 use Rattle.path_rule.specs.Sharing.{EndsUnused}
 use Rattle.path_rule.specs.Trails.{TrailTells}
 use Rattle.write_path.specs.Closed.{
@@ -73,14 +78,16 @@ use Rattle.write_path.specs.Closed.{
   IsSyncedFor,
   AreStoppedFor,
   AreSyncedFor,
+  HasComeFor,
   all_writes,
 }
 use Rattle.write_path.specs.Opened.{numbers_of}
-use Rattle.write_path.specs.Sealed.{AreSealedApart}
-use Rattle.write_path.proofs.Accounted.{each_once}
+use Rattle.write_path.specs.Sealed.{AreSealed, AreSealedApart}
+use Rattle.write_path.proofs.Accounted.{each_once, each_there}
+use Rattle.write_path.proofs.FewSegments.{few_segments}
 use Rattle.write_path.proofs.NoneDropped.{none_dropped}
 use Rattle.write_path.proofs.Histories.{noted, writes_are, run_notes, by_all, all_noted}
-use Rattle.write_path.proofs.SealedApart.{sealed_apart}
+use Rattle.write_path.proofs.SealedApart.{behind_sealed, sealed_apart}
 
 -- ---- where a keeper has stopped, it tells the count of a stopped log
 
@@ -151,6 +158,19 @@ module _ {K : Type 0} (size : PathSize) where
       All-cons R s seats (each s (All-head P s seats p) (All-head Q s seats q))
       (of_both P Q R each seats (All-tail P s seats p) (All-tail Q s seats q))
 
+  -- no seat has claimed anything, since each of them is idle
+  idle_all : (x : PathState) (seats : List (PathSeat K))
+      → All (λ (s : PathSeat K). part_of s.member ≡ seat_of x s.member.number) seats
+      → IsPermutation (range_with_len 0 size.seats) (numbers_of seats)
+      → (w : ℕ) → w < size.seats → (seat_of x w).claim ≡ None
+  idle_all x seats parts all w below =
+      let P = λ (s : PathSeat K). part_of s.member ≡ seat_of x s.member.number in
+      let one = map_from (λ (s : PathSeat K). s.member.number) seats w
+      (each_there size.seats (numbers_of seats) all w below) in
+      let s : PathSeat K = one.0 in
+      subst (λ k. (seat_of x k).claim ≡ None) one.2
+      (sym (ap (λ (p : Seat). p.claim) (All-contains P seats s parts one.1)) ∙ s.unclaimed)
+
   pub outcome : (o : Beside) (seats : List (PathSeat K)) (end : ℕ) (h : Holding)
       → EndsBy o size seats end h
       → IsPermutation (range_with_len 0 size.seats) (numbers_of seats)
@@ -163,6 +183,7 @@ module _ {K : Type 0} (size : PathSize) where
       ap (λ (k : Lasting). k.stopped) same in
       let many : length (start_of size).seats ≡ size.seats = length-replicate size.seats fresh_seat
       in record {
+        fit = e.fit;
         core = x;
         events = e.events;
         run = e.run;
@@ -185,10 +206,17 @@ module _ {K : Type 0} (size : PathSize) where
             let ends = ap (λ (d : Claim). d.end) read in let log = e.log_is in omega arith;
         synced_below = let low = L.synced_below_the_log.below_log in let log = e.log_is in
             omega arith;
+        found_log = known_of x
+            (λ (s : PathSeat K). TrailTells size.capacity x (view_of s.member).trail)
+            (HasComeFor end) (λ s T key F. let low = T.come key F in let log = e.log_is in
+            omega (arith, low, log)) seats E.tell;
+        few_segments = subst (λ k. ordinal_of k ≤ 2 * length x.notes - 1) (sym e.log_is)
+            (few_segments x L (λ w l. idle_all x seats E.parts all w
+            (let long = z.seats in omega (arith, l, long, many))));
         synced_is = synced;
         dropped_are = ap (λ (k : Lasting). k.dropped) same;
         none_dropped = ap (λ (k : Lasting). k.dropped) same
-            ∙ none_dropped x L size.tables e.unswitched;
+            ∙ none_dropped x L e.unfiled;
         stops = stops;
         found_synced = known_of x
             (λ (s : PathSeat K). part_of s.member ≡ seat_of x s.member.number) (IsSyncedFor h)
@@ -209,6 +237,16 @@ module _ {K : Type 0} (size : PathSize) where
             (λ (s : PathSeat K). TrailTells size.capacity x (view_of s.member).trail)
             (AreStoppedFor h) (λ s T n F some. stopped_by h.stopped h.faults n some
             (stops ∙ ap fault_count (sym (T.stopped n F some)))) seats E.tell;
+        sealed = of_both (λ (s : PathSeat K). map event_of (view_of s.member).trail
+            ≡ steps_by s.member.number e.events)
+            (λ (s : PathSeat K). TrailTells size.capacity x (view_of s.member).trail)
+            (λ (s : PathSeat K). AreSealed size.capacity x.notes h.synced
+            (view_of s.member).trail)
+            (λ s own T. subst (λ k. AreSealed size.capacity x.notes k
+            (view_of s.member).trail) (sym synced)
+            (behind_sealed size.capacity s.member.number (start_of size) x e.events
+            (view_of s.member).trail (opening_lawful size.tables size.seats size.capacity
+            size.ordinals size.base e.fit) refl e.run z.capacity own T)) seats E.own E.tell;
         apart = of_both (λ (s : PathSeat K). map event_of (view_of s.member).trail
             ≡ steps_by s.member.number e.events)
             (λ (s : PathSeat K). TrailTells size.capacity x (view_of s.member).trail)
@@ -237,9 +275,11 @@ module _ {K : Type 0} (size : PathSize) where
   no_seat (s ∷ seats) e = absurd (let q = ap (λ (l : List ℕ). length l) e in omega arith)
 
   pub unused_outcome : (o : Beside) (seats : List (PathSeat K)) (end : ℕ) (h : Holding)
-      → numbers_of seats ≡ [] → EndsUnused o size end h → IsOutcome size seats end h
-  unused_outcome o seats end h none_there U = let same = U.1 in
+      → IsFit size → numbers_of seats ≡ [] → EndsUnused o size end h
+      → IsOutcome size seats end h
+  unused_outcome o seats end h fit none_there U = let same = U.1 in
       let synced : h.synced ≡ 0 = ap (λ (k : Lasting). k.synced) same in record {
+        fit = fit;
         core = start_of size;
         events = [];
         run = refl;
@@ -257,6 +297,9 @@ module _ {K : Type 0} (size : PathSize) where
         whole = λ n m. absurd (let l = m.1 in omega arith);
         below = λ n m. absurd (let l = m.1 in omega arith);
         synced_below = omega arith;
+        found_log = subst (λ (l : List (PathSeat K)). All (HasComeFor end) l)
+            (sym (no_seat seats none_there)) (All-nil (HasComeFor end));
+        few_segments = let log = U.0 in omega (arith, log);
         synced_is = synced;
         dropped_are = ap (λ (k : Lasting). k.dropped) same;
         none_dropped = ap (λ (k : Lasting). k.dropped) same;
@@ -269,6 +312,10 @@ module _ {K : Type 0} (size : PathSize) where
             (sym (no_seat seats none_there)) (All-nil (AreSyncedFor h));
         all_stopped = subst (λ (l : List (PathSeat K)). All (AreStoppedFor h) l)
             (sym (no_seat seats none_there)) (All-nil (AreStoppedFor h));
+        sealed = subst (λ (l : List (PathSeat K)). All (λ (s : PathSeat K).
+            AreSealed size.capacity [] h.synced (view_of s.member).trail) l)
+            (sym (no_seat seats none_there)) (All-nil (λ (s : PathSeat K).
+            AreSealed size.capacity [] h.synced (view_of s.member).trail));
         apart = subst (λ (l : List (PathSeat K)). All (λ (s : PathSeat K).
             AreSealedApart size.capacity [] h.synced (view_of s.member).trail) l)
             (sym (no_seat seats none_there)) (All-nil (λ (s : PathSeat K).
@@ -300,6 +347,7 @@ stays_beside first h same = record {
   disk_is = ap (λ (b : Beside). b.disk) same;
   archives_are = ap (λ (b : Beside). b.archives) same;
   tables_are = ap (λ (b : Beside). b.tables) same;
+  writers_are = ap (λ (b : Beside). b.writers) same;
   no_file = void_too first.files h.files (ap (λ (b : Beside). b.files) same);
   none_refused = none_too first.refused h.refused (ap (λ (b : Beside). b.refused) same);
   none_archived = void_too first.archived h.archived (ap (λ (b : Beside). b.archived) same);

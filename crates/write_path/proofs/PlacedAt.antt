@@ -29,10 +29,10 @@ use Rattle.path_rule.specs.declared.view.OwnStep.{OwnStep}
 use Rattle.path_rule.specs.declared.view.PathSize.{PathSize}
 use Rattle.path_rule.specs.Members.{part_of, IsOf}
 use Rattle.write_path.specs.declared.deposited.Deposited.{Deposited}
-use Rattle.write_path.specs.Ends.{AreTryLooks, IsPlacedBelow, IsSameWrite}
+use Rattle.write_path.specs.Ends.{AreTries, IsPlacedBelow, IsSameWrite, IsUntriedFrom}
 
-are_both : (w : ℕ) (ts us : List OwnStep) → AreTryLooks w ts → AreTryLooks w us
-    → AreTryLooks w (ts ++ us)
+are_both : (w : ℕ) (ts us : List OwnStep) → AreTries w ts → AreTries w us
+    → AreTries w (ts ++ us)
 are_both w [] us A B = B
 are_both w (t ∷ ts) us A B = (A.0, are_both w ts us A.1 B)
 
@@ -45,7 +45,7 @@ module _ {K : Type 0} (id : TableId) (size : PathSize) where
     end = refl;
     tables = refl;
     list = refl;
-    tried = record { looks = []; are = tt; trail = refl; hands = refl; returned = refl };
+    tried = record { tries = []; are = tt; trail = refl; hands = refl; returned = refl };
   }
 
   pub same_then : (s t u : Deposited K) → IsSameWrite id size s t → IsSameWrite id size t u
@@ -58,11 +58,11 @@ module _ {K : Type 0} (id : TableId) (size : PathSize) where
     tables = B.tables ∙ A.tables;
     list = B.list ∙ A.list;
     tried = record {
-      looks = B.tried.looks ++ A.tried.looks;
-      are = are_both s.member.number B.tried.looks A.tried.looks
-          (subst (λ w. AreTryLooks w B.tried.looks) A.member.1 B.tried.are) A.tried.are;
-      trail = B.tried.trail ∙ (ap (λ l. B.tried.looks ++ l) A.tried.trail
-          ∙ sym (append_assoc B.tried.looks A.tried.looks s.member.seat.me.0.trail));
+      tries = B.tried.tries ++ A.tried.tries;
+      are = are_both s.member.number B.tried.tries A.tried.tries
+          (subst (λ w. AreTries w B.tried.tries) A.member.1 B.tried.are) A.tried.are;
+      trail = B.tried.trail ∙ (ap (λ l. B.tried.tries ++ l) A.tried.trail
+          ∙ sym (append_assoc B.tried.tries A.tried.tries s.member.seat.me.0.trail));
       hands = B.tried.hands ∙ A.tried.hands;
       returned = B.tried.returned ∙ A.tried.returned;
     };
@@ -75,6 +75,14 @@ module _ {K : Type 0} (k : ℕ) (s : Deposited K) where
       (λ same. absurd (false≢true (sym (ap (λ (n : ℕ). touches s.tables n) same ∙ untouched)
       ∙ touched)))
       (λ apart. placed t (omega arith) touched)
+
+  -- what it does at other tables stays
+  pub untried_past : (u : Deposited K)
+      → ((t : ℕ) → t ≢ k → seat_table (part_of u.member) t ≡ seat_table (part_of s.member) t)
+      → IsUntriedFrom k s → IsUntriedFrom (suc k) u
+  untried_past u others untried t low =
+      ap (λ (st : SeatTable). st.trying) (others t (λ same. absurd (omega arith)))
+      ∙ untried t (omega arith)
 
   -- one at which it was accepted
   pub placed_here : (u : Deposited K) (m : ℕ) → u.tables ≡ s.tables

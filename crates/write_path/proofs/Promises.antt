@@ -17,7 +17,6 @@ use Rattle.path_core.proofs.lists.Passing.{kept_in}
 use Rattle.path_rule.specs.declared.trying.PathSeat.{PathSeat}
 use Rattle.path_rule.specs.declared.view.OwnStep.{OwnStep}
 use Rattle.path_rule.specs.declared.view.PathSize.{PathSize}
-use Rattle.path_rule.specs.declared.view.View.{View}
 use Rattle.path_rule.specs.Finds.{Finds}
 use Rattle.path_rule.specs.Members.{view_of}
 use Rattle.path_rule.proofs.seats.Answering.{found_after, found_before}
@@ -27,7 +26,13 @@ use Rattle.write_path.specs.Commits.{IsLogged}
 use Rattle.write_path.specs.Ends.{with_write, writes_of}
 use Rattle.write_path.specs.Grown.{HasGrown}
 use Rattle.write_path.specs.Promised.{WasDone, WasDurable}
-use Rattle.write_path.specs.Sealed.{AreSealedApart, HasMarkBetween, IsSealed}
+use Rattle.write_path.specs.Sealed.{
+  AreSealed,
+  AreSealedApart,
+  HasMarkBehind,
+  HasMarkBetween,
+  IsSealed,
+}
 use Rattle.write_path.proofs.Growing.{both}
 use Rattle.write_path.proofs.SealedApart.{key_found}
 use Rattle.write_path.proofs.Sealing.{still_sealed}
@@ -126,6 +131,14 @@ module _ {K : Type 0} (size : PathSize) (seats : List (PathSeat K)) (end : ℕ) 
         is_logged n (still_listed D.after.trail t n D.since D.listed)
             (let up = D.syncs.covers n D.listed in omega arith),
       )
+
+  -- a marker stands behind it
+  pub durable_marked : (n : EntryNote)
+      → WasDurable size s.member.number n (view_of s.member).trail
+      → HasMarkBehind size.capacity O.core.notes h.synced n.end.0
+  durable_marked n D = let w = s.member.number in let t = (view_of s.member).trail in
+      All-contains (λ (s : PathSeat K). AreSealed size.capacity O.core.notes h.synced
+      (view_of s.member).trail) seats s O.sealed one n (durable_sealed size w n t D)
 
   -- a marker stands between a durable write and one that its seat logged later
   pub durable_apart : (n : EntryNote) (before after : List OwnStep) (start to : ℕ) (p : Prepared)

@@ -1,5 +1,20 @@
 -- That a key without room was found in a call stays so while its seat goes on.
-use Rattle.std.proofs.Common.{◌≡◌, ℕ, ◌≤◌, false, List, [], ◌∷◌, Some, length, refl, subst, sym, ⊎_elim, arith}
+use Rattle.std.proofs.Common.{
+  ◌≡◌,
+  ℕ,
+  ◌≤◌,
+  false,
+  List,
+  [],
+  ◌∷◌,
+  Some,
+  length,
+  refl,
+  subst,
+  sym,
+  ⊎_elim,
+  arith,
+}
 use mathlib.Core.Logic.{inl, inr}
 use Rattle.op_core.specs.declared.count.Order.{Order}
 use Rattle.op_core.specs.declared.count.Order.TheVariants.{Write, Append}
@@ -30,6 +45,7 @@ room_since size bytes a b key v le R = record {
   none = R.none;
   found = R.found;
   now = found_since a b le _ key v.trail R.now;
+  looked = R.looked;
 }
 
 -- a seat that leaves an order with nothing still tells it
@@ -41,6 +57,7 @@ room_behind size bytes since key w g n o v after D R =
       none = R.none;
       found = by_order o;
       now = inr R.now;
+      looked = inr R.looked;
     })
   where
     by_order : (o : Order) → (view_after v (Close w o g Nothing) n false).part.found.log ≡ Some key
@@ -56,4 +73,5 @@ no_room_here size bytes key w before v after G S =
       none = S.none;
       found = refl;
       now = inl (no_shorter before v.trail G, refl, refl);
+      looked = inl (refl, refl);
     })

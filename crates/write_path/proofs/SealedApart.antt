@@ -37,9 +37,9 @@ use Rattle.path_core.proofs.runs.EveryRun.{past_lawful}
 use Rattle.path_rule.specs.declared.view.OwnStep.{OwnStep}
 use Rattle.path_rule.specs.Finds.{FindsBy, Finds}
 use Rattle.path_rule.specs.Rule.{event_of, steps_by}
-use Rattle.path_rule.specs.Trails.{ClaimsPast, AllClaimPast, TrailTells}
+use Rattle.path_rule.specs.Trails.{ClaimsPast, AllClaimPast, IsMark, TrailTells}
 use Rattle.path_rule.proofs.log.Marks.{notes_around}
-use Rattle.write_path.specs.Sealed.{AreSealedApart}
+use Rattle.write_path.specs.Sealed.{AreSealed, AreSealedApart, IsSealed}
 use Rattle.write_path.proofs.Histories.{noted, writes_are}
 use Rattle.write_path.proofs.OwnClaims.{
   ClaimTo,
@@ -104,16 +104,28 @@ module _ (capacity w : ℕ) (start x : PathState) (es : List Event) (ts : List O
     (law : IsLawfulPath start) (bare : start.claims ≡ []) (past : Past start es x)
     (fit : x.capacity ≡ capacity) (own : map event_of ts ≡ steps_by w es)
     (T : TrailTells capacity x ts) where
-  L : IsLawfulPath x
+  pub L : IsLawfulPath x
   L = past_lawful es start x law past
+
+  -- the mark behind a sealed write
+  pub mark_of : (n : EntryNote) (S : IsSealed n ts) → IsMark x S.0
+  mark_of n S = let F = S.2 in T.synced S.0 (subst (Finds (CursorWord Synced) S.0) (sym F.cut)
+      (key_found S.0 F.later F.step F.before F.found))
+
+  abbrev pub behind_sealed : AreSealed capacity x.notes x.synced ts
+  behind_sealed n S = record {
+    key = S.0;
+    behind = S.1;
+    lasting = (mark_of n S).lasting;
+    bare = λ k h. subst (λ c. (k.end.0 ≤ S.0) ⊎ (after c S.0 ≤ k.start.0)) fit
+        (notes_around x L S.0 (mark_of n S) k h);
+  }
 
   pub sealed_apart : AreSealedApart capacity x.notes x.synced ts
   sealed_apart n m S among behind =
       let key = S.0 in let F = S.2 in
       let events : map event_of ts ≡ map event_of F.later ++ F.step.event ∷ map event_of F.before =
       ap (map event_of) F.cut ∙ map-append event_of F.later (F.step ∷ F.before) in
-      let mark = T.synced key (subst (Finds (CursorWord Synced) key) (sym F.cut)
-      (key_found key F.later F.step F.before F.found)) in
       let noted_own = own_noted m w es start x past (subst (λ l. Contains l m)
       (writes_are ts ∙ ap noted own) among) in
       let claim = (L.notes_are_claims.each m noted_own.0).claim in
@@ -127,8 +139,7 @@ module _ (capacity w : ℕ) (start x : PathState) (es : List Event) (ts : List O
       n F.last in
       let long = entry_is_long x.capacity x.ordinals x.log x.claims L.claims_tile_the_log
       (entry_claim m.writer.0 m.start.0 m.end.0) claim refl in record {
-        key = key;
-        behind = S.1;
+        mark = behind_sealed n S;
         before = ⊎_elim
             (λ newer. starts_past m capacity key F.later F.step F.before F.found
             (subst (AllClaimPast capacity) F.cut T.past) newer)
@@ -137,7 +148,4 @@ module _ (capacity w : ℕ) (start x : PathState) (es : List Event) (ts : List O
             (λ old. absurd (let e = claim_ends m n.end.0 (map event_of F.before) old low in
             omega arith)) older)
             (has_parts m (map event_of F.later) (F.step.event ∷ map event_of F.before) made);
-        lasting = mark.lasting;
-        bare = λ k h. subst (λ c. (k.end.0 ≤ key) ⊎ (after c key ≤ k.start.0)) fit
-            (notes_around x L key mark k h);
       }

@@ -28,7 +28,7 @@ use Rattle.path_rule.specs.Finds.{Finds}
 use Rattle.path_rule.specs.Rounds.{IsRoundStep, AreRoundSteps, RoundSteps}
 use Rattle.path_rule.specs.Rule.{event_of}
 use Rattle.write_path.specs.declared.deposited.Deposited.{Deposited}
-use Rattle.write_path.specs.Ends.{LastBy, IsLast, IsTryLook, AreTryLooks, EndsWrite}
+use Rattle.write_path.specs.Ends.{LastBy, IsLast, IsTry, AreTries, EndsWrite}
 use Rattle.write_path.specs.Sealed.{FoundWhileLast, IsSealed}
 
 -- ---- the seat's last write stays so
@@ -57,28 +57,28 @@ rounds_keep w n [] us A last = last
 rounds_keep w n (t ∷ ts) us A last = round_keeps w n t.event
     (IsLast n (map event_of (ts ++ us))) A.0 (rounds_keep w n ts us A.1 last)
 
--- nor does a look at a memtable
-look_keeps : (w : ℕ) (n : EntryNote) (e : Event) (T : Type 0) → IsTryLook w e → T → LastBy n e T
-look_keeps w n (Look by at) T is last = last
-look_keeps w n (OpenGroup by o g) T is last = absurd is
-look_keeps w n (MoveCurrent by o g) T is last = absurd is
-look_keeps w n (Expire by o g) T is last = absurd is
-look_keeps w n (Advance by o g) T is last = absurd is
-look_keeps w n (Claim by from to what) T is last = absurd is
-look_keeps w n (TakeTurn by turn) T is last = absurd is
-look_keeps w n (GiveTurn by turn) T is last = absurd is
-look_keeps w n (Put by cursor value) T is last = absurd is
-look_keeps w n (Register by o g) T is last = absurd is
-look_keeps w n (Close by o g carried) T is last = absurd is
-look_keeps w n (Switch by t m part) T is last = absurd is
-look_keeps w n (Raise by t m to) T is last = absurd is
-look_keeps w n (Finalise by t m) T is last = absurd is
+-- nor does a try at a memtable
+try_keeps : (w : ℕ) (n : EntryNote) (e : Event) (T : Type 0) → IsTry w e → T → LastBy n e T
+try_keeps w n (Look by at) T is last = last
+try_keeps w n (OpenGroup by o g) T is last = absurd is
+try_keeps w n (MoveCurrent by o g) T is last = absurd is
+try_keeps w n (Expire by o g) T is last = absurd is
+try_keeps w n (Advance by o g) T is last = absurd is
+try_keeps w n (Claim by from to what) T is last = absurd is
+try_keeps w n (TakeTurn by turn) T is last = absurd is
+try_keeps w n (GiveTurn by turn) T is last = absurd is
+try_keeps w n (Put by cursor value) T is last = absurd is
+try_keeps w n (Register by o g) T is last = absurd is
+try_keeps w n (Close by o g carried) T is last = absurd is
+try_keeps w n (Switch by t m part) T is last = absurd is
+try_keeps w n (Raise by t m to) T is last = last
+try_keeps w n (Finalise by t m) T is last = absurd is
 
-pub looks_keep : (w : ℕ) (n : EntryNote) (ts us : List OwnStep) → AreTryLooks w ts
+pub tries_keep : (w : ℕ) (n : EntryNote) (ts us : List OwnStep) → AreTries w ts
     → IsLast n (map event_of us) → IsLast n (map event_of (ts ++ us))
-looks_keep w n [] us A last = last
-looks_keep w n (t ∷ ts) us A last = look_keeps w n t.event
-    (IsLast n (map event_of (ts ++ us))) A.0 (looks_keep w n ts us A.1 last)
+tries_keep w n [] us A last = last
+tries_keep w n (t ∷ ts) us A last = try_keeps w n t.event
+    (IsLast n (map event_of (ts ++ us))) A.0 (tries_keep w n ts us A.1 last)
 
 -- so a write stays the last until it ends
 pub ends_last : {K : Type 0} (n : EntryNote) (s : Deposited K) (after : Member K)
@@ -86,7 +86,7 @@ pub ends_last : {K : Type 0} (n : EntryNote) (s : Deposited K) (after : Member K
     → IsLast n (map event_of after.seat.me.0.trail)
 ends_last n s after E last = subst (λ (v : View). IsLast n (map event_of v.trail))
     (sym E.did.view) (subst (λ l. IsLast n (map event_of l)) (sym E.tried.trail)
-    (looks_keep s.member.number n E.tried.looks s.member.seat.me.0.trail E.tried.are last))
+    (tries_keep s.member.number n E.tried.tries s.member.seat.me.0.trail E.tried.are last))
 
 -- ---- what was found while it was
 

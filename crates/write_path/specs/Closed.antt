@@ -1,15 +1,31 @@
 -- What a path tells when it is closed.
-use Rattle.std.specs.Prelude.{◌≡◌, ℕ, ◌<◌, ◌≤◌, true, List, [], map, Option, Some, None}
+use Rattle.std.specs.Prelude.{
+  ◌≡◌,
+  ℕ,
+  ◌-◌,
+  ◌*◌,
+  ◌<◌,
+  ◌≤◌,
+  true,
+  List,
+  [],
+  length,
+  map,
+  Option,
+  Some,
+  None,
+}
 use Rattle.std.specs.List.{All, Contains, filter, flat_map, range_with_len}
 use Rattle.std.specs.List.Sorted.{IsPermutation}
 use Rattle.atomic_table.specs.Seated.{TableId}
 use Rattle.path_core.specs.declared.event.Cursor.TheVariants.{Synced, Stopped}
 use Rattle.path_core.specs.declared.event.Event.{Event}
-use Rattle.path_core.specs.declared.event.Place.TheVariants.{CursorWord}
+use Rattle.path_core.specs.declared.event.Place.TheVariants.{CursorWord, Log}
 use Rattle.path_core.specs.declared.note.EntryNote.{EntryNote}
 use Rattle.path_core.specs.declared.state.PathState.{PathState}
 use Rattle.path_core.specs.History.{IsHistory}
 use Rattle.path_core.specs.Keeper.{Holding, HasRisen}
+use Rattle.path_core.specs.Keys.{ordinal_of}
 use Rattle.path_core.specs.LawfulLog.{is_at_most}
 use Rattle.path_core.specs.Next.{is_between}
 use Rattle.path_core.specs.Parts.{seat_of}
@@ -23,12 +39,12 @@ use Rattle.path_rule.specs.declared.view.Returned.{Returned}
 use Rattle.path_rule.specs.Finds.{Finds}
 use Rattle.path_rule.specs.Lasts.{fault_count, stopped_with}
 use Rattle.path_rule.specs.Members.{view_of, part_of, IsOf, returned_of}
-use Rattle.path_rule.specs.Rule.{start_of, event_of, steps_by}
+use Rattle.path_rule.specs.Rule.{IsFit, start_of, event_of, steps_by}
 use Rattle.path_rule.specs.Sharing.{Ended}
 use Rattle.path_rule.specs.Trails.{TrailTells}
 use Rattle.write_path.specs.declared.resting.Resting.{Resting}
 use Rattle.write_path.specs.Ends.{writes_of}
-use Rattle.write_path.specs.Sealed.{AreSealedApart}
+use Rattle.write_path.specs.Sealed.{AreSealed, AreSealedApart}
 
 -- A path is closed with all of its seats, in whatever order, or with none where they were not
 -- handed out.
@@ -81,12 +97,17 @@ abbrev pub AreStoppedFor : {K : Type 0} → Holding → PathSeat K → Type 0
 AreStoppedFor h s = (n : ℕ) → Finds (CursorWord Stopped) n (view_of s.member).trail → 0 < n
     → (h.stopped ≡ true) × (h.faults ≡ n)
 
+-- The log has come to each log key that a seat found.
+abbrev pub HasComeFor : {K : Type 0} → ℕ → PathSeat K → Type 0
+HasComeFor end s = (key : ℕ) → Finds Log key (view_of s.member).trail → key ≤ end
+
 -- The keeper that a path gives back has beside its log what the one had over which it was opened:
 -- the same disk at the opening, and no table file and no archive name where there was none.
 pub record StaysBeside (first h : Holding) : Type 0 where
   pub disk_is : h.opening.disk ≡ first.opening.disk
   pub archives_are : h.opening.archives ≡ first.opening.archives
   pub tables_are : h.sizes.tables ≡ first.sizes.tables
+  pub writers_are : h.sizes.writers ≡ first.sizes.writers
   pub no_file : first.files ≡ [] → h.files ≡ []
   pub none_refused : first.refused ≡ None → h.refused ≡ None
   pub none_archived : first.archived ≡ [] → h.archived ≡ []
@@ -103,6 +124,7 @@ pub record IsOfSize (size : PathSize) (h : Holding) : Type 0 where
 -- has its part up to the synced key.
 pub record IsOutcome {K : Type 0} (size : PathSize) (seats : List (PathSeat K)) (end : ℕ)
     (h : Holding) : Type 0 where
+  pub fit : IsFit size
   pub core : PathState
   pub events : List Event
   pub run : Past (start_of size) events core
@@ -116,6 +138,10 @@ pub record IsOutcome {K : Type 0} (size : PathSize) (seats : List (PathSeat K)) 
   -- they end at or below the log's end
   pub below : (n : EntryNote) → Contains core.notes n → n.end.0 ≤ end
   pub synced_below : h.synced ≤ end
+  -- the log has come to each key that a seat found, and has at most two segments for each write,
+  -- but for one
+  pub found_log : All (HasComeFor end) seats
+  pub few_segments : ordinal_of end ≤ 2 * length core.notes - 1
   -- the keeper has what the run made lasting, dropped and stopped
   pub synced_is : h.synced ≡ core.synced
   pub dropped_are : h.dropped ≡ core.dropped
@@ -127,7 +153,9 @@ pub record IsOutcome {K : Type 0} (size : PathSize) (seats : List (PathSeat K)) 
   pub found_stopped : All (IsStoppedFor h) seats
   pub all_synced : All (AreSyncedFor h) seats
   pub all_stopped : All (AreStoppedFor h) seats
-  -- each sealed write stands apart from each later one of its seat
+  -- a marker stands behind each sealed write, and in front of each later one of its seat
+  pub sealed : All (λ (s : PathSeat K). AreSealed size.capacity core.notes h.synced
+      (view_of s.member).trail) seats
   pub apart : All (λ (s : PathSeat K). AreSealedApart size.capacity core.notes h.synced
       (view_of s.member).trail) seats
   -- what is lasting, and what a refused sync kept above it

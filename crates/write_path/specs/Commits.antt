@@ -10,6 +10,7 @@ use Rattle.path_rule.specs.declared.view.OwnStep.{OwnStep}
 use Rattle.path_rule.specs.declared.view.PathSize.{PathSize}
 use Rattle.path_rule.specs.declared.view.View.{View}
 use Rattle.path_rule.specs.Calls.{FoundSince}
+use Rattle.path_rule.specs.Finds.{Finds}
 use Rattle.write_path.specs.declared.prepared.Prepared.{Prepared}
 use Rattle.write_path.specs.declared.writing.Written.{Written}
 use Rattle.write_path.specs.declared.writing.Written.TheVariants.{Logged, Spent}
@@ -29,6 +30,7 @@ pub record HasNoRoom (size : PathSize) (bytes since key : ℕ) (v : View) : Type
   pub none : size.ordinals ≤ ordinal_of (entry_end size.capacity key bytes)
   pub found : v.part.found.log ≡ Some key
   pub now : FoundSince since Log key v.trail
+  pub looked : Finds Log key v.trail
 
 -- each write of a seat's list ends at or below a key
 abbrev pub WritesEndBelow : ℕ → List OwnStep → Type 0

@@ -1,5 +1,21 @@
 -- How a write ends, and the list of a seat's own writes.
-use Rattle.std.specs.Prelude.{◌≡◌, ℕ, ◌<◌, List, [], ◌∷◌, ◌++◌, map, IsTrue, Some}
+use Rattle.std.specs.Prelude.{
+  ◌≡◌,
+  ℕ,
+  ◌+◌,
+  ◌<◌,
+  ◌≤◌,
+  nat_le,
+  if◌then◌else◌,
+  List,
+  [],
+  ◌∷◌,
+  ◌++◌,
+  map,
+  IsTrue,
+  Some,
+  None,
+}
 use Rattle.atomic_table.specs.Seated.{TableId}
 use Rattle.clog_base.specs.declared.cell.Table.{Table}
 use Rattle.clog_base.specs.declared.sizes.Sizes.{Sizes}
@@ -9,9 +25,12 @@ use Rattle.path_core.specs.declared.event.Carried.TheVariants.{Deposit, Applied}
 use Rattle.path_core.specs.declared.event.Event.{Event}
 use Rattle.path_core.specs.declared.event.Cursor.TheVariants.{OldestLive}
 use Rattle.path_core.specs.declared.event.ClaimKind.TheVariants.{Entry}
-use Rattle.path_core.specs.declared.event.Event.TheVariants.{Look, Claim, Close}
+use Rattle.path_core.specs.declared.event.Event.TheVariants.{Look, Claim, Close, Raise}
 use Rattle.path_core.specs.declared.event.Place.TheVariants.{Bound, CursorWord}
 use Rattle.path_core.specs.declared.note.EntryNote.{EntryNote}
+use Rattle.path_core.specs.declared.seat.SeatTable.{SeatTable}
+use Rattle.path_core.specs.declared.state.Bound.{Bound as BoundOf}
+use Rattle.path_core.specs.declared.state.Bound.TheVariants.{Live, Raising, Final}
 use Rattle.path_core.specs.Allowed.{IsItsPlaces}
 use Rattle.path_core.specs.Parts.{seat_table, touches}
 use Rattle.path_rule.specs.declared.table.Member.{Member}
@@ -22,6 +41,8 @@ use Rattle.path_rule.specs.Calls.{Did}
 use Rattle.path_rule.specs.Members.{part_of}
 use Rattle.path_rule.specs.Rule.{event_of}
 use Rattle.write_path.specs.declared.deposited.Deposited.{Deposited}
+use Rattle.write_path.specs.declared.accepting.Accept.{Accept}
+use Rattle.write_path.specs.declared.accepting.Accept.TheVariants.{Yes, Later}
 use Rattle.write_path.specs.declared.prepared.Prepared.{Prepared}
 use Rattle.write_path.specs.Tries.{Stays}
 use Rattle.write_path.specs.Writes.{IsPrepared, IsNoteOf}
@@ -60,23 +81,39 @@ pub record IsListed (before after : List OwnStep) (by start end tables : ℕ)
   pub of : (sizes : Sizes) (line : ℕ) (m : Mutation) → IsPrepared sizes line m prepared
       → IsNoteOf line m note
 
--- A look of seat w at the oldest live memtable of a table, or at the bound of a memtable.
-abbrev pub IsTryLook : ℕ → Event → Type 0
-IsTryLook w (Look by (CursorWord (OldestLive t))) = by ≡ w
-IsTryLook w (Look by (Bound t m)) = by ≡ w
-IsTryLook w _ = ⊥
+-- A try of seat w at a memtable: a look at the oldest live one of a table or at the bound of one,
+-- or a raise of a bound.
+abbrev pub IsTry : ℕ → Event → Type 0
+IsTry w (Look by (CursorWord (OldestLive t))) = by ≡ w
+IsTry w (Look by (Bound t m)) = by ≡ w
+IsTry w (Raise by t m to) = by ≡ w
+IsTry w _ = ⊥
 
-abbrev pub AreTryLooks : ℕ → List OwnStep → Type 0
-AreTryLooks w [] = Unit {0}
-AreTryLooks w (t ∷ ts) = IsTryLook w t.event × AreTryLooks w ts
+abbrev pub AreTries : ℕ → List OwnStep → Type 0
+AreTries w [] = Unit {0}
+AreTries w (t ∷ ts) = IsTry w t.event × AreTries w ts
 
--- Seat w made such looks alone.
+-- Seat w made such tries alone.
 pub record OnlyTried (w : ℕ) (v after : View) : Type 0 where
-  pub looks : List OwnStep
-  pub are : AreTryLooks w looks
-  pub trail : after.trail ≡ looks ++ v.trail
+  pub tries : List OwnStep
+  pub are : AreTries w tries
+  pub trail : after.trail ≡ tries ++ v.trail
   pub hands : after.hands ≡ v.hands
   pub returned : after.returned ≡ v.returned
+
+-- What a memtable answers to a write with this end that tries it: it took it, and is its place; or
+-- it was found to be final at a key below that end, and the write tries the next one.
+abbrev pub HasTried : ℕ → ℕ → Accept → SeatTable → Type 0
+HasTried end m Yes after = after.place ≡ Some m
+HasTried end m (Later key) after =
+    (after.bound ≡ Some (record { memtable = m; bound = Final key })) × (key.0 < end)
+    × (after.trying ≡ Some (m + 1)) × (m + 1 < 256)
+
+-- what a bound that is not raising answers
+abbrev pub answered : ℕ → BoundOf → Accept
+answered end Live = Yes
+answered end (Raising key) = Yes
+answered end (Final key) = if nat_le end key.0 then Yes else Later key
 
 module _ {K : Type 0} where
   -- It is the same write of the same seat, whose list is as it was.
@@ -94,9 +131,13 @@ module _ {K : Type 0} where
   IsPlacedBelow k s = (t : ℕ) → t < k → IsTrue (touches s.tables t)
       → (m : ℕ) × ((seat_table (part_of s.member) t).place ≡ Some m)
 
+  -- It tries no memtable of the tables from a number on.
+  abbrev pub IsUntriedFrom : ℕ → Deposited K → Type 0
+  IsUntriedFrom k s = (t : ℕ) → k ≤ t → (seat_table (part_of s.member) t).trying ≡ None
+
   -- The write is closed with one place for each of its tables, and the seat's list is as it was.
   pub record EndsWrite (s : Deposited K) (after : Member K) : Type 0 where
-    -- what the seat knew before its last step, behind its looks at the memtables
+    -- what the seat knew before its last step, behind its tries at the memtables
     pub before : View
     pub tried : OnlyTried s.member.number s.member.seat.me.0 before
     pub tables : before.part.note ≡ Some s.tables

@@ -10,6 +10,7 @@ use Rattle.sync_core.specs.declared.SyncCore.TheVariants.{Batch}
 use Rattle.write_path.specs.declared.commit.Commit.TheVariants.{Durable}
 use Rattle.write_path.specs.declared.commit.Receipt.{Receipt}
 use Rattle.write_path.specs.declared.prepared.Prepared.{Prepared}
+use Rattle.write_path.specs.Commits.{HasNoRoom}
 use Rattle.write_path.specs.Ends.{writes_of}
 use Rattle.write_path.specs.Grown.{HasGrown}
 use Rattle.write_path.specs.Receipts.{IsCommitted}
@@ -26,6 +27,14 @@ pub record WasDurable (size : PathSize) (w : ℕ) (n : EntryNote) (trail : List 
   pub committed : IsCommitted Batch size w before prepared (Durable receipt) after
   pub note : committed.0.logged.listed.note ≡ n
   pub since : HasGrown after.trail trail
+
+-- A commit of seat w, or a try to claim, found that an entry of so many bytes has no segment, when
+-- this was the seat's trail, or earlier.
+pub record WasSpent (size : PathSize) (bytes key : ℕ) (trail : List OwnStep) : Type 0 where
+  pub since : ℕ
+  pub after : View
+  pub spent : HasNoRoom size bytes since key after
+  pub grown : HasGrown after.trail trail
 
 -- A sync of seat w was answered Done with a key while its list had write n, when this was the
 -- seat's trail, or earlier.

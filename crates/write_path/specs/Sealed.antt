@@ -30,20 +30,26 @@ pub record FoundWhileLast (n : EntryNote) (at : Place) (value : ℕ) (trail : Li
 abbrev pub IsSealed : EntryNote → List OwnStep → Type 0
 IsSealed n trail = (key : ℕ) × (n.end.0 ≤ key) × FoundWhileLast n (CursorWord Synced) key trail
 
--- Between two keys lies a synced key, and the log goes on behind its marker there: no entry has a
--- byte of the marker.
-pub record HasMarkBetween (capacity : ℕ) (history : List EntryNote) (synced from to : ℕ) :
-    Type 0 where
+-- At or above a key lies a synced one, and no entry has a byte of the marker there.
+pub record HasMarkBehind (capacity : ℕ) (history : List EntryNote) (synced from : ℕ) : Type 0 where
   pub key : ℕ
-  -- it lies at or above the one
   pub behind : from ≤ key
-  -- the log goes on behind it at or below the other
-  pub before : after capacity key ≤ to
   -- the log is lasting up to it
   pub lasting : key ≤ synced
-  -- each entry ends at or below it, or starts where the log goes on or above
+  -- each entry ends at or below it, or starts where the log goes on behind it or above
   pub bare : (n : EntryNote) → Contains history n
       → (n.end.0 ≤ key) ⊎ (after capacity key ≤ n.start.0)
+
+-- So between two keys: the log goes on behind that marker at or below the other.
+pub record HasMarkBetween (capacity : ℕ) (history : List EntryNote) (synced from to : ℕ) :
+    Type 0 where
+  pub mark : HasMarkBehind capacity history synced from
+  pub before : after capacity mark.key ≤ to
+
+-- There is such a key behind each sealed write of a trail, its last one too.
+abbrev pub AreSealed : ℕ → List EntryNote → ℕ → List OwnStep → Type 0
+AreSealed capacity history synced trail = (n : EntryNote) → IsSealed n trail
+    → HasMarkBehind capacity history synced n.end.0
 
 -- There is such a key behind each sealed write of a trail, in front of each later one.
 abbrev pub AreSealedApart : ℕ → List EntryNote → ℕ → List OwnStep → Type 0

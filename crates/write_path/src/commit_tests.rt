@@ -17,7 +17,8 @@ use std::test::*;
 use sync_core::SyncCore;
 
 /// Key `ab`, one update: table 0, column `cd`, timestamp 5, a deletion: 20 bytes, an entry of 32.
-const DELETION: &[u8] = b"\x00\x02ab\x00\x01\x00\x00\x02cd\x00\x00\x00\x00\x00\x00\x00\x05\x00";
+pub(crate) const DELETION: &[u8] =
+    b"\x00\x02ab\x00\x01\x00\x00\x02cd\x00\x00\x00\x00\x00\x00\x00\x05\x00";
 
 /// The same for tables 0 and 3: 33 bytes.
 const TWO_TABLES: &[u8] = b"\x00\x02ab\x00\x02\x00\x00\x02cd\x00\x00\x00\x00\x00\x00\x00\x05\x00\
@@ -28,7 +29,12 @@ const BEFORE_VALUE: &[u8] =
     b"\x00\x01k\x00\x01\x00\x00\x01c\x00\x00\x00\x00\x00\x00\x00\x01\x01\x00\x00\x07\xde";
 
 // A write of a payload.
-fn prepared(alloc: Global, sizes: Sizes, line: u32, payload: &[u8]) -> Result<Prepared, Fail>
+pub(crate) fn prepared(
+    alloc: Global,
+    sizes: Sizes,
+    line: u32,
+    payload: &[u8],
+) -> Result<Prepared, Fail>
     requires { sizes.tables ≡ 16 }
     ensures { IfOk result (λ p. (m : Mutation) × IsPrepared sizes line m p) }
 {
@@ -86,21 +92,21 @@ fn commit_twice<R: Wait, G: Gate>(
     Ok((first, second, answer))
 }
 
-fn receipt(line: u32, offset: u32) -> Option<Receipt> {
+pub(crate) fn receipt(line: u32, offset: u32) -> Option<Receipt> {
     Some(Receipt {
         line,
         position: Position { id: 7, offset },
     })
 }
 
-fn logged(commit: &Commit) -> Option<Receipt> {
+pub(crate) fn logged(commit: &Commit) -> Option<Receipt> {
     match commit {
         Commit::Logged(receipt) => Some(*receipt),
         _ => None,
     }
 }
 
-fn durable(commit: &Commit) -> Option<Receipt> {
+pub(crate) fn durable(commit: &Commit) -> Option<Receipt> {
     match commit {
         Commit::Durable(receipt) => Some(*receipt),
         _ => None,

@@ -7,7 +7,7 @@ ghost use Rattle.path_core.specs.declared.event.Carried.TheVariants.{Deposit};
 ghost use Rattle.path_core.specs.declared.event.Event.TheVariants.{Close};
 ghost use Rattle.path_core.specs.declared.note.EntryNote.{EntryNote};
 ghost use Rattle.path_rule.specs.Members.{view_of, IsOf, Stepped};
-ghost use Rattle.write_path.specs.Ends.{IsListed};
+ghost use Rattle.write_path.specs.Ends.{IsListed, IsUntriedFrom};
 ghost use Rattle.write_path.specs.Tries.{Stays};
 ghost use Rattle.write_path.specs.Writes.{entry_size, IsPrepared, IsNoteOf};
 
@@ -39,6 +39,7 @@ impl<K: Keeper, A: Allocator> WritePath<K, A> {
             → IsNoteOf line m note) }
         ensures listed { IsListed (view_of seat.member).trail (view_of result.0.member).trail
             seat.member.number seat.start.0 seat.end.0 result.0.tables prepared }
+        ensures untried { IsUntriedFrom 0 result.0 }
     {
         let Claimed {
             member,

@@ -1,19 +1,27 @@
 //! A write that has deposited its entry is placed and ends, by single tries that are never
-//! refused. At each of its tables it tries the oldest live memtable, which accepts it; then it
-//! leaves the write order, and its seat is idle again.
-ghost use Rattle.std.specs.Prelude.{◌≡◌, ◌≢◌, ℕ, suc, ◌<◌, List, IsTrue, Some};
+//! refused. At each of its tables it tries the oldest live memtable, and after one that is final
+//! below its end the next, until one takes it; then it leaves the write order, and its seat is idle
+//! again.
+ghost use Rattle.std.specs.Prelude.{◌≡◌, ◌≢◌, ℕ, suc, ◌<◌, List, IsTrue, Some, None};
 ghost use Rattle.clog_base.specs.declared.cell.Table.{Table as TableOf};
 ghost use Rattle.op_core.specs.declared.count.Order.TheVariants.{Write};
 ghost use Rattle.path_core.specs.declared.event.Carried.TheVariants.{Applied};
 ghost use Rattle.path_core.specs.declared.event.Cursor.TheVariants.{OldestLive};
 ghost use Rattle.path_core.specs.declared.event.Event.TheVariants.{Look, Close};
-ghost use Rattle.path_core.specs.declared.event.Place.TheVariants.{Bound, CursorWord};
+ghost use Rattle.path_core.specs.declared.event.Place.TheVariants.{CursorWord};
 ghost use Rattle.path_core.specs.Allowed.{IsItsPlaces};
 ghost use Rattle.path_core.specs.Parts.{seat_table, touches};
 ghost use Rattle.path_rule.specs.Members.{view_of, part_of, IsOf, Stepped};
-ghost use Rattle.write_path.specs.Ends.{writes_of, EndsWrite, IsPlacedBelow, IsSameWrite};
+ghost use Rattle.write_path.specs.Ends.{
+  writes_of,
+  EndsWrite,
+  IsPlacedBelow,
+  IsSameWrite,
+  IsUntriedFrom,
+};
 ghost use Rattle.write_path.specs.Tries.{Stays};
 
+use crate::accepting::Accept;
 use crate::deposited::Deposited;
 use crate::seats::WritePath;
 use clog_base::{Table, Writer};
@@ -21,13 +29,6 @@ use clog_io::{Gate, Point};
 use path_core::Keeper;
 use path_rule::PathSeat;
 use std::alloc::Allocator;
-
-/// What a memtable answers to a write.
-#[derive(Clone, Copy, Drop)]
-pub enum Accept {
-    /// It takes the write.
-    Yes,
-}
 
 // Whether a set of tables holds a table.
 fn touches(tables: u16, table: u8) -> bool
@@ -39,7 +40,6 @@ fn touches(tables: u16, table: u8) -> bool
 
 impl<K: Keeper, A: Allocator> WritePath<K, A> {
     /// The number of the oldest live memtable of a table, which a write of the table tries first.
-    /// No memtable is switched yet, so it is 0.
     pub fn oldest(&self, seat: &mut Deposited<K>, table: Table) -> u64
         requires table { IsOf self.now.table.table.shared.table_id self.now.table.size
             seat.old.member }
@@ -48,33 +48,14 @@ impl<K: Keeper, A: Allocator> WritePath<K, A> {
             seat.old seat.new }
         ensures step { Stepped seat.old.member
             (Look seat.old.member.number (CursorWord (OldestLive table))) result seat.new.member }
-        ensures first { result ≡ 0 }
+        ensures below { result < 256 }
         ensures tries { IsTrue (touches seat.old.tables table.0)
+            → (seat_table (part_of seat.old.member) table.0).trying ≡ None
             → (seat_table (part_of seat.new.member) table.0).trying ≡ Some result }
         ensures others { (t : ℕ) → t ≢ table.0 → seat_table (part_of seat.new.member) t
             ≡ seat_table (part_of seat.old.member) t }
     {
         self.table.look_oldest_live(&mut seat.member, table)
-    }
-
-    /// Asks a memtable to take the write, which tries it: by its bound, which is live, it does. The
-    /// memtable is the one that `oldest` told.
-    pub fn accept(&self, seat: &mut Deposited<K>, table: Table, memtable: u64) -> Accept
-        requires table { IsOf self.now.table.table.shared.table_id self.now.table.size
-            seat.old.member }
-        requires there { table.0 < self.now.table.size.tables }
-        requires tried { (seat_table (part_of seat.old.member) table.0).trying ≡ Some memtable }
-        ensures same { IsSameWrite self.now.table.table.shared.table_id self.now.table.size
-            seat.old seat.new }
-        ensures step { Stepped seat.old.member
-            (Look seat.old.member.number (Bound table memtable)) 0 seat.new.member }
-        ensures place { (seat_table (part_of seat.new.member) table.0).place ≡ Some memtable }
-        ensures others { (t : ℕ) → t ≢ table.0 → seat_table (part_of seat.new.member) t
-            ≡ seat_table (part_of seat.old.member) t }
-    {
-        let _ = memtable;
-        let _bound = self.table.look_first_bound(&mut seat.member, table);
-        Accept::Yes
     }
 
     /// Leaves the write order with the write's places, one for each of its tables. The seat is idle
@@ -102,23 +83,47 @@ impl<K: Keeper, A: Allocator> WritePath<K, A> {
         PathSeat { member }
     }
 
-    // At one table: a write of the table is accepted by the oldest live memtable, as the gate is
-    // told.
+    // At one table: one memtable after another is asked, from the one that the write tries, until
+    // one takes it.
+    fn place_from(&self, seat: Deposited<K>, table: Table, first: u64) -> Deposited<K>
+        requires table { IsOf self.now.table.table.shared.table_id self.now.table.size seat.member }
+        requires there { table.0 < self.now.table.size.tables }
+        requires tried { (first < 256)
+            × ((seat_table (part_of seat.member) table.0).trying ≡ Some first) }
+        ensures same { IsSameWrite self.now.table.table.shared.table_id self.now.table.size
+            seat result }
+        ensures placed { (m : ℕ)
+            × ((seat_table (part_of result.member) table.0).place ≡ Some m) }
+        ensures others { (t : ℕ) → t ≢ table.0 → seat_table (part_of result.member) t
+            ≡ seat_table (part_of seat.member) t }
+    {
+        let mut seat = seat;
+        for memtable in first..256 {
+            match self.accept(&mut seat, table, memtable) {
+                Accept::Yes => return seat,
+                Accept::Later(_) => {}
+            }
+        }
+        unreachable!()
+    }
+
+    // At one table: a write of the table is taken by a memtable, as the gate is told.
     fn place_at<G: Gate>(&self, seat: Deposited<K>, table: u8, gate: &G) -> Deposited<K>
         requires table { IsOf self.now.table.table.shared.table_id self.now.table.size seat.member }
         requires there { table < self.now.table.size.tables }
+        requires untried { IsUntriedFrom table seat }
         ensures same { IsSameWrite self.now.table.table.shared.table_id self.now.table.size
             seat result }
         ensures placed { IsPlacedBelow table seat → IsPlacedBelow (suc table) result }
+        ensures untried { IsUntriedFrom (suc table) result }
     {
         if !touches(seat.tables, table) {
             return seat;
         }
         let mut seat = seat;
         let first = self.oldest(&mut seat, Table(table));
-        match self.accept(&mut seat, Table(table), first) {
-            Accept::Yes => gate.reached(Writer(seat.member.number()), Point::Accepted),
-        }
+        let seat = self.place_from(seat, Table(table), first);
+        gate.reached(Writer(seat.member.number()), Point::Accepted);
         seat
     }
 
@@ -128,6 +133,7 @@ impl<K: Keeper, A: Allocator> WritePath<K, A> {
     pub fn end_write<G: Gate>(&self, seat: Deposited<K>, gate: &G) -> PathSeat<K>
         requires table { IsOf self.now.table.table.shared.table_id self.now.table.size seat.member }
         requires group { seat.writing < 65536 }
+        requires untried { IsUntriedFrom 0 seat }
         ensures same { Stays self.now.table.table.shared.table_id self.now.table.size seat.member
             result.member }
         ensures ends { EndsWrite seat result.member }

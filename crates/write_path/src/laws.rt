@@ -1,7 +1,20 @@
 //! Laws of notes, of writes that a marker stands behind, and of what an answer promises for the
 //! close of the path. Each is the contract of a function that does nothing.
-ghost use Rattle.std.specs.Prelude.{◌≡◌, ℕ, ◌+◌, ◌≤◌, ◌++◌, List};
-ghost use Rattle.std.specs.List.{Contains};
+ghost use Rattle.std.specs.Prelude.{
+  ◌≡◌,
+  ℕ,
+  ◌+◌,
+  ◌-◌,
+  ◌*◌,
+  ◌/◌,
+  ◌^◌,
+  ◌<◌,
+  ◌≤◌,
+  ◌++◌,
+  List,
+  length,
+};
+ghost use Rattle.std.specs.List.{All, Contains};
 ghost use Rattle.clog_base.specs.declared.sizes.Sizes.{Sizes};
 ghost use Rattle.clog_mutation.specs.declared.mutation.Mutation.{Mutation};
 ghost use Rattle.clog_mutation.specs.Limits.{IsWithinLimits};
@@ -14,11 +27,12 @@ ghost use Rattle.path_rule.specs.declared.view.OwnStep.{OwnStep};
 ghost use Rattle.path_rule.specs.declared.view.PathSize.{PathSize};
 ghost use Rattle.path_rule.specs.Members.{view_of};
 ghost use Rattle.write_path.specs.declared.prepared.Prepared.{Prepared};
-ghost use Rattle.write_path.specs.Closed.{IsOutcome};
+ghost use Rattle.write_path.specs.Closed.{IsOutcome, all_writes};
 ghost use Rattle.write_path.specs.Commits.{IsLogged};
+ghost use Rattle.write_path.specs.Ends.{writes_of};
 ghost use Rattle.write_path.specs.Grown.{HasGrown};
-ghost use Rattle.write_path.specs.Promised.{WasDone, WasDurable};
-ghost use Rattle.write_path.specs.Sealed.{HasMarkBetween, IsSealed};
+ghost use Rattle.write_path.specs.Promised.{WasDone, WasDurable, WasSpent};
+ghost use Rattle.write_path.specs.Sealed.{HasMarkBehind, HasMarkBetween, IsSealed};
 ghost use Rattle.write_path.specs.SealedRows.{behind_it, before_it, behind_a_claim};
 ghost use Rattle.write_path.specs.Writes.{entry_size, IsNoteOf, IsClaimed, IsDepositable};
 
@@ -62,6 +76,11 @@ pub fn what_close_keeps<K: Keeper>()
     ensures durable { (size : PathSize) (seats : List (PathSeat K)) (end : ℕ) (h : Holding)
         → IsOutcome size seats end h → (s : PathSeat K) → Contains seats s → (n : EntryNote)
         → WasDurable size s.member.number n (view_of s.member).trail → Contains h.logged n }
+    // A marker stands behind it, also where its seat logged no other.
+    ensures marked { (size : PathSize) (seats : List (PathSeat K)) (end : ℕ) (h : Holding)
+        → (o : IsOutcome size seats end h) → (s : PathSeat K) → Contains seats s → (n : EntryNote)
+        → WasDurable size s.member.number n (view_of s.member).trail
+        → HasMarkBehind size.capacity o.core.notes h.synced n.end.0 }
     // It has synced to each key that a sync answered `Done` with, and has each write that was of
     // the seat's list then.
     ensures done { (size : PathSize) (seats : List (PathSeat K)) (end : ℕ) (h : Holding)
@@ -77,4 +96,20 @@ pub fn what_close_keeps<K: Keeper>()
         → (l : IsLogged before s.member.number start to p after)
         → HasGrown after (view_of s.member).trail
         → HasMarkBetween size.capacity o.core.notes h.synced n.end.0 l.listed.note.start.0 }
+{}
+
+/// A path runs out of segments only under many writes: one whose seat was answered `Spent` has at
+/// most two segments for each write that was logged in it, or one where none was.
+pub fn what_spends_a_path<K: Keeper>()
+    ensures segments { (size : PathSize) (seats : List (PathSeat K)) (end : ℕ) (h : Holding)
+        → IsOutcome size seats end h → (s : PathSeat K) → Contains seats s → (bytes key : ℕ)
+        → bytes ≤ size.capacity / 2 → WasSpent size bytes key (view_of s.member).trail
+        → size.ordinals ≤ 1 + (2 * length (all_writes seats) - 1) }
+    // So in one of more than 2^30 segments that never comes, where each of at most 64 seats logs
+    // at most 8,388,608 writes.
+    ensures never { (size : PathSize) (seats : List (PathSeat K)) (end : ℕ) (h : Holding)
+        → IsOutcome size seats end h → length seats ≤ 64
+        → All (λ (s : PathSeat K). length (writes_of (view_of s.member).trail) ≤ 8388608) seats
+        → 2 ^ 30 < size.ordinals → (s : PathSeat K) → Contains seats s → (bytes key : ℕ)
+        → bytes ≤ size.capacity / 2 → ¬ WasSpent size bytes key (view_of s.member).trail }
 {}

@@ -3,6 +3,7 @@
 //! and syncs; and the single tries of a write.
 #![tactic(auto)]
 
+mod accepting;
 mod acknowledging;
 mod allocating;
 mod claimed;
@@ -23,14 +24,14 @@ mod syncing;
 mod turning;
 mod writing;
 
+pub use accepting::Accept;
 pub use claimed::Claimed;
 pub use claiming::TryClaim;
 pub use closing::Outcome;
 pub use commit::{Commit, Receipt, SyncFault};
 pub use deposited::Deposited;
 pub use fault::PrepareFault;
-pub use finishing::Accept;
-pub use laws::{note_laws, what_close_keeps, what_seals_a_write};
+pub use laws::{note_laws, what_close_keeps, what_seals_a_write, what_spends_a_path};
 pub use path_rule::{Advance, Begun, PathSeat, Seen, SyncAnswer};
 pub use prepared::Prepared;
 pub use seats::{Appending, WritePath};
@@ -39,6 +40,12 @@ pub use writing::Written;
 
 #[cfg(test)]
 mod commit_tests;
+#[cfg(test)]
+mod refusing_tests;
+#[cfg(test)]
+mod rolling_tests;
+#[cfg(test)]
+mod rows_tests;
 #[cfg(test)]
 mod sync_tests;
 #[cfg(test)]

@@ -30,7 +30,6 @@ struct Written {
     start: Key,
     end: Key,
     tables: u16,
-    first: u64,
 }
 
 // A write by single tries, if none is refused.
@@ -60,13 +59,11 @@ fn write_once<K: Keeper>(
         TryClaim::Again(seat, _) => return (path.stop(path.stop_append(seat)), None),
         TryClaim::Spent(seat, _) => return (path.stop(path.stop_append(seat)), None),
     };
-    let (mut deposited, _prepared) = path.deposit(claimed, prepared);
-    let first = path.oldest(&mut deposited, Table(0));
+    let (deposited, _prepared) = path.deposit(claimed, prepared);
     let written = Written {
         start: deposited.start,
         end: deposited.end,
         tables: deposited.tables,
-        first,
     };
     (path.end_write(deposited, &OpenGate::new()), Some(written))
 }
@@ -96,7 +93,6 @@ fn one_write_is_the_whole_history(rt: HostRuntime) -> Result<(), Fail> {
     assert_eq!(&rt; written.start, Key(28));
     assert_eq!(&rt; written.end, Key(60));
     assert_eq!(&rt; written.tables, 1);
-    assert_eq!(&rt; written.first, 0);
     seats.push(seat)?;
     let (_keeper, outcome) = path.close(seats);
     assert_eq!(&rt; outcome.end, Key(60));

@@ -27,12 +27,24 @@ use Rattle.clog_disk.specs.Files.{Files, no_files}
 use Rattle.clog_table.specs.Format.{table_file_bytes}
 use Rattle.clog_table.specs.declared.table_file.TableFile.{TableFile}
 use Rattle.clog_crash.specs.Droppable.{IsDroppable}
+use Rattle.clog_crash.specs.Worked.{the_segment}
 use Rattle.clog_applied.specs.Appended.{appended, entries_in}
 use Rattle.clog_applied.specs.Applied.{IsAppliedRun}
 use Rattle.clog_applied.specs.Closed.{IsAnyFile}
 use Rattle.clog_applied.specs.Early.{AreInOrder, IsPublishedIn}
 use Rattle.clog_applied.specs.History.{LoggedLine}
-use Rattle.clog_applied.specs.Worked.{archived_changes, asked_to_archive, comes, drained_changes, file_name, gets_archived, goes_in, line_at, one_line, one_logged}
+use Rattle.clog_applied.specs.Worked.{
+  archived_changes,
+  asked_to_archive,
+  comes,
+  drained_changes,
+  file_name,
+  gets_archived,
+  goes_in,
+  line_at,
+  one_line,
+  one_logged,
+}
 use Rattle.clog_applied.proofs.rows.Drained.{
   droppable,
   f,
@@ -147,7 +159,7 @@ pub not_unarchived : (after : Files) (report : List ℕ)
     → ¬ IsAppliedRun asked_to_archive no_files after drained_changes one_line report
 not_unarchived after report run =
     let log = run.log_holds_each_line_once in
-    let its = the_one_is drained_changes refl run.ids run.history log.is_appended in
+    let its = the_one_is the_segment drained_changes refl run.ids run.history log.is_appended in
     let front = goes_in ∷ comes f ∷ [] in
     let named = run.nothing_goes_early.order.removed_archived refl front [] 1000 its refl in
     elim (first_or_further goes_in (comes f ∷ []) gets_archived named) [

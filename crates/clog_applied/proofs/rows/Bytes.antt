@@ -33,7 +33,7 @@ use Rattle.clog_crash.proofs.Payloads.{of_payload}
 use Rattle.clog_crash.proofs.worked.Files.{stored}
 use Rattle.clog_applied.specs.Worked.{both_bytes, first_bytes, second_bytes}
 
-entry_is_bytes : IsBytes one_entry
+pub entry_is_bytes : IsBytes one_entry
 entry_is_bytes = entry-IsBytes (payload_of the_mutation) (of_payload the_mutation stored)
 
 section_is_bytes : (at : ℕ) (entries : List ℕ) → IsBytes entries

@@ -32,12 +32,11 @@ use Rattle.std.specs.Ordering.{nat_cmp}
 use Rattle.std.proofs.lemmas.Bool.{cases_eq}
 use Rattle.std.proofs.lemmas.Bool.Decides.{nat_tests}
 use Rattle.std.proofs.lemmas.List.{append-nil}
-use Rattle.sync_core.specs.declared.SyncCore.TheVariants.{Batch, Periodic}
 use Rattle.clog_spec.specs.Names.{archive_name_of, segment_name_of, IsTableName}
 use Rattle.clog_base.specs.declared.cell.Table.{Table}
 use Rattle.clog_base.specs.declared.position.Position.{Position}
 use Rattle.clog_base.specs.Positions.{IsUpTo}
-use Rattle.clog_base.proofs.Members.{further, here, only_one}
+use Rattle.clog_base.proofs.Members.{first_or_further, further, here, only_one}
 use Rattle.clog_base.proofs.NameLaws.{archive_is_no_table, one_table, segment_is_no_other}
 use Rattle.clog_cells.proofs.Merging.{of_itself, of_same}
 use Rattle.clog_disk.specs.declared.change.Change.{Change}
@@ -55,7 +54,7 @@ use Rattle.clog_table.specs.Format.{table_file_bytes}
 use Rattle.clog_table.specs.Refusals.{IsFileOf}
 use Rattle.clog_crash.specs.Droppable.{IsDroppable, IsFiled, Touches}
 use Rattle.clog_crash.specs.Folder.{IsHeld}
-use Rattle.clog_crash.specs.Grown.{Append}
+use Rattle.clog_crash.specs.Grown.{Append, appends_of, grown}
 use Rattle.clog_crash.specs.Readings.{IsTableIn}
 use Rattle.clog_crash.specs.Restore.{IsInInterval}
 use Rattle.clog_crash.specs.Worked.{first_table, logged, the_mutation, the_segment}
@@ -71,18 +70,10 @@ use Rattle.clog_crash.proofs.worked.Files.{
   one_in_order,
   stored,
 }
-use Rattle.clog_applied.specs.Appended.{IsAppended, appended, entries_in}
-use Rattle.clog_applied.specs.Applied.{IsAppliedRun}
-use Rattle.clog_applied.specs.Closed.{
-  IsAnyFile,
-  IsClosedPath,
-  IsStoreLeft,
-  StaysOrWent,
-}
-use Rattle.clog_applied.specs.Early.{AreInOrder, IsPublishedIn}
+use Rattle.clog_applied.specs.Appended.{IsAppended, IsSegmentOf, appended, entries_in}
+use Rattle.clog_applied.specs.Closed.{IsAnyFile, IsStoreLeft, StaysOrWent}
+use Rattle.clog_applied.specs.Early.{AreInOrder, AreRunChanges, IsPublishedIn, IsRunChange}
 use Rattle.clog_applied.specs.Filed.{
-  FollowFrom,
-  HoldsSome,
   IsCellWithin,
   IsTrueFor,
   StandsBefore,
@@ -90,41 +81,23 @@ use Rattle.clog_applied.specs.Filed.{
   first_of,
   is_of,
 }
-use Rattle.clog_applied.specs.History.{
-  IsBefore,
-  IsPlaced,
-  LoggedLine,
-  entry_of,
-  logged_at,
-  share_of,
-  written_by,
-}
-use Rattle.clog_applied.specs.Printed.{applied_line, receipt_line}
+use Rattle.clog_applied.specs.History.{LoggedLine, entry_of}
 use Rattle.clog_applied.specs.Worked.{
-  asked,
   comes,
   drained_changes,
   file_name,
   file_to,
   goes_in,
+  goes_out,
   line_at,
   log_name,
-  one_line,
   one_logged,
-  report_of_one,
   the_end,
   with_file,
 }
 use Rattle.clog_applied.proofs.Lists.{kept_one, left_one}
-use Rattle.clog_applied.proofs.Whole.{with_report}
-use Rattle.clog_applied.proofs.rows.Empty.{
-  all_of_one,
-  none_there,
-  one_apart,
-  one_appended,
-  opened_empty,
-}
-use Rattle.clog_applied.proofs.rows.Synced.{not_none, placed_at, the_update, touches_first}
+use Rattle.clog_applied.proofs.rows.Empty.{all_of_one, none_there, one_apart, one_appended}
+use Rattle.clog_applied.proofs.rows.Synced.{not_none, the_update}
 
 abbrev pub f : TableFile
 f = file_to the_end
@@ -176,14 +149,14 @@ its_table table t =
     subst (λ (m : Mutation). Contains m.updates t.update) (sym same) t.listed in
     ap (λ (u : Update). u.table) (only_one the_update t.update listed) ∙ t.same_table
 
-inside : (offset : ℕ) → 60 ≤ offset → offset ≤ 60
+pub inside : (offset : ℕ) → 60 ≤ offset → offset ≤ 60
     → IsInInterval f (record { id = 1000; offset = offset })
 inside offset low high = record {
   above = inr (refl, omega (arith, low));
   up_to = inr (refl, high);
 }
 
-filed_so : (table : Table) → first_table ≡ table → (offset : ℕ) → 60 ≤ offset → offset ≤ 60
+pub filed_so : (table : Table) → first_table ≡ table → (offset : ℕ) → 60 ≤ offset → offset ≤ 60
     → IsFiled (f ∷ []) table (record { id = 1000; offset = offset })
 filed_so table same offset low high = record {
   file = f;
@@ -192,7 +165,7 @@ filed_so table same offset low high = record {
   inside = inside offset low high;
 }
 
-is_true : IsTrueFor one_logged f
+pub is_true : IsTrueFor one_logged f
 is_true = of_same (Contains (logged ∷ [])) (IsCellWithin one_logged f) (logged ∷ [])
     (λ pair. (
       λ h. all_of_one (IsCellWithin one_logged f) logged (record {
@@ -212,10 +185,16 @@ is_true = of_same (Contains (logged ∷ [])) (IsCellWithin one_logged f) (logged
 pub grows : appended drained_changes 1000 ≡ the_segment
 grows = grown_here log_name the_segment [] ∙ append-nil the_segment
 
-its_appended : IsAppended drained_changes (1000 ∷ []) one_logged
-its_appended = one_appended drained_changes one_logged the_segment the_segment grows held
-    (here (log_name, the_segment) [])
-    (all_of_one (λ (a : Append). a.0 ≡ log_name) (log_name, the_segment) refl)
+-- by changes that append to the segment alone
+pub its_appended : (changes : List Change) → appends_of changes ≡ (log_name, the_segment) ∷ []
+    → IsAppended changes (1000 ∷ []) one_logged
+its_appended changes alone =
+    one_appended 1000 (omega arith) changes one_logged the_segment the_segment
+    (ap (λ (as_is : List Append). grown as_is log_name) alone ∙ grows) held
+    (subst (λ (as_is : List Append). Contains as_is (log_name, the_segment)) (sym alone)
+    (here (log_name, the_segment) []))
+    (λ a h. all_of_one (λ (x : Append). x.0 ≡ log_name) (log_name, the_segment) refl a
+    (subst (λ (as_is : List Append). Contains as_is a) alone h))
     (all_of_one (λ (w : LoggedLine). w.id ≡ 1000) (line_at 1 28) refl)
 
 -- ---- where the changes are cut
@@ -283,7 +262,7 @@ published_so front is file h = (
   }) file h,
 )
 
-in_order : AreInOrder IsAnyFile false drained_changes (1000 ∷ []) one_logged (f ∷ [])
+pub in_order : AreInOrder IsAnyFile false drained_changes (1000 ∷ []) one_logged (f ∷ [])
 in_order = record {
   published = λ front rest n b file is says any w h touches up_to.
       subst (λ (cs : List Change). w.end ≤ length (appended cs w.id))
@@ -306,12 +285,12 @@ in_order = record {
 
 -- ---- what stands there
 
-nowhere : (name : List ℕ) → (name ≡ file_name → ⊥) → finmap.get with_file name ≡ None
+pub nowhere : (name : List ℕ) → (name ≡ file_name → ⊥) → finmap.get with_file name ≡ None
 nowhere name apart =
     put_there no_files file_name (table_file_bytes f) name apart
     ∙ get-empty (slice_cmp nat_cmp) name
 
-held_is : (name : List ℕ) → IsHeld with_file name → name ≡ file_name
+pub held_is : (name : List ℕ) → IsHeld with_file name → name ≡ file_name
 held_is name there = elim (same_or_other name file_name) [
   | inl same ↦ same
   | inr apart ↦
@@ -319,7 +298,7 @@ held_is name there = elim (same_or_other name file_name) [
       absurd (not_none (finmap.get with_file name) found.0 (nowhere name apart) found.1)
 ]
 
-stands : finmap.get with_file file_name ≡ Some (table_file_bytes f)
+pub stands : finmap.get with_file file_name ≡ Some (table_file_bytes f)
 stands = put_here no_files file_name (table_file_bytes f)
 
 its_files : (table : Table) → first_table ≡ table → files_of table (f ∷ []) ≡ f ∷ []
@@ -327,7 +306,7 @@ its_files table same =
     let number : 0 ≡ table.0 = ap (λ (t : Table). t.0) same in
     kept_one (is_of table) f [] (grind (arith, nat_tests, number))
 
-of_each : (P : List TableFile → Type 0) → P (f ∷ []) → P [] → (table : Table)
+pub of_each : (P : List TableFile → Type 0) → P (f ∷ []) → P [] → (table : Table)
     → P (files_of table (f ∷ []))
 of_each P one none table = elim (cases_eq 0 table.0) [
   | inl number ↦ subst P (sym (its_files table (λ i. record { 0 = number i }))) one
@@ -335,18 +314,34 @@ of_each P one none table = elim (cases_eq 0 table.0) [
       subst P (sym (left_one (is_of table) f [] (grind (arith, nat_tests, apart)))) none
 ]
 
-none_apart : AllPairs (StandsBefore with_file) []
-none_apart i j d low high = absurd (omega (arith, high))
+pub none_apart : (R : TableFile → TableFile → Type 0) → AllPairs R []
+none_apart R i j d low high = absurd (omega (arith, high))
 
-store_went : IsStoreLeft false no_files with_file drained_changes (1000 ∷ []) (1000 ∷ [])
+-- each change is one of the run
+its_changes : AreRunChanges false (1000 ∷ []) (f ∷ []) drained_changes
+its_changes c h = elim (first_or_further goes_in (comes f ∷ goes_out ∷ []) c h) [
+  | inl same ↦ subst (IsRunChange false (1000 ∷ []) (f ∷ [])) same its_segment
+  | inr more ↦ elim (first_or_further (comes f) (goes_out ∷ []) c more) [
+    | inl same ↦ subst (IsRunChange false (1000 ∷ []) (f ∷ [])) same
+        (f, here f [], record { sequence = 1; named = is_named_so; spelled = spelled })
+    | inr last ↦ subst (IsRunChange false (1000 ∷ []) (f ∷ [])) (only_one goes_out c last)
+        its_segment
+  ]
+]
+  where
+    its_segment : IsSegmentOf (1000 ∷ []) log_name
+    its_segment = record { id = 1000; listed = here 1000 []; named = refl }
+
+pub store_went : IsStoreLeft false no_files with_file drained_changes (1000 ∷ []) (1000 ∷ [])
     one_logged (f ∷ [])
 store_went = record {
-  is_appended = its_appended;
+  is_appended = its_appended drained_changes refl;
   bytes = all_of_one (λ (id : ℕ). IsFile (appended drained_changes id)) 1000
       (subst IsFile (sym grows) is_segment_file);
   some = all_of_one (λ (id : ℕ). (w : LoggedLine) × Contains one_logged w × (w.id ≡ id)) 1000
       (line_at 1 28, here (line_at 1 28) [], refl);
   order = in_order;
+  only = its_changes;
   dropped_exactly = all_of_one
       (λ (id : ℕ). Contains (1000 ∷ []) id ↔ IsDroppable (f ∷ []) id (entries_in id one_logged))
       1000 (λ listed. droppable, λ d. here 1000 []);
@@ -374,7 +369,7 @@ store_went = record {
         (sym (reads_as with_file file_name (table_file_bytes f) stands)) spelled;
   });
   rise = of_each (AllPairs (StandsBefore with_file)) (one_apart (StandsBefore with_file) f)
-      none_apart;
+      (none_apart (StandsBefore with_file));
   tables = λ place name named there.
       let same = held_is name there in
       let numbers = one_table file_name place.0.0 place.1 0 1
@@ -397,62 +392,3 @@ store_went = record {
         (sym (held_is name held)) is_named_so,
   ));
 }
-
--- ---- the run
-
-path_drained : IsClosedPath (asked (Periodic 10000) true) one_line 1000 one_logged (f ∷ [])
-path_drained = record {
-  lawful = record {
-    each = all_of_one (IsPlaced 33554432) (line_at 1 28)
-        (placed_at 1 28 (omega arith) (omega arith));
-    apart = one_apart IsBefore (line_at 1 28);
-  };
-  from_base = all_of_one (λ (w : LoggedLine). 1000 ≤ w.id) (line_at 1 28) (omega arith);
-  writers = omega arith;
-  known = all_of_one (λ (w : LoggedLine). w.writer < 1) (line_at 1 28) (omega arith);
-  shares = λ writer few.
-      let none : writer ≡ 0 = omega (arith, few) in
-      subst (λ (v : ℕ). written_by v one_logged ≡ share_of 1 v one_line) (sym none) refl;
-  follow = of_each (FollowFrom (first_of 1000)) (refl, inr (refl, omega arith), tt) tt;
-  are_true = all_of_one (IsTrueFor one_logged) f is_true;
-  for_some = all_of_one (HoldsSome one_logged) f (record {
-    line = line_at 1 28;
-    listed = here (line_at 1 28) [];
-    touches = touches_first 1 28;
-    inside = inside 60 (omega arith) (omega arith);
-  });
-  drained = λ drain table.
-      all_of_one (λ (w : LoggedLine). Touches (entry_of w) table
-      → IsFiled (f ∷ []) table (logged_at w)) (line_at 1 28)
-      (λ touches. filed_so table (its_table table touches) 60 (omega arith) (omega arith));
-  none = λ e. absurd (let clash : true ≡ false = e in cc);
-  flushed = λ most e. absurd (let clash : None ≡ Some most = e in cc);
-}
-
-pub drained_applied : IsAppliedRun (asked (Periodic 10000) true) no_files with_file
-    drained_changes one_line report_of_one
-drained_applied =
-    let one = receipt_line 1 1000 60 in
-    with_report (asked (Periodic 10000) true) no_files with_file drained_changes one_line
-    report_of_one (record {
-      base = 1000;
-      opened = no_files;
-      recovery = [];
-      later = drained_changes;
-      ids = 1000 ∷ [];
-      dropped = 1000 ∷ [];
-      history = one_logged;
-      files = f ∷ [];
-      parts = refl;
-      opening = opened_empty;
-      path = path_drained;
-      store = store_went;
-      apart = λ e. absurd (let clash : Periodic 10000 ≡ Batch = e in cc);
-    }) (record {
-      receipts = one ++ [];
-      rows = [];
-      receipts_are = (one_logged, record { numbers = refl; each = λ w h. h }, refl);
-      rows_are = refl;
-      text = ap (λ (l : List ℕ). applied_line 1 ++ l)
-          (sym (append-nil one) ∙ sym (append-nil (one ++ [])));
-    })

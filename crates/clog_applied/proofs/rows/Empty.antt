@@ -1,6 +1,8 @@
 -- Runs over an empty folder: its opening, and a segment that is all that is appended to.
 use Rattle.std.proofs.Common.{
   ◌≡◌,
+  ◌<◌,
+  ◌^◌,
   ℕ,
   zero,
   suc,
@@ -41,7 +43,6 @@ use Rattle.clog_crash.proofs.changes.Nothing.{no_table, there_or_nothing}
 use Rattle.clog_applied.specs.Appended.{IsAppended, appended, entries_in}
 use Rattle.clog_applied.specs.History.{LoggedLine}
 use Rattle.clog_applied.specs.Opening.{IsOpening}
-use Rattle.clog_applied.specs.Worked.{log_name}
 
 -- ---- lists of one and two
 
@@ -111,40 +112,39 @@ opened_empty = record {
 
 -- ---- one segment
 
-one_in_order : IsStrictlySortedBy nat_cmp (1000 ∷ [])
+one_in_order : (id : ℕ) → IsStrictlySortedBy nat_cmp (id ∷ [])
 unfolding IsStrictlySortedBy
-one_in_order = (tt, tt)
+one_in_order id = (tt, tt)
 
-module _ (changes : List Change) (history : List LoggedLine) (bytes part : List ℕ)
-    (grows : appended changes 1000 ≡ bytes)
-    (holds : IsSegment bytes 1000 (entries_in 1000 history) (Clean (length bytes)))
-    (first : Contains (appends_of changes) (log_name, part))
-    (only : (a : Append) → Contains (appends_of changes) a → a.0 ≡ log_name)
-    (there : (w : LoggedLine) → Contains history w → w.id ≡ 1000) where
+module _ (id : ℕ) (fits : id < 2 ^ 63) (changes : List Change) (history : List LoggedLine)
+    (bytes part : List ℕ) (grows : appended changes id ≡ bytes)
+    (holds : IsSegment bytes id (entries_in id history) (Clean (length bytes)))
+    (first : Contains (appends_of changes) (segment_name_of 6 id, part))
+    (only : (a : Append) → Contains (appends_of changes) a → a.0 ≡ segment_name_of 6 id)
+    (there : (w : LoggedLine) → Contains history w → w.id ≡ id) where
   abbrev its : GrownSegment
-  its = (1000, entries_in 1000 history)
+  its = (id, entries_in id history)
 
   abbrev Kept : GrownSegment → Type 0
   Kept s = HasGrown (appends_of changes) s.0 × HoldsGrown (appends_of changes) s.0 s.1
 
-  pub one_appended : IsAppended changes (1000 ∷ []) history
+  pub one_appended : IsAppended changes (id ∷ []) history
   one_appended = record {
     kept = record {
-      ordered = one_in_order;
+      ordered = one_in_order id;
       each = all_of_one Kept its (
-        record { fits = omega arith; bytes = part; listed = first },
-        subst (λ (b : List ℕ). IsSegment b 1000 (entries_in 1000 history) (Clean (length b)))
+        record { fits = fits; bytes = part; listed = first },
+        subst (λ (b : List ℕ). IsSegment b id (entries_in id history) (Clean (length b)))
             (sym grows) holds,
       );
-      every = λ id g.
-          let same : id ≡ 1000 =
-          one_id 1000 id (omega arith) g.fits (only (segment_name_of 6 id, g.bytes) g.listed) in (
-            entries_in 1000 history,
-            subst (λ (i : ℕ). Contains (its ∷ []) (i, entries_in 1000 history)) (sym same)
+      every = λ other g.
+          let same : other ≡ id =
+          one_id id other fits g.fits (only (segment_name_of 6 other, g.bytes) g.listed) in (
+            entries_in id history,
+            subst (λ (i : ℕ). Contains (its ∷ []) (i, entries_in id history)) (sym same)
                 (here its []),
           );
     };
-    only = λ a h. record { id = 1000; listed = here 1000 []; named = only a h };
-    no_other = λ w h.
-        subst (λ (i : ℕ). Contains (1000 ∷ []) i) (sym (there w h)) (here 1000 []);
+    only = λ a h. record { id = id; listed = here id []; named = only a h };
+    no_other = λ w h. subst (λ (i : ℕ). Contains (id ∷ []) i) (sym (there w h)) (here id []);
   }

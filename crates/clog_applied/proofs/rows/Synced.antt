@@ -11,7 +11,6 @@ use Rattle.std.proofs.Common.{
   [],
   ◌∷◌,
   ◌++◌,
-  true,
   false,
   Option,
   Some,
@@ -24,35 +23,31 @@ use Rattle.std.proofs.Common.{
   subst,
   arith,
 }
-use Rattle.std.specs.Prelude.{Contains, ◌↔◌}
+use Rattle.std.specs.Prelude.{Contains}
 use Rattle.std.specs.FinMap as finmap
 use Rattle.std.specs.FinMap.{get-empty}
 use Rattle.std.specs.Cmp.Lexicographic.{slice_cmp}
 use Rattle.std.specs.Ordering.{nat_cmp}
 use Rattle.std.proofs.lemmas.List.{append-nil}
-use Rattle.std.proofs.lemmas.List.Elements.{Contains-append_right}
 use Rattle.sync_core.specs.declared.SyncCore.{SyncCore}
 use Rattle.sync_core.specs.declared.SyncCore.TheVariants.{Batch, Periodic}
-use Rattle.clog_spec.specs.Names.{archive_name_of, segment_name_of, IsSegmentName}
-use Rattle.clog_base.proofs.Members.{further, here, nothing_there}
-use Rattle.clog_base.proofs.NameLaws.{one_segment, segment_is_no_other}
+use Rattle.clog_spec.specs.Names.{archive_name_of, segment_name_of}
+use Rattle.clog_base.proofs.Members.{further, here}
 use Rattle.clog_disk.specs.declared.change.Change.{Change}
 use Rattle.clog_disk.specs.declared.change.Change.TheVariants as change
 use Rattle.clog_disk.specs.Files.{no_files}
 use Rattle.clog_disk.proofs.Named.{put_here, put_there, same_or_other}
 use Rattle.clog_mutation.specs.declared.mutation.Update.{Update}
+use Rattle.clog_mutation.specs.Stored.{IsStored}
 use Rattle.clog_scan.specs.Laws.{IsFile}
-use Rattle.clog_crash.specs.Droppable.{IsDroppable, Touches}
-use Rattle.clog_crash.specs.Folder.{IsHeld}
+use Rattle.clog_crash.specs.Droppable.{Touches}
 use Rattle.clog_crash.specs.Grown.{Append}
 use Rattle.clog_crash.specs.Worked.{a_deletion, first_table, the_mutation}
-use Rattle.clog_crash.proofs.OneMore.{bytes_of}
-use Rattle.clog_crash.proofs.changes.Names.{is_named, not_segment}
 use Rattle.clog_crash.proofs.counts.Growing.{grown_here}
 use Rattle.clog_crash.proofs.worked.Files.{stored}
-use Rattle.clog_applied.specs.Appended.{IsAppended, appended, entries_in}
+use Rattle.clog_applied.specs.Appended.{IsAppended, appended}
 use Rattle.clog_applied.specs.Applied.{IsAppliedRun}
-use Rattle.clog_applied.specs.Closed.{IsClosedPath, IsStoreLeft, StaysOrWent}
+use Rattle.clog_applied.specs.Closed.{IsStoreLeft}
 use Rattle.clog_applied.specs.History.{
   IsBefore,
   IsLawful,
@@ -79,7 +74,6 @@ use Rattle.clog_applied.specs.Worked.{
   two_lines,
   with_log,
 }
-use Rattle.clog_applied.proofs.Merged.{its_entry}
 use Rattle.clog_applied.proofs.Whole.{with_report}
 use Rattle.clog_applied.proofs.rows.Bytes.{
   both_file,
@@ -90,10 +84,10 @@ use Rattle.clog_applied.proofs.rows.Bytes.{
   each_held,
   each_sections,
 }
+use Rattle.clog_applied.proofs.rows.Plain.{IsAppendTo, path_plain, store_plain}
 use Rattle.clog_applied.proofs.rows.Empty.{
   all_of_one,
   all_of_two,
-  none_there,
   one_appended,
   opened_empty,
   two_apart,
@@ -122,13 +116,7 @@ touches_first number start = record {
   same_table = refl;
 }
 
--- ---- a segment that stays, and nothing else
-
-abbrev pub IsAppendOf : Change → Type 0
-IsAppendOf (change.Append name bytes) = name ≡ log_name
-IsAppendOf (change.Publish name bytes) = ⊥
-IsAppendOf (change.Link old new) = ⊥
-IsAppendOf (change.Remove name) = ⊥
+-- ---- the worked segment stays, and nothing else is there
 
 pub not_none : (o : Option (List ℕ)) (bytes : List ℕ) → o ≡ None → o ≡ Some bytes → ⊥
 not_none o bytes none some = let clash : None ≡ Some bytes = sym none ∙ some in cc
@@ -137,82 +125,23 @@ module _ (changes : List Change) (history : List LoggedLine) (bytes : List ℕ)
     (is_appended : IsAppended changes (1000 ∷ []) history)
     (grows : appended changes 1000 ≡ bytes) (file : IsFile bytes)
     (number start : ℕ) (first : Contains history (line_at number start))
-    (all : (c : Change) → Contains changes c → IsAppendOf c) where
-  no_cut : (front rest : List Change) (c : Change) → changes ≡ front ++ c ∷ rest → IsAppendOf c
-  no_cut front rest c is = all c
-      (subst (λ (cs : List Change). Contains cs c) (sym is)
-      (Contains-append_right front (c ∷ rest) c (here c rest)))
-
-  nowhere : (name : List ℕ) → (name ≡ log_name → ⊥)
-      → finmap.get (with_log bytes) name ≡ None
-  nowhere name apart =
-      put_there no_files log_name bytes name apart ∙ get-empty (slice_cmp nat_cmp) name
-
-  held_is : (name : List ℕ) → IsHeld (with_log bytes) name → name ≡ log_name
-  held_is name held = elim (same_or_other name log_name) [
-    | inl same ↦ same
-    | inr apart ↦
-        let found = bytes_of (finmap.get (with_log bytes) name) held in
-        absurd (not_none (finmap.get (with_log bytes) name) found.0 (nowhere name apart) found.1)
-  ]
-
-  not_droppable : IsDroppable [] 1000 (entries_in 1000 history) → ⊥
-  not_droppable d =
-      let e = entry_of (line_at number start) in
-      let listed = its_entry history (line_at number start) first in
-      let touches = touches_first number start in
-      let filed = d.filed first_table e e listed listed touches touches e.end (omega arith)
-      (omega arith) in
-      nothing_there filed.file filed.listed
-
+    (can : (w : LoggedLine) → Contains history w → IsStored w.mutation)
+    (all : (c : Change) → Contains changes c → IsAppendTo c) where
   pub store_stays : IsStoreLeft false no_files (with_log bytes) changes (1000 ∷ []) [] history []
-  store_stays = record {
-    is_appended = is_appended;
-    bytes = all_of_one (λ (id : ℕ). IsFile (appended changes id)) 1000
-        (subst IsFile (sym grows) file);
-    some = all_of_one (λ (id : ℕ). (w : LoggedLine) × Contains history w × (w.id ≡ id)) 1000
-        (line_at number start, first, refl);
-    order = record {
-      published = λ front rest n b f is says any.
-          absurd (no_cut front rest (change.Publish n b) is);
-      removed_whole = λ front rest id h is.
-          absurd (no_cut front rest (change.Remove (segment_name_of 6 id)) is);
-      removed_filed = λ front rest id h is.
-          absurd (no_cut front rest (change.Remove (segment_name_of 6 id)) is);
-      removed_archived = λ archive front rest id h is.
-          absurd (no_cut front rest (change.Remove (segment_name_of 6 id)) is);
-      archived_whole = λ front rest id name h is.
-          absurd (no_cut front rest (change.Link (segment_name_of 6 id) name) is);
-    };
-    dropped_exactly = all_of_one
-        (λ (id : ℕ). Contains [] id ↔ IsDroppable [] id (entries_in id history)) 1000 (
-          λ none. absurd (nothing_there 1000 none),
-          λ d. absurd (not_droppable d),
-        );
-    segments = all_of_one
-        (λ (id : ℕ). StaysOrWent false (with_log bytes) [] id (appended changes id)) 1000
-        (inr (
-          λ none. nothing_there 1000 none,
-          record {
-            segment = put_here no_files log_name bytes ∙ ap Some (sym grows);
-            archive = nowhere (archive_name_of 1000) (λ same.
-                (segment_is_no_other log_name 6 1000 (is_named 1000 (omega arith))).0 1000
-                (record { form = sym same; id_fits = omega arith }));
-          },
-        ));
-    no_other = λ name version id named held.
-        let same = held_is name held in
-        let one = one_segment name version id 6 1000 named
-        (subst (λ (n : List ℕ). IsSegmentName n 6 1000) (sym same)
-        (is_named 1000 (omega arith))) in
-        (one.0, subst (λ (i : ℕ). Contains (1000 ∷ []) i) (sym one.1) (here 1000 []));
-    put = λ f h. absurd (nothing_there f h);
-    rise = λ table i j d low high. absurd (omega (arith, high));
-    tables = λ place name named held.
-        absurd (not_segment 1000 name place.0.0 place.1 (omega arith) named (held_is name held));
-    others = λ name b none there. absurd (none_there name b there);
-    no_stray = λ name absent held. inl (1000, here 1000 [], held_is name held);
-  }
+  store_stays = store_plain no_files (with_log bytes) changes (1000 ∷ []) history
+      opened_empty.no_segment (λ id h. get-empty (slice_cmp nat_cmp) (archive_name_of id))
+      is_appended
+      (all_of_one (λ (id : ℕ). IsFile (appended changes id)) 1000 (subst IsFile (sym grows) file))
+      (all_of_one (λ (id : ℕ). (w : LoggedLine) × Contains history w × (w.id ≡ id)) 1000
+      (line_at number start, first, refl))
+      can all
+      (all_of_one (λ (id : ℕ). finmap.get (with_log bytes) (segment_name_of 6 id)
+      ≡ Some (appended changes id)) 1000
+      (put_here no_files log_name bytes ∙ ap Some (sym grows)))
+      (λ name. elim (same_or_other name log_name) [
+        | inl same ↦ inl (record { id = 1000; listed = here 1000 []; named = same })
+        | inr apart ↦ inr (put_there no_files log_name bytes name apart)
+      ])
 
 -- ---- runs
 
@@ -223,23 +152,6 @@ module _ (sync : SyncCore) (changes : List Change) (history : List LoggedLine) (
     (known : (w : LoggedLine) → Contains history w → w.writer < 1)
     (share : written_by 0 history ≡ share_of 1 0 two_lines)
     (apart : sync ≡ Batch → AreSyncedApart changes history) where
-  path_stays : IsClosedPath (asked sync false) two_lines 1000 history []
-  path_stays = record {
-    lawful = lawful;
-    from_base = λ w h. let is = there w h in omega (arith, is);
-    writers = omega arith;
-    known = known;
-    shares = λ writer few.
-        let none : writer ≡ 0 = omega (arith, few) in
-        subst (λ (v : ℕ). written_by v history ≡ share_of 1 v two_lines) (sym none) share;
-    follow = λ table. tt;
-    are_true = λ f h. absurd (nothing_there f h);
-    for_some = λ f h. absurd (nothing_there f h);
-    drained = λ e. absurd (let clash : false ≡ true = e in cc);
-    none = λ e. refl;
-    flushed = λ most e. absurd (let clash : None ≡ Some most = e in cc);
-  }
-
   applied_stays : (report : List ℕ)
       → ReportIsPrinted (asked sync false) (with_log bytes) 2 history report
       → IsAppliedRun (asked sync false) no_files (with_log bytes) changes two_lines report
@@ -255,7 +167,8 @@ module _ (sync : SyncCore) (changes : List Change) (history : List LoggedLine) (
         files = [];
         parts = refl;
         opening = opened_empty;
-        path = path_stays;
+        path = path_plain (asked sync false) two_lines 1000 history refl refl refl refl lawful
+            (λ w h. let is = there w h in omega (arith, is)) known share;
         store = store;
         apart = apart;
       }) printed
@@ -284,7 +197,8 @@ two_printed sync bytes start =
 -- ---- one sync for both
 
 both_appended : IsAppended both_changes (1000 ∷ []) both_logged
-both_appended = one_appended both_changes both_logged both_bytes both_bytes
+both_appended =
+    one_appended 1000 (omega arith) both_changes both_logged both_bytes both_bytes
     (grown_here log_name both_bytes [] ∙ append-nil both_bytes) both_held
     (here (log_name, both_bytes) [])
     (all_of_one (λ (a : Append). a.0 ≡ log_name) (log_name, both_bytes) refl)
@@ -303,7 +217,9 @@ both_applied = applied_stays (Periodic 10000) both_changes both_logged both_byte
     (store_stays both_changes both_logged both_bytes both_appended
     (grown_here log_name both_bytes [] ∙ append-nil both_bytes) both_file 1 28
     (here (line_at 1 28) (line_at 2 60 ∷ []))
-    (all_of_one IsAppendOf (change.Append log_name both_bytes) refl))
+    (all_of_two (λ (w : LoggedLine). IsStored w.mutation) (line_at 1 28) (line_at 2 60) stored
+    stored)
+    (all_of_one IsAppendTo (change.Append log_name both_bytes) (log_name, both_bytes, refl)))
     both_lawful
     (all_of_two (λ (w : LoggedLine). w.id ≡ 1000) (line_at 1 28) (line_at 2 60) refl refl)
     (all_of_two (λ (w : LoggedLine). w.writer < 1) (line_at 1 28) (line_at 2 60) (omega arith)
@@ -319,7 +235,9 @@ each_grows =
     ∙ append-nil second_bytes)
 
 each_appended : IsAppended each_changes (1000 ∷ []) each_logged
-each_appended = one_appended each_changes each_logged each_bytes first_bytes each_grows each_held
+each_appended =
+    one_appended 1000 (omega arith) each_changes each_logged each_bytes first_bytes each_grows
+    each_held
     (here (log_name, first_bytes) ((log_name, second_bytes) ∷ []))
     (all_of_two (λ (a : Append). a.0 ≡ log_name) (log_name, first_bytes)
     (log_name, second_bytes) refl refl)
@@ -360,8 +278,11 @@ pub each_applied : IsAppliedRun (asked Batch false) no_files (with_log each_byte
 each_applied = applied_stays Batch each_changes each_logged each_bytes
     (store_stays each_changes each_logged each_bytes each_appended each_grows each_file 1 28
     (here (line_at 1 28) (line_at 2 68 ∷ []))
-    (all_of_two IsAppendOf (change.Append log_name first_bytes)
-    (change.Append log_name second_bytes) refl refl))
+    (all_of_two (λ (w : LoggedLine). IsStored w.mutation) (line_at 1 28) (line_at 2 68) stored
+    stored)
+    (all_of_two IsAppendTo (change.Append log_name first_bytes)
+    (change.Append log_name second_bytes) (log_name, first_bytes, refl)
+    (log_name, second_bytes, refl)))
     each_lawful
     (all_of_two (λ (w : LoggedLine). w.id ≡ 1000) (line_at 1 28) (line_at 2 68) refl refl)
     (all_of_two (λ (w : LoggedLine). w.writer < 1) (line_at 1 28) (line_at 2 68) (omega arith)

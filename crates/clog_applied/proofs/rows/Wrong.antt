@@ -3,13 +3,12 @@ use Rattle.std.proofs.Common.{
   ◌≡◌,
   ℕ,
   ◌<◌,
-  ◌≤◌,
   ◌^◌,
+  Bool,
   inl,
   List,
   [],
   ◌∷◌,
-  length,
   true,
   refl,
   sym,
@@ -22,20 +21,21 @@ use Rattle.sync_core.specs.declared.SyncCore.TheVariants.{Periodic}
 use Rattle.clog_spec.specs.Names.{segment_name_of}
 use Rattle.clog_base.specs.declared.position.Position.{Position}
 use Rattle.clog_base.proofs.Members.{further, here, in_map, only_one}
+use Rattle.clog_base.proofs.NameLaws.{archive_is_no_table}
 use Rattle.clog_disk.specs.declared.change.Change.{Change}
 use Rattle.clog_disk.specs.declared.change.Change.TheVariants as change
 use Rattle.clog_disk.specs.Files.{Files, no_files}
 use Rattle.clog_mutation.specs.declared.mutation.Mutation.{Mutation}
-use Rattle.clog_mutation.specs.declared.mutation.Update.{Update}
-use Rattle.clog_mutation.specs.Stored.{IsStored}
 use Rattle.clog_scan.specs.Segment.{Entry}
 use Rattle.clog_table.specs.Format.{table_file_bytes}
+use Rattle.clog_table.specs.declared.table_file.TableFile.{TableFile}
 use Rattle.clog_crash.specs.Droppable.{Touches}
 use Rattle.clog_crash.specs.Grown.{Append, appends_of}
 use Rattle.clog_crash.specs.Worked.{first_table, the_mutation, the_segment}
 use Rattle.clog_crash.proofs.changes.Names.{one_id}
 use Rattle.clog_applied.specs.Appended.{IsAppended, entries_in, segments_of}
 use Rattle.clog_applied.specs.Applied.{IsAppliedRun}
+use Rattle.clog_applied.specs.Early.{AreRunChanges}
 use Rattle.clog_applied.specs.Filed.{FollowFrom, first_of}
 use Rattle.clog_applied.specs.History.{
   HoldsShares,
@@ -61,6 +61,10 @@ use Rattle.clog_applied.specs.Worked.{
   line_at,
   log_name,
   one_line,
+  stray_comes,
+  stray_goes,
+  stray_name,
+  strays,
   the_end,
   twice_logged,
   with_gap,
@@ -69,11 +73,13 @@ use Rattle.clog_applied.proofs.Lists.{counted_from}
 use Rattle.clog_applied.proofs.Merged.{of_entry}
 use Rattle.clog_applied.proofs.rows.Drained.{is_named_so, spelled_to}
 use Rattle.clog_applied.proofs.rows.Empty.{no_id}
+use Rattle.clog_applied.proofs.rows.Plain.{first_update, touches_one}
 use Rattle.clog_applied.proofs.rows.Synced.{the_update}
 
--- ---- where the worked segment alone is appended to
+-- ---- where one append alone is made, to the worked segment
 
-module _ (changes : List Change) (alone : appends_of changes ≡ (log_name, the_segment) ∷ [])
+module _ (bytes : List ℕ) (changes : List Change)
+    (alone : appends_of changes ≡ (log_name, bytes) ∷ [])
     (ids : List ℕ) (history : List LoggedLine) (is : IsAppended changes ids history) where
   fits : (id : ℕ) → Contains ids id → id < 2 ^ 63
   fits id h =
@@ -86,25 +92,17 @@ module _ (changes : List Change) (alone : appends_of changes ≡ (log_name, the_
       let listed : Contains (segments_of ids history) (id, entries_in id history) =
       in_map (λ (i : ℕ). (i, entries_in i history)) ids id h in
       let has = (is.kept.each (id, entries_in id history) listed).0 in
-      let one = only_one (log_name, the_segment) (segment_name_of 6 id, has.bytes)
+      let one = only_one (log_name, bytes) (segment_name_of 6 id, has.bytes)
       (subst (λ (as_is : List Append). Contains as_is (segment_name_of 6 id, has.bytes)) alone
       has.listed) in
       one_id 1000 id (omega arith) has.fits (sym (ap (λ (a : Append). a.0) one))
 
   pub the_one_is : Contains ids 1000
   the_one_is =
-      let a = is.only (log_name, the_segment)
-      (subst (λ (as_is : List Append). Contains as_is (log_name, the_segment)) (sym alone)
-      (here (log_name, the_segment) [])) in
+      let a = is.only (log_name, bytes)
+      (subst (λ (as_is : List Append). Contains as_is (log_name, bytes)) (sym alone)
+      (here (log_name, bytes) [])) in
       subst (λ (i : ℕ). Contains ids i) (is_the_one a.id a.listed) a.listed
-
--- an update of a mutation that can be stored
-first_update : (m : Mutation) → IsStored m → (u : Update) × Contains m.updates u
-first_update m stored = by_case m.updates stored.some
-  where
-    by_case : (us : List Update) → 1 ≤ length us → (u : Update) × Contains us u
-    by_case [] some = absurd (omega (arith, some))
-    by_case (u ∷ us) some = (u, here u us)
 
 -- ---- a segment that goes before a table file holds it
 
@@ -112,22 +110,15 @@ pub not_gone_early : (after : Files) (report : List ℕ)
     → ¬ IsAppliedRun (asked (Periodic 10000) true) no_files after gone_early one_line report
 not_gone_early after report run =
     let log = run.log_holds_each_line_once in
-    let its = the_one_is gone_early refl run.ids run.history log.is_appended in
+    let its = the_one_is the_segment gone_early refl run.ids run.history log.is_appended in
     let g = run.nothing_goes_early.order.removed_filed (goes_in ∷ [])
     (comes (file_to the_end) ∷ []) 1000 its refl in
     let e = of_entry run.history 1000 g.droppable.entry g.droppable.has_entry in
     let stored = (log.lawful.each e.line e.listed).stored in
-    let u = first_update e.line.mutation stored in
-    let touches : Touches (entry_of e.line) u.0.table = record {
-      mutation = e.line.mutation;
-      said = record { stored = stored; spelled = refl };
-      update = u.0;
-      listed = u.1;
-      same_table = refl;
-    } in
-    let its_touches = subst (λ (x : Entry). Touches x u.0.table) e.is touches in
+    let table = (first_update e.line.mutation stored).0.table in
+    let its_touches = subst (λ (x : Entry). Touches x table) e.is (touches_one e.line stored) in
     let entry = g.droppable.entry in
-    let filed = g.droppable.filed u.0.table entry entry g.droppable.has_entry
+    let filed = g.droppable.filed table entry entry g.droppable.has_entry
     g.droppable.has_entry its_touches its_touches entry.end (omega arith) (omega arith) in
     let put = (g.each filed.file filed.listed).1 in
     let clash : goes_in ≡ change.Publish put.name put.bytes =
@@ -154,7 +145,7 @@ not_come_early after report run =
           (here the_update []);
       same_table = refl;
     } in
-    let there = is_the_one come_early refl run.ids run.history log.is_appended w.0.id
+    let there = is_the_one the_segment come_early refl run.ids run.history log.is_appended w.0.id
     (log.is_appended.no_other w.0 w.1) in
     let behind = run.nothing_goes_early.order.published [] (goes_in ∷ goes_out ∷ []) file_name
     (table_file_bytes (file_to far_end)) (file_to far_end) refl (record {
@@ -193,3 +184,13 @@ not_apart apart =
 pub no_gap : ¬ FollowFrom (first_of 1000) with_gap
 no_gap follow =
     let clash : 68 ≡ 60 = ap (λ (p : Position). p.offset) follow.2.0 in omega (arith, clash)
+
+-- ---- a name that no run gives
+
+pub not_stray : (archive : Bool) (ids : List ℕ) (files : List TableFile)
+    → ¬ AreRunChanges archive ids files strays
+not_stray archive ids files only =
+    let is = only stray_comes (further goes_in (stray_comes ∷ stray_goes ∷ []) stray_comes
+    (here stray_comes (stray_goes ∷ []))) in
+    archive_is_no_table stray_name 2000 (record { form = refl; id_fits = omega arith })
+    is.0.table.0 is.2.sequence is.2.named

@@ -39,7 +39,16 @@ use Rattle.path_core.specs.declared.event.Event.TheVariants.{
   Put,
 }
 use Rattle.path_core.specs.declared.event.Place.{Place}
-use Rattle.path_core.specs.declared.event.Place.TheVariants.{CursorWord}
+use Rattle.path_core.specs.declared.event.Place.TheVariants.{
+  Bound,
+  Count,
+  Current,
+  CursorWord,
+  Log,
+  Newest,
+  Oldest,
+  TurnWord,
+}
 use Rattle.path_core.specs.declared.seat.Seat.{Seat}
 use Rattle.path_core.specs.declared.state.PathState.{PathState}
 use Rattle.path_core.specs.Allowed.{IsStep}
@@ -48,6 +57,7 @@ use Rattle.path_core.specs.Lawful.{IsLawfulPath}
 use Rattle.path_core.specs.Next.{next_of}
 use Rattle.path_core.specs.SeatAfter.{Told, seat_after}
 use Rattle.path_core.specs.Words.{reading, place_of}
+use Rattle.path_core.proofs.log.LogGrows.{log_grows}
 use Rattle.path_rule.specs.declared.view.OwnStep.{OwnStep}
 use Rattle.path_rule.specs.declared.view.Returned.{Returned}
 use Rattle.path_rule.specs.declared.view.View.{View}
@@ -59,6 +69,7 @@ use Rattle.path_rule.proofs.log.Marks.{mark_stays, synced_mark, log_past}
 pub nothing_tells : (capacity : ℕ) (x : PathState) → TrailTells capacity x []
 nothing_tells capacity x = record {
   synced = λ key F. absurd F;
+  come = λ key F. absurd F;
   stopped = λ n F above. absurd F;
   past = tt;
 }
@@ -112,6 +123,8 @@ module _ (capacity : ℕ) (x : PathState) (L : IsLawfulPath x) (fits : x.capacit
       → TrailTells capacity (next_of x e) ts
   tells_still ts T = record {
     synced = λ key F. mark_stays x e a key (T.synced key F);
+    come = λ key F. let low = T.come key F in
+        let up = log_grows x L.sized L.claims_tile_the_log e a in omega arith;
     stopped = λ n F above. stays_stopped e a n above (T.stopped n F above);
     past = T.past;
   }
@@ -152,6 +165,32 @@ module _ (capacity : ℕ) (x : PathState) (L : IsLawfulPath x) (fits : x.capacit
     new_synced (TakeTurn by turn) a N same key F = absurd F
     new_synced (GiveTurn by turn) a N same key F = absurd F
 
+    new_come : (e : Event) → Same e → (key : ℕ) → FindsBy Log key e found
+        → key ≤ (next_of x e).log
+    new_come (Look by Log) same key F =
+        let is = same_Some found x.log (ap (λ (s : Seat). s.found.log) same) in
+        let n = F.1 in omega arith
+    new_come (Look by (CursorWord c)) same key F = absurd (let q = F.0 in cc)
+    new_come (Look by (Count o g)) same key F = absurd (let q = F.0 in cc)
+    new_come (Look by (Current o)) same key F = absurd (let q = F.0 in cc)
+    new_come (Look by (Oldest o)) same key F = absurd (let q = F.0 in cc)
+    new_come (Look by (Newest t)) same key F = absurd (let q = F.0 in cc)
+    new_come (Look by (Bound t m)) same key F = absurd (let q = F.0 in cc)
+    new_come (Look by (TurnWord turn)) same key F = absurd (let q = F.0 in cc)
+    new_come (Put by cursor value) same key F = absurd (let q = F.0 in cc)
+    new_come (Register by o g) same key F = absurd F
+    new_come (Close by o g carried) same key F = absurd F
+    new_come (OpenGroup by o g) same key F = absurd F
+    new_come (MoveCurrent by o g) same key F = absurd F
+    new_come (Expire by o g) same key F = absurd F
+    new_come (Advance by o g) same key F = absurd F
+    new_come (Claim by from to what) same key F = absurd F
+    new_come (Switch by t m part) same key F = absurd F
+    new_come (Raise by t m to) same key F = absurd F
+    new_come (Finalise by t m) same key F = absurd F
+    new_come (TakeTurn by turn) same key F = absurd F
+    new_come (GiveTurn by turn) same key F = absurd F
+
     new_stopped : (e : Event) → Same e → (n : ℕ) → FindsBy (CursorWord Stopped) n e found
         → n ≡ (next_of x e).stopped
     new_stopped (Look by at) same n F =
@@ -186,6 +225,7 @@ module _ (capacity : ℕ) (x : PathState) (L : IsLawfulPath x) (fits : x.capacit
         (record { event = e; found = found; filed = filed } ∷ ts)
     tells_more filed ts T = let S = tells_still ts T in record {
       synced = λ key F. ⊎_elim (λ now. new_synced e a N same key now) (λ old. S.synced key old) F;
+      come = λ key F. ⊎_elim (λ now. new_come e same key now) (λ old. S.come key old) F;
       stopped = λ n F above. ⊎_elim (λ now. new_stopped e same n now)
           (λ old. S.stopped n old above) F;
       past = (new_past e a ts T, T.past);

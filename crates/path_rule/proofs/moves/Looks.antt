@@ -58,7 +58,7 @@ use Rattle.path_core.specs.Frame.{left_by}
 use Rattle.path_core.specs.Lawful.{IsLawfulPath}
 use Rattle.path_core.specs.LawfulSeats.{GroupsExact}
 use Rattle.path_core.specs.Next.{next_of, told_of}
-use Rattle.path_core.specs.Parts.{seat_of, found_of, fresh_table}
+use Rattle.path_core.specs.Parts.{seat_of, seat_table, table_of, found_of, fresh_table}
 use Rattle.path_core.specs.SeatAfter.{seat_after}
 use Rattle.path_core.specs.Whole.{CarriesWhole}
 use Rattle.path_core.specs.Words.{reading, by_of, place_of, IsPlace}
@@ -76,7 +76,7 @@ use Rattle.path_rule.specs.Lasts.{shown}
 use Rattle.path_rule.specs.Layout.{word_at, IsWord, word_of, reading_at}
 use Rattle.path_rule.specs.Rule.{start_of, IsBuilt, Ruled, HasRows, told_by, view_after, Was}
 use Rattle.path_rule.specs.Told.{Made, Looked}
-use Rattle.path_rule.specs.Turns.{TurnOld, turn_groups, Sighted}
+use Rattle.path_rule.specs.Turns.{TurnOld, turn_groups, KnowsMemtable, Sighted}
 use Rattle.path_rule.proofs.boxes.HeldBoxes.{boxed_stay}
 use Rattle.path_rule.proofs.moves.Moving.{
   core_lawful,
@@ -119,6 +119,16 @@ module _ {K : Type 0} (shows : K → Lasting) (o : Beside) (size : PathSize) (sl
         let long = z.tables ∙ length-replicate size.tables fresh_table in
         subst (λ n. t < n) (sym long) (subst (λ (q : PathSize). t < q.tables) k l)
 
+    -- what a write tries is made, and so is the first memtable
+    has_memtable : (t k : ℕ) → KnowsMemtable m.0.part t k → k < length (table_of x t).memtables
+    has_memtable t k knows = let l = (L.switches.tables t).bounds_rise.made in ⊎_elim
+        (λ first. omega arith)
+        (λ (e : (seat_table m.0.part t).trying ≡ Some k).
+        let is = ap (λ (p : SeatOf). (seat_table p t).trying) (sym as_part) ∙ e in
+        let T = L.places.tries w t in let n = T.of_note k is in
+        let own = L.each_claim_noted_once.own w n.0 n.1 in
+        let low = (T.above k _ is own.range).made in omega arith) knows
+
     turn_exact : (o : Order) (t : SyncTurn) → m.0.part.sync ≡ Some t
         → GroupsExact x o (turn_groups o t)
     turn_exact Write t e = ((L.seats_know w).sync t
@@ -140,10 +150,7 @@ module _ {K : Type 0} (shows : K → Lasting) (o : Beside) (size : PathSize) (sl
     below (Oldest o) h = tt
     below Log h = tt
     below (Newest t) h = few_tables t.0 h
-    below (Bound t k) h = (
-      few_tables t.0 h.0,
-      (let q = h.1 in let l = (L.switches.tables t.0).bounds_rise.made in omega arith),
-    )
+    below (Bound t k) h = (few_tables t.0 h.0, has_memtable t.0 k h.1)
     below (TurnWord Sync) h = tt
     below (TurnWord (Flush t)) h = few_tables t.0 h
     below (CursorWord Synced) h = tt

@@ -11,7 +11,6 @@ use Rattle.std.proofs.Common.{
   ◌∷◌,
   map,
   length,
-  replicate,
   set,
   refl,
   sym,
@@ -52,7 +51,7 @@ use Rattle.path_core.specs.Frame.{left_by}
 use Rattle.path_core.specs.Keeper.{HasRisen}
 use Rattle.path_core.specs.Lawful.{IsLawfulPath}
 use Rattle.path_core.specs.Next.{next_of, told_of}
-use Rattle.path_core.specs.Parts.{fresh_seat, fresh_table, seat_of}
+use Rattle.path_core.specs.Parts.{fresh_seat, seat_of}
 use Rattle.path_core.specs.Runs.{Past}
 use Rattle.path_core.specs.SeatAfter.{seat_after}
 use Rattle.path_core.specs.Whole.{CarriesWhole}
@@ -93,7 +92,7 @@ use Rattle.path_rule.specs.Rule.{
   with_hands,
   Was,
 }
-use Rattle.path_rule.proofs.log.BuiltSteps.{still_risen, still_unswitched}
+use Rattle.path_rule.proofs.log.BuiltSteps.{still_risen, still_unfiled}
 use Rattle.path_rule.specs.Trails.{ViewTells}
 use Rattle.path_rule.proofs.log.KeptStays.{kept_stays}
 use Rattle.path_rule.proofs.log.TrailsTell.{tells_more, view_still}
@@ -159,8 +158,6 @@ module _ {K : Type 0} (shows : K → Lasting) (o : Beside) (size : PathSize) (s 
       rows = r.rows;
       risen = subst (λ (z : PathSize). 0 < r.core.stopped → HasRisen z.at_open r.core.stopped)
           (sym k.0) r.risen;
-      unswitched = subst (λ (z : PathSize). r.core.tables ≡ replicate z.tables fresh_table)
-          (sym k.0) r.unswitched;
     }
 
     module _ (e : Event) (by : by_of e ≡ w) (may : IsStep r.core e) (whole : CarriesWhole e)
@@ -275,7 +272,7 @@ module _ {K : Type 0} (shows : K → Lasting) (o : Beside) (size : PathSize) (s 
         may_be_kept = may_be;
         boxed = boxed;
         risen = still_risen size.at_open r.core e built r.risen;
-        unswitched = still_unswitched size.at_open r.core size.tables e built r.unswitched;
+        unfiled = still_unfiled size.at_open r.core e built r.unfiled;
         each_seat = λ j u p. ⊎_elim
             (λ (t : (j ≡ id) × (v' ≡ u)). let P : ℕ × View
             → Type 0 = λ y. IsSized size y.1

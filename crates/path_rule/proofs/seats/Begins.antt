@@ -83,7 +83,7 @@ module _ {K : Type 0} (shows : K → Lasting) (o : Beside) where
     kept_to = 0;
     may_be_kept = inl (omega arith);
     risen = λ above. absurd (omega arith);
-    unswitched = refl;
+    unfiled = refl;
     boxed = record {
       contents = λ _. [];
       stamp = λ _. 0;

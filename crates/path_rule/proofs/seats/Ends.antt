@@ -21,7 +21,7 @@ use Rattle.std.proofs.Common.{
   ⊎_elim,
   arith,
 }
-use Rattle.std.specs.Prelude.{replicate, slice_index}
+use Rattle.std.specs.Prelude.{slice_index}
 use mathlib.Core.Option.{some, none, some-injective, some-ne-none}
 use mathlib.Core.Option as maybe
 use lib.ListN.{get_elem?}
@@ -31,7 +31,7 @@ use Rattle.path_core.specs.declared.event.Place.TheVariants.{Log}
 use Rattle.path_core.specs.declared.state.PathState.{PathState}
 use Rattle.path_core.specs.Words.{by_of}
 use Rattle.path_core.specs.Keeper.{Holding, HasRisen}
-use Rattle.path_core.specs.Parts.{fresh_table, seat_of}
+use Rattle.path_core.specs.Parts.{seat_of}
 use Rattle.path_core.specs.Runs.{Past}
 use Rattle.path_rule.specs.declared.lasting.Beside.{Beside}
 use Rattle.path_rule.specs.declared.lasting.Lasting.{Lasting}
@@ -134,8 +134,7 @@ module _ {K : Type 0} (shows : K → Lasting) (o : Beside) where
         fit = subst IsFit same r.fit;
         run = subst (λ (z : PathSize). Past (start_of z) r.events r.core) same r.run;
         lawful = core_lawful shows o key s r;
-        unswitched = subst (λ (z : PathSize). r.core.tables ≡ replicate z.tables fresh_table) same
-            r.unswitched;
+        unfiled = r.unfiled;
         log_is = sym (at_four ws 4 log e) ∙
             (ap (λ (l : List ℕ). slice_index l 4) (sym f.2) ∙ r.words Log tt);
         kept_to = r.kept_to;

@@ -92,7 +92,7 @@ module _ {K : Type 0} (shows : K → Lasting) (o : Beside) (size : PathSize) (id
         kept_to = r.kept_to;
         may_be_kept = r.may_be_kept;
         risen = r.risen;
-        unswitched = r.unswitched;
+        unfiled = r.unfiled;
         boxed = reboxed shows size.seats r.core.notes
             (shown o size.at_open r.kept_to r.core) r.core.claims r.core.append s.homes s.views
             (set (set s.views id (taking v u)) other spent) r.boxed

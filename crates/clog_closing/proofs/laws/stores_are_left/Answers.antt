@@ -1,32 +1,36 @@
+use Rattle.clog_closing.specs.Stores.{GoesInOrder}
 use Rattle.clog_closing.proofs.Logs.{are_files, is_appended}
 use Rattle.clog_closing.proofs.Entries.{an_entry}
 use Rattle.clog_closing.proofs.StoreLeft.{no_other, no_stray, others, segments}
+use Rattle.clog_closing.proofs.StoreOnly.{only}
 use Rattle.clog_closing.proofs.StoreOrdered.{in_order}
 use Rattle.clog_closing.proofs.StoreTables.{exactly, is_put, rise, tables}
 use Rattle.clog_closing.proofs.laws.stores_are_left.Goals as goal
 
 pub returns : goal.returns
-returns c sizes opened after later log deeds history e = record {
-  is_appended = is_appended later log.base log.past log.id log.sections log.logged history e.grown
-      e.stored e.places e.notes;
-  bytes = are_files later log.base log.past log.id log.sections log.logged history e.grown e.stored
-      e.places e.notes;
-  some = an_entry later log.base log.past log.id log.sections log.logged history e.grown e.stored
-      e.places e.notes;
-  order = in_order sizes later log deeds history (record {
-    grown = e.grown;
-    ordered = e.ordered;
-    stored = e.stored;
-    places = e.places;
-    in_log = e.in_log;
-    notes = e.notes;
-  });
-  dropped_exactly = exactly sizes opened after later log deeds history e;
-  segments = segments sizes opened after later log deeds history e;
-  no_other = no_other sizes opened after later log deeds history e;
-  put = is_put sizes opened after later log deeds history e;
-  rise = rise sizes opened after later log deeds history e;
-  tables = tables sizes opened after later log deeds history e;
-  others = others sizes opened after later log deeds history e;
-  no_stray = no_stray sizes opened after later log deeds history e;
-}
+returns c sizes opened after later log deeds history e =
+    let goes : GoesInOrder sizes later log deeds history = record {
+      grown = e.grown;
+      ordered = e.ordered;
+      stored = e.stored;
+      places = e.places;
+      in_log = e.in_log;
+      notes = e.notes;
+    } in record {
+      is_appended = is_appended later log.base log.past log.id log.sections log.logged history e.grown
+          e.stored e.places e.notes;
+      bytes = are_files later log.base log.past log.id log.sections log.logged history e.grown e.stored
+          e.places e.notes;
+      some = an_entry later log.base log.past log.id log.sections log.logged history e.grown e.stored
+          e.places e.notes;
+      order = in_order sizes later log deeds history goes;
+      only = only sizes later log deeds history goes e.folder.done.none_archived;
+      dropped_exactly = exactly sizes opened after later log deeds history e;
+      segments = segments sizes opened after later log deeds history e;
+      no_other = no_other sizes opened after later log deeds history e;
+      put = is_put sizes opened after later log deeds history e;
+      rise = rise sizes opened after later log deeds history e;
+      tables = tables sizes opened after later log deeds history e;
+      others = others sizes opened after later log deeds history e;
+      no_stray = no_stray sizes opened after later log deeds history e;
+    }

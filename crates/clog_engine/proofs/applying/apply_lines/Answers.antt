@@ -6,6 +6,7 @@ use Rattle.path_core.specs.declared.note.EntryNote.{EntryNote}
 use Rattle.path_core.specs.Keys.{first_offset}
 use Rattle.clog_lines.specs.Written.{
   AreLaidFor,
+  BringsOnly,
   HasBrought,
   HasWriteCause,
   LeavesLines,
@@ -24,10 +25,10 @@ use Rattle.clog_engine.proofs.Opened.{
   ended_applies,
   keeps_all,
   lasts_first,
+  left_alone,
   others,
   told_then,
   turns_run,
-  unchanged_on,
   wrote,
 }
 use Rattle.clog_engine.proofs.applying.apply_lines.Goals as goal
@@ -50,10 +51,9 @@ returns-in-Err-open-clause-applies g c left left_now f h bytes taken sized =
     (not_opened (g.D.Disk.files start) (g.D.Disk.files looked) (g.D.Disk.faults start)
     (g.D.Disk.faults looked) (g.D.Disk.faults now) refusal still.same.files still.later
     c.in-Err-open.ensures.refused)
-    (left_closed options refusal o _ c.in-Err-open.ensures.alone (λ alone.
-    unchanged_on (g.D.Disk.files start) (g.D.Disk.files looked) (g.D.Disk.files now)
-    (g.D.Disk.leaves start) (g.D.Disk.leaves looked) (g.D.Disk.leaves now) still.same alone.same)
-    kept))
+    (left_closed options refusal o _ c.in-Err-open.ensures.alone
+    (left_alone g.D.Disk g.C.Clock left left_now f h start looked c.args.clock.now
+    (g.met.D.Disk.only_now start) still now) kept))
 
 pub returns-in-Ok-report_of-clause-applies : goal.returns-in-Ok-report_of-clause-applies
 returns-in-Ok-report_of-clause-applies g c left left_now f h bytes taken sized =
@@ -106,8 +106,9 @@ returns-in-Ok-report_of-clause-applies g c left left_now f h bytes taken sized =
     let has_written = wrote g.D.Disk g.C.Clock left left_now f h start looked at only still opened
     c.now_ms.result store.notes.base opening.opens opening.any_moment opening.recovers now
     options ms (subst (λ (x : Bool). (log : List Write)
-    × HasBrought g.D.Disk.changes opened now x options.drain ms log) archives
-    (c.write_lines-disk.ensures.wrote ms laid_there)) in
+    × HasBrought g.D.Disk.changes opened now x options.drain ms log
+    × BringsOnly g.D.Disk.files opened now log) archives
+    (c.write_lines-disk.ensures.wrote ms laid_there)) c.write_lines-disk.ensures.told in
     let stays = others g.D.Disk g.C.Clock left left_now f h start looked at only still opened
     c.now_ms.result store.notes.base opening.opens opening.any_moment opening.recovers now
     c.write_lines-disk.ensures.told c.write_lines-disk.ensures.stay in

@@ -14,8 +14,8 @@ returns-in-Err-clause-gives g c =
     c.segment_name-name.ensures
     (segment_refused files (g.D.Disk.files c.find_file.new.disk) f
     (g.D.Disk.faults c.find_file.new.disk) k c.segment_name-name.result c.in-Err.refusal
-    c.folder_status.result c.folder_status.ensures c.in_ok-find_file.ensures.same.files
-    c.in_ok-find_file.ensures.later c.in-Err.ensures.gives)
+    c.folder_status.result c.folder_status.ensures c.in_ok-find_file.ensures.keeps.same.files
+    c.in_ok-find_file.ensures.keeps.later c.in-Err.ensures.gives)
 
 pub returns-in-Err-clause-quiet : goal.returns-in-Err-clause-quiet
 returns-in-Err-clause-quiet g c =

@@ -13,6 +13,10 @@ returns-in-Ok-clause-drains g c =
     drained_by (held c.args.store.now) (held c.flush_each.new.store) (held c.drop_all.new.store)
     c.args.memtables.now drops.0 c.requires.none c.in-Ok.ensures.flushes drops.1)
 
+pub returns-in-Ok-clause-begun : goal.returns-in-Ok-clause-begun
+returns-in-Ok-clause-begun g c upper reach begun =
+    c.drop_all.ensures.begun upper (c.flush_each.ensures.begun upper reach begun)
+
 pub returns-in-Ok-clause-lives : goal.returns-in-Ok-clause-lives
 returns-in-Ok-clause-lives g c lives =
     let D = g.D.Disk in

@@ -7,6 +7,7 @@ use Rattle.clog_memtable.specs.Flushing.{HasPutFiles, file_of, files_of}
 use Rattle.clog_memtable.proofs.Flushed.{next_may, nothing_put, one_more, refused_behind}
 use Rattle.clog_store.specs.StoreState.{StoreState, holding_of}
 use Rattle.clog_store.proofs.Lived.{lives_further, lives_still}
+use Rattle.clog_lines.proofs.Begins.{begun_put}
 use Rattle.clog_lines.proofs.Going.{keeps_put}
 use Rattle.clog_lines.proofs.Written.{ends_by}
 use Rattle.clog_lines.proofs.draining.flush_each.Goals as goal
@@ -64,6 +65,18 @@ returns-in-Err-clause-keeps g c =
     (refused_behind (held c.args.store.now) (held l.store) (held c.put_table.new.self) files
     (file_of c.memtable-item.result) l.invariant.put c.in-Err.ensures.refused)
 
+pub returns-in-Err-clause-begun : goal.returns-in-Err-clause-begun
+returns-in-Err-clause-begun g c upper reach =
+    let l = c.loop-memtable in
+    let D = g.D.Disk in
+    let held = λ (x : StoreState g.row.D.Denot).
+    holding_of D.files D.changes D.moment D.faults g.row.D.coded.code x in
+    begun_put upper c.args.memtables.now reach (held c.args.store.now)
+    (held c.put_table.new.self) l.memtable-index
+    (refused_behind (held c.args.store.now) (held l.store) (held c.put_table.new.self)
+    (files_of (take l.memtable-index c.args.memtables.now)) (file_of c.memtable-item.result)
+    l.invariant.put c.in-Err.ensures.refused)
+
 pub returns-in-Err-clause-ends : goal.returns-in-Err-clause-ends
 returns-in-Err-clause-ends g c =
     let l = c.loop-memtable in
@@ -108,6 +121,15 @@ returns-clause-keeps g c =
     holding_of D.files D.changes D.moment D.faults g.row.D.coded.code x in
     keeps_put (held c.args.store.now) (held l.store)
     (files_of (take l.memtable-index c.args.memtables.now)) l.invariant.put
+
+pub returns-clause-begun : goal.returns-clause-begun
+returns-clause-begun g c upper reach =
+    let l = c.loop-memtable in
+    let D = g.D.Disk in
+    let held = λ (x : StoreState g.row.D.Denot).
+    holding_of D.files D.changes D.moment D.faults g.row.D.coded.code x in
+    begun_put upper c.args.memtables.now reach (held c.args.store.now) (held l.store)
+    l.memtable-index l.invariant.put
 
 pub returns-clause-ends : goal.returns-clause-ends
 returns-clause-ends g c = record { stopped = c.loop-memtable.invariant.runs; counts = tt }

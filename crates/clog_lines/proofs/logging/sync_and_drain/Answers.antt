@@ -6,6 +6,8 @@ use Rattle.clog_memtable.proofs.Touching.{may_flush}
 use Rattle.clog_store.specs.StoreState.{StoreState, holding_of}
 use Rattle.clog_store.proofs.Lived.{lives_further}
 use Rattle.clog_store.proofs.Outcomes.{ok_then}
+use Rattle.clog_layout.specs.Laid.{synced_to}
+use Rattle.clog_lines.proofs.Begins.{begun_of_none, reach_of}
 use Rattle.clog_lines.proofs.Going.{logged_on, on_err}
 use Rattle.clog_lines.proofs.logging.sync_and_drain.Goals as goal
 
@@ -43,6 +45,11 @@ returns-in-Ok-clause-refused g c =
       refl,
       logged_on (held c.args.store.now) (held c.sync_notes.new.store)
           (held c.drain.new.store) c.args.notes.items c.in-Ok.ensures.logs c.drain.ensures.keeps,
+      c.drain.ensures.begun (synced_to c.args.notes.items)
+          (reach_of c.args.notes.items (synced_to c.args.notes.items) most_tables
+          c.args.memtables.now c.requires.are)
+          (begun_of_none (held c.sync_notes.new.store) (synced_to c.args.notes.items)
+          c.in-Ok.ensures.alone),
     ))
 
 pub returns-in-Ok-clause-lives : goal.returns-in-Ok-clause-lives

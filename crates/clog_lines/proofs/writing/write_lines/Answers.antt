@@ -5,6 +5,7 @@ use Rattle.clog_disk.specs.Images.{IsLater}
 use Rattle.clog_store.specs.StoreState.{StoreState, holding_of}
 use Rattle.clog_crash.specs.Log.{Write}
 use Rattle.clog_lines.specs.Written.{
+  BringsOnly,
   HasBrought,
   HasWriteCause,
   LeavesLines,
@@ -12,6 +13,7 @@ use Rattle.clog_lines.specs.Written.{
   least_of,
 }
 use Rattle.clog_lines.proofs.Written.{
+  brings_of,
   brought_of,
   cause_of,
   shown_of,
@@ -31,18 +33,17 @@ returns-clause-shown g c mutations opened out is lasted =
     let r = c.log_notes-outcome.result in
     let drain = c.args.drain in
     let code = g.row.D.coded.code in
+    let has = brought_of D.files D.changes D.moment D.faults D.since D.leaves D.read_at D.lasted_at
+    code g.met.D.Disk.tells_both g.met.D.Disk.reads_now a b c.requires.fresh c.requires.runs
+    asked.first notes drain told.alone told.ordered told.settled told.notes told.sound mutations
+    out r asked.logs asked.refused in
     subst (λ (d : g.row.D.Denot). LeavesLines D.changes D.moment D.since D.leaves
     a.notes.log.disk d (bytes_at opened) a.archives drain mutations (least_of r mutations))
     (sym told.disk)
     (shown_of D.files D.changes D.moment D.faults D.since D.leaves D.read_at D.lasted_at code
     g.met.D.Disk.tells_both g.met.D.Disk.reads_now a b c.requires.fresh c.requires.runs
     asked.first notes drain told.notes asked.lives c.requires.lives told.opened told.stored
-    mutations opened out is lasted
-    (brought_of D.files D.changes D.moment D.faults D.since D.leaves D.read_at D.lasted_at code
-    g.met.D.Disk.tells_both g.met.D.Disk.reads_now a b c.requires.fresh c.requires.runs
-    asked.first notes drain told.alone told.ordered told.notes told.sound mutations out r
-    asked.logs asked.refused)
-    r asked.logs asked.refused)
+    mutations opened out is lasted has.0 has.1 r asked.logs asked.refused)
 
 pub returns-clause-wrote : goal.returns-clause-wrote
 returns-clause-wrote g c mutations out =
@@ -54,12 +55,17 @@ returns-clause-wrote g c mutations out =
     let told = c.into_disk.ensures in
     let r = c.log_notes-outcome.result in
     let drain = c.args.drain in
+    let code = g.row.D.coded.code in
     let has = brought_of D.files D.changes D.moment D.faults D.since D.leaves D.read_at D.lasted_at
-    g.row.D.coded.code g.met.D.Disk.tells_both g.met.D.Disk.reads_now a b c.requires.fresh
-    c.requires.runs asked.first notes drain told.alone told.ordered told.notes told.sound mutations
+    code g.met.D.Disk.tells_both g.met.D.Disk.reads_now a b c.requires.fresh c.requires.runs
+    asked.first notes drain told.alone told.ordered told.settled told.notes told.sound mutations
     out r asked.logs asked.refused in
+    let brings = brings_of D.files D.changes D.moment D.faults D.since D.leaves D.read_at
+    D.lasted_at code g.met.D.Disk.tells_both g.met.D.Disk.reads_now a b c.requires.fresh
+    c.requires.runs asked.first notes drain told.left in
     subst (λ (d : g.row.D.Denot). (log : List Write) × HasBrought D.changes a.notes.log.disk d
-    a.archives drain mutations log) (sym told.disk) (_, has)
+    a.archives drain mutations log × BringsOnly D.files a.notes.log.disk d log) (sym told.disk)
+    (_, has.0, brings)
 
 pub returns-clause-stay : goal.returns-clause-stay
 returns-clause-stay g c opened now is is_now =

@@ -83,7 +83,9 @@ loop-worker-preserved g c =
           (one_gathered id t.size ms w rest xs l.first c.end_share-seat.result.1 now s before
           (c.end_share-seat.ensures.ends (length xs) (share_of t.size.seats (length xs) ms)
           (next_logged id t.size ms w rest xs l.first before))
-          c.end_share-seat.ensures.stops c.first_of-first.ensures.none
+          c.end_share-seat.ensures.stops
+          (c.end_share-seat.ensures.spent (length xs) (share_of t.size.seats (length xs) ms)
+          (next_logged id t.size ms w rest xs l.first before)) c.first_of-first.ensures.none
           c.first_of-first.ensures.one);
       room =
           let len = subst (λ b. vec_len c.push.new.self

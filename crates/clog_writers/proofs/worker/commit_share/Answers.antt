@@ -23,4 +23,5 @@ returns g c = λ number lines ready.
           (subst (λ (v : _). ArePrepared c.args.sizes lines v.items)
           (sym c.replace-writes.ensures.value) ready.1));
       stops = w.ensures.stops;
+      spent = w.ensures.spent;
     }

@@ -31,6 +31,7 @@ use Rattle.clog_writers.proofs.Committing.{
   spent,
   where_logged,
   where_refused,
+  where_spent,
 }
 use Rattle.clog_writers.proofs.worker.commit_writes.Goals as goal
 
@@ -114,6 +115,27 @@ returns-in-Some-refusal_in-clause-logs g c = λ lines prepared.
     (subst (λ (ps : List Prepared). GoesOn c.args.sizes w lines ps (logged_by l.seat.member))
     c.in-Some.ensures.steps.0 (I.goes lines prepared)))
     (λ none. absurd (none-some fault (sym none)))
+
+pub returns-in-Some-refusal_in-clause-spent : goal.returns-in-Some-refusal_in-clause-spent
+returns-in-Some-refusal_in-clause-spent g c = λ is.
+    let l = c.loop-prepared in let I = l.invariant in let w = c.args.seat.member.number in
+    let size = c.args.path.now.table.size in
+    let fault = c.in-Some-refusal_in.fault in
+    let p = c.in-Some.prepared in
+    let before = (view_of l.seat.member).trail in
+    let v = view_of c.commit-next.result.0.member in
+    let done = subst (λ (mode : SyncCore). IsCommitted mode size l.seat.member.number before p
+    c.commit-next.result.1 v) c.requires.periodic.1 c.commit-next.ensures.committed in
+    let found = where_spent c.requires.periodic.0 size l.seat.member.number before p v
+    c.commit-next.result.1 fault done (sym c.refusal_in.ensures ∙ c.in-Some-refusal_in.is) in
+    let some = c.requires.prepared in
+    let goes = subst (λ (ps : List Prepared). GoesOn c.args.sizes w some.0 ps
+    (logged_by l.seat.member)) c.in-Some.ensures.steps.0 (I.goes some.0 some.1) in
+    let next = next_of c.args.sizes w some.0 p c.next.new.self.rest.items
+    (logged_by l.seat.member) goes in
+    let fits = next.prepared.fits in let long = next.prepared.size in
+    let same = c.requires.sized.capacity in
+    (p.size, found.0, omega (arith, fits, long, same), found.1)
 
 pub returns-clause-same : goal.returns-clause-same
 returns-clause-same g c = c.loop-prepared.invariant.same

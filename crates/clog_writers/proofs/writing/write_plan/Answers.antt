@@ -1,4 +1,4 @@
-use Rattle.std.proofs.Common.{◌≡◌, ℕ, List, false, length, sym, ◌∙◌, ap, subst}
+use Rattle.std.proofs.Common.{◌≡◌, ℕ, List, length, sym, ◌∙◌, ap, subst}
 use Rattle.std.specs.Prelude.{IfOk}
 use Rattle.std.specs.Global.{Vec}
 use Rattle.clog_base.specs.declared.sizes.Sizes.{Sizes}
@@ -134,3 +134,7 @@ returns-clause-written g c = λ ms options opened made plan asked is made_is.
     (told.folder runs) options a.archives
     (subst (λ (z : Sizes). IsAskedBy options z a.archives) (sym c.requires.sizes) asked) xs placed
     (lent ∙ plan.receipts) opened made is made_is))))
+
+pub returns-clause-spent : goal.returns-clause-spent
+returns-clause-spent g c = λ ms plan is.
+    c.log_shares-store.ensures.spent ms plan.dealt (c.ended-outcome.ensures.spent is)

@@ -1,10 +1,11 @@
-use Rattle.std.proofs.Common.{List, false, sym, ap, subst}
+use Rattle.std.proofs.Common.{◌≡◌, List, sym, ap, subst}
 use Rattle.std.specs.Prelude.{Err}
 use Rattle.std.specs.Global.{Vec}
 use Rattle.clog_crash.specs.Log.{Write}
 use Rattle.write_path.specs.declared.commit.Receipt.{Receipt}
+use Rattle.clog_writers.specs.declared.fault.WriteFault.TheVariants.{Spent}
 use Rattle.clog_writers.specs.Written.{AppendsLog, HasShareCause}
-use Rattle.clog_writers.proofs.Told.{brought, planned_cause, still_alone}
+use Rattle.clog_writers.proofs.Told.{brought, not_spent, planned_cause, refused_by, still_alone}
 use Rattle.clog_writers.proofs.writing.write_shares.Goals as goal
 
 pub returns-in-Err-clause-wrote : goal.returns-in-Err-clause-wrote
@@ -31,3 +32,9 @@ returns-in-Err-clause-cause g c =
     (planned_cause (Vec Receipt) (D.faults a.notes.log.disk) (D.faults c.into_disk.result)
     c.in-Err.fault
     (ap D.faults c.into_disk.ensures.disk))
+
+pub returns-in-Err-clause-spent : goal.returns-in-Err-clause-spent
+returns-in-Err-clause-spent g c = λ is.
+    absurd (not_spent (Vec Receipt) c.in-Err.fault
+    (subst (λ f. refused_by (Vec Receipt) f ≡ refused_by (Vec Receipt) Spent)
+    c.unplanned.ensures is))

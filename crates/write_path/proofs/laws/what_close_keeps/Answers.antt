@@ -1,8 +1,11 @@
-use Rattle.write_path.proofs.Promises.{done_logged, durable_apart, durable_logged}
+use Rattle.write_path.proofs.Promises.{done_logged, durable_apart, durable_logged, durable_marked}
 use Rattle.write_path.proofs.laws.what_close_keeps.Goals as goal
 
 pub returns-clause-durable : goal.returns-clause-durable
 returns-clause-durable g c = durable_logged
+
+pub returns-clause-marked : goal.returns-clause-marked
+returns-clause-marked g c = durable_marked
 
 pub returns-clause-done : goal.returns-clause-done
 returns-clause-done g c = done_logged

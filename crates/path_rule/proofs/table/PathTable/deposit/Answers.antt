@@ -1,8 +1,10 @@
 use Rattle.std.proofs.Common.{refl, ap, ◌∙◌, arith}
 use Rattle.atomic_table.specs.Table.{rest}
+use Rattle.path_core.specs.Parts.{seat_table}
 use Rattle.path_rule.specs.declared.view.View.{View}
 use Rattle.path_rule.specs.Lasts.{beside_of, shows_of}
 use Rattle.path_rule.proofs.moves.DepositSteps.{deposits}
+use Rattle.path_rule.proofs.seats.Accepting.{untried}
 use Rattle.path_rule.proofs.table.PathTable.deposit.Goals as goal
 
 pub fetch_sub-requires : goal.fetch_sub-requires
@@ -32,3 +34,10 @@ pub returns-clause-step : goal.returns-clause-step
 returns-clause-step g c = let m = c.args.member.now in
     λ note has. let d = c.fetch_sub.ensures.2 m.number c.args.group note m.role
     c.requires.group.0 refl has in record { view = d.0.0; was = d.0.1 }
+
+pub returns-clause-untried : goal.returns-clause-untried
+returns-clause-untried g c = let m = c.args.member.now in let n = c.requires.note in
+    let d = c.fetch_sub.ensures.2 m.number c.args.group n.0 m.role c.requires.group.0
+    refl n.5 in
+    λ t. ap (λ (v : View). (seat_table v.part t).trying) d.0.0
+    ∙ untried m.seat.me.0 m.number c.args.group n.0 d.0.1 t

@@ -15,7 +15,7 @@ returns-clause-outcome g c = let size = c.args.self.table.size in
     λ r. IsOutcome size seats r.1 (g.K.Keeper.holds r.0) in
     elim c.match-opener.branch [
       | in-Some w ↦ subst P (sym w.keeper-is) (unused_outcome size o seats w.finish_unused.result.1
-          (g.K.Keeper.holds w.finish_unused.result.0)
+          (g.K.Keeper.holds w.finish_unused.result.0) c.args.self.table.fits
           (subst (λ o. AreAll o size.seats (numbers_of seats)) w.in-Some.is c.requires.all)
           w.finish_unused.ensures)
       | in-None w ↦ subst P (sym w.keeper-is) (outcome size o seats w.close_by_all.result.1

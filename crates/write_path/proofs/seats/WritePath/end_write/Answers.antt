@@ -1,5 +1,5 @@
 use Rattle.std.proofs.Common.{◌≡◌, suc, ◌+◌, subst, arith}
-use Rattle.write_path.specs.Ends.{IsPlacedBelow}
+use Rattle.write_path.specs.Ends.{IsPlacedBelow, IsUntriedFrom}
 use Rattle.write_path.proofs.PlacedAt.{same_then}
 use Rattle.write_path.proofs.seats.WritePath.end_write.Goals as goal
 
@@ -10,4 +10,5 @@ loop-table-preserved g c =
       same = same_then t.table.shared.table_id t.size c.args.seat c.loop-table.seat P.result I.same
           P.ensures.same;
       placed = subst (λ k. IsPlacedBelow k P.result) up (P.ensures.placed I.placed);
+      untried = subst (λ k. IsUntriedFrom k P.result) up P.ensures.untried;
     }

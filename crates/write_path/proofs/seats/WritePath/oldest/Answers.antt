@@ -43,7 +43,7 @@ returns-clause-same g c =
       tables = refl;
       list = ap (λ (v : View). writes_of v.trail) d.view;
       tried = record {
-        looks = record {
+        tries = record {
           event = Look c.args.seat.now.member.number (CursorWord (OldestLive c.args.table));
           found = c.look_oldest_live.result;
           filed = false;
@@ -58,6 +58,6 @@ returns-clause-same g c =
 pub returns-clause-tries : goal.returns-clause-tries
 returns-clause-tries g c =
     let s = c.args.seat.now in let t = c.args.table.0 in
-    λ touched. c.look_oldest_live.ensures.tries
+    λ touched none. c.look_oldest_live.ensures.tries
     (ap (λ (o : Option ℕ). option_map_or (λ (tables : ℕ). touches tables t) o false) s.noted
-    ∙ touched) ∙ ap (λ (n : ℕ). Some n) (sym c.look_oldest_live.ensures.first)
+    ∙ touched) none

@@ -1,0 +1,283 @@
+-- The steps of a memtable's switch, by the holder of its table's turn: the next memtable is made,
+-- the one below it is marked, raised and made final.
+use Rattle.std.proofs.Common.{
+  ◌≡◌,
+  ℕ,
+  suc,
+  ◌+◌,
+  ◌*◌,
+  ◌%◌,
+  ◌^◌,
+  ◌<◌,
+  ◌≤◌,
+  Bool,
+  true,
+  false,
+  [],
+  ◌∷◌,
+  length,
+  Option,
+  Some,
+  None,
+  is_some,
+  refl,
+  sym,
+  ap,
+  ◌∙◌,
+  subst,
+  arith,
+  get_or-set_same,
+  get_or-set_other,
+}
+use Rattle.std.specs.Prelude.{slice_index}
+use Rattle.std.specs.Option.{option_and_then, option_map}
+use Rattle.std.proofs.lemmas.List.{length-append}
+use Rattle.std.proofs.lemmas.Option.{none-some, same_Some}
+use mathlib.Core.Logic.{dite, inr}
+use mathlib.Core.Option.{none, some}
+use native.Mathlib.Decide.{ℕ_discrete}
+use lib.ListN.{get_elem?}
+use Rattle.atomic_table.specs.Table.{State, Me, step, Allows}
+use Rattle.clog_base.specs.declared.cell.Table.{Table}
+use Rattle.op_core.specs.declared.count.Order.{Order}
+use Rattle.op_core.specs.declared.count.Order.TheVariants.{Write, Append}
+use Rattle.path_core.specs.declared.event.Event.TheVariants.{Switch, Finalise}
+use Rattle.path_core.specs.declared.event.Place.TheVariants.{Bound}
+use Rattle.path_core.specs.declared.event.SwitchPart.TheVariants.{Open, Mark}
+use Rattle.path_core.specs.declared.seat.FlushTurn.{FlushTurn}
+use Rattle.path_core.specs.declared.seat.Marked.{Marked}
+use Rattle.path_core.specs.declared.seat.Seat.{Seat}
+use Rattle.path_core.specs.declared.seat.Switching.{Switching}
+use Rattle.path_core.specs.declared.seat.Switching.TheVariants.{Begun, Marked as MarkedStage}
+use Rattle.path_core.specs.declared.state.Bound.{Bound as BoundOf}
+use Rattle.path_core.specs.declared.state.Bound.TheVariants.{Live, Raising}
+use Rattle.path_core.specs.declared.state.PathState.{PathState}
+use Rattle.path_core.specs.Allowed.{IsStep}
+use Rattle.path_core.specs.LawfulTables.{MarkedIsRaising}
+use Rattle.path_core.specs.Next.{next_of}
+use Rattle.path_core.specs.Parts.{
+  fresh_memtable,
+  fresh_table,
+  groups_of,
+  key_of_bound,
+  marked_in,
+  marked_of,
+  memtable_of,
+  seat_of,
+  seat_table,
+  stage_of,
+  table_of,
+}
+use Rattle.path_core.specs.SeatAfter.{seat_after}
+use Rattle.path_core.specs.SeatParts.{made_final}
+use Rattle.path_core.specs.Words.{reading}
+use Rattle.path_core.proofs.tables.StageTells.{stage_exact}
+use Rattle.path_rule.specs.declared.lasting.Beside.{Beside}
+use Rattle.path_rule.specs.declared.lasting.Lasting.{Lasting}
+use Rattle.path_rule.specs.declared.slot.Slot.{Slot}
+use Rattle.path_rule.specs.declared.view.PathSize.{PathSize}
+use Rattle.path_rule.specs.declared.view.Role.TheVariants.{Steps}
+use Rattle.path_rule.specs.declared.view.View.{View}
+use Rattle.path_rule.specs.Lasts.{shown}
+use Rattle.path_rule.specs.Layout.{bound_word, reading_at, word_of}
+use Rattle.path_rule.specs.Rule.{HasRows, Ruled, Was, told_by, view_after}
+use Rattle.path_rule.specs.TableTold.{MemtableFinal, MemtableMarked, MemtableOpened}
+use Rattle.path_rule.specs.Told.{Made}
+use Rattle.path_rule.specs.Switches.{FlushNewest, FlushOldest}
+use Rattle.path_rule.proofs.boxes.HeldBoxes.{boxed_stay}
+use Rattle.path_rule.proofs.moves.BoundSteps.{RaisesNow, each_bound_name}
+use Rattle.path_rule.proofs.moves.Looks.{acts, few_tables, own_part, within}
+use Rattle.path_rule.proofs.moves.Moving.{core_lawful, was}
+use Rattle.path_rule.proofs.moves.TableTurns.{each_table_name, held_at}
+use Rattle.path_rule.proofs.places.ReadBack.{log_small, read_back, rows_stay}
+
+-- the turn that is at a stage
+pub turn_at : (o : Option FlushTurn) (k : Switching)
+    → option_map (λ (turn : FlushTurn). turn.stage) o ≡ Some k
+    → (turn : FlushTurn) × (o ≡ Some turn) × (turn.stage ≡ k)
+turn_at None k e = absurd (none-some k e)
+turn_at (Some turn) k e = (turn, refl, same_Some turn.stage k e)
+
+-- a stage at which a memtable is marked tells it
+pub marked_at : (p : Seat) (t : ℕ) (k : Marked) → stage_of p t ≡ Some (MarkedStage k)
+    → marked_of p t ≡ Some k
+marked_at p t k at = let turn = turn_at (seat_table p t).flush (MarkedStage k) at in
+    ap (λ (o : Option FlushTurn). option_and_then (λ (turn : FlushTurn). marked_in turn.stage) o)
+    turn.1 ∙ ap marked_in turn.2
+
+-- the word of a bound that is made final
+final_word : (b : BoundOf) (k : ℕ) → b ≡ Raising (record { 0 = k }) → k < 2 ^ 62
+    → (bound_word b + 2 ^ 62) % 2 ^ 64 ≡ bound_word (made_final b)
+final_word b k is low = subst (λ (c : BoundOf).
+    (bound_word c + 2 ^ 62) % 2 ^ 64 ≡ bound_word (made_final c)) (sym is) (omega arith)
+
+-- One memtable more has a word.
+rows_opened : (x : PathState) (w : ℕ) (t : Table) (f : ℕ) → HasRows x → t.0 < length x.tables
+    → length (table_of x t.0).memtables < 256 → HasRows (next_of x (Switch w t f Open))
+rows_opened x w t f rows inside few = record {
+  groups = λ o. by o;
+  memtables = λ u. dite (ℕ_discrete u t.0)
+      (λ same. let l = length-append (table_of x t.0).memtables (fresh_memtable ∷ []) in
+      subst (λ k. length (table_of (next_of x (Switch w t f Open)) k).memtables ≤ 256) (sym same)
+      (subst (λ q. length q.memtables ≤ 256)
+      (sym (get_or-set_same x.tables t.0 _ fresh_table inside)) (omega arith)))
+      (λ apart. subst (λ q. length q.memtables ≤ 256)
+      (sym (get_or-set_other x.tables t.0 u _ fresh_table apart)) (rows.memtables u));
+}
+  where
+    by : (o : Order) → length (groups_of (next_of x (Switch w t f Open)) o).tallies ≤ 65536
+    by Write = rows.groups Write
+    by Append = rows.groups Append
+
+module _ {K : Type 0} (shows : K → Lasting) (o : Beside) (size : PathSize) (slots id : ℕ)
+    (m : Me (Slot K) View) (w : ℕ) (mine : m.0.role ≡ Steps w) where
+  module _ (s : State (Slot K) View) (r : Ruled shows o size s)
+      (there : get_elem? s.views id ≡ some m.0) where
+    -- what the holder of a table's turn found of its memtables is exact
+    pub newest_is : (t n : ℕ) → FlushNewest t m.0.part n → n ≡ (table_of r.core t).newest
+    newest_is t n F = (((core_lawful shows o size s r).seats_know w).flush t F.0
+        (own_part shows o size slots id m w mine s r there (λ (p : Seat). (seat_table p t).flush)
+        (Some F.0) F.1)).newest n F.2
+
+    pub oldest_is : (t n : ℕ) → FlushOldest t m.0.part n → n ≡ (table_of r.core t).oldest_live
+    oldest_is t n F = (((core_lawful shows o size s r).seats_know w).flush t F.0
+        (own_part shows o size slots id m w mine s r there (λ (p : Seat). (seat_table p t).flush)
+        (Some F.0) F.1)).oldest_live n F.2
+
+    pub stage_now : (t : ℕ) (k : Switching) → stage_of m.0.part t ≡ Some k
+        → stage_of (seat_of r.core w) t ≡ Some k
+    stage_now t k = own_part shows o size slots id m w mine s r there
+        (λ (p : Seat). stage_of p t) (Some k)
+
+    pub marked_now : (t : ℕ) (k : Marked) → stage_of m.0.part t ≡ Some (MarkedStage k)
+        → MarkedIsRaising r.core.log (table_of r.core t) k
+    marked_now t k at = stage_exact r.core (core_lawful shows o size s r) w t (MarkedStage k)
+        (stage_now t (MarkedStage k) at)
+
+  pub opens_memtable : (t : Table) (f n : ℕ) → t.0 < 16 → t.0 < m.0.size.tables
+      → FlushNewest t.0 m.0.part n → FlushOldest t.0 m.0.part n → f ≡ suc n → f < 256
+      → Allows (Ruled shows o size) slots id m (8 + 4 * t.0) (λ _. f)
+      (λ _. MemtableOpened (step slots (8 + 4 * t.0) f 0 none) m f)
+  opens_memtable t f n few inside newest oldest up small s r _ there _ = let x = r.core in
+      let e = Switch w t f Open in let v' = view_after m.0 e f false in
+      let L = core_lawful shows o size s r in
+      let new = newest_is s r there t.0 n newest in
+      let old = oldest_is s r there t.0 n oldest in
+      let held = ap (λ (k : Option FlushTurn). is_some k)
+      (own_part shows o size slots id m w mine s r there
+      (λ (p : Seat). (seat_table p t.0).flush) (Some newest.0) newest.1) in
+      let long = (L.switches.tables t.0).bounds_rise.made in
+      let within_tables = few_tables shows o size slots id m w mine s r there t.0 inside in
+      let may : IsStep x e = record {
+        seat = within shows o size slots id m w mine s r there;
+        is_there = within_tables;
+        row = (held, sym old ∙ new, up ∙ ap suc new);
+      } in
+      acts shows o size slots id m w mine s r there e refl may tt tt few
+      (rows_opened x w t f r.rows within_tables (omega arith)) f f refl refl
+      (λ C. boxed_stay shows size.seats x.notes
+      (shown o size.at_open r.kept_to x) x.claims x.claims x.append x.append s.homes s.views r.boxed
+      id w m.0 v' there mine refl refl refl (λ i g l _ _. (l, refl)) refl C.append C.issue refl)
+      (MemtableOpened (step slots (8 + 4 * t.0) f 0 none) m f)
+      (λ u z q role _ word. each_table_name shows o size slots id m w mine 8 t
+      (λ z q. Made z (Switch z q f Open) f m (v', m.1)) ((refl, u), refl) z q role word)
+
+  pub marks_memtable : (t : Table) (f : ℕ) → t.0 < 16 → f < 256 → t.0 < m.0.size.tables
+      → stage_of m.0.part t.0 ≡ Some (Begun (suc f))
+      → Allows (Ruled shows o size) slots id m (131144 + 16 * f + t.0) (λ _. 2 ^ 62)
+      (λ _. MemtableMarked (step slots (131144 + 16 * f + t.0) (2 ^ 62) 0 none) m (2 ^ 62))
+  marks_memtable t f few small inside at s r _ there _ = let x = r.core in
+      let e = Switch w t f Mark in let v' = view_after m.0 e (2 ^ 62) false in
+      let L = core_lawful shows o size s r in
+      let now = stage_now s r there t.0 (Begun (suc f)) at in
+      let B = stage_exact x L w t.0 (Begun (suc f)) now in
+      let new = B.newest in let before = B.before in
+      let same : B.below ≡ f = omega arith in
+      let long = (L.switches.tables t.0).bounds_rise.made in
+      let may : IsStep x e = record {
+        seat = within shows o size slots id m w mine s r there;
+        is_there = (
+          few_tables shows o size slots id m w mine s r there t.0 inside,
+          omega arith,
+        );
+        row = (
+          held_at (seat_table (seat_of x w) t.0).flush (Begun (suc f)) now,
+          new,
+          subst (λ k. (memtable_of x t.0 k).bound ≡ Live) same B.live,
+        );
+      } in
+      acts shows o size slots id m w mine s r there e refl may tt tt (few, small)
+      (rows_stay x e may (λ q. q) r.rows) (2 ^ 62) (2 ^ 62) refl refl
+      (λ C. boxed_stay shows size.seats x.notes
+      (shown o size.at_open r.kept_to x) x.claims x.claims x.append x.append s.homes s.views r.boxed
+      id w m.0 v' there mine refl refl refl (λ i g l _ _. (l, refl)) refl C.append C.issue refl)
+      (MemtableMarked (step slots (131144 + 16 * f + t.0) (2 ^ 62) 0 none) m (2 ^ 62))
+      (λ u z h q role high word. each_bound_name shows o size slots id m w mine t f 0
+      (λ z q h key. Made z (Switch z q h Mark) (2 ^ 62) m (v', m.1)) ((refl, u), refl)
+      z q h 0 role few high word refl)
+
+  -- the holder of the table's turn may raise what it marked to the log key that it found since
+  pub holder_raises : (t f to : ℕ) (raised : Bool)
+      → stage_of m.0.part t
+      ≡ Some (MarkedStage (record { memtable = f; key = Some to; raised = raised }))
+      → (s : State (Slot K) View) (r : Ruled shows o size s) → get_elem? s.views id ≡ some m.0
+      → RaisesNow r.core w t f to
+  holder_raises t f to raised at s r there =
+      let k : Marked = record { memtable = f; key = Some to; raised = raised } in
+      let M = marked_now s r there t k at in let x = r.core in
+      let long = ((core_lawful shows o size s r).switches.tables t).bounds_rise.made in
+      let below = M.below_newest in record {
+        made = omega arith;
+        above = λ live. let q = sym M.raising ∙ live in cc;
+        low = (M.fresh to refl).1;
+        raiser = inr (record {
+          raised = raised;
+          marked = marked_at (seat_of x w) t k (stage_now s r there t (MarkedStage k) at);
+        });
+      }
+
+  pub finalises : (t : Table) (f : ℕ) (key : Option ℕ) → t.0 < 16 → f < 256
+      → t.0 < m.0.size.tables
+      → stage_of m.0.part t.0
+      ≡ Some (MarkedStage (record { memtable = f; key = key; raised = true }))
+      → Allows (Ruled shows o size) slots id m (131144 + 16 * f + t.0)
+      (λ n. (n + 2 ^ 62) % 2 ^ 64)
+      (MemtableFinal (step slots (131144 + 16 * f + t.0) (2 ^ 62) 0 none) m)
+  finalises t f key few small inside at s r _ there _ =
+      let i : ℕ = 131144 + 16 * f + t.0 in let n = slice_index s.words i in let x = r.core in
+      let L = core_lawful shows o size s r in
+      let k : Marked = record { memtable = f; key = key; raised = true } in
+      let M = marked_now s r there t.0 k at in
+      let b = (memtable_of x t.0 f).bound in
+      let found : n ≡ bound_word b = r.words (Bound t f) (few, small) in
+      let e = Finalise w t f in let v' = view_after m.0 e n false in
+      let long = (L.switches.tables t.0).bounds_rise.made in let next = M.below_newest in
+      let below = (L.switches.tables t.0).bounds_rise.below_log f in
+      let top = log_small x L in
+      let low : M.bound.0 < 2 ^ 62 = subst (λ (c : BoundOf). key_of_bound c < 2 ^ 62) M.raising
+      (omega arith) in
+      let may : IsStep x e = record {
+        seat = within shows o size slots id m w mine s r there;
+        is_there = (
+          few_tables shows o size slots id m w mine s r there t.0 inside,
+          omega arith,
+        );
+        row = record {
+          key = key;
+          marked = marked_at (seat_of x w) t.0 k (stage_now s r there t.0 (MarkedStage k) at);
+        };
+      } in
+      acts shows o size slots id m w mine s r there e refl may tt tt (few, small)
+      (rows_stay x e may (λ q. q) r.rows) ((n + 2 ^ 62) % 2 ^ 64) n
+      (ap (λ z. (z + 2 ^ 62) % 2 ^ 64) found ∙ final_word b M.bound.0 M.raising low)
+      (ap (λ k. seat_after m.0.part e k (told_by false m.0.hands))
+      (ap (reading_at (Bound t f)) found ∙ read_back x L (Bound t f)))
+      (λ C. boxed_stay shows size.seats x.notes
+      (shown o size.at_open r.kept_to x) x.claims x.claims x.append x.append s.homes s.views r.boxed
+      id w m.0 v' there mine refl refl refl (λ i g l _ _. (l, refl)) refl C.append C.issue refl)
+      (MemtableFinal (step slots i (2 ^ 62) 0 none) m n)
+      (λ u z h q role high word. each_bound_name shows o size slots id m w mine t f 0
+      (λ z q h key. Made z (Finalise z q h) n m (v', m.1)
+      × ((was : Was m.0 z (Finalise z q h)) × (word_of (reading was.core (Bound q h)) ≡ n)))
+      (((refl, u), refl), (was shows o size s r id w m.0 there mine e may tt, sym found))
+      z q h 0 role few high word refl)
