@@ -5,7 +5,6 @@ use Rattle.std.proofs.Common.{
   inl,
   inr,
   Bool,
-  true,
   false,
   List,
   [],
@@ -19,7 +18,6 @@ use Rattle.std.proofs.Common.{
   subst,
 }
 use Rattle.std.specs.Prelude.{Contains, if◌then◌else◌}
-use Rattle.std.proofs.lemmas.Bool.{true≢false}
 use Rattle.std.proofs.lemmas.List.{take-append-drop}
 use Rattle.std.proofs.lemmas.List.Elements.{Contains-append_cases, Contains-append_left}
 use Rattle.clog_base.proofs.Members.{from_map, nothing_there}

@@ -50,6 +50,7 @@ use Rattle.clog_crash.proofs.life.Runs.{placed-append}
 use Rattle.clog_crash.proofs.rest.Sectioned.{stored_front}
 use Rattle.clog_table.specs.declared.table_file.TableFile.{TableFile}
 use Rattle.path_core.specs.declared.note.EntryNote.{EntryNote}
+use Rattle.path_core.specs.History.{IsHistory}
 use Rattle.path_core.specs.Keeper.{Holding, PutFile}
 use Rattle.clog_store.specs.NoteLog.{HasLog, IsNoteLog}
 use Rattle.clog_store.specs.Notes.{places_of}
@@ -58,9 +59,13 @@ use Rattle.clog_store.specs.StoreFolder.{Deeds, IsSound, StoreLog, log_of}
 use Rattle.clog_store.specs.StoreOrder.{AreOrdered, AreSettled}
 use Rattle.clog_store.specs.StoreState.{HasGrown, HasOrdered, StoreState, deeds_by}
 use Rattle.clog_store.proofs.OrderGoes.{ordered_appended}
+use Rattle.clog_applied.specs.Appended.{IsAppended}
+use Rattle.clog_applied.specs.Closed.{IsAnyFile}
+use Rattle.clog_applied.specs.Early.{AreInOrder}
 use Rattle.clog_applied.specs.Filed.{IsTrueFor}
 use Rattle.clog_applied.specs.History.{LoggedLine}
 use Rattle.clog_layout.specs.Laid.{synced_to}
+use Rattle.clog_layout.specs.Logged.{AreLaidLines, AreNotesOf}
 use Rattle.clog_layout.proofs.Standing.{parted}
 use Rattle.clog_closing.specs.Stores.{GoesInOrder, files_by, ids_in}
 use Rattle.clog_closing.proofs.Logs.{is_appended}
@@ -68,7 +73,7 @@ use Rattle.clog_closing.proofs.StoreOnly.{come_last, only}
 use Rattle.clog_closing.proofs.StoreOrdered.{in_order as runs_in_order}
 use Rattle.clog_closing.proofs.Tables.{is_true}
 use Rattle.clog_lines.specs.Written.{AreLaidFor, HasGoneInOrder}
-use Rattle.clog_lines.proofs.Leaving.{history, in_order, is_a_history, lines}
+use Rattle.clog_lines.proofs.Leaving.{history as history_of, in_order, is_a_history, lines}
 
 -- ---- sections that hold nothing more
 
@@ -113,11 +118,8 @@ between past id part more count all few whole first =
 
 module _ {D : Type 0} (changes : D → Option (List Change)) (b : StoreState D)
     (ordered : HasOrdered changes b) (notes : IsNoteLog b.notes) (sound : IsSound b.notes.log)
-    (none_kept : b.notes.kept ≡ []) (settled : AreSettled b.notes b.files)
-    (wide : (put : PutFile) → Contains b.files put
-    → (put.lower ≡ 0) × (put.upper ≡ synced_to b.notes.logged))
-    (none_archived : b.archives ≡ false → b.archived ≡ []) where
-  abbrev growth : HasGrown changes b.first b.notes.log
+    (none_kept : b.notes.kept ≡ []) where
+  abbrev pub growth : HasGrown changes b.first b.notes.log
   growth = ordered.growth
 
   abbrev past : List Write
@@ -127,8 +129,8 @@ module _ {D : Type 0} (changes : D → Option (List Change)) (b : StoreState D)
   id = b.notes.log.id
 
   -- its log, as far as the disk has taken it
-  abbrev log : StoreLog
-  log = record (log_of b.notes) { sections = growth.part }
+  abbrev pub log_in : StoreLog
+  log_in = record (log_of b.notes) { sections = growth.part }
 
   abbrev deeds : Deeds
   deeds = deeds_by b
@@ -164,22 +166,19 @@ module _ {D : Type 0} (changes : D → Option (List Change)) (b : StoreState D)
         stored_front id growth.part (torn.0 ∷ []) (subst (IsStored id) torn.1 sound.stored)
   ]
 
-  same_order : AreOrdered log deeds growth.added
+  same_order : AreOrdered log_in deeds growth.added
   same_order =
-      subst (AreOrdered log deeds) (append-nil growth.added)
+      subst (AreOrdered log_in deeds) (append-nil growth.added)
       (ordered_appended (log_of b.notes) deeds past [] id growth.part b.notes.logged []
       b.files [] b.dropped b.archived (sym (append-nil past)) (sym (append-nil b.notes.logged))
       (sym (append-nil b.files)) (λ m h. absurd (nothing_there m h))
       (λ m h. absurd (nothing_there m h)) (λ o h. h) (λ o h. h) growth.added []
       ordered.ordered (λ c h. absurd (nothing_there c h)) refl)
 
-  module _ (mutations : List Mutation)
-      (out : AreLaidFor b.notes.sizes mutations b.notes.logged) where
-    abbrev sizes : Sizes
-    sizes = b.notes.sizes
-
-    goes : GoesInOrder sizes growth.added log deeds
-        (history sizes b.notes.base mutations b.notes.logged out)
+  module _ (sizes : Sizes) (history : List LoggedLine)
+      (in_log : IsHistory sizes.capacity b.notes.logged)
+      (are : AreNotesOf b.notes.base b.notes.logged history) where
+    goes : GoesInOrder sizes growth.added log_in deeds history
     goes = record {
       grown = growth.grown;
       ordered = same_order;
@@ -190,24 +189,54 @@ module _ {D : Type 0} (changes : D → Option (List Change)) (b : StoreState D)
             stored = stored;
           });
       places = places;
-      in_log = is_a_history sizes b.notes.base mutations b.notes.logged out;
-      notes = (lines sizes b.notes.base mutations b.notes.logged out).notes;
+      in_log = in_log;
+      notes = are;
     }
 
+    -- what was appended is the history
+    pub brings : IsAppended growth.added (ids_in log_in) history
+    brings =
+        is_appended growth.added b.notes.base past id growth.part b.notes.logged history
+        goes.grown goes.stored goes.places goes.notes
+
+    -- and the changes stand in order
+    pub stands : AreInOrder IsAnyFile b.archives growth.added (ids_in log_in) history
+        (files_by log_in deeds)
+    stands = runs_in_order sizes growth.added log_in deeds history goes
+
+  -- ---- lines that one writer logged, and perhaps files
+
+  module _ (settled : AreSettled b.notes b.files)
+      (wide : (put : PutFile) → Contains b.files put
+      → (put.lower ≡ 0) × (put.upper ≡ synced_to b.notes.logged))
+      (none_archived : b.archives ≡ false → b.archived ≡ []) (mutations : List Mutation)
+      (out : AreLaidFor b.notes.sizes mutations b.notes.logged) where
+    abbrev its_sizes : Sizes
+    its_sizes = b.notes.sizes
+
     abbrev its : List LoggedLine
-    its = history sizes b.notes.base mutations b.notes.logged out
+    its = history_of its_sizes b.notes.base mutations b.notes.logged out
+
+    its_log : IsHistory its_sizes.capacity b.notes.logged
+    its_log = is_a_history its_sizes b.notes.base mutations b.notes.logged out
+
+    its_lines : AreLaidLines b.notes.base mutations b.notes.logged its
+    its_lines = lines its_sizes b.notes.base mutations b.notes.logged out
+
+    its_run : GoesInOrder its_sizes growth.added log_in deeds its
+    its_run = goes its_sizes its its_log its_lines.notes
 
     -- files reach as far as the notes
     reaches : (put : PutFile) → Contains b.files put → (n : EntryNote)
         → Contains b.notes.logged n → n.end.0 ≤ put.upper
     reaches put among n listed =
-        let low = (parted sizes sizes.within.least_capacity sizes.within.greatest_capacity out.raw
-        b.notes.logged out.laid).low n listed in
+        let low = (parted its_sizes its_sizes.within.least_capacity
+        its_sizes.within.greatest_capacity out.raw b.notes.logged out.laid).low n listed in
         let up = (wide put among).1 in
         omega (arith, low, up)
 
     -- the files that were put are true, in the words of a keeper that has logged these notes
-    its_true : (k : Holding) → (file : TableFile) → Contains (files_by log deeds) file
+    its_true : (k : Holding) → (file : TableFile) → Contains (files_by log_in deeds) file
         → IsTrueFor its file
     its_true k file listed =
         let h : Holding = record k {
@@ -226,26 +255,21 @@ module _ {D : Type 0} (changes : D → Option (List Change)) (b : StoreState D)
         } in
         let p = from_map (file_on b.notes.base) b.files file listed in
         subst (IsTrueFor its) p.2
-        (is_true h its sizes.within.greatest_capacity
-        (is_a_history sizes b.notes.base mutations b.notes.logged out)
-        (lines sizes b.notes.base mutations b.notes.logged out).notes
+        (is_true h its its_sizes.within.greatest_capacity its_log its_lines.notes
         (λ n among. (notes.good n
         (Contains-append_left b.notes.logged b.notes.kept n among)).whole) p.0
         (settled h has p.0 p.1).merged)
 
     pub has_gone : Holding → HasGoneInOrder b.archives mutations growth.added
     has_gone k = record {
-      ids = ids_in log;
-      history = history sizes b.notes.base mutations b.notes.logged out;
-      files = files_by log deeds;
-      by_one = (lines sizes b.notes.base mutations b.notes.logged out).by_one;
-      lines = (lines sizes b.notes.base mutations b.notes.logged out).lines;
-      is_appended = is_appended growth.added b.notes.base past id growth.part b.notes.logged
-          (history sizes b.notes.base mutations b.notes.logged out) goes.grown goes.stored
-          goes.places goes.notes;
-      order = runs_in_order sizes growth.added log deeds
-          (history sizes b.notes.base mutations b.notes.logged out) goes;
-      only = only sizes growth.added log deeds its goes none_archived;
-      last = come_last sizes growth.added log deeds its goes reaches;
+      ids = ids_in log_in;
+      history = its;
+      files = files_by log_in deeds;
+      by_one = its_lines.by_one;
+      lines = its_lines.lines;
+      is_appended = brings its_sizes its its_log its_lines.notes;
+      order = stands its_sizes its its_log its_lines.notes;
+      only = only its_sizes growth.added log_in deeds its its_run none_archived;
+      last = come_last its_sizes growth.added log_in deeds its its_run reaches;
       are_true = its_true k;
     }

@@ -32,11 +32,10 @@ use Rattle.std.proofs.lemmas.Bool.{or_parts, true≢false}
 use Rattle.std.proofs.lemmas.List.Elements.{Contains-push_cases}
 use Rattle.std.proofs.lemmas.Option.{none-some}
 use Rattle.clog_spec.specs.Sizes.{greatest_capacity}
-use Rattle.clog_base.specs.declared.cell.Table.{Table}
 use Rattle.clog_base.specs.declared.position.Position.{Position}
 use Rattle.clog_base.specs.declared.sizes.Sizes.{Sizes}
 use Rattle.clog_base.specs.Positions.{position_of}
-use Rattle.clog_base.proofs.Members.{further, here, nothing_there}
+use Rattle.clog_base.proofs.Members.{further, here}
 use Rattle.clog_disk.specs.declared.change.Change.{Change}
 use Rattle.clog_disk.specs.Files.{Files}
 use Rattle.clog_mutation.specs.declared.mutation.Mutation.{Mutation}
@@ -63,18 +62,9 @@ use Rattle.clog_store.specs.StoreState.{
 }
 use Rattle.clog_store.proofs.NoteGrows.{rises_with}
 use Rattle.clog_table.specs.declared.table_file.TableFile.{TableFile}
-use Rattle.clog_crash.specs.Droppable.{IsFiled, Touches}
 use Rattle.clog_applied.specs.Asked.{flushes}
 use Rattle.clog_applied.specs.Closed.{IsClosedPath}
-use Rattle.clog_applied.specs.Filed.{FollowFrom, HoldsSome, IsTrueFor, files_of, first_of}
-use Rattle.clog_applied.specs.History.{
-  IsLawful,
-  LoggedLine,
-  entry_of,
-  logged_at,
-  share_of,
-  written_by,
-}
+use Rattle.clog_applied.specs.History.{IsLawful, LoggedLine, logged_at, share_of, written_by}
 use Rattle.clog_applied.specs.Printed.{AreByLine, number_of}
 use Rattle.clog_layout.specs.Laid.{AreLaid}
 use Rattle.clog_layout.specs.Logged.{AreEntriesOf, AreLaidLines, AreNotesOf}
@@ -86,6 +76,7 @@ use Rattle.clog_closing.proofs.LogAlone.{is_left}
 use Rattle.clog_closing.proofs.Logs.{is_appended}
 use Rattle.clog_closing.proofs.Tables.{note_of_line}
 use Rattle.clog_lines.specs.Written.{AreLaidFor, IsAskedBy, TellsWritten}
+use Rattle.clog_lines.proofs.Filing.{AreFilesFor, no_files}
 use Rattle.clog_lines.proofs.Reaches.{reaches}
 
 -- ---- the lines of laid notes, one by one
@@ -158,18 +149,9 @@ module _ (sizes : Sizes) (base : ℕ) (mutations : List Mutation) (laid : List E
       ends_are base sizes.capacity laid history sizes.within.greatest_capacity is_a_history.each
       lines.notes
 
-  -- what its table files have to be
-  pub record AreFilesFor (options : ApplyOptions) (files : List TableFile) : Type 0 where
-    pub follow : (table : Table) → FollowFrom (first_of base) (files_of table files)
-    pub are_true : (file : TableFile) → Contains files file → IsTrueFor history file
-    pub for_some : (file : TableFile) → Contains files file → HoldsSome history file
-    pub drained : options.drain ≡ true → (table : Table) (w : LoggedLine) → Contains history w
-        → Touches (entry_of w) table → IsFiled files table (logged_at w)
-    pub none : options.drain ≡ false → files ≡ []
-
   pub path : (options : ApplyOptions) (archives drain : Bool)
       → IsAskedBy options sizes archives drain → (files : List TableFile)
-      → AreFilesFor options files → IsClosedPath options mutations base history files
+      → AreFilesFor base history options files → IsClosedPath options mutations base history files
   path options archives drain asked files are = record {
     lawful = subst (λ (k : ℕ). IsLawful k history) (sym asked.capacity)
         (lawful base sizes.capacity sizes.within.greatest_capacity laid history is_a_history
@@ -189,15 +171,6 @@ module _ (sizes : Sizes) (base : ℕ) (mutations : List Mutation) (laid : List E
     where
       undrained : (o : ApplyOptions) → flushes o ≡ false → o.drain ≡ false
       undrained o flushless = (or_parts (is_some o.flush_at) o.drain flushless).1
-
-  pub no_files : (options : ApplyOptions) → options.drain ≡ false → AreFilesFor options []
-  no_files options none = record {
-    follow = λ table. tt;
-    are_true = λ file h. absurd (nothing_there file h);
-    for_some = λ file h. absurd (nothing_there file h);
-    drained = λ all. absurd (true≢false (sym all ∙ none));
-    none = λ same. refl;
-  }
 
 -- ---- the store
 
@@ -284,7 +257,7 @@ module _ {D : Type 0} (files : D → Option Files) (changes : D → Option (List
       let said = lines sizes base mutations b.notes.logged out in
       let its = history sizes base mutations b.notes.logged out in
       let its_path = path sizes base mutations b.notes.logged out options archives false asked []
-      (no_files sizes base mutations b.notes.logged out options asked.drain_is) in
+      (no_files base its options asked.drain_is) in
       let log = b.notes.log in
       record {
         after = after;

@@ -2,7 +2,9 @@ pub mod Begins
 pub mod Begun
 pub mod Brought
 pub mod Crashing
+pub mod Dropped
 pub mod Emptied
+pub mod Filing
 pub mod Going
 pub mod Leaving
 pub mod Noting

@@ -6,17 +6,11 @@ use Rattle.std.proofs.Common.{
   ◌-◌,
   ◌<◌,
   ◌≤◌,
-  inl,
-  inr,
-  true,
-  false,
   List,
   [],
   ◌∷◌,
-  ◌++◌,
   length,
   map,
-  refl,
   sym,
   ◌∙◌,
   ap,
@@ -25,7 +19,6 @@ use Rattle.std.proofs.Common.{
 }
 use Rattle.std.specs.Prelude.{Contains}
 use Rattle.std.specs.List.{AllPairs, range_with_len}
-use Rattle.std.proofs.lemmas.Bool.{true≢false}
 use Rattle.std.proofs.lemmas.List.Elements.{Contains-append_right}
 use Rattle.clog_spec.specs.Sizes.{most_tables}
 use Rattle.clog_base.specs.declared.position.Position.{Position}
@@ -37,7 +30,6 @@ use Rattle.clog_table.specs.declared.table_file.TableFile.{TableFile}
 use Rattle.clog_words.specs.declared.request.ApplyOptions.{ApplyOptions}
 use Rattle.path_core.specs.declared.note.EntryNote.{EntryNote}
 use Rattle.path_core.specs.History.{IsHistory}
-use Rattle.path_core.specs.Keeper.{PutFile}
 use Rattle.path_core.specs.Keys.{first_offset}
 use Rattle.clog_store.specs.OnDisk.{file_on}
 use Rattle.clog_applied.specs.Appended.{appended}

@@ -96,7 +96,8 @@ use Rattle.clog_closing.proofs.StoreNames.{brings_but_one}
 use Rattle.clog_lines.proofs.Begins.{begun_of_all}
 use Rattle.clog_lines.proofs.Begun.{has_gone}
 use Rattle.clog_lines.proofs.Crashing.{as_many, leaves_lines, says}
-use Rattle.clog_lines.proofs.Emptied.{StoresAreLeft, tells_drained}
+use Rattle.clog_lines.proofs.Dropped.{StoresAreLeft}
+use Rattle.clog_lines.proofs.Emptied.{tells_drained}
 use Rattle.clog_lines.proofs.Leaving.{tells_written}
 use Rattle.clog_lines.proofs.Synced.{
   AreFirst,

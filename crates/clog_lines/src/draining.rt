@@ -93,10 +93,7 @@ fn drop_all<D: Disk>(store: &mut Store<D>) -> Result<(), KeeperFault>
 
 /// Puts the table files, in their order, and drops what may go then, in a store that runs and has
 /// done nothing beside its log. Where something is refused, what was done before it stands.
-pub(crate) fn drain<D: Disk>(
-    store: &mut Store<D>,
-    memtables: &[Memtable],
-) -> Result<(), KeeperFault>
+pub fn drain<D: Disk>(store: &mut Store<D>, memtables: &[Memtable]) -> Result<(), KeeperFault>
     requires runs { store.old.notes.log.is_stopped ≡ false }
     requires may { MayFlush
         (holding_of D.files D.changes D.moment D.faults D.row.coded.code store.old) memtables.now }

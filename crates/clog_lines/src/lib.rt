@@ -11,5 +11,6 @@ mod notes;
 mod tests;
 mod writing;
 
+pub use draining::drain;
 pub use notes::{NotesFault, notes_of};
 pub use writing::write_lines;

@@ -5,6 +5,7 @@ use Rattle.std.proofs.Common.{
   ◌≤◌,
   inl,
   inr,
+  Bool,
   List,
   [],
   ◌∷◌,
@@ -86,7 +87,7 @@ use Rattle.clog_writers.specs.Left.{
 use Rattle.clog_writers.specs.Logged.{
   HoldFirsts,
 }
-use Rattle.clog_writers.specs.Written.{AppendsLog}
+use Rattle.clog_writers.specs.Written.{BringsShares}
 use Rattle.clog_writers.proofs.FirstLogged.{shown_held}
 use Rattle.clog_writers.proofs.Histories.{shares_are}
 
@@ -262,10 +263,11 @@ module _ {D : Type 0} (s : NoteState D) (is : IsNoteLog s)
       still = subst (lasted_at s.log.disk) (sym opened_is)
           ((later.lasted_then (moment first) (omega arith)).1 lasted)
 
-      pub leaves_shares : (least : ℕ) → least ≤ lasting_in s.log
-          → AppendsLog changes first s.log.disk ws
-          → LeavesShares changes moment since leaves first s.log.disk r writers ms least
-      leaves_shares least le wrote =
+      pub leaves_shares : (archives drain : Bool) (least : ℕ) → least ≤ lasting_in s.log
+          → BringsShares changes first s.log.disk archives drain writers ms ws
+          → LeavesShares changes moment since leaves first s.log.disk r archives drain writers ms
+          least
+      leaves_shares archives drain least le wrote =
           let Shown = HasShown r 0 s.log.past s.log.id s.log.sections in
           let then = at_both (files s.log.disk) (read_at s.log.disk s.log.opened) (λ f q.
           (at : ℕ) → MayGoOnIn s.log.id s.log.sections at

@@ -1,10 +1,11 @@
--- What a store leaves of a disk whose writers have logged all lines.
+-- What a store leaves of a disk whose writers have logged all lines, drained or not.
 use Rattle.std.proofs.Common.{
   ◌≡◌,
   ℕ,
   ◌+◌,
   ◌<◌,
   Bool,
+  true,
   false,
   List,
   [],
@@ -19,37 +20,44 @@ use Rattle.std.proofs.Common.{
   subst,
   arith,
 }
-use Rattle.std.specs.Prelude.{is_some}
+use Rattle.std.specs.Prelude.{Contains, is_some}
 use Rattle.std.specs.List.{filter, range_with_len}
-use Rattle.std.proofs.lemmas.Bool.{true≢false}
+use Rattle.std.proofs.lemmas.Bool.{or_parts, true≢false}
+use Rattle.std.proofs.lemmas.List.Elements.{Contains-append_left}
 use Rattle.std.proofs.lemmas.Option.{none-some}
+use base.Stored.{Gv}
 use Rattle.clog_base.specs.declared.sizes.Sizes.{Sizes}
-use Rattle.clog_base.proofs.Members.{nothing_there}
 use Rattle.clog_disk.specs.declared.change.Change.{Change}
 use Rattle.clog_disk.specs.Files.{Files}
 use Rattle.clog_mutation.specs.declared.mutation.Mutation.{Mutation}
+use Rattle.clog_table.specs.declared.table_file.TableFile.{TableFile}
 use Rattle.clog_words.specs.declared.request.ApplyOptions.{ApplyOptions}
 use Rattle.clog_crash.specs.Grown.{appends_of}
-use Rattle.clog_crash.specs.Log.{Write}
 use Rattle.clog_crash.specs.Runs.{placed_log}
 use Rattle.path_core.specs.declared.note.EntryNote.{EntryNote}
-use Rattle.clog_store.specs.Grows.{IsGrown, segments_with}
+use Rattle.clog_store.specs.NoteLog.{IsNoteLog}
 use Rattle.clog_store.specs.Notes.{places_of}
 use Rattle.clog_store.specs.StoreFolder.{Deeds, HoldsStore, IsSound, log_of, no_deeds}
 use Rattle.clog_store.specs.StoreState.{
   AppendsAlone,
-  HasAppended,
+  HasGrown,
+  HasOrdered,
   HoldsIt,
   StoreState,
   deeds_by,
+  holding_of,
 }
-use Rattle.clog_applied.specs.Closed.{IsClosedPath}
+use Rattle.clog_applied.specs.Closed.{IsClosedPath, IsStoreLeft}
 use Rattle.clog_applied.specs.History.{IsLawful, LoggedLine, share_of, written_by}
+use Rattle.clog_layout.specs.Laid.{synced_to}
 use Rattle.clog_layout.specs.Logged.{AreNotesOf}
 use Rattle.clog_layout.proofs.Lines.{are_notes, lawful, lines_for}
-use Rattle.clog_closing.specs.Logs.{AreStoredInOrder, written_ids}
+use Rattle.clog_closing.specs.Stores.{dropped_ids, files_by, ids_in}
 use Rattle.clog_closing.proofs.LogAlone.{is_left}
 use Rattle.clog_closing.proofs.Tables.{note_of_line}
+use Rattle.clog_lines.specs.Drained.{HasDrained}
+use Rattle.clog_lines.proofs.Dropped.{StoresAreLeft, store_files, store_left}
+use Rattle.clog_lines.proofs.Filing.{AreFileable, AreFilesFor, no_files}
 use Rattle.clog_lines.proofs.Leaving.{all_brought, in_order, tells_now}
 use Rattle.write_path.specs.declared.commit.Receipt.{Receipt}
 use Rattle.clog_writers.specs.Logged.{HoldShares, is_note_of}
@@ -63,6 +71,7 @@ use Rattle.clog_writers.proofs.Histories.{
   receipts_from,
   shares_are,
 }
+use Rattle.clog_writers.proofs.LastEnd.{up_to_last}
 
 -- ---- the path
 
@@ -75,7 +84,14 @@ module _ (sizes : Sizes) (base : ℕ) (mutations : List Mutation) (notes : List 
   unfolding history
   lines = are_notes notes base h.whole
 
-  shares : (writers writer : ℕ) → writers ≡ sizes.writers → writer < writers
+  pub its_writer : (w : LoggedLine) → Contains history w → w.writer < sizes.writers
+  its_writer w among =
+      let n = note_of_line base notes history lines w among in
+      let low = h.known n.note n.listed in
+      let by = n.is.writer in
+      omega (arith, low, by)
+
+  pub shares : (writers writer : ℕ) → writers ≡ sizes.writers → writer < writers
       → written_by writer history ≡ share_of writers writer mutations
   shares writers writer same low =
       shares_are base writer (share_of writers writer mutations) notes history
@@ -83,9 +99,11 @@ module _ (sizes : Sizes) (base : ℕ) (mutations : List Mutation) (notes : List 
       (filter (is_note_of writer) notes)) (sym same)
       (h.shares writer (omega (arith, low, same)))) lines
 
-  pub path : (options : ApplyOptions) (archives : Bool) → IsAskedBy options sizes archives
-      → IsClosedPath options mutations base history []
-  path options archives asked =
+  pub path : (options : ApplyOptions) (archives drain : Bool)
+      → IsAskedBy options sizes archives drain → (files : List TableFile)
+      → AreFilesFor base history options files
+      → IsClosedPath options mutations base history files
+  path options archives drain asked files are =
       let some = sizes.within.some_writer in
       let count = asked.writers in
       record {
@@ -95,17 +113,14 @@ module _ (sizes : Sizes) (base : ℕ) (mutations : List Mutation) (notes : List 
         from_base = λ w among.
             let n = note_of_line base notes history lines w among in omega (arith, n.is.id);
         writers = omega (arith, some, count);
-        known = λ w among.
-            let n = note_of_line base notes history lines w among in
-            let low = h.known n.note n.listed in
-            let by = n.is.writer in
-            omega (arith, low, by, count);
+        known = λ w among. let low = its_writer w among in omega (arith, low, count);
         shares = λ writer low. shares options.writers writer count low;
-        follow = λ table. tt;
-        are_true = λ file among. absurd (nothing_there file among);
-        for_some = λ file among. absurd (nothing_there file among);
-        drained = λ all. absurd (true≢false (sym all ∙ asked.no_drain));
-        none = λ same. refl;
+        follow = are.follow;
+        are_true = are.are_true;
+        for_some = are.for_some;
+        drained = are.drained;
+        none = λ flushless.
+            are.none (or_parts (is_some options.flush_at) options.drain flushless).1;
         flushed = λ most is. absurd (none-some most (sym asked.no_flush ∙ is));
       }
 
@@ -127,57 +142,54 @@ module _ (sizes : Sizes) (base : ℕ) (mutations : List Mutation) (notes : List 
 
 module _ {D : Type 0} (files : D → Option Files) (changes : D → Option (List Change))
     (tells : (d : D) → is_some (changes d) ≡ is_some (files d)) (b : StoreState D)
-    (runs : b.notes.log.is_stopped ≡ false) (none : deeds_by b ≡ no_deeds b.archives)
-    (alone : AppendsAlone changes b) (sound : IsSound b.notes.log) (folder : HoldsIt files b)
+    (runs : b.notes.log.is_stopped ≡ false) (sound : IsSound b.notes.log)
+    (folder : HoldsIt files b)
     (places : placed_log b.notes.log.past b.notes.log.id b.notes.log.sections
-    ≡ places_of b.notes.base b.notes.logged) where
-  abbrev ws : List Write
-  ws = segments_with b.notes.log.past b.notes.log.id b.notes.log.sections
+    ≡ places_of b.notes.base b.notes.logged) (options : ApplyOptions) (sizes : Sizes)
+    (mutations : List Mutation)
+    (h : HoldShares sizes.capacity sizes.writers mutations b.notes.logged)
+    (receipts : List Receipt) (placed : AreAtTheirLines b.notes.base b.notes.logged receipts)
+    (long : length receipts ≡ length mutations) (opened : Files) (made : List Change)
+    (is : files b.first ≡ Some opened) (made_is : changes b.first ≡ Some made) where
+  abbrev first_id : ℕ
+  first_id = b.notes.base
 
-  appended : HasAppended changes b.first b.notes.log
-  appended = alone none
+  abbrev its : List LoggedLine
+  its = history sizes first_id mutations b.notes.logged h
 
-  abbrev later : List Change
-  later = appended.growth.added
+  -- what such a store leaves of the disk
+  pub record Leaves (later : List Change) (after : Files) : Type 0 where
+    pub ids : List ℕ
+    pub dropped : List ℕ
+    pub put : List TableFile
+    pub are : AreFilesFor first_id its options put
+    pub store : IsStoreLeft options.archive opened after later ids dropped its put
+    pub undrained : options.drain ≡ false → (dropped ≡ []) × (put ≡ [])
 
-  grows : IsGrown (appends_of later) b.notes.log.past b.notes.log.id b.notes.log.sections
-  grows = all_brought changes b.first b.notes.log appended.growth runs
-
-  stands : AreStoredInOrder ws
-  stands = in_order b.notes.log (appends_of later) grows sound
-
-  -- what the disk tells of lines that its writers have logged
-  pub tells_shares : (options : ApplyOptions) (sizes : Sizes) (mutations : List Mutation)
-      (archives : Bool) → IsAskedBy options sizes archives
-      → HoldShares sizes.capacity sizes.writers mutations b.notes.logged
-      → (receipts : List Receipt) → AreAtTheirLines b.notes.base b.notes.logged receipts
-      → length receipts ≡ length mutations → (opened : Files) (made : List Change)
-      → files b.first ≡ Some opened → changes b.first ≡ Some made
-      → TellsWrittenShares options b.notes.base opened made (files b.notes.log.disk)
+  tells_all : (growth : HasGrown changes b.first b.notes.log) (archives drain : Bool)
+      → IsAskedBy options sizes archives drain
+      → ((after : Files) → files b.notes.log.disk ≡ Some after → Leaves growth.added after)
+      → TellsWrittenShares options first_id opened made (files b.notes.log.disk)
       (changes b.notes.log.disk) mutations receipts
-  tells_shares options sizes mutations archives asked h receipts placed long opened made is
-      made_is =
-      let now = tells_now files changes tells b.first b.notes.log appended.growth made made_is in
-      let after = now.after in
-      let holds : HoldsStore opened (log_of b.notes) (no_deeds b.archives) after =
-      subst (λ (d : Deeds). HoldsStore opened (log_of b.notes) d after) none
-      (folder opened after is now.files_are) in
-      let base = b.notes.base in
-      let notes = b.notes.logged in
-      let told = receipts_are sizes base mutations notes h receipts placed long in
+  tells_all growth archives drain asked so =
+      let now = tells_now files changes tells b.first b.notes.log growth made made_is in
+      let left = so now.after now.files_are in
+      let told = receipts_are sizes first_id mutations b.notes.logged h receipts placed long in
       record {
-        after = after;
-        later = later;
+        after = now.after;
+        later = growth.added;
         files_are = now.files_are;
         changes_are = now.changes_are;
         written = record {
-          ids = written_ids ws;
-          history = history sizes base mutations notes h;
+          ids = left.ids;
+          dropped = left.dropped;
+          history = its;
+          files = left.put;
           logged = told.logged;
-          path = path sizes base mutations notes h options archives asked;
-          store = is_left b.archives opened after later (log_of b.notes)
-              (history sizes base mutations notes h) holds grows appended.alone stands places
-              (lines sizes base mutations notes h) options.archive;
+          path = path sizes first_id mutations b.notes.logged h options archives drain asked
+              left.put left.are;
+          store = left.store;
+          undrained = left.undrained;
           by_line = record {
             numbers = told.numbers ∙ ap (range_with_len 1) long;
             each = told.each;
@@ -185,3 +197,72 @@ module _ {D : Type 0} (files : D → Option Files) (changes : D → Option (List
           receipts_are = told.receipts_are;
         };
       }
+
+  -- where nothing is drained
+  pub tells_alone : (archives : Bool) → IsAskedBy options sizes archives false
+      → deeds_by b ≡ no_deeds b.archives → AppendsAlone changes b
+      → TellsWrittenShares options first_id opened made (files b.notes.log.disk)
+      (changes b.notes.log.disk) mutations receipts
+  tells_alone archives asked none alone =
+      let appended = alone none in
+      let growth = appended.growth in
+      let grows = all_brought changes b.first b.notes.log growth runs in
+      tells_all growth archives false asked (λ after now. record {
+        ids = ids_in (log_of b.notes);
+        dropped = [];
+        put = [];
+        are = no_files first_id its options asked.drain_is;
+        store = is_left b.archives opened after growth.added (log_of b.notes) its
+            (subst (λ (d : Deeds). HoldsStore opened (log_of b.notes) d after) none
+            (folder opened after is now)) grows appended.alone
+            (in_order b.notes.log (appends_of growth.added) grows sound) places
+            (lines sizes first_id mutations b.notes.logged h) options.archive;
+        undrained = λ no. (refl, refl);
+      })
+
+  -- and where all is
+  module _ (notes : IsNoteLog b.notes) (none_kept : b.notes.kept ≡ [])
+      (moment faults : D → ℕ) (code : D → Gv)
+      (ordered : HasOrdered changes b) (law : StoresAreLeft)
+      (drained : HasDrained (holding_of files changes moment faults code b) b.notes.logged) where
+    fileable : AreFileable sizes first_id (synced_to b.notes.logged) b.notes.logged its
+    fileable = record {
+      in_log = h.lawful;
+      are = lines sizes first_id mutations b.notes.logged h;
+      whole = h.whole;
+      low = λ n among. up_to_last sizes.capacity b.notes.logged h.lawful n among;
+      some = λ n among.
+          let s = h.lawful.each n among in
+          let w = h.whole n among in
+          let front = s.behind_front in
+          let long = w.long in
+          omega (arith, front, long);
+      there = λ n among.
+          let good = notes.good n (Contains-append_left b.notes.logged b.notes.kept n among) in
+          let there = good.segment_is in
+          let few = b.notes.sizes.within.few_segments in
+          omega (arith, there, few);
+    }
+
+    pub tells_drained : IsAskedBy options sizes b.archives true
+        → TellsWrittenShares options first_id opened made (files b.notes.log.disk)
+        (changes b.notes.log.disk) mutations receipts
+    tells_drained asked =
+        let log = log_of b.notes in
+        let deeds = deeds_by b in
+        let upper = synced_to b.notes.logged in
+        tells_all ordered.growth b.archives true asked (λ after now. record {
+          ids = ids_in log;
+          dropped = dropped_ids log deeds;
+          put = files_by log deeds;
+          are = store_files files changes moment faults code b runs ordered sound folder places
+              none_kept law sizes upper its fileable drained.memtables drained.are drained.by
+              options asked.drain_is;
+          store = subst (λ (archive : Bool). IsStoreLeft archive opened after
+              ordered.growth.added (ids_in log) (dropped_ids log deeds) its
+              (files_by log deeds)) (sym asked.archive_is)
+              (store_left files changes moment faults code b runs ordered sound folder places
+              none_kept law sizes upper its fileable drained.memtables drained.are drained.by
+              opened after is now);
+          undrained = λ no. absurd (true≢false (sym asked.drain_is ∙ no));
+        })

@@ -17,3 +17,7 @@ pub mod Counted
 pub mod Crashing
 pub mod LeftBy
 pub mod OneWriter
+pub mod LastEnd
+pub mod Brought
+pub mod Ended
+pub mod MayFlush

@@ -124,6 +124,7 @@ module _ (sizes : Sizes) (base : ℕ) (before now : Holding) (fresh : IsFresh ba
   alone_by beside none = record {
     disk_is = beside.disk_is;
     archives_are = beside.archives_are;
+    tables_are = beside.tables_are;
     no_file = beside.no_file fresh.no_file;
     none_dropped = none;
     none_archived = beside.none_archived fresh.none_archived;

@@ -7,6 +7,7 @@ use Rattle.std.specs.Prelude.{
   ◌++◌,
   length,
   map,
+  Bool,
   Contains,
   Option,
   Result,
@@ -24,7 +25,7 @@ use Rattle.clog_crash.specs.Runs.{placed_of}
 use Rattle.clog_applied.specs.History.{Line, LoggedLine, entry_of, share_of, written_by}
 use Rattle.clog_lines.specs.Written.{RestoresLines}
 use Rattle.clog_writers.specs.declared.fault.WriteFault.{WriteFault}
-use Rattle.clog_writers.specs.Written.{AppendsLog}
+use Rattle.clog_writers.specs.Written.{BringsShares}
 
 -- The first of these lines, in order.
 pub record AreFirstLines (all first : List Line) : Type 0 where
@@ -58,11 +59,12 @@ RestoresShares r history least image = RestoresLines r (said_by history) least i
 -- written.
 pub record LeavesShares {D : Type 0} (changes : D → Option (List Change)) (moment : D → ℕ)
     (since : D → ℕ → Files → Type 0) (leaves : D → List ℕ → Option (List ℕ) → Type 0)
-    (before now : D) (r : Reading) (writers : ℕ) (mutations : List Mutation) (least : ℕ) : Type 0
+    (before now : D) (r : Reading) (archives drain : Bool) (writers : ℕ)
+    (mutations : List Mutation) (least : ℕ) : Type 0
   where
     pub log : List Write
     pub history : List LoggedLine
-    pub wrote : AppendsLog changes before now log
+    pub wrote : BringsShares changes before now archives drain writers mutations log
     pub says : SaysShares writers mutations log history
     pub meanwhile : SinceThen moment since (moment before) now
         (λ image. NoChances log image → RestoresShares r history 0 image)

@@ -36,6 +36,7 @@ use Rattle.clog_writers.specs.Shares.{AreFirstWrites, AreWritesOf}
 pub record GoesOnAlone (before now : Holding) : Type 0 where
   pub disk_is : now.opening.disk ≡ before.opening.disk
   pub archives_are : now.opening.archives ≡ before.opening.archives
+  pub tables_are : now.sizes.tables ≡ before.sizes.tables
   pub no_file : now.files ≡ []
   pub none_dropped : now.dropped ≡ []
   pub none_archived : now.archived ≡ []

@@ -1,8 +1,11 @@
 -- What is left where the lines of a file were logged by writers of a path over a store.
 use Rattle.std.specs.Prelude.{
   ◌≡◌,
+  ◌⊎◌,
   ℕ,
+  ◌<◌,
   ◌≤◌,
+  true,
   false,
   List,
   [],
@@ -10,6 +13,7 @@ use Rattle.std.specs.Prelude.{
   length,
   map,
   Bool,
+  Contains,
   Option,
   Some,
   None,
@@ -23,14 +27,19 @@ use Rattle.clog_base.specs.declared.sizes.Sizes.{Sizes}
 use Rattle.clog_disk.specs.declared.change.Change.{Change}
 use Rattle.clog_disk.specs.Files.{Files}
 use Rattle.clog_mutation.specs.declared.mutation.Mutation.{Mutation}
+use Rattle.clog_table.specs.declared.table_file.TableFile.{TableFile}
 use Rattle.clog_words.specs.declared.request.ApplyOptions.{ApplyOptions}
 use Rattle.sync_core.specs.declared.SyncCore.TheVariants.{Periodic}
 use Rattle.clog_crash.specs.Grown.{appends_of}
 use Rattle.clog_crash.specs.Log.{Write}
+use Rattle.path_core.specs.declared.keeper.KeeperFault.{KeeperFault}
+use Rattle.path_core.specs.declared.keeper.KeeperFault.TheVariants as keeper
 use Rattle.clog_store.specs.Grows.{AreAppends}
+use Rattle.clog_applied.specs.Appended.{IsAppended}
 use Rattle.clog_applied.specs.Asked.{capacity_of}
-use Rattle.clog_applied.specs.Closed.{IsClosedPath, IsStoreLeft}
-use Rattle.clog_applied.specs.History.{LoggedLine, logged_at}
+use Rattle.clog_applied.specs.Closed.{IsAnyFile, IsClosedPath, IsStoreLeft}
+use Rattle.clog_applied.specs.Early.{AreInOrder}
+use Rattle.clog_applied.specs.History.{LoggedLine, logged_at, share_of, written_by}
 use Rattle.clog_applied.specs.Printed.{AreByLine}
 use Rattle.clog_lines.specs.Written.{IsWrittenBy}
 use Rattle.path_core.specs.declared.note.EntryNote.{EntryNote}
@@ -42,38 +51,65 @@ use Rattle.clog_writers.specs.declared.fault.WriteFault.TheVariants.{OutOfMemory
 use Rattle.clog_writers.specs.Logged.{HoldShares}
 use Rattle.clog_writers.specs.Placed.{AreAtTheirLines}
 
--- So many writers log all lines, and the log is synced at the end. Nothing is flushed or drained.
-pub record IsAskedBy (options : ApplyOptions) (sizes : Sizes) (archives : Bool) : Type 0 where
-  pub writers : options.writers ≡ sizes.writers
-  pub periodic : options.sync ≡ Periodic 10000
-  pub no_flush : options.flush_at ≡ None
-  pub no_drain : options.drain ≡ false
-  pub capacity : capacity_of options ≡ sizes.capacity
-  pub archive_is : options.archive ≡ archives
+-- So many writers log all lines, and the log is synced at the end; nothing is flushed before.
+-- Behind it all is drained or nothing, and what is dropped gets its archive name or not.
+pub record IsAskedBy (options : ApplyOptions) (sizes : Sizes) (archives drain : Bool) : Type 0
+  where
+    pub writers : options.writers ≡ sizes.writers
+    pub periodic : options.sync ≡ Periodic 10000
+    pub no_flush : options.flush_at ≡ None
+    pub capacity : capacity_of options ≡ sizes.capacity
+    pub drain_is : options.drain ≡ drain
+    pub archive_is : options.archive ≡ archives
 
 -- the receipt of a line that is logged
 abbrev pub line_receipt : LoggedLine → Receipt
 line_receipt w = record { line = w.number; position = logged_at w }
 
--- All lines were logged: what the path and the store of such a run tell, and the lines' receipts,
--- in the order of the lines.
+-- All lines were logged: what the path and the store of such a run tell, with the ids of the
+-- segments that were dropped and the table files that were put, and the lines' receipts, in the
+-- order of the lines.
 pub record HasWrittenShares (options : ApplyOptions) (base : ℕ) (opened after : Files)
     (later : List Change) (mutations : List Mutation) (receipts : List Receipt) : Type 0 where
   pub ids : List ℕ
+  pub dropped : List ℕ
   pub history : List LoggedLine
+  pub files : List TableFile
   pub logged : List LoggedLine
-  pub path : IsClosedPath options mutations base history []
-  pub store : IsStoreLeft options.archive opened after later ids [] history []
+  pub path : IsClosedPath options mutations base history files
+  pub store : IsStoreLeft options.archive opened after later ids dropped history files
+  pub undrained : options.drain ≡ false → (dropped ≡ []) × (files ≡ [])
   pub by_line : AreByLine history (length mutations) logged
   pub receipts_are : receipts ≡ map line_receipt logged
 
--- The disk's further changes since it was so are appends alone, which have brought these segments.
-pub record AppendsLog {D : Type 0} (changes : D → Option (List Change)) (before now : D)
-    (log : List Write) : Type 0 where
-  pub added : List Change
-  pub changes_are : changes now ≡ option_map (λ made. made ++ added) (changes before)
-  pub alone : AreAppends added
-  pub brought : IsWrittenBy (appends_of added) log
+-- Changes by which a drain has begun: the entries of all lines were appended, each by its writer
+-- and each writer's in order, and some table files have come and segments gone, each in its turn.
+pub record HasGoneInOrder (archives : Bool) (writers : ℕ) (mutations : List Mutation)
+    (changes : List Change) : Type 0 where
+  pub ids : List ℕ
+  pub history : List LoggedLine
+  pub files : List TableFile
+  pub known : (w : LoggedLine) → Contains history w → w.writer < writers
+  pub shares : (writer : ℕ) → writer < writers
+      → written_by writer history ≡ share_of writers writer mutations
+  pub is_appended : IsAppended changes ids history
+  pub order : AreInOrder IsAnyFile archives changes ids history files
+
+-- Changes by which writers log lines: appends alone, or those of a drain that has begun.
+abbrev pub AreMadeFor : Bool → Bool → ℕ → List Mutation → List Change → Type 0
+AreMadeFor archives drain writers mutations changes =
+    AreAppends changes
+    ⊎ ((drain ≡ true) × HasGoneInOrder archives writers mutations changes)
+
+-- The appends among a disk's further changes since it was so have brought these segments. The
+-- changes are those by which writers log the lines.
+pub record BringsShares {D : Type 0} (changes : D → Option (List Change)) (before now : D)
+    (archives drain : Bool) (writers : ℕ) (mutations : List Mutation) (log : List Write) : Type 0
+  where
+    pub added : List Change
+    pub changes_are : changes now ≡ option_map (λ made. made ++ added) (changes before)
+    pub made_for : AreMadeFor archives drain writers mutations added
+    pub brought : IsWrittenBy (appends_of added) log
 
 -- All lines were logged, and these are their receipts, in the order of the lines, whether or not
 -- the disk tells anything.
@@ -100,6 +136,11 @@ abbrev pub HasShareCause : {T : Type 0} → ℕ → ℕ → Result T WriteFault 
 HasShareCause faults now (Ok done) = now ≡ faults
 HasShareCause faults now (Err (Stopped at_open counted)) = (faults ≤ now) × Rose faults now
 HasShareCause faults now (Err other) = now ≡ faults
+
+-- a keeper's refusal, as one of the lines
+abbrev pub refused_as : KeeperFault → WriteFault
+refused_as (keeper.Stopped at_open now) = Stopped at_open now
+refused_as keeper.OutOfMemory = OutOfMemory
 
 -- a refusal before the first line, as one of the lines
 abbrev pub unplanned : PlanFault → WriteFault

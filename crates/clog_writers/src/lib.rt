@@ -6,6 +6,7 @@
 
 mod crew;
 mod dealing;
+mod draining;
 mod fault;
 mod laws;
 mod logging;

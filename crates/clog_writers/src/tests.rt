@@ -5,7 +5,7 @@ ghost use Rattle.std.specs.List.{AllByRecursion};
 ghost use Rattle.clog_mutation.specs.Limits.{IsWithinLimits};
 
 use crate::write_shares;
-use clog_base::{Sizes, segment_name};
+use clog_base::{Sizes, Table, segment_name, table_name};
 use clog_disk::{Disk, MemDisk};
 use clog_mutation::{Mutation, decode};
 use clog_store::Store;
@@ -30,6 +30,14 @@ const THREE: [u8; 124] = [
     0x00, 0x00, 0x00, 0x00, 0x00, 0x00, 0x05, 0x00, 0x18, 0xa5, 0x86, 0xff,
 ];
 
+// The table file of three such deletions: table 0, from offset 0 to 124 of segment 1000, one cell.
+const TABLE: [u8; 58] = [
+    0x00, 0x00, 0x00, 0x01, 0x00, 0x00, 0x00, 0x00, 0x00, 0x00, 0x00, 0x03, 0xe8, 0x00, 0x00, 0x00,
+    0x00, 0x00, 0x00, 0x00, 0x00, 0x00, 0x00, 0x03, 0xe8, 0x00, 0x00, 0x00, 0x7c, 0x00, 0x00, 0x00,
+    0x01, 0x2a, 0xf0, 0x2d, 0x91, 0x00, 0x02, 0x61, 0x62, 0x00, 0x02, 0x63, 0x64, 0x00, 0x00, 0x00,
+    0x00, 0x00, 0x00, 0x00, 0x05, 0x00, 0x58, 0x4f, 0x3f, 0xb8,
+];
+
 // The lines with these payloads.
 fn lines_of(alloc: Global, payloads: &[&[u8]]) -> Result<Vec<Mutation>, Fail>
     ensures { IfOk result (λ lines. AllByRecursion IsWithinLimits lines.items) }
@@ -44,11 +52,12 @@ fn lines_of(alloc: Global, payloads: &[&[u8]]) -> Result<Vec<Mutation>, Fail>
     Ok(lines)
 }
 
-// So many writers log three deletions to an empty disk, at 1000 ms.
+// So many writers log three deletions to an empty disk, at 1000 ms, and drain it or not.
 fn three_by<R: Threads + Wait + Sync>(
     rt: &R,
     alloc: Global,
     writers: u8,
+    drain: bool,
 ) -> Result<(MemDisk, Vec<Receipt>), Fail> {
     let lines = lines_of(alloc, [DELETION, DELETION, DELETION].as_slice())?;
     let Some(sizes) = Sizes::make(16, writers, 4096, 2147483647) else {
@@ -60,7 +69,7 @@ fn three_by<R: Threads + Wait + Sync>(
     let Ok(store) = Store::open(alloc, MemDisk::new(alloc), 1000, sizes, false) else {
         return Err(Fail::new("no store"));
     };
-    match write_shares(rt, alloc, store, lines) {
+    match write_shares(rt, alloc, store, lines, drain) {
         (disk, Ok(receipts)) => Ok((disk, receipts)),
         (_, Err(_)) => Err(Fail::new("not written")),
     }
@@ -77,7 +86,7 @@ fn ends_of(alloc: Global, receipts: &[Receipt]) -> Result<Vec<(u32, u32)>, Fail>
 
 #[test]
 fn one_writer_logs_its_lines_in_order(rt: HostRuntime) -> Result<(), Fail> {
-    let (mut disk, receipts) = three_by(&rt, rt.alloc(), 1)?;
+    let (mut disk, receipts) = three_by(&rt, rt.alloc(), 1, false)?;
     let ends = ends_of(rt.alloc(), receipts.as_slice())?;
     assert_eq!(rt; ends.as_slice(), [(60, 1), (92, 2), (124, 3)].as_slice());
     let bytes = disk.read(&segment_name(1000), 0, 1000)?;
@@ -87,7 +96,7 @@ fn one_writer_logs_its_lines_in_order(rt: HostRuntime) -> Result<(), Fail> {
 
 #[test]
 fn two_writers_log_each_line_once(rt: HostRuntime) -> Result<(), Fail> {
-    let (mut disk, receipts) = three_by(&rt, rt.alloc(), 2)?;
+    let (mut disk, receipts) = three_by(&rt, rt.alloc(), 2, false)?;
     let bytes = disk.read(&segment_name(1000), 0, 1000)?;
     assert_eq!(rt; bytes.as_slice(), THREE.as_slice());
     let mut ends = ends_of(rt.alloc(), receipts.as_slice())?;
@@ -100,5 +109,18 @@ fn two_writers_log_each_line_once(rt: HostRuntime) -> Result<(), Fail> {
         .iter()
         .any(|order| order.as_slice() == ends.as_slice());
     assert!(rt; is_one);
+    Ok(())
+}
+
+#[test]
+fn a_drain_of_two_writers_leaves_a_table_file(rt: HostRuntime) -> Result<(), Fail> {
+    let (mut disk, receipts) = three_by(&rt, rt.alloc(), 2, true)?;
+    assert_eq!(rt; receipts.len(), 3);
+    assert_eq!(rt;
+        disk.list()?.as_slice(),
+        [table_name(Table(0), 1)].as_slice()
+    );
+    let bytes = disk.read(&table_name(Table(0), 1), 0, 1000)?;
+    assert_eq!(rt; bytes.as_slice(), TABLE.as_slice());
     Ok(())
 }

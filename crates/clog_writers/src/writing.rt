@@ -35,18 +35,20 @@ ghost use Rattle.clog_writers.specs.declared.fault.WriteFault.TheVariants.{Spent
 ghost use Rattle.clog_writers.specs.Left.{LeavesShares, least_of};
 ghost use Rattle.clog_writers.specs.Planned.{IsPlanFor};
 ghost use Rattle.clog_writers.specs.Written.{
-  AppendsLog,
+  BringsShares,
   HasReceipts,
   HasShareCause,
   IsAskedBy,
   TellsWrittenShares,
 };
 
+use crate::draining::drain_asked;
 use crate::fault::{WriteFault, unplanned};
 use crate::logging::log_shares;
 use crate::placing::place_receipts;
 use crate::planning::{Plan, make_plan};
 use clog_base::Sizes;
+use clog_closing::stores_are_left;
 use clog_disk::Disk;
 use clog_mutation::Mutation;
 use clog_store::Store;
@@ -95,14 +97,16 @@ fn write_plan<R: Threads + Wait + Sync, D: Disk + Send + Drop>(
     store: Store<D>,
     sizes: Sizes,
     plan: Plan<Store<D>>,
+    drain: bool,
 ) -> (D, Result<Vec<Receipt>, WriteFault>)
     requires fresh { store ≡ store_over store.notes.log store.notes.sizes store.archives }
     requires runs { store.notes.log.is_stopped ≡ false }
     requires sizes { sizes ≡ store.notes.sizes }
+    requires tables { sizes.tables ≡ most_tables }
     requires plan { (mutations : List MutationOf) × IsPlanFor sizes mutations plan }
     ensures written { (mutations : List MutationOf) (options : ApplyOptions) (opened : Files)
         (made : List Change) → IsPlanFor sizes mutations plan
-        → IsAskedBy options store.notes.sizes store.archives
+        → IsAskedBy options store.notes.sizes store.archives drain
         → D.files store.notes.log.disk ≡ Some opened → D.changes store.notes.log.disk ≡ Some made
         → IfOk result.1 (λ receipts. TellsWrittenShares options store.notes.base opened made
         (D.files result.0) (D.changes result.0) mutations receipts.items) }
@@ -112,11 +116,13 @@ fn write_plan<R: Threads + Wait + Sync, D: Disk + Send + Drop>(
         → IsPlanFor sizes mutations plan → D.files store.notes.log.disk ≡ Some opened
         → D.lasted_at store.notes.log.disk (D.moment store.notes.log.disk)
         → LeavesShares D.changes D.moment D.since D.leaves store.notes.log.disk result.0
-        (bytes_at opened) sizes.writers mutations (least_of result.1 mutations) }
+        (bytes_at opened) store.archives drain sizes.writers mutations
+        (least_of result.1 mutations) }
     ensures spent { (mutations : List MutationOf) → IsPlanFor sizes mutations plan
         → result.1 ≡ Err Spent → sizes.ordinals ≤ 1 + (2 * length mutations - 1) }
-    ensures wrote { (log : List Write)
-        × AppendsLog D.changes store.notes.log.disk result.0 log }
+    ensures wrote { (mutations : List MutationOf) → IsPlanFor sizes mutations plan
+        → (log : List Write) × BringsShares D.changes store.notes.log.disk result.0 store.archives
+        drain sizes.writers mutations log }
     ensures stay { (opened now : Files) → D.files store.notes.log.disk ≡ Some opened
         → D.files result.0 ≡ Some now → AllStay opened now }
     ensures told { SameTold (D.files store.notes.log.disk) (D.files result.0) }
@@ -125,6 +131,8 @@ fn write_plan<R: Threads + Wait + Sync, D: Disk + Send + Drop>(
 {
     disks_tell_both(&store);
     disks_read_now(&store);
+    // The law of what a store leaves, for the contract alone.
+    stores_are_left();
     let at_open = store.fault_count();
     let base = store.base();
     let Plan {
@@ -134,7 +142,9 @@ fn write_plan<R: Threads + Wait + Sync, D: Disk + Send + Drop>(
     } = plan;
     let mut receipts = receipts;
     let (store, fault) = log_shares(rt, alloc, store, sizes, base, workers, room);
+    let mut store = store;
     place_receipts(base, store.logged(), receipts.as_mut_slice());
+    let fault = drain_asked(alloc, &mut store, at_open, drain, fault);
     let outcome = ended(at_open, store.fault_count(), fault, receipts);
     (store.into_disk(), outcome)
 }
@@ -142,23 +152,27 @@ fn write_plan<R: Threads + Wait + Sync, D: Disk + Send + Drop>(
 /// Logs the lines of a file over a store that was just opened, by as many writers as its sizes
 /// say, each in a thread of its own where one can be started, and gives the disk back. Line `n`,
 /// from 1, is written by the writer of number `n` modulo their count, each writer's lines in order,
-/// and the log is synced once, at the end. The receipts are in the order of the lines.
+/// and the log is synced once, at the end. With `drain` a table file is put then for each table
+/// that one of them touches, and all segments go, each with its archive name first where the store
+/// archives. The receipts are in the order of the lines.
 ///
-/// Whatever is answered, the disk's further changes are appends alone, which have brought segments.
+/// Whatever is answered, the disk's further changes are appends alone, which have brought segments;
+/// with `drain` perhaps table files and removals behind them, in order, once all lines are logged.
 /// Where all lasted before, each image of a crash since then restores what the folder restored, and
 /// the first of the lines that were appended, in the order of the log, which are the first of each
 /// writer's; at `Ok` each image of now restores all lines. Each file that was there stands as it
 /// was.
 ///
 /// `TooLarge`: the entry of a line is larger than half a segment's capacity; `OutOfMemory`: memory
-/// was refused, before a line was written or by the sync; `Spent`: the log has no further segment,
-/// so it may have at most two segments for each line; `Rows`: no further group for a barrier;
-/// `Stopped`: the disk has failed, with its fault counts.
+/// was refused, before a line was written, by the sync or for the drain's table files; `Spent`: the
+/// log has no further segment, so it may have at most two segments for each line; `Rows`: no
+/// further group for a barrier; `Stopped`: the disk has failed, with its fault counts.
 pub fn write_shares<R: Threads + Wait + Sync, D: Disk + Send + Drop>(
     rt: &R,
     alloc: Global,
     store: Store<D>,
     mutations: Vec<Mutation>,
+    drain: bool,
 ) -> (D, Result<Vec<Receipt>, WriteFault>)
     requires fresh { store ≡ store_over store.notes.log store.notes.sizes store.archives }
     requires runs { store.notes.log.is_stopped ≡ false }
@@ -166,7 +180,7 @@ pub fn write_shares<R: Threads + Wait + Sync, D: Disk + Send + Drop>(
     requires few { length mutations.items < 2 ^ 32 }
     requires within { AllByRecursion IsWithinLimits mutations.items }
     ensures written { (options : ApplyOptions) (opened : Files) (made : List Change)
-        → IsAskedBy options store.notes.sizes store.archives
+        → IsAskedBy options store.notes.sizes store.archives drain
         → D.files store.notes.log.disk ≡ Some opened → D.changes store.notes.log.disk ≡ Some made
         → IfOk result.1 (λ receipts. TellsWrittenShares options store.notes.base opened made
         (D.files result.0) (D.changes result.0) mutations.items receipts.items) }
@@ -175,12 +189,12 @@ pub fn write_shares<R: Threads + Wait + Sync, D: Disk + Send + Drop>(
     ensures shown { (opened : Files) → D.files store.notes.log.disk ≡ Some opened
         → D.lasted_at store.notes.log.disk (D.moment store.notes.log.disk)
         → LeavesShares D.changes D.moment D.since D.leaves store.notes.log.disk result.0
-        (bytes_at opened) store.notes.sizes.writers mutations.items
+        (bytes_at opened) store.archives drain store.notes.sizes.writers mutations.items
         (least_of result.1 mutations.items) }
     ensures spent { result.1 ≡ Err Spent
         → store.notes.sizes.ordinals ≤ 1 + (2 * length mutations.items - 1) }
-    ensures wrote { (log : List Write)
-        × AppendsLog D.changes store.notes.log.disk result.0 log }
+    ensures wrote { (log : List Write) × BringsShares D.changes store.notes.log.disk result.0
+        store.archives drain store.notes.sizes.writers mutations.items log }
     ensures stay { (opened now : Files) → D.files store.notes.log.disk ≡ Some opened
         → D.files result.0 ≡ Some now → AllStay opened now }
     ensures told { SameTold (D.files store.notes.log.disk) (D.files result.0) }
@@ -191,7 +205,7 @@ pub fn write_shares<R: Threads + Wait + Sync, D: Disk + Send + Drop>(
     disks_read_now(&store);
     let sizes = store.sizes();
     match make_plan(alloc, sizes, mutations) {
-        Ok(plan) => write_plan(rt, alloc, store, sizes, plan),
+        Ok(plan) => write_plan(rt, alloc, store, sizes, plan, drain),
         Err(fault) => (store.into_disk(), Err(unplanned(fault))),
     }
 }

@@ -1,16 +1,4 @@
-use Rattle.std.proofs.Common.{
-  ◌≡◌,
-  ℕ,
-  ◌≤◌,
-  List,
-  arith,
-  false,
-  length,
-  sym,
-  ◌∙◌,
-  ap,
-  subst,
-}
+use Rattle.std.proofs.Common.{◌≡◌, ℕ, ◌≤◌, inl, inr, Bool, List, length, sym, ◌∙◌, ap, subst, arith}
 use Rattle.std.specs.Prelude.{IfOk}
 use Rattle.std.specs.Global.{Vec}
 use Rattle.clog_base.specs.declared.sizes.Sizes.{Sizes}
@@ -19,27 +7,34 @@ use Rattle.clog_disk.specs.Files.{SameTold}
 use Rattle.clog_disk.specs.Images.{IsLater}
 use Rattle.clog_io.specs.Causes.{Rose}
 use Rattle.path_core.specs.declared.note.EntryNote.{EntryNote}
-use Rattle.path_core.specs.Keeper.{IsFresh}
+use Rattle.path_core.specs.Keeper.{Holding, IsFresh}
 use Rattle.clog_store.specs.Life.{lasting_in}
 use Rattle.clog_store.specs.StoreState.{holding_of}
 use Rattle.clog_lines.proofs.Synced.{is_fresh}
 use Rattle.write_path.specs.declared.commit.Receipt.{Receipt}
 use Rattle.clog_writers.specs.Left.{least_of}
 use Rattle.clog_writers.specs.Placed.{AreAtTheirLines}
-use Rattle.clog_writers.specs.Written.{AppendsLog, HasReceipts, IsAskedBy, TellsWrittenShares}
+use Rattle.clog_writers.specs.Written.{
+  BringsShares,
+  HasReceipts,
+  IsAskedBy,
+  TellsWrittenShares,
+}
+use Rattle.clog_writers.proofs.Brought.{
+  brings_shares,
+  first_disk,
+  firsts_on,
+  its_archives,
+  its_disk,
+  logs_on,
+  still_told,
+}
 use Rattle.clog_writers.proofs.Counted.{as_many_lines}
 use Rattle.clog_writers.proofs.Crashing.{lasting}
+use Rattle.clog_writers.proofs.Ended.{written}
 use Rattle.clog_writers.proofs.LeftBy.{least_reached, left_by}
 use Rattle.clog_writers.proofs.Running.{written_back}
-use Rattle.clog_writers.proofs.Told.{
-  at_ok,
-  brought,
-  its_disk,
-  no_fewer,
-  runs_on,
-  still_told,
-  written,
-}
+use Rattle.clog_writers.proofs.Told.{at_ok, no_fewer, runs_on}
 use Rattle.clog_writers.proofs.writing.write_plan.Goals as goal
 
 pub log_shares-store-requires-clause-fresh : goal.log_shares-store-requires-clause-fresh
@@ -51,6 +46,58 @@ log_shares-store-requires-clause-fresh g c κs within =
     (subst (λ (z : Sizes). IsFresh a.notes.base z h) (sym c.requires.sizes)
     (is_fresh D.files D.changes D.moment D.faults g.row.D.coded.code a c.requires.fresh
     c.requires.runs))
+
+pub drain_asked-fault-requires-clause-opened : goal.drain_asked-fault-requires-clause-opened
+drain_asked-fault-requires-clause-opened g c =
+    let D = g.D.Disk in
+    c.fault_count-at_open.ensures.count
+    ∙ ap D.faults (sym (first_disk D.files D.changes D.moment D.faults g.row.D.coded c.args.store
+    c.log_shares-store.result.0 c.requires.fresh c.log_shares-store.ensures.alone))
+
+pub drain_asked-fault-requires-clause-tables : goal.drain_asked-fault-requires-clause-tables
+drain_asked-fault-requires-clause-tables g c =
+    c.log_shares-store.ensures.alone.tables_are
+    ∙ ap (λ (z : Sizes). z.tables) (sym c.requires.sizes) ∙ c.requires.tables
+
+pub drain_asked-fault-requires-clause-none : goal.drain_asked-fault-requires-clause-none
+drain_asked-fault-requires-clause-none g c =
+    let alone = c.log_shares-store.ensures.alone in
+    record {
+      no_file = alone.no_file;
+      none_dropped = alone.none_dropped;
+      none_archived = alone.none_archived;
+    }
+
+pub drain_asked-fault-requires-clause-stopped : goal.drain_asked-fault-requires-clause-stopped
+drain_asked-fault-requires-clause-stopped g c = c.log_shares-store.ensures.stops
+
+pub returns-clause-wrote : goal.returns-clause-wrote
+returns-clause-wrote g c = λ ms plan.
+    let D = g.D.Disk in
+    let a = c.args.store in
+    let b = c.log_shares-store.result.0 in
+    let e = c.drain_asked-fault.new.store in
+    let told = c.into_disk.ensures in
+    let shares = c.log_shares-store.ensures in
+    let drained = c.drain_asked-fault.ensures in
+    let sizes = c.args.sizes in
+    let base = c.base-base.result in
+    subst (λ (d : g.row.D.Denot). (log : List Write) × BringsShares D.changes a.notes.log.disk d
+    a.archives c.args.drain sizes.writers ms log) (sym told.disk) (
+      _,
+      brings_shares D.files D.changes D.moment D.faults g.row.D.coded a b e c.requires.fresh
+          shares.alone drained.keeps drained.first told.alone told.ordered told.notes told.sound
+          c.args.drain sizes base ms
+          (elim drained.begun [
+            | inl none ↦ inl none
+            | inr part ↦ inr (
+              part.0,
+              logs_on D.files D.changes D.moment D.faults g.row.D.coded a b e c.requires.fresh
+                  shares.alone drained.keeps drained.first sizes base ms
+                  (shares.logs ms plan.dealt part.1),
+            )
+          ]),
+    )
 
 pub returns-clause-receipts : goal.returns-clause-receipts
 returns-clause-receipts g c = λ ms plan.
@@ -67,7 +114,8 @@ returns-clause-receipts g c = λ ms plan.
     (sym back ∙ ap (λ (v : Vec Receipt). v.items) (sym so.0))
     (record {
       notes = b.notes.logged;
-      holds = (c.log_shares-store.ensures.logs ms plan.dealt so.1).notes;
+      holds = (c.log_shares-store.ensures.logs ms plan.dealt
+          (c.drain_asked-fault.ensures.ok so.1).0).notes;
       placed = subst (λ (k : ℕ). AreAtTheirLines k b.notes.logged xs) c.base-base.ensures.base
           (subst (λ (l : List EntryNote). AreAtTheirLines c.base-base.result l xs)
           c.logged.ensures put.placed);
@@ -77,85 +125,91 @@ returns-clause-receipts g c = λ ms plan.
 pub returns-clause-shown : goal.returns-clause-shown
 returns-clause-shown g c = λ ms opened plan is lasted.
     let D = g.D.Disk in
+    let a = c.args.store in
     let b = c.log_shares-store.result.0 in
+    let e = c.drain_asked-fault.new.store in
     let told = c.into_disk.ensures in
     let shares = c.log_shares-store.ensures in
+    let drained = c.drain_asked-fault.ensures in
     let sizes = c.args.sizes in
-    left_by D.files D.changes D.moment D.faults D.since D.leaves D.read_at D.lasted_at
-    g.row.D.coded c.disks_tell_both.ensures c.disks_read_now.ensures c.args.store b
-    c.requires.fresh shares.alone c.into_disk.result
+    let base = c.base-base.result in
+    let held = firsts_on D.files D.changes D.moment D.faults g.row.D.coded a b e c.requires.fresh
+    shares.alone drained.keeps drained.first sizes.writers ms (shares.firsts ms plan.dealt) in
+    let logs = λ (none : _). logs_on D.files D.changes D.moment D.faults g.row.D.coded a b e
+    c.requires.fresh shares.alone drained.keeps drained.first sizes base ms
+    (shares.logs ms plan.dealt none) in
+    left_by D.files D.changes D.moment D.since D.leaves D.read_at D.lasted_at
+    c.disks_read_now.ensures a.notes.log.disk e
+    (its_disk D.files D.changes D.moment D.faults g.row.D.coded a b e c.requires.fresh shares.alone
+    drained.keeps drained.first) c.into_disk.result
     (record {
       disk = told.disk;
       opened = told.opened;
       later = told.later;
-      appends = told.alone;
       notes = told.notes;
       stored = told.stored;
       shown = told.shown;
       lasts = told.lasts;
     })
-    sizes.writers (least_of c.ended-outcome.result ms) ms (shares.firsts ms plan.dealt)
-    (least_reached c.ended-outcome.result ms (lasting_in b.notes.log)
-    (at_ok c.ended-outcome.result _ (λ receipts. length ms ≤ lasting_in b.notes.log)
+    (still_told D.files D.changes D.moment D.faults g.row.D.coded a b e c.requires.fresh
+    shares.alone drained.keeps drained.first told.grown c.disks_tell_both.ensures) a.archives
+    c.args.drain sizes.writers (least_of c.ended-outcome.result ms) ms held
+    (least_reached c.ended-outcome.result ms (lasting_in e.notes.log)
+    (at_ok c.ended-outcome.result _ (λ receipts. length ms ≤ lasting_in e.notes.log)
     c.ended-outcome.ensures.ok (λ receipts so.
     let some = sizes.within.some_writer in
-    let many = as_many_lines sizes.capacity sizes.writers ms b.notes.logged
-    (omega (arith, some)) (shares.logs ms plan.dealt so.1).notes in
-    let all = lasting b.notes told.notes told.stored sizes.writers ms
-    (shares.firsts ms plan.dealt) in
+    let many = as_many_lines sizes.capacity sizes.writers ms e.notes.logged
+    (omega (arith, some)) (logs (drained.ok so.1).0).notes in
+    let all = lasting e.notes told.notes told.stored sizes.writers ms held in
     omega (arith, many, all))))
+    (brings_shares D.files D.changes D.moment D.faults g.row.D.coded a b e c.requires.fresh
+    shares.alone drained.keeps drained.first told.alone told.ordered told.notes told.sound
+    c.args.drain sizes base ms
+    (elim drained.begun [ inl none ↦ inl none | inr part ↦ inr (part.0, logs part.1) ]))
     opened is lasted
-
-pub returns-clause-wrote : goal.returns-clause-wrote
-returns-clause-wrote g c =
-    let D = g.D.Disk in
-    let a = c.args.store in
-    let b = c.log_shares-store.result.0 in
-    let told = c.into_disk.ensures in
-    subst (λ (d : g.row.D.Denot). (log : List Write)
-    × AppendsLog D.changes a.notes.log.disk d log) (sym told.disk) (
-      _,
-      brought D.files D.changes D.moment D.faults g.row.D.coded c.disks_tell_both.ensures a b
-          c.requires.fresh c.log_shares-store.ensures.alone told.alone,
-    )
 
 pub returns-clause-stay : goal.returns-clause-stay
 returns-clause-stay g c = λ opened now is is_now.
     let D = g.D.Disk in
-    let its = its_disk D.files D.changes D.moment D.faults g.row.D.coded c.disks_tell_both.ensures
-    c.args.store c.log_shares-store.result.0 c.requires.fresh c.log_shares-store.ensures.alone in
+    let drained = c.drain_asked-fault.ensures in
+    let its = its_disk D.files D.changes D.moment D.faults g.row.D.coded c.args.store
+    c.log_shares-store.result.0 c.drain_asked-fault.new.store c.requires.fresh
+    c.log_shares-store.ensures.alone drained.keeps drained.first in
     c.into_disk.ensures.stay opened now (ap D.files its ∙ is) is_now
 
 pub returns-clause-told : goal.returns-clause-told
 returns-clause-told g c =
     let D = g.D.Disk in
-    let a = c.args.store in
-    let b = c.log_shares-store.result.0 in
     let told = c.into_disk.ensures in
-    subst (λ (d : g.row.D.Denot). SameTold (D.files a.notes.log.disk) (D.files d)) (sym told.disk)
-    (still_told D.files D.changes D.moment D.faults g.row.D.coded c.disks_tell_both.ensures a b
-    c.requires.fresh c.log_shares-store.ensures.alone told.alone)
+    let drained = c.drain_asked-fault.ensures in
+    subst (λ (d : g.row.D.Denot). SameTold (D.files c.args.store.notes.log.disk) (D.files d))
+    (sym told.disk)
+    (still_told D.files D.changes D.moment D.faults g.row.D.coded c.args.store
+    c.log_shares-store.result.0 c.drain_asked-fault.new.store c.requires.fresh
+    c.log_shares-store.ensures.alone drained.keeps drained.first told.grown
+    c.disks_tell_both.ensures)
 
 pub returns-clause-later : goal.returns-clause-later
 returns-clause-later g c =
     let D = g.D.Disk in
-    let a = c.args.store in
-    let b = c.log_shares-store.result.0 in
+    let drained = c.drain_asked-fault.ensures in
     subst (λ (d : g.row.D.Denot). IsLater D.moment D.read_at D.lasted_at d c.into_disk.result)
-    (its_disk D.files D.changes D.moment D.faults g.row.D.coded c.disks_tell_both.ensures a b
-    c.requires.fresh c.log_shares-store.ensures.alone) c.into_disk.ensures.later
+    (its_disk D.files D.changes D.moment D.faults g.row.D.coded c.args.store
+    c.log_shares-store.result.0 c.drain_asked-fault.new.store c.requires.fresh
+    c.log_shares-store.ensures.alone drained.keeps drained.first) c.into_disk.ensures.later
 
 pub ended-outcome-requires-clause-later : goal.ended-outcome-requires-clause-later
 ended-outcome-requires-clause-later g c =
     let D = g.D.Disk in
-    let a = c.args.store in
-    let b = c.log_shares-store.result.0 in
-    let its = its_disk D.files D.changes D.moment D.faults g.row.D.coded c.disks_tell_both.ensures
-    a b c.requires.fresh c.log_shares-store.ensures.alone in
+    let e = c.drain_asked-fault.new.store in
+    let drained = c.drain_asked-fault.ensures in
+    let its = its_disk D.files D.changes D.moment D.faults g.row.D.coded c.args.store
+    c.log_shares-store.result.0 e c.requires.fresh c.log_shares-store.ensures.alone drained.keeps
+    drained.first in
     let first = c.fault_count-at_open.ensures.count in
     let n = c.fault_count.ensures in
     let same = ap D.faults its ∙ sym first in
-    no_fewer b.notes.log.is_stopped c.fault_count-at_open.result c.fault_count.result
+    no_fewer e.notes.log.is_stopped c.fault_count-at_open.result c.fault_count.result
     c.fault_count-at_open.type_inv (λ runs. n.count ∙ (n.quiet runs ∙ same))
     (λ stopped. subst (λ (p : ℕ × ℕ). Rose p.0 p.1) (λ i. (same i, sym n.count i))
     (n.risen stopped))
@@ -163,24 +217,29 @@ ended-outcome-requires-clause-later g c =
 pub ended-outcome-requires-clause-stopped : goal.ended-outcome-requires-clause-stopped
 ended-outcome-requires-clause-stopped g c = λ x k is.
     let D = g.D.Disk in
-    let a = c.args.store in
-    let b = c.log_shares-store.result.0 in
-    let its = its_disk D.files D.changes D.moment D.faults g.row.D.coded c.disks_tell_both.ensures
-    a b c.requires.fresh c.log_shares-store.ensures.alone in
+    let drained = c.drain_asked-fault.ensures in
+    let its = its_disk D.files D.changes D.moment D.faults g.row.D.coded c.args.store
+    c.log_shares-store.result.0 c.drain_asked-fault.new.store c.requires.fresh
+    c.log_shares-store.ensures.alone drained.keeps drained.first in
     let n = c.fault_count.ensures in
-    subst (λ (p : ℕ × ℕ). Rose p.0 p.1)
-    (λ i. ((ap D.faults its ∙ sym c.fault_count-at_open.ensures.count) i, sym n.count i))
-    (n.risen (c.log_shares-store.ensures.stops x k is))
+    elim (drained.stopped x k is) [
+      | inl stopped ↦ subst (λ (p : ℕ × ℕ). Rose p.0 p.1)
+          (λ i. ((ap D.faults its ∙ sym c.fault_count-at_open.ensures.count) i, sym n.count i))
+          (n.risen stopped)
+      | inr rose ↦ subst (λ (k : ℕ). Rose c.fault_count-at_open.result k) (sym n.count) rose
+    ]
 
 pub returns-clause-written : goal.returns-clause-written
 returns-clause-written g c = λ ms options opened made plan asked is made_is.
     let D = g.D.Disk in
     let a = c.args.store in
     let b = c.log_shares-store.result.0 in
+    let e = c.drain_asked-fault.new.store in
     let told = c.into_disk.ensures in
-    let alone = c.log_shares-store.ensures.alone in
-    let its = its_disk D.files D.changes D.moment D.faults g.row.D.coded c.disks_tell_both.ensures
-    a b c.requires.fresh alone in
+    let shares = c.log_shares-store.ensures in
+    let drained = c.drain_asked-fault.ensures in
+    let its = its_disk D.files D.changes D.moment D.faults g.row.D.coded a b e c.requires.fresh
+    shares.alone drained.keeps drained.first in
     let n = c.fault_count.ensures in
     let base = c.base-base.result in
     let put = c.place_receipts.ensures in
@@ -188,31 +247,39 @@ returns-clause-written g c = λ ms options opened made plan asked is made_is.
     let lent : length xs ≡ length c.args.plan.receipts.items =
     put.long ∙ ap length c.as_mut_slice.ensures.value in
     let back = written_back c.args.plan.receipts.len xs _ (c.args.plan.receipts.ok.0 ∙ sym lent) in
-    let placed = subst (λ (l : List EntryNote). AreAtTheirLines base l xs) c.logged.ensures
-    put.placed in
+    let placed = subst (λ (l : List EntryNote). AreAtTheirLines base l xs)
+    (c.logged.ensures ∙ sym (ap (λ (h : Holding). h.logged) drained.keeps)) put.placed in
     subst (λ (d : g.row.D.Denot). IfOk c.ended-outcome.result (λ receipts.
     TellsWrittenShares options a.notes.base opened made (D.files d) (D.changes d) ms
     receipts.items)) (sym told.disk)
     (at_ok c.ended-outcome.result _ (λ receipts. TellsWrittenShares options a.notes.base opened
-    made (D.files b.notes.log.disk) (D.changes b.notes.log.disk) ms receipts.items)
+    made (D.files e.notes.log.disk) (D.changes e.notes.log.disk) ms receipts.items)
     c.ended-outcome.ensures.ok (λ receipts so.
-    let runs = runs_on b.notes.log.is_stopped
+    let done = drained.ok so.1 in
+    let runs = runs_on e.notes.log.is_stopped
     (Rose c.fault_count-at_open.result c.fault_count.result)
     (λ stopped. subst (λ (p : ℕ × ℕ). Rose p.0 p.1)
     (λ i. ((ap D.faults its ∙ sym c.fault_count-at_open.ensures.count) i, sym n.count i))
     (n.risen stopped)) so.2 in
     subst (λ (l : List Receipt). TellsWrittenShares options a.notes.base opened made
-    (D.files b.notes.log.disk) (D.changes b.notes.log.disk) ms l)
+    (D.files e.notes.log.disk) (D.changes e.notes.log.disk) ms l)
     (sym back ∙ ap (λ (v : Vec Receipt). v.items) (sym so.0))
-    (subst (λ (k : ℕ). TellsWrittenShares options k opened made (D.files b.notes.log.disk)
-    (D.changes b.notes.log.disk) ms xs) c.base-base.ensures.base
-    (written D.files D.changes D.moment D.faults g.row.D.coded c.disks_tell_both.ensures a b
-    c.requires.fresh alone told.alone c.args.sizes base ms
-    (c.log_shares-store.ensures.logs ms plan.dealt so.1) runs told.notes told.sound
-    (told.folder runs) options a.archives
-    (subst (λ (z : Sizes). IsAskedBy options z a.archives) (sym c.requires.sizes) asked) xs placed
-    (lent ∙ plan.receipts) opened made is made_is))))
+    (subst (λ (k : ℕ). TellsWrittenShares options k opened made (D.files e.notes.log.disk)
+    (D.changes e.notes.log.disk) ms xs) c.base-base.ensures.base
+    (written D.files D.changes D.moment D.faults g.row.D.coded.code c.disks_tell_both.ensures e
+    runs told.notes told.sound (told.folder runs) told.alone told.ordered
+    c.stores_are_left.ensures c.args.sizes base ms
+    (logs_on D.files D.changes D.moment D.faults g.row.D.coded a b e c.requires.fresh shares.alone
+    drained.keeps drained.first c.args.sizes base ms (shares.logs ms plan.dealt done.0))
+    c.args.drain done.1 options
+    (subst (λ (x : Bool). IsAskedBy options c.args.sizes x c.args.drain)
+    (sym (its_archives D.files D.changes D.moment D.faults g.row.D.coded a b e c.requires.fresh
+    shares.alone drained.keeps drained.first))
+    (subst (λ (z : Sizes). IsAskedBy options z a.archives c.args.drain) (sym c.requires.sizes)
+    asked)) xs placed (lent ∙ plan.receipts) opened made (ap D.files its ∙ is)
+    (ap D.changes its ∙ made_is)))))
 
 pub returns-clause-spent : goal.returns-clause-spent
 returns-clause-spent g c = λ ms plan is.
-    c.log_shares-store.ensures.spent ms plan.dealt (c.ended-outcome.ensures.spent is)
+    c.log_shares-store.ensures.spent ms plan.dealt
+    (c.drain_asked-fault.ensures.spent (c.ended-outcome.ensures.spent is))

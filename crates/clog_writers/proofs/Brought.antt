@@ -1,0 +1,161 @@
+-- What a store has appended once writers have logged over it, whatever was answered.
+use Rattle.std.proofs.Common.{
+  ◌≡◌,
+  ℕ,
+  inl,
+  inr,
+  Bool,
+  true,
+  List,
+  ◌++◌,
+  Option,
+  refl,
+  sym,
+  ◌∙◌,
+  ap,
+  subst,
+}
+use Rattle.std.specs.Prelude.{is_some, option_map, ◌⊎◌}
+use base.Stored.{Coded}
+use Rattle.clog_base.specs.declared.sizes.Sizes.{Sizes}
+use Rattle.clog_disk.specs.declared.change.Change.{Change}
+use Rattle.clog_disk.specs.Files.{Files, SameTold}
+use Rattle.clog_mutation.specs.declared.mutation.Mutation.{Mutation}
+use Rattle.clog_crash.specs.Grown.{appends_of}
+use Rattle.clog_crash.specs.Log.{Write}
+use Rattle.path_core.specs.Keeper.{Holding}
+use Rattle.clog_store.specs.Grows.{segments_with}
+use Rattle.clog_store.specs.NoteLog.{IsNoteLog}
+use Rattle.clog_store.specs.StoreFolder.{IsSound}
+use Rattle.clog_store.specs.StoreState.{
+  AppendsAlone,
+  HasGrown,
+  HasOrdered,
+  StoreState,
+  deeds_by,
+  holding_of,
+  store_over,
+}
+use Rattle.clog_closing.specs.Stores.{files_by, ids_in}
+use Rattle.clog_lines.specs.Drained.{HasNoDeeds, KeepsLog}
+use Rattle.clog_lines.proofs.Begun.{brings, log_in, stands}
+use Rattle.clog_lines.proofs.Brought.{written_by}
+use Rattle.clog_lines.proofs.Synced.{none_done}
+use Rattle.clog_lines.proofs.Written.{told_of}
+use Rattle.clog_writers.specs.Logged.{GoesOnAlone, HoldFirsts, HoldShares, LogsShares}
+use Rattle.clog_writers.specs.Written.{AreMadeFor, BringsShares, HasGoneInOrder}
+use Rattle.clog_writers.proofs.Leaving.{history, its_writer, lines, shares}
+
+-- A store that goes on alone from one that was just opened has the same disk at its opening.
+pub first_disk : {D : Type 0} (files : D → Option Files) (changes : D → Option (List Change))
+    (moment faults : D → ℕ) (coded : Coded D) (a b : StoreState D)
+    → a ≡ store_over a.notes.log a.notes.sizes a.archives
+    → GoesOnAlone (holding_of files changes moment faults coded.code a)
+    (holding_of files changes moment faults coded.code b) → b.first ≡ a.notes.log.disk
+first_disk files changes moment faults coded a b opens alone =
+    coded.inj b.first a.first alone.disk_is ∙ ap (λ (s : StoreState _). s.first) opens
+
+-- Then it goes on beside its log.
+module _ {D : Type 0} (files : D → Option Files) (changes : D → Option (List Change))
+    (moment faults : D → ℕ) (coded : Coded D) (a b e : StoreState D)
+    (opens : a ≡ store_over a.notes.log a.notes.sizes a.archives)
+    (alone : GoesOnAlone (holding_of files changes moment faults coded.code a)
+    (holding_of files changes moment faults coded.code b))
+    (keeps : KeepsLog (holding_of files changes moment faults coded.code b)
+    (holding_of files changes moment faults coded.code e)) (first : e.first ≡ b.first) where
+  abbrev Held : StoreState D → Holding
+  Held x = holding_of files changes moment faults coded.code x
+
+  pub its_disk : e.first ≡ a.notes.log.disk
+  its_disk = first ∙ first_disk files changes moment faults coded a b opens alone
+
+  pub its_archives : e.archives ≡ a.archives
+  its_archives = ap (λ (h : Holding). h.opening.archives) keeps ∙ alone.archives_are
+
+  -- what was logged is logged still
+  pub logs_on : (sizes : Sizes) (base : ℕ) (ms : List Mutation)
+      → LogsShares sizes base ms (Held b) → LogsShares sizes base ms (Held e)
+  logs_on sizes base ms logs = record {
+    base_is = ap (λ (h : Holding). h.base) keeps ∙ logs.base_is;
+    notes = subst (HoldShares sizes.capacity sizes.writers ms)
+        (sym (ap (λ (h : Holding). h.logged) keeps)) logs.notes;
+    none_kept = ap (λ (h : Holding). h.kept) keeps ∙ logs.none_kept;
+  }
+
+  -- and so are the first of each share
+  pub firsts_on : (writers : ℕ) (ms : List Mutation)
+      → HoldFirsts writers ms (b.notes.logged ++ b.notes.kept)
+      → HoldFirsts writers ms (e.notes.logged ++ e.notes.kept)
+  firsts_on writers ms = subst (HoldFirsts writers ms)
+      (sym (ap (λ (h : Holding). h.logged ++ h.kept) keeps))
+
+  abbrev pub ws : List Write
+  ws = segments_with e.notes.log.past e.notes.log.id e.notes.log.sections
+
+  module _ (growth : HasGrown changes e.first e.notes.log) where
+    changed : changes e.notes.log.disk
+        ≡ option_map (λ made. made ++ growth.added) (changes a.notes.log.disk)
+    changed = growth.changes_are
+        ∙ ap (λ (x : D). option_map (λ made. made ++ growth.added) (changes x)) its_disk
+
+    pub still_told : ((d : D) → is_some (changes d) ≡ is_some (files d))
+        → SameTold (files a.notes.log.disk) (files e.notes.log.disk)
+    still_told tells =
+        told_of (files a.notes.log.disk) (files e.notes.log.disk) (changes a.notes.log.disk)
+        (changes e.notes.log.disk) growth.added (tells a.notes.log.disk)
+        (tells e.notes.log.disk) changed
+
+    brought_by : (archives drain : Bool) (writers : ℕ) (ms : List Mutation)
+        → AreMadeFor archives drain writers ms growth.added
+        → BringsShares changes a.notes.log.disk e.notes.log.disk archives drain writers ms ws
+    brought_by archives drain writers ms made_for = record {
+      added = growth.added;
+      changes_are = changed;
+      made_for = made_for;
+      brought = written_by e.notes.log growth.part (appends_of growth.added) growth.brought
+          growth.grown;
+    }
+
+  -- ---- whatever was answered
+
+  module _ (appends : AppendsAlone changes e) (ordered : HasOrdered changes e)
+      (notes : IsNoteLog e.notes) (sound : IsSound e.notes.log) (drain : Bool) (sizes : Sizes)
+      (base : ℕ) (ms : List Mutation) where
+    abbrev pub Brings : Type 0
+    Brings =
+        BringsShares changes a.notes.log.disk e.notes.log.disk a.archives drain sizes.writers ms ws
+
+    by_appends : HasNoDeeds (Held e) → Brings
+    by_appends none =
+        let has = appends (none_done files changes moment faults coded.code e none) in
+        brought_by has.growth a.archives drain sizes.writers ms (inl has.alone)
+
+    has_gone : LogsShares sizes base ms (Held e)
+        → HasGoneInOrder e.archives sizes.writers ms ordered.growth.added
+    has_gone logs =
+        let of = e.notes.base in
+        let h = logs.notes in
+        let its = history sizes of ms e.notes.logged h in
+        let are = lines sizes of ms e.notes.logged h in
+        record {
+          ids = ids_in (log_in changes e ordered notes sound logs.none_kept);
+          history = its;
+          files = files_by (log_in changes e ordered notes sound logs.none_kept) (deeds_by e);
+          known = its_writer sizes of ms e.notes.logged h;
+          shares = λ writer. shares sizes of ms e.notes.logged h sizes.writers writer refl;
+          is_appended =
+              brings changes e ordered notes sound logs.none_kept sizes its h.lawful are;
+          order = stands changes e ordered notes sound logs.none_kept sizes its h.lawful are;
+        }
+
+    pub brings_shares : HasNoDeeds (Held e) ⊎ ((drain ≡ true) × LogsShares sizes base ms (Held e))
+        → Brings
+    brings_shares begun = elim begun [
+      | inl none ↦ by_appends none
+      | inr part ↦
+          brought_by ordered.growth a.archives drain sizes.writers ms (inr (
+            part.0,
+            subst (λ (x : Bool). HasGoneInOrder x sizes.writers ms ordered.growth.added)
+                its_archives (has_gone part.1),
+          ))
+    ]

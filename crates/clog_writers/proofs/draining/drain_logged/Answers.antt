@@ -1,0 +1,38 @@
+use Rattle.std.proofs.Common.{◌≡◌, ℕ, ◌≤◌, List, sym, ◌∙◌, ap, subst}
+use Rattle.std.specs.Prelude.{Contains}
+use Rattle.std.proofs.lemmas.List.Elements.{Contains-append_left}
+use Rattle.clog_spec.specs.Sizes.{most_tables}
+use Rattle.path_core.specs.declared.note.EntryNote.{EntryNote}
+use Rattle.path_core.specs.Whole.{IsWhole}
+use Rattle.clog_memtable.specs.Flushing.{MayFlush}
+use Rattle.clog_memtable.specs.Touched.{AreMemtablesOf}
+use Rattle.clog_store.specs.StoreState.{holding_of}
+use Rattle.clog_layout.specs.Laid.{synced_to}
+use Rattle.clog_writers.proofs.LastEnd.{last_below}
+use Rattle.clog_writers.proofs.MayFlush.{may_flush_to}
+use Rattle.clog_writers.proofs.draining.drain_logged.Goals as goal
+
+pub memtables_of-requires : goal.memtables_of-requires
+memtables_of-requires g c =
+    let notes = c.args.store.now.notes in
+    record {
+      whole = subst (λ (l : List EntryNote). (n : EntryNote) → Contains l n → IsWhole n)
+          (sym c.logged-2.ensures)
+          (λ n among. (c.fault_count.ensures.noted.good n
+          (Contains-append_left notes.logged notes.kept n among)).whole);
+    }
+
+pub drain-requires-clause-may : goal.drain-requires-clause-may
+drain-requires-clause-may g c =
+    let D = g.D.Disk in
+    let a = c.args.store.now in
+    let h = holding_of D.files D.changes D.moment D.faults g.row.D.coded.code a in
+    let upper : c.end_of-upper.result.0 ≡ synced_to a.notes.logged =
+    c.end_of-upper.ensures ∙ ap synced_to c.logged.ensures in
+    let low = subst (λ (k : ℕ). k ≤ a.notes.synced) (sym upper)
+    (last_below a.notes.synced a.notes.logged c.fault_count.ensures.noted.below) in
+    let are = subst (λ (l : List EntryNote). AreMemtablesOf l c.end_of-upper.result.0 most_tables
+    c.in-Ok.memtables.items) c.logged-2.ensures c.in-Ok.ensures in
+    subst (MayFlush h) (sym c.as_slice.ensures.value)
+    (may_flush_to h c.end_of-upper.result.0 c.in-Ok.memtables.items low are c.requires.tables
+    c.requires.none.no_file)

@@ -1,0 +1,109 @@
+//! A store whose lines are all logged is drained: a table file is put for each table that one of
+//! them touches, and the segments go for which table files stand. Where the entries stand is told
+//! by the path alone, so the memory for their cells is asked for behind them.
+ghost use Rattle.std.specs.Prelude.{◌≡◌, ◌⊎◌, ℕ, None, OnOk, Some, false, true};
+ghost use Rattle.clog_io.specs.Causes.{Rose};
+ghost use Rattle.clog_layout.specs.Laid.{synced_to};
+ghost use Rattle.clog_lines.specs.Drained.{EndsAs, HasDrained, HasNoDeeds, IsDrainedAs, KeepsLog};
+ghost use Rattle.clog_spec.specs.Sizes.{most_tables};
+ghost use Rattle.clog_store.specs.StoreState.{holding_of};
+ghost use Rattle.clog_writers.specs.declared.fault.WriteFault.TheVariants.{Spent, Stopped};
+ghost use Rattle.clog_writers.specs.Written.{refused_as};
+
+use crate::fault::WriteFault;
+use clog_base::{Key, OutOfMemory};
+use clog_disk::Disk;
+use clog_lines::drain;
+use clog_memtable::memtables_of;
+use clog_store::Store;
+use path_core::{EntryNote, KeeperFault};
+use std::alloc::Global;
+
+// The key at which the last of notes ends, 0 where there is none.
+fn end_of(notes: &[EntryNote]) -> Key
+    ensures { result.0 ≡ synced_to notes.now }
+{
+    if notes.is_empty() {
+        return Key(0);
+    }
+    notes[notes.len() - 1].end
+}
+
+// Drains a store that runs, up to the end of its last entry.
+fn drain_logged<D: Disk>(alloc: Global, store: &mut Store<D>) -> Result<(), KeeperFault>
+    requires runs { store.old.notes.log.is_stopped ≡ false }
+    requires tables { store.old.notes.sizes.tables ≡ most_tables }
+    requires none { HasNoDeeds
+        (holding_of D.files D.changes D.moment D.faults D.row.coded.code store.old) }
+    ensures drains { OnOk result (HasDrained
+        (holding_of D.files D.changes D.moment D.faults D.row.coded.code store.new)
+        store.old.notes.logged) }
+    ensures keeps { KeepsLog
+        (holding_of D.files D.changes D.moment D.faults D.row.coded.code store.old)
+        (holding_of D.files D.changes D.moment D.faults D.row.coded.code store.new) }
+    ensures ends { EndsAs
+        (holding_of D.files D.changes D.moment D.faults D.row.coded.code store.new) result }
+    ensures first { store.new.first ≡ store.old.first }
+{
+    // What its log keeps, for the proof alone.
+    store.fault_count();
+    let upper = end_of(store.logged());
+    match memtables_of(alloc, store.logged(), upper) {
+        Ok(memtables) => drain(store, memtables.as_slice()),
+        Err(OutOfMemory) => Err(KeeperFault::OutOfMemory),
+    }
+}
+
+// Why a drain was refused, as a fault of the lines.
+fn refused_as(fault: KeeperFault) -> WriteFault
+    ensures { result ≡ refused_as fault }
+{
+    match fault {
+        KeeperFault::Stopped { at_open, now } => WriteFault::Stopped { at_open, now },
+        KeeperFault::OutOfMemory => WriteFault::OutOfMemory,
+    }
+}
+
+/// Drains a store whose lines were to be logged, where that is asked for and they were: `fault` is
+/// why not all of them are, `at_open` the disk's count of faults at the opening. It gives back why
+/// not all was done.
+pub(crate) fn drain_asked<D: Disk>(
+    alloc: Global,
+    store: &mut Store<D>,
+    at_open: u64,
+    drain: bool,
+    fault: Option<WriteFault>,
+) -> Option<WriteFault>
+    requires opened { at_open ≡ D.faults store.old.first }
+    requires tables { store.old.notes.sizes.tables ≡ most_tables }
+    requires none { HasNoDeeds
+        (holding_of D.files D.changes D.moment D.faults D.row.coded.code store.old) }
+    requires stopped { (a n : ℕ) → fault ≡ Some (Stopped a n)
+        → store.old.notes.log.is_stopped ≡ true }
+    ensures ok { result ≡ None → (fault ≡ None) × IsDrainedAs drain
+        (holding_of D.files D.changes D.moment D.faults D.row.coded.code store.new)
+        store.new.notes.logged }
+    ensures spent { result ≡ Some Spent → fault ≡ Some Spent }
+    ensures begun { HasNoDeeds
+        (holding_of D.files D.changes D.moment D.faults D.row.coded.code store.new)
+        ⊎ ((drain ≡ true) × (fault ≡ None)) }
+    ensures keeps { KeepsLog
+        (holding_of D.files D.changes D.moment D.faults D.row.coded.code store.old)
+        (holding_of D.files D.changes D.moment D.faults D.row.coded.code store.new) }
+    ensures first { store.new.first ≡ store.old.first }
+    ensures stopped { (a n : ℕ) → result ≡ Some (Stopped a n)
+        → (store.new.notes.log.is_stopped ≡ true)
+        ⊎ Rose at_open (D.faults store.new.notes.log.disk) }
+{
+    if fault.is_some() || !drain {
+        return fault;
+    }
+    let now = store.fault_count();
+    if now != at_open || now == u64::MAX {
+        return Some(WriteFault::Stopped { at_open, now });
+    }
+    match drain_logged(alloc, store) {
+        Ok(()) => None,
+        Err(refusal) => Some(refused_as(refusal)),
+    }
+}
