@@ -18,8 +18,6 @@ use base.Stored.{Gv}
 use Rattle.clog_io.specs.Causes.{Rose}
 use Rattle.clog_disk.specs.declared.change.Change.{Change}
 use Rattle.clog_disk.specs.Files.{Files}
-use Rattle.path_core.specs.declared.keeper.KeeperFault.{KeeperFault}
-use Rattle.path_core.specs.declared.keeper.KeeperFault.TheVariants as keeper
 use Rattle.clog_store.specs.StoreState.{StoreState, holding_of, store_over}
 use Rattle.clog_writers.specs.declared.fault.PlanFault.{PlanFault}
 use Rattle.clog_writers.specs.declared.fault.PlanFault.TheVariants as plan
@@ -32,7 +30,7 @@ use Rattle.clog_writers.specs.declared.fault.WriteFault.TheVariants.{
   TooLarge,
 }
 use Rattle.clog_writers.specs.Logged.{GoesOnAlone}
-use Rattle.clog_writers.specs.Written.{HasShareCause, refused_as, unplanned}
+use Rattle.clog_writers.specs.Written.{HasShareCause, unplanned}
 
 -- ---- faults
 
@@ -82,11 +80,6 @@ pub not_spent : (T : Type 0) (f : PlanFault) → refused_by T (unplanned f) ≡ 
 not_spent T (plan.TooLarge line size most) is =
     absurd (let q : TooLarge line size most ≡ Spent = ap fault_in is in cc)
 not_spent T plan.OutOfMemory is = absurd (let q : OutOfMemory ≡ Spent = ap fault_in is in cc)
-
--- nor does a drain want segments
-pub drains_none : (f : KeeperFault) → refused_as f ≡ Spent → ⊥
-drains_none (keeper.Stopped at_open now) is = cc
-drains_none keeper.OutOfMemory is = cc
 
 -- a store that was just opened has done nothing
 pub still_alone : {D : Type 0} (files : D → Option Files) (changes : D → Option (List Change))
