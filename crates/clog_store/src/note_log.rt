@@ -53,6 +53,7 @@ use clog_disk::Disk;
 use path_core::EntryNote;
 use std::alloc::Global;
 use std::marker::Model;
+use std::snapshot::Snapshot;
 
 /// A log of notes over a disk (what Cassandra's `AbstractCommitLogSegmentManager` writes).
 #[derive(Drop)]
@@ -152,11 +153,13 @@ impl<D: Disk> NoteLog<D> {
     {
         self.logged.reserve(run.len())?;
         self.kept = run;
+        let seen = Snapshot::of(&self.kept);
         write_all(
             self.alloc,
             &mut self.log,
             self.base,
             &self.kept,
+            &seen,
             &mut self.written,
         )?;
         self.logged.append(&mut self.kept)?;

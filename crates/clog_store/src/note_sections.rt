@@ -1,4 +1,4 @@
-//! Notes of entries as sections: how many of them stand end to end, and their bytes and payloads.
+//! Notes of entries as sections: how many of them stand end to end, and their bytes.
 ghost use Rattle.std.specs.Prelude.{◌≡◌, ◌+◌, ◌<◌, ◌≤◌, IfOk, length};
 ghost use Rattle.clog_spec.specs.Sizes.{greatest_capacity};
 ghost use Rattle.clog_crash.specs.Sections.{next_bytes};
@@ -8,12 +8,11 @@ ghost use Rattle.clog_store.specs.NoteSections.{
   payloads_in,
   size_before,
 };
-ghost use Rattle.clog_store.specs.Notes.{payload_in};
 
 use crate::next::bytes_of_next;
+use crate::payloads::Payloads;
 use crate::written::Written;
-use clog_base::{Bytes, FRAME_SIZE, FRONT_SIZE, MARKER_SIZE};
-use clog_entry::ENTRY_FRONT_SIZE;
+use clog_base::{Bytes, FRONT_SIZE, MARKER_SIZE};
 use path_core::EntryNote;
 use std::alloc::{AllocError, Global};
 
@@ -27,28 +26,6 @@ pub(crate) fn section_length(notes: &[EntryNote]) -> usize
         count += 1;
     }
     count
-}
-
-// A note of fewer bytes than an entry has no payload.
-fn payload_of(alloc: Global, note: &EntryNote) -> Result<Bytes, AllocError>
-    ensures { IfOk result (λ payload. payload ≡ payload_in note.now.bytes) }
-{
-    let bytes = note.bytes.as_slice();
-    if bytes.len() < FRAME_SIZE {
-        return Ok(Bytes::new(Vec::new(alloc)));
-    }
-    let end = bytes.len() - (FRAME_SIZE - ENTRY_FRONT_SIZE);
-    Ok(Bytes::new(bytes[ENTRY_FRONT_SIZE..end].to_vec(alloc)?))
-}
-
-fn payloads_of(alloc: Global, notes: &[EntryNote]) -> Result<Vec<Bytes>, AllocError>
-    ensures { IfOk result (λ payloads. payloads.items ≡ payloads_in notes.now) }
-{
-    let mut payloads = Vec::new(alloc);
-    for note in notes {
-        payloads.push(payload_of(alloc, note)?)?;
-    }
-    Ok(payloads)
 }
 
 fn bytes_of(alloc: Global, notes: &[EntryNote]) -> Result<Vec<u8>, AllocError>
@@ -104,7 +81,9 @@ pub(crate) fn section_of(
     id: u64,
     at: u32,
     notes: &[EntryNote],
+    payloads: Payloads,
 ) -> Result<(Written, Vec<u8>), AllocError>
+    requires payloads { payloads ≡ payloads_in notes.now }
     requires room { at + length (bytes_in notes.now) ≤ greatest_capacity }
     ensures { IfOk result (λ made.
         (made.0 ≡ record {
@@ -117,7 +96,7 @@ pub(crate) fn section_of(
     let bytes = bytes_of_next(alloc, id, size_of(at), &entries)?;
     let section = Written {
         until: u64::from(at) + entries.len() as u64,
-        payloads: payloads_of(alloc, notes)?,
+        payloads,
     };
     Ok((section, bytes))
 }

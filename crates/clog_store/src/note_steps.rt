@@ -7,6 +7,7 @@ ghost use Rattle.clog_store.specs.NoteSteps.{Enters, GoesOn, Leaves};
 ghost use Rattle.clog_store.specs.Stepped.{HasLogCause, Keeps, StopsBy};
 
 use crate::note_sections::section_of;
+use crate::payloads::Payloads;
 use crate::section_log::SectionLog;
 use crate::written::StoreFault;
 use clog_disk::Disk;
@@ -19,9 +20,11 @@ pub(crate) fn keep_notes<D: Disk>(
     log: &mut SectionLog<D>,
     base: u64,
     notes: &[EntryNote],
+    payloads: Payloads,
 ) -> Result<(), StoreFault>
     requires fits { base < 2 ^ 62 }
     requires runs { log.old.is_stopped ≡ false }
+    requires payloads { payloads ≡ payloads_in notes.now }
     requires next { MayBeNext base log.old notes.now }
     ensures few { log.old.synced ≤ length log.old.sections }
     ensures keeps { Keeps log.old log.new (next_section log.old.sections (payloads_in notes.now))
@@ -33,7 +36,7 @@ pub(crate) fn keep_notes<D: Disk>(
     ensures stops { StopsBy log.new.is_stopped result }
 {
     let at = notes[0].start.position(base).offset;
-    match section_of(alloc, log.id(), at, notes) {
+    match section_of(alloc, log.id(), at, notes, payloads) {
         Ok((section, bytes)) => log.keep(section, &bytes),
         Err(_) => Err(StoreFault::OutOfMemory),
     }

@@ -1,5 +1,6 @@
 //! Notes are written behind a log of sections, section by section: what stands in it goes on to be
-//! known (`IsReady`), and where the disk has not failed, what a log of notes keeps stays true.
+//! known (`IsReady`), and where the disk has not failed, what a log of notes keeps stays true. What
+//! was seen of the notes is for contracts alone.
 ghost use Rattle.std.specs.Prelude.{◌≡◌, ◌<◌, ◌≤◌, ◌^◌, length, false, OnOk};
 ghost use Rattle.clog_store.specs.NoteSteps.{
   GoesOn,
@@ -13,11 +14,13 @@ ghost use Rattle.clog_store.specs.Stepped.{HasLogCause, StopsBy};
 
 use crate::note_sections::section_length;
 use crate::note_steps::{enter, keep_notes};
+use crate::payloads::Payloads;
 use crate::section_log::SectionLog;
 use crate::written::StoreFault;
 use clog_disk::Disk;
 use path_core::EntryNote;
 use std::alloc::Global;
+use std::snapshot::Snapshot;
 
 // Writes the first section of the notes that are to come.
 fn write_next<D: Disk>(
@@ -25,10 +28,12 @@ fn write_next<D: Disk>(
     log: &mut SectionLog<D>,
     base: u64,
     notes: &[EntryNote],
+    seen: &Snapshot<Vec<EntryNote>>,
     written: &mut usize,
 ) -> Result<(), StoreFault>
     requires fits { base < 2 ^ 62 }
     requires runs { log.old.is_stopped ≡ false }
+    requires seen { seen.now.value.items ≡ notes.now }
     requires ready { IsReady base log.old notes.now written.old }
     requires some { written.old < length notes.now }
     ensures held { StaysHeld base notes.now log.old written.old log.new written.new }
@@ -48,7 +53,8 @@ fn write_next<D: Disk>(
     let count = section_length(rest);
     let first = &rest[..count];
     enter(alloc, log, rest[0].start.position(base).id)?;
-    keep_notes(alloc, log, base, first)?;
+    let payloads = Payloads::of(seen, *written, count);
+    keep_notes(alloc, log, base, first, payloads)?;
     *written += count;
     Ok(())
 }
@@ -59,10 +65,12 @@ fn write_rest<D: Disk>(
     log: &mut SectionLog<D>,
     base: u64,
     notes: &[EntryNote],
+    seen: &Snapshot<Vec<EntryNote>>,
     written: &mut usize,
 ) -> Result<(), StoreFault>
     requires fits { base < 2 ^ 62 }
     requires runs { log.old.is_stopped ≡ false }
+    requires seen { seen.now.value.items ≡ notes.now }
     requires ready { IsReady base log.old notes.now written.old }
     ensures held { StaysHeld base notes.now log.old written.old log.new written.new }
     ensures stands { StaysStanding base notes.now log.old written.old log.new written.new }
@@ -78,7 +86,7 @@ fn write_rest<D: Disk>(
     ensures stops { StopsBy log.new.is_stopped result }
 {
     while *written < notes.len() {
-        match write_next(alloc, log, base, notes, written) {
+        match write_next(alloc, log, base, notes, seen, written) {
             Ok(()) => {}
             Err(fault) => return Err(fault),
         }
@@ -92,10 +100,12 @@ pub(crate) fn write_all<D: Disk>(
     log: &mut SectionLog<D>,
     base: u64,
     notes: &[EntryNote],
+    seen: &Snapshot<Vec<EntryNote>>,
     written: &mut usize,
 ) -> Result<(), StoreFault>
     requires fits { base < 2 ^ 62 }
     requires runs { log.old.is_stopped ≡ false }
+    requires seen { seen.now.value.items ≡ notes.now }
     requires ready { IsReady base log.old notes.now written.old }
     ensures held { StaysHeld base notes.now log.old written.old log.new written.new }
     ensures stands { StaysStanding base notes.now log.old written.old log.new written.new }
@@ -110,7 +120,7 @@ pub(crate) fn write_all<D: Disk>(
         result }
     ensures stops { StopsBy log.new.is_stopped result }
 {
-    match write_rest(alloc, log, base, notes, written) {
+    match write_rest(alloc, log, base, notes, seen, written) {
         Ok(()) => log.settle(),
         Err(fault) => Err(fault),
     }

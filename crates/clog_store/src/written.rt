@@ -1,17 +1,18 @@
 //! What a store is handed and keeps: sections, the segments that it has left, and why it refuses.
 ghost use Rattle.std.specs.Prelude.{◌≡◌};
 
-use clog_base::{Bytes, OutOfMemory};
+use crate::payloads::Payloads;
+use clog_base::OutOfMemory;
 use std::alloc::{AllocError, AllocFailed};
 use std::marker::Model;
 
-/// A section as it was handed over: where it ends, and its entries' payloads.
+/// A section as it was handed over: where it ends, and, for contracts alone, its entries' payloads.
 #[derive(Drop)]
 pub struct Written {
     /// Where it ends in its segment's file, in bytes, exclusive.
     pub until: u64,
     /// The payloads of its entries, in their order.
-    pub payloads: Vec<Bytes>,
+    pub payloads: Payloads,
 }
 
 impl Model for Written {
@@ -19,7 +20,7 @@ impl Model for Written {
 
     ghost Value = { Section };
 
-    ghost view = { λ w. record { until = w.until; payloads = w.payloads.items } };
+    ghost view = { λ w. record { until = w.until; payloads = w.payloads } };
 }
 
 /// A segment that the log has left: its id, and its sections, all of which last.

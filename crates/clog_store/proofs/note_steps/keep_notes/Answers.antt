@@ -11,15 +11,13 @@ use Rattle.clog_store.proofs.NoteLeaves.{leaves_kept, leaves_same}
 use Rattle.clog_store.proofs.NoteRuns.{brings, first_is, next_is, room, some_payloads}
 use Rattle.clog_store.proofs.note_steps.keep_notes.Goals as goal
 
-pub section_of-requires : goal.section_of-requires
-section_of-requires g c =
+pub section_of-requires-clause-room : goal.section_of-requires-clause-room
+section_of-requires-clause-room g c =
     let notes = c.args.notes.now in
     let at : c.position-at.result.offset ≡ offset_of (first_start notes) =
     ap (λ (p : Position). p.offset) c.position-at.ensures
     ∙ ap offset_of (first_is notes c.index-notes-0.result c.requires.next.some)
-    in record {
-      room = room c.args.base c.args.log.now notes c.requires.next c.position-at.result.offset at;
-    }
+    in room c.args.base c.args.log.now notes c.requires.next c.position-at.result.offset at
 
 pub keep-requires : goal.keep-requires
 keep-requires g c =

@@ -1,4 +1,4 @@
-use Rattle.std.proofs.Common.{ℕ, ◌+◌, ◌∙◌, List, take, sym, ap, subst}
+use Rattle.std.proofs.Common.{ℕ, ◌+◌, ◌∙◌, List, drop, take, sym, ap, subst}
 use Rattle.std.specs.Prelude.{Err, Ok}
 use Rattle.clog_base.specs.declared.position.Position.{Position}
 use Rattle.clog_crash.specs.Sections.{next_section}
@@ -43,6 +43,14 @@ keep_notes-requires-clause-next g c =
     (subst (λ (k : ℕ). Enters c.args.log.now mid k (Ok c.in_ok-enter.field-0)) id
     c.in_ok-enter.ensures.enters) count
     (subst (λ (l : List EntryNote). AreOneSection l count) whole c.section_length-count.ensures))
+
+pub keep_notes-requires-clause-payloads : goal.keep_notes-requires-clause-payloads
+keep_notes-requires-clause-payloads g c =
+    let w = c.args.written.now in
+    let count = c.section_length-count.result in
+    c.of-payloads.ensures
+    ∙ ap (λ (l : List EntryNote). payloads_in (take count (drop w l))) c.requires.seen
+    ∙ ap (λ (l : List EntryNote). payloads_in (take count l)) (sym (same_rest w c.args.notes.now))
 
 pub returns-in_err-keep_notes-clause-held : goal.returns-in_err-keep_notes-clause-held
 returns-in_err-keep_notes-clause-held g c sizes synced logged upto ready runs =
