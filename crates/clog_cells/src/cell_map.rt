@@ -25,9 +25,11 @@ ghost use Rattle.clog_cells.specs.Merge.{
   MergesPart,
   IsCellMap,
 };
+ghost use Rattle.clog_cells.specs.Parted.{part_below, part_from};
 
 use crate::newest::newer;
-use clog_base::{Cell, CellKey, OutOfMemory, Text};
+use crate::parting::take_below;
+use clog_base::{Cell, CellKey, OutOfMemory, Table, Text};
 use std::alloc::{AllocFailed, Global};
 use std::collections::BTreeMap;
 use std::marker::Model;
@@ -93,6 +95,20 @@ impl CellMap {
         ensures part { OnErr result (MergesPart self.old other self.new) }
     {
         merge(&mut self.cells, other.cells)
+    }
+
+    /// Moves the cells of all tables below a number off, into a map of their own. After a refusal
+    /// the map is as it was.
+    pub fn take_below(&mut self, table: Table) -> Result<CellMap, OutOfMemory>
+        ensures taken { IfOk result (λ below. below ≡ part_below table.0 self.old) }
+        ensures rest { OnOk result (self.new ≡ part_from table.0 self.old) }
+        ensures unchanged { OnErr result (self.new ≡ self.old) }
+    {
+        let cells = take_below(self.alloc, &mut self.cells, table)?;
+        Ok(CellMap {
+            alloc: self.alloc,
+            cells,
+        })
     }
 
     /// A map with copies of the same cells.

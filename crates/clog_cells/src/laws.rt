@@ -1,5 +1,16 @@
 //! Laws of the order of cells and of merging. Each is the contract of a function that does nothing.
-ghost use Rattle.std.specs.Prelude.{◌≡◌, ◌<◌, ◌<ℤ◌, ◌++◌, ◌↔◌, List, Contains, true};
+ghost use Rattle.std.specs.Prelude.{
+  ◌≡◌,
+  ◌<◌,
+  ◌<ℤ◌,
+  ◌+◌,
+  ◌++◌,
+  ◌↔◌,
+  ℕ,
+  List,
+  Contains,
+  true,
+};
 ghost use Rattle.std.specs.declared.cmp.Ordering.TheVariants.{Less, Equal, Greater};
 ghost use Rattle.std.specs.Ordering.{nat_cmp};
 ghost use Rattle.std.specs.Cmp.{IsTotalOrder};
@@ -17,6 +28,7 @@ ghost use Rattle.clog_cells.specs.Merge.{
   HaveSameMembers,
   part_on,
 };
+ghost use Rattle.clog_cells.specs.Parted.{part_below, part_from};
 
 /// Cells and keys are totally ordered, and what compares as equal is the same. Bytes are compared
 /// unsigned, and a proper prefix is smaller.
@@ -67,4 +79,16 @@ pub fn merge_laws()
     // What that part holds is what stands at the table's own keys.
     ensures on_table { (table : Table) (rows : List (CellKey × Cell)) (pair : CellKey × Cell)
         → Contains (part_on table rows) pair ↔ (Contains rows pair × (pair.0.table ≡ table)) }
+{}
+
+/// Cells that are parted at one table after another come table by table.
+pub fn parting_laws()
+    // What is below the next table, of what stands from a table on, is the table's.
+    ensures below_next { (table : Table) (rows : List (CellKey × Cell))
+        → part_below (table.0 + 1) (part_from table.0 rows) ≡ part_on table rows }
+    // What stands from the next table on, of that, is what stands from there on in all.
+    ensures from_next { (number : ℕ) (rows : List (CellKey × Cell))
+        → part_from (number + 1) (part_from number rows) ≡ part_from (number + 1) rows }
+    // From the first table on all stand.
+    ensures from_first { (rows : List (CellKey × Cell)) → part_from 0 rows ≡ rows }
 {}

@@ -4,10 +4,11 @@
 mod cell_map;
 mod laws;
 mod newest;
+mod parting;
 
 pub use cell_map::CellMap;
 pub use clog_base::{Cell, CellKey, Kind, OutOfMemory, Table, Text};
-pub use laws::{merge_laws, order_laws};
+pub use laws::{merge_laws, order_laws, parting_laws};
 pub use newest::newer;
 
 #[cfg(test)]

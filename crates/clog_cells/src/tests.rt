@@ -126,6 +126,24 @@ fn merged_rows_ascend_by_table_key_and_column(rt: HostRuntime) -> Result<(), Fai
 }
 
 #[test]
+fn the_cells_of_lower_tables_are_taken_off(rt: HostRuntime) -> Result<(), Fail> {
+    let alloc = rt.alloc();
+    let mut cells = CellMap::new(alloc);
+    for (table, key) in [(3, "a"), (0, "z"), (1, "b"), (1, "a")] {
+        put(alloc, &mut cells, (table, key, "c"), 9, Kind::Live, "v")?;
+    }
+    for (below, taken, left) in [(0, 0, 4), (1, 1, 3), (3, 2, 1), (3, 0, 1), (255, 1, 0)] {
+        assert_eq!(rt;
+            cells.take_below(Table(below))?.len(),
+            taken,
+            "below {below}"
+        );
+        assert_eq!(rt; cells.len(), left, "below {below}");
+    }
+    Ok(())
+}
+
+#[test]
 fn a_map_holds_thousands_of_cells(rt: HostRuntime) -> Result<(), Fail> {
     let alloc = rt.alloc();
     let mut cells = CellMap::new(alloc);
