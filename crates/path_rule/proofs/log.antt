@@ -2,6 +2,7 @@
 pub mod BuiltSteps
 pub mod Lending
 pub mod Marks
+pub mod Behind
 pub mod TrailsTell
 pub mod KeptStays
 pub mod OwnWrites

@@ -12,6 +12,7 @@ pub mod Ends
 pub mod HolderLooks
 pub mod RoundsGo
 pub mod Answering
+pub mod Reaching
 pub mod SyncTaken
 pub mod Marking
 pub mod Sweeping

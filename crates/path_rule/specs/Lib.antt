@@ -22,6 +22,7 @@ pub mod Passes
 pub mod Rounds
 pub mod Sweeps
 pub mod SyncAnswers
+pub mod Reached
 pub mod Marks
 pub mod Switched
 pub mod Sharing

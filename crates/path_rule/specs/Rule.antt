@@ -24,13 +24,14 @@ use base.Stored.{gnil}
 use Rattle.atomic_table.specs.Table.{State}
 use Rattle.clog_base.specs.Sizes.{IsWithinLimits}
 use Rattle.op_core.specs.declared.count.Order.{Order}
+use Rattle.op_core.specs.declared.count.Order.TheVariants.{Append}
 use Rattle.path_core.specs.declared.event.Cursor.TheVariants.{Synced, OldestLive, Stopped}
 use Rattle.path_core.specs.declared.event.Event.{Event}
-use Rattle.path_core.specs.declared.event.Event.TheVariants.{Put}
+use Rattle.path_core.specs.declared.event.Event.TheVariants.{OpenGroup, Put}
 use Rattle.path_core.specs.declared.event.Place.{Place}
 use Rattle.path_core.specs.declared.seat.Seat.{Seat}
 use Rattle.path_core.specs.declared.state.PathState.{PathState}
-use Rattle.path_core.specs.Allowed.{IsStep}
+use Rattle.path_core.specs.Allowed.{IsStep, WantsBarrier}
 use Rattle.path_core.specs.Keeper.{HasRisen}
 use Rattle.path_core.specs.Lawful.{IsLawfulPath}
 use Rattle.path_core.specs.Parts.{fresh_seat, seat_of, groups_of, table_of}
@@ -52,7 +53,7 @@ use Rattle.path_rule.specs.Boxed.{Boxed}
 use Rattle.path_rule.specs.Boxes.{boxes}
 use Rattle.path_rule.specs.Kept.{MayBeKept}
 use Rattle.path_rule.specs.Lasts.{shown, none_lasting}
-use Rattle.path_rule.specs.Trails.{ViewTells}
+use Rattle.path_rule.specs.Trails.{TrailTells, ViewTells}
 use Rattle.path_rule.specs.Layout.{
   word_at,
   IsWord,
@@ -169,13 +170,22 @@ SizedAs size (Opener k) z = z ≡ size
 abbrev pub IsSized : PathSize → View → Type 0
 IsSized size v = SizedAs size v.role v.size
 
--- A step of a kind that is built: none retires a memtable, and the log is stopped only with a count
--- of faults that has risen.
-abbrev pub IsBuilt : ℕ → Event → Type 0
-IsBuilt opened (Put by (OldestLive t) value) = ⊥
-IsBuilt opened (Put by Synced value) = Unit {0}
-IsBuilt opened (Put by Stopped value) = HasRisen opened value
-IsBuilt opened _ = Unit {0}
+-- A step of a kind that is built: none retires a memtable, the log is stopped only with a count of
+-- faults that has risen, and a group of the append order is made only where a marker of the seat
+-- wants a barrier.
+abbrev pub IsBuilt : ℕ → PathState → Event → Type 0
+IsBuilt opened x (Put by (OldestLive t) value) = ⊥
+IsBuilt opened x (Put by Synced value) = Unit {0}
+IsBuilt opened x (Put by Stopped value) = HasRisen opened value
+IsBuilt opened x (OpenGroup by Append group) = WantsBarrier Append x by
+IsBuilt opened x _ = Unit {0}
+
+-- each of these steps was
+abbrev pub AreBuilt : (opened : ℕ) (x : PathState) (events : List Event) (y : PathState)
+    → Past x events y → Type 0
+AreBuilt opened x [] y run = Unit {0}
+AreBuilt opened x (e ∷ es) y run =
+    IsBuilt opened run.0 e × AreBuilt opened x es run.0 run.1
 
 -- There are words for all groups and memtables that were made.
 pub record HasRows (x : PathState) : Type 0 where
@@ -195,6 +205,7 @@ pub record Ruled {K : Type 0} (shows : K → Lasting) (o : Beside) (size : PathS
   pub made : ℕ
   pub boss : ℕ
   pub run : Past (start_of size) events core
+  pub built : AreBuilt size.at_open (start_of size) events core run
   pub fit : IsFit size
   pub wide : length s.words ≡ word_rows
   pub rows : HasRows core
@@ -237,3 +248,5 @@ pub record Was (v : View) (w : ℕ) (e : Event) : Type 0 where
   pub part : v.part ≡ seat_of core w
   pub rows : HasRows core
   pub risen : 0 < core.stopped → HasRisen v.size.at_open core.stopped
+  -- its steps tell the state
+  pub tells : TrailTells v.size.capacity core v.trail

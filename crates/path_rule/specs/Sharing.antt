@@ -19,7 +19,15 @@ use Rattle.path_rule.specs.declared.view.Role.TheVariants.{Opener, Steps, Spent}
 use Rattle.path_rule.specs.declared.view.View.{View}
 use Rattle.path_rule.specs.Kept.{MayBeKept}
 use Rattle.path_rule.specs.Lasts.{lasting_of, none_lasting, shown}
-use Rattle.path_rule.specs.Rule.{IsFit, start_of, event_of, steps_by, fresh_view, new_seat}
+use Rattle.path_rule.specs.Rule.{
+  AreBuilt,
+  IsFit,
+  start_of,
+  event_of,
+  steps_by,
+  fresh_view,
+  new_seat,
+}
 use Rattle.path_rule.specs.Trails.{TrailTells}
 
 -- the view of the opener once it has handed out a seat, and that of the seat
@@ -79,6 +87,8 @@ pub record Ended (o : Beside) (size : PathSize) (returned : List Returned) (log 
   pub events : List Event
   pub fit : IsFit size
   pub run : Past (start_of size) events core
+  -- each step was of a kind that is built
+  pub built : AreBuilt size.at_open (start_of size) events core run
   pub lawful : IsLawfulPath core
   -- no memtable was switched
   pub unfiled : core.files ≡ []

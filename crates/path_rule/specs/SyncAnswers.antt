@@ -53,10 +53,6 @@ KnowsMarker v = (t : SyncTurn) × (v.part.sync ≡ Some t) × (t.marker ≡ v.ha
 abbrev pub marker_start : Option LastMarker → ℕ
 marker_start kept = option_map_or (λ (k : LastMarker). k.start) kept 0
 
--- the log was found running in this holding of the turn
-abbrev pub FoundRunning : View → Type 0
-FoundRunning v = (t : SyncTurn) × (v.part.sync ≡ Some t) × (t.stopped ≡ Some 0)
-
 -- the end of a sync as an answer
 abbrev pub said_by : Result ℕ KeeperFault → SyncAnswer
 said_by (Ok synced) = Done synced
@@ -67,17 +63,16 @@ said_by (Err KeeperOutOfMemory) = OutOfMemory
 abbrev pub AtMost : Event → List Event → Type 0
 AtMost e puts = (puts ≡ []) ⊎ (puts ≡ e ∷ [])
 
--- A marker wants a barrier: the last one has none, or the seat found the log key above the one at
--- which the log went on behind it, so an entry was claimed since.
-abbrev pub WantsBarrier : View → Type 0
-WantsBarrier v =
-    ((by start : ℕ) × (v.hands.progress.marker
-    ≡ Some (record { by = by; start = start; barrier = None })))
-    ⊎ ((key : ℕ) × (v.part.found.log ≡ Some key)
-    × (behind_last v.size.capacity v.hands.progress.marker < key))
+-- An entry was claimed since the last marker, so a further one is wanted: the seat found the log
+-- key above the one at which the log went on behind that marker.
+pub record WantsMarker (v : View) : Type 0 where
+  pub key : ℕ
+  pub found : v.part.found.log ≡ Some key
+  pub since : behind_last v.size.capacity v.hands.progress.marker < key
 
 -- The seat found the last group of the append order that there is a word for current, and the
--- barrier of a marker wants the next one: so many were made.
+-- barrier of a marker that is wanted wants the next one: so many were made. It had found the log
+-- running.
 pub record HasNoGroup (n : ℕ) (v : View) : Type 0 where
   pub last : ℕ
   -- it found this group current
@@ -87,7 +82,9 @@ pub record HasNoGroup (n : ℕ) (v : View) : Type 0 where
   -- and there is no word for it
   pub all : n ≡ group_rows
   -- it is wanted
-  pub wanted : WantsBarrier v
+  pub wanted : WantsMarker v
+  -- and the keeper had not stopped
+  pub running : v.part.found.stopped ≡ Some 0
 
 -- What is so behind an answer, where `opened` is the count of faults at the keeper's opening, and
 -- the seat put these cursors. Done: all that the seat wrote ends at or below the synced key that it
@@ -102,12 +99,13 @@ IsAnswer w opened OutOfMemory puts v = puts ≡ []
 IsAnswer w opened (Rows n) puts v = HasNoGroup n v × (puts ≡ [])
 
 -- What is answered was found, or put, at one of these steps. Rows: the last group that there is a
--- word for was found current.
+-- word for was found current, and the log running.
 abbrev pub FoundNow : SyncAnswer → List OwnStep → Type 0
 FoundNow (Done s) steps = Finds (CursorWord Synced) s steps
 FoundNow (Stopped at_open now) steps = Finds (CursorWord StoppedCursor) now steps
 FoundNow OutOfMemory steps = Unit {0}
 FoundNow (Rows n) steps = (last : ℕ) × (suc last ≡ n) × Finds (Current Append) last steps
+    × Finds (CursorWord StoppedCursor) 0 steps
 
 -- Seat w was answered this, and made steps of barriers and syncs alone, of which one tells what is
 -- answered.
@@ -127,6 +125,12 @@ MayAnswer w opened v None after = RoundSteps w [] v after
 abbrev pub IsDoneBy : ℕ → ℕ → Option SyncAnswer → Type 0
 IsDoneBy upto found (Some answer) = (upto ≤ found) × (answer ≡ Done found)
 IsDoneBy upto found None = found < upto
+
+-- The count with which the log is stopped answers a sync: Stopped where it has risen above the one
+-- at the keeper's opening, and else, where it is 0, nothing yet.
+abbrev pub IsHaltedBy : ℕ → ℕ → Option SyncAnswer → Type 0
+IsHaltedBy opened now (Some answer) = (answer ≡ Stopped opened now) × HasRisen opened now
+IsHaltedBy opened now None = now ≡ 0
 
 -- A log key that was found answers a sync, where no group is left for a further barrier: Rows where
 -- an entry was claimed since the last marker, and else nothing yet.

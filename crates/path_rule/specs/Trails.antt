@@ -8,7 +8,7 @@ use Rattle.path_core.specs.declared.event.Event.{Event}
 use Rattle.path_core.specs.declared.event.Event.TheVariants.{Claim}
 use Rattle.path_core.specs.declared.event.Place.TheVariants.{CursorWord, Log}
 use Rattle.path_core.specs.declared.state.PathState.{PathState}
-use Rattle.path_core.specs.Keys.{after}
+use Rattle.path_core.specs.Keys.{after, behind_marker, first_offset}
 use Rattle.path_core.specs.Steps.{HasMarkerAt}
 use Rattle.path_rule.specs.declared.view.OwnStep.{OwnStep}
 use Rattle.path_rule.specs.declared.view.Returned.{Returned}
@@ -20,6 +20,12 @@ pub record IsMark (x : PathState) (key : ℕ) : Type 0 where
   pub lasting : key ≤ x.synced
   -- but for 0, a marker starts there
   pub marker : 0 < key → HasMarkerAt x.claims key
+
+-- The log goes on behind a synced key no earlier than behind the front of the first segment, and
+-- than behind a marker at or below that key.
+pub record GoesOnBehind (capacity synced : ℕ) : Type 0 where
+  pub front : first_offset ≤ after capacity synced
+  pub rises : (key : ℕ) → key ≤ synced → behind_marker capacity key ≤ after capacity synced
 
 -- An entry is claimed where the log went on behind each synced key that the seat had found, or put,
 -- or further on.

@@ -58,6 +58,7 @@ use Rattle.path_rule.specs.HandsAfter.{
 }
 use Rattle.path_rule.specs.Lasts.{lasting_of, shown, more_lasting, refused_lasting}
 use Rattle.path_rule.specs.Rule.{Was}
+use Rattle.path_rule.specs.Trails.{GoesOnBehind}
 use Rattle.path_rule.specs.Told.{MadeAs, Made}
 use Rattle.path_rule.specs.Turns.{TurnSaw, IsBarred}
 
@@ -150,11 +151,13 @@ module _ {K : Type 0} where
       × (m'.1 ≡ m.1)) × (n ≢ st.first → Made w (Look w Log) n m m')
 
   -- The synced key was found, and what is pending up to the last marker, behind whose barrier all
-  -- boxes were gathered, may be lent to the keeper.
+  -- boxes were gathered, may be lent to the keeper. The log goes on behind it, and behind each
+  -- marker at or below it.
   abbrev pub LentFound : Step (Slot K) → Me (Slot K) View → ℕ → Me (Slot K) View → Type 0
   LentFound st m n m' = (w : ℕ) → m.0.role ≡ Steps w → Made w (Look w (CursorWord Synced)) n m m'
       × ((value : ℕ) (run left : List EntryNote) → n < value → IsBarred m.0.hands value
       → IsParted value m.0.hands.pending run left → IsLent m.0 w n value run)
+      × GoesOnBehind m.0.size.capacity n
 
 module _ {K : Type 0} (shows : K → Lasting) where
   -- the desk came, with what the seat knows

@@ -1,8 +1,9 @@
 //! A sync is brought to its end, in the hand of the holder of the Sync turn.
-ghost use Rattle.std.specs.Prelude.{◌≡◌, true, Some, OnOk, OnErr};
+ghost use Rattle.std.specs.Prelude.{◌≡◌, ◌≤◌, true, Some, IfOk, OnOk, OnErr};
 ghost use Rattle.std.specs.List.Sorted.{IsPermutation};
 ghost use Rattle.atomic_table.specs.Table.{rest};
 ghost use Rattle.path_core.specs.declared.seat.SyncTurn.{SyncTurn};
+ghost use Rattle.path_core.specs.Keys.{after, behind_marker};
 ghost use Rattle.path_rule.specs.Calls.{MayGive, IsSyncedTo};
 ghost use Rattle.path_rule.specs.Lasts.{shows_of};
 ghost use Rattle.path_rule.specs.Members.{view_of, part_of, hands_of, boxes_of, IsOf, IsSame};
@@ -18,7 +19,8 @@ impl<K: Keeper, A: Allocator> PathTable<K, A> {
     /// Ends a sync up to the last marker, once all boxes behind its barrier are gathered and the
     /// log was found running. The keeper is lent what is pending, and the synced key is put at the
     /// marker; it is answered. Where the keeper has stopped, the log is, with the count of faults
-    /// that the keeper shows and that is answered. After each answer the turn may be given back,
+    /// that the keeper shows and that is answered. Behind the key that is answered the log goes on
+    /// at or above where it does behind the marker. After each answer the turn may be given back,
     /// and after a refusal all is pending still. It makes two steps at most, of which at most one
     /// is no look.
     pub fn end_sync(&self, member: Member<K>, upto: u64) -> (Member<K>, Result<u64, KeeperFault>)
@@ -33,6 +35,8 @@ impl<K: Keeper, A: Allocator> PathTable<K, A> {
         ensures give { MayGive (view_of result.0) }
         ensures desk { CarriesDesk (shows_of K.holds) result.0.seat.me }
         ensures synced { OnOk result.1 (IsSyncedTo (view_of result.0) upto) }
+        ensures reaches { IfOk result.1 (λ s. behind_marker self.now.size.capacity upto
+            ≤ after self.now.size.capacity s) }
         ensures refused { OnErr result.1 (IsPermutation (hands_of member).pending
             (hands_of result.0).pending) }
         ensures counts { TellsFaults (hands_of member).lasting.at_open result.1 }

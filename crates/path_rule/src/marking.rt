@@ -1,14 +1,18 @@
 //! A sync's marker: whether an entry was claimed since the last one, and the claim of the next.
 //! What the seat wrote before ends at or below it.
-ghost use Rattle.std.specs.Prelude.{◌≡◌, ℕ, [], false, Some, None, IsSome};
+ghost use Rattle.std.specs.Prelude.{◌≡◌, ℕ, ◌≤◌, [], false, Some, None, IsSome};
+ghost use Rattle.op_core.specs.declared.count.Order.TheVariants.{Append};
 ghost use Rattle.path_core.specs.declared.event.Event.TheVariants.{Look};
 ghost use Rattle.path_core.specs.declared.event.Place.TheVariants.{Log};
+ghost use Rattle.path_core.specs.Holders.{behind_last};
 ghost use Rattle.path_rule.specs.Calls.{MayGive};
 ghost use Rattle.path_rule.specs.Desks.{HasDesk};
+ghost use Rattle.path_rule.specs.Finds.{Finds};
 ghost use Rattle.path_rule.specs.Lasts.{shows_of};
 ghost use Rattle.path_rule.specs.Marks.{ClaimsMarker, MarksNext};
 ghost use Rattle.path_rule.specs.Members.{
   view_of,
+  part_of,
   hands_of,
   boxes_of,
   IsOf,
@@ -18,6 +22,7 @@ ghost use Rattle.path_rule.specs.Members.{
 };
 ghost use Rattle.path_rule.specs.Rounds.{RoundSteps, WroteBelow};
 ghost use Rattle.path_rule.specs.SyncAnswers.{IsFullBy, KnowsMarker, marker_start};
+ghost use Rattle.path_rule.specs.Turns.{KeepsCurrent};
 
 use crate::answer::SyncAnswer;
 use crate::marker_keys::{is_entry_since, key_behind_marker};
@@ -42,7 +47,8 @@ pub enum MarkerClaim {
 
 impl<K: Keeper, A: Allocator> PathTable<K, A> {
     // Whether an entry was claimed since the last marker. Where none was, all that the seat wrote
-    // ends at or below where that marker starts.
+    // ends at or below where that marker starts, and each log key that it had found lies at or
+    // below where the log went on behind it.
     pub(crate) fn look_since(&self, member: &mut Member<K>, marker: Option<LastMarker>) -> bool
         requires table { IsOf self.now.table.shared.table_id self.now.size member.old }
         requires marker { KnowsMarker (view_of member.old)
@@ -53,6 +59,8 @@ impl<K: Keeper, A: Allocator> PathTable<K, A> {
         ensures hands { hands_of member.new ≡ hands_of member.old }
         ensures none { result ≡ false
             → WroteBelow (marker_start marker) (view_of member.new).trail }
+        ensures rises { result ≡ false → (key : ℕ) → Finds Log key (view_of member.old).trail
+            → key ≤ behind_last self.now.size.capacity marker }
     {
         let log = self.look_log(member);
         is_entry_since(self.size.capacity, marker, log)
@@ -90,6 +98,7 @@ impl<K: Keeper, A: Allocator> PathTable<K, A> {
         ensures give { MayGive (view_of member.new) }
         ensures claim { ClaimsMarker member.old.number (view_of member.old) result
             (view_of member.new) }
+        ensures current { KeepsCurrent Append (part_of member.old) (part_of member.new) }
     {
         let from = self.look_log(member);
         if !is_entry_since(self.size.capacity, marker, from) {
@@ -119,6 +128,7 @@ impl<K: Keeper, A: Allocator> PathTable<K, A> {
         ensures steps { RoundSteps member.number [] (view_of member) (view_of result.0) }
         ensures give { MayGive (view_of result.0) }
         ensures claimed { MarksNext member.number (view_of member) result.1 (view_of result.0) }
+        ensures current { KeepsCurrent Append (part_of member) (part_of result.0) }
         ensures desk { HasDesk (shows_of K.holds) (hands_of result.0).lasting
             (hands_of result.0).pending (hands_of result.0).progress (boxes_of result.0) }
     {

@@ -1,13 +1,33 @@
 //! How a round of a sync ends, in the hand of the holder of the Sync turn, which has the desk
 //! alone: by what the keeper answers up to the last marker, behind whose barrier all boxes are
 //! gathered.
-ghost use Rattle.std.specs.Prelude.{◌≡◌, true};
+ghost use Rattle.std.specs.Prelude.{◌≡◌, ℕ, true};
+ghost use Rattle.path_core.specs.declared.event.Cursor.TheVariants.{Stopped};
+ghost use Rattle.path_core.specs.declared.event.Event.TheVariants.{Look};
+ghost use Rattle.path_core.specs.declared.event.Place.TheVariants.{CursorWord};
+ghost use Rattle.path_core.specs.Holders.{behind_last};
+ghost use Rattle.path_core.specs.Keys.{behind_marker, first_offset};
 ghost use Rattle.path_rule.specs.Calls.{MayGive};
 ghost use Rattle.path_rule.specs.Desks.{HasDesk};
 ghost use Rattle.path_rule.specs.Lasts.{shows_of};
-ghost use Rattle.path_rule.specs.Members.{view_of, hands_of, boxes_of, IsOf, IsSame};
+ghost use Rattle.path_rule.specs.Members.{
+  view_of,
+  hands_of,
+  boxes_of,
+  IsOf,
+  IsSame,
+  KeepsSizes,
+  Stepped,
+};
+ghost use Rattle.path_rule.specs.Reached.{MayReach, Reaches};
 ghost use Rattle.path_rule.specs.Rounds.{WroteBelow};
-ghost use Rattle.path_rule.specs.SyncAnswers.{said_by, marker_start, Answers, MayAnswer};
+ghost use Rattle.path_rule.specs.SyncAnswers.{
+  said_by,
+  marker_start,
+  Answers,
+  IsHaltedBy,
+  MayAnswer,
+};
 ghost use Rattle.path_rule.specs.Turns.{IsBarred};
 
 use crate::answer::SyncAnswer;
@@ -27,8 +47,29 @@ fn said_by(done: Result<u64, KeeperFault>) -> SyncAnswer
 }
 
 impl<K: Keeper, A: Allocator> PathTable<K, A> {
+    // What a sync is answered where the log is found stopped.
+    pub(crate) fn look_halted(&self, member: &mut Member<K>) -> Option<SyncAnswer>
+        requires table { IsOf self.now.table.shared.table_id self.now.size member.old }
+        requires turn { MayGive (view_of member.old) }
+        ensures same { KeepsSizes member.old member.new }
+        ensures looked { (now : ℕ)
+            × Stepped member.old (Look member.old.number (CursorWord Stopped)) now member.new
+            × IsHaltedBy self.now.size.at_open now result }
+        ensures give { MayGive (view_of member.new) }
+        ensures hands { hands_of member.new ≡ hands_of member.old }
+    {
+        let now = self.look_stopped(member);
+        let at_open = self.size.at_open;
+        if now > 0 {
+            Some(SyncAnswer::Stopped { at_open, now })
+        } else {
+            None
+        }
+    }
+
     /// Brings a sync up to the last marker to its end, where the log is found running. All that the
-    /// seat wrote ends at or below that marker.
+    /// seat wrote ends at or below that marker. Done: the log goes on behind the synced key at or
+    /// above where it does behind the marker.
     pub fn end_round(&self, member: Member<K>, upto: u64) -> (Member<K>, SyncAnswer)
         requires table { IsOf self.now.table.shared.table_id self.now.size member }
         requires turn { MayGive (view_of member)
@@ -44,6 +85,8 @@ impl<K: Keeper, A: Allocator> PathTable<K, A> {
             (hands_of result.0).pending (hands_of result.0).progress (boxes_of result.0) }
         ensures answer { Answers member.number self.now.size.at_open (view_of member) result.1
             (view_of result.0) }
+        ensures reaches { Reaches self.now.size.capacity
+            (behind_marker self.now.size.capacity upto) result.1 }
     {
         let mut member = member;
         let now = self.look_stopped(&mut member);
@@ -69,6 +112,7 @@ impl<K: Keeper, A: Allocator> PathTable<K, A> {
             (hands_of result.0).pending (hands_of result.0).progress (boxes_of result.0) }
         ensures answer { Answers member.number self.now.size.at_open (view_of member) result.1
             (view_of result.0) }
+        ensures reaches { Reaches self.now.size.capacity first_offset result.1 }
     {
         let mut member = member;
         let now = self.look_stopped(&mut member);
@@ -80,8 +124,8 @@ impl<K: Keeper, A: Allocator> PathTable<K, A> {
         (member, SyncAnswer::Done(synced))
     }
 
-    // Where no entry was claimed since the last marker: the sync up to it is brought to its end.
-    // `None` where that marker was left without a barrier.
+    // Where no entry was claimed since the last marker: the sync up to it is brought to its end, so
+    // Done reaches where the log went on behind it. `None` where it was left without a barrier.
     pub(crate) fn old_round(
         &self,
         member: Member<K>,
@@ -101,6 +145,8 @@ impl<K: Keeper, A: Allocator> PathTable<K, A> {
             (hands_of result.0).pending (hands_of result.0).progress (boxes_of result.0) }
         ensures answer { MayAnswer member.number self.now.size.at_open (view_of member) result.1
             (view_of result.0) }
+        ensures reaches { MayReach self.now.size.capacity
+            (behind_last self.now.size.capacity marker) result.1 }
     {
         let Some(last) = marker else {
             let (member, answer) = self.first_round(member);

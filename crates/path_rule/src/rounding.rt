@@ -1,20 +1,22 @@
 //! A round of a sync, in the hand of the holder of the Sync turn, which has the desk alone: from
 //! the marker over its barrier and the boxes to the end.
-ghost use Rattle.std.specs.Prelude.{◌≡◌, true, Some, None, []};
+ghost use Rattle.std.specs.Prelude.{◌≡◌, ◌<◌, true, Some, None, []};
+ghost use Rattle.op_core.specs.declared.count.Order.TheVariants.{Append};
 ghost use Rattle.path_rule.specs.Calls.{MayGive};
 ghost use Rattle.path_rule.specs.Desks.{HasDesk};
 ghost use Rattle.path_rule.specs.Lasts.{shows_of};
 ghost use Rattle.path_rule.specs.Members.{view_of, part_of, hands_of, boxes_of, IsOf, IsSame};
+ghost use Rattle.path_rule.specs.Reached.{Reaches, ReachesFound};
 ghost use Rattle.path_rule.specs.Rounds.{RoundSteps, WroteBelow};
 ghost use Rattle.path_rule.specs.Sweeps.{SweptAll};
 ghost use Rattle.path_rule.specs.SyncAnswers.{KnowsMarker, Answers, MayAnswer};
-ghost use Rattle.path_rule.specs.Turns.{MarkerWaits};
+ghost use Rattle.path_rule.specs.Turns.{MarkerWaits, TurnSaw};
 
 use crate::answer::SyncAnswer;
 use crate::marking::progress_with;
 use crate::table::{Member, PathTable};
 use crate::view::Progress;
-use crate::waiting::{Holder, Passed};
+use crate::waiting::Holder;
 use crate::words::LAST_GROUP;
 use op_core::Order;
 use path_core::Keeper;
@@ -23,13 +25,14 @@ use std::sync::Wait;
 
 impl<K: Keeper, A: Allocator> PathTable<K, A> {
     /// Issues the barrier of the seat's own marker, which is the last one, waits until it is
-    /// passed, gathers all boxes behind it, and ends the sync.
+    /// passed, gathers all boxes behind it, and ends the sync. The seat has found the current group.
     pub fn bar_round<R: Wait>(
         &self,
         rt: &R,
         alloc: Global,
         member: Member<K>,
         start: u64,
+        current: u64,
     ) -> (Member<K>, SyncAnswer)
         requires table { IsOf self.now.table.shared.table_id self.now.size member }
         requires turn { MayGive (view_of member)
@@ -37,6 +40,7 @@ impl<K: Keeper, A: Allocator> PathTable<K, A> {
         requires marker { MarkerWaits member.number (part_of member) start
             × ((hands_of member).progress.marker
             ≡ Some (record { by = member.number; start = start; barrier = None })) }
+        requires current { TurnSaw Append (part_of member) current × (current < 65535) }
         requires desk { HasDesk (shows_of K.holds) (hands_of member).lasting
             (hands_of member).pending (hands_of member).progress (boxes_of member) }
         requires opened { (hands_of member).lasting.at_open ≡ self.now.size.at_open }
@@ -47,15 +51,12 @@ impl<K: Keeper, A: Allocator> PathTable<K, A> {
             (hands_of result.0).pending (hands_of result.0).progress (boxes_of result.0) }
         ensures answer { Answers member.number self.now.size.at_open (view_of member) result.1
             (view_of result.0) }
+        ensures reaches { Reaches self.now.size.capacity start result.1 }
     {
         let (member, progress) = self.progress(member);
-        let (holder, passed) = self.marker_barrier(rt, Holder { member });
+        let holder = self.marker_barrier(rt, Holder { member }, current);
         let Holder { member } = holder;
-        let group = match passed {
-            Passed::Rows(groups) => return (member, SyncAnswer::Rows(groups)),
-            Passed::Passed(group) => group,
-        };
-        let told = progress_with(progress, member.number, start, Some(group));
+        let told = progress_with(progress, member.number, start, Some(current));
         let member = self.note_progress(member, told);
         let member = self.settle(rt, alloc, member, told);
         self.end_round(member, start)
@@ -90,7 +91,8 @@ impl<K: Keeper, A: Allocator> PathTable<K, A> {
     }
 
     // Where an entry was claimed since the last marker, and all boxes are gathered: a further
-    // marker is claimed, unless there is no group left for its barrier. `None` where no entry was.
+    // marker is claimed, unless the log has stopped, or there is no group left for its barrier: a
+    // stopped log takes no group. `None` where no entry was.
     fn new_round<R: Wait>(
         &self,
         rt: &R,
@@ -109,9 +111,15 @@ impl<K: Keeper, A: Allocator> PathTable<K, A> {
             (hands_of result.0).pending (hands_of result.0).progress (boxes_of result.0) }
         ensures answer { MayAnswer member.number self.now.size.at_open (view_of member) result.1
             (view_of result.0) }
+        ensures reaches { ReachesFound self.now.size.capacity (view_of member).trail result.1 }
     {
         let (mut member, progress) = self.progress(member);
-        if self.seek_current(&mut member, Order::Append) == LAST_GROUP {
+        let halted = self.look_halted(&mut member);
+        if halted.is_some() {
+            return (member, halted);
+        }
+        let current = self.seek_current(&mut member, Order::Append);
+        if current == LAST_GROUP {
             let answer = self.look_full(&mut member, progress.marker);
             return (member, answer);
         }
@@ -119,12 +127,13 @@ impl<K: Keeper, A: Allocator> PathTable<K, A> {
         let Some(start) = claimed else {
             return (member, None);
         };
-        let (member, answer) = self.bar_round(rt, alloc, member, start);
+        let (member, answer) = self.bar_round(rt, alloc, member, start, current);
         (member, Some(answer))
     }
 
-    /// A round of a sync by a seat that has just taken the Sync turn. `None` where the last marker
-    /// was left without a barrier by the seat that claimed it, and no entry stands behind it.
+    /// A round of a sync by a seat that has just taken the Sync turn. `Done` reaches each log key
+    /// that the seat had found. `None` where the last marker was left without a barrier by the seat
+    /// that claimed it, and no entry stands behind it.
     pub fn sync_round<R: Wait>(
         &self,
         rt: &R,
@@ -143,6 +152,7 @@ impl<K: Keeper, A: Allocator> PathTable<K, A> {
             (hands_of result.0).pending (hands_of result.0).progress (boxes_of result.0) }
         ensures answer { MayAnswer member.number self.now.size.at_open (view_of member) result.1
             (view_of result.0) }
+        ensures reaches { ReachesFound self.now.size.capacity (view_of member).trail result.1 }
     {
         let (mut member, progress) = self.progress(member);
         let since = self.look_since(&mut member, progress.marker);

@@ -23,6 +23,7 @@ ghost use Rattle.path_rule.specs.Members.{
   SteppedRefused,
 };
 ghost use Rattle.path_rule.specs.Rule.{Was};
+ghost use Rattle.path_rule.specs.Trails.{GoesOnBehind};
 ghost use Rattle.path_rule.specs.TurnTold.{
   CarriesAs,
   CarriesDesk,
@@ -58,6 +59,7 @@ impl<K: Keeper, A: Allocator> PathTable<K, A> {
             → IsBarred (hands_of member.old) value
             → IsParted value (hands_of member.old).pending run left
             → IsLent (view_of member.old) member.old.number result value run }
+        ensures goes_on { GoesOnBehind self.now.size.capacity result }
     {
         self.table
             .shared

@@ -2,8 +2,7 @@
 //! write order, and of the append order for the last marker.
 ghost use Rattle.std.specs.Prelude.{◌≡◌, ℕ, suc, ◌+◌, ◌<◌, ◌≤◌, true, [], Some};
 ghost use Rattle.op_core.specs.declared.count.Order.TheVariants.{Write, Append};
-ghost use Rattle.path_core.specs.declared.event.Event.TheVariants.{Advance, Look};
-ghost use Rattle.path_core.specs.declared.event.Place.TheVariants.{Current};
+ghost use Rattle.path_core.specs.declared.event.Event.TheVariants.{Advance};
 ghost use Rattle.path_core.specs.declared.seat.Issue.TheVariants.{Rest};
 ghost use Rattle.path_core.specs.declared.seat.Switching.TheVariants.{Waiting, WithBarrier};
 ghost use Rattle.path_core.specs.Parts.{stage_of};
@@ -144,34 +143,25 @@ impl<K: Keeper, A: Allocator> PathTable<K, A> {
     }
 
     /// Issues the barrier of the last marker, which is the member's own and has none, and waits
-    /// until it is passed: then the boxes of the groups before the current one may be gathered.
-    /// The boxes of the barrier before it have to be. After `Rows` the member only looked, and
-    /// found the last group current.
-    pub fn marker_barrier<R: Wait>(&self, rt: &R, holder: Holder<K>) -> (Holder<K>, Passed)
+    /// until it is passed: then the boxes of the groups up to `current` may be gathered. The boxes
+    /// of the barrier before it have to be. The member has found this group current, and there is a
+    /// word for the next one. No clause says that it returns.
+    pub fn marker_barrier<R: Wait>(&self, rt: &R, holder: Holder<K>, current: u64) -> Holder<K>
         requires table { IsOf self.now.table.shared.table_id self.now.size holder.member }
         requires marker { (start : ℕ)
             × MarkerWaits holder.member.number (part_of holder.member) start }
         requires gathered { (hands_of holder.member).progress.gathered ≡ true }
-        ensures same { KeepsSizes holder.member result.0.member }
+        requires current { TurnSaw Append (part_of holder.member) current × (current < 65535) }
+        ensures same { KeepsSizes holder.member result.member }
         ensures steps { RoundSteps holder.member.number [] (view_of holder.member)
-            (view_of result.0.member) }
-        ensures passed { MatchPassed result.1
-            (λ g. IsPast Append (view_of result.0.member) g
-            × (hands_of result.0.member ≡ issued_hands g (hands_of holder.member)))
-            (λ n. (n ≡ 65536) × TurnSaw Append (part_of result.0.member) 65535
-            × (hands_of result.0.member ≡ hands_of holder.member)
-            × Stepped holder.member (Look holder.member.number (Current Append)) 65535
-            result.0.member) }
+            (view_of result.member) }
+        ensures passed { IsPast Append (view_of result.member) current
+            × (hands_of result.member ≡ issued_hands current (hands_of holder.member)) }
     {
         let Holder { mut member } = holder;
-        let current = self.seek_current(&mut member, Order::Append);
-        if current == LAST_GROUP {
-            return (Holder { member }, Passed::Rows(LAST_GROUP + 1));
-        }
         self.open_append(&mut member, current + 1, current);
         self.move_append(&mut member, current + 1, current);
         self.expire_append(&mut member, current, current + 1);
-        let holder = self.advance_to(rt, Holder { member }, Order::Append, current + 1);
-        (holder, Passed::Passed(current))
+        self.advance_to(rt, Holder { member }, Order::Append, current + 1)
     }
 }

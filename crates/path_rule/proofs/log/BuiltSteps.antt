@@ -10,14 +10,14 @@ use Rattle.path_core.specs.Next.{next_of}
 use Rattle.path_rule.specs.Rule.{IsBuilt}
 
 module _ (opened : ℕ) (x : PathState) where
-  pub still_risen : (e : Event) → IsBuilt opened e → (0 < x.stopped → HasRisen opened x.stopped)
+  pub still_risen : (e : Event) → IsBuilt opened x e → (0 < x.stopped → HasRisen opened x.stopped)
       → 0 < (next_of x e).stopped → HasRisen opened (next_of x e).stopped
   still_risen (Put by Stopped value) built old above = built
   still_risen (Put by Synced value) built old above = old above
   still_risen (Put by (OldestLive t) value) built old above = old above
   still_risen e built old above = old above
 
-  pub still_unfiled : (e : Event) → IsBuilt opened e → x.files ≡ [] → (next_of x e).files ≡ []
+  pub still_unfiled : (e : Event) → IsBuilt opened x e → x.files ≡ [] → (next_of x e).files ≡ []
   still_unfiled (Put by (OldestLive t) value) built is = absurd built
   still_unfiled (Put by Synced value) built is = is
   still_unfiled (Put by Stopped value) built is = is

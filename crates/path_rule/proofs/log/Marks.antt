@@ -104,7 +104,7 @@ starts_above capacity key size = by (fits capacity key size)
     by true = omega arith
     by false = omega arith
 
-behind_above : (capacity key : ℕ) → key ≤ behind_marker capacity key
+pub behind_above : (capacity key : ℕ) → key ≤ behind_marker capacity key
 behind_above capacity key = by (fits capacity key marker_size)
   where
     by : (b : Bool) → key ≤ cond b (key + marker_size) (next_segment key)

@@ -76,11 +76,14 @@ module _ {K : Type 0} (shows : K → Lasting) (o : Beside) (size : PathSize) (sl
         );
       } in
       let told = refl in
+      let wants = own_wants x law w (record { by = w; start = start; barrier = None })
+      (own_part shows o size slots id m w mine s r there marker_of
+      (Some (record { by = w; start = start; barrier = None })) waits) refl refl in
       let out = outside shows o size slots id m w mine s r there held in (
         v',
         keeps,
         tt,
-        plays shows o size s r id w m.0 there mine e refl may tt tt fits
+        plays shows o size s r id w m.0 there mine e refl may tt wants fits
             (rows s r g (let q = up ∙ ap suc now in omega arith)) 0 0 false m.0.hands told refl m.1
             keeps
             (unseen shows o size slots id m w mine s r there held
@@ -96,12 +99,7 @@ module _ {K : Type 0} (shows : K → Lasting) (o : Beside) (size : PathSize) (sl
                 record {
                   seat = may.seat;
                   is_there = tt;
-                  row = (
-                    may.row,
-                    (own_wants x law w (record { by = w; start = start; barrier = None })
-                        (own_part shows o size slots id m w mine s r there marker_of
-                        (Some (record { by = w; start = start; barrier = None })) waits) refl refl),
-                  );
+                  row = (may.row, wants);
                 },
               ),
             ) z q role word),

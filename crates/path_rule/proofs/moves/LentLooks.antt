@@ -48,11 +48,13 @@ use Rattle.path_rule.specs.Lasts.{lasting_of, shown}
 use Rattle.path_rule.specs.Rule.{Ruled, view_after}
 use Rattle.path_rule.specs.Told.{Made}
 use Rattle.path_rule.specs.TurnTold.{MayLend, IsLent, LentFound}
+use Rattle.path_rule.specs.Trails.{GoesOnBehind}
 use Rattle.path_rule.specs.Turns.{IsBarred}
+use Rattle.path_rule.proofs.log.Behind.{goes_on}
 use Rattle.path_rule.proofs.log.KeptStays.{none_kept}
 use Rattle.path_rule.proofs.moves.HolderFacts.{is_held, hands_now}
 use Rattle.path_rule.proofs.moves.Looks.{look_owes, within, each_seat_name}
-use Rattle.path_rule.proofs.moves.Moving.{core_lawful, was}
+use Rattle.path_rule.proofs.moves.Moving.{capacity_is, core_lawful, known, was}
 use Rattle.path_rule.proofs.moves.SyncFacts.{settled}
 
 -- What a keeper kept of a refused sync is what one up to a marker at or below the last would write.
@@ -115,10 +117,16 @@ module _ {K : Type 0} (shows : K → Lasting) (o : Beside) (size : PathSize) (sl
       let P : ℕ → Type 0 = λ u. (value : ℕ) (run left : List EntryNote) → n < value
       → IsBarred m.0.hands value → IsParted value m.0.hands.pending run left
       → IsLent m.0 u n value run in
+      let capacity : m.0.size.capacity ≡ x.capacity =
+      ap (λ (z : PathSize). z.capacity) (known shows o size s r id w m.0 there mine).0
+      ∙ sym (capacity_is shows o size s r) in
+      let goes = subst (λ (q : ℕ × ℕ). GoesOnBehind q.0 q.1)
+      (λ i. (sym capacity i, sym found i)) (goes_on x (core_lawful shows o size s r)) in
       look_owes shows o size slots id m w mine s r there (CursorWord Synced) tt tt
       (LentFound (step slots 5 0 0 none) m n) (λ made _.
       each_seat_name shows o size slots id m w mine
-      (λ u. Made u (Look u (CursorWord Synced)) n m (v', m.1) × P u) (
+      (λ u. Made u (Look u (CursorWord Synced)) n m (v', m.1) × P u
+      × GoesOnBehind m.0.size.capacity n) (
         made,
         (λ value run left low barred parted.
             let S = settled shows o size slots id m w mine s r there t sync runs all value run left
@@ -134,4 +142,5 @@ module _ {K : Type 0} (shows : K → Lasting) (o : Beside) (size : PathSize) (sl
               may_be_lent x (core_lawful shows o size s r) o w size.at_open r.kept_to value barred.0
                   barred.1 r.may_be_kept marked S.0 m.0.hands.lasting run D.0 S.1,
             )),
+        goes,
       ))

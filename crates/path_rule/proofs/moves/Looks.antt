@@ -159,7 +159,7 @@ module _ {K : Type 0} (shows : K → Lasting) (o : Beside) (size : PathSize) (sl
 
     -- a step at which no box moves
     pub acts : (e : Event) → by_of e ≡ w → IsStep x e → CarriesWhole e
-        → IsBuilt size.at_open e → IsWord (place_of e)
+        → IsBuilt size.at_open x e → IsWord (place_of e)
         → HasRows (next_of x e) → (n found : ℕ)
         → n ≡ word_of (left_by e (reading x (place_of e)))
         → seat_after m.0.part e (reading_at (place_of e) found) (told_by false m.0.hands)

@@ -93,7 +93,7 @@ use Rattle.path_rule.specs.Rule.{
   Was,
 }
 use Rattle.path_rule.proofs.log.BuiltSteps.{still_risen, still_unfiled}
-use Rattle.path_rule.specs.Trails.{ViewTells}
+use Rattle.path_rule.specs.Trails.{TrailTells, ViewTells}
 use Rattle.path_rule.proofs.log.KeptStays.{kept_stays}
 use Rattle.path_rule.proofs.log.TrailsTell.{tells_more, view_still}
 use Rattle.path_rule.proofs.places.SamePlace.{same_place, in_rows}
@@ -158,10 +158,12 @@ module _ {K : Type 0} (shows : K → Lasting) (o : Beside) (size : PathSize) (s 
       rows = r.rows;
       risen = subst (λ (z : PathSize). 0 < r.core.stopped → HasRisen z.at_open r.core.stopped)
           (sym k.0) r.risen;
+      tells = subst (λ (z : PathSize). TrailTells z.capacity r.core v.trail) (sym k.0)
+          (r.tells id v at).own;
     }
 
     module _ (e : Event) (by : by_of e ≡ w) (may : IsStep r.core e) (whole : CarriesWhole e)
-        (built : IsBuilt size.at_open e) (spot : IsWord (place_of e)) (rows : HasRows (next_of
+        (built : IsBuilt size.at_open r.core e) (spot : IsWord (place_of e)) (rows : HasRows (next_of
         r.core e)) (n found : ℕ)
         (filed : Bool) (h : Hands)
         (now : n ≡ word_of (left_by e (reading r.core (place_of e))))
@@ -248,6 +250,7 @@ module _ {K : Type 0} (shows : K → Lasting) (o : Beside) (size : PathSize) (s 
         made = r.made;
         boss = r.boss;
         run = (r.core, r.run, whole, may, refl);
+        built = (built, r.built);
         fit = r.fit;
         wide = length-set s.words (word_at (place_of e)) n ∙ r.wide;
         rows = rows;

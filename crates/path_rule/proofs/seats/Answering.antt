@@ -12,6 +12,8 @@ use Rattle.std.proofs.Common.{
   Option,
   Some,
   None,
+  is_some,
+  false,
   Result,
   Ok,
   Err,
@@ -23,6 +25,7 @@ use Rattle.std.proofs.Common.{
   ⊎_elim,
   arith,
 }
+use Rattle.std.proofs.lemmas.Bool.{false≢true}
 use Rattle.std.proofs.lemmas.List.{append-nil}
 use mathlib.Core.Logic.{inl, inr}
 use Rattle.op_core.specs.declared.count.Order.TheVariants.{Append}
@@ -67,20 +70,19 @@ use Rattle.path_rule.specs.declared.answer.SyncAnswer.TheVariants.{
 use Rattle.path_rule.specs.declared.view.OwnStep.{OwnStep}
 use Rattle.path_rule.specs.declared.view.PathSize.{PathSize}
 use Rattle.path_rule.specs.declared.view.View.{View}
-use Rattle.path_rule.specs.declared.waiting.Passed.{Passed}
-use Rattle.path_rule.specs.declared.waiting.Passed.TheVariants.{Rows as NoRows}
 use Rattle.path_rule.specs.Calls.{Did}
 use Rattle.path_rule.specs.Finds.{Finds}
 use Rattle.path_rule.specs.Layout.{group_rows}
-use Rattle.path_rule.specs.Passes.{MatchPassed}
 use Rattle.path_rule.specs.Rounds.{RoundSteps, EndsBelow, WroteBelow, IsAtRest}
 use Rattle.path_rule.specs.SyncAnswers.{
   FoundNow,
-  WantsBarrier,
+  WantsMarker,
+  HasNoGroup,
   IsAnswer,
   Answers,
   MayAnswer,
   IsFullBy,
+  IsHaltedBy,
   said_by,
 }
 use Rattle.path_rule.specs.SyncEnd.{HasSynced, EndsSync, TellsFaults}
@@ -123,16 +125,17 @@ found_after at n [] older F = absurd F
 found_after at n (t ∷ ts) older F =
     ⊎_elim (λ now. inl now) (λ later. inr (found_after at n ts older later)) F
 
-now_by : (a : SyncAnswer) (ts us : List OwnStep)
+pub now_by : (a : SyncAnswer) (ts us : List OwnStep)
     → ((at : Place) (n : ℕ) → Finds at n ts → Finds at n us) → FoundNow a ts → FoundNow a us
 now_by (Done s) ts us more F = more (CursorWord Synced) s F
 now_by (Stopped at_open now) ts us more F = more (CursorWord StoppedCursor) now F
 now_by OutOfMemory ts us more F = tt
-now_by (Rows n) ts us more F = (F.0, F.1, more (Current Append) F.0 F.2)
+now_by (Rows n) ts us more F =
+    (F.0, F.1, more (Current Append) F.0 F.2, more (CursorWord StoppedCursor) 0 F.3)
 
 -- ---- steps before an answer, and behind it
 
-pub answers_after : (w opened : ℕ) (a : SyncAnswer) (v u after : View) → RoundSteps w [] v u
+abbrev pub answers_after : (w opened : ℕ) (a : SyncAnswer) (v u after : View) → RoundSteps w [] v u
     → Answers w opened u a after → Answers w opened v a after
 answers_after w opened a v u after S A = record {
   puts = A.puts;
@@ -144,15 +147,13 @@ answers_after w opened a v u after S A = record {
 }
 
 wants_still : (u after : View) → after.part.found ≡ u.part.found → after.size ≡ u.size
-    → after.hands.progress.marker ≡ u.hands.progress.marker → WantsBarrier u → WantsBarrier after
-wants_still u after same size marker W = ⊎_elim
-    (λ waits. inl (waits.0, waits.1, marker ∙ waits.2))
-    (λ since. inr (
-      since.0,
-      ap (λ (f : Found). f.log) same ∙ since.1,
-      subst (λ (q : PathSize × Option LastMarker). behind_last q.0.capacity q.1 < since.0)
-          (λ i. (sym size i, sym marker i)) since.2,
-    )) W
+    → after.hands.progress.marker ≡ u.hands.progress.marker → WantsMarker u → WantsMarker after
+wants_still u after same size marker W = record {
+  key = W.key;
+  found = ap (λ (f : Found). f.log) same ∙ W.found;
+  since = subst (λ (q : PathSize × Option LastMarker). behind_last q.0.capacity q.1 < W.key)
+      (λ i. (sym size i, sym marker i)) W.since;
+}
 
 is_still : (w opened : ℕ) (a : SyncAnswer) (ps : List Event) (u after : View)
     → RoundSteps w [] u after → after.part.found ≡ u.part.found
@@ -173,6 +174,7 @@ is_still w opened (Rows n) ps u after S same marker I = (
     next = I.0.next;
     all = I.0.all;
     wanted = wants_still u after same S.size marker I.0.wanted;
+    running = ap (λ (f : Found). f.stopped) same ∙ I.0.running;
   },
   I.1,
 )
@@ -283,66 +285,66 @@ found_answers w opened upto s v after up B D =
       now = inl (refl, refl);
     }
 
--- what a barrier tells that was not issued
-pub rows_of : (P Q : ℕ → Type 0) (passed : Passed) (n : ℕ) → passed ≡ NoRows n
-    → MatchPassed passed P Q → Q n
-rows_of P Q passed n is M = subst (λ p. MatchPassed p P Q) is M
-
--- the last group that there is a word for was found current, and a marker waits for its barrier
-pub waiting_answers : (w opened by start group : ℕ) (v after : View) → suc group ≡ group_rows
-    → v.hands.progress.marker ≡ Some (record { by = by; start = start; barrier = None })
-    → Did v w (Look w (Current Append)) group after → Answers w opened v (Rows group_rows) after
-waiting_answers w opened by start group v after last waits D = record {
-  puts = [];
-  steps = one w (Look w (Current Append)) group v after refl D;
-  is = (
-    record {
-      last = group;
-      found = ap (λ (u : View). (found_of Append u.part).current) D.view;
-      next = last;
-      all = refl;
-      wanted = inl (by, start, ap (λ (u : View). u.hands.progress.marker) D.view ∙ waits);
-    },
-    refl,
-  );
-  now = (group, last, inl (refl, refl));
-}
-
--- or an entry was claimed since the last marker
-pub full_answers : (w opened group key : ℕ) (a : Option SyncAnswer) (v u after : View)
-    → suc group ≡ group_rows → Did v w (Look w (Current Append)) group u
-    → Did u w (Look w Log) key after → IsFullBy v.size.capacity v.hands.progress.marker key a
+-- the count with which the log is stopped was found
+pub halted_may : (w opened now : ℕ) (a : Option SyncAnswer) (v after : View)
+    → Did v w (Look w (CursorWord StoppedCursor)) now after → IsHaltedBy opened now a
     → MayAnswer w opened v a after
-full_answers w opened group key None v u after last D E F =
-    both w [] [] v u after (one w (Look w (Current Append)) group v u refl D)
-    (one w (Look w Log) key u after refl E)
-full_answers w opened group key (Some a) v u after last D E F =
-    subst (λ (x : SyncAnswer). Answers w opened v x after) (sym F.0) (record {
-      puts = [];
-      steps = both w [] [] v u after (one w (Look w (Current Append)) group v u refl D)
-          (one w (Look w Log) key u after refl E);
-      is = (
-        record {
-          last = group;
-          found = ap (λ (x : View). (found_of Append x.part).current) E.view
-              ∙ ap (λ (x : View). (found_of Append x.part).current) D.view;
-          next = last;
-          all = refl;
-          wanted = inr (
-            key,
-            ap (λ (x : View). x.part.found.log) E.view,
-            subst (λ (q : ℕ × Option LastMarker). behind_last q.0 q.1 < key) (λ i. (
-              sym (ap (λ (x : View). x.size.capacity) E.view
-                  ∙ ap (λ (x : View). x.size.capacity) D.view) i,
-              sym (ap (λ (x : View). x.hands.progress.marker) E.view
-                  ∙ ap (λ (x : View). x.hands.progress.marker) D.view) i,
-            )) F.1,
-          );
-        },
-        refl,
-      );
-      now = (group, last, inr (inl (refl, refl)));
-    })
+halted_may w opened now None v after D is =
+    one w (Look w (CursorWord StoppedCursor)) now v after refl D
+halted_may w opened now (Some a) v after D is =
+    subst (λ (x : SyncAnswer). Answers w opened v x after) (sym is.0)
+    (halted_answers w opened now v after is.1 D)
+
+-- where that is no answer the log runs
+pub runs_on : (opened now : ℕ) (a : Option SyncAnswer) → IsHaltedBy opened now a
+    → is_some a ≡ false → now ≡ 0
+runs_on opened now None is none = is
+runs_on opened now (Some a) is none = absurd (false≢true (sym none))
+
+-- The log was found running, then the last group that there is a word for current, and then an
+-- entry to be claimed since the last marker, or none.
+module _ (w opened group key : ℕ) (v s u after : View) (last : suc group ≡ group_rows)
+    (C : Did v w (Look w (CursorWord StoppedCursor)) 0 s) (D : Did s w (Look w (Current Append))
+    group u) (E : Did u w (Look w Log) key after) where
+  abbrev looked_full : RoundSteps w [] v after
+  looked_full = both w [] [] v u after (both w [] [] v s u
+      (one w (Look w (CursorWord StoppedCursor)) 0 v s refl C)
+      (one w (Look w (Current Append)) group s u refl D)) (one w (Look w Log) key u after refl E)
+
+  no_group : behind_last v.size.capacity v.hands.progress.marker < key → HasNoGroup group_rows after
+  no_group since = record {
+    last = group;
+    found = ap (λ (x : View). (found_of Append x.part).current) E.view
+        ∙ ap (λ (x : View). (found_of Append x.part).current) D.view;
+    next = last;
+    all = refl;
+    wanted = record {
+      key = key;
+      found = ap (λ (x : View). x.part.found.log) E.view;
+      since = subst (λ (q : ℕ × Option LastMarker). behind_last q.0 q.1 < key) (λ i. (
+        sym (ap (λ (x : View). x.size.capacity) E.view
+            ∙ (ap (λ (x : View). x.size.capacity) D.view
+            ∙ ap (λ (x : View). x.size.capacity) C.view)) i,
+        sym (ap (λ (x : View). x.hands.progress.marker) E.view
+            ∙ (ap (λ (x : View). x.hands.progress.marker) D.view
+            ∙ ap (λ (x : View). x.hands.progress.marker) C.view)) i,
+      )) since;
+    };
+    running = ap (λ (x : View). x.part.found.stopped) E.view
+        ∙ (ap (λ (x : View). x.part.found.stopped) D.view
+        ∙ ap (λ (x : View). x.part.found.stopped) C.view);
+  }
+
+  pub full_answers : (a : Option SyncAnswer)
+      → IsFullBy v.size.capacity v.hands.progress.marker key a → MayAnswer w opened v a after
+  full_answers None F = looked_full
+  full_answers (Some a) F = subst (λ (x : SyncAnswer). Answers w opened v x after) (sym F.0)
+      (record {
+        puts = [];
+        steps = looked_full;
+        is = (no_group F.1, refl);
+        now = (group, last, inr (inl (refl, refl)), inr (inr (inl (refl, refl))));
+      })
 
 pub may_after : (w opened : ℕ) (a : Option SyncAnswer) (v u after : View) → RoundSteps w [] v u
     → MayAnswer w opened u a after → MayAnswer w opened v a after

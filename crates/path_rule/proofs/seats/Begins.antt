@@ -69,6 +69,7 @@ module _ {K : Type 0} (shows : K → Lasting) (o : Beside) where
     made = 0;
     boss = 0;
     run = refl;
+    built = tt;
     fit = fit;
     wide = length-set {A = ℕ} (replicate 135240 0) 4 28 ∙ length-replicate {A = ℕ} 135240 0;
     rows = record {

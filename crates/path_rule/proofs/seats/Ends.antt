@@ -46,7 +46,7 @@ use Rattle.path_rule.specs.declared.view.View.{View}
 use Rattle.path_rule.specs.Boxes.{HoldsAs, HoldsBox, IsFree, DeskIs}
 use Rattle.path_rule.specs.FirstBoxes.{HasInFront}
 use Rattle.path_rule.specs.Lasts.{lasting_of, shown}
-use Rattle.path_rule.specs.Rule.{IsFit, start_of, Knows, Ruled, event_of, steps_by}
+use Rattle.path_rule.specs.Rule.{AreBuilt, IsFit, start_of, Knows, Ruled, event_of, steps_by}
 use Rattle.path_rule.specs.Sharing.{Ended, EndsUnused, HasAll}
 use Rattle.path_rule.specs.Trails.{TrailTells, ViewTells}
 use Rattle.path_rule.proofs.boxes.SameBoxes.{holds_none}
@@ -128,11 +128,14 @@ module _ {K : Type 0} (shows : K → Lasting) (o : Beside) where
   ends_by size key id w log keeper v ws xs same role f e kept = let s = f.0 in
       let r : Ruled shows o key s = f.1.0 in
       let k = subst (λ ρ. Knows r.core r.events r.owner r.made r.boss id ρ v.part v.trail
-      v.returned) role (r.each_seat id v f.1.1).1 in record {
+      v.returned) role (r.each_seat id v f.1.1).1 in
+      let ran = subst (λ (z : PathSize). (p : Past (start_of z) r.events r.core)
+      × AreBuilt z.at_open (start_of z) r.events r.core p) same (r.run, r.built) in record {
         core = r.core;
         events = r.events;
         fit = subst IsFit same r.fit;
-        run = subst (λ (z : PathSize). Past (start_of z) r.events r.core) same r.run;
+        run = ran.0;
+        built = ran.1;
         lawful = core_lawful shows o key s r;
         unfiled = r.unfiled;
         log_is = sym (at_four ws 4 log e) ∙

@@ -4,6 +4,7 @@ use Rattle.std.proofs.Common.{
   ℕ,
   ◌≤◌,
   true,
+  false,
   Option,
   Some,
   None,
@@ -19,6 +20,7 @@ use Rattle.std.proofs.Common.{
 use Rattle.std.proofs.lemmas.Bool.{false≢true}
 use Rattle.std.specs.List.{Contains}
 use Rattle.std.specs.Option.{option_and_then, option_map}
+use Rattle.op_core.specs.declared.count.Order.TheVariants.{Append}
 use Rattle.path_core.specs.declared.event.ClaimKind.TheVariants.{Marker}
 use Rattle.path_core.specs.declared.event.Event.TheVariants.{Look, Claim}
 use Rattle.path_core.specs.declared.event.Place.TheVariants.{Log}
@@ -31,15 +33,16 @@ use Rattle.path_core.specs.SeatAfter.{marker_claimed}
 use Rattle.path_core.proofs.frame.Runs.{past_sizes}
 use Rattle.path_rule.specs.declared.view.Hands.{Hands}
 use Rattle.path_rule.specs.declared.view.View.{View}
-use Rattle.path_rule.specs.Calls.{DidAs}
+use Rattle.path_rule.specs.Calls.{Did, DidAs}
+use Rattle.path_rule.specs.Finds.{Finds}
 use Rattle.path_rule.specs.HandsAfter.{with_marker}
 use Rattle.path_rule.specs.Marks.{HasMarked}
 use Rattle.path_rule.specs.Rounds.{WroteBelow}
-use Rattle.path_rule.specs.Rule.{Was, start_of}
+use Rattle.path_rule.specs.Rule.{Was, start_of, view_after, with_hands}
 use Rattle.path_rule.specs.SyncAnswers.{marker_start}
-use Rattle.path_rule.specs.Turns.{MarkerWaits, IsBarred}
+use Rattle.path_rule.specs.Turns.{KeepsCurrent, MarkerWaits, IsBarred, TurnSaw}
 use Rattle.path_rule.proofs.log.OwnWrites.{wrote_below, below_log, below_marker}
-use Rattle.path_rule.proofs.seats.HolderKnows.{the_turn}
+use Rattle.path_rule.proofs.seats.HolderKnows.{saw_after, the_turn}
 use Rattle.path_rule.proofs.seats.RoundsGo.{one_as, still_wrote}
 
 -- where the log does not stand above the key behind the last marker
@@ -63,6 +66,27 @@ under_log v w n was log = wrote_below v w (Look w Log) was n
     (λ (m : EntryNote) (h : Contains was.core.notes m).
     let low = below_log was.core was.lawful m h in omega arith)
 
+-- A look at the log, and the claim of a marker, leave what the holder of the Sync turn found of the
+-- current group.
+pub log_keeps : (v after : View) (w n : ℕ) → Did v w (Look w Log) n after
+    → KeepsCurrent Append v.part after.part
+log_keeps v after w n D =
+    λ k saw. subst (λ (z : View). TurnSaw Append z.part k) (sym D.view) saw
+
+pub marked_keeps : (u after : View) (w from to : ℕ) → DidAs u w (Claim w (record { 0 = from })
+    (record { 0 = to }) Marker) to (with_marker w from u.hands) after
+    → KeepsCurrent Append u.part after.part
+marked_keeps u after w from to D =
+    let v = view_after (with_hands (with_marker w from u.hands) u)
+    (Claim w (record { 0 = from }) (record { 0 = to }) Marker) to false in
+    λ k saw. subst (λ (z : View). TurnSaw Append z.part k) (sym D.view)
+    (saw_after (marker_claimed w from) Append u.part v.part k (λ t. refl) refl saw)
+
+-- Each log key that a seat had found lies at or below one that it finds.
+pub rises_to : (v : View) (w n : ℕ) (was : Was v w (Look w Log)) → was.core.log ≡ n → (key : ℕ)
+    → Finds Log key v.trail → key ≤ n
+rises_to v w n was log key F = let low = was.tells.come key F in omega (arith, low, log)
+
 -- behind its own claim
 pub marked : (u after : View) (w from to : ℕ) → DidAs u w (Claim w (record { 0 = from })
     (record { 0 = to }) Marker) to (with_marker w from u.hands) after
@@ -76,6 +100,8 @@ marked u after w from to D held = record {
       (wrote_below u w _ D.was from (λ (n : EntryNote) (h : Contains D.was.core.notes n).
       let low = below_log D.was.core D.was.lawful n h in let at = D.was.allowed.row.2 in
       omega arith));
+  rises = λ key F. let low = D.was.tells.come key F in let at = D.was.allowed.row.2 in
+      omega (arith, low, at);
 }
 
 -- a marker that has a barrier

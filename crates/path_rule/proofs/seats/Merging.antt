@@ -82,6 +82,7 @@ module _ {K : Type 0} (shows : K → Lasting) (o : Beside) (size : PathSize) (id
         made = r.made;
         boss = r.boss;
         run = r.run;
+        built = r.built;
         fit = r.fit;
         wide = r.wide;
         rows = r.rows;

@@ -5,7 +5,8 @@ use Rattle.path_core.specs.declared.event.Place.TheVariants.{Log}
 use Rattle.path_rule.specs.declared.view.View.{View}
 use Rattle.path_rule.specs.HandsAfter.{with_marker}
 use Rattle.path_rule.specs.Marks.{HasMarked}
-use Rattle.path_rule.proofs.seats.Marking.{marked}
+use Rattle.path_rule.proofs.seats.Marking.{log_keeps, marked, marked_keeps}
+use Rattle.path_rule.proofs.seats.Reaching.{found_on}
 use Rattle.path_rule.proofs.seats.RoundsGo.{one, one_as, next}
 use Rattle.path_rule.proofs.table.PathTable.claim_once.Goals as goal
 
@@ -34,7 +35,28 @@ returns-then-claim_marker-from-clause-claim g c =
       hands = H.hands ∙ ap (λ (v : View). with_marker w L.result v.hands) L.ensures.step.view;
       waits = H.waits;
       wrote = H.wrote;
+      rises = λ key F. H.rises key (found_on w [] c.args.member.now.seat.me.0 u Log key
+          (one w (Look w Log) L.result _ _ refl L.ensures.step) F);
     }
+
+pub returns-then-not-is_entry_since-clause-current :
+    goal.returns-then-not-is_entry_since-clause-current
+returns-then-not-is_entry_since-clause-current g c = let L = c.look_log-from in
+    log_keeps _ _ c.args.member.now.number L.result L.ensures.step
+
+pub returns-then-claim_marker-from-clause-current :
+    goal.returns-then-claim_marker-from-clause-current
+returns-then-claim_marker-from-clause-current g c = let L = c.look_log-from in
+    λ k saw. marked_keeps _ _ _ L.result c.key_behind_marker-to.result
+    (c.claim_marker.ensures.hit c.if-claim_marker-from.true) k
+    (log_keeps _ _ c.args.member.now.number L.result L.ensures.step k saw)
+
+pub returns-else-claim_marker-from-clause-current :
+    goal.returns-else-claim_marker-from-clause-current
+returns-else-claim_marker-from-clause-current g c = let L = c.look_log-from in
+    λ k saw. log_keeps _ _ _ c.claim_marker.result
+    (c.claim_marker.ensures.miss c.if-claim_marker-from.false) k
+    (log_keeps _ _ c.args.member.now.number L.result L.ensures.step k saw)
 
 pub returns-else-claim_marker-from-clause-steps : goal.returns-else-claim_marker-from-clause-steps
 returns-else-claim_marker-from-clause-steps g c =

@@ -8,9 +8,12 @@ use Rattle.path_rule.specs.declared.view.View.{View}
 use Rattle.path_rule.specs.Calls.{MayGive}
 use Rattle.path_rule.specs.Turns.{IsBarred}
 use Rattle.path_rule.specs.declared.answer.SyncAnswer.{SyncAnswer}
+use Rattle.path_core.specs.Keys.{behind_marker}
+use Rattle.path_rule.specs.Reached.{Reaches}
 use Rattle.path_rule.specs.SyncAnswers.{Answers, said_by}
 use Rattle.path_rule.specs.SyncEnd.{TellsFaults}
 use Rattle.path_rule.proofs.seats.Answering.{answers_after, ends_answers, halted_answers}
+use Rattle.path_rule.proofs.seats.Reaching.{said_reaches}
 use Rattle.path_rule.proofs.seats.RoundsGo.{one, still_wrote}
 use Rattle.path_rule.proofs.seats.MayGives.{gives_still}
 use Rattle.path_rule.proofs.table.PathTable.end_round.Goals as goal
@@ -59,3 +62,9 @@ returns-clause-answer g c =
     (ap (λ (v : View). v.hands.lasting.at_open) L.ensures.step.view ∙ c.requires.opened)
     E.ensures.counts) (still_wrote w c.args.upto [] v L.new.member.seat.me.0 first
     c.requires.wrote) E.ensures.steps)))
+
+pub returns-clause-reaches : goal.returns-clause-reaches
+returns-clause-reaches g c = let E = c.end_sync-member in
+    let capacity = c.args.self.now.size.capacity in let key = behind_marker capacity c.args.upto in
+    subst (Reaches capacity key) (sym c.said_by.ensures)
+    (said_reaches capacity key E.result.1 E.ensures.reaches)

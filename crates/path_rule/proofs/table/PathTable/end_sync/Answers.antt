@@ -13,6 +13,7 @@ use Rattle.path_rule.specs.Lasts.{more_lasting, refused_lasting}
 use Rattle.path_rule.specs.SyncEnd.{HasSynced, HasRefused}
 use Rattle.path_rule.specs.Turns.{IsBarred}
 use Rattle.path_rule.proofs.boxes.DeskLent.{ok_holds}
+use Rattle.path_rule.proofs.log.Behind.{behind_is}
 use Rattle.path_rule.proofs.table.PathTable.end_sync.Goals as goal
 
 pub lend-member-requires-clause-lent : goal.lend-member-requires-clause-lent
@@ -40,6 +41,14 @@ keep_refused-found-requires-clause-marker g c =
     subst (λ (k : Hands). IsBarred k c.args.upto)
     (sym (ap (λ (v : View). v.hands) c.lend-member.ensures.same.1
     ∙ c.look_lent-synced.ensures.hands)) c.requires.marker
+
+pub returns-then-upto-synced-clause-reaches : goal.returns-then-upto-synced-clause-reaches
+returns-then-upto-synced-clause-reaches g c =
+    c.look_lent-synced.ensures.goes_on.rises c.args.upto (omega arith)
+
+pub returns-in-Ok-clause-reaches : goal.returns-in-Ok-clause-reaches
+returns-in-Ok-clause-reaches g c = let is = behind_is c.args.self.now.size.capacity c.args.upto
+    (omega arith) in omega (arith, is)
 
 pub returns-in-Ok-clause-give : goal.returns-in-Ok-clause-give
 returns-in-Ok-clause-give g c =

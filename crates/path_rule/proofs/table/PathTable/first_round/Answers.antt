@@ -38,3 +38,6 @@ returns-clause-answer g c =
     (subst (λ k. Answers k opened u (Done S.result) S.new.member.seat.me.0) L.ensures.same.1
     (found_answers L.new.member.number opened 0 S.result u _ (omega arith)
     (still_wrote w 0 [] v u first c.requires.wrote) S.ensures.step))
+
+pub returns-clause-reaches : goal.returns-clause-reaches
+returns-clause-reaches g c = c.look_lent-synced.ensures.goes_on.front

@@ -1,8 +1,10 @@
 use Rattle.std.proofs.Common.{Some, refl, sym, ap, ◌∙◌, subst, arith}
 use Rattle.std.specs.Option.{option_map}
 use Rattle.path_core.specs.declared.seat.SyncTurn.{SyncTurn}
+use Rattle.path_rule.specs.declared.view.PathSize.{PathSize}
 use Rattle.path_rule.specs.declared.view.View.{View}
 use Rattle.path_rule.specs.Calls.{MayGive, IsSyncedTo}
+use Rattle.path_rule.specs.Trails.{GoesOnBehind}
 use Rattle.path_rule.specs.Turns.{TurnRuns}
 use Rattle.path_rule.proofs.moves.LentLooks.{looks_lent}
 use Rattle.path_rule.proofs.seats.CursorKnows.{synced_seen}
@@ -36,6 +38,11 @@ returns-clause-step g c = let m = c.args.member.now in let d = c.load.ensures.2 
 
 pub returns-clause-lent : goal.returns-clause-lent
 returns-clause-lent g c = let m = c.args.member.now in (c.load.ensures.2 m.number m.role).1
+
+pub returns-clause-goes_on : goal.returns-clause-goes_on
+returns-clause-goes_on g c = let m = c.args.member.now in
+    subst (λ (z : PathSize). GoesOnBehind z.capacity c.load.result) c.requires.table.1
+    (c.load.ensures.2 m.number m.role).2
 
 pub returns-clause-runs : goal.returns-clause-runs
 returns-clause-runs g c = let m = c.args.member.now in let d = c.load.ensures.2 m.number m.role in

@@ -6,7 +6,7 @@ use Rattle.path_core.specs.declared.event.Event.TheVariants.{Look}
 use Rattle.path_core.specs.declared.event.Place.TheVariants.{Log}
 use Rattle.path_core.specs.Holders.{behind_last}
 use Rattle.path_rule.specs.declared.view.PathSize.{PathSize}
-use Rattle.path_rule.proofs.seats.Marking.{none_since}
+use Rattle.path_rule.proofs.seats.Marking.{none_since, rises_to}
 use Rattle.path_rule.proofs.seats.RoundsGo.{one, still_wrote}
 use Rattle.path_rule.proofs.table.PathTable.look_since.Goals as goal
 
@@ -26,3 +26,12 @@ returns-clause-none g c = λ none.
     (dite (dec_lt (behind_last c.args.self.now.size.capacity c.args.marker) L.result)
     (λ above. absurd (false≢true (sym none ∙ c.is_entry_since.ensures.1 above)))
     (λ low. omega arith))) L.ensures.found.1)
+
+pub returns-clause-rises : goal.returns-clause-rises
+returns-clause-rises g c = λ none key F.
+    let L = c.look_log-log in let w = c.args.member.now.number in
+    let v = c.args.member.now.seat.me.0 in
+    let up = rises_to v w L.result L.ensures.found.0 L.ensures.found.1 key F in
+    dite (dec_lt (behind_last c.args.self.now.size.capacity c.args.marker) L.result)
+    (λ above. absurd (false≢true (sym none ∙ c.is_entry_since.ensures.1 above)))
+    (λ low. omega (arith, low, up))
