@@ -123,6 +123,8 @@ acknowledged size w before p r (Unsynced x (Rows n)) v after H A =
         F.0,
         F.1,
         found_in w m puts v after S.answers.steps H.logged.listed.last (Current Append) F.0 F.2,
+        found_in w m puts v after S.answers.steps H.logged.listed.last (CursorWord StoppedCursor) 0
+            F.3,
       ),
     )
 acknowledged size w before p r (Spent back key) v after H A = absurd A

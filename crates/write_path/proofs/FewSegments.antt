@@ -192,7 +192,7 @@ covered (c ∷ cs) (n ∷ ns) up over all =
 module _ (x : PathState) (L : IsLawfulPath x)
     (idle : (w : ℕ) → w < length x.seats → (seat_of x w).claim ≡ None) where
   -- each entry claim is a note
-  noted_end : (c : ClaimOf) → Contains x.claims c → IsTrue (is_entry c)
+  pub noted_end : (c : ClaimOf) → Contains x.claims c → IsTrue (is_entry c)
       → (n : EntryNote) × Contains x.notes n × (n.end.0 ≡ c.end)
   noted_end c h e = let once = L.each_claim_noted_once.once c h e in
       let found = counted_from (is_note_at c.end) x.notes (by once) in
@@ -253,7 +253,7 @@ module _ (x : PathState) (L : IsLawfulPath x)
       let r = (T.entry_before 0 inside m).1 in absurd (omega (arith, r))
 
   -- behind so many claims the log is behind a segment's front, and in one of so many segments
-  walk : (i : ℕ) → i ≤ length x.claims
+  pub walk : (i : ℕ) → i ≤ length x.claims
       → (first_offset ≤ offset_of (key_before x.capacity x.claims i))
       × (ordinal_of (key_before x.capacity x.claims i) ≤ i - 1)
   walk zero inside = (omega arith, omega arith)

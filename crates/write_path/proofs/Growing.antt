@@ -107,8 +107,9 @@ module _ {K : Type 0} (id : TableId) (size : PathSize) (m m' : Member K)
   claimed to C = by _ (step (Claim m.number (record { 0 = C.looked }) (record { 0 = to }) Entry) to
       ∷ step (Look m.number Log) C.looked ∷ []) C.did.view refl refl
 
-  pub again : (k n : ℕ) → IsAgain m.seat.me.0 m.number k n m'.seat.me.0 → KeepsList id size m m'
-  again k n A = by _ (step (Look m.number Log) n ∷ step (Look m.number Log) k ∷ []) A.view refl
+  pub again : (bytes k n : ℕ) → IsAgain size m.seat.me.0 m.number bytes k n m'.seat.me.0
+      → KeepsList id size m m'
+  again bytes k n A = by _ (step (Look m.number Log) n ∷ step (Look m.number Log) k ∷ []) A.view refl
       refl
 
   pub spent : (bytes key : ℕ) → IsSpent size m.seat.me.0 m.number bytes key m'.seat.me.0

@@ -10,6 +10,8 @@ pub mod Histories
 pub mod Accounted
 pub mod NoneDropped
 pub mod FewSegments
+pub mod NonePassed
+pub mod Parted
 pub mod Outcomes
 pub mod SyncLists
 pub mod ClaimBehind

@@ -78,6 +78,7 @@ use Rattle.write_path.specs.Closed.{
   IsSyncedFor,
   AreStoppedFor,
   AreSyncedFor,
+  ArePartedFor,
   HasComeFor,
   all_writes,
 }
@@ -86,6 +87,8 @@ use Rattle.write_path.specs.Sealed.{AreSealed, AreSealedApart}
 use Rattle.write_path.proofs.Accounted.{each_once, each_there}
 use Rattle.write_path.proofs.FewSegments.{few_segments}
 use Rattle.write_path.proofs.NoneDropped.{none_dropped}
+use Rattle.write_path.proofs.NonePassed.{first_part, none_passed}
+use Rattle.write_path.proofs.Parted.{parts_at}
 use Rattle.write_path.proofs.Histories.{noted, writes_are, run_notes, by_all, all_noted}
 use Rattle.write_path.proofs.SealedApart.{behind_sealed, sealed_apart}
 
@@ -182,11 +185,14 @@ module _ {K : Type 0} (size : PathSize) where
       let stops : stopped_with h.stopped h.faults ≡ fault_count x.stopped =
       ap (λ (k : Lasting). k.stopped) same in
       let many : length (start_of size).seats ≡ size.seats = length-replicate size.seats fresh_seat
-      in record {
+      in
+      let idle = λ (w : ℕ) (l : w < length x.seats). idle_all x seats E.parts all w
+      (let long = z.seats in omega (arith, l, long, many)) in record {
         fit = e.fit;
         core = x;
         events = e.events;
         run = e.run;
+        built = e.built;
         own = E.own;
         end_is = e.log_is;
         of_writes = subst (λ (l : List EntryNote). IsPermutation l x.notes)
@@ -211,8 +217,9 @@ module _ {K : Type 0} (size : PathSize) where
             (HasComeFor end) (λ s T key F. let low = T.come key F in let log = e.log_is in
             omega (arith, low, log)) seats E.tell;
         few_segments = subst (λ k. ordinal_of k ≤ 2 * length x.notes - 1) (sym e.log_is)
-            (few_segments x L (λ w l. idle_all x seats E.parts all w
-            (let long = z.seats in omega (arith, l, long, many))));
+            (few_segments x L idle);
+        none_passed = λ key. first_part x.capacity L.sized.limits.greatest_capacity key x.notes
+            (is_history x L.claims_tile_the_log L.notes_are_claims) (none_passed x L idle);
         synced_is = synced;
         dropped_are = ap (λ (k : Lasting). k.dropped) same;
         none_dropped = ap (λ (k : Lasting). k.dropped) same
@@ -237,6 +244,10 @@ module _ {K : Type 0} (size : PathSize) where
             (λ (s : PathSeat K). TrailTells size.capacity x (view_of s.member).trail)
             (AreStoppedFor h) (λ s T n F some. stopped_by h.stopped h.faults n some
             (stops ∙ ap fault_count (sym (T.stopped n F some)))) seats E.tell;
+        parted = known_of x
+            (λ (s : PathSeat K). TrailTells size.capacity x (view_of s.member).trail)
+            (ArePartedFor size.capacity x.notes) (λ s T key F n m.
+            parts_at size.capacity x L z.capacity key (T.synced key F) n m) seats E.tell;
         sealed = of_both (λ (s : PathSeat K). map event_of (view_of s.member).trail
             ≡ steps_by s.member.number e.events)
             (λ (s : PathSeat K). TrailTells size.capacity x (view_of s.member).trail)
@@ -283,6 +294,7 @@ module _ {K : Type 0} (size : PathSize) where
         core = start_of size;
         events = [];
         run = refl;
+        built = tt;
         own = subst (λ (l : List (PathSeat K)). All (λ (s : PathSeat K).
             map event_of (view_of s.member).trail ≡ steps_by s.member.number []) l)
             (sym (no_seat seats none_there)) (All-nil (λ (s : PathSeat K).
@@ -300,6 +312,7 @@ module _ {K : Type 0} (size : PathSize) where
         found_log = subst (λ (l : List (PathSeat K)). All (HasComeFor end) l)
             (sym (no_seat seats none_there)) (All-nil (HasComeFor end));
         few_segments = let log = U.0 in omega (arith, log);
+        none_passed = λ key n m. absurd (let l = m.1 in omega arith);
         synced_is = synced;
         dropped_are = ap (λ (k : Lasting). k.dropped) same;
         none_dropped = ap (λ (k : Lasting). k.dropped) same;
@@ -312,6 +325,8 @@ module _ {K : Type 0} (size : PathSize) where
             (sym (no_seat seats none_there)) (All-nil (AreSyncedFor h));
         all_stopped = subst (λ (l : List (PathSeat K)). All (AreStoppedFor h) l)
             (sym (no_seat seats none_there)) (All-nil (AreStoppedFor h));
+        parted = subst (λ (l : List (PathSeat K)). All (ArePartedFor size.capacity []) l)
+            (sym (no_seat seats none_there)) (All-nil (ArePartedFor size.capacity []));
         sealed = subst (λ (l : List (PathSeat K)). All (λ (s : PathSeat K).
             AreSealed size.capacity [] h.synced (view_of s.member).trail) l)
             (sym (no_seat seats none_there)) (All-nil (λ (s : PathSeat K).

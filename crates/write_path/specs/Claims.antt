@@ -1,5 +1,5 @@
 -- What a try to claim answers.
-use Rattle.std.specs.Prelude.{◌≡◌, ◌≢◌, ℕ, ◌≤◌, false}
+use Rattle.std.specs.Prelude.{◌≡◌, ◌≢◌, ℕ, ◌<◌, ◌≤◌, false}
 use Rattle.path_core.specs.declared.event.ClaimKind.TheVariants.{Entry}
 use Rattle.path_core.specs.declared.event.Event.TheVariants.{Look, Claim}
 use Rattle.path_core.specs.declared.event.Place.TheVariants.{Log}
@@ -27,8 +27,11 @@ pub record IsClaim (v : View) (w to : ℕ) (after : View) : Type 0 where
   pub did : Did (view_after v (Look w Log) looked false) w
       (Claim w (record { 0 = looked }) (record { 0 = to }) Entry) to after
 
--- Seat w only looked: it found the log key, and then another.
-pub record IsAgain (v : View) (w looked found : ℕ) (after : View) : Type 0 where
+-- Seat w only looked: it found the log key, at which an entry of so many bytes has a segment, and
+-- then another.
+pub record IsAgain (size : PathSize) (v : View) (w bytes looked found : ℕ) (after : View) :
+    Type 0 where
+  pub room : ordinal_of (entry_end size.capacity looked bytes) < size.ordinals
   pub moved : found ≢ looked
   pub view : after ≡ view_after (view_after v (Look w Log) looked false) (Look w Log) found false
 

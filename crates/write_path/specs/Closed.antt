@@ -1,6 +1,7 @@
 -- What a path tells when it is closed.
 use Rattle.std.specs.Prelude.{
   ◌≡◌,
+  ◌⊎◌,
   ℕ,
   ◌-◌,
   ◌*◌,
@@ -25,7 +26,7 @@ use Rattle.path_core.specs.declared.note.EntryNote.{EntryNote}
 use Rattle.path_core.specs.declared.state.PathState.{PathState}
 use Rattle.path_core.specs.History.{IsHistory}
 use Rattle.path_core.specs.Keeper.{Holding, HasRisen}
-use Rattle.path_core.specs.Keys.{ordinal_of}
+use Rattle.path_core.specs.Keys.{after, ordinal_of}
 use Rattle.path_core.specs.LawfulLog.{is_at_most}
 use Rattle.path_core.specs.Next.{is_between}
 use Rattle.path_core.specs.Parts.{seat_of}
@@ -39,7 +40,7 @@ use Rattle.path_rule.specs.declared.view.Returned.{Returned}
 use Rattle.path_rule.specs.Finds.{Finds}
 use Rattle.path_rule.specs.Lasts.{fault_count, stopped_with}
 use Rattle.path_rule.specs.Members.{view_of, part_of, IsOf, returned_of}
-use Rattle.path_rule.specs.Rule.{IsFit, start_of, event_of, steps_by}
+use Rattle.path_rule.specs.Rule.{AreBuilt, IsFit, start_of, event_of, steps_by}
 use Rattle.path_rule.specs.Sharing.{Ended}
 use Rattle.path_rule.specs.Trails.{TrailTells}
 use Rattle.write_path.specs.declared.resting.Resting.{Resting}
@@ -112,6 +113,18 @@ pub record StaysBeside (first h : Holding) : Type 0 where
   pub none_refused : first.refused ≡ None → h.refused ≡ None
   pub none_archived : first.archived ≡ [] → h.archived ≡ []
 
+-- Each entry ends at or below a synced key that the seat found, or put, or behind the key at which
+-- the log goes on behind it.
+abbrev pub ArePartedFor : {K : Type 0} → ℕ → List EntryNote → PathSeat K → Type 0
+ArePartedFor capacity history s = (key : ℕ) → Finds (CursorWord Synced) key (view_of s.member).trail
+    → (n : EntryNote) → Contains history n → (n.end.0 ≤ key) ⊎ (after capacity key < n.end.0)
+
+-- The log passes over no segment: in each one up to that in which an entry begins, one begins. So
+-- the first entry stands in the segment of ordinal 0.
+abbrev pub PassesNoSegment : List EntryNote → Type 0
+PassesNoSegment notes = (n : EntryNote) → Contains notes n → (o : ℕ) → o ≤ ordinal_of n.start.0
+    → (m : EntryNote) × Contains notes m × (ordinal_of m.start.0 ≡ o)
+
 -- The keeper is of these sizes, and of the opening with this count of faults.
 pub record IsOfSize (size : PathSize) (h : Holding) : Type 0 where
   pub base_is : h.base ≡ size.base
@@ -128,6 +141,9 @@ pub record IsOutcome {K : Type 0} (size : PathSize) (seats : List (PathSeat K)) 
   pub core : PathState
   pub events : List Event
   pub run : Past (start_of size) events core
+  -- each step was of a kind that is built: no memtable was retired, and a group of the append order
+  -- was made only where a marker of the seat wanted a barrier
+  pub built : AreBuilt size.at_open (start_of size) events core run
   pub own : All (λ (s : PathSeat K). map event_of (view_of s.member).trail
       ≡ steps_by s.member.number events) seats
   pub end_is : end ≡ core.log
@@ -142,6 +158,8 @@ pub record IsOutcome {K : Type 0} (size : PathSize) (seats : List (PathSeat K)) 
   -- but for one
   pub found_log : All (HasComeFor end) seats
   pub few_segments : ordinal_of end ≤ 2 * length core.notes - 1
+  -- its first entries pass over no segment, up to whatever key
+  pub none_passed : (key : ℕ) → PassesNoSegment (filter (is_at_most key) core.notes)
   -- the keeper has what the run made lasting, dropped and stopped
   pub synced_is : h.synced ≡ core.synced
   pub dropped_are : h.dropped ≡ core.dropped
@@ -153,6 +171,8 @@ pub record IsOutcome {K : Type 0} (size : PathSize) (seats : List (PathSeat K)) 
   pub found_stopped : All (IsStoppedFor h) seats
   pub all_synced : All (AreSyncedFor h) seats
   pub all_stopped : All (AreStoppedFor h) seats
+  -- each entry lies in front of such a synced key, or behind it
+  pub parted : All (ArePartedFor size.capacity core.notes) seats
   -- a marker stands behind each sealed write, and in front of each later one of its seat
   pub sealed : All (λ (s : PathSeat K). AreSealed size.capacity core.notes h.synced
       (view_of s.member).trail) seats

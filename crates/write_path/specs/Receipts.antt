@@ -62,8 +62,8 @@ pub record IsDurable (end : ℕ) (v : View) : Type 0 where
   pub covers : CoversList (Done synced) v
 
 -- Why it was not synced, where `opened` is the keeper's count of faults at its opening. The seat
--- found or put the count with which the log is stopped, and it has risen; or it found the last
--- group that there is a word for current.
+-- found or put the count with which the log is stopped, and it has risen; or it found the log
+-- running, and the last group that there is a word for current.
 abbrev pub IsUnsynced : ℕ → SyncFault → View → Type 0
 IsUnsynced opened (LogStopped at_open now) v = (at_open ≡ opened) × HasRisen at_open now
     × (v.part.found.stopped ≡ Some now)
@@ -77,6 +77,7 @@ IsToldBehind n (LogStopped at_open now) trail =
 IsToldBehind n NoMemory trail = Unit {0}
 IsToldBehind n (NoRows groups) trail =
     (last : ℕ) × (suc last ≡ groups) × FoundWhileLast n (Current Append) last trail
+    × FoundWhileLast n (CursorWord StoppedCursor) 0 trail
 
 -- What a commit by seat w answers in a mode. A write waits for a sync in batch mode alone. Durable:
 -- it is sealed, so a marker stands behind it before the seat's next one. Spent: it comes back,

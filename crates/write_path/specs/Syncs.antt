@@ -1,6 +1,7 @@
 -- What a sync answers, and what is so then of its seat and the seat's list.
-use Rattle.std.specs.Prelude.{◌≡◌, ℕ, ◌≤◌}
+use Rattle.std.specs.Prelude.{◌≡◌, ℕ, ◌≤◌, []}
 use Rattle.std.specs.List.{Contains}
+use Rattle.path_core.specs.declared.event.Place.TheVariants.{Log}
 use Rattle.path_core.specs.declared.note.EntryNote.{EntryNote}
 use Rattle.path_rule.specs.declared.answer.SyncAnswer.{SyncAnswer}
 use Rattle.path_rule.specs.declared.answer.SyncAnswer.TheVariants.{
@@ -10,6 +11,9 @@ use Rattle.path_rule.specs.declared.answer.SyncAnswer.TheVariants.{
   Rows,
 }
 use Rattle.path_rule.specs.declared.view.View.{View}
+use Rattle.path_rule.specs.Finds.{Finds}
+use Rattle.path_rule.specs.Reached.{Reaches}
+use Rattle.path_rule.specs.Rounds.{RoundSteps}
 use Rattle.path_rule.specs.SyncAnswers.{Answers}
 use Rattle.write_path.specs.Ends.{writes_of}
 
@@ -20,9 +24,18 @@ CoversList (Stopped at_open now) v = Unit {0}
 CoversList OutOfMemory v = Unit {0}
 CoversList (Rows n) v = Unit {0}
 
+-- Seat w made steps of barriers and syncs alone, which put nothing, and found the log key at one.
+pub record HasLooked (w key : ℕ) (v after : View) : Type 0 where
+  pub steps : RoundSteps w [] v after
+  pub looked : Finds Log key steps.steps
+
 -- A sync by seat w answered this. The seat made steps of barriers and syncs alone, its list is as
--- it was, and what `Answers` says of the keys and counts is so.
+-- it was, and what `Answers` says of the keys and counts is so. It found this log key in the call,
+-- and Done says that the log is lasting up to there.
 pub record Syncs (w opened : ℕ) (v : View) (answer : SyncAnswer) (after : View) : Type 0 where
   pub answers : Answers w opened v answer after
   pub list : writes_of after.trail ≡ writes_of v.trail
   pub covers : CoversList answer after
+  pub end : ℕ
+  pub looked : Finds Log end answers.steps.steps
+  pub reaches : Reaches v.size.capacity end answer

@@ -25,7 +25,8 @@ pub enum TryClaim<K> {
 }
 
 impl<K: Keeper, A: Allocator> WritePath<K, A> {
-    /// Claims a range of some bytes where the log stands (`CommitLogSegment.allocate`).
+    /// Claims a range of some bytes where the log stands (`CommitLogSegment.allocate`). `Spent` is
+    /// answered exactly where the key that is looked at has no segment for them.
     pub fn try_claim(&self, seat: Appending<K>, size: u32) -> TryClaim<K>
         requires table { IsOf self.now.table.table.shared.table_id self.now.table.size seat.member }
         requires size { (30 ≤ size) × (size ≤ self.now.table.size.capacity / 2) }
@@ -39,8 +40,8 @@ impl<K: Keeper, A: Allocator> WritePath<K, A> {
         ensures step { MatchClaim result
             (λ c. (c.start.0 + size ≡ c.end.0)
             × IsClaim (view_of seat.member) seat.member.number c.end.0 (view_of c.member))
-            (λ a seen. IsAgain (view_of seat.member) seat.member.number seen.looked seen.found
-            (view_of a.member))
+            (λ a seen. IsAgain self.now.table.size (view_of seat.member) seat.member.number size
+            seen.looked seen.found (view_of a.member))
             (λ a key. IsSpent self.now.table.size (view_of seat.member) seat.member.number size
             key.0 (view_of a.member)) }
         ensures behind { MatchClaim result

@@ -1,5 +1,6 @@
-//! Laws of notes, of writes that a marker stands behind, and of what an answer promises for the
-//! close of the path. Each is the contract of a function that does nothing.
+//! Laws of notes, of writes that a marker stands behind, of how far a sync reaches, of where a log
+//! begins, and of what an answer promises for the close of the path. Each is the contract of a
+//! function that does nothing.
 ghost use Rattle.std.specs.Prelude.{
   ◌≡◌,
   ℕ,
@@ -10,8 +11,10 @@ ghost use Rattle.std.specs.Prelude.{
   ◌^◌,
   ◌<◌,
   ◌≤◌,
-  ◌++◌,
   List,
+  [],
+  ◌∷◌,
+  ◌++◌,
   length,
 };
 ghost use Rattle.std.specs.List.{All, Contains};
@@ -20,18 +23,27 @@ ghost use Rattle.clog_mutation.specs.declared.mutation.Mutation.{Mutation};
 ghost use Rattle.clog_mutation.specs.Limits.{IsWithinLimits};
 ghost use Rattle.path_core.specs.declared.event.ClaimKind.TheVariants.{Entry};
 ghost use Rattle.path_core.specs.declared.note.EntryNote.{EntryNote};
+ghost use Rattle.path_core.specs.History.{IsHistory};
 ghost use Rattle.path_core.specs.Keeper.{Holding};
-ghost use Rattle.path_core.specs.Keys.{least_entry, MovesLog, claimed_size, claim_start};
+ghost use Rattle.path_core.specs.Keys.{
+  least_entry,
+  ordinal_of,
+  MovesLog,
+  claimed_size,
+  claim_start,
+};
 ghost use Rattle.path_core.specs.Whole.{IsWhole};
+ghost use Rattle.path_rule.specs.declared.answer.SyncAnswer.TheVariants.{Done};
 ghost use Rattle.path_rule.specs.declared.view.OwnStep.{OwnStep};
 ghost use Rattle.path_rule.specs.declared.view.PathSize.{PathSize};
 ghost use Rattle.path_rule.specs.Members.{view_of};
+ghost use Rattle.path_rule.specs.Reached.{Reaches};
 ghost use Rattle.write_path.specs.declared.prepared.Prepared.{Prepared};
-ghost use Rattle.write_path.specs.Closed.{IsOutcome, all_writes};
+ghost use Rattle.write_path.specs.Closed.{IsOutcome, PassesNoSegment, all_writes};
 ghost use Rattle.write_path.specs.Commits.{IsLogged};
 ghost use Rattle.write_path.specs.Ends.{writes_of};
 ghost use Rattle.write_path.specs.Grown.{HasGrown};
-ghost use Rattle.write_path.specs.Promised.{WasDone, WasDurable, WasSpent};
+ghost use Rattle.write_path.specs.Promised.{WasDone, WasDurable, WasSpent, WasSynced};
 ghost use Rattle.write_path.specs.Sealed.{HasMarkBehind, HasMarkBetween, IsSealed};
 ghost use Rattle.write_path.specs.SealedRows.{behind_it, before_it, behind_a_claim};
 ghost use Rattle.write_path.specs.Writes.{entry_size, IsNoteOf, IsClaimed, IsDepositable};
@@ -70,6 +82,18 @@ pub fn what_seals_a_write()
         → IsSealed n (newer ++ trail) }
 {}
 
+/// How far the log is lasting behind a sync that is answered `Done`, by values, in segments of 4096
+/// bytes.
+pub fn what_a_sync_reaches()
+    // Behind the marker at 100 the log goes on at 108: so far it reaches.
+    ensures marker { Reaches 4096 108 (Done 100) }
+    // A sync that ended at an older marker, at 60, does not.
+    ensures older { ¬ Reaches 4096 108 (Done 60) }
+    // Before the first marker it reaches the front of the first segment, and no entry.
+    ensures front { Reaches 4096 28 (Done 0) }
+    ensures empty { ¬ Reaches 4096 60 (Done 0) }
+{}
+
 /// What a seat was promised is so when the path is closed, whatever the seats did between.
 pub fn what_close_keeps<K: Keeper>()
     // The keeper has each write that a commit answered `Durable`.
@@ -87,6 +111,12 @@ pub fn what_close_keeps<K: Keeper>()
         → IsOutcome size seats end h → (s : PathSeat K) → Contains seats s
         → (key : ℕ) (n : EntryNote) → WasDone s.member.number key n (view_of s.member).trail
         → (key ≤ h.synced) × Contains h.logged n }
+    // It has each entry, whichever seat logged it, that ends at or below where a sync found the log
+    // that was answered `Done`.
+    ensures reached { (size : PathSize) (seats : List (PathSeat K)) (end : ℕ) (h : Holding)
+        → (o : IsOutcome size seats end h) → (s : PathSeat K) → Contains seats s → (upto : ℕ)
+        → WasSynced size s.member.number upto (view_of s.member).trail → (n : EntryNote)
+        → Contains o.core.notes n → n.end.0 ≤ upto → Contains h.logged n }
     // A marker stands between a write that was answered `Durable` and each one that its seat logged
     // behind it.
     ensures apart { (size : PathSize) (seats : List (PathSeat K)) (end : ℕ) (h : Holding)
@@ -112,4 +142,16 @@ pub fn what_spends_a_path<K: Keeper>()
         → All (λ (s : PathSeat K). length (writes_of (view_of s.member).trail) ≤ 8388608) seats
         → 2 ^ 30 < size.ordinals → (s : PathSeat K) → Contains seats s → (bytes key : ℕ)
         → bytes ≤ size.capacity / 2 → ¬ WasSpent size bytes key (view_of s.member).trail }
+{}
+
+/// The log of a path begins in the segment of ordinal 0, and passes over none.
+pub fn where_a_log_begins<K: Keeper>()
+    // The first entry of a history that passes over no segment stands in the first one.
+    ensures first { (capacity : ℕ) (n : EntryNote) (ns : List EntryNote)
+        → IsHistory capacity (n ∷ ns) → PassesNoSegment (n ∷ ns) → ordinal_of n.start.0 ≡ 0 }
+    // A lone entry in the second segment leaves the first one out.
+    ensures second { (n : EntryNote) → ordinal_of n.start.0 ≡ 1 → ¬ PassesNoSegment (n ∷ []) }
+    // What the keeper of a closed path has logged passes over none.
+    ensures logged { (size : PathSize) (seats : List (PathSeat K)) (end : ℕ) (h : Holding)
+        → IsOutcome size seats end h → PassesNoSegment h.logged }
 {}

@@ -31,7 +31,10 @@ pub use closing::Outcome;
 pub use commit::{Commit, Receipt, SyncFault};
 pub use deposited::Deposited;
 pub use fault::PrepareFault;
-pub use laws::{note_laws, what_close_keeps, what_seals_a_write, what_spends_a_path};
+pub use laws::{
+    note_laws, what_a_sync_reaches, what_close_keeps, what_seals_a_write, what_spends_a_path,
+    where_a_log_begins,
+};
 pub use path_rule::{Advance, Begun, PathSeat, Seen, SyncAnswer};
 pub use prepared::Prepared;
 pub use seats::{Appending, WritePath};
@@ -46,6 +49,8 @@ mod refusing_tests;
 mod rolling_tests;
 #[cfg(test)]
 mod rows_tests;
+#[cfg(test)]
+mod stopping_tests;
 #[cfg(test)]
 mod sync_tests;
 #[cfg(test)]

@@ -92,7 +92,7 @@ fn commit_sync_commit<R: Wait>(
     Ok((first, answer, second))
 }
 
-fn unsynced(commit: &Commit) -> Option<(Receipt, SyncFault)> {
+pub(crate) fn unsynced(commit: &Commit) -> Option<(Receipt, SyncFault)> {
     match commit {
         Commit::Unsynced(receipt, fault) => Some((*receipt, *fault)),
         _ => None,

@@ -5,14 +5,16 @@
 //! barrier, gathers all boxes behind it, and has the keeper make lasting what is pending; then the
 //! seat is idle again. Where the keeper refused the last sync for memory and no entry came since,
 //! the same marker serves.
-ghost use Rattle.std.specs.Prelude.{◌≡◌, ℕ, []};
+ghost use Rattle.std.specs.Prelude.{◌≡◌, ℕ};
 ghost use Rattle.path_core.specs.declared.event.Cursor.TheVariants.{Synced};
 ghost use Rattle.path_core.specs.declared.event.Event.TheVariants.{Look};
 ghost use Rattle.path_core.specs.declared.event.Place.TheVariants.{CursorWord, Log};
 ghost use Rattle.path_rule.specs.Members.{view_of, IsOf, Stepped};
-ghost use Rattle.path_rule.specs.Rounds.{RoundSteps, WroteBelow};
+ghost use Rattle.path_rule.specs.Finds.{Finds};
+ghost use Rattle.path_rule.specs.Reached.{MayReach, ReachesFound};
+ghost use Rattle.path_rule.specs.Rounds.{WroteBelow};
 ghost use Rattle.path_rule.specs.SyncAnswers.{IsDoneBy, MayAnswer};
-ghost use Rattle.write_path.specs.Syncs.{Syncs};
+ghost use Rattle.write_path.specs.Syncs.{HasLooked, Syncs};
 ghost use Rattle.write_path.specs.Tries.{Stays};
 
 use crate::seats::WritePath;
@@ -23,8 +25,9 @@ use std::sync::Wait;
 use std::thread::yield_now;
 
 impl<K: Keeper, A: Allocator> WritePath<K, A> {
-    // One round of a sync, where the Sync turn is found free; the turn is given back. `None` where
-    // another seat has it, or left the last marker without a barrier.
+    // One round of a sync, where the Sync turn is found free; the turn is given back. `Done` reaches
+    // each log key that the seat had found. `None` where another seat has the turn, or left the last
+    // marker without a barrier.
     fn try_sync<R: Wait>(
         &self,
         rt: &R,
@@ -36,6 +39,8 @@ impl<K: Keeper, A: Allocator> WritePath<K, A> {
             result.0.member }
         ensures answer { MayAnswer seat.member.number self.now.table.size.at_open
             (view_of seat.member) result.1 (view_of result.0.member) }
+        ensures reaches { ReachesFound self.now.table.size.capacity (view_of seat.member).trail
+            result.1 }
     {
         let PathSeat { mut member } = seat;
         if self.table.take_sync(&mut member) != 0 {
@@ -51,7 +56,7 @@ impl<K: Keeper, A: Allocator> WritePath<K, A> {
         requires { IsOf self.now.table.table.shared.table_id self.now.table.size seat.member }
         ensures same { Stays self.now.table.table.shared.table_id self.now.table.size seat.member
             result.0.member }
-        ensures steps { RoundSteps seat.member.number [] (view_of seat.member)
+        ensures found { HasLooked seat.member.number result.1 (view_of seat.member)
             (view_of result.0.member) }
         ensures looked { Stepped seat.member (Look seat.member.number Log) result.1
             result.0.member }
@@ -79,8 +84,9 @@ impl<K: Keeper, A: Allocator> WritePath<K, A> {
         (PathSeat { member }, done)
     }
 
-    // One try to have the log lasting up to a key, above which the seat wrote nothing: by what
-    // another seat's sync made lasting, or by a round where the Sync turn is found free.
+    // One try to have the log lasting up to a log key that the seat has found, above which it wrote
+    // nothing: by what another seat's sync made lasting, or by a round where the Sync turn is found
+    // free.
     fn sync_once<R: Wait>(
         &self,
         rt: &R,
@@ -90,10 +96,12 @@ impl<K: Keeper, A: Allocator> WritePath<K, A> {
     ) -> (PathSeat<K>, Option<SyncAnswer>)
         requires table { IsOf self.now.table.table.shared.table_id self.now.table.size seat.member }
         requires wrote { WroteBelow upto (view_of seat.member).trail }
+        requires found { Finds Log upto (view_of seat.member).trail }
         ensures same { Stays self.now.table.table.shared.table_id self.now.table.size seat.member
             result.0.member }
         ensures answer { MayAnswer seat.member.number self.now.table.size.at_open
             (view_of seat.member) result.1 (view_of result.0.member) }
+        ensures reaches { MayReach self.now.table.size.capacity upto result.1 }
     {
         let (seat, answer) = self.try_await(seat, upto);
         match answer {
@@ -104,11 +112,12 @@ impl<K: Keeper, A: Allocator> WritePath<K, A> {
 
     /// Syncs the log: it waits until the log is lasting up to where it ended at the call, by
     /// another seat's sync or, where the Sync turn is found free, by a round of its own. `Done`
-    /// carries the synced key, at or below which each write of the seat's list ends; `Stopped` the
-    /// keeper's count of faults at its opening and the count that the log tells; after
-    /// `OutOfMemory` and `Rows` all is pending still. What is answered was found, or put, at a step
-    /// of this call. `Rows` comes where the last group was found current and a marker wants a
-    /// barrier. No clause says that it returns.
+    /// carries the synced key, at or below which each write of the seat's list ends; it reaches the
+    /// log's end as it was found in this call, so other seats' entries up to there last too
+    /// (`what_close_keeps`). `Stopped` has the keeper's count of faults at its opening and the count
+    /// that the log tells; after `OutOfMemory` and `Rows` all is pending still. What is answered was
+    /// found, or put, at a step of this call. `Rows` comes where the log was found running and the
+    /// last group current, and a marker is wanted. No clause says that it returns.
     pub fn sync<R: Wait>(
         &self,
         rt: &R,

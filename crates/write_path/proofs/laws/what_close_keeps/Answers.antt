@@ -1,4 +1,10 @@
-use Rattle.write_path.proofs.Promises.{done_logged, durable_apart, durable_logged, durable_marked}
+use Rattle.write_path.proofs.Promises.{
+  done_logged,
+  durable_apart,
+  durable_logged,
+  durable_marked,
+  synced_logged,
+}
 use Rattle.write_path.proofs.laws.what_close_keeps.Goals as goal
 
 pub returns-clause-durable : goal.returns-clause-durable
@@ -9,6 +15,9 @@ returns-clause-marked g c = durable_marked
 
 pub returns-clause-done : goal.returns-clause-done
 returns-clause-done g c = done_logged
+
+pub returns-clause-reached : goal.returns-clause-reached
+returns-clause-reached g c = synced_logged
 
 pub returns-clause-apart : goal.returns-clause-apart
 returns-clause-apart g c = durable_apart

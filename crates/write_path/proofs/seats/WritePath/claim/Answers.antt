@@ -34,8 +34,8 @@ loop-preserved g c = let t = c.args.self.now.table in let m = c.loop.seat.member
       next = tt;
       finite = tt;
       keeps = keeps_on t.table.shared.table_id t.size c.args.seat.member m m' I.keeps
-          (again t.table.shared.table_id t.size m m' r.ensures.same.0 r._seen.looked
-          r._seen.found r.ensures.step);
+          (again t.table.shared.table_id t.size m m' r.ensures.same.0 c.args.size
+          r._seen.looked r._seen.found r.ensures.step);
       writing = r.ensures.same.1 ∙ I.writing;
       group = r.ensures.same.2 ∙ I.group;
     }

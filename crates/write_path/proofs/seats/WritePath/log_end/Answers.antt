@@ -3,6 +3,7 @@ use Rattle.path_core.specs.declared.event.Event.TheVariants.{Look}
 use Rattle.path_core.specs.declared.event.Place.TheVariants.{Log}
 use Rattle.path_rule.specs.declared.view.View.{View}
 use Rattle.path_rule.proofs.seats.RoundsGo.{one}
+use Rattle.write_path.proofs.SyncLists.{looked_at}
 use Rattle.write_path.proofs.seats.WritePath.log_end.Goals as goal
 
 pub invariant_of-result : goal.invariant_of-result
@@ -22,7 +23,6 @@ invariant_of-result g c = let E = c.look_end-end.ensures in let seat = c.args.se
       bare = E.same.2 ∙ seat.bare;
     }
 
-pub returns-clause-steps : goal.returns-clause-steps
-returns-clause-steps g c =
-    one c.args.seat.member.number (Look _ Log) c.look_end-end.result _ _ refl
-    c.look_end-end.ensures.step
+pub returns-clause-found : goal.returns-clause-found
+returns-clause-found g c =
+    looked_at c.args.seat.member.number c.look_end-end.result _ _ c.look_end-end.ensures.step

@@ -1,20 +1,25 @@
-use Rattle.std.proofs.Common.{[], Option, ◌∙◌, subst}
+use Rattle.std.proofs.Common.{[], Option, ap, ◌∙◌, subst}
 use Rattle.path_rule.specs.declared.answer.SyncAnswer.{SyncAnswer}
+use Rattle.path_rule.specs.declared.view.PathSize.{PathSize}
 use Rattle.path_rule.specs.SyncAnswers.{MayAnswer}
-use Rattle.path_rule.proofs.seats.Answering.{may_after}
-use Rattle.path_rule.proofs.seats.RoundsGo.{next, still_wrote}
-use Rattle.write_path.proofs.SyncLists.{syncs}
+use Rattle.path_rule.proofs.seats.RoundsGo.{still_wrote}
+use Rattle.write_path.proofs.SyncLists.{answered, looked_on, looked_trail}
 use Rattle.write_path.proofs.seats.WritePath.sync.Goals as goal
+
+pub sync_once-next-requires-clause-found : goal.sync_once-next-requires-clause-found
+sync_once-next-requires-clause-found g c =
+    looked_trail c.args.seat.member.number _ _ _ c.loop.invariant.looked
 
 pub returns-in-Some-answer-clause-syncs : goal.returns-in-Some-answer-clause-syncs
 returns-in-Some-answer-clause-syncs g c =
     let I = c.loop.invariant in let T = c.sync_once-next in let w = c.args.seat.member.number in
     let opened = c.args.self.now.table.size.at_open in let u = c.loop.seat.member.seat.me.0 in
     let after = T.result.0.member.seat.me.0 in
-    syncs w opened c.args.seat.member.seat.me.0 c.in-Some-answer.answer after
-    (subst (λ (a : Option SyncAnswer). MayAnswer w opened c.args.seat.member.seat.me.0 a after)
-    c.in-Some-answer.is (may_after w opened T.result.1 _ u after I.steps
-    (subst (λ k. MayAnswer k opened u T.result.1 after) I.stays.1 T.ensures.answer)))
+    answered w opened c.args.self.now.table.size.capacity _ c.args.seat.member.seat.me.0 u after
+    T.result.1 c.in-Some-answer.answer c.in-Some-answer.is
+    (ap (λ (z : PathSize). z.capacity) c.requires.1) I.looked
+    (subst (λ k. MayAnswer k opened u T.result.1 after) I.stays.1 T.ensures.answer)
+    T.ensures.reaches
 
 pub loop-preserved : goal.loop-preserved
 loop-preserved g c =
@@ -26,6 +31,6 @@ loop-preserved g c =
       next = tt;
       finite = tt;
       stays = ((T.ensures.same.0.0, T.ensures.same.0.1), T.ensures.same.1 ∙ I.stays.1);
-      steps = next c.args.seat.member.number z [] [] _ u after I.stays.1 I.steps more;
+      looked = looked_on c.args.seat.member.number z _ _ u after I.stays.1 I.looked more;
       wrote = still_wrote z _ [] u after more I.wrote;
     }

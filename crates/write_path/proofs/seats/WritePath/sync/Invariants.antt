@@ -1,5 +1,5 @@
-use Rattle.std.proofs.Common.{[]}
-use Rattle.path_rule.specs.Rounds.{RoundSteps, WroteBelow}
+use Rattle.path_rule.specs.Rounds.{WroteBelow}
+use Rattle.write_path.specs.Syncs.{HasLooked}
 use Rattle.write_path.specs.Tries.{Stays}
 use Rattle.write_path.proofs.seats.WritePath.sync.Given as goal
 
@@ -8,6 +8,6 @@ invariant-loop g l = let first = l.fn.seat.member in record {
   next : (goal.iterator-loop g).can_next l.iterator';
   finite : (goal.iterator-loop g).is_finite l.iterator';
   stays : Stays l.self.table.table.shared.table_id l.self.table.size first l.seat.member;
-  steps : RoundSteps first.number [] first.seat.me.0 l.seat.member.seat.me.0;
+  looked : HasLooked first.number l.end first.seat.me.0 l.seat.member.seat.me.0;
   wrote : WroteBelow l.end l.seat.member.seat.me.0.trail;
 }

@@ -4,6 +4,7 @@ use Rattle.std.proofs.Common.{
   ◌-◌,
   ℕ,
   ◌^◌,
+  ◌<◌,
   ◌≤◌,
   [],
   ◌∷◌,
@@ -22,9 +23,10 @@ use Rattle.path_core.specs.declared.event.ClaimKind.TheVariants.{Entry}
 use Rattle.path_core.specs.declared.event.Event.TheVariants.{Look, Claim}
 use Rattle.path_core.specs.declared.event.Place.TheVariants.{Log}
 use Rattle.path_core.specs.declared.seat.Range.{Range}
-use Rattle.path_core.specs.Keys.{entry_end}
+use Rattle.path_core.specs.Keys.{entry_end, ordinal_of}
 use Rattle.path_core.specs.Parts.{HoldsNoTurn}
 use Rattle.path_rule.specs.declared.slot.Slot.TheVariants.{Notes}
+use Rattle.path_rule.specs.declared.view.PathSize.{PathSize}
 use Rattle.path_rule.specs.declared.view.View.{View}
 use Rattle.path_rule.specs.Boxes.{box_of}
 use Rattle.path_rule.specs.Calls.{Did}
@@ -143,7 +145,12 @@ returns-then-found-looked-clause-behind g c =
 pub returns-else-found-looked-clause-step : goal.returns-else-found-looked-clause-step
 returns-else-found-looked-clause-step g c =
     let L = c.look_log-looked.ensures in
-    let D = c.claim-found.ensures.miss (λ e. omega arith) in record {
+    let D = c.claim-found.ensures.miss (λ e. omega arith) in
+    let moves = c.in-Some.ensures.moves in let from = c.look_log-looked.result in record {
+      room = subst (λ (q : PathSize × ℕ). ordinal_of (entry_end q.0.capacity from q.1)
+          < q.0.ordinals) (λ i. (c.size.ensures i, c.from-bytes.ensures i))
+          (subst (λ (k : ℕ). ordinal_of k < c.size.result.ordinals) (moves.0.2
+          ∙ ap (λ (n : ℕ). entry_end c.size.result.capacity from n) moves.1) moves.0.3);
       moved = λ e. omega arith;
       view = D.view ∙ (λ i. view_after (L.step.view i) (Look (L.same.1 i) Log)
           c.claim-found.result false);
