@@ -57,6 +57,7 @@ use Rattle.clog_crash.specs.Recovery.{NamesAny}
 use Rattle.clog_crash.proofs.OneMore.{bytes_of}
 use Rattle.clog_crash.proofs.flush.NewFile.{one_place}
 use Rattle.clog_folder.specs.Segments.{IsTooLong}
+use Rattle.clog_store.specs.Filing.{AreRecoveryPuts}
 use Rattle.clog_store.specs.Named.{IsLateTable, id_limit}
 use Rattle.clog_store.specs.Opened.{CanBeOpened}
 use Rattle.clog_applied.specs.Appended.{appended, entries_in}
@@ -65,6 +66,8 @@ use Rattle.clog_applied.specs.Closed.{ClosedRun}
 use Rattle.clog_applied.specs.Onward.{ReachesNoFurther}
 use Rattle.clog_applied.proofs.Merged.{merge_kept, old_or_new}
 use Rattle.clog_applied.proofs.Opened.{older, table_is_no_segment}
+use Rattle.clog_closing.specs.NextNames.{HasRoomFor, HaveNextNames}
+use Rattle.clog_closing.proofs.RoomFor.{none_late}
 
 -- a member of a range is below its end
 in_range : (base n i : ℕ) → Contains (range_with_len base n) i → i < base + n
@@ -207,8 +210,8 @@ module _ (o : ApplyOptions) (before after : Files) (changes : List Change)
     ]
   ]
 
-  pub opens_again : CanBeOpened after
-  opens_again = record {
+  opens_within : CanBeOpened after
+  opens_within = record {
     readable = record {
       tables = tables;
       short = none_long;
@@ -217,3 +220,13 @@ module _ (o : ApplyOptions) (before after : Files) (changes : List Change)
     few = few;
     low = low;
   }
+
+pub opens_again : (o : ApplyOptions) (before after : Files) (changes : List Change)
+    (mutations : List Mutation) (run : ClosedRun o before after changes mutations)
+    → ReachesNoFurther o run.base run.later run.ids run.history run.files
+    → HaveNextNames run.opened after run.files → AreRecoveryPuts before run.opened
+    → CanBeOpened before → HasRoomFor before (1 + length run.files) → capacity_of o ≤ file_limit
+    → run.base + length run.ids < id_limit → CanBeOpened after
+opens_again o before after changes mutations run reach names came can free short room =
+    opens_within o before after changes mutations run reach can short room
+    (none_late before run.opened after run.files came names free)

@@ -5,7 +5,9 @@ pub mod Followed
 pub mod Following
 pub mod LogAlone
 pub mod Logs
+pub mod NextNames
 pub mod Openings
+mod RoomFor
 pub mod Segments
 mod StoreLeft
 pub mod StoreNames

@@ -1,3 +1,4 @@
 pub mod Logs
+pub mod NextNames
 pub mod Sequence
 pub mod Stores

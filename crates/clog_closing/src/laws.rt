@@ -26,7 +26,6 @@ ghost use Rattle.clog_scan.specs.Laws.{IsFile};
 ghost use Rattle.clog_spec.specs.Sizes.{file_limit};
 ghost use Rattle.clog_mutation.specs.declared.mutation.Mutation.{Mutation};
 ghost use Rattle.clog_words.specs.declared.request.ApplyOptions.{ApplyOptions};
-ghost use Rattle.clog_crash.specs.Folder.{HoldsName};
 ghost use Rattle.clog_crash.specs.Droppable.{IsDroppable};
 ghost use Rattle.clog_crash.specs.Grown.{appends_of};
 ghost use Rattle.clog_crash.specs.Log.{Write};
@@ -46,7 +45,8 @@ ghost use Rattle.path_core.specs.Whole.{IsWhole};
 ghost use Rattle.clog_store.specs.Grows.{AreAppends, IsGrown, segments_with};
 ghost use Rattle.clog_store.specs.Notes.{places_of};
 ghost use Rattle.clog_store.specs.OnDisk.{file_on};
-ghost use Rattle.clog_store.specs.Named.{IsLateTable, id_limit};
+ghost use Rattle.clog_store.specs.Filing.{AreRecoveryPuts};
+ghost use Rattle.clog_store.specs.Named.{id_limit};
 ghost use Rattle.clog_store.specs.Opened.{CanBeOpened, IsOpened, RecoversAll};
 ghost use Rattle.clog_store.specs.StoreFolder.{Deeds, HoldsStore, StoreLog, no_deeds};
 ghost use Rattle.clog_applied.specs.Appended.{IsAppended, appended, entries_in};
@@ -58,6 +58,7 @@ ghost use Rattle.clog_applied.specs.History.{LoggedLine};
 ghost use Rattle.clog_applied.specs.Onward.{ReachesNoFurther};
 ghost use Rattle.clog_applied.specs.Opening.{IsOpening, IsRecoveryChange};
 ghost use Rattle.clog_layout.specs.Logged.{AreNotesOf};
+ghost use Rattle.clog_closing.specs.NextNames.{HasRoomFor, HaveNextNames};
 ghost use Rattle.clog_closing.specs.Logs.{AreStoredInOrder, written_ids};
 ghost use Rattle.clog_closing.specs.Sequence.{AreInSequence};
 ghost use Rattle.clog_closing.specs.Stores.{
@@ -82,13 +83,14 @@ pub fn openings_are_those_of_runs()
 {}
 
 /// A run may be followed by another: where its folder could be opened before, it can be behind it,
-/// unless its ids come to their limit or a table's sequences do.
+/// as long as there was room for its ids, and for one file more of each table than it has put.
 pub fn a_run_may_follow()
     ensures { (o : ApplyOptions) (before after : Files) (changes : List Change)
         (mutations : List Mutation) → (run : ClosedRun o before after changes mutations)
         → ReachesNoFurther o run.base run.later run.ids run.history run.files
-        → CanBeOpened before → capacity_of o ≤ file_limit
-        → run.base + length run.ids < id_limit → ¬ HoldsName after IsLateTable
+        → HaveNextNames run.opened after run.files → AreRecoveryPuts before run.opened
+        → CanBeOpened before → HasRoomFor before (1 + length run.files)
+        → capacity_of o ≤ file_limit → run.base + length run.ids < id_limit
         → CanBeOpened after }
 {}
 

@@ -52,8 +52,8 @@ stored_more id k ss x bytes b =
 module _ {D : Type 0} (files : D → Option Files) (moment : D → ℕ)
     (since : D → ℕ → Files → Type 0) (leaves : D → List ℕ → Option (List ℕ) → Type 0)
     (read_at : D → ℕ → Option Reading) (lasted_at : D → ℕ → Type 0) where
-  pub begun : (disk : D) (opened id : ℕ) (past : List Write) (sections : List Section)
-      → opened ≡ moment disk → past ≡ [] → sections ≡ []
+  pub begun : (disk first : D) (opened id : ℕ) (past : List Write) (sections : List Section)
+      → opened ≡ moment disk → first ≡ disk → past ≡ [] → sections ≡ []
       → read_at disk (moment disk) ≡ option_map bytes_at (files disk)
       → ((image : Files) → since disk (moment disk) image → IsImage (leaves disk) image)
       → IfSome (files disk) (λ f. lasted_at disk (moment disk) ↔ LastsAll f (leaves disk))
@@ -63,35 +63,39 @@ module _ {D : Type 0} (files : D → Option Files) (moment : D → ℕ)
       → HasBegun files moment since leaves read_at lasted_at (record {
         disk = disk;
         opened = opened;
+        first = first;
         past = past;
         id = id;
         sections = sections;
         synced = 0;
         is_stopped = false;
       }) 0
-  begun disk opened id past sections now none_past none reads only lasts end rests = record {
-    began = omega (arith, now);
-    few = omega arith;
-    past_below = λ w among. none_below w (w.id < id)
-        (subst (λ (l : List Write). Contains l w) none_past among);
-    past_stored = λ w among. none_below w (IsStored w.id w.sections)
-        (subst (λ (l : List Write). Contains l w) none_past among);
-    stored = subst (IsStored id) (sym none) end.stored;
-    ends = λ runs. subst (λ (l : List Section). HasEnd (files disk) id 0 l) (sym none) end;
-    here = λ runs some all. absurd (let no = ap (λ (l : List Section). length l) none in
-        omega (arith, no, some));
-    lives = λ lasted.
-        subst (λ (ps : List Write). Living ps sections) (sym none_past)
-        (subst (λ (l : List Section). Living [] l) (sym none)
-        (lives_at_first files moment since leaves read_at lasted_at disk opened id now reads only
-        (rest_at_first (files disk) (leaves disk) id (lasted_at disk (moment disk)) lasts rests
-        (subst (λ (t : ℕ). lasted_at disk t) now lasted))));
-  }
+  begun disk first opened id past sections now same none_past none reads only lasts end rests =
+      record {
+        began = omega (arith, now);
+        few = omega arith;
+        past_below = λ w among. none_below w (w.id < id)
+            (subst (λ (l : List Write). Contains l w) none_past among);
+        past_stored = λ w among. none_below w (IsStored w.id w.sections)
+            (subst (λ (l : List Write). Contains l w) none_past among);
+        stored = subst (IsStored id) (sym none) end.stored;
+        ends = λ runs. subst (λ (l : List Section). HasEnd (files disk) id 0 l) (sym none) end;
+        here = λ runs some all. absurd (let no = ap (λ (l : List Section). length l) none in
+            omega (arith, no, some));
+        lives = λ lasted.
+            subst (λ (ps : List Write). Living first ps sections) (sym none_past)
+            (subst (λ (l : List Section). Living first [] l) (sym none)
+            (subst (λ (d : D). Living d [] []) (sym same)
+            (lives_at_first files moment since leaves read_at lasted_at disk opened id now reads only
+            (rest_at_first (files disk) (leaves disk) id (lasted_at disk (moment disk)) lasts rests
+            (subst (λ (t : ℕ). lasted_at disk t) now lasted)))));
+      }
     where
-      Living : List Write → List Section → Type 0
-      Living ps l = Lives files moment since leaves read_at lasted_at (record {
+      Living : D → List Write → List Section → Type 0
+      Living d ps l = Lives files moment since leaves read_at lasted_at (record {
         disk = disk;
         opened = opened;
+        first = d;
         past = ps;
         id = id;
         sections = l;

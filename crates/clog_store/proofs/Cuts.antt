@@ -63,6 +63,10 @@ cut_of (y ∷ one) two (z ∷ front) x rest is =
       })
     ]
 
+-- a list of none is cut nowhere
+pub not_cut : {A : Type 0} (front : List A) (x : A) (rest : List A) → [] ≡ front ++ x ∷ rest → ⊥
+not_cut front x rest is = omega (arith, ap length is, length-append front (x ∷ rest))
+
 -- a list of one
 pub only_cut : {A : Type 0} (y : A) (front : List A) (x : A) (rest : List A)
     → y ∷ [] ≡ front ++ x ∷ rest → ([] ≡ front) × (y ≡ x)

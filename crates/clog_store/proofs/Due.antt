@@ -38,9 +38,9 @@ use Rattle.std.proofs.lemmas.Map.Views.{btree_set_contains_iff}
 use Rattle.clog_spec.specs.Sizes.{most_tables}
 use Rattle.clog_base.specs.Positions.{ordinal_of}
 use Rattle.path_core.specs.declared.note.EntryNote.{EntryNote}
-use Rattle.path_core.specs.Keeper.{Holding, IsDue, IsFiledIn, MayDrop}
-use Rattle.clog_store.specs.declared.droppable.Known.{Known}
-use Rattle.clog_store.specs.declared.publishing.Published.{Published}
+use Rattle.path_core.specs.Keeper.{Holding, IsDue, MayDrop}
+use Rattle.clog_store.specs.declared.counted.Counted.{Counted}
+use Rattle.clog_store.specs.Counting.{IsAllCounted}
 use Rattle.clog_store.specs.Dropping.{
   AreDue,
   AreFiled,
@@ -49,10 +49,8 @@ use Rattle.clog_store.specs.Dropping.{
   HasEntry,
   IsClosedAndGoes,
   IsFiledAt,
-  IsHeldBy,
-  IsKnown,
 }
-use Rattle.clog_store.proofs.TableLogs.{is_of_parts}
+use Rattle.clog_store.proofs.TableLogs.{filed_tables, is_of_parts, tables_filed}
 
 -- ---- sets of numbers
 
@@ -116,90 +114,57 @@ entry_more notes n before now are updates o = (
 
 -- ---- what is due
 
-module _ (h : Holding) (logged kept : List EntryNote) (files : List Published)
-    (dropped : List ℕ) (is : IsKnown h logged kept files dropped) where
-  filed_of : (t key : ℕ) → IsHeldBy files t key → IsFiledIn h.files t key
-  filed_of t key held =
-      let put = is.files_are.no_more held.file held.among in
-      record {
-        file = put.0;
-        among = put.1;
-        of_table = sym put.2.table ∙ held.of_table;
-        above = omega (arith, put.2.lower, held.above);
-        up_to = omega (arith, put.2.upper, held.up_to);
-      }
-
-  held_of_file : (t key : ℕ) → IsFiledIn h.files t key → IsHeldBy files t key
-  held_of_file t key filed =
-      let put = is.files_are.each filed.file filed.among in
-      record {
-        file = put.0;
-        among = put.1;
-        of_table = put.2.table ∙ filed.of_table;
-        above = omega (arith, put.2.lower, filed.above);
-        up_to = omega (arith, put.2.upper, filed.up_to);
-      }
-
-  logged_of : (n : EntryNote) → Contains h.logged n → Contains logged n
-  logged_of n among = subst (λ (l : List EntryNote). Contains l n) is.logged_are among
-
-  held_logged : (n : EntryNote) → Contains logged n → Contains h.logged n
-  held_logged n among = subst (λ (l : List EntryNote). Contains l n) (sym is.logged_are) among
-
-  may_drop : (o : ℕ) → ArePlaced logged → HasEntry logged o → (HasEntry kept o → ⊥)
-      → AreFiled most_tables logged files o → MayDrop h o
-  may_drop o placed has not_kept filed = record {
+module _ (h : Holding) (placed : ArePlaced h.logged) where
+  may_drop : (o : ℕ) → HasEntry h.logged o → (HasEntry h.kept o → ⊥)
+      → AreFiled most_tables h.logged h.files o → MayDrop h o
+  may_drop o has not_kept filed = record {
     note = has.0;
-    among = held_logged has.0 has.1;
+    among = has.1;
     here = has.2;
-    none_kept = λ n among here. not_kept
-        (n, subst (λ (l : List EntryNote). Contains l n) is.kept_are among, here);
+    none_kept = λ n among here. not_kept (n, among, here);
     filed = λ t a b in_a in_b is_a is_b key from to.
-        let a_too = logged_of a in_a in
-        let low = (placed a a_too).tables t (is_of_parts o t a is_a).1 in
-        filed_of t key (filed t low a b a_too (logged_of b in_b) is_a is_b key from to);
+        let low = (placed a in_a).tables t (is_of_parts o t a is_a).1 in
+        filed t low a b in_a in_b is_a is_b key from to;
   }
 
-  all_filed : (o : ℕ) → MayDrop h o → AreFiled most_tables logged files o
-  all_filed o may t low a b in_a in_b is_a is_b key from to =
-      held_of_file t key (may.filed t a b (held_logged a in_a) (held_logged b in_b) is_a is_b key
-      from to)
+  module _ (closed : ℕ) (held : BTreeSet ℕ) (kept : BTreeSet ℕ) (c : Counted)
+      (counted : IsAllCounted h.logged h.files h.dropped c)
+      (held_are : (o : ℕ) → Contains held.keys o ↔ Contains c.held.items o)
+      (kept_are : (o : ℕ) → Contains kept.keys o ↔ HasEntry h.kept o) where
+    filed_there : (o : ℕ) → All (IsFiledAt o) c.tables.items
+        → AreFiled most_tables h.logged h.files o
+    filed_there o all t low =
+        tables_filed h.logged h.files o placed 0 most_tables c.tables.items counted.tables all t
+        (omega arith) low
 
-  module _ (closed : ℕ) (held : BTreeSet ℕ) (known : Known) (placed : ArePlaced logged)
-      (held_are : (o : ℕ) → Contains held.keys o ↔ HasEntry logged o)
-      (kept_are : (o : ℕ) → Contains known.kept.keys o ↔ HasEntry kept o)
-      (dropped_are : (o : ℕ) → Contains known.dropped.keys o ↔ Contains dropped o)
-      (filed_are : (o : ℕ)
-      → All (IsFiledAt o) known.tables.items ↔ AreFiled most_tables logged files o) where
-    due_of : (o : ℕ) → Contains held.keys o → IsClosedAndGoes known closed o → IsDue h closed o
-    due_of o there may = (
-      may.below,
-      may_drop o placed ((held_are o).0 there)
-          (λ has. may.goes.not_kept ((kept_are o).1 has)) ((filed_are o).0 may.goes.filed),
-      λ gone. may.goes.not_dropped ((dropped_are o).1
-          (subst (λ (l : List ℕ). Contains l o) is.dropped_are gone)),
-    )
+    due_of : (o : ℕ) → Contains held.keys o
+        → IsClosedAndGoes c.tables.items kept.keys closed o → IsDue h closed o
+    due_of o there may =
+        let is = (counted.held o).0 ((held_are o).0 there) in (
+          may.below,
+          may_drop o is.0 (λ has. may.goes.not_kept ((kept_are o).1 has))
+              (filed_there o may.goes.filed),
+          is.1,
+        )
 
-    goes_of : (o : ℕ) → IsDue h closed o → Contains held.keys o × IsClosedAndGoes known closed o
+    goes_of : (o : ℕ) → IsDue h closed o
+        → Contains held.keys o × IsClosedAndGoes c.tables.items kept.keys closed o
     goes_of o due =
         let may = due.1 in (
-          (held_are o).1 (may.note, logged_of may.note may.among, may.here),
+          (held_are o).1 ((counted.held o).1 ((may.note, may.among, may.here), due.2)),
           record {
             below = due.0;
             goes = record {
               not_kept = λ there.
-                  let has = (kept_are o).0 there in
-                  may.none_kept has.0
-                  (subst (λ (l : List EntryNote). Contains l has.0) (sym is.kept_are) has.1) has.2;
-              not_dropped = λ there. due.2
-                  (subst (λ (l : List ℕ). Contains l o) (sym is.dropped_are)
-                  ((dropped_are o).0 there));
-              filed = (filed_are o).1 (all_filed o may);
+                  let has = (kept_are o).0 there in may.none_kept has.0 has.1 has.2;
+              filed = filed_tables h.logged h.files o placed 0 most_tables c.tables.items
+                  counted.tables (λ t from low. may.filed t);
             };
           },
         )
 
-    pub due_is : (due : List ℕ) → ArePicked (IsClosedAndGoes known closed) held.keys due
+    pub due_is : (due : List ℕ)
+        → ArePicked (IsClosedAndGoes c.tables.items kept.keys closed) held.keys due
         → AreDue h closed due
     due_is due picked = record {
       ascending = picked.ascending;

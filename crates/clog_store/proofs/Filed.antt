@@ -35,7 +35,7 @@ use Rattle.clog_base.proofs.Members.{first_or_further, further, here, nothing_th
 use Rattle.clog_base.proofs.NameLaws.{one_table}
 use Rattle.clog_cells.specs.Merge.{part_on}
 use Rattle.clog_cells.proofs.Parts.{members_of_part}
-use Rattle.clog_disk.specs.Files.{Files, PutsAt, Told, bytes_at}
+use Rattle.clog_disk.specs.Files.{Files, MayPutAt, PutsAt, Told, bytes_at}
 use Rattle.clog_disk.proofs.Named.{put_here, same_or_other}
 use Rattle.clog_disk.specs.Images.{IsImage}
 use Rattle.clog_table.specs.declared.table_file.TableFile.{TableFile}
@@ -61,6 +61,7 @@ use Rattle.clog_folder.proofs.Listed.{listed_of}
 use Rattle.clog_store.specs.Beside.{StayButOne}
 use Rattle.clog_store.specs.Coming.{IsRecovering, MayComeHere, MayComeTo}
 use Rattle.clog_store.specs.Filing.{
+  AreRecoveryPuts,
   FiledBy,
   FiledNow,
   IsFiledTo,
@@ -314,12 +315,25 @@ module _ (first : Files) (names : List (List ℕ)) (cells : Pairs) (top : Positi
           named first names cells top ready table member.0 member.1 now is sequence bytes spelled
           next fits
 
+      -- what came, where it was perhaps put
+      came_after : (f : Files) (now : Option Files) → IsFiledTo first cells table.0 f
+          → MayPutAt (Some f) now (table_name_of table.0 sequence) (Some bytes)
+          → Told now (AreRecoveryPuts first)
+      came_after f now filed maybe = elim maybe [
+        | inl still ↦
+            subst (λ (o : Option Files). Told o (AreRecoveryPuts first)) (sym still) filed.came
+        | inr puts ↦
+            subst (λ (o : Option Files). Told o (AreRecoveryPuts first)) (sym puts)
+            (filed_more first names cells top ready table member.0 member.1 f filed sequence
+            bytes spelled next fits).came
+      ]
+
       stays_with : (f : Files) (now : Option Files) → IsFiledTo first cells table.0 f
           → Told now (λ g. (other : List ℕ) → (other ≡ table_name_of table.0 sequence → ⊥)
-          → finmap.get g other ≡ finmap.get f other)
+          → finmap.get g other ≡ finmap.get f other) → Told now (AreRecoveryPuts first)
           → Told now (IsSameFolder first) → Told now (IsFullFolder first)
-      stays_with f None filed others same = absurd same
-      stays_with f (Some g) filed others same = (
+      stays_with f None filed others came same = absurd same
+      stays_with f (Some g) filed others came same = (
         same,
         λ other its there.
             others other (λ e.
@@ -327,14 +341,17 @@ module _ (first : Files) (names : List (List ℕ)) (cells : Pairs) (top : Positi
             sym there ∙ ap (finmap.get first) e ∙ (is_put_now (Some f) filed).free in
             cc)
             ∙ filed.stand other its there,
+        came,
       )
 
       -- it was refused
       pub refused_filed : (told now : Option Files) → FiledNow first cells table.0 told
           → StayButOne (table_name_of table.0 sequence) told now
+          → MayPutAt told now (table_name_of table.0 sequence) (Some bytes)
           → Told now (IsSameFolder first) → Told now (IsFullFolder first)
-      refused_filed None now is stay same = absurd is
-      refused_filed (Some f) now is stay same = stays_with f now is (stay f refl) same
+      refused_filed None now is stay maybe same = absurd is
+      refused_filed (Some f) now is stay maybe same =
+          stays_with f now is (stay f refl) (came_after f now is maybe) same
 
       pub may_come_to : (told : Option Files) → FiledNow first cells table.0 told
           → MayComeTo first told put sequence bytes
@@ -390,10 +407,10 @@ settled_show first cells n None leaves is image left = absurd is
 settled_show first cells n (Some now) leaves is image left =
     same_then first now image is.0.same (settled_images now leaves is.1 image left)
 
-still_full : (first : Files) (cells : Pairs) (n : ℕ) (told : Option Files)
+pub still_full : (first : Files) (cells : Pairs) (n : ℕ) (told : Option Files)
     → FiledNow first cells n told → Told told (IsFullFolder first)
 still_full first cells n None is = absurd is
-still_full first cells n (Some now) is = (is.same, is.stand)
+still_full first cells n (Some now) is = (is.same, is.stand, is.came)
 
 -- a step was refused that has done nothing
 pub still_by : {T : Type 0} (first : Files) (cells : Pairs) (n : ℕ) (told : Option Files)

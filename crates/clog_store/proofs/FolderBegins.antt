@@ -14,6 +14,7 @@ use Rattle.clog_folder.proofs.Listed.{held_of}
 use Rattle.clog_store.specs.Named.{sequence_limit}
 use Rattle.clog_store.specs.Opened.{IsOpened, IsRecovered}
 use Rattle.clog_store.specs.StoreFolder.{HoldsStore, IsBegun, fresh_log, no_deeds}
+use Rattle.clog_store.proofs.Cuts.{not_cut}
 use Rattle.clog_store.proofs.FolderReads.{absent_or_held}
 
 module _ (before now : Files) (base moment : ℕ) (opened : IsOpened before moment base now) where
@@ -87,6 +88,7 @@ module _ (before now : Files) (base moment : ℕ) (opened : IsOpened before mome
       are = refl;
       each = λ p none. absurd (nothing_there p none);
       ascending = λ i j d low inside. absurd (omega (arith, inside));
+      next = λ before behind p cut. absurd (not_cut before p behind cut);
     };
     stands = record {
       rows = λ name bytes row. absurd (elim row [

@@ -23,6 +23,7 @@ use Rattle.std.proofs.Common.{
   inl,
   inr,
   arith,
+  append-nil,
   length-append,
 }
 use Rattle.std.specs.Prelude.{◌==◌, Bool, if◌then◌else◌, IsSome, is_some}
@@ -55,6 +56,7 @@ use Rattle.clog_store.specs.StoreFolder.{
   IsEarlier,
   IsFiledByAll,
   IsNextFile,
+  IsNextOf,
   IsPlacedAt,
   IsRow,
   IsTableRow,
@@ -63,8 +65,10 @@ use Rattle.clog_store.specs.StoreFolder.{
   name_of,
   with_file,
 }
+use Rattle.clog_store.proofs.Cuts.{cut_of, only_cut}
 use Rattle.clog_store.proofs.FolderReads.{absent_or_held, one_or_none}
 use Rattle.clog_store.proofs.FolderNames.{AreBelow, table_elsewhere}
+use Rattle.clog_store.proofs.NextNames.{next_taken}
 
 -- the name of a table's file is that of no other place
 one_file_name : (p q : PlacedFile) → IsTableName (name_of p) p.put.table p.sequence
@@ -109,8 +113,8 @@ module _ (first f : Files) (log : StoreLog) (deeds : Deeds)
 
   module _ (p : PlacedFile) (named : IsTableName (name_of p) p.put.table p.sequence)
       (spelled : IsFileOf (file_on log.base p.put).table p.bytes (file_on log.base p.put))
-      (above : (name : List ℕ) (n : ℕ) → IsTableName name p.put.table n → IsHeld f name
-      → n < p.sequence) (few : p.sequence ≤ most + 1)
+      (next : IsBase (OneHas (HasSequence (file_on log.base p.put).table) (finmap.keys f)) 1
+      p.sequence) (few : p.sequence ≤ most + 1)
       (goes_on : p.put.lower ≡ upper_from p.put.table 0 deeds.files)
       (forward : p.put.lower ≤ p.put.upper) where
     abbrev place : List ℕ
@@ -121,6 +125,10 @@ module _ (first f : Files) (log : StoreLog) (deeds : Deeds)
 
     abbrev placed_now : List PlacedFile
     placed_now = holds.placed ++ p ∷ []
+
+    above : (name : List ℕ) (n : ℕ) → IsTableName name p.put.table n → IsHeld f name
+        → n < p.sequence
+    above name n its held = next.above n (name, listed_of f (finmap.keys f) refl name held, its)
 
     free : finmap.get f place ≡ None
     free = elim (absent_or_held (finmap.get f place)) [
@@ -210,6 +218,23 @@ module _ (first f : Files) (log : StoreLog) (deeds : Deeds)
           bytes_are = refl;
         })))))
 
+    -- each has the next sequence behind those before it
+    next_placed : (before behind : List PlacedFile) (q : PlacedFile)
+        → placed_now ≡ before ++ q ∷ behind → IsNextOf first before q
+    next_placed before behind q cut = elim (cut_of holds.placed (p ∷ []) before q behind cut) [
+      | inl within ↦ holds.are_placed.next before within.rest q within.is
+      | inr last ↦
+          let only = only_cut p last.more q behind last.rest_is in
+          let all : holds.placed ≡ before =
+          sym (append-nil holds.placed)
+          ∙ ap (λ (l : List PlacedFile). holds.placed ++ l) only.0 ∙ sym last.front_is in
+          let own : IsNextOf first holds.placed p =
+          next_taken first f log deeds holds low fits (file_on log.base p.put).table p.sequence
+          next in
+          subst (λ (l : List PlacedFile). IsNextOf first l q) all
+          (subst (λ (x : PlacedFile). IsNextOf first holds.placed x) only.1 own)
+    ]
+
     one_more : length placed_now ≡ length holds.placed + 1
     one_more = omega (arith, length-append holds.placed (p ∷ []))
 
@@ -296,6 +321,7 @@ module _ (first f : Files) (log : StoreLog) (deeds : Deeds)
         ascending = all_pairs_push IsEarlier holds.placed p holds.are_placed.ascending
             (λ k d inside. later_than (get_or holds.placed k d)
             (k, inside, get_or_default holds.placed k (get_or holds.placed k d) d inside));
+        next = next_placed;
       };
       stands = record { rows = rows_put; others = others_put };
     }
@@ -326,14 +352,9 @@ module _ (first f : Files) (log : StoreLog) (deeds : Deeds)
 module _ (first f : Files) (log : StoreLog) (deeds : Deeds)
     (holds : HoldsStore first log deeds f) (low : AreBelow log) (fits : log.id < 2 ^ 63)
     (p : PlacedFile) (is : IsNextFile log.base f p) where
-  next_above : (name : List ℕ) (n : ℕ) → IsTableName name p.put.table n → IsHeld f name
-      → n < p.sequence
-  next_above name n named held =
-      is.next.above n (name, listed_of f (finmap.keys f) refl name held, named)
-
   pub holds_next : GoesOn deeds.files p.put
       → HoldsStore first log (with_file deeds p.put) (finmap.insert f (name_of p) p.bytes)
   holds_next goes_on =
-      holds_put first f log deeds holds low fits p is.named is.spelled next_above
+      holds_put first f log deeds holds low fits p is.named is.spelled is.next
       (few_next first f log deeds holds low fits (file_on log.base p.put).table p.sequence is.next)
       goes_on.0 goes_on.1

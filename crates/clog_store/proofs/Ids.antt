@@ -95,6 +95,22 @@ same_base P Q a b forth back is = record {
   one = elim is.one [ inl same ↦ inl same | inr p ↦ inr (p.0, forth p.0 p.1, p.2) ];
 }
 
+-- there is one base
+pub one_base : (P : ℕ → Type 0) (now a b : ℕ) → IsBase P now a → IsBase P now b → a ≡ b
+one_base P now a b x y = elim x.one [
+  | inl same ↦ elim y.one [
+    | inl too ↦ omega (arith, same, too)
+    | inr one ↦ let low = x.above one.0 one.1 in omega (arith, same, y.moment, low, one.2)
+  ]
+  | inr two ↦ elim y.one [
+    | inl too ↦ let low = y.above two.0 two.1 in omega (arith, too, x.moment, low, two.2)
+    | inr one ↦
+        let first = x.above one.0 one.1 in
+        let second = y.above two.0 two.1 in
+        omega (arith, first, second, one.2, two.2)
+  ]
+]
+
 pub none_above : (P : ℕ → Type 0) (a : ℕ) → ((n : ℕ) → P n → ⊥) → IsBase P a a
 none_above P a none = record {
   moment = omega arith;

@@ -4,6 +4,7 @@ mod Begun
 mod Beside
 mod BothTables
 mod Changed
+mod ComesFrom
 mod Cuts
 mod DroppedLists
 mod Due
@@ -23,8 +24,10 @@ pub mod FolderReads
 mod FolderSyncs
 mod Going
 mod GoneCuts
+mod HeldSegments
+mod HullRows
 pub mod Ids
-mod Intervals
+mod ImagesOpen
 mod Kept
 mod Live
 pub mod Lived
@@ -32,9 +35,11 @@ mod LivedCalls
 mod LivedRolls
 pub mod Looking
 mod NamesKept
+pub mod NextNames
 mod NoteBegun
 mod NoteCuts
 mod NoteDue
+mod NoteFrom
 mod NoteGoes
 pub mod NoteGrows
 mod NoteHeld
@@ -51,6 +56,7 @@ mod NoteRuns
 mod NoteSettled
 mod NoteStands
 mod NoteSynced
+mod NoteTakes
 mod Noted
 mod OnDisk
 mod OneDroppable
@@ -67,6 +73,7 @@ mod Ready
 mod Recovered
 mod Recovery
 mod SegmentsGo
+mod SeventhFile
 mod ShownNotes
 mod Stays
 mod StoreBeside
@@ -76,6 +83,7 @@ mod StoreFolds
 mod StoreKept
 mod StoreLetGo
 mod StorePuts
+mod StoreTaking
 mod TableLogs
 mod Untouched
 mod WrongOrders

@@ -8,10 +8,7 @@ use Rattle.std.proofs.Common.{
   ◌∷◌,
   ◌++◌,
   map,
-  Bool,
-  true,
   false,
-  cond,
   Contains,
   refl,
   sym,
@@ -26,9 +23,7 @@ use Rattle.std.proofs.Common.{
 }
 use Rattle.std.specs.List.{AllByRecursion, flat_map}
 use Rattle.std.proofs.lemmas.Bool.{cases_lt}
-use Rattle.std.proofs.lemmas.List.{append-nil}
 use Rattle.std.proofs.lemmas.List.Elements.{
-  filter-append,
   Contains-append_left,
   Contains-push,
   Contains-push_cases,
@@ -52,19 +47,10 @@ use Rattle.clog_base.proofs.Members.{
   nothing_there,
 }
 use Rattle.clog_base.proofs.PositionOrder.{up_to_trans}
-use Rattle.clog_cells.specs.Merge.{
-  AreInOrder,
-  IsMerge,
-  IsMergeOf,
-  IsNewestAmong,
-  is_of_table,
-  key_cmp,
-  part_on,
-}
-use Rattle.clog_cells.proofs.InOrder.{merge_in_order}
-use Rattle.clog_cells.proofs.Merging.{continues, of_itself, of_same, part_more}
+use Rattle.clog_cells.specs.Merge.{IsMergeOf, IsNewestAmong, key_cmp, part_on}
+use Rattle.clog_cells.proofs.Merging.{of_same}
 use Rattle.clog_cells.proofs.Orders.{key_equiv}
-use Rattle.clog_cells.proofs.Parts.{OnTable, members_of_part, part_of, part_of_all}
+use Rattle.clog_cells.proofs.Parts.{OnTable, members_of_part, part_of_all}
 use Rattle.clog_fields.specs.Limits.{IsStoredValue, IsValueSize}
 use Rattle.clog_disk.specs.Files.{Files, bytes_at}
 use Rattle.clog_mutation.specs.Stored.{IsPayload, IsStored, IsStoredUpdate}
@@ -80,7 +66,7 @@ use Rattle.clog_folder.specs.Tables.{read_of}
 use Rattle.clog_folder.proofs.EntriesCounted.{picks_have}
 use Rattle.replay_merge.specs.Merged.{IsSkippedBy, KeyedUpdate, keyed, pair_at, updates_of}
 use Rattle.replay_merge.proofs.Replayed.{kept_cell, logged_cell, one_log}
-use Rattle.clog_store.specs.Live.{AreLive, IsLaterOf, IsPartSoFar, IsTop, start}
+use Rattle.clog_store.specs.Live.{AreLive, IsLaterOf, IsTop, start}
 
 abbrev Pairs : Type 0
 Pairs = List (CellKey × Cell)
@@ -194,45 +180,6 @@ part_is_live P Q table cells forth back merge =
           let has = back pair q in
           (has.0, eq-eqb pair.0.table.0 table.0 (ap (λ (t : Table). t.0) (sym has.1)))),
     )) (part_of_all P table cells merge)
-
--- a cell is of the table, or is not
-pub part_one : (table : Table) (pair : CellKey × Cell) → pair.0.table ≡ table
-    → part_on table (pair ∷ []) ≡ pair ∷ []
-part_one table pair same =
-    ap (λ (b : Bool). cond b (pair ∷ []) [])
-    (eq-eqb pair.0.table.0 table.0 (ap (λ (t : Table). t.0) same))
-
-unlike : (table : Table) (pair : CellKey × Cell) (b : Bool) → (pair.0.table ≡ table → ⊥)
-    → is_of_table table pair.0 ≡ b → cond b (pair ∷ []) [] ≡ []
-unlike table pair true apart is =
-    absurd (apart (same_table pair.0.table table (eqb-true pair.0.table.0 table.0 is)))
-unlike table pair false apart is = refl
-
-pub part_other : (table : Table) (pair : CellKey × Cell) → (pair.0.table ≡ table → ⊥)
-    → part_on table (pair ∷ []) ≡ []
-part_other table pair apart = unlike table pair (is_of_table table pair.0) apart refl
-
--- one cell more was seen
-pub seen_more : (table : Table) (cells rest left part new : Pairs) (pair : CellKey × Cell)
-    → IsPartSoFar table cells left part → left ≡ pair ∷ rest
-    → IsMerge (part ++ part_on table (pair ∷ [])) new → IsPartSoFar table cells rest new
-seen_more table cells rest left part new pair so_far is merged = record {
-  front = so_far.front ++ pair ∷ [];
-  parts = part_more cells so_far.front left rest pair so_far.parts is;
-  merged = subst (λ (l : Pairs). IsMerge l new)
-      (sym (filter-append (λ p. is_of_table table p.0) so_far.front (pair ∷ [])))
-      (continues (part_on table so_far.front) part (part_on table (pair ∷ [])) new so_far.merged
-      merged);
-}
-
--- all were seen
-pub all_seen : (table : Table) (cells part : Pairs) → AreInOrder cells
-    → IsPartSoFar table cells [] part → part ≡ part_on table cells
-all_seen table cells part ordered so_far =
-    let all : so_far.front ≡ cells = sym (so_far.parts ∙ append-nil so_far.front) in
-    merge_in_order (part_on table cells) part
-    (part_of table cells cells (of_itself cells ordered)).ordered
-    (subst (λ (l : Pairs). IsMerge (part_on table l) part) all so_far.merged)
 
 pub within_limits : (table : Table) (cells : Pairs)
     → ((pair : CellKey × Cell) → Contains cells pair → IsSized pair)

@@ -24,8 +24,8 @@ use Rattle.std.proofs.Common.{
 use Rattle.std.specs.Prelude.{◌↔◌, option_map}
 use Rattle.std.proofs.lemmas.List.{take-append-drop}
 use Rattle.clog_disk.specs.Files.{Files, Told, SameTold, bytes_at}
-use Rattle.clog_disk.specs.Images.{IsImage, LastsAll, SinceThen}
-use Rattle.clog_disk.proofs.Moments.{goes_on_by, kept_since, later_still, started, weakened}
+use Rattle.clog_disk.specs.Images.{IsImage, LastsAll, LeavesOnly}
+use Rattle.clog_disk.proofs.Moments.{goes_on_by, later_still, started, weakened}
 use Rattle.clog_disk.proofs.Telling.{same_told_self, same_told_then}
 use Rattle.clog_crash.specs.Log.{HasShown, IsResting}
 use Rattle.clog_crash.specs.Readings.{Reading}
@@ -109,6 +109,7 @@ module _ {D : Type 0} (files : D → Option Files) (moment : D → ℕ)
       → Living (record {
         disk = disk;
         opened = opened;
+        first = disk;
         past = [];
         id = id;
         sections = [];
@@ -119,12 +120,9 @@ module _ {D : Type 0} (files : D → Option Files) (moment : D → ℕ)
     began = omega (arith, now);
     few = omega arith;
     shown = both (files disk) (read_at disk opened) _ (λ f r is read at may.
-        record {
-          later = omega (arith, now);
-          each = λ image left.
-              resting_shows f (leaves disk) r [] at [] [] (resting f r is read at may) image
-              (only image (subst (λ t. since disk t image) now left));
-        });
+        started moment since disk (HasShown r 0 [] at []) (λ image left.
+        resting_shows f (leaves disk) r [] at [] [] (resting f r is read at may) image
+        (only image left)));
     lasts = both (files disk) (read_at disk opened) _ (λ f r is read at may image left.
         resting_shows f (leaves disk) r [] at [] [] (resting f r is read at may) image left);
     rests = λ going. both (files disk) (read_at disk opened) _ (λ f r is read at may.
@@ -160,6 +158,7 @@ module _ {D : Type 0} (files : D → Option Files) (moment : D → ℕ)
     pub outlives_on : Outliving a c
     outlives_on = record {
       opened = next.opened ∙ first.opened;
+      first = next.first ∙ first.first;
       told = same_told_then (files a.disk) (files b.disk) (files c.disk) first.told next.told;
       later = later_still moment read_at lasted_at a.disk b.disk c.disk first.later next.later;
       no_fewer = omega (arith, first.no_fewer, next.no_fewer);
@@ -201,8 +200,8 @@ module _ {D : Type 0} (files : D → Option Files) (moment : D → ℕ)
   -- what images have shown since the opening they show still, and each image of a call shows what
   -- lasted before it
   pub shown_on : (a b : State D) → a.opened ≤ moment a.disk → Outliving a b
-      → ShownSince files moment since read_at lasted_at a.disk a.opened a.past a.id a.sections
-      → ShownSince files moment since read_at lasted_at b.disk b.opened b.past b.id b.sections
+      → ShownSince files moment since read_at lasted_at a.first a.disk a.opened a.past a.id a.sections
+      → ShownSince files moment since read_at lasted_at b.first b.disk b.opened b.past b.id b.sections
   shown_on a b began on shown =
       both (files b.disk) (read_at b.disk b.opened) _ (λ g r is read at may.
       let before = told_before (files a.disk) (files b.disk) g on.told is in
@@ -211,15 +210,16 @@ module _ {D : Type 0} (files : D → Option Files) (moment : D → ℕ)
       let Here = HasShown r 0 b.past at b.sections in
       let now = at_both (files b.disk) (read_at b.disk b.opened) _ g r on.shown is read at may in
       let from = now.0.from in
-      subst (λ (t : ℕ). SinceThen moment since t b.disk Here) (sym on.opened)
-      (kept_since moment since a.opened a.disk b.disk (HasShown r 0 a.past from a.sections)
-      (HasShown r (lasting_in a) b.past at b.sections) Here
+      subst (λ (d : D). LeavesOnly moment since d b.disk Here) (sym on.first)
+      (goes_on_by moment since a.first a.disk b.disk Here
+      (weakened moment since a.first a.disk (HasShown r 0 a.past from a.sections) Here
       (at_both (files a.disk) (read_at a.disk a.opened) _ before.0 r shown before.1 was from
       now.0.may)
+      (λ image was. now.0.on 0 image was))
+      (weakened moment since a.disk b.disk (HasShown r (lasting_in a) b.past at b.sections) Here
       now.1
-      (λ image was. now.0.on 0 image was)
       (λ image shows. shown_fewer r 0 (lasting_in a) b.past at b.sections image (omega arith)
-      shows)))
+      shows))))
 
   -- a call that does nothing
   pub lives_still : (s : State D)
@@ -229,6 +229,7 @@ module _ {D : Type 0} (files : D → Option Files) (moment : D → ℕ)
     lives = lives;
     outlives = record {
       opened = refl;
+      first = refl;
       told = same_told_self (files s.disk);
       later = record {
         no_sooner = omega arith;

@@ -150,6 +150,7 @@ module _ {D : Type 0} (files : D → Option Files) (moment : D → ℕ)
           → Outliving s (record s { disk = new; sections = longer; is_stopped = is_stopped })
       outlives_by is_stopped = record {
         opened = refl;
+        first = refl;
         told = told;
         later = later;
         no_fewer = omega (
@@ -240,6 +241,7 @@ module _ {D : Type 0} (files : D → Option Files) (moment : D → ℕ)
           → Outliving s (record s { disk = new; synced = synced; is_stopped = is_stopped })
       outlives_with synced is_stopped no_fewer = record {
         opened = refl;
+        first = refl;
         told = told;
         later = later;
         no_fewer = no_fewer;

@@ -108,6 +108,7 @@ module _ {D : Type 0} (files : D → Option Files) (moment : D → ℕ)
       outlives_rolled : Outliving s rolled
       outlives_rolled = record {
         opened = refl;
+        first = refl;
         told = same_told_self (files s.disk);
         later = record {
           no_sooner = omega arith;
@@ -171,6 +172,7 @@ module _ {D : Type 0} (files : D → Option Files) (moment : D → ℕ)
       outlives_skipped : Outliving s skipped
       outlives_skipped = record {
         opened = refl;
+        first = refl;
         told = same_told_self (files s.disk);
         later = record {
           no_sooner = omega arith;

@@ -5,6 +5,7 @@ use Rattle.clog_base.proofs.Members.{nothing_there}
 use Rattle.clog_store.specs.Life.{State}
 use Rattle.clog_store.specs.NoteLog.{IsNoteLog}
 use Rattle.clog_store.specs.NoteSteps.{standing}
+use Rattle.clog_store.proofs.NoteFrom.{from_first}
 
 module _ {D : Type 0} (sizes : Sizes) (log : State D) where
   begun_bare : log.id < 2 ^ 62
@@ -15,6 +16,7 @@ module _ {D : Type 0} (sizes : Sizes) (log : State D) where
       }) [] 0)
   begun_bare fits = record {
     fits = fits;
+    from = from_first log.id [];
     few = omega arith;
     good = λ n among. absurd (nothing_there n among);
     below = λ n among. absurd (nothing_there n among);
@@ -38,6 +40,7 @@ module _ {D : Type 0} (sizes : Sizes) (log : State D) where
       ends = inr (refl, inl (refl, refl));
       apart = tt;
       begins = λ none later. absurd (omega (arith, later));
+      last_here = λ some all. absurd (omega (arith, some));
     };
   }
 

@@ -55,6 +55,7 @@ module _ {D : Type 0} (files : D → Option Files) (moment : D → ℕ)
       → Going s s
   goes_still s only = record {
     opened = refl;
+    first = refl;
     later = later_same s.disk;
     lives = λ lives.
         lives_still files moment since leaves read_at lasted_at s only lives;
@@ -64,6 +65,7 @@ module _ {D : Type 0} (files : D → Option Files) (moment : D → ℕ)
   pub goes_then : (a b c : State D) → Going a b → Going b c → Going a c
   goes_then a b c first next = record {
     opened = next.opened ∙ first.opened;
+    first = next.first ∙ first.first;
     later = later_still moment read_at lasted_at a.disk b.disk c.disk first.later next.later;
     lives = λ lives.
         let on = first.lives lives in
@@ -75,34 +77,41 @@ module _ {D : Type 0} (files : D → Option Files) (moment : D → ℕ)
   -- the disk is not called
   pub goes_rolled : {T : Type 0} (a b : State D) (rolled : State D) (result : Result T StoreFault)
       → ((image : Files) → since a.disk (moment a.disk) image → IsImage (leaves a.disk) image)
-      → rolled.disk ≡ a.disk → rolled.opened ≡ a.opened → rolled.is_stopped ≡ a.is_stopped
+      → rolled.disk ≡ a.disk → rolled.opened ≡ a.opened → rolled.first ≡ a.first
+      → rolled.is_stopped ≡ a.is_stopped
       → a.synced ≡ length a.sections → OnOk result (b ≡ rolled) → OnErr result (b ≡ a)
       → (Living a → OnOk result (LivingOn a b)) → Going a b
-  goes_rolled a b rolled (Ok done) only same opened stops all rolls refused lives = record {
+  goes_rolled a b rolled (Ok done) only same opened at_first stops all rolls refused lives = record {
     opened = ap (λ (s : State D). s.opened) rolls ∙ opened;
+    first = ap (λ (s : State D). s.first) rolls ∙ at_first;
     later = subst (λ (d : D). IsLater moment read_at lasted_at a.disk d)
         (sym same ∙ sym (ap (λ (s : State D). s.disk) rolls)) (later_same a.disk);
     lives = lives;
     names = names_rolled files leaves a b (ap (λ (s : State D). s.disk) rolls ∙ same)
         (ap (λ (s : State D). s.is_stopped) rolls ∙ stops) all;
   }
-  goes_rolled a b rolled (Err fault) only same opened stops all rolls refused lives =
+  goes_rolled a b rolled (Err fault) only same opened at_first stops all rolls refused lives =
       subst (λ (s : State D). Going a s) (sym refused) (goes_still a only)
 
--- each call is of a log of the same opening
+-- each call is of a log of the same opening, of a disk as it was then
 pub settled_opened : {D T : Type 0} (a b : State D) (result : Result T StoreFault)
-    → Settles a b result → b.opened ≡ a.opened
-settled_opened {D} a b (Ok done) settles = ap (λ (s : State D). s.opened) settles
-settled_opened {D} a b (Err OutOfMemory) settles = ap (λ (s : State D). s.opened) settles
-settled_opened {D} a b (Err Stopped) settles = ap (λ (s : State D). s.opened) settles
+    → Settles a b result → (b.opened ≡ a.opened) × (b.first ≡ a.first)
+settled_opened {D} a b (Ok done) settles =
+    (ap (λ (s : State D). s.opened) settles, ap (λ (s : State D). s.first) settles)
+settled_opened {D} a b (Err OutOfMemory) settles =
+    (ap (λ (s : State D). s.opened) settles, ap (λ (s : State D). s.first) settles)
+settled_opened {D} a b (Err Stopped) settles =
+    (ap (λ (s : State D). s.opened) settles, ap (λ (s : State D). s.first) settles)
 
 pub kept_opened : {D T : Type 0} (a b : State D) (section : Section) (result : Result T StoreFault)
-    → Keeps a b section result → b.opened ≡ a.opened
-kept_opened {D} a b section (Ok done) keeps = ap (λ (s : State D). s.opened) keeps
-kept_opened {D} a b section (Err OutOfMemory) keeps = ap (λ (s : State D). s.opened) keeps
+    → Keeps a b section result → (b.opened ≡ a.opened) × (b.first ≡ a.first)
+kept_opened {D} a b section (Ok done) keeps =
+    (ap (λ (s : State D). s.opened) keeps, ap (λ (s : State D). s.first) keeps)
+kept_opened {D} a b section (Err OutOfMemory) keeps =
+    (ap (λ (s : State D). s.opened) keeps, ap (λ (s : State D). s.first) keeps)
 kept_opened {D} a b section (Err Stopped) keeps = elim keeps [
-  | inl was ↦ ap (λ (s : State D). s.opened) was.1
-  | inr torn ↦ ap (λ (s : State D). s.opened) torn
+  | inl was ↦ (ap (λ (s : State D). s.opened) was.1, ap (λ (s : State D). s.first) was.1)
+  | inr torn ↦ (ap (λ (s : State D). s.opened) torn, ap (λ (s : State D). s.first) torn)
 ]
 
 -- why the second of two calls did not do what it was called for, where the first did

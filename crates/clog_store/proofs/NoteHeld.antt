@@ -102,6 +102,7 @@ module _ {D : Type 0} (base : ℕ) (notes : List EntryNote) (sizes : Sizes) (syn
         ends = h.ends;
         apart = h.apart;
         begins = h.begins;
+        last_here = h.last_here;
       } in
       subst (λ (x : State D). Held x written) (sym is) held
 
@@ -140,6 +141,7 @@ module _ {D : Type 0} (base : ℕ) (notes : List EntryNote) (sizes : Sizes) (syn
         ends = h.ends;
         apart = h.apart;
         begins = h.begins;
+        last_here = h.last_here;
       } in
       subst (λ (x : State D). Held x written) (sym is) held
 
@@ -147,8 +149,9 @@ module _ {D : Type 0} (base : ℕ) (notes : List EntryNote) (sizes : Sizes) (syn
 
   pub held_rolled : (log now : State D) (written id : ℕ) (disk : D)
       → now ≡ gone_on log (past_with log.past log.id log.sections) id disk → log.id < id
-      → BeginsFrom base id (drop written notes) → Held log written → Held now written
-  held_rolled log now written id disk is above begins h =
+      → BeginsFrom base id (drop written notes)
+      → (0 < written → written ≡ length notes → ⊥) → Held log written → Held now written
+  held_rolled log now written id disk is above begins more h =
       let s : State D = gone_on log (past_with log.past log.id log.sections) id disk in
       let all = past_rolled log.past log.id id log.sections ∙ h.all in
       let held : Held s written = record {
@@ -174,6 +177,7 @@ module _ {D : Type 0} (base : ℕ) (notes : List EntryNote) (sizes : Sizes) (syn
         );
         apart = h.apart;
         begins = λ none later. begins;
+        last_here = λ some all. absurd (more some all);
       } in
       subst (λ (x : State D). Held x written) (sym is) held
 
@@ -314,6 +318,7 @@ module _ {D : Type 0} (base : ℕ) (notes : List EntryNote) (sizes : Sizes) (syn
           );
           apart = last_apart;
           begins = λ none later. absurd (omega (arith, longer, ap length none));
+          last_here = λ some all. omega (arith, longer);
         } in
         subst (λ (x : State D). Held x (written + count)) (sym is) held
 
@@ -413,11 +418,11 @@ module _ {D : Type 0} (base : ℕ) (notes : List EntryNote) (sizes : Sizes) (syn
 
     pub held_entered : (now : State D) (done : Unit {0}) → Enters log now (base + ordinal_of start)
         (Ok done) → BeginsFrom base (base + ordinal_of start) (drop written notes)
-        → Held now written
-    held_entered now done enters next = elim enters [
+        → (0 < written → written ≡ length notes → ⊥) → Held now written
+    held_entered now done enters next more = elim enters [
       | inl same ↦ subst (λ (s : State D). Held s written) (sym same.1) h
       | inr rolls ↦ held_rolled log now written (base + ordinal_of start) now.disk rolls.1
-          rolls.0 next h
+          rolls.0 next more h
     ]
 
   -- ---- where a step is refused

@@ -40,6 +40,7 @@ use Rattle.clog_store.specs.Life.{State}
 use Rattle.clog_store.specs.NoteLog.{
   EndsAt,
   IsApart,
+  IsFrom,
   IsGood,
   IsHeld,
   IsNoteLog,
@@ -148,6 +149,13 @@ module _ {D : Type 0} (s : NoteState D) (upto : ℕ) (run : List EntryNote)
               ends = subst (EndsAt s.base s.log) key h.ends;
               apart = apart;
               begins = λ none later. lends.from;
+              last_here = λ some all. h.last_here some (omega (
+                arith,
+                all,
+                inv.few,
+                ap length lent.begins,
+                length-append s.kept lent.more,
+              ));
             };
             ahead = run_ahead s.sizes s.synced upto run lent.good lent.tiled s.written apart;
           }
@@ -160,13 +168,14 @@ module _ {D : Type 0} (s : NoteState D) (upto : ℕ) (run : List EntryNote)
         | inr new ↦ lent.good n new
       ]
 
-      pub unlogged : (log : State D) (written : ℕ) → written ≤ length run
+      pub unlogged : (log : State D) (written : ℕ) → IsFrom s.base log → written ≤ length run
           → Stands (standing s.sizes s.synced s.logged s.base log run written)
           → (log.is_stopped ≡ false
           → IsHeld (standing s.sizes s.synced s.logged s.base log run written))
           → IsNoteLog (record s { log = log; kept = run; written = written })
-      unlogged log written few stands held = record {
+      unlogged log written from few stands held = record {
         fits = inv.fits;
+        from = from;
         few = few;
         good = all_good;
         below = inv.below;
@@ -179,7 +188,7 @@ module _ {D : Type 0} (s : NoteState D) (upto : ℕ) (run : List EntryNote)
 
       module _ (log : State D)
           (ready : ReadyAt s.sizes s.synced s.logged upto s.base log run (length run))
-          (lasts : log.synced ≡ length log.sections) where
+          (lasts : log.synced ≡ length log.sections) (from : IsFrom s.base log) where
         whole : take (length run) run ≡ run
         whole = take_all (length run) run (omega arith)
 
@@ -192,7 +201,7 @@ module _ {D : Type 0} (s : NoteState D) (upto : ℕ) (run : List EntryNote)
             by [] none ahead = ahead
             by (n ∷ ns) none ahead = absurd (omega (arith, ap length none))
 
-        ends : EndsAt s.base log upto
+        pub ends : EndsAt s.base log upto
         ends = subst (EndsAt s.base log) key_is ready.held.ends
 
         all_last : take log.synced log.sections ≡ log.sections
@@ -224,6 +233,7 @@ module _ {D : Type 0} (s : NoteState D) (upto : ℕ) (run : List EntryNote)
         })
         logged = record {
           fits = inv.fits;
+          from = from;
           few = omega arith;
           good = λ n among. all_good n
               (subst (λ (l : List EntryNote). Contains l n) (append-nil (s.logged ++ run)) among);
@@ -255,5 +265,6 @@ module _ {D : Type 0} (s : NoteState D) (upto : ℕ) (run : List EntryNote)
             ends = ends;
             apart = tt;
             begins = λ none later. tt;
+            last_here = λ some all. absurd (omega (arith, some));
           };
         }

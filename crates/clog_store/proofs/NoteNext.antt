@@ -148,6 +148,7 @@ module _ {D : Type 0} (base : ℕ) (notes : List EntryNote) (sizes : Sizes) (syn
     held_mid =
         held_entered base notes sizes synced logged log written ready.held (first_start rest) begun
         begins mid done enters (begins_in base id rest (omega arith))
+        (λ above all. omega (arith, some, all))
 
     here : (mid.id ≡ id)
         × (offset_of (first_start rest) ≡ last_until header_size mid.sections + marker_size)

@@ -13,6 +13,7 @@ use Rattle.clog_store.specs.NamesLast.{NamesGoOn}
 use Rattle.clog_store.specs.NoteLog.{IsNoteLog, NoteState, Stands}
 use Rattle.clog_store.specs.NoteSteps.{GoesOn}
 use Rattle.clog_store.specs.Stepped.{Passes}
+use Rattle.clog_store.proofs.NoteFrom.{from_same}
 use Rattle.clog_store.proofs.NoteHeld.{held_same}
 
 module _ {D : Type 0} (s : NoteState D) (now : State D) where
@@ -37,6 +38,7 @@ module _ {D : Type 0} (s : NoteState D) (now : State D) where
       → IsNoteLog (record s { log = now })
   noted_same is runs n = record {
     fits = n.fits;
+    from = from_same s.base s.log now is n.from;
     few = n.few;
     good = n.good;
     below = n.below;
@@ -87,9 +89,16 @@ pub passes_goes : {D : Type 0} (files : D → Option Files) (moment : D → ℕ)
     → NamesGoOn files leaves before now
     → GoesOn files moment since leaves read_at lasted_at before now
 passes_goes files moment since leaves read_at lasted_at before now {T} r passes later lives names =
-    record { opened = by r passes; later = later; lives = lives; names = names }
+    record {
+      opened = (by r passes).0;
+      first = (by r passes).1;
+      later = later;
+      lives = lives;
+      names = names;
+    }
   where
-    by : (x : Result T StoreFault) → Passes before now x → now.opened ≡ before.opened
-    by (Ok x) is = ap (λ s. s.opened) is
-    by (Err OutOfMemory) is = ap (λ s. s.opened) is
-    by (Err Stopped) is = ap (λ s. s.opened) is
+    by : (x : Result T StoreFault) → Passes before now x
+        → (now.opened ≡ before.opened) × (now.first ≡ before.first)
+    by (Ok x) is = (ap (λ s. s.opened) is, ap (λ s. s.first) is)
+    by (Err OutOfMemory) is = (ap (λ s. s.opened) is, ap (λ s. s.first) is)
+    by (Err Stopped) is = (ap (λ s. s.opened) is, ap (λ s. s.first) is)

@@ -41,6 +41,7 @@ use Rattle.clog_store.specs.declared.written.StoreFault.{StoreFault}
 use Rattle.clog_store.specs.Life.{State}
 use Rattle.clog_store.specs.NoteLog.{
   BeginsFrom,
+  IsFrom,
   IsHeld,
   IsNoteLog,
   IsShortOf,
@@ -69,13 +70,14 @@ module _ {D : Type 0} (s : NoteState D) (now : State D) (id : ℕ) (runs : s.log
   held_on (Ok done) enters = elim enters [
     | inl same ↦ subst (λ (x : State D). IsHeld (record s { log = x })) (sym same.1) (n.held runs)
     | inr rolls ↦ held_rolled s.base s.kept s.sizes s.synced s.logged s.log now s.written id
-        now.disk rolls.1 rolls.0 begins_behind (n.held runs)
+        now.disk rolls.1 rolls.0 begins_behind (λ some all. omega (arith, some, none)) (n.held runs)
   ]
 
   pub noted_on : (r : Result (Unit {0}) StoreFault) → Enters s.log now id r
-      → IsNoteLog (record s { log = now })
-  noted_on r enters = record {
+      → IsFrom s.base now → IsNoteLog (record s { log = now })
+  noted_on r enters from = record {
     fits = n.fits;
+    from = from;
     few = n.few;
     good = n.good;
     below = n.below;

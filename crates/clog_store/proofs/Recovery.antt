@@ -13,6 +13,7 @@ use Rattle.std.proofs.Common.{
   refl,
   sym,
   ◌∙◌,
+  ap,
   subst,
 }
 use Rattle.std.specs.Prelude.{IsSome, false}
@@ -28,6 +29,7 @@ use Rattle.clog_crash.specs.Flush.{IsSameFolder, IsSettled}
 use Rattle.clog_crash.specs.Folder.{IsHeld, IsNameOfSegment}
 use Rattle.clog_crash.specs.Recovery.{NamesAny}
 use Rattle.clog_crash.specs.Restore.{IsUndamaged}
+use Rattle.clog_crash.proofs.OneMore.{bytes_of}
 use Rattle.clog_crash.proofs.changes.Names.{is_named}
 use Rattle.clog_crash.proofs.flush.Recovered.{same_itself}
 use Rattle.clog_folder.specs.declared.folder.Folder.{Folder}
@@ -35,10 +37,17 @@ use Rattle.clog_folder.specs.Folder.{IsHeldOf, payloads_of}
 use Rattle.clog_folder.proofs.Listed.{held_of, listed_of}
 use Rattle.clog_store.specs.Beside.{StayButSegments}
 use Rattle.clog_store.specs.Coming.{AreGone, AreThere, IsRecovering, Recovers}
-use Rattle.clog_store.specs.Filing.{FiledNow, IsFiledTo, IsFullFolder, IsReady, SettledTo}
+use Rattle.clog_store.specs.Filing.{
+  AreRecoveryPuts,
+  FiledNow,
+  IsFiledTo,
+  IsFullFolder,
+  IsReady,
+  SettledTo,
+}
 use Rattle.clog_store.specs.Live.{AreLive, IsTop}
 use Rattle.clog_store.specs.Named.{AreSegmentIds}
-use Rattle.clog_store.specs.Opened.{IsRecovered, OthersStay}
+use Rattle.clog_store.specs.Opened.{IsRecovered, OthersStay, RecoversOnly}
 use Rattle.clog_store.proofs.Ended.{all_ids_covered, are_there, is_recovered, listed_id}
 use Rattle.clog_store.proofs.Filed.{filed_none}
 use Rattle.clog_store.proofs.Ready.{ready_of}
@@ -126,25 +135,43 @@ module _ (first : Files) (names : List (List ℕ)) (cells : Pairs) (top : Positi
       subst (λ (o : Option Files). Told o (IsRecovered first base)) (sym gone)
       (is_recovered first names cells top ready f filed ids are held_name listed_name base above)
 
--- ---- what is no segment stands
+-- ---- what is no segment stands, and what came was put
 
-pub others_yet : (first : Files) (told : Option Files) → told ≡ Some first
-    → Told told (OthersStay first)
-others_yet first told is =
-    subst (λ (o : Option Files). Told o (OthersStay first)) (sym is)
-    (λ name bytes apart there. there)
+pub only_yet : (first : Files) (told : Option Files) → told ≡ Some first
+    → Told told (RecoversOnly first)
+only_yet first told is =
+    subst (λ (o : Option Files). Told o (RecoversOnly first)) (sym is) (record {
+      others = λ name bytes apart there. there;
+      came = λ name bytes there absent.
+          let no : Some bytes ≡ None = sym there ∙ absent in
+          cc;
+    })
 
 pub full_same : (first : Files) (told : Option Files) → Told told (IsFullFolder first)
     → Told told (IsSameFolder first)
 full_same first None is = absurd is
 full_same first (Some now) is = is.0
 
-pub full_others : (first : Files) (told : Option Files) → Told told (IsFullFolder first)
-    → Told told (OthersStay first)
-full_others first None is = absurd is
-full_others first (Some now) is = λ name bytes apart there. is.1 name bytes there
+pub full_only : (first : Files) (told : Option Files) → Told told (IsFullFolder first)
+    → Told told (RecoversOnly first)
+full_only first None is = absurd is
+full_only first (Some now) is = record {
+  others = λ name bytes apart there. is.1 name bytes there;
+  came = is.2;
+}
 
-module _ (first : Files) (names : List (List ℕ)) (cells : Pairs) (ids : List ℕ)
+pub others_of : (first : Files) (told : Option Files) → Told told (RecoversOnly first)
+    → Told told (OthersStay first)
+others_of first None is = absurd is
+others_of first (Some now) is = is.others
+
+pub came_of : (first : Files) (told : Option Files) → Told told (RecoversOnly first)
+    → Told told (AreRecoveryPuts first)
+came_of first None is = absurd is
+came_of first (Some now) is = is.came
+
+module _ (first : Files) (names : List (List ℕ)) (cells : Pairs) (top : Position)
+    (ready : IsReady first names cells top) (ids : List ℕ)
     (are : AreSegmentIds (Contains names) ids) where
   apart_from : (name : List ℕ) → (IsNameOfSegment name → ⊥) → (id : ℕ) → Contains ids id
       → name ≡ segment_name_of 6 id → ⊥
@@ -158,19 +185,36 @@ module _ (first : Files) (names : List (List ℕ)) (cells : Pairs) (ids : List �
         ),
       )
 
-  others_then : (f : Files) (now : Option Files) → IsFiledTo first cells most_tables f
+  -- a name that was not there is that of no segment that goes
+  new_apart : (name : List ℕ) → finmap.get first name ≡ None → (id : ℕ) → Contains ids id
+      → name ≡ segment_name_of 6 id → ⊥
+  new_apart name absent id listed same =
+      let s = listed_id (Contains names) ids are id listed in
+      let held = held_of first names ready.lists s.0 s.1.1 in
+      let six = (ready.undamaged.segments s.0 s.1.0 id s.1.2 held).0 in
+      let form : s.0 ≡ name =
+      s.1.2.form ∙ ap (λ (v : ℕ). segment_name_of v id) six ∙ sym same in
+      let there = bytes_of (finmap.get first s.0) held in
+      let clash : None ≡ Some there.0 =
+      sym absent ∙ ap (finmap.get first) (sym form) ∙ there.1 in
+      cc
+
+  only_then : (f : Files) (now : Option Files) → IsFiledTo first cells most_tables f
       → Told now (λ g. (name : List ℕ)
       → ((id : ℕ) → Contains ids id → name ≡ segment_name_of 6 id → ⊥)
-      → finmap.get g name ≡ finmap.get f name) → Told now (OthersStay first)
-  others_then f None filed stay = absurd stay
-  others_then f (Some g) filed stay =
-      λ name bytes apart there.
-      stay name (apart_from name apart) ∙ filed.stand name bytes there
+      → finmap.get g name ≡ finmap.get f name) → Told now (RecoversOnly first)
+  only_then f None filed stay = absurd stay
+  only_then f (Some g) filed stay = record {
+    others = λ name bytes apart there.
+        stay name (apart_from name apart) ∙ filed.stand name bytes there;
+    came = λ name bytes there absent.
+        filed.came name bytes (sym (stay name (new_apart name absent)) ∙ there) absent;
+  }
 
-  pub others_told : (told now : Option Files) → FiledNow first cells most_tables told
-      → StayButSegments ids told now → Told now (OthersStay first)
-  others_told None now filed stay = absurd filed
-  others_told (Some f) now filed stay = others_then f now filed (stay f refl)
+  pub only_told : (told now : Option Files) → FiledNow first cells most_tables told
+      → StayButSegments ids told now → Told now (RecoversOnly first)
+  only_told None now filed stay = absurd filed
+  only_told (Some f) now filed stay = only_then f now filed (stay f refl)
 
 -- where the disk tells no files there is nothing to show
 pub if_told_first : (old told : Option Files) (P : Files → Type 0) → SameTold old told

@@ -73,6 +73,7 @@ use Rattle.clog_store.specs.StoreState.{
 }
 use Rattle.clog_store.proofs.FolderDue.{true_here}
 use Rattle.clog_store.proofs.FolderPuts.{holds_next}
+use Rattle.clog_store.proofs.NextNames.{held_next}
 use Rattle.clog_store.proofs.FolderReads.{absent_or_held}
 use Rattle.clog_store.proofs.Live.{row_has, sized_value}
 use Rattle.clog_store.proofs.Lived.{told_before}
@@ -213,6 +214,7 @@ module _ {D : Type 0} (files : D → Option Files) (changes : D → Option (List
         named = named s.notes h noted has file cells may first.0 f
             (kept.folder runs first.0 f first.1 is) kept.sound sequence (next_at f is) next.fits
             next.starts far;
+        next = held_next f file.table sequence (next_at f is);
         free = free s.notes h noted has file cells may first.0 f
             (kept.folder runs first.0 f first.1 is) kept.sound sequence (next_at f is) next.fits
             next.starts far;

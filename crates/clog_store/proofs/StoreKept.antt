@@ -239,13 +239,15 @@ module _ {D : Type 0} (files : D → Option Files) (changes : D → Option (List
   }
 
   pub store_begun : (log : State D) (sizes : Sizes) (archives : Bool) → log.past ≡ []
-      → log.sections ≡ [] → log.opened ≡ moment log.disk → log.is_stopped ≡ false → IsSound log
+      → log.sections ≡ [] → log.opened ≡ moment log.disk → log.first ≡ log.disk
+      → log.is_stopped ≡ false → IsSound log
       → ((f : Files) → files log.disk ≡ Some f
       → HoldsStore f (fresh_log log.id) (no_deeds archives) f)
       → Keeping (store_over log sizes archives)
   unfolding begun_growth
-  store_begun log sizes archives past none opened runs sound folder = record {
+  store_begun log sizes archives past none opened began runs sound folder = record {
     opened = opened;
+    began = began;
     later = record {
       no_sooner = omega arith;
       remembers = λ t le. refl;
@@ -342,6 +344,7 @@ module _ {D : Type 0} (files : D → Option Files) (changes : D → Option (List
 
   module _ (s : StoreState D) (n : NoteState D) (kept : Keeping s)
       (opened : n.log.opened ≡ s.notes.log.opened)
+      (began : n.log.first ≡ s.notes.log.first)
       (later : IsLater moment read_at lasted_at s.notes.log.disk n.log.disk)
       (writes : Writes changes s.notes.log n.log)
       (stays : s.notes.log.is_stopped ≡ true → n ≡ s.notes) where
@@ -435,6 +438,7 @@ module _ {D : Type 0} (files : D → Option Files) (changes : D → Option (List
         → Keeping (record s { notes = n })
     store_on r cause stops sound folder failed settled on = record {
       opened = opened ∙ kept.opened;
+      began = began ∙ kept.began;
       later = later_still moment read_at lasted_at s.first s.notes.log.disk n.log.disk kept.later
           later;
       no_fewer = omega (

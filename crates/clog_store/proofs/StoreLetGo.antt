@@ -391,6 +391,7 @@ module _ {D : Type 0} (files : D → Option Files) (changes : D → Option (List
         (changes n.log.disk) r made in
         record {
           opened = ap (λ (x : State D). x.opened) same ∙ kept.opened;
+          began = ap (λ (x : State D). x.first) same ∙ kept.began;
           later = later_still moment read_at lasted_at s.first s.notes.log.disk n.log.disk
               kept.later later;
           no_fewer = omega (

@@ -142,6 +142,14 @@ quiet_both faults a b c first next still =
     let before = first then.0 in
     (before.0, then.1 ∙ before.1)
 
+-- a store that has stopped stays over two calls
+pub stays_both : {D : Type 0} (a b c : StoreState D)
+    → (a.notes.log.is_stopped ≡ true → b ≡ a) → (b.notes.log.is_stopped ≡ true → c ≡ b)
+    → a.notes.log.is_stopped ≡ true → c ≡ a
+stays_both {D} a b c first next was =
+    let same = first was in
+    next (subst (λ (x : StoreState D). x.notes.log.is_stopped ≡ true) (sym same) was) ∙ same
+
 -- what it has in mind of its log stays
 pub as_passed : {D T : Type 0} (s : NoteState D) (l : State D) (r : Result T StoreFault)
     → Passes s.log l r → log_of (record s { log = l }) ≡ log_of s
@@ -218,7 +226,7 @@ module _ {D : Type 0} (files : D → Option Files) (changes : D → Option (List
       → Keeping (with_files s.files)
   store_still quiet same failed =
       store_on files changes moment faults read_at lasted_at s n kept
-      (ap (λ (x : State D). x.opened) same_log) later
+      (ap (λ (x : State D). x.opened) same_log) (ap (λ (x : State D). x.first) same_log) later
       (writes_of changes s.notes.log l (grows_same changes s.notes.log l quiet
       (ap (λ (x : State D). x.past) same_log) (ap (λ (x : State D). x.id) same_log)
       (ap (λ (x : State D). x.sections) same_log))) stays r cause stops sound_still
@@ -245,6 +253,7 @@ module _ {D : Type 0} (files : D → Option Files) (changes : D → Option (List
         → Keeping (with_files (s.files ++ put ∷ []))
     store_put still folder order = record {
       opened = ap (λ (x : State D). x.opened) same_log ∙ kept.opened;
+      began = ap (λ (x : State D). x.first) same_log ∙ kept.began;
       later = later_still moment read_at lasted_at s.first s.notes.log.disk l.disk kept.later later;
       no_fewer = omega (
         arith,
@@ -273,6 +282,7 @@ module _ {D : Type 0} (files : D → Option Files) (changes : D → Option (List
     (n : NoteState D) (kept : IsStore files changes moment faults read_at lasted_at s)
     (same : n ≡ record s.notes { log = n.log })
     (opened : n.log.opened ≡ s.notes.log.opened)
+    (began : n.log.first ≡ s.notes.log.first)
     (later : IsLater moment read_at lasted_at s.notes.log.disk n.log.disk)
     (writes : Writes changes s.notes.log n.log)
     (others : LeavesOthers s.notes.log n.log (files s.notes.log.disk) (files n.log.disk))
@@ -283,8 +293,8 @@ module _ {D : Type 0} (files : D → Option Files) (changes : D → Option (List
     (segment_name_of 6 n.log.id) (segment_bytes n.log.id n.log.sections)) where
   pub store_gone_on : IsStore files changes moment faults read_at lasted_at (record s { notes = n })
   store_gone_on =
-      store_on files changes moment faults read_at lasted_at s n kept opened later writes stays r
-      cause stops sound (λ still.
+      store_on files changes moment faults read_at lasted_at s n kept opened began later writes
+      stays r cause stops sound (λ still.
       folder_with files changes moment faults read_at lasted_at code tells s n kept writes others
       sound reads
       (ran_before s.notes.log.is_stopped n.log.is_stopped (faults s.notes.log.disk)

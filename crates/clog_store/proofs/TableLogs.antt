@@ -33,18 +33,17 @@ use Rattle.std.proofs.Common.{
   arith,
 }
 use Rattle.std.specs.Prelude.{◌↔◌, ◌&&◌, ◌==◌, ◌⊎◌, Contains}
-use Rattle.std.specs.BTreeMap.{is_at}
-use Rattle.std.specs.Map.{lookup}
 use Rattle.std.specs.List.{All, filter}
-use Rattle.std.specs.Ordering.{nat_cmp}
 use Rattle.std.proofs.lemmas.Bool.{and_parts, cases_lt, eqb-true}
 use Rattle.std.proofs.lemmas.Bool.Decides.{eqb_tells}
 use Rattle.std.proofs.lemmas.List.{append-nil, map-append, take-append-drop, take_more}
 use Rattle.std.proofs.lemmas.List.Elements.{
+  All-cons,
   All-contains,
-  All-push,
+  All-head,
+  All-nil,
+  All-tail,
   Contains-append_left,
-  Contains-get_or,
   Contains-push,
   Contains-push_cases,
   filter-append,
@@ -57,28 +56,32 @@ use Rattle.clog_intervals.specs.Hulls.{IsBetween, IsEmptyOrOf, IsHull, IsSpan}
 use Rattle.clog_intervals.specs.Union.{Holds, IsCovered}
 use Rattle.path_core.specs.declared.note.EntryNote.{EntryNote}
 use Rattle.path_core.specs.Droppable.{is_of}
+use Rattle.path_core.specs.Keeper.{IsFiledIn, PutFile}
 use Rattle.path_core.specs.Parts.{touches}
 use Rattle.path_core.proofs.lists.Passing.{filter_from, kept_in}
+use Rattle.clog_store.specs.declared.hulls.SegmentHull.{SegmentHull}
 use Rattle.clog_store.specs.declared.publishing.Published.{Published}
 use Rattle.clog_store.specs.declared.table_log.TableLog.{TableLog}
+use Rattle.clog_store.specs.Counting.{AreTables, IsTableOf}
 use Rattle.clog_store.specs.Dropping.{
   AreClean,
-  AreFiled,
   AreHulls,
   ArePlaced,
-  Hulls,
   IsFiledAt,
-  IsHeldBy,
+  IsOf,
   IsOfFile,
   IsPlaced,
+  IsPublished,
   IsTableFiled,
   ends_of,
-  hull_at,
-  hull_in,
 }
+use Rattle.clog_store.specs.HullRows.{hull_at}
 
 abbrev Ends : Type 0
 Ends = Option (Position × Position)
+
+abbrev Hulls : Type 0
+Hulls = List SegmentHull
 
 -- ---- places and keys
 
@@ -114,9 +117,9 @@ no_file_yet t intervals none at = (
   λ of. absurd (nothing_there of.0 of.1),
 )
 
-pub file_more : (t : ℕ) (files : List Published) (file : Published) (before now : List Interval)
+pub file_more : (t : ℕ) (files : List PutFile) (file : PutFile) (before now : List Interval)
     → AreClean t files before
-    → ((at : Position) → Holds now at ↔ (Holds before at ⊎ IsOfFile t file at))
+    → ((at : Position) → Holds now at ↔ (Holds before at ⊎ IsOf t file at))
     → AreClean t (files ++ file ∷ []) now
 file_more t files file before now clean more at = (
   λ held. elim ((more at).0 held) [
@@ -126,17 +129,46 @@ file_more t files file before now clean more at = (
   ],
   λ of. (more at).1 (elim (Contains-push_cases files file of.0 of.1) [
     | inl old ↦ inl ((clean at).1 (of.0, old, of.2))
-    | inr same ↦ inr (subst (λ (f : Published). IsOfFile t f at) (sym same) of.2)
+    | inr same ↦ inr (subst (λ (f : PutFile). IsOf t f at) (sym same) of.2)
   ]),
 )
 
-pub files_more : (t : ℕ) (files : List Published) (i : ℕ) (d : Published)
-    (before now : List Interval) → i < length files → AreClean t (take i files) before
-    → ((at : Position) → Holds now at ↔ (Holds before at ⊎ IsOfFile t (get_or files i d) at))
+-- a file's interval tells the same of a place
+of_file : (t : ℕ) (f : PutFile) (p : Published) (at : Position) → IsPublished f p
+    → IsOfFile t p.table.0 p.lower.0 p.upper.0 at → IsOf t f at
+of_file t f p at is of = record {
+  of_table = sym is.table ∙ of.of_table;
+  above = subst (λ (k : ℕ). IsBelow (position_of 0 k) at) is.lower of.above;
+  up_to = subst (λ (k : ℕ). IsUpTo at (position_of 0 k)) is.upper of.up_to;
+}
+
+of_interval : (t : ℕ) (f : PutFile) (p : Published) (at : Position) → IsPublished f p
+    → IsOf t f at → IsOfFile t p.table.0 p.lower.0 p.upper.0 at
+of_interval t f p at is of = record {
+  of_table = is.table ∙ of.of_table;
+  above = subst (λ (k : ℕ). IsBelow (position_of 0 k) at) (sym is.lower) of.above;
+  up_to = subst (λ (k : ℕ). IsUpTo at (position_of 0 k)) (sym is.upper) of.up_to;
+}
+
+pub files_more : (t : ℕ) (files : List PutFile) (i : ℕ) (f : PutFile) (p : Published)
+    (before now : List Interval) → i < length files → get_or files i f ≡ f → IsPublished f p
+    → AreClean t (take i files) before
+    → ((at : Position) → Holds now at
+    ↔ (Holds before at ⊎ IsOfFile t p.table.0 p.lower.0 p.upper.0 at))
     → AreClean t (take (i + 1) files) now
-files_more t files i d before now inside clean more =
-    subst (λ (l : List Published). AreClean t l now) (sym (take_more files i d inside))
-    (file_more t (take i files) (get_or files i d) before now clean more)
+files_more t files i f p before now inside f_is is clean more =
+    subst (λ (l : List PutFile). AreClean t l now)
+    (sym (take_more files i f inside ∙ ap (λ (g : PutFile). take i files ++ g ∷ []) f_is))
+    (file_more t (take i files) f before now clean (λ at. (
+      λ held. elim ((more at).0 held) [
+        | inl old ↦ inl old
+        | inr new ↦ inr (of_file t f p at is new)
+      ],
+      λ of. (more at).1 (elim of [
+        | inl old ↦ inl old
+        | inr new ↦ inr (of_interval t f p at is new)
+      ]),
+    )))
 
 -- ---- an entry's segment and table
 
@@ -174,10 +206,8 @@ entry_of_end notes o t at listed =
 
 -- ---- hulls
 
-pub no_hull_yet : (t : ℕ) (hulls : Hulls) → hulls.entries ≡ [] → AreHulls t [] hulls
-no_hull_yet t hulls none o =
-    subst (λ (es : List (ℕ × Ends)). IsHull (hull_in (lookup (is_at (nat_cmp o)) es)) [])
-    (sym none) refl
+pub no_hull_yet : (t : ℕ) (hulls : Hulls) → hulls ≡ [] → AreHulls t [] hulls
+no_hull_yet t hulls none o = subst (λ (h : Hulls). IsHull (hull_at h o) []) (sym none) refl
 
 pub own_hulls : (t : ℕ) (notes : List EntryNote) (hulls : Hulls) → ArePlaced notes
     → AreHulls t notes hulls → (o : ℕ) → IsEmptyOrOf (hull_at hulls o) o
@@ -269,27 +299,27 @@ touching_at t n before now at is placed touched here others =
 
 -- ---- the hull is covered, exactly where each key is held
 
-module _ (t : ℕ) (notes : List EntryNote) (files : List Published) (intervals : List Interval)
+module _ (t : ℕ) (notes : List EntryNote) (files : List PutFile) (intervals : List Interval)
     (o : ℕ) (placed : ArePlaced notes) (clean : AreClean t files intervals) where
-  held_key : (key : ℕ) → Holds intervals (position_of 0 key) → IsHeldBy files t key
+  held_key : (key : ℕ) → Holds intervals (position_of 0 key) → IsFiledIn files t key
   held_key key holds =
       let of = (clean (position_of 0 key)).0 holds in
       record {
         file = of.0;
         among = of.1;
         of_table = of.2.of_table;
-        above = below_key of.0.lower.0 key of.2.above;
-        up_to = up_to_key key of.0.upper.0 of.2.up_to;
+        above = below_key of.0.lower key of.2.above;
+        up_to = up_to_key key of.0.upper of.2.up_to;
       }
 
-  key_holds : (key : ℕ) → IsHeldBy files t key → Holds intervals (position_of 0 key)
+  key_holds : (key : ℕ) → IsFiledIn files t key → Holds intervals (position_of 0 key)
   key_holds key held = (clean (position_of 0 key)).1 (
     held.file,
     held.among,
     record {
       of_table = held.of_table;
-      above = below_place held.file.lower.0 key held.above;
-      up_to = up_to_place key held.file.upper.0 held.up_to;
+      above = below_place held.file.lower key held.above;
+      up_to = up_to_place key held.file.upper held.up_to;
     },
   )
 
@@ -350,7 +380,7 @@ module _ (t : ℕ) (notes : List EntryNote) (files : List Published) (intervals 
       (omega (arith, at_a, id_a, low, between.segment, between.from))
       (omega (arith, at_a, at_b, id_a, high, between.segment, between.upto))))
 
-pub filed_where_covered : (t : ℕ) (notes : List EntryNote) (files : List Published)
+pub filed_where_covered : (t : ℕ) (notes : List EntryNote) (files : List PutFile)
     (log : TableLog) → ArePlaced notes → AreClean t files log.cleans.intervals
     → AreHulls t notes log.hulls → (o : ℕ) → IsFiledAt o log ↔ IsTableFiled notes files t o
 filed_where_covered t notes files log placed clean hulls o = (
@@ -360,33 +390,61 @@ filed_where_covered t notes files log placed clean hulls o = (
 
 -- ---- all tables
 
-pub no_table_yet : (notes : List EntryNote) (files : List Published) (tables : List TableLog)
-    → tables ≡ [] → (o : ℕ) → All (IsFiledAt o) tables ↔ AreFiled 0 notes files o
-no_table_yet notes files tables none o = (
-  λ all t low. absurd (omega (arith, low)),
-  λ filed. subst (All (IsFiledAt o)) (sym none) (λ k d inside. absurd (omega (arith, inside))),
-)
+-- the last one, behind those before it
+pub table_more : (from to : ℕ) (notes : List EntryNote) (files : List PutFile)
+    (logs : List TableLog) (log : TableLog) → AreTables from to notes files logs
+    → IsTableOf to notes files log → AreTables from (to + 1) notes files (logs ++ log ∷ [])
+table_more from to notes files [] log are is =
+    (subst (λ (t : ℕ). IsTableOf t notes files log) (sym are) is, ap (λ (t : ℕ). t + 1) are)
+table_more from to notes files (first ∷ logs) log are is =
+    (are.0, table_more (from + 1) to notes files logs log are.1 is)
 
-pub table_more : (notes : List EntryNote) (files : List Published) (n o : ℕ)
-    (tables : List TableLog) (log : TableLog)
-    → (All (IsFiledAt o) tables ↔ AreFiled n notes files o)
-    → (IsFiledAt o log ↔ IsTableFiled notes files n o)
-    → All (IsFiledAt o) (tables ++ log ∷ []) ↔ AreFiled (n + 1) notes files o
-table_more notes files n o tables log before one = (
-  λ all t low. elim (cases_lt t n) [
-    | inl lower ↦ before.0 (λ k d inside.
-        All-contains (IsFiledAt o) (tables ++ log ∷ []) (get_or tables k d) all
-        (Contains-append_left tables (log ∷ []) (get_or tables k d)
-        (Contains-get_or tables k d inside))) t lower
-    | inr high ↦ subst (λ (k : ℕ). IsTableFiled notes files k o) (omega (arith, low, high))
-        (one.0 (All-contains (IsFiledAt o) (tables ++ log ∷ []) log all (Contains-push tables log)))
-  ],
-  λ filed. All-push (IsFiledAt o) tables log
-      (before.1 (λ t low. filed t (omega (arith, low)))) (one.1 (filed n (omega arith))),
-)
+-- Their files hold a segment's parts of tables from one number to another exactly where they hold
+-- the hull of each.
+module _ (notes : List EntryNote) (files : List PutFile) (o : ℕ) (placed : ArePlaced notes) where
+  one_filed : (t : ℕ) (log : TableLog) → IsTableOf t notes files log
+      → IsFiledAt o log ↔ IsTableFiled notes files t o
+  one_filed t log is = filed_where_covered t notes files log placed is.clean is.hulls o
+
+  pub tables_filed : (from to : ℕ) (logs : List TableLog) → AreTables from to notes files logs
+      → All (IsFiledAt o) logs
+      → (t : ℕ) → from ≤ t → t < to → IsTableFiled notes files t o
+  tables_filed from to [] are all t low high = absurd (omega (arith, are, low, high))
+  tables_filed from to (log ∷ logs) are all t low high = elim (cases_lt from t) [
+    | inl later ↦ tables_filed (from + 1) to logs are.1 (All-tail (IsFiledAt o) log logs all) t
+        (omega (arith, later)) high
+    | inr first ↦ subst (λ (k : ℕ). IsTableFiled notes files k o) (omega (arith, low, first))
+        ((one_filed from log are.0).0 (All-head (IsFiledAt o) log logs all))
+  ]
+
+  pub filed_tables : (from to : ℕ) (logs : List TableLog) → AreTables from to notes files logs
+      → ((t : ℕ) → from ≤ t → t < to → IsTableFiled notes files t o)
+      → All (IsFiledAt o) logs
+  filed_tables from to [] are filed = All-nil (IsFiledAt o)
+  filed_tables from to (log ∷ logs) are filed =
+      All-cons (IsFiledAt o) log logs
+      ((one_filed from log are.0).1 (filed from (omega arith) (some from to logs are.1)))
+      (filed_tables (from + 1) to logs are.1
+      (λ t low high. filed t (omega (arith, low)) high))
+    where
+      some : (k n : ℕ) (rest : List TableLog) → AreTables (k + 1) n notes files rest → k < n
+      some k n [] are = omega (arith, are)
+      some k n (x ∷ xs) are = let up = some (k + 1) n xs are.1 in omega (arith, up)
 
 -- the first entries are placed
 pub placed_first : (i : ℕ) (notes : List EntryNote) → ArePlaced notes → ArePlaced (take i notes)
 placed_first i notes placed n among =
     placed n (subst (λ (l : List EntryNote). Contains l n) (take-append-drop i notes)
     (Contains-append_left (take i notes) (drop i notes) n among))
+
+-- one more entry is placed
+pub placed_push : (notes : List EntryNote) (n : EntryNote) → ArePlaced notes → IsPlaced n
+    → ArePlaced (notes ++ n ∷ [])
+placed_push notes n are is m among = elim (Contains-push_cases notes n m among) [
+  | inl old ↦ are m old
+  | inr same ↦ subst IsPlaced same is
+]
+
+pub none_placed : (notes : List EntryNote) → notes ≡ [] → ArePlaced notes
+none_placed notes none n among =
+    absurd (nothing_there n (subst (λ (l : List EntryNote). Contains l n) none among))

@@ -13,15 +13,10 @@ use Rattle.std.specs.Prelude.{
   ◌∷◌,
   ◌++◌,
   map,
-  Option,
-  Some,
-  None,
   IsTrue,
   Contains,
 }
-use Rattle.std.specs.BTreeMap.{BTreeMap, get}
 use Rattle.std.specs.List.{All, AllPairs, filter}
-use Rattle.std.specs.Ordering.{nat_cmp}
 use Rattle.clog_spec.specs.Sizes.{most_tables}
 use Rattle.clog_base.specs.declared.position.Position.{Position}
 use Rattle.clog_base.specs.Positions.{IsBelow, IsUpTo, ordinal_of, position_of}
@@ -30,11 +25,12 @@ use Rattle.clog_intervals.specs.Hulls.{IsHull}
 use Rattle.clog_intervals.specs.Union.{Holds, IsCovered}
 use Rattle.path_core.specs.declared.note.EntryNote.{EntryNote}
 use Rattle.path_core.specs.Droppable.{is_of}
-use Rattle.path_core.specs.Keeper.{Holding, IsDue, PutFile}
+use Rattle.path_core.specs.Keeper.{Holding, IsDue, IsFiledIn, PutFile}
 use Rattle.path_core.specs.Parts.{touches}
-use Rattle.clog_store.specs.declared.droppable.Known.{Known}
+use Rattle.clog_store.specs.declared.hulls.SegmentHull.{SegmentHull}
 use Rattle.clog_store.specs.declared.publishing.Published.{Published}
 use Rattle.clog_store.specs.declared.table_log.TableLog.{TableLog}
+use Rattle.clog_store.specs.HullRows.{hull_at}
 
 -- ---- what is known of a keeper
 
@@ -52,21 +48,6 @@ pub record IsPublished (f : PutFile) (p : Published) : Type 0 where
   pub lower : p.lower.0 ≡ f.lower
   pub upper : p.upper.0 ≡ f.upper
 
--- These are the intervals of the table files that were put.
-pub record ArePublished (files : List PutFile) (published : List Published) : Type 0 where
-  pub each : (f : PutFile) → Contains files f
-      → (p : Published) × Contains published p × IsPublished f p
-  pub no_more : (p : Published) → Contains published p
-      → (f : PutFile) × Contains files f × IsPublished f p
-
--- A keeper holds these entries and files, and has dropped the segments of these ordinals.
-pub record IsKnown (h : Holding) (logged kept : List EntryNote) (published : List Published)
-    (dropped : List ℕ) : Type 0 where
-  pub logged_are : h.logged ≡ logged
-  pub kept_are : h.kept ≡ kept
-  pub files_are : ArePublished h.files published
-  pub dropped_are : h.dropped ≡ dropped
-
 -- Exactly the segments that are to be dropped, in the order of their ids.
 pub record AreDue (h : Holding) (closed : ℕ) (ordinals : List ℕ) : Type 0 where
   pub ascending : AllPairs (λ (a b : ℕ). a < b) ordinals
@@ -78,73 +59,56 @@ pub record AreDue (h : Holding) (closed : ℕ) (ordinals : List ℕ) : Type 0 wh
 abbrev pub HasEntry : List EntryNote → ℕ → Type 0
 HasEntry notes o = (n : EntryNote) × Contains notes n × (ordinal_of n.start.0 ≡ o)
 
--- a file of the table has the key in its interval
-pub record IsHeldBy (files : List Published) (t key : ℕ) : Type 0 where
-  pub file : Published
-  pub among : Contains files file
-  pub of_table : file.table.0 ≡ t
-  pub above : file.lower.0 < key
-  pub up_to : key ≤ file.upper.0
-
 -- the table's files hold each key from one to another of the ends of the segment's entries that
 -- touch the table
-abbrev pub IsTableFiled : List EntryNote → List Published → ℕ → ℕ → Type 0
+abbrev pub IsTableFiled : List EntryNote → List PutFile → ℕ → ℕ → Type 0
 IsTableFiled notes files t o = (a b : EntryNote) → Contains notes a → Contains notes b
     → IsTrue (is_of o t a) → IsTrue (is_of o t b)
-    → (key : ℕ) → a.end.0 ≤ key → key ≤ b.end.0 → IsHeldBy files t key
+    → (key : ℕ) → a.end.0 ≤ key → key ≤ b.end.0 → IsFiledIn files t key
 
 -- so it is with all tables below a number
-abbrev pub AreFiled : ℕ → List EntryNote → List Published → ℕ → Type 0
+abbrev pub AreFiled : ℕ → List EntryNote → List PutFile → ℕ → Type 0
 AreFiled n notes files o = (t : ℕ) → t < n → IsTableFiled notes files t o
 
 -- ---- how it is computed
 
--- a file of the table has the place in its interval
-pub record IsOfFile (t : ℕ) (file : Published) (at : Position) : Type 0 where
-  pub of_table : file.table.0 ≡ t
-  pub above : IsBelow (position_of 0 file.lower.0) at
-  pub up_to : IsUpTo at (position_of 0 file.upper.0)
+-- the place is in an interval of the table, by the keys of its ends
+pub record IsOfFile (t table lower upper : ℕ) (at : Position) : Type 0 where
+  pub of_table : table ≡ t
+  pub above : IsBelow (position_of 0 lower) at
+  pub up_to : IsUpTo at (position_of 0 upper)
+
+-- it is in that of a file
+abbrev pub IsOf : ℕ → PutFile → Position → Type 0
+IsOf t file at = IsOfFile t file.table file.lower file.upper at
 
 -- the union of the intervals of the table's files
-abbrev pub AreClean : ℕ → List Published → List Interval → Type 0
+abbrev pub AreClean : ℕ → List PutFile → List Interval → Type 0
 AreClean t files intervals = (at : Position)
-    → Holds intervals at ↔ ((file : Published) × Contains files file × IsOfFile t file at)
+    → Holds intervals at ↔ ((file : PutFile) × Contains files file × IsOf t file at)
 
 -- the positions of the segment's entries that touch the table
 abbrev pub ends_of : ℕ → ℕ → List EntryNote → List Position
 ends_of t o notes = map (λ (n : EntryNote). position_of 0 n.end.0) (filter (is_of o t) notes)
 
-abbrev pub Hulls : Type 0
-Hulls = BTreeMap ℕ (Option (Position × Position))
-
--- a hull, the empty one where there is none
-abbrev pub hull_in : Option (Option (Position × Position)) → Option (Position × Position)
-hull_in None = None
-hull_in (Some hull) = hull
-
--- the hull of the segment of an ordinal
-abbrev pub hull_at : Hulls → ℕ → Option (Position × Position)
-hull_at hulls o = hull_in (get nat_cmp hulls o)
-
 -- the hulls of the table's entries in each segment
-abbrev pub AreHulls : ℕ → List EntryNote → Hulls → Type 0
+abbrev pub AreHulls : ℕ → List EntryNote → List SegmentHull → Type 0
 AreHulls t notes hulls = (o : ℕ) → IsHull (hull_at hulls o) (ends_of t o notes)
 
 -- a table's files hold the hull of the segment of this ordinal
 abbrev pub IsFiledAt : ℕ → TableLog → Type 0
 IsFiledAt o table = IsCovered table.cleans.intervals (hull_at table.hulls o)
 
--- A segment that has an entry may go: nothing of it is kept, it was not dropped, and the tables'
+-- A segment that has an entry and was not dropped may go: nothing of it is kept, and the tables'
 -- files hold it.
-pub record LetsGo (known : Known) (o : ℕ) : Type 0 where
-  pub not_kept : Contains known.kept.keys o → ⊥
-  pub not_dropped : Contains known.dropped.keys o → ⊥
-  pub filed : All (IsFiledAt o) known.tables.items
+pub record LetsGo (tables : List TableLog) (kept : List ℕ) (o : ℕ) : Type 0 where
+  pub not_kept : Contains kept o → ⊥
+  pub filed : All (IsFiledAt o) tables
 
 -- It is closed too.
-pub record IsClosedAndGoes (known : Known) (closed o : ℕ) : Type 0 where
+pub record IsClosedAndGoes (tables : List TableLog) (kept : List ℕ) (closed o : ℕ) : Type 0 where
   pub below : o < closed
-  pub goes : LetsGo known o
+  pub goes : LetsGo tables kept o
 
 -- the number is behind those that were listed, where this is so
 abbrev pub PicksIf : Type 0 → ℕ → List ℕ → List ℕ → Type 0

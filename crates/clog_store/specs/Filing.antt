@@ -31,6 +31,7 @@ use Rattle.clog_cells.specs.Merge.{IsMergeOf}
 use Rattle.clog_disk.specs.declared.change.Change.{Change}
 use Rattle.clog_disk.specs.declared.change.Change.TheVariants as change
 use Rattle.clog_disk.specs.Files.{Files, Told, bytes_at}
+use Rattle.clog_disk.specs.Images.{LeavesOnly}
 use Rattle.clog_table.specs.declared.table_file.TableFile.{TableFile}
 use Rattle.clog_table.specs.Refusals.{IsFileOf}
 use Rattle.clog_crash.specs.Flush.{IsSameFolder, IsSettled}
@@ -72,6 +73,22 @@ pub record IsRecoveryPut (first : Files) (name bytes : List ℕ) : Type 0 where
 abbrev pub AreRecoveryPuts : Files → Files → Type 0
 AreRecoveryPuts first now = (name bytes : List ℕ) → finmap.get now name ≡ Some bytes
     → finmap.get first name ≡ None → IsRecoveryPut first name bytes
+
+-- each file that is there reads as it did at first, or was put by a recovery
+abbrev pub ComesFrom : Files → Files → Type 0
+ComesFrom first image = (name bytes : List ℕ) → finmap.get image name ≡ Some bytes
+    → (finmap.get first name ≡ Some bytes) ⊎ IsRecoveryPut first name bytes
+
+-- a crash leaves no file but such
+abbrev pub LeavesFrom : Files → (List ℕ → Option (List ℕ) → Type 0) → Type 0
+LeavesFrom first leaves = (name bytes : List ℕ) → leaves name (Some bytes)
+    → (finmap.get first name ≡ Some bytes) ⊎ IsRecoveryPut first name bytes
+
+-- So it is at each moment from one state of a disk to another, and at the later one.
+pub record StaysFrom {D : Type 0} (moment : D → ℕ) (since : D → ℕ → Files → Type 0)
+    (leaves : D → List ℕ → Option (List ℕ) → Type 0) (first : Files) (old new : D) : Type 0 where
+  pub now : LeavesFrom first (leaves new)
+  pub meanwhile : LeavesOnly moment since old new (ComesFrom first)
 
 -- the change of a disk that puts a file
 abbrev pub publish : List ℕ × List ℕ → Change
@@ -155,9 +172,9 @@ abbrev pub SettledTo : Files → List (CellKey × Cell) → ℕ → Option Files
 SettledTo first cells n told leaves =
     Told told (λ now. IsFiledTo first cells n now × IsSettled now leaves)
 
--- the same folder, in which each file of before stands
+-- the same folder, in which each file of before stands; what came was put by a recovery
 abbrev pub IsFullFolder : Files → Files → Type 0
-IsFullFolder first now = IsSameFolder first now × AllStay first now
+IsFullFolder first now = IsSameFolder first now × AllStay first now × AreRecoveryPuts first now
 
 -- the files after a step: a refused one leaves the same folder, and what was there
 abbrev pub FiledBy : {T : Type 0} → Files → List (CellKey × Cell) → ℕ → Option Files

@@ -1,10 +1,12 @@
 pub mod Beside
 pub mod Coming
+pub mod Counting
 pub mod Discarding
 pub mod Discards
 pub mod Dropping
 pub mod Filing
 pub mod Grows
+pub mod HullRows
 pub mod Life
 pub mod Live
 pub mod Named
@@ -26,5 +28,7 @@ pub mod StoreFolder
 pub mod StoreNames
 pub mod StoreOrder
 pub mod StoreState
+pub mod StoreTakes
+pub mod WorkedNames
 pub mod WorkedOrder
 pub mod WorkedTables

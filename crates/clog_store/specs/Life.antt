@@ -22,18 +22,19 @@ use Rattle.std.specs.Prelude.{
 }
 use Rattle.clog_spec.specs.Names.{segment_name_of}
 use Rattle.clog_disk.specs.Files.{Files, IsEnd, SameTold, bytes_at}
-use Rattle.clog_disk.specs.Images.{IsImage, IsLater, Lasts, LeavesOnly, SinceThen}
+use Rattle.clog_disk.specs.Images.{IsImage, IsLater, Lasts, LeavesOnly}
 use Rattle.clog_scan.specs.Cut.{Section}
 use Rattle.clog_crash.specs.Log.{Write, HasShown, IsResting, logged_in}
 use Rattle.clog_crash.specs.Readings.{Reading}
 use Rattle.clog_crash.specs.Sections.{IsStored, segment_bytes}
 
--- A store: its disk, the moment of its opening, the segments that it has written, each of which
--- lasts, the one that it writes with the sections that it was handed, how many of them last, and
--- whether the disk has failed.
+-- A store: its disk, the moment of its opening and the disk then, the segments that it has written,
+-- each of which lasts, the one that it writes with the sections that it was handed, how many of them
+-- last, and whether the disk has failed.
 pub record State (D : Type 0) : Type 0 where
   pub disk : D
   pub opened : ℕ
+  pub first : D
   pub past : List Write
   pub id : ℕ
   pub sections : List Section
@@ -70,13 +71,14 @@ abbrev pub past_with : List Write → ℕ → List Section → List Write
 past_with past id [] = past
 past_with past id (s ∷ ss) = past ++ record { id = id; sections = s ∷ ss } ∷ []
 
--- Each image since the opening shows what the folder restored then, and the first of the entries of
--- the log, wherever and however it goes on.
+-- Each image since the opening, of a disk as it was then, shows what the folder restored then, and
+-- the first of the entries of the log, wherever and however it goes on.
 abbrev pub ShownSince : {D : Type 0} → (D → Option Files) → (D → ℕ) → (D → ℕ → Files → Type 0)
-    → (D → ℕ → Option Reading) → (D → ℕ → Type 0) → D → ℕ → List Write → ℕ → List Section → Type 0
-ShownSince files moment since read_at lasted_at disk opened past id sections =
+    → (D → ℕ → Option Reading) → (D → ℕ → Type 0) → D → D → ℕ → List Write → ℕ → List Section
+    → Type 0
+ShownSince files moment since read_at lasted_at first disk opened past id sections =
     BothTold (files disk) (read_at disk opened) (λ f r. (at : ℕ) → MayGoOnIn id sections at
-    → SinceThen moment since opened disk (HasShown r 0 past at sections))
+    → LeavesOnly moment since first disk (HasShown r 0 past at sections))
 
 -- the disk's files are at rest, with what the folder restored at the opening
 abbrev pub RestsNow : {D : Type 0} → (D → Option Files)
@@ -103,7 +105,8 @@ pub record Lives {D : Type 0} (files : D → Option Files) (moment : D → ℕ)
     (read_at : D → ℕ → Option Reading) (lasted_at : D → ℕ → Type 0) (s : State D) : Type 0 where
   pub began : s.opened ≤ moment s.disk
   pub few : s.synced ≤ length s.sections
-  pub shown : ShownSince files moment since read_at lasted_at s.disk s.opened s.past s.id s.sections
+  pub shown : ShownSince files moment since read_at lasted_at s.first s.disk s.opened s.past s.id
+      s.sections
   pub lasts : LastsNow files leaves read_at lasted_at s
   -- until the disk has failed
   pub rests : s.is_stopped ≡ false → RestsNow files leaves read_at lasted_at s
@@ -155,6 +158,7 @@ pub record Outlives {D : Type 0} (files : D → Option Files) (moment : D → �
     (before now : State D)
     : Type 0 where
   pub opened : now.opened ≡ before.opened
+  pub first : now.first ≡ before.first
   pub told : SameTold (files before.disk) (files now.disk)
   pub later : IsLater moment read_at lasted_at before.disk now.disk
   pub no_fewer : lasting_in before ≤ lasting_in now

@@ -1,12 +1,10 @@
 -- The cells that the log of a folder restores, and the greatest position of its entries.
-use Rattle.std.specs.Prelude.{◌≡◌, ◌⊎◌, List, ◌++◌, Contains}
+use Rattle.std.specs.Prelude.{◌≡◌, ◌⊎◌, List, Contains}
 use Rattle.std.specs.List.{flat_map}
 use Rattle.clog_base.specs.declared.cell.Cell.{Cell}
 use Rattle.clog_base.specs.declared.cell.CellKey.{CellKey}
-use Rattle.clog_base.specs.declared.cell.Table.{Table}
 use Rattle.clog_base.specs.declared.position.Position.{Position}
 use Rattle.clog_base.specs.Positions.{IsUpTo}
-use Rattle.clog_cells.specs.Merge.{IsMerge, part_on}
 use Rattle.clog_crash.specs.Counts.{LoggedMutation}
 use Rattle.clog_folder.specs.declared.segment.SegmentHeld.{SegmentHeld}
 use Rattle.clog_folder.specs.declared.tables.TableHeld.{TableHeld}
@@ -42,10 +40,3 @@ pub record IsLaterOf (a b later : Position) : Type 0 where
 pub record IsTop (ps : List PlacedPayload) (top : Position) : Type 0 where
   pub behind : (p : PlacedPayload) → Contains ps p → IsUpTo p.0 top
   pub one : (top ≡ start) ⊎ ((p : PlacedPayload) × Contains ps p × (p.0 ≡ top))
-
--- The cells of the table among those that were seen are put, and with those that are left the seen
--- ones are all.
-pub record IsPartSoFar (table : Table) (cells rest part : List (CellKey × Cell)) : Type 0 where
-  pub front : List (CellKey × Cell)
-  pub parts : cells ≡ front ++ rest
-  pub merged : IsMerge (part_on table front) part

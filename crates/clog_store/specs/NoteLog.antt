@@ -122,6 +122,8 @@ pub record IsHeld {D : Type 0} (s : NoteState D) : Type 0 where
   pub begins : s.log.sections ≡ []
       → s.base + ordinal_of (end_behind s.synced (take s.written s.kept)) < s.log.id
       → BeginsFrom s.base s.log.id (drop s.written s.kept)
+  -- where all that is kept was written, the last of it stands in the segment at hand
+  pub last_here : 0 < s.written → s.written ≡ length s.kept → 0 < length s.log.sections
 
 -- What is true also where the disk has failed: what was logged and the first of what is kept stand
 -- in the sections, and of that the former and perhaps some of the latter last.
@@ -134,9 +136,15 @@ pub record Stands {D : Type 0} (s : NoteState D) : Type 0 where
   pub lasts : Holds s.base s.log (take s.log.synced s.log.sections)
       (s.logged ++ take lasting s.kept)
 
+-- No segment of the log stands below the base, also none that has no section.
+abbrev pub IsFrom : {D : Type 0} → ℕ → State D → Type 0
+IsFrom base log =
+    (w : Write) → Contains (segments_with log.past log.id log.sections) w → base ≤ w.id
+
 -- What a log of notes keeps.
 pub record IsNoteLog {D : Type 0} (s : NoteState D) : Type 0 where
   pub fits : s.base < 2 ^ 62
+  pub from : IsFrom s.base s.log
   pub few : s.written ≤ length s.kept
   pub good : (n : EntryNote) → Contains (s.logged ++ s.kept) n → IsGood s.sizes n
   pub below : (n : EntryNote) → Contains s.logged n → n.end.0 ≤ s.synced

@@ -53,6 +53,7 @@ pub record GoesOn {D : Type 0} (files : D → Option Files) (moment : D → ℕ)
     (read_at : D → ℕ → Option Reading) (lasted_at : D → ℕ → Type 0) (before now : State D) : Type 0
   where
     pub opened : now.opened ≡ before.opened
+    pub first : now.first ≡ before.first
     pub later : IsLater moment read_at lasted_at before.disk now.disk
     pub lives : Lives files moment since leaves read_at lasted_at before
         → LivesOn files moment since leaves read_at lasted_at before now

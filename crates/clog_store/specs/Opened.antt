@@ -19,6 +19,7 @@ use Rattle.std.specs.Prelude.{
 use Rattle.std.specs.List.{Any}
 use Rattle.std.specs.declared.result.Result.TheVariants as result
 use Rattle.std.specs.FinMap as finmap
+use Rattle.clog_spec.specs.Names.{IsTableName}
 use Rattle.clog_spec.specs.Sizes.{file_limit}
 use Rattle.clog_base.specs.declared.cell.Cell.{Cell}
 use Rattle.clog_base.specs.declared.cell.CellKey.{CellKey}
@@ -70,10 +71,20 @@ pub record CanBeOpened (files : Files) : Type 0 where
   pub few : ¬ HoldsName files IsLateTable
   pub low : (id : ℕ) → NamesAny files id → id < id_limit
 
+-- each table's sequences are below the limit, so that it may have one file more
+abbrev pub SequencesAreBelow : Files → Type 0
+SequencesAreBelow files = (name : List ℕ) (table sequence : ℕ) → IsTableName name table sequence
+    → IsHeld files name → sequence < sequence_limit
+
 -- each file whose name is no segment's stands as it was
 abbrev pub OthersStay : Files → Files → Type 0
 OthersStay first now = (name bytes : List ℕ) → ¬ IsNameOfSegment name
     → finmap.get first name ≡ Some bytes → finmap.get now name ≡ Some bytes
+
+-- Each file whose name is no segment's stands as it was, and what came was put by a recovery.
+pub record RecoversOnly (first now : Files) : Type 0 where
+  pub others : OthersStay first now
+  pub came : AreRecoveryPuts first now
 
 -- A recovered folder has the same newest cells, no damage, and no segment. Each other file stands
 -- as it was, and what came are the files that recovery puts. No table file reaches into a segment

@@ -4,16 +4,19 @@ use Rattle.std.specs.Prelude.{◌≡◌, ◌⊎◌, ℕ, ◌+◌, List, Some, No
 use Rattle.std.specs.FinMap as finmap
 use Rattle.clog_spec.specs.Names.{IsTableName, segment_name_of}
 use Rattle.clog_disk.specs.Files.{Files}
+use Rattle.clog_crash.specs.Folder.{HoldsName, IsBase}
 use Rattle.clog_store.specs.Beside.{NamesSegment}
 use Rattle.clog_store.specs.StoreFolder.{Deeds, HoldsStore, IsPast, StoreLog}
 
 -- ---- the name with which a disk may fail
 
--- the name of a table file that is not there
+-- the name of a table's next file, which is not there
 pub record IsFreeTable (files : Files) (name : List ℕ) : Type 0 where
   pub table : ℕ
   pub sequence : ℕ
   pub named : IsTableName name table sequence
+  pub next : IsBase (λ (n : ℕ). HoldsName files (λ (other : List ℕ). IsTableName other table n)) 1
+      sequence
   pub free : finmap.get files name ≡ None
 
 -- the name of an earlier segment that was not dropped, or its archive name where segments get one

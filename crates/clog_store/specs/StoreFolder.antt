@@ -39,7 +39,7 @@ use Rattle.clog_disk.specs.Files.{Files, bytes_at}
 use Rattle.clog_scan.specs.Cut.{Section, last_until}
 use Rattle.clog_table.specs.declared.table_file.TableFile.{TableFile}
 use Rattle.clog_table.specs.Refusals.{IsFileOf}
-use Rattle.clog_crash.specs.Folder.{HasArchive, HasSegmentFile, IsBase, IsHeld}
+use Rattle.clog_crash.specs.Folder.{HasArchive, HasSegmentFile, HoldsName, IsBase, IsHeld}
 use Rattle.clog_crash.specs.Log.{Write}
 use Rattle.clog_crash.specs.Readings.{IsTableIn}
 use Rattle.clog_crash.specs.Sections.{IsStored, segment_bytes}
@@ -161,6 +161,17 @@ pub record IsPlacedAt (first : Files) (base most : ℕ) (p : PlacedFile) : Type 
 abbrev pub IsEarlier : PlacedFile → PlacedFile → Type 0
 IsEarlier a b = a.put.table ≡ b.put.table → a.sequence < b.sequence
 
+-- a file of the table has the sequence: one that was there at first, or one of these
+abbrev pub IsTaken : Files → List PlacedFile → ℕ → ℕ → Type 0
+IsTaken first placed table sequence =
+    HoldsName first (λ (name : List ℕ). IsTableName name table sequence)
+    ⊎ ((p : PlacedFile) × Contains placed p × (p.put.table ≡ table) × (p.sequence ≡ sequence))
+
+-- Its sequence is one more than the greatest of its table, 1 where there is none: of the files that
+-- were there at first, and of those that were put before it.
+abbrev pub IsNextOf : Files → List PlacedFile → PlacedFile → Type 0
+IsNextOf first before p = IsBase (IsTaken first before p.put.table) 1 p.sequence
+
 -- These files, in the order in which they were put.
 pub record ArePlacedAt (first : Files) (base : ℕ) (files : List PutFile) (placed : List PlacedFile)
     : Type 0 where
@@ -168,6 +179,8 @@ pub record ArePlacedAt (first : Files) (base : ℕ) (files : List PutFile) (plac
   pub each : (p : PlacedFile) → Contains placed p
       → IsPlacedAt first base (sequence_limit + 1 + length placed) p
   pub ascending : AllPairs IsEarlier placed
+  pub next : (before behind : List PlacedFile) (p : PlacedFile) → placed ≡ before ++ p ∷ behind
+      → IsNextOf first before p
 
 -- ---- names and their bytes
 

@@ -150,6 +150,7 @@ pub record IsStore {D : Type 0} (files : D → Option Files) (changes : D → Op
     (moment : D → ℕ) (faults : D → ℕ) (read_at : D → ℕ → Option Reading)
     (lasted_at : D → ℕ → Type 0) (s : StoreState D) : Type 0 where
   pub opened : s.notes.log.opened ≡ moment s.first
+  pub began : s.notes.log.first ≡ s.first
   pub later : IsLater moment read_at lasted_at s.first s.notes.log.disk
   pub no_fewer : faults s.first ≤ faults s.notes.log.disk
   pub risen : s.notes.log.is_stopped ≡ true → Rose (faults s.first) (faults s.notes.log.disk)

@@ -4,9 +4,11 @@
 #![tactic(auto)]
 
 mod changing;
+mod counted;
 mod discarding;
 mod droppable;
 mod folder_laws;
+mod hulls;
 mod lasting;
 mod laws;
 mod log_cells;
@@ -29,13 +31,14 @@ mod sections;
 mod segments;
 mod store;
 mod table_log;
+mod taking_laws;
 #[cfg(test)]
 mod tests;
 mod written;
 
 pub use changing::{put_table, take_away};
 pub use discarding::{Halt, drop_segments};
-pub use droppable::{due_segments, due_segments_are_covered};
+pub use droppable::due_segments_are_covered;
 pub use folder_laws::{
     a_due_segment_at_hand_lasts, a_folder_after_a_sync_is_a_stores,
     a_folder_stays_a_stores_in_a_later_segment, a_folder_with_a_put_file_is_a_stores,
@@ -45,12 +48,15 @@ pub use folder_laws::{
     due_segments_of_a_store_may_be_dropped, what_a_store_may_publish_is_true,
 };
 pub use lasting::{what_is_logged_lasts, what_lasts_stays, what_was_logged_stays};
-pub use laws::a_recovery_puts_one_file_a_table;
+pub use laws::{a_recovery_puts_one_file_a_table, what_an_opening_leaves_can_be_opened};
 pub use next::write_section;
 pub use note_log::NoteLog;
 pub use noting::{a_note_tells_its_place, four_notes_are_three_sections, notes_are_runs};
 pub use opening::recover;
-pub use ordering::{a_segment_goes_behind_its_table_file, a_segment_waits_for_both_its_tables};
+pub use ordering::{
+    a_segment_goes_behind_its_table_file, a_segment_waits_for_both_its_tables,
+    table_files_take_the_next_sequences,
+};
 pub use payloads::Payloads;
 pub use publishing::{Published, publish_file, what_may_be_published_is_true};
 pub use recovering::{put_recovered, take_all_recovered, take_recovered};
@@ -58,4 +64,5 @@ pub use section_log::{DropFault, SectionLog};
 pub use sections::{keep_sections, put_sections, settle_sections};
 pub use segments::{Part, put_all, put_segments};
 pub use store::{Store, StoredFile, a_store_crosses_threads};
+pub use taking_laws::a_log_takes_what_comes_next;
 pub use written::{PastSegment, StoreFault, Written};

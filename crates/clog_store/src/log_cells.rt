@@ -1,14 +1,11 @@
-//! What the log of a folder that was read restores: its cells, table by table, and how far it
-//! reaches.
-ghost use Rattle.std.specs.Prelude.{◌≡◌, ◌++◌, ◌∷◌, [], List, OnOk, IfOk, All};
+//! What the log of a folder that was read restores: its cells, and how far it reaches.
+ghost use Rattle.std.specs.Prelude.{◌++◌, List, IfOk, All};
 ghost use Rattle.std.specs.List.{flat_map};
-ghost use Rattle.clog_cells.specs.Merge.{AreInOrder, IsMerge, part_on};
 ghost use Rattle.clog_folder.specs.Folder.{PlacedPayload, payloads_of};
 ghost use Rattle.replay_merge.specs.Taking.{AreRanges};
 ghost use Rattle.clog_store.specs.Live.{AreLive, IsLaterOf, IsTop};
 
-use crate::naming::is_one_table;
-use clog_base::{Cell, CellKey, OutOfMemory, Position, Table, Text};
+use clog_base::{OutOfMemory, Position};
 use clog_cells::CellMap;
 use clog_folder::{Folder, SegmentHeld};
 use replay_merge::merge_alone;
@@ -58,58 +55,4 @@ pub(crate) fn top_of(segments: &[SegmentHeld]) -> Position
         top = top_of_segment(top, held);
     }
     top
-}
-
-/// Puts a copy of a cell.
-fn put_copy(
-    alloc: Global,
-    part: &mut CellMap,
-    key: &CellKey,
-    cell: &Cell,
-) -> Result<(), OutOfMemory>
-    ensures { OnOk result (IsMerge (part.old ++ (key.now, cell.now) ∷ []) part.new) }
-{
-    let key = CellKey {
-        table: key.table,
-        key: Text::copy_of(alloc, key.key.as_str())?,
-        column: Text::copy_of(alloc, key.column.as_str())?,
-    };
-    let cell = Cell {
-        ts: cell.ts,
-        kind: cell.kind,
-        value: Text::copy_of(alloc, cell.value.as_str())?,
-    };
-    match part.put(key, cell) {
-        Ok(()) => Ok(()),
-        Err(_) => Err(OutOfMemory),
-    }
-}
-
-/// Puts a copy of a cell, if it is of the table.
-fn put_of_table(
-    alloc: Global,
-    part: &mut CellMap,
-    table: Table,
-    key: &CellKey,
-    cell: &Cell,
-) -> Result<(), OutOfMemory>
-    requires { AreInOrder part.old }
-    ensures { OnOk result
-        (IsMerge (part.old ++ part_on table ((key.now, cell.now) ∷ [])) part.new) }
-{
-    if is_one_table(key.table, table) {
-        return put_copy(alloc, part, key, cell);
-    }
-    Ok(())
-}
-
-/// The cells of one table, in their order.
-pub(crate) fn part_of(alloc: Global, cells: &CellMap, table: Table) -> Result<CellMap, OutOfMemory>
-    ensures { IfOk result (λ part. part ≡ part_on table cells.now) }
-{
-    let mut part = CellMap::new(alloc);
-    for (key, cell) in cells.entries() {
-        put_of_table(alloc, &mut part, table, key, cell)?;
-    }
-    Ok(part)
 }

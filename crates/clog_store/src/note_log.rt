@@ -37,6 +37,7 @@ ghost use Rattle.clog_store.specs.NoteLog.{
 };
 ghost use Rattle.clog_store.specs.NoteSteps.{GoesOn, Leaves, Logs, LogsNot, MayRun};
 ghost use Rattle.clog_store.specs.Stepped.{HasLogCause, StopsBy};
+ghost use Rattle.clog_store.specs.StoreTakes.{StillTakes};
 
 mod dropping;
 mod going;
@@ -147,6 +148,7 @@ impl<D: Disk> NoteLog<D> {
         ensures goes { GoesOn D.files D.moment D.since D.leaves D.read_at D.lasted_at self.old.log
             self.new.log }
         ensures leaves { Leaves D.files D.changes self.old.log self.new.log }
+        ensures takes { StillTakes self.old self.new }
         ensures cause { HasLogCause self.old.log.is_stopped (D.faults self.old.log.disk)
             (D.faults self.new.log.disk) result }
         ensures stops { StopsBy self.new.log.is_stopped result }
@@ -182,7 +184,8 @@ impl<D: Disk> NoteLog<D> {
     /// Makes all pending notes up to a key lasting, and keeps the others pending. Where it is
     /// refused all are pending; the sections that the disk took stay, and the next call goes on
     /// behind them. Notes of a segment that the log has left for no note are refused like those for
-    /// which there is no memory.
+    /// which there is no memory. Unless the disk has failed, the log takes what comes next still, if
+    /// it did so before (`takes`).
     pub fn sync(&mut self, pending: &mut Vec<EntryNote>, upto: Key) -> Result<(), StoreFault>
         requires { MayLog self.old upto.0 pending.old.items }
         ensures syncs { OnOk result (HasSynced self.old self.new upto.0 pending.old.items
@@ -197,7 +200,9 @@ impl<D: Disk> NoteLog<D> {
         ensures writes { Writes D.changes self.old.log self.new.log }
         ensures names_last { NamesGoOn D.files D.leaves self.old.log self.new.log }
         ensures stays { self.old.log.is_stopped ≡ true → self.new ≡ self.old }
+        ensures takes { StillTakes self.old self.new }
         ensures opened { self.new.log.opened ≡ self.old.log.opened }
+        ensures first { self.new.log.first ≡ self.old.log.first }
         ensures later { IsLater D.moment D.read_at D.lasted_at self.old.log.disk self.new.log.disk }
         ensures cause { HasLogCause self.old.log.is_stopped (D.faults self.old.log.disk)
             (D.faults self.new.log.disk) result }

@@ -78,6 +78,7 @@ fn write_rest<D: Disk>(
     ensures ready { OnOk result (StaysReady base notes.now log.old written.old log.new
         written.new) }
     ensures all { OnOk result (written.new ≡ length notes.now) }
+    ensures still { written.old ≡ length notes.now → log.new.id ≡ log.old.id }
     ensures runs { OnOk result (log.new.is_stopped ≡ false) }
     ensures goes { GoesOn D.files D.moment D.since D.leaves D.read_at D.lasted_at log.old log.new }
     ensures leaves { Leaves D.files D.changes log.old log.new }
@@ -114,6 +115,7 @@ pub(crate) fn write_all<D: Disk>(
         written.new) }
     ensures all { OnOk result (written.new ≡ length notes.now) }
     ensures lasts { OnOk result (log.new.synced ≡ length log.new.sections) }
+    ensures still { written.old ≡ length notes.now → log.new.id ≡ log.old.id }
     ensures goes { GoesOn D.files D.moment D.since D.leaves D.read_at D.lasted_at log.old log.new }
     ensures leaves { Leaves D.files D.changes log.old log.new }
     ensures cause { HasLogCause log.old.is_stopped (D.faults log.old.disk) (D.faults log.new.disk)

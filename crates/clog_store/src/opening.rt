@@ -9,7 +9,13 @@ ghost use Rattle.clog_crash.specs.Recovery.{NamesAny};
 ghost use Rattle.clog_crash.specs.Rest.{IsAtRest};
 ghost use Rattle.clog_folder.specs.Folder.{IsHeldOf};
 ghost use Rattle.clog_folder.specs.Passing.{IsUntouched, TellsEach};
-ghost use Rattle.clog_store.specs.Filing.{StepCause};
+ghost use Rattle.clog_store.specs.Filing.{
+  AreRecoveryPuts,
+  ComesFrom,
+  LeavesFrom,
+  StaysFrom,
+  StepCause,
+};
 ghost use Rattle.clog_store.specs.Live.{HasLive};
 ghost use Rattle.clog_store.specs.Named.{IsLateTable};
 ghost use Rattle.clog_store.specs.Opened.{
@@ -22,6 +28,7 @@ ghost use Rattle.clog_store.specs.Opened.{
   OthersStay,
   RecoversAll,
   RecoversFirst,
+  RecoversOnly,
 };
 
 use crate::log_cells::{live_cells, top_of};
@@ -52,7 +59,7 @@ fn recover_folder<D: Disk>(
     ensures recovers { (first : Files) → D.files disk.old ≡ Some first
         → OnOk result (RecoversAll first (D.changes disk.old) (D.changes disk.new)) }
     ensures others { (first : Files) → D.files disk.old ≡ Some first
-        → Told (D.files disk.new) (OthersStay first) }
+        → Told (D.files disk.new) (RecoversOnly first) }
     ensures same { (first : Files) → D.files disk.old ≡ Some first
         → Told (D.files disk.new) (IsSameFolder first) }
     ensures files { (first : Files) → D.files disk.old ≡ Some first → (base : ℕ)
@@ -65,12 +72,15 @@ fn recover_folder<D: Disk>(
     ensures any_moment { (first : Files) → D.files disk.old ≡ Some first
         → IsSettled first (D.leaves disk.old)
         → LeavesOnly D.moment D.since disk.old disk.new (IsSameFolder first) }
+    ensures from { (first : Files) → D.files disk.old ≡ Some first
+        → LeavesFrom first (D.leaves disk.old)
+        → StaysFrom D.moment D.since D.leaves first disk.old disk.new }
 {
     let ids = segment_ids(alloc, names)?;
     let cells = live_cells(alloc, folder)?;
     let top = top_of(folder.segments.as_slice());
     // A match in place of `?`, since the exit speaks of the folder.
-    match put_tables(alloc, disk, names, &cells, top) {
+    match put_tables(alloc, disk, names, cells, top) {
         Ok(()) => {}
         Err(fault) => return Err(fault),
     }
@@ -131,9 +141,9 @@ fn look<D: Disk>(alloc: Global, disk: &mut D, moment: u64) -> Result<Known, Open
 /// - `BadTable`, `Damaged`, `Limit`: exactly where the folder is so. The disk is then as it was.
 /// - `OutOfMemory`: memory was refused.
 ///
-/// Whatever is answered, each file whose name is no segment's stands as it was, and the folder
-/// restores the same, and so does each image of a crash meanwhile where all that was there lasted
-/// before.
+/// Whatever is answered, each file whose name is no segment's stands as it was, what came are files
+/// that recovery puts, and the folder restores the same. Where all that was there lasted before, so
+/// does each image of a crash meanwhile, which has no other files either.
 pub fn recover<D: Disk>(alloc: Global, disk: &mut D, moment: u64) -> Result<u64, OpenFault>
     requires moment { moment < 2 ^ 62 }
     ensures told { SameTold (D.files disk.old) (D.files disk.new) }
@@ -153,6 +163,8 @@ pub fn recover<D: Disk>(alloc: Global, disk: &mut D, moment: u64) -> Result<u64,
         → OnOk result (RecoversAll first (D.changes disk.old) (D.changes disk.new)) }
     ensures others { (first : Files) → D.files disk.old ≡ Some first
         → Told (D.files disk.new) (OthersStay first) }
+    ensures came { (first : Files) → D.files disk.old ≡ Some first
+        → Told (D.files disk.new) (AreRecoveryPuts first) }
     ensures keeps { (first : Files) → D.files disk.old ≡ Some first
         → Told (D.files disk.new) (KeepsFolder first) }
     ensures restored { (first : Files) → D.files disk.old ≡ Some first
@@ -166,6 +178,9 @@ pub fn recover<D: Disk>(alloc: Global, disk: &mut D, moment: u64) -> Result<u64,
     ensures any_moment { (first : Files) → D.files disk.old ≡ Some first
         → LastsAll first (D.leaves disk.old)
         → LeavesOnly D.moment D.since disk.old disk.new (KeepsFolder first) }
+    ensures images { (first : Files) → D.files disk.old ≡ Some first
+        → LastsAll first (D.leaves disk.old)
+        → LeavesOnly D.moment D.since disk.old disk.new (ComesFrom first) }
 {
     let known = match look(alloc, disk, moment) {
         Ok(known) => known,

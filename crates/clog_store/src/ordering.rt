@@ -1,7 +1,9 @@
-//! The order of a store's changes, and when its segments go, by worked rows.
-ghost use Rattle.std.specs.Prelude.{Bool, ℕ, [], true, ◌∷◌};
+//! The order of a store's changes, when its segments go, and which names its table files have, by
+//! worked rows.
+ghost use Rattle.std.specs.Prelude.{◌≡◌, Bool, List, ℕ, [], true, ◌∷◌};
 ghost use Rattle.path_core.specs.Keeper.{Drops, Holding, PutFile};
-ghost use Rattle.clog_store.specs.StoreFolder.{PlacedFile};
+ghost use Rattle.clog_store.specs.StoreFolder.{ArePlacedAt, PlacedFile};
+ghost use Rattle.clog_store.specs.WorkedNames.{sequences_of, with_seventh};
 ghost use Rattle.clog_store.specs.StoreOrder.{AreOrdered};
 ghost use Rattle.clog_store.specs.WorkedOrder.{
   IsFirstFile,
@@ -45,4 +47,13 @@ pub fn a_segment_waits_for_both_its_tables()
     ensures goes { (h now : Holding) (count : ℕ) (first second : PutFile)
         → HasPut h (first ∷ second ∷ []) → IsUpToSecond 0 first → IsUpToSecond 1 second
         → Drops h now 1 count → FirstHasGone h.opening.archives now count }
+{}
+
+/// A worked row: the folder holds a file of table 0 with the sequence 7, and nothing else. Files of
+/// tables 0, 1 and 0 that are put one after another have the sequences 8, 1 and 9, and no others.
+pub fn table_files_take_the_next_sequences()
+    ensures { (bytes : List ℕ) (base : ℕ) (x y z : PutFile) (placed : List PlacedFile)
+        → x.table ≡ 0 → y.table ≡ 1 → z.table ≡ 0
+        → ArePlacedAt (with_seventh bytes) base (x ∷ y ∷ z ∷ []) placed
+        → sequences_of placed ≡ 8 ∷ 1 ∷ 9 ∷ [] }
 {}

@@ -13,12 +13,13 @@ ghost use Rattle.std.specs.Prelude.{
   None,
   Err,
   IfSome,
+  OnErr,
   OnOk,
 };
 ghost use Rattle.clog_spec.specs.Names.{segment_name_of, table_name_of};
 ghost use Rattle.clog_disk.specs.Causes.{HasDiskCause};
 ghost use Rattle.clog_disk.specs.Changes.{Adds};
-ghost use Rattle.clog_disk.specs.Files.{Files, PutsAt, SameTold, Told};
+ghost use Rattle.clog_disk.specs.Files.{Files, MayPutAt, PutsAt, SameTold, Told};
 ghost use Rattle.clog_disk.specs.Images.{IsLater, LeavesOnly};
 ghost use Rattle.clog_disk.specs.declared.change.Change.TheVariants as change;
 ghost use Rattle.clog_disk.specs.declared.disk.DiskFault.TheVariants.{NoSuchFile as no_file};
@@ -35,6 +36,7 @@ ghost use Rattle.clog_store.specs.Coming.{
   Recovers,
   RemovesFirst,
 };
+ghost use Rattle.clog_store.specs.Filing.{IsRecoveryPut, LeavesFrom, StaysFrom};
 
 use clog_base::{Table, segment_name, table_name};
 use clog_disk::{Disk, DiskFault};
@@ -53,6 +55,8 @@ pub fn put_recovered<D: Disk>(
         (table_name_of table.0 sequence) (Some bytes.now)) }
     ensures others { StayButOne (table_name_of table.0 sequence) (D.files disk.old)
         (D.files disk.new) }
+    ensures maybe { OnErr result (MayPutAt (D.files disk.old) (D.files disk.new)
+        (table_name_of table.0 sequence) (Some bytes.now)) }
     ensures adds { Adds (change.Publish (table_name_of table.0 sequence) bytes.now)
         (D.changes disk.old) (D.changes disk.new) result }
     ensures later { IsLater D.moment D.read_at D.lasted_at disk.old disk.new }
@@ -67,6 +71,10 @@ pub fn put_recovered<D: Disk>(
     ensures any_moment { (first : Files) (file : TableFile) → file.table ≡ table
         → MayComeHere first (D.files disk.old) (D.leaves disk.old) file sequence bytes.now
         → LeavesOnly D.moment D.since disk.old disk.new (IsSameFolder first) }
+    ensures from { (first : Files)
+        → IsRecoveryPut first (table_name_of table.0 sequence) bytes.now
+        → LeavesFrom first (D.leaves disk.old)
+        → StaysFrom D.moment D.since D.leaves first disk.old disk.new }
 {
     disk.publish(&table_name(table, sequence), bytes)
 }
@@ -93,6 +101,8 @@ pub fn take_recovered<D: Disk>(disk: &mut D, segment: u64) -> Result<(), DiskFau
     ensures any_moment { (first : Files) (others : List ℕ)
         → IsRecovering first (D.files disk.old) (D.leaves disk.old) (segment ∷ others)
         → LeavesOnly D.moment D.since disk.old disk.new (IsSameFolder first) }
+    ensures from { (first : Files) → LeavesFrom first (D.leaves disk.old)
+        → StaysFrom D.moment D.since D.leaves first disk.old disk.new }
 {
     disk.remove(&segment_name(segment))
 }
@@ -116,6 +126,8 @@ pub fn take_all_recovered<D: Disk>(disk: &mut D, segments: &[u64]) -> Result<(),
     ensures any_moment { (first : Files)
         → IsRecovering first (D.files disk.old) (D.leaves disk.old) segments.now
         → LeavesOnly D.moment D.since disk.old disk.new (IsSameFolder first) }
+    ensures from { (first : Files) → LeavesFrom first (D.leaves disk.old)
+        → StaysFrom D.moment D.since D.leaves first disk.old disk.new }
 {
     for segment in segments {
         take_recovered(disk, *segment)?;

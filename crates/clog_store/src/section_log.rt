@@ -16,6 +16,7 @@ ghost use Rattle.clog_crash.specs.Rest.{IsAtRest};
 ghost use Rattle.clog_crash.specs.Sections.{Brings, IsStored, segment_bytes};
 ghost use Rattle.clog_folder.specs.Passing.{IsUntouched, TellsFault};
 ghost use Rattle.clog_store.specs.Beside.{StayButOne};
+ghost use Rattle.clog_store.specs.Filing.{AreRecoveryPuts, ComesFrom};
 ghost use Rattle.clog_store.specs.Life.{
   HasEnd,
   LastsHere,
@@ -67,6 +68,8 @@ pub struct SectionLog<D: Disk> {
     disk: D,
     /// The disk's moment at the opening.
     opened: u64,
+    /// The disk then, for contracts alone.
+    first: Snapshot<D>,
     past: Vec<PastSegment>,
     /// The segment that it writes, the length of its file, and its sections.
     id: u64,
@@ -86,6 +89,7 @@ impl<D: Disk> Model for SectionLog<D> {
     ghost view = { λ s. record {
       disk = s.disk;
       opened = s.opened;
+      first = s.first.value;
       past = s.past.items;
       id = s.id;
       sections = s.sections.items;
@@ -97,6 +101,7 @@ impl<D: Disk> Model for SectionLog<D> {
         (record {
           disk = s.disk;
           opened = s.opened;
+          first = s.first.value;
           past = s.past.items;
           id = s.id;
           sections = s.sections.items;
@@ -121,6 +126,7 @@ impl<D: Disk> SectionLog<D> {
             → MayGoOnIn id [] at → IsAtRest f (D.leaves disk) at [] []) }
         ensures disk { result.disk ≡ disk }
         ensures opened { result.opened ≡ D.moment disk }
+        ensures first { result.first ≡ disk }
         ensures past { result.past ≡ [] }
         ensures id { result.id ≡ id }
         ensures sections { result.sections ≡ [] }
@@ -130,9 +136,11 @@ impl<D: Disk> SectionLog<D> {
             → Lives D.files D.moment D.since D.leaves D.read_at D.lasted_at result }
     {
         let opened = disk.moment_count();
+        let first = Snapshot::of(&disk);
         SectionLog {
             disk,
             opened,
+            first,
             past: Vec::new(alloc),
             id,
             size: 0,
@@ -145,15 +153,17 @@ impl<D: Disk> SectionLog<D> {
     /// Opens a folder: it is read and recovered, and its log goes on at the base. The moment is one
     /// in milliseconds. For each refusal see `recover`; the disk comes back then.
     ///
-    /// Whatever is answered, each file whose name is no segment's stands as it was, and the folder
-    /// restores the same, and so does each image of a crash meanwhile where all that was there
-    /// lasted before; then all lasts at the opening too.
+    /// Whatever is answered, each file whose name is no segment's stands as it was, what came are
+    /// files that recovery puts, and the folder restores the same. Where all that was there lasted
+    /// before, so does each image of a crash meanwhile, which has no other files either; then all
+    /// lasts at the opening too.
     pub fn open(alloc: Global, disk: D, moment: u64) -> Result<SectionLog<D>, (D, OpenFault)>
         requires moment { moment < 2 ^ 62 }
         ensures opens { IfOk result (λ log. OpensAs (D.files disk) (D.files log.disk) moment
             log.id) }
         ensures low { IfOk result (λ log. log.id < 2 ^ 62) }
         ensures opened { IfOk result (λ log. log.opened ≡ D.moment log.disk) }
+        ensures first { IfOk result (λ log. log.first ≡ log.disk) }
         ensures past { IfOk result (λ log. log.past ≡ []) }
         ensures sections { IfOk result (λ log. log.sections ≡ []) }
         ensures synced { IfOk result (λ log. log.synced ≡ 0) }
@@ -180,9 +190,14 @@ impl<D: Disk> SectionLog<D> {
             → HandsOn (λ now. Told (D.files now) (KeepsFolder first)) result }
         ensures others { (first : Files) → D.files disk ≡ Some first
             → HandsOn (λ now. Told (D.files now) (OthersStay first)) result }
+        ensures came { (first : Files) → D.files disk ≡ Some first
+            → HandsOn (λ now. Told (D.files now) (AreRecoveryPuts first)) result }
         ensures any_moment { (first : Files) → D.files disk ≡ Some first
             → LastsAll first (D.leaves disk)
             → HandsOn (λ now. LeavesOnly D.moment D.since disk now (KeepsFolder first)) result }
+        ensures images { (first : Files) → D.files disk ≡ Some first
+            → LastsAll first (D.leaves disk)
+            → HandsOn (λ now. LeavesOnly D.moment D.since disk now (ComesFrom first)) result }
     {
         let mut disk = disk;
         match recover(alloc, &mut disk, moment) {
@@ -285,8 +300,8 @@ impl<D: Disk> SectionLog<D> {
         ensures disk { result ≡ self.disk }
         ensures stored { IsStored self.id self.sections }
         ensures shown { D.lasted_at result self.opened
-            → ShownSince D.files D.moment D.since D.read_at D.lasted_at result self.opened
-            self.past self.id self.sections }
+            → ShownSince D.files D.moment D.since D.read_at D.lasted_at self.first result
+            self.opened self.past self.id self.sections }
         ensures lasts { D.lasted_at result self.opened
             → LastsNow D.files D.leaves D.read_at D.lasted_at self }
         ensures here { self.is_stopped ≡ false → LastsHere D.files D.leaves self }

@@ -7,7 +7,8 @@
 //! dropped a segment, the changes since are appends alone. They stand in order: a table file behind
 //! the log up to its end, a segment's removal behind its table files. Until the disk has failed its
 //! folder holds just what the store wrote, and what was there at the opening, and the disk has
-//! counted no fault since the opening; once it has failed, the folder does but for one name.
+//! counted no fault since the opening; once it has failed, the folder does but for one name. What
+//! it has counted is of its first entries, files and dropped segments (`IsCountedIn`).
 ghost use Rattle.std.specs.Prelude.{◌≡◌, ◌<◌, ◌≤◌, ◌^◌, [], IfErr, IfOk, Some, false, true};
 ghost use Rattle.clog_io.specs.Causes.{Rose};
 ghost use Rattle.clog_disk.specs.Files.{Files, SameTold, Told};
@@ -15,6 +16,8 @@ ghost use Rattle.clog_disk.specs.Images.{IsLater, LastsAll, LeavesOnly};
 ghost use Rattle.clog_folder.specs.Passing.{IsUntouched, TellsFault};
 ghost use Rattle.clog_crash.specs.Sections.{IsStored};
 ghost use Rattle.path_core.specs.Keeper.{IsFresh};
+ghost use Rattle.clog_store.specs.Dropping.{IsPublished};
+ghost use Rattle.clog_store.specs.Filing.{AreRecoveryPuts, ComesFrom};
 ghost use Rattle.clog_store.specs.Life.{LastsHere, LastsNow, Lives, ShownSince};
 ghost use Rattle.clog_store.specs.Opened.{
   KeepsFolder,
@@ -42,14 +45,19 @@ ghost use Rattle.clog_store.specs.StoreState.{
   store_over,
   told_as,
 };
+ghost use Rattle.clog_store.specs.StoreTakes.{TakesNext};
 
+mod counting;
 mod crossing;
 mod discarding;
 mod keeping;
 mod putting;
 mod syncing;
 mod telling;
+#[cfg(test)]
+mod tests;
 
+use crate::counted::Counted;
 use crate::note_log::NoteLog;
 use crate::publishing::Published;
 use crate::section_log::SectionLog;
@@ -84,9 +92,20 @@ impl Model for StoredFile {
     } };
 }
 
+impl StoredFile {
+    pub(crate) fn interval(&self) -> Published
+        ensures { IsPublished self.now result }
+    {
+        self.interval
+    }
+}
+
 /// A store over a disk.
 #[derive(Drop)]
 pub struct Store<D: Disk> {
+    /// What was counted at the last discard; nothing before the first, and behind want of memory.
+    /// It stands first: `Send` is looked for field by field, each a level deeper than the one before.
+    counted: Option<Counted>,
     notes: NoteLog<D>,
     /// A segment that is dropped gets its archive name first.
     archives: bool,
@@ -102,6 +121,7 @@ pub struct Store<D: Disk> {
 
 impl<D: Disk> Model for Store<D> {
     ghost use Rattle.std.specs.Prelude.{◌≡◌};
+    ghost use Rattle.clog_store.specs.Counting.{IsCountedIn};
     ghost use Rattle.clog_store.specs.NamesLast.{NamesLast};
     ghost use Rattle.clog_store.specs.StoreState.{IsStore, StoreState};
 
@@ -125,7 +145,8 @@ impl<D: Disk> Model for Store<D> {
           dropped = s.dropped.items;
           archived = s.archived.items;
         })
-        × NamesLast D.files D.leaves s.first.value s.notes.log };
+        × NamesLast D.files D.leaves s.first.value s.notes.log
+        × IsCountedIn s.notes.logged s.files.items s.dropped.items s.counted };
 }
 
 // What a path is answered, with the disk's counts of faults at the opening and now.
@@ -147,6 +168,7 @@ impl<D: Disk> Store<D> {
         requires none { log.sections ≡ [] }
         requires none_lasts { log.synced ≡ 0 }
         requires opened { log.opened ≡ D.moment log.disk }
+        requires first { log.first ≡ log.disk }
         requires runs { log.is_stopped ≡ false }
         requires folder { (f : Files) → D.files log.disk ≡ Some f
             → HoldsStore f (fresh_log log.id) (no_deeds archives) f }
@@ -162,6 +184,7 @@ impl<D: Disk> Store<D> {
             files: Vec::new(alloc),
             dropped: Vec::new(alloc),
             archived: Vec::new(alloc),
+            counted: None,
         }
     }
 
@@ -170,9 +193,10 @@ impl<D: Disk> Store<D> {
     /// that the folder named. The moment is one in milliseconds. For each refusal see `recover`; the
     /// disk comes back then.
     ///
-    /// Whatever is answered, each file whose name is no segment's stands as it was, and the folder
-    /// restores the same, and so does each image of a crash meanwhile where all that was there
-    /// lasted before; then all lasts at the opening too.
+    /// Whatever is answered, each file whose name is no segment's stands as it was, what came are
+    /// files that recovery puts, and the folder restores the same. Where all that was there lasted
+    /// before, so does each image of a crash meanwhile, which has no other files either; then all
+    /// lasts at the opening too.
     pub fn open(
         alloc: Global,
         disk: D,
@@ -182,8 +206,10 @@ impl<D: Disk> Store<D> {
     ) -> Result<Store<D>, (D, OpenFault)>
         requires moment { moment < 2 ^ 62 }
         ensures over { IfOk result (λ s. s ≡ store_over s.notes.log sizes archives) }
+        ensures takes { IfOk result TakesNext }
         ensures fresh { IfOk result (λ s. IsFresh s.notes.base sizes
             (holding_of D.files D.changes D.moment D.faults D.row.coded.code s)) }
+        ensures began { IfOk result (λ s. s.notes.log.opened ≡ D.moment s.notes.log.disk) }
         ensures opens { IfOk result (λ s. OpensAs (D.files disk) (D.files s.notes.log.disk) moment
             s.notes.base) }
         ensures quiet { IfOk result (λ s. D.faults s.notes.log.disk ≡ D.faults disk) }
@@ -208,9 +234,14 @@ impl<D: Disk> Store<D> {
             → HandsOver (λ now. Told (D.files now) (KeepsFolder first)) result }
         ensures others { (first : Files) → D.files disk ≡ Some first
             → HandsOver (λ now. Told (D.files now) (OthersStay first)) result }
+        ensures came { (first : Files) → D.files disk ≡ Some first
+            → HandsOver (λ now. Told (D.files now) (AreRecoveryPuts first)) result }
         ensures any_moment { (first : Files) → D.files disk ≡ Some first
             → LastsAll first (D.leaves disk)
             → HandsOver (λ now. LeavesOnly D.moment D.since disk now (KeepsFolder first)) result }
+        ensures images { (first : Files) → D.files disk ≡ Some first
+            → LastsAll first (D.leaves disk)
+            → HandsOver (λ now. LeavesOnly D.moment D.since disk now (ComesFrom first)) result }
     {
         match SectionLog::open(alloc, disk, moment) {
             Ok(log) => Ok(Store::begin(alloc, log, sizes, archives)),
@@ -261,7 +292,7 @@ impl<D: Disk> Store<D> {
         ensures stay { (first now : Files) → D.files self.first ≡ Some first
             → D.files result ≡ Some now → AllStay first now }
         ensures shown { D.lasted_at result self.notes.log.opened
-            → ShownSince D.files D.moment D.since D.read_at D.lasted_at result
+            → ShownSince D.files D.moment D.since D.read_at D.lasted_at self.first result
             self.notes.log.opened self.notes.log.past self.notes.log.id self.notes.log.sections }
         ensures lasts { D.lasted_at result self.notes.log.opened
             → LastsNow D.files D.leaves D.read_at D.lasted_at self.notes.log }

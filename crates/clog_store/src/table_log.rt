@@ -6,6 +6,7 @@ ghost use Rattle.std.specs.Prelude.{
   ◌↔◌,
   ◌⊎◌,
   ◌<◌,
+  ◌≤◌,
   ◌++◌,
   ◌∷◌,
   [],
@@ -14,6 +15,8 @@ ghost use Rattle.std.specs.Prelude.{
   IsTrue,
   IfOk,
   OnOk,
+  length,
+  take,
 };
 ghost use Rattle.std.specs.List.{All};
 ghost use Rattle.clog_spec.specs.Sizes.{most_tables};
@@ -22,39 +25,40 @@ ghost use Rattle.clog_base.specs.Positions.{position_of};
 ghost use Rattle.clog_intervals.specs.Hulls.{IsEmptyOrOf, IsHull};
 ghost use Rattle.clog_intervals.specs.Union.{Holds};
 ghost use Rattle.path_core.specs.Parts.{touches};
+ghost use Rattle.clog_store.specs.Counting.{AreTables, IsTableOf};
 ghost use Rattle.clog_store.specs.Dropping.{
   AreClean,
-  AreFiled,
   AreHulls,
   ArePlaced,
   IsFiledAt,
   IsOfFile,
   IsPlaced,
-  IsTableFiled,
   ends_of,
-  hull_at,
 };
+ghost use Rattle.clog_store.specs.HullRows.{hull_at};
 
+use crate::hulls::Hulls;
 use crate::publishing::Published;
+use crate::store::StoredFile;
 use clog_base::{Key, MOST_TABLES, OutOfMemory, Position, Table};
-use clog_intervals::{Cleans, Hull};
+use clog_intervals::Cleans;
 use path_core::EntryNote;
 use std::alloc::Global;
-use std::collections::BTreeMap;
 
 /// A table's part of the log: what files hold of it, and its hull in the segment of each ordinal.
 #[derive(Drop)]
 pub(crate) struct TableLog {
+    pub hulls: Hulls,
     pub cleans: Cleans,
-    pub hulls: BTreeMap<u64, Hull>,
+    pub table: Table,
 }
 
 // ---- what files hold of a table's log
 
 // The union with a file's interval too, where the file is of the table.
-fn add_file(cleans: &mut Cleans, file: &Published, table: Table) -> Result<(), OutOfMemory>
-    ensures { OnOk result ((at : At) → Holds cleans.new.intervals at
-        ↔ (Holds cleans.old.intervals at ⊎ IsOfFile table.0 file.now at)) }
+fn add_file(cleans: &mut Cleans, file: Published, table: Table) -> Result<(), OutOfMemory>
+    ensures { OnOk result ((at : At) → Holds cleans.new.intervals at ↔ (Holds cleans.old.intervals at
+        ⊎ IsOfFile table.0 file.table.0 file.lower.0 file.upper.0 at)) }
 {
     if file.table.0 != table.0 || file.lower.0 >= file.upper.0 {
         return Ok(());
@@ -62,41 +66,35 @@ fn add_file(cleans: &mut Cleans, file: &Published, table: Table) -> Result<(), O
     cleans.add(file.lower.position(0), file.upper.position(0))
 }
 
-// The union of the intervals of a table's files.
-fn cleans_of(alloc: Global, files: &[Published], table: Table) -> Result<Cleans, OutOfMemory>
-    ensures { IfOk result (λ cleans. AreClean table.0 files.now cleans.intervals) }
+// The union with the intervals of the files from one on too.
+fn add_files(
+    cleans: &mut Cleans,
+    files: &[StoredFile],
+    first: usize,
+    table: Table,
+) -> Result<(), OutOfMemory>
+    requires within { first ≤ length files.now }
+    requires clean { AreClean table.0 (take first files.now) cleans.old.intervals }
+    ensures { OnOk result (AreClean table.0 files.now cleans.new.intervals) }
 {
-    let mut cleans = Cleans::new(alloc);
-    for file in files {
-        add_file(&mut cleans, file, table)?;
+    for index in first..files.len() {
+        add_file(cleans, files[index].interval(), table)?;
     }
-    Ok(cleans)
+    Ok(())
 }
 
 // ---- where a table's log reaches in each segment
 
-fn hull_of(hulls: &BTreeMap<u64, Hull>, ordinal: u64) -> Hull
-    ensures { result ≡ hull_at hulls.now ordinal }
-{
-    match hulls.get(&ordinal) {
-        Some(hull) => *hull,
-        None => Hull::empty(),
-    }
-}
-
 // The hulls with one more position, in the segment of its ordinal.
-fn add_end(hulls: &mut BTreeMap<u64, Hull>, at: Position) -> Result<(), OutOfMemory>
+fn add_end(hulls: &mut Hulls, at: Position) -> Result<(), OutOfMemory>
     requires { IsEmptyOrOf (hull_at hulls.old at.id) at.id }
     ensures here { OnOk result ((ends : List At) → IsHull (hull_at hulls.old at.id) ends
         → IsHull (hull_at hulls.new at.id) (ends ++ at ∷ [])) }
     ensures others { OnOk result ((o : ℕ) → o ≢ at.id → hull_at hulls.new o ≡ hull_at hulls.old o) }
 {
-    let mut hull = hull_of(hulls, at.id);
+    let mut hull = hulls.at(at.id);
     hull.add(at);
-    match hulls.insert(at.id, hull) {
-        Ok(_) => Ok(()),
-        Err(_) => Err(OutOfMemory),
-    }
+    hulls.put(at.id, hull)
 }
 
 // The place of a key, with the segment's ordinal for its id.
@@ -114,11 +112,7 @@ fn is_touching(note: &EntryNote, table: Table) -> bool
 }
 
 // The hulls with one more entry, where it touches the table.
-fn add_entry(
-    hulls: &mut BTreeMap<u64, Hull>,
-    note: &EntryNote,
-    table: Table,
-) -> Result<(), OutOfMemory>
+fn add_entry(hulls: &mut Hulls, note: &EntryNote, table: Table) -> Result<(), OutOfMemory>
     requires table { table.0 < most_tables }
     requires placed { IsPlaced note.now }
     requires own { (o : ℕ) → IsEmptyOrOf (hull_at hulls.old o) o }
@@ -131,65 +125,101 @@ fn add_entry(
     Ok(())
 }
 
-// The hulls of a table's entries in each segment.
-fn hulls_of(
-    alloc: Global,
+// The hulls with the entries from one on too.
+fn add_entries(
+    hulls: &mut Hulls,
     notes: &[EntryNote],
+    first: usize,
     table: Table,
-) -> Result<BTreeMap<u64, Hull>, OutOfMemory>
+) -> Result<(), OutOfMemory>
     requires table { table.0 < most_tables }
     requires placed { ArePlaced notes.now }
-    ensures { IfOk result (AreHulls table.0 notes.now) }
+    requires within { first ≤ length notes.now }
+    requires hulls { AreHulls table.0 (take first notes.now) hulls.old }
+    ensures { OnOk result (AreHulls table.0 notes.now hulls.new) }
 {
-    let mut hulls = BTreeMap::new(alloc);
-    for note in notes {
-        add_entry(&mut hulls, note, table)?;
+    for index in first..notes.len() {
+        add_entry(hulls, &notes[index], table)?;
     }
-    Ok(hulls)
+    Ok(())
 }
 
 // ---- a table, and all tables
 
 impl TableLog {
-    fn of(
-        alloc: Global,
-        notes: &[EntryNote],
-        files: &[Published],
-        table: Table,
-    ) -> Result<TableLog, OutOfMemory>
-        requires table { table.0 < most_tables }
-        requires placed { ArePlaced notes.now }
-        ensures { IfOk result (λ log. (o : ℕ) → IsFiledAt o log
-            ↔ IsTableFiled notes.now files.now table.0 o) }
+    // Nothing of a table; takes no memory.
+    fn empty(alloc: Global, table: Table) -> TableLog
+        requires { table.0 < most_tables }
+        ensures { IsTableOf table.0 [] [] result }
     {
-        let cleans = cleans_of(alloc, files, table)?;
-        let hulls = hulls_of(alloc, notes, table)?;
-        Ok(TableLog { cleans, hulls })
+        TableLog {
+            table,
+            cleans: Cleans::new(alloc),
+            hulls: Hulls::new(alloc),
+        }
+    }
+
+    // With the entries and the files from these on too.
+    fn grow(
+        &mut self,
+        notes: &[EntryNote],
+        first_note: usize,
+        files: &[StoredFile],
+        first_file: usize,
+    ) -> Result<(), OutOfMemory>
+        requires placed { ArePlaced notes.now }
+        requires few_notes { first_note ≤ length notes.now }
+        requires few_files { first_file ≤ length files.now }
+        requires is { IsTableOf self.old.table.0 (take first_note notes.now)
+            (take first_file files.now) self.old }
+        ensures { OnOk result (IsTableOf self.old.table.0 notes.now files.now self.new) }
+    {
+        add_entries(&mut self.hulls, notes, first_note, self.table)?;
+        add_files(&mut self.cleans, files, first_file, self.table)
     }
 
     // Whether files hold the table's part of a segment, from its first position to its last.
     fn is_filed(&self, ordinal: u64) -> bool
         ensures { IsTrue result ↔ IsFiledAt ordinal self.now }
     {
-        self.cleans.covers(&hull_of(&self.hulls, ordinal))
+        self.cleans.covers(&self.hulls.at(ordinal))
     }
 }
 
-/// All tables' parts, in the order of tables.
-pub(crate) fn tables_of(
-    alloc: Global,
-    notes: &[EntryNote],
-    files: &[Published],
-) -> Result<Vec<TableLog>, OutOfMemory>
-    requires { ArePlaced notes.now }
-    ensures { IfOk result (λ tables. (o : ℕ) → All (IsFiledAt o) tables.items
-        ↔ AreFiled most_tables notes.now files.now o) }
+/// All tables' parts of an empty log, in the order of tables.
+pub(crate) fn no_tables(alloc: Global) -> Result<Vec<TableLog>, OutOfMemory>
+    ensures { IfOk result (λ tables. AreTables 0 most_tables [] [] tables.items) }
 {
     let mut tables = Vec::new(alloc);
     for number in 0..MOST_TABLES {
-        tables.push(TableLog::of(alloc, notes, files, Table(number))?)?;
+        tables.push(TableLog::empty(alloc, Table(number)))?;
     }
     Ok(tables)
+}
+
+/// All tables' parts with the entries and the files from these on too.
+pub(crate) fn grown_tables(
+    alloc: Global,
+    tables: Vec<TableLog>,
+    notes: &[EntryNote],
+    first_note: usize,
+    files: &[StoredFile],
+    first_file: usize,
+) -> Result<Vec<TableLog>, OutOfMemory>
+    requires placed { ArePlaced notes.now }
+    requires few_notes { first_note ≤ length notes.now }
+    requires few_files { first_file ≤ length files.now }
+    requires are { AreTables 0 most_tables (take first_note notes.now) (take first_file files.now)
+        tables.items }
+    ensures { IfOk result (λ grown. AreTables 0 most_tables notes.now files.now grown.items) }
+{
+    let mut grown = Vec::new(alloc);
+    for table in tables {
+        let mut log = table;
+        log.grow(notes, first_note, files, first_file)?;
+        grown.push(log)?;
+    }
+    Ok(grown)
 }
 
 /// Whether all tables' files hold their parts of a segment.

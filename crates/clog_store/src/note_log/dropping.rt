@@ -5,9 +5,9 @@ ghost use Rattle.std.specs.Prelude.{
   ◌+◌,
   ℕ,
   Contains,
-  IfOk,
   IfSome,
   IsTrue,
+  OnErr,
   OnOk,
   false,
   length,
@@ -21,7 +21,7 @@ ghost use Rattle.clog_crash.specs.Sections.{segment_bytes};
 ghost use Rattle.path_core.specs.Keeper.{Holding};
 ghost use Rattle.clog_store.specs.Discarding.{DropsBy, DropsButOne, DropsFiles, IsWithin, fault_of};
 ghost use Rattle.clog_store.specs.Discards.{AreDroppable};
-ghost use Rattle.clog_store.specs.Dropping.{AreDue, ArePublished};
+ghost use Rattle.clog_store.specs.Dropping.{AreDue};
 ghost use Rattle.clog_store.specs.Grows.{Writes};
 ghost use Rattle.clog_store.specs.Life.{Lives, LivesOn, ReadsAs};
 ghost use Rattle.clog_store.specs.NamesLast.{NamesGoOn};
@@ -29,13 +29,11 @@ ghost use Rattle.clog_store.specs.NoteLog.{HasLog, IsNoteLog, LeavesOthers};
 ghost use Rattle.clog_store.specs.Stepped.{HasLogCause, Passes, StopsBy};
 ghost use Rattle.clog_store.specs.StoreDrops.{AreEarlier};
 ghost use Rattle.clog_store.specs.StoreFolder.{IsSound};
+ghost use Rattle.clog_store.specs.StoreTakes.{StandsBehind};
 
-use crate::droppable::due_segments;
 use crate::note_log::NoteLog;
-use crate::publishing::Published;
 use crate::section_log::DropFault;
 use crate::written::StoreFault;
-use clog_base::OutOfMemory;
 use clog_disk::Disk;
 use std::alloc::Global;
 
@@ -70,20 +68,6 @@ impl<D: Disk> NoteLog<D> {
         self.log.is_stopped()
     }
 
-    /// The ordinals below `closed` of the segments that a keeper with this log, these files and
-    /// these dropped segments is to drop, ascending.
-    pub(crate) fn due(
-        &self,
-        files: &[Published],
-        dropped: &[u64],
-        closed: u32,
-    ) -> Result<Vec<u64>, OutOfMemory>
-        ensures { (h : Holding) → HasLog self.now h → ArePublished h.files files.now
-            → h.dropped ≡ dropped.now → IfOk result (λ due. AreDue h closed due.items) }
-    {
-        due_segments(self.alloc, &self.logged, &self.kept, files, dropped, closed)
-    }
-
     /// Where the segment at hand is among those that are due, the log goes on behind it.
     pub(crate) fn go_behind(&mut self, due: &[u64]) -> Result<(), StoreFault>
         requires runs { self.old.log.is_stopped ≡ false }
@@ -91,11 +75,14 @@ impl<D: Disk> NoteLog<D> {
             × AreDue h closed due.now }
         ensures same { self.new ≡ record self.old { log = self.new.log } }
         ensures earlier { OnOk result (AreEarlier self.new due.now) }
+        ensures behind { OnOk result (StandsBehind self.old self.new due.now) }
+        ensures still { OnErr result (self.new.log.id ≡ self.old.log.id) }
         ensures others { LeavesOthers self.old.log self.new.log (D.files self.old.log.disk)
             (D.files self.new.log.disk) }
         ensures writes { Writes D.changes self.old.log self.new.log }
         ensures names_last { NamesGoOn D.files D.leaves self.old.log self.new.log }
         ensures opened { self.new.log.opened ≡ self.old.log.opened }
+        ensures first { self.new.log.first ≡ self.old.log.first }
         ensures later { IsLater D.moment D.read_at D.lasted_at self.old.log.disk
             self.new.log.disk }
         ensures cause { HasLogCause self.old.log.is_stopped (D.faults self.old.log.disk)

@@ -23,6 +23,7 @@ ghost use Rattle.clog_store.specs.NoteLog.{BeginsFrom, IsShortOf, LeavesOthers};
 ghost use Rattle.clog_store.specs.NoteSteps.{Enters, GoesOn};
 ghost use Rattle.clog_store.specs.Stepped.{HasLogCause, StopsBy};
 ghost use Rattle.clog_store.specs.StoreFolder.{EndsWithin, IsSound};
+ghost use Rattle.clog_store.specs.StoreTakes.{StillTakes};
 
 use crate::note_log::NoteLog;
 use crate::note_steps::enter;
@@ -47,6 +48,7 @@ impl<D: Disk> NoteLog<D> {
         ensures names_last { NamesGoOn D.files D.leaves self.old.log self.new.log }
         ensures stays { self.old.log.is_stopped ≡ true → self.new ≡ self.old }
         ensures opened { self.new.log.opened ≡ self.old.log.opened }
+        ensures first { self.new.log.first ≡ self.old.log.first }
         ensures later { IsLater D.moment D.read_at D.lasted_at self.old.log.disk self.new.log.disk }
         ensures cause { HasLogCause self.old.log.is_stopped (D.faults self.old.log.disk)
             (D.faults self.new.log.disk) result }
@@ -82,6 +84,7 @@ impl<D: Disk> NoteLog<D> {
         ensures far { OnOk result (EndsWithin self.new.log.id
             (take self.new.log.synced self.new.log.sections)
             (position_of self.new.base upper.0)) }
+        ensures takes { StillTakes self.old self.new }
         ensures others { LeavesOthers self.old.log self.new.log (D.files self.old.log.disk)
             (D.files self.new.log.disk) }
         ensures writes { Writes D.changes self.old.log self.new.log }

@@ -1,5 +1,7 @@
-//! What a log of notes tells of itself: its sizes, and the entries that it has made lasting.
+//! What a log of notes tells of itself: its sizes, the entries that it has made lasting, and those
+//! that it keeps.
 ghost use Rattle.std.specs.Prelude.{◌≡◌};
+ghost use Rattle.clog_store.specs.NoteLog.{IsNoteLog};
 
 use crate::note_log::NoteLog;
 use clog_base::Sizes;
@@ -19,5 +21,13 @@ impl<D: Disk> NoteLog<D> {
         ensures { result.now ≡ self.now.logged }
     {
         &self.logged
+    }
+
+    /// The entries of a sync that was refused, in the order of the log.
+    pub(crate) fn kept(&self) -> &[EntryNote]
+        ensures kept { result.now ≡ self.now.kept }
+        ensures noted { IsNoteLog self.now }
+    {
+        &self.kept
     }
 }

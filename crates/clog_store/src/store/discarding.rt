@@ -8,6 +8,7 @@ ghost use Rattle.std.specs.Prelude.{
   ◌++◌,
   if◌then◌else◌,
   false,
+  true,
   length,
   vec_capacity,
   vec_len,
@@ -18,7 +19,6 @@ ghost use Rattle.std.specs.Prelude.{
 ghost use Rattle.clog_disk.specs.Images.{IsLater};
 ghost use Rattle.path_core.specs.Keeper.{DropRefused, Drops, HasKeeperCause};
 ghost use Rattle.clog_store.specs.Discarding.{IsWithin, fault_of};
-ghost use Rattle.clog_store.specs.Dropping.{ArePublished};
 ghost use Rattle.clog_store.specs.Life.{Lives, LivesOn};
 ghost use Rattle.clog_store.specs.NoteLog.{IsNoteLog};
 ghost use Rattle.clog_store.specs.Stepped.{HasLogCause, StopsBy};
@@ -31,26 +31,15 @@ ghost use Rattle.clog_store.specs.StoreDrops.{
   dropped_by,
 };
 ghost use Rattle.clog_store.specs.StoreState.{HasMoved, holding_of};
+ghost use Rattle.clog_store.specs.StoreTakes.{StandsBehind, TakesBehind};
 
-use crate::publishing::Published;
 use crate::section_log::DropFault;
-use crate::store::{Store, StoredFile, told};
+use crate::store::{Store, told};
 use crate::written::StoreFault;
 use clog_base::OutOfMemory;
 use clog_disk::Disk;
 use path_core::KeeperFault;
-use std::alloc::{AllocError, Global};
-
-// The intervals of table files.
-fn intervals_of(alloc: Global, files: &[StoredFile]) -> Result<Vec<Published>, OutOfMemory>
-    ensures { IfOk result (λ all. ArePublished files.now all.items) }
-{
-    let mut all = Vec::new(alloc);
-    for file in files {
-        all.push(file.interval)?;
-    }
-    Ok(all)
-}
+use std::alloc::AllocError;
 
 // ---- what has gone
 
@@ -124,8 +113,7 @@ impl<D: Disk> Store<D> {
         ensures due { IfOk result (λ due. AreDueIn self.old closed due.items) }
         ensures same { self.new ≡ self.old }
     {
-        let files = intervals_of(self.notes.alloc(), &self.files)?;
-        let due = self.notes.due(&files, &self.dropped, closed)?;
+        let due = self.due_counted(closed)?;
         make_room(&mut self.dropped, &mut self.archived, due.len())?;
         Ok(due)
     }
@@ -135,6 +123,8 @@ impl<D: Disk> Store<D> {
         requires runs { self.old.notes.log.is_stopped ≡ false }
         requires due { (closed : ℕ) × AreDueIn self.old closed due.now }
         ensures earlier { OnOk result (AreEarlier self.new.notes due.now) }
+        ensures behind { OnOk result (StandsBehind self.old.notes self.new.notes due.now) }
+        ensures still { OnErr result (self.new.notes.log.id ≡ self.old.notes.log.id) }
         ensures moved { HasMoved self.old self.new }
         ensures later { IsLater D.moment D.read_at D.lasted_at self.old.notes.log.disk
             self.new.notes.log.disk }
@@ -157,6 +147,9 @@ impl<D: Disk> Store<D> {
         requires runs { self.old.notes.log.is_stopped ≡ false }
         ensures due { IfOk result (λ due. AreDueIn self.old closed due.items) }
         ensures earlier { IfOk result (λ due. AreEarlier self.new.notes due.items) }
+        ensures behind { IfOk result (λ due. StandsBehind self.old.notes self.new.notes
+            due.items) }
+        ensures still { OnErr result (self.new.notes.log.id ≡ self.old.notes.log.id) }
         ensures moved { HasMoved self.old self.new }
         ensures later { IsLater D.moment D.read_at D.lasted_at self.old.notes.log.disk
             self.new.notes.log.disk }
@@ -179,6 +172,7 @@ impl<D: Disk> Store<D> {
         requires due { (closed : ℕ) × AreDueIn self.old closed due.now }
         requires earlier { AreEarlier self.old.notes due.now }
         ensures goes { HasLetGo self.old self.new due.now result }
+        ensures still { self.new.notes.log.id ≡ self.old.notes.log.id }
         ensures later { IsLater D.moment D.read_at D.lasted_at self.old.notes.log.disk
             self.new.notes.log.disk }
         ensures cause { HasLogCause self.old.notes.log.is_stopped
@@ -206,6 +200,7 @@ impl<D: Disk> Store<D> {
             (holding_of D.files D.changes D.moment D.faults D.row.coded.code self.old)
             (holding_of D.files D.changes D.moment D.faults D.row.coded.code self.new) closed
             result }
+        ensures takes { TakesBehind self.old self.new closed result }
         ensures first { self.new.first ≡ self.old.first }
         ensures later { IsLater D.moment D.read_at D.lasted_at self.old.notes.log.disk
             self.new.notes.log.disk }
@@ -228,6 +223,8 @@ impl<D: Disk> Store<D> {
             (holding_of D.files D.changes D.moment D.faults D.row.coded.code self.old)
             (holding_of D.files D.changes D.moment D.faults D.row.coded.code self.new) closed
             result }
+        ensures takes { TakesBehind self.old self.new closed result }
+        ensures stays { self.old.notes.log.is_stopped ≡ true → self.new ≡ self.old }
         ensures first { self.new.first ≡ self.old.first }
         ensures later { IsLater D.moment D.read_at D.lasted_at self.old.notes.log.disk
             self.new.notes.log.disk }
@@ -255,6 +252,10 @@ impl<D: Disk> Store<D> {
     /// `Stopped`: the disk has failed, in this call or in an earlier one, with its counts of faults
     /// at the opening and now. `OutOfMemory`: memory was refused; that for the numbers of segments
     /// is taken before the disk is called. The call may be made again.
+    ///
+    /// Unless the disk has failed, the log stands where it takes what may be written next, if it did
+    /// so before, but for one case: the call was refused and the segment at hand was due. That may
+    /// stay then, and a sync of further notes in it is refused: so make the call again first.
     pub fn drop_due(&mut self, closed: u32) -> Result<u32, KeeperFault>
         ensures drops { IfOk result (Drops
             (holding_of D.files D.changes D.moment D.faults D.row.coded.code self.old)
@@ -267,6 +268,8 @@ impl<D: Disk> Store<D> {
             (holding_of D.files D.changes D.moment D.faults D.row.coded.code self.new) result }
         ensures quiet { self.new.notes.log.is_stopped ≡ false
             → D.faults self.new.notes.log.disk ≡ D.faults self.old.notes.log.disk }
+        ensures takes { TakesBehind self.old self.new closed result }
+        ensures stays { self.old.notes.log.is_stopped ≡ true → self.new ≡ self.old }
         ensures first { self.new.first ≡ self.old.first }
         ensures noted { IsNoteLog self.new.notes }
         ensures later { IsLater D.moment D.read_at D.lasted_at self.old.notes.log.disk

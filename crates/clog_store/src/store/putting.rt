@@ -1,5 +1,5 @@
 //! A store puts table files: a path's publications.
-ghost use Rattle.std.specs.Prelude.{◌≡◌, ◌≤◌, ℕ, IfOk, OnErr, OnOk, false};
+ghost use Rattle.std.specs.Prelude.{◌≡◌, ◌≤◌, ℕ, IfOk, OnErr, OnOk, false, true};
 ghost use Rattle.clog_disk.specs.Images.{IsLater};
 ghost use Rattle.path_core.specs.Keeper.{
   HasKeeperCause,
@@ -19,6 +19,7 @@ ghost use Rattle.clog_store.specs.StoreState.{
   holding_of,
   put_of,
 };
+ghost use Rattle.clog_store.specs.StoreTakes.{GoesOnTaking};
 
 use crate::publishing::Published;
 use crate::store::{Store, StoredFile, told};
@@ -33,10 +34,12 @@ impl<D: Disk> Store<D> {
     fn reach(&mut self, upper: Key) -> Result<(), KeeperFault>
         requires { upper.0 ≤ after self.old.notes.sizes.capacity self.old.notes.synced }
         ensures moved { HasMoved self.old self.new }
+        ensures stays { self.old.notes.log.is_stopped ≡ true → self.new ≡ self.old }
         ensures noted { IsNoteLog self.new.notes }
         ensures far { OnOk result (HasReached self.new.notes upper.0) }
         ensures goes { GoesOn D.files D.moment D.since D.leaves D.read_at D.lasted_at
             self.old.notes.log self.new.notes.log }
+        ensures takes { GoesOnTaking self.old self.new }
         ensures quiet { IsQuiet D.faults self.old.notes.log self.new.notes.log }
         ensures cause { HasKeeperCause
             (holding_of D.files D.changes D.moment D.faults D.row.coded.code self.old)
@@ -49,12 +52,14 @@ impl<D: Disk> Store<D> {
     // The next sequence of a table's files.
     fn next_sequence(&mut self, table: Table) -> Result<u64, KeeperFault>
         ensures moved { HasMoved self.old self.new }
+        ensures stays { self.old.notes.log.is_stopped ≡ true → self.new ≡ self.old }
         ensures noted { IsNoteLog self.new.notes }
         ensures next { IfOk result (IsNextSequence (D.files self.new.notes.log.disk) table) }
         ensures far { (key : ℕ) → HasReached self.old.notes key
             → OnOk result (HasReached self.new.notes key) }
         ensures goes { GoesOn D.files D.moment D.since D.leaves D.read_at D.lasted_at
             self.old.notes.log self.new.notes.log }
+        ensures takes { GoesOnTaking self.old self.new }
         ensures quiet { IsQuiet D.faults self.old.notes.log self.new.notes.log }
         ensures cause { HasKeeperCause
             (holding_of D.files D.changes D.moment D.faults D.row.coded.code self.old)
@@ -83,10 +88,12 @@ impl<D: Disk> Store<D> {
             (holding_of D.files D.changes D.moment D.faults D.row.coded.code self.new)
             (put_of file cells.now)) }
         ensures refused { OnErr result (HasMoved self.old self.new) }
+        ensures stays { self.old.notes.log.is_stopped ≡ true → self.new ≡ self.old }
         ensures first { self.new.first ≡ self.old.first }
         ensures noted { IsNoteLog self.new.notes }
         ensures goes { GoesOn D.files D.moment D.since D.leaves D.read_at D.lasted_at
             self.old.notes.log self.new.notes.log }
+        ensures takes { GoesOnTaking self.old self.new }
         ensures quiet { IsQuiet D.faults self.old.notes.log self.new.notes.log }
         ensures cause { HasKeeperCause
             (holding_of D.files D.changes D.moment D.faults D.row.coded.code self.old)
@@ -113,7 +120,8 @@ impl<D: Disk> Store<D> {
     /// After an error no file counts as put. `Stopped`: the disk has failed, in this call or in an
     /// earlier one, with its counts of faults at the opening and now; the file may be there.
     /// `OutOfMemory`: memory was refused, or no name can have the next sequence of the table; no
-    /// file is there, and the call may be made again.
+    /// file is there, and the call may be made again. Unless the disk has failed, the log stands
+    /// where it takes what may be written next, if it did so before.
     pub fn put_table(
         &mut self,
         table: Table,
@@ -149,6 +157,8 @@ impl<D: Disk> Store<D> {
             (holding_of D.files D.changes D.moment D.faults D.row.coded.code self.new) result }
         ensures quiet { self.new.notes.log.is_stopped ≡ false
             → D.faults self.new.notes.log.disk ≡ D.faults self.old.notes.log.disk }
+        ensures takes { GoesOnTaking self.old self.new }
+        ensures stays { self.old.notes.log.is_stopped ≡ true → self.new ≡ self.old }
         ensures first { self.new.first ≡ self.old.first }
         ensures noted { IsNoteLog self.new.notes }
         ensures later { IsLater D.moment D.read_at D.lasted_at self.old.notes.log.disk

@@ -1,10 +1,11 @@
 //! A store makes entries last: a sync of a path.
-ghost use Rattle.std.specs.Prelude.{◌≡◌, OnErr, OnOk, false};
+ghost use Rattle.std.specs.Prelude.{◌≡◌, OnErr, OnOk, false, true};
 ghost use Rattle.clog_disk.specs.Images.{IsLater};
 ghost use Rattle.path_core.specs.Keeper.{HasKeeperCause, MaySync, SyncRefused, Syncs};
 ghost use Rattle.clog_store.specs.Life.{AllLasts, Lives, LivesOn};
 ghost use Rattle.clog_store.specs.NoteLog.{IsNoteLog};
 ghost use Rattle.clog_store.specs.StoreState.{holding_of};
+ghost use Rattle.clog_store.specs.StoreTakes.{GoesOnTaking};
 
 use crate::store::{Store, told};
 use clog_base::Key;
@@ -19,9 +20,13 @@ impl<D: Disk> Store<D> {
     /// leaves the segment at hand just as it is, whatever lasted at the opening.
     ///
     /// After an error all are pending as before. `Stopped`: the disk has failed, in this call or in
-    /// an earlier one; it has the disk's counts of faults at the opening and now, and each later call
-    /// answers so. `OutOfMemory`: memory was refused; the sections that the disk took stay, and the
-    /// call may be made again.
+    /// an earlier one; it has the disk's counts of faults at the opening and now, and each later
+    /// call answers so and changes nothing. `OutOfMemory`: memory was refused, or a note stands in a
+    /// segment that the log has left; the sections that the disk took stay, and the call may be made
+    /// again.
+    ///
+    /// Unless the disk has failed, the log stands where it takes what may be written next, if it did
+    /// so before.
     pub fn make_lasting(
         &mut self,
         pending: &mut Vec<EntryNote>,
@@ -44,6 +49,8 @@ impl<D: Disk> Store<D> {
             (holding_of D.files D.changes D.moment D.faults D.row.coded.code self.new) result }
         ensures quiet { self.new.notes.log.is_stopped ≡ false
             → D.faults self.new.notes.log.disk ≡ D.faults self.old.notes.log.disk }
+        ensures takes { GoesOnTaking self.old self.new }
+        ensures stays { self.old.notes.log.is_stopped ≡ true → self.new ≡ self.old }
         ensures first { self.new.first ≡ self.old.first }
         ensures noted { IsNoteLog self.new.notes }
         ensures later { IsLater D.moment D.read_at D.lasted_at self.old.notes.log.disk

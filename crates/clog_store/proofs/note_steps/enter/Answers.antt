@@ -9,15 +9,17 @@ returns-clause-goes g c =
     let D = g.D.Disk in
     let mid = c.settle.new.self in
     let settled = c.in_ok-settle.ensures.settles in
+    let of_one = settled_opened c.args.log.now mid c.settle.result c.settle.ensures.settles in
     goes_then D.files D.moment D.since D.leaves D.read_at D.lasted_at c.args.log.now mid
     c.roll.new.self (record {
-      opened = settled_opened c.args.log.now mid c.settle.result c.settle.ensures.settles;
+      opened = of_one.0;
+      first = of_one.1;
       later = c.settle.ensures.later;
       lives = c.settle.ensures.lives;
       names = c.settle.ensures.names_last;
     })
     (goes_rolled D.files D.moment D.since D.leaves D.read_at D.lasted_at mid c.roll.new.self _
-    c.roll.result (g.met.D.Disk.only_now mid.disk) refl refl refl
+    c.roll.result (g.met.D.Disk.only_now mid.disk) refl refl refl refl
     (ap (λ s. s.synced) settled ∙ ap (λ s. length s.sections) (sym settled))
     c.roll.ensures.rolls c.roll.ensures.refused c.roll.ensures.lives)
 

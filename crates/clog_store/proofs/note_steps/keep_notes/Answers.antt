@@ -73,13 +73,16 @@ returns-in-Err-clause-leaves g c =
     refl
 
 pub returns-in-Ok-clause-goes : goal.returns-in-Ok-clause-goes
-returns-in-Ok-clause-goes g c = record {
-  opened = kept_opened c.args.log.now c.keep.new.self c.in-Ok.section c.keep.result
-      c.keep.ensures.keeps;
-  later = c.keep.ensures.later;
-  lives = c.keep.ensures.lives;
-  names = c.keep.ensures.names_last;
-}
+returns-in-Ok-clause-goes g c =
+    let of_one = kept_opened c.args.log.now c.keep.new.self c.in-Ok.section c.keep.result
+    c.keep.ensures.keeps in
+    record {
+      opened = of_one.0;
+      first = of_one.1;
+      later = c.keep.ensures.later;
+      lives = c.keep.ensures.lives;
+      names = c.keep.ensures.names_last;
+    }
 
 pub returns-in-Err-clause-goes : goal.returns-in-Err-clause-goes
 returns-in-Err-clause-goes g c =

@@ -1,7 +1,9 @@
+use Rattle.std.proofs.Common.{◌∙◌}
 use Rattle.clog_store.proofs.NoteGoes.{goes_then, settled_opened}
 use Rattle.clog_store.proofs.NoteLeaves.{leaves_settled, leaves_then}
 use Rattle.clog_store.proofs.NoteSettled.{held_after, ready_after}
 use Rattle.clog_store.proofs.NoteStands.{stands_by}
+use Rattle.clog_store.proofs.NoteTakes.{settled_id}
 use Rattle.clog_store.proofs.note_writing.write_all.Goals as goal
 
 pub returns-in-Ok-clause-held : goal.returns-in-Ok-clause-held
@@ -19,10 +21,12 @@ returns-in-Ok-clause-ready g c =
 pub returns-in-Ok-clause-goes : goal.returns-in-Ok-clause-goes
 returns-in-Ok-clause-goes g c =
     let D = g.D.Disk in
+    let of_one = settled_opened c.write_rest.new.log c.settle.new.self c.settle.result
+    c.settle.ensures.settles in
     goes_then D.files D.moment D.since D.leaves D.read_at D.lasted_at c.args.log.now
     c.write_rest.new.log c.settle.new.self c.write_rest.ensures.goes (record {
-      opened = settled_opened c.write_rest.new.log c.settle.new.self c.settle.result
-          c.settle.ensures.settles;
+      opened = of_one.0;
+      first = of_one.1;
       later = c.settle.ensures.later;
       lives = c.settle.ensures.lives;
       names = c.settle.ensures.names_last;
@@ -46,3 +50,8 @@ returns-in-Ok-clause-stands g c sizes synced logged upto ready =
     stands_by c.args.base c.args.notes.now sizes synced logged c.settle.new.self w w then_.few
     (held_after c.args.base c.args.notes.now c.write_rest.new.log c.settle.new.self w sizes synced
     logged c.settle.result c.settle.ensures.settles then_.held)
+
+pub returns-in-Ok-clause-still : goal.returns-in-Ok-clause-still
+returns-in-Ok-clause-still g c all =
+    settled_id c.write_rest.new.log c.settle.new.self c.settle.result c.settle.ensures.settles
+    ∙ c.write_rest.ensures.still all

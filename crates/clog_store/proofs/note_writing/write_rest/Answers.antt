@@ -1,4 +1,5 @@
-use Rattle.std.proofs.Common.{◌∙◌, refl}
+use Rattle.std.proofs.Common.{◌∙◌, refl, arith}
+use Rattle.std.proofs.lemmas.Bool.Decides.{nat_tests}
 use Rattle.std.specs.Prelude.{Err}
 use Rattle.clog_store.proofs.NoteGoes.{cause_then, goes_still, goes_then}
 use Rattle.clog_store.proofs.NoteLeaves.{leaves_same, leaves_then}
@@ -17,6 +18,8 @@ loop-written-init g c =
           (g.met.D.Disk.only_now log.disk);
       leaves = leaves_same D.files D.changes log log refl refl refl refl refl;
       faults = refl;
+      up = omega arith;
+      still = λ all. refl;
     }
 
 pub write_next-requires-clause-ready : goal.write_next-requires-clause-ready
@@ -45,6 +48,9 @@ loop-written-preserved g c =
       leaves = leaves_then D.files D.changes c.args.log.now c.loop-written.log c.write_next.new.log
           inv.runs inv.leaves c.write_next.ensures.leaves;
       faults = c.in-Ok.ensures.cause.1 ∙ inv.faults;
+      up = omega (arith, inv.up, c.in-Ok.ensures.more);
+      still = λ all.
+          let more = c.loop-written-test.true in absurd (grind (arith, nat_tests));
     }
 
 pub returns-in-Err-clause-held : goal.returns-in-Err-clause-held
@@ -89,3 +95,11 @@ returns-clause-stands g c sizes synced logged upto ready =
     let then_ = c.loop-written.invariant.ready sizes synced logged upto ready in
     stands_by c.args.base c.args.notes.now sizes synced logged c.loop-written.log
     c.loop-written.written c.loop-written.written then_.few then_.held
+
+-- ---- where there was none to come
+
+pub returns-in-Err-clause-still : goal.returns-in-Err-clause-still
+returns-in-Err-clause-still g c all =
+    let up = c.loop-written.invariant.up in
+    let more = c.loop-written-test.true in
+    absurd (grind (arith, nat_tests))

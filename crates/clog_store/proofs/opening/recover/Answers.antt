@@ -26,7 +26,8 @@ use Rattle.clog_store.proofs.OpenedWhole.{
   told_keeps,
 }
 use Rattle.clog_store.proofs.Outcomes.{one_call}
-use Rattle.clog_store.proofs.Recovery.{others_yet}
+use Rattle.clog_store.proofs.ComesFrom.{call_from, lasts_from, then_from, within_from}
+use Rattle.clog_store.proofs.Recovery.{came_of, only_yet, others_of}
 use Rattle.clog_store.proofs.opening.recover.Goals as goal
 
 -- ---- it is not opened
@@ -239,12 +240,67 @@ returns-clause-changes g c first is =
 
 pub returns-in-Err-clause-others : goal.returns-in-Err-clause-others
 returns-in-Err-clause-others g c first is =
-    others_yet first (g.D.Disk.files c.look.new.disk) (c.look.ensures.keeps.same.files ∙ is)
+    let told = g.D.Disk.files c.look.new.disk in
+    others_of first told (only_yet first told (c.look.ensures.keeps.same.files ∙ is))
 
 pub returns-in-Ok-recover_folder-clause-others : goal.returns-in-Ok-recover_folder-clause-others
 returns-in-Ok-recover_folder-clause-others g c first is =
-    c.recover_folder.ensures.others first (c.look.ensures.keeps.same.files ∙ is)
+    others_of first (g.D.Disk.files c.recover_folder.new.disk)
+    (c.recover_folder.ensures.others first (c.look.ensures.keeps.same.files ∙ is))
 
 pub returns-clause-others : goal.returns-clause-others
 returns-clause-others g c first is =
-    c.recover_folder.ensures.others first (c.look.ensures.keeps.same.files ∙ is)
+    others_of first (g.D.Disk.files c.recover_folder.new.disk)
+    (c.recover_folder.ensures.others first (c.look.ensures.keeps.same.files ∙ is))
+
+pub returns-in-Err-clause-came : goal.returns-in-Err-clause-came
+returns-in-Err-clause-came g c first is =
+    let told = g.D.Disk.files c.look.new.disk in
+    came_of first told (only_yet first told (c.look.ensures.keeps.same.files ∙ is))
+
+pub returns-in-Ok-recover_folder-clause-came : goal.returns-in-Ok-recover_folder-clause-came
+returns-in-Ok-recover_folder-clause-came g c first is =
+    came_of first (g.D.Disk.files c.recover_folder.new.disk)
+    (c.recover_folder.ensures.others first (c.look.ensures.keeps.same.files ∙ is))
+
+pub returns-clause-came : goal.returns-clause-came
+returns-clause-came g c first is =
+    came_of first (g.D.Disk.files c.recover_folder.new.disk)
+    (c.recover_folder.ensures.others first (c.look.ensures.keeps.same.files ∙ is))
+
+-- ---- what an image holds
+
+pub returns-in-Err-clause-images : goal.returns-in-Err-clause-images
+returns-in-Err-clause-images g c first is lasts =
+    let D = g.D.Disk in
+    let old = c.args.disk.now in
+    let mid = c.look.new.disk in
+    let from = lasts_from first (D.leaves old) lasts in
+    (call_from D.moment D.since D.leaves first D.read_at D.lasted_at old mid
+    (g.met.D.Disk.only_now old) c.look.ensures.keeps.time from
+    (within_from first (D.leaves old) (D.leaves mid) c.look.ensures.keeps.same.images.fewer
+    from)).meanwhile
+
+pub returns-in-Ok-recover_folder-clause-images : goal.returns-in-Ok-recover_folder-clause-images
+returns-in-Ok-recover_folder-clause-images g c first is lasts =
+    let D = g.D.Disk in
+    let old = c.args.disk.now in
+    let mid = c.look.new.disk in
+    let from = lasts_from first (D.leaves old) lasts in
+    (then_from D.moment D.since D.leaves first old mid c.recover_folder.new.disk
+    (call_from D.moment D.since D.leaves first D.read_at D.lasted_at old mid
+    (g.met.D.Disk.only_now old) c.look.ensures.keeps.time from
+    (within_from first (D.leaves old) (D.leaves mid) c.look.ensures.keeps.same.images.fewer from))
+    (c.recover_folder.ensures.from first (c.look.ensures.keeps.same.files ∙ is))).meanwhile
+
+pub returns-clause-images : goal.returns-clause-images
+returns-clause-images g c first is lasts =
+    let D = g.D.Disk in
+    let old = c.args.disk.now in
+    let mid = c.look.new.disk in
+    let from = lasts_from first (D.leaves old) lasts in
+    (then_from D.moment D.since D.leaves first old mid c.recover_folder.new.disk
+    (call_from D.moment D.since D.leaves first D.read_at D.lasted_at old mid
+    (g.met.D.Disk.only_now old) c.look.ensures.keeps.time from
+    (within_from first (D.leaves old) (D.leaves mid) c.look.ensures.keeps.same.images.fewer from))
+    (c.recover_folder.ensures.from first (c.look.ensures.keeps.same.files ∙ is))).meanwhile

@@ -18,17 +18,18 @@ use Rattle.clog_store.proofs.Changed.{
   then_all,
   then_some,
 }
+use Rattle.clog_store.proofs.ComesFrom.{still_from, then_from}
 use Rattle.clog_store.proofs.Filed.{settled_show}
 use Rattle.clog_store.proofs.Live.{sized}
 use Rattle.clog_store.proofs.PutTables.{all_live, has_put}
 use Rattle.clog_store.proofs.Recovery.{
   begins,
   begins_settled,
-  full_others,
+  full_only,
   full_same,
   if_told_first,
-  others_told,
-  others_yet,
+  only_told,
+  only_yet,
   ready_told,
   recovered_told,
   recovering_told,
@@ -382,11 +383,11 @@ returns-clause-changes g c first is =
 
 pub returns-in_err-ids-clause-others : goal.returns-in_err-ids-clause-others
 returns-in_err-ids-clause-others g c first is =
-    others_yet first (g.D.Disk.files c.args.disk.now) is
+    only_yet first (g.D.Disk.files c.args.disk.now) is
 
 pub returns-in_err-cells-clause-others : goal.returns-in_err-cells-clause-others
 returns-in_err-cells-clause-others g c first is =
-    others_yet first (g.D.Disk.files c.args.disk.now) is
+    only_yet first (g.D.Disk.files c.args.disk.now) is
 
 pub returns-in-Err-clause-others : goal.returns-in-Err-clause-others
 returns-in-Err-clause-others g c first is =
@@ -401,7 +402,7 @@ returns-in-Err-clause-others g c first is =
     let ready = ready_told first (D.files old) is folder c.requires.held names cells top
     c.requires.lists c.in_ok-cells.ensures is_top in
     let mid = c.put_tables.new.disk in
-    full_others first (D.files mid) (c.in-Err.ensures.files first ready
+    full_only first (D.files mid) (c.in-Err.ensures.files first ready
     (begins first (D.files old) is folder c.requires.held cells))
 
 pub returns-in-Ok-take_all_recovered-clause-others :
@@ -420,7 +421,7 @@ returns-in-Ok-take_all_recovered-clause-others g c first is =
     let mid = c.put_tables.new.disk in
     let are = subst (AreSegmentIds (Contains names)) (sym c.deref.ensures.value)
     c.in_ok-ids.ensures in
-    others_told first names cells c.deref.result.now are (D.files mid)
+    only_told first names cells top ready c.deref.result.now are (D.files mid)
     (D.files c.take_all_recovered.new.disk)
     (c.in-Ok.ensures.files first ready
     (begins first (D.files old) is folder c.requires.held cells))
@@ -441,8 +442,74 @@ returns-clause-others g c first is =
     let mid = c.put_tables.new.disk in
     let are = subst (AreSegmentIds (Contains names)) (sym c.deref.ensures.value)
     c.in_ok-ids.ensures in
-    others_told first names cells c.deref.result.now are (D.files mid)
+    only_told first names cells top ready c.deref.result.now are (D.files mid)
     (D.files c.take_all_recovered.new.disk)
     (c.in-Ok.ensures.files first ready
     (begins first (D.files old) is folder c.requires.held cells))
     c.take_all_recovered.ensures.others
+
+-- ---- what an image holds
+
+pub returns-in_err-ids-clause-from : goal.returns-in_err-ids-clause-from
+returns-in_err-ids-clause-from g c first is from =
+    let D = g.D.Disk in
+    still_from D.moment D.since D.leaves first c.args.disk.now
+    (g.met.D.Disk.only_now c.args.disk.now) from
+
+pub returns-in_err-cells-clause-from : goal.returns-in_err-cells-clause-from
+returns-in_err-cells-clause-from g c first is from =
+    let D = g.D.Disk in
+    still_from D.moment D.since D.leaves first c.args.disk.now
+    (g.met.D.Disk.only_now c.args.disk.now) from
+
+pub returns-in-Err-clause-from : goal.returns-in-Err-clause-from
+returns-in-Err-clause-from g c first is from =
+    let D = g.D.Disk in
+    let old = c.args.disk.now in
+    let folder = c.args.folder.now in
+    let names = c.args.names.now in
+    let cells = c.in_ok-cells.cells in
+    let top = c.top_of-top.result in
+    let is_top = subst (λ (hs : List SegmentHeld). IsTop (flat_map payloads_of hs) top)
+    c.as_slice.ensures c.top_of-top.ensures in
+    let ready = ready_told first (D.files old) is folder c.requires.held names cells top
+    c.requires.lists c.in_ok-cells.ensures is_top in
+    c.put_tables.ensures.from first ready
+    (begins first (D.files old) is folder c.requires.held cells) from
+
+pub returns-in-Ok-take_all_recovered-clause-from :
+    goal.returns-in-Ok-take_all_recovered-clause-from
+returns-in-Ok-take_all_recovered-clause-from g c first is from =
+    let D = g.D.Disk in
+    let old = c.args.disk.now in
+    let folder = c.args.folder.now in
+    let names = c.args.names.now in
+    let cells = c.in_ok-cells.cells in
+    let top = c.top_of-top.result in
+    let is_top = subst (λ (hs : List SegmentHeld). IsTop (flat_map payloads_of hs) top)
+    c.as_slice.ensures c.top_of-top.ensures in
+    let ready = ready_told first (D.files old) is folder c.requires.held names cells top
+    c.requires.lists c.in_ok-cells.ensures is_top in
+    then_from D.moment D.since D.leaves first old c.put_tables.new.disk
+    c.take_all_recovered.new.disk
+    (c.put_tables.ensures.from first ready
+    (begins first (D.files old) is folder c.requires.held cells) from)
+    (c.take_all_recovered.ensures.from first)
+
+pub returns-clause-from : goal.returns-clause-from
+returns-clause-from g c first is from =
+    let D = g.D.Disk in
+    let old = c.args.disk.now in
+    let folder = c.args.folder.now in
+    let names = c.args.names.now in
+    let cells = c.in_ok-cells.cells in
+    let top = c.top_of-top.result in
+    let is_top = subst (λ (hs : List SegmentHeld). IsTop (flat_map payloads_of hs) top)
+    c.as_slice.ensures c.top_of-top.ensures in
+    let ready = ready_told first (D.files old) is folder c.requires.held names cells top
+    c.requires.lists c.in_ok-cells.ensures is_top in
+    then_from D.moment D.since D.leaves first old c.put_tables.new.disk
+    c.take_all_recovered.new.disk
+    (c.put_tables.ensures.from first ready
+    (begins first (D.files old) is folder c.requires.held cells) from)
+    (c.take_all_recovered.ensures.from first)

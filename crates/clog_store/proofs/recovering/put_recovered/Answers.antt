@@ -2,7 +2,11 @@ use Rattle.std.proofs.Common.{◌∙◌, ℕ, List, [], Some, sym, ap, subst}
 use Rattle.clog_spec.specs.Names.{table_name_of}
 use Rattle.clog_base.specs.declared.cell.Table.{Table}
 use Rattle.clog_crash.specs.Flush.{IsSameFolder}
+use Rattle.clog_crash.proofs.OneMore.{some_is}
+use Rattle.clog_disk.specs.Images.{TurnsTo}
 use Rattle.clog_store.specs.Beside.{StayButOne}
+use Rattle.clog_store.specs.Filing.{IsRecoveryPut}
+use Rattle.clog_store.proofs.ComesFrom.{call_from, turned_from}
 use Rattle.clog_store.proofs.Recovered.{
   here_show,
   here_for_file,
@@ -59,3 +63,17 @@ returns-clause-others g c =
     c.table_name.ensures
     (stay_put c.table_name.result (Some c.args.bytes.now) (D.files before) (D.files after)
     c.publish.result c.publish.ensures.puts c.publish.ensures.maybe)
+
+pub returns-clause-from : goal.returns-clause-from
+returns-clause-from g c first put from =
+    let D = g.D.Disk in
+    let before = c.args.disk.now in
+    let after = c.publish.new.self in
+    let bytes = c.args.bytes.now in
+    let turns = subst (λ (name : List ℕ).
+    TurnsTo (D.leaves before) (D.leaves after) name (Some bytes)) c.table_name.ensures
+    c.publish.ensures.crash in
+    call_from D.moment D.since D.leaves first D.read_at D.lasted_at before after
+    (g.met.D.Disk.only_now before) c.publish.ensures.time from
+    (turned_from first (D.leaves before) (D.leaves after) _ (Some bytes) turns
+    (λ b is. subst (IsRecoveryPut first _) (some_is bytes b is) put) from)

@@ -20,6 +20,7 @@ use Rattle.clog_disk.proofs.Moments.{started, goes_on_by, later_still}
 use Rattle.clog_disk.proofs.Telling.{same_told_self, same_told_then}
 use Rattle.clog_crash.specs.Flush.{IsSameFolder}
 use Rattle.clog_store.specs.Coming.{IsRecovering, Recovers, AreGone, AreThere, HaveRemoved}
+use Rattle.clog_store.proofs.ComesFrom.{still_from, then_from}
 use Rattle.clog_store.proofs.Recovered.{
   here_show,
   gone_then,
@@ -54,6 +55,8 @@ loop-segment-init g c =
       only = λ first may. started D.moment D.since old (IsSameFolder first) (λ image left.
           here_show first (D.files old) (D.leaves old) c.args.segments.now may image
           (g.met.D.Disk.only_now old image left));
+      from = λ first from. still_from D.moment D.since D.leaves first old
+          (g.met.D.Disk.only_now old) from;
     }
 
 pub returns-in_err-take_recovered-clause-any_moment :
@@ -114,6 +117,8 @@ loop-segment-preserved g c =
           (c.take_recovered.ensures.any_moment first (drop (i + 1) xs)
           (subst (λ (l : List ℕ). IsRecovering first (D.files before) (D.leaves before) l) split
           (c.loop-segment.invariant.may first may)));
+      from = λ first from. then_from D.moment D.since D.leaves first old before after
+          (c.loop-segment.invariant.from first from) (c.take_recovered.ensures.from first);
     }
 
 pub returns-clause-go : goal.returns-clause-go
@@ -183,3 +188,10 @@ returns-in_err-take_recovered-clause-others g c =
     (D.files c.take_recovered.new.disk) (get_or xs i 0)
     (Contains-get_or xs i 0 c.loop-segment-test.true) c.loop-segment.invariant.others
     c.take_recovered.ensures.others
+
+pub returns-in_err-take_recovered-clause-from : goal.returns-in_err-take_recovered-clause-from
+returns-in_err-take_recovered-clause-from g c first from =
+    let D = g.D.Disk in
+    then_from D.moment D.since D.leaves first c.args.disk.now c.loop-segment.disk
+    c.take_recovered.new.disk (c.loop-segment.invariant.from first from)
+    (c.take_recovered.ensures.from first)

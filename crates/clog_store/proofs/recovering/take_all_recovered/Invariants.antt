@@ -4,6 +4,7 @@ use Rattle.clog_disk.specs.Images.{IsLater, LeavesOnly}
 use Rattle.clog_crash.specs.Flush.{IsSameFolder}
 use Rattle.clog_store.specs.Beside.{StayButSegments}
 use Rattle.clog_store.specs.Coming.{IsRecovering, Recovers, AreGone, AreThere, HaveRemoved}
+use Rattle.clog_store.specs.Filing.{LeavesFrom, StaysFrom}
 use Rattle.clog_store.proofs.recovering.take_all_recovered.Given as goal
 
 -- the segments that were yielded are gone, and the others may go
@@ -28,4 +29,6 @@ invariant-loop-segment g l = record {
   only : (first : Files)
       → IsRecovering first (g.D.Disk.files l.fn.disk) (g.D.Disk.leaves l.fn.disk) l.segments
       → LeavesOnly g.D.Disk.moment g.D.Disk.since l.fn.disk l.disk (IsSameFolder first);
+  from : (first : Files) → LeavesFrom first (g.D.Disk.leaves l.fn.disk)
+      → StaysFrom g.D.Disk.moment g.D.Disk.since g.D.Disk.leaves first l.fn.disk l.disk;
 }

@@ -1,6 +1,8 @@
 use Rattle.std.proofs.Common.{ℕ, List, ◌∷◌, None, subst}
+use Rattle.std.proofs.lemmas.Option.{none-some}
 use Rattle.clog_crash.specs.Flush.{IsSameFolder}
 use Rattle.clog_store.specs.Beside.{StayButOne}
+use Rattle.clog_store.proofs.ComesFrom.{call_from, turned_from}
 use Rattle.clog_store.proofs.Recovered.{
   here_show,
   segment_shows,
@@ -48,3 +50,13 @@ returns-clause-others g c =
     c.segment_name.ensures
     (stay_put c.segment_name.result None (D.files before) (D.files after) c.remove.result
     c.remove.ensures.puts c.remove.ensures.maybe)
+
+pub returns-clause-from : goal.returns-clause-from
+returns-clause-from g c first from =
+    let D = g.D.Disk in
+    let before = c.args.disk.now in
+    let after = c.remove.new.self in
+    call_from D.moment D.since D.leaves first D.read_at D.lasted_at before after
+    (g.met.D.Disk.only_now before) c.remove.ensures.time from
+    (turned_from first (D.leaves before) (D.leaves after) c.segment_name.result None
+    c.remove.ensures.crash (λ b is. absurd (none-some b is)) from)

@@ -1,8 +1,10 @@
 use Rattle.std.proofs.Common.{ℕ, ◌+◌, Contains, ap, sym, subst, take}
 use Rattle.std.specs.Prelude.{IfSome}
 use Rattle.clog_crash.specs.Flush.{IsCovered}
+use Rattle.clog_store.specs.Discarding.{fault_of}
 use Rattle.clog_store.specs.NoteLog.{NoteState}
 use Rattle.clog_store.proofs.NamesKept.{names_from}
+use Rattle.clog_store.proofs.NotePasses.{noted_passed}
 use Rattle.clog_store.proofs.note_log.NoteLog.discard.Goals as goal
 
 pub discard-requires-clause-covered : goal.discard-requires-clause-covered
@@ -16,3 +18,18 @@ pub returns-clause-names_last : goal.returns-clause-names_last
 returns-clause-names_last g c =
     names_from g.D.Disk.files g.D.Disk.leaves
     (ap (λ (x : NoteState g.row.D.Denot). x.log) c.self.view_is) c.discard.ensures.names_last
+
+pub invariant_of-self : goal.invariant_of-self
+invariant_of-self g c =
+    let i = c.self.inside in
+    let s : NoteState g.row.D.Denot = record {
+      log = i.log;
+      base = i.base;
+      sizes = i.sizes;
+      synced = i.synced;
+      logged = i.logged.items;
+      kept = i.kept.items;
+      written = i.written;
+    } in
+    noted_passed s c.discard.new.self (fault_of c.discard.result) c.discard.ensures.passes
+    c.self.invariant

@@ -5,6 +5,8 @@ use Rattle.std.proofs.Common.{
   ◌<◌,
   ◌∙◌,
   Contains,
+  inl,
+  inr,
   false,
   refl,
   sym,
@@ -27,6 +29,8 @@ use Rattle.clog_store.proofs.NoteDue.{
 use Rattle.clog_store.proofs.NoteGrows.{grows_same, writes_of}
 use Rattle.clog_store.proofs.NoteLeaves.{leaves_same}
 use Rattle.clog_store.proofs.NamesKept.{names_still}
+use Rattle.clog_store.proofs.NoteTakes.{entered_id, unentered_any}
+use Rattle.clog_store.proofs.StorePuts.{on_any}
 use Rattle.clog_store.proofs.note_log.NoteLog.go_behind.Goals as goal
 
 -- ---- behind the segment at hand
@@ -202,3 +206,44 @@ returns-clause-lives g c lives =
 
 pub returns-clause-names_last : goal.returns-clause-names_last
 returns-clause-names_last g c = names_still g.D.Disk.files g.D.Disk.leaves c.args.self.now.log
+
+-- ---- where it stands
+
+pub returns-then-is_among-clause-behind : goal.returns-then-is_among-clause-behind
+returns-then-is_among-clause-behind g c =
+    let i = c.self.inside in
+    let s : NoteState g.row.D.Denot = record {
+      log = i.log;
+      base = i.base;
+      sizes = i.sizes;
+      synced = i.synced;
+      logged = i.logged.items;
+      kept = i.kept.items;
+      written = i.written;
+    } in
+    let now = c.args.self.now in
+    let runs = subst (λ (x : NoteState g.row.D.Denot). x.log.is_stopped ≡ false)
+    (sym c.self.view_is) c.requires.runs in
+    let low = base_low s c.self.invariant runs in
+    let id : c.id-id.result ≡ now.log.id =
+    c.id-id.ensures.id ∙ ap (λ (x : NoteState g.row.D.Denot). x.log.id) c.self.view_is in
+    let base : i.base ≡ now.base = ap (λ (x : NoteState g.row.D.Denot). x.base) c.self.view_is in
+    on_any c.go_on.result
+    (elim (entered_id now.log c.go_on.new.self.log (c.id-id.result + 1) c.go_on.result
+    c.go_on.ensures.enters) [
+      | inl same ↦ inl same
+      | inr next ↦ inr (
+        c.id-id.result - i.base,
+        c.is_among.ensures.0 c.if-is_among.true,
+        omega (arith, low, c.id-id.ensures.id, id, base),
+        omega (arith, next, id),
+      )
+    ])
+
+pub returns-then-is_among-clause-still : goal.returns-then-is_among-clause-still
+returns-then-is_among-clause-still g c =
+    unentered_any c.args.self.now.log c.go_on.new.self.log (c.id-id.result + 1) c.go_on.result
+    c.go_on.ensures.enters
+
+pub returns-clause-behind : goal.returns-clause-behind
+returns-clause-behind g c = inl refl

@@ -1,6 +1,7 @@
 use Rattle.std.proofs.Common.{◌≡◌, refl, sym, ◌∙◌, ap, subst}
 use Rattle.clog_store.specs.NoteLog.{BeginsFrom, NoteState}
 use Rattle.clog_store.proofs.Lived.{lives_still}
+use Rattle.clog_store.proofs.NoteFrom.{from_on}
 use Rattle.clog_store.proofs.NoteGrows.{grows_same, writes_of}
 use Rattle.clog_store.proofs.NoteLeaves.{leaves_same}
 use Rattle.clog_store.proofs.NoteReaches.{noted_on}
@@ -40,6 +41,8 @@ invariant_of-self g c =
     (subst (λ (x : NoteState g.row.D.Denot). x.written ≡ 0) (sym c.self.view_is) c.requires.none)
     (subst (λ (x : NoteState g.row.D.Denot). BeginsFrom x.base c.args.id x.kept)
     (sym c.self.view_is) c.requires.begins) c.self.invariant c.enter.result c.enter.ensures.enters
+    (from_on i.base i.log c.enter.new.log (g.D.Disk.files i.log.disk)
+    (g.D.Disk.files c.enter.new.log.disk) c.enter.ensures.leaves.rest c.self.invariant.from)
 
 pub returns-then-is_stopped-clause-names_last : goal.returns-then-is_stopped-clause-names_last
 returns-then-is_stopped-clause-names_last g c =

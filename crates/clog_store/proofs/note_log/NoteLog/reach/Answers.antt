@@ -1,10 +1,12 @@
 use Rattle.std.proofs.Common.{◌≡◌, ◌+◌, ℕ, false, refl, sym, ◌∙◌, ap, subst}
 use Rattle.std.proofs.lemmas.Bool.{true≢false}
 use Rattle.clog_store.specs.NoteLog.{BeginsFrom, IsNoteLog, NoteState}
+use Rattle.clog_store.specs.NoteSteps.{Enters}
 use Rattle.clog_store.proofs.NoteGoes.{goes_still}
 use Rattle.clog_store.proofs.NoteGrows.{grows_same, writes_of}
 use Rattle.clog_store.proofs.NoteLeaves.{leaves_same}
 use Rattle.clog_store.proofs.NoteReaches.{begins_next, far_now, none_written}
+use Rattle.clog_store.proofs.NoteTakes.{takes_reached}
 use Rattle.clog_store.proofs.note_log.NoteLog.reach.Goals as goal
 
 -- ---- the log is not called
@@ -75,3 +77,19 @@ go_on-requires-clause-begins g c =
     subst (λ (k : ℕ). BeginsFrom s.base (k + 1) s.kept) id (begins_next s c.args.upper.0 runs
     (subst IsNoteLog c.self.view_is c.self.invariant) c.requires
     (c.is_short_of.ensures.short.0 c.if-not-is_short_of.false))
+
+-- ---- it stands no further than what comes next
+
+pub returns-clause-takes : goal.returns-clause-takes
+returns-clause-takes g c dropped takes still =
+    let s = c.args.self.now in
+    let runs : s.log.is_stopped ≡ false =
+    ap (λ (x : NoteState g.row.D.Denot). x.log.is_stopped) (sym c.self.view_is)
+    ∙ sym c.is_stopped.ensures ∙ c.if-is_stopped.false in
+    let id : c.id-next.result ≡ s.log.id =
+    c.id-next.ensures.id ∙ ap (λ (x : NoteState g.row.D.Denot). x.log.id) c.self.view_is in
+    takes_reached s c.args.upper.0 runs (subst IsNoteLog c.self.view_is c.self.invariant) c.requires
+    (c.is_short_of.ensures.short.0 c.if-not-is_short_of.false) c.go_on.new.self c.go_on.ensures.same
+    c.go_on.result
+    (subst (λ (k : ℕ). Enters s.log c.go_on.new.self.log (k + 1) c.go_on.result) id
+    c.go_on.ensures.enters) dropped takes

@@ -30,8 +30,10 @@ invariant_of-result g c =
       subst (λ (s : StoreState g.row.D.Denot).
           IsStore D.files D.changes D.moment D.faults D.read_at D.lasted_at s) is
           (store_begun D.files D.changes D.moment D.faults D.read_at D.lasted_at log c.args.sizes
-          c.args.archives c.requires.no_past c.requires.none c.requires.opened c.requires.runs
+          c.args.archives c.requires.no_past c.requires.none c.requires.opened
+          c.requires.first c.requires.runs
           c.fault_count-at_open.ensures.sound c.requires.folder),
       subst (λ (s : StoreState g.row.D.Denot). NamesLast D.files D.leaves s.first s.notes.log) is
           (names_at_first D.files D.leaves log),
+      tt,
     )

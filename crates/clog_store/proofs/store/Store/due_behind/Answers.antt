@@ -2,6 +2,7 @@ use Rattle.std.proofs.Common.{ℕ, List, sym, subst}
 use Rattle.clog_store.specs.Life.{LivesOn}
 use Rattle.clog_store.specs.StoreDrops.{AreDueIn, AreEarlier}
 use Rattle.clog_store.specs.StoreState.{StoreState}
+use Rattle.clog_store.specs.StoreTakes.{StandsBehind}
 use Rattle.clog_store.proofs.Lived.{lives_still}
 use Rattle.clog_store.proofs.store.Store.due_behind.Goals as goal
 
@@ -28,3 +29,10 @@ pub returns-clause-earlier : goal.returns-clause-earlier
 returns-clause-earlier g c =
     subst (AreEarlier c.go_behind.new.self.notes) c.deref.ensures.value
     c.in_ok-go_behind.ensures.earlier
+
+pub returns-clause-behind : goal.returns-clause-behind
+returns-clause-behind g c =
+    subst (λ (x : StoreState g.row.D.Denot). StandsBehind x.notes c.go_behind.new.self.notes
+    c.in_ok-due.due.items) c.due_below.ensures.same
+    (subst (StandsBehind c.due_below.new.self.notes c.go_behind.new.self.notes)
+    c.deref.ensures.value c.in_ok-go_behind.ensures.behind)

@@ -1,9 +1,12 @@
 use Rattle.std.proofs.Common.{◌≡◌, ◌∙◌, [], false, refl, sym, ap, subst, append-nil}
+use Rattle.std.specs.Prelude.{OnErr, OnOk}
 use Rattle.std.proofs.lemmas.Bool.{true≢false}
 use Rattle.clog_base.proofs.Members.{nothing_there}
+use Rattle.clog_store.specs.Counting.{IsCountedIn}
 use Rattle.clog_store.specs.NoteLog.{HasLog, NoteState}
 use Rattle.clog_store.specs.StoreDrops.{AreDueIn}
 use Rattle.clog_store.specs.StoreState.{StoreState, holding_of}
+use Rattle.clog_store.specs.StoreTakes.{StandsBehind}
 use Rattle.clog_store.proofs.OrderSyncs.{goes_for_none, settled_same}
 use Rattle.clog_store.proofs.StoreFolds.{folder_failed, folder_with}
 use Rattle.clog_store.proofs.StoreKept.{store_on}
@@ -57,7 +60,7 @@ invariant_of-self g c =
     (sym c.self.view_is) c.requires.runs in (
       c.self.invariant.0,
       store_on D.files D.changes D.moment D.faults D.read_at D.lasted_at s n c.self.invariant.1
-          is.opened is.later is.writes
+          is.opened is.first is.later is.writes
           (λ stopped. absurd (true≢false (sym stopped ∙ runs))) c.go_behind-outcome.result is.cause
           is.stops told.sound
           (λ still. folder_with D.files D.changes D.moment D.faults D.read_at D.lasted_at
@@ -77,4 +80,19 @@ invariant_of-self g c =
           (ap (λ (x : NoteState g.row.D.Denot). x.base) is.same) is.others.past
           (ap (λ (x : NoteState g.row.D.Denot). x.logged) is.same)),
       names_on D.files D.leaves s.first s.notes.log n.log c.self.invariant.2 is.names_last,
+      subst (λ (x : NoteState g.row.D.Denot).
+          IsCountedIn x.logged i.files.items i.dropped.items i.counted) (sym is.same)
+          c.self.invariant.3,
     )
+
+pub returns-clause-behind : goal.returns-clause-behind
+returns-clause-behind g c =
+    subst (λ (x : StoreState g.row.D.Denot). OnOk c.go_behind-outcome.result
+    (StandsBehind x.notes c.go_behind-outcome.new.self c.args.due.now)) c.self.view_is
+    c.go_behind-outcome.ensures.behind
+
+pub returns-clause-still : goal.returns-clause-still
+returns-clause-still g c =
+    subst (λ (x : StoreState g.row.D.Denot). OnErr c.go_behind-outcome.result
+    (c.go_behind-outcome.new.self.log.id ≡ x.notes.log.id)) c.self.view_is
+    c.go_behind-outcome.ensures.still

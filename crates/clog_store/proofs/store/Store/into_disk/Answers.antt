@@ -3,7 +3,7 @@ use Rattle.clog_store.specs.NamesLast.{NamesLast}
 use Rattle.clog_store.specs.StoreFolder.{IsSound}
 use Rattle.clog_store.specs.StoreNames.{RowsLast}
 use Rattle.clog_store.specs.StoreOrder.{AreSettled}
-use Rattle.clog_store.specs.Life.{State}
+use Rattle.clog_store.specs.Life.{ShownSince, State}
 use Rattle.clog_store.specs.StoreFailed.{AllStay}
 use Rattle.clog_store.specs.StoreState.{
   AppendsAlone,
@@ -69,3 +69,18 @@ returns-clause-rows g c =
     subst (λ (x : StoreState g.row.D.Denot). RowsLast D.files D.leaves x) c.self.view_is
     (rows_last D.files D.changes D.moment D.faults D.read_at D.lasted_at D.leaves _
     c.self.invariant.1 c.self.invariant.2)
+
+pub returns-clause-shown : goal.returns-clause-shown
+returns-clause-shown g c =
+    let D = g.D.Disk in
+    let d = c.into_disk.result in
+    let Shown = ShownSince D.files D.moment D.since D.read_at D.lasted_at in
+    let i = c.self.inside.notes.log in
+    subst (λ (x : StoreState g.row.D.Denot). D.lasted_at d x.notes.log.opened
+    → Shown x.first d x.notes.log.opened x.notes.log.past x.notes.log.id x.notes.log.sections)
+    c.self.view_is
+    (λ lasted. subst (λ (f : g.row.D.Denot). Shown f d i.opened i.past i.id i.sections)
+    c.self.invariant.1.began
+    (subst (λ (l : State g.row.D.Denot). D.lasted_at d l.opened
+    → Shown l.first d l.opened l.past l.id l.sections) c.into_log.ensures.log
+    c.into_disk.ensures.shown lasted))

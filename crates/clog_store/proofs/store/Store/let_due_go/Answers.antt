@@ -3,6 +3,7 @@ use Rattle.std.specs.Prelude.{Err, Ok}
 use Rattle.clog_store.specs.Dropping.{AreDue}
 use Rattle.clog_store.specs.StoreDrops.{AreDueIn, AreEarlier}
 use Rattle.clog_store.specs.StoreState.{holding_of}
+use Rattle.clog_store.specs.StoreTakes.{StandsBehind}
 use Rattle.clog_store.proofs.DroppedLists.{few_below}
 use Rattle.clog_store.proofs.Lived.{lives_further}
 use Rattle.clog_store.proofs.StoreDropped.{
@@ -14,6 +15,7 @@ use Rattle.clog_store.proofs.StoreDropped.{
   refused_any,
   some_dropped,
 }
+use Rattle.clog_store.proofs.StoreTaking.{taking_dropped, taking_moved, taking_refused, taking_some}
 use Rattle.clog_store.proofs.store.Store.let_due_go.Goals as goal
 
 pub let_go-requires-clause-due : goal.let_go-requires-clause-due
@@ -117,3 +119,39 @@ returns-clause-lives g c lives =
     let on = c.due_behind.ensures.lives lives in
     lives_further D.files D.moment D.since D.leaves D.read_at D.lasted_at s.notes.log m.notes.log
     t.notes.log lives.began on (c.let_go.ensures.lives on.lives)
+
+-- ---- what comes next is taken
+
+pub returns-in_err-due-clause-takes : goal.returns-in_err-due-clause-takes
+returns-in_err-due-clause-takes g c =
+    taking_refused c.args.self.now c.due_behind.new.self c.args.closed c.from_residual.result
+    c.from_residual.ensures.0 (λ apart. taking_moved c.args.self.now c.due_behind.new.self
+    c.due_behind.ensures.moved c.in_err-due.ensures.still)
+
+pub returns-in_err-let_go-clause-takes : goal.returns-in_err-let_go-clause-takes
+returns-in_err-let_go-clause-takes g c =
+    let s = c.args.self.now in
+    let m = c.due_behind.new.self in
+    let t = c.let_go.new.self in
+    let os = c.deref.result.now in
+    let due = subst (AreDueIn s c.args.closed) (sym c.deref.ensures.value)
+    c.in_ok-due.ensures.due in
+    let behind = subst (StandsBehind s.notes m.notes) (sym c.deref.ensures.value)
+    c.in_ok-due.ensures.behind in
+    taking_refused s t c.args.closed c.from_residual-in_err-let_go.result
+    c.from_residual-in_err-let_go.ensures.0
+    (taking_some {T = Unit {0}} s m t c.args.closed os due c.due_behind.ensures.moved behind
+    (Err c.in_err-let_go.field-0.0) c.in_err-let_go.ensures.goes c.let_go.ensures.still)
+
+pub returns-clause-takes : goal.returns-clause-takes
+returns-clause-takes g c =
+    let s = c.args.self.now in
+    let m = c.due_behind.new.self in
+    let t = c.let_go.new.self in
+    let os = c.deref.result.now in
+    let due = subst (AreDueIn s c.args.closed) (sym c.deref.ensures.value)
+    c.in_ok-due.ensures.due in
+    let behind = subst (StandsBehind s.notes m.notes) (sym c.deref.ensures.value)
+    c.in_ok-due.ensures.behind in
+    taking_dropped {T = Unit {0}} s m t c.args.closed os due c.due_behind.ensures.moved behind
+    c.in_ok-let_go.field-0 c.in_ok-let_go.ensures.goes c.let_go.ensures.still

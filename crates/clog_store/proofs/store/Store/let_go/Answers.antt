@@ -12,11 +12,16 @@ use Rattle.std.proofs.Common.{
   subst,
 }
 use Rattle.std.specs.Prelude.{if◌then◌else◌}
+use Rattle.clog_store.specs.Counting.{IsCountedIn}
 use Rattle.clog_store.specs.Life.{LivesOn, State}
+use Rattle.clog_store.specs.NoteLog.{NoteState}
 use Rattle.clog_store.specs.StoreDrops.{AreDueIn, AreEarlier, HasLetGo}
+use Rattle.clog_store.specs.Stepped.{Passes}
 use Rattle.clog_store.specs.StoreFolder.{with_gone}
 use Rattle.clog_store.specs.StoreState.{IsStore, StoreState, deeds_by}
+use Rattle.clog_store.proofs.HeldSegments.{counted_gone}
 use Rattle.clog_store.proofs.Lived.{lives_still}
+use Rattle.clog_store.proofs.NoteTakes.{passed_id}
 use Rattle.clog_store.proofs.StoreLetGo.{all_covered, droppable, let_go_with, none_let_go}
 use Rattle.clog_store.proofs.NamesKept.{names_on}
 use Rattle.clog_store.proofs.store.Store.let_go.Goals as goal
@@ -106,6 +111,14 @@ invariant_of-self-2 g c =
       c.self.invariant.0,
       both.0,
       names_on D.files D.leaves s.first s.notes.log n.log c.self.invariant.2 is.names_last,
+      subst (λ (l : List ℕ). IsCountedIn n.logged i.files.items l i.counted)
+          (sym (c.add_all.ensures
+          ∙ ap (λ (l : List ℕ). l ++ take c.dropped_by-gone.result os) c.make_room.ensures.a))
+          (counted_gone n.logged i.files.items i.dropped.items
+          (take c.dropped_by-gone.result os) i.counted
+          (subst (λ (x : NoteState g.row.D.Denot).
+          IsCountedIn x.logged i.files.items i.dropped.items i.counted) (sym is.notes)
+          c.self.invariant.3)),
     )
 
 pub returns-clause-goes : goal.returns-clause-goes
@@ -174,6 +187,8 @@ invariant_of-self g c =
           D.lasted_at (record s { archived = l })) (sym c.make_room.ensures.b)
           c.self.invariant.1),
       c.self.invariant.2,
+      subst (λ (l : List ℕ). IsCountedIn i.notes.logged i.files.items l i.counted)
+          (sym c.make_room.ensures.a) c.self.invariant.3,
     )
 
 pub returns-in_err-make_room-clause-goes : goal.returns-in_err-make_room-clause-goes
@@ -204,3 +219,13 @@ returns-in_err-make_room-clause-lives g c lives =
     (sym (ap (λ (x : StoreState g.row.D.Denot). x.notes.log) c.self.view_is))
     (lives_still D.files D.moment D.since D.leaves D.read_at D.lasted_at log
     (g.met.D.Disk.only_now log.disk) lives)
+
+-- ---- it stands where it did
+
+pub returns-clause-still : goal.returns-clause-still
+returns-clause-still g c =
+    let n = c.discard-outcome.new.self in
+    passed_id c.self.inside.notes.log n.log c.fault_of.result
+    (subst (Passes c.self.inside.notes.log n.log) (sym c.fault_of.ensures)
+    c.discard-outcome.ensures.passes)
+    ∙ ap (λ (x : StoreState g.row.D.Denot). x.notes.log.id) c.self.view_is

@@ -1,8 +1,10 @@
-use Rattle.std.proofs.Common.{◌≡◌, ℕ, refl, sym, ◌∙◌, ap₂, subst}
+use Rattle.std.proofs.Common.{true, ◌≡◌, ℕ, refl, sym, ◌∙◌, ap₂, subst}
 use Rattle.std.specs.Prelude.{OnErr, OnOk}
 use Rattle.path_core.specs.Keeper.{HasKeeperCause, MaySync, SyncRefused, Syncs}
 use Rattle.clog_store.specs.Life.{AllLasts}
 use Rattle.clog_store.specs.StoreState.{StoreState, holding_of, told_as}
+use Rattle.clog_store.specs.StoreTakes.{GoesOnTaking}
+use Rattle.clog_store.proofs.HeldSegments.{counted_synced}
 use Rattle.clog_store.proofs.OrderSyncs.{synced_goes, synced_settled}
 use Rattle.clog_store.proofs.StoreFolds.{failed_synced, folder_synced}
 use Rattle.clog_store.proofs.StoreKept.{
@@ -63,8 +65,8 @@ invariant_of-self g c =
     c.args.pending.now.items) (sym c.self.view_is) c.requires in (
       c.self.invariant.0,
       store_on D.files D.changes D.moment D.faults D.read_at D.lasted_at s n
-          c.self.invariant.1 is.opened is.later is.writes is.stays c.sync-outcome.result is.cause
-          is.stops told.sound
+          c.self.invariant.1 is.opened is.first is.later is.writes is.stays
+          c.sync-outcome.result is.cause is.stops told.sound
           (folder_synced D.files D.changes D.moment D.faults D.read_at D.lasted_at
           g.row.D.coded.code g.met.D.Disk.tells_both s n c.self.invariant.1 is.writes is.others
           told.sound told.reads c.args.upto.0 c.args.pending.now.items
@@ -82,6 +84,12 @@ invariant_of-self g c =
           c.sync-outcome.new.pending.items may c.sync-outcome.result is.syncs is.refused
           (D.files s.notes.log.disk) (D.files n.log.disk) is.others),
       names_on D.files D.leaves s.first s.notes.log n.log c.self.invariant.2 is.names_last,
+      counted_synced s n i.counted
+          (synced_goes D.files D.changes D.moment D.faults g.row.D.coded.code s n
+          c.self.invariant.1.order.settled c.args.upto.0 c.args.pending.now.items
+          c.sync-outcome.new.pending.items may c.sync-outcome.result is.syncs is.refused
+          (D.files s.notes.log.disk) (D.files n.log.disk) is.others)
+          c.self.invariant.3,
     )
 
 pub returns-clause-syncs : goal.returns-clause-syncs
@@ -181,3 +189,34 @@ returns-clause-lasts g c =
     c.sync-outcome.result c.told.result says
     (all_last D.files D.leaves n.log c.sync-outcome.result is.stops is.all
     c.fault_count.ensures.here)
+
+pub returns-clause-takes : goal.returns-clause-takes
+returns-clause-takes g c =
+    let i = c.self.inside in
+    let s : StoreState g.row.D.Denot = record {
+      notes = i.notes;
+      archives = i.archives;
+      first = i.first.value;
+      files = i.files.items;
+      dropped = i.dropped.items;
+      archived = i.archived.items;
+    } in
+    let n = c.sync-outcome.new.self in
+    subst (λ (x : StoreState g.row.D.Denot). GoesOnTaking x (record s { notes = n }))
+    c.self.view_is (λ takes still. c.sync-outcome.ensures.takes s.dropped takes still)
+
+pub returns-clause-stays : goal.returns-clause-stays
+returns-clause-stays g c was =
+    let i = c.self.inside in
+    let s : StoreState g.row.D.Denot = record {
+      notes = i.notes;
+      archives = i.archives;
+      first = i.first.value;
+      files = i.files.items;
+      dropped = i.dropped.items;
+      archived = i.archived.items;
+    } in
+    (λ j. record s {
+      notes = c.sync-outcome.ensures.stays (subst (λ (x : StoreState g.row.D.Denot).
+          x.notes.log.is_stopped ≡ true) (sym c.self.view_is) was) j;
+    }) ∙ c.self.view_is

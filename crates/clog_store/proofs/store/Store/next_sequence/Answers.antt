@@ -1,5 +1,6 @@
-use Rattle.std.proofs.Common.{ℕ, sym, ◌∙◌, ap₂, subst}
+use Rattle.std.proofs.Common.{◌≡◌, true, ℕ, sym, ◌∙◌, ap₂, subst}
 use Rattle.path_core.specs.Keeper.{HasKeeperCause}
+use Rattle.clog_store.specs.Counting.{IsCountedIn}
 use Rattle.clog_store.specs.NoteLog.{NoteState}
 use Rattle.clog_store.specs.Stepped.{IsQuiet}
 use Rattle.clog_store.specs.StoreState.{
@@ -10,6 +11,8 @@ use Rattle.clog_store.specs.StoreState.{
   holding_of,
   told_as,
 }
+use Rattle.clog_store.specs.StoreTakes.{GoesOnTaking}
+use Rattle.clog_store.proofs.NoteTakes.{passed_id, takes_moved}
 use Rattle.clog_store.proofs.StoreKept.{keeper_cause, rose_of}
 use Rattle.clog_store.proofs.StorePuts.{
   asked_still,
@@ -50,6 +53,9 @@ invariant_of-self g c =
           c.self.invariant.1 c.next_sequence-outcome.result is.passes is.goes.later is.cause
           is.stops (λ was. sym is.log ∙ is.stays was) is.same)),
       names_on D.files D.leaves s.first s.notes.log n.log c.self.invariant.2 is.goes.names,
+      subst (λ (x : NoteState g.row.D.Denot).
+          IsCountedIn x.logged i.files.items i.dropped.items i.counted) (sym is.log)
+          c.self.invariant.3,
     )
 
 pub returns-clause-moved : goal.returns-clause-moved
@@ -140,3 +146,36 @@ returns-clause-quiet g c =
     let n = c.next_sequence-outcome.new.self in
     subst (λ (x : StoreState g.row.D.Denot). IsQuiet D.faults x.notes.log n.log) c.self.view_is
     (quiet_on D.faults log n.log c.next_sequence-outcome.result is.cause is.stops)
+
+pub returns-clause-takes : goal.returns-clause-takes
+returns-clause-takes g c =
+    let i = c.self.inside in
+    let s : StoreState g.row.D.Denot = record {
+      notes = i.notes;
+      archives = i.archives;
+      first = i.first.value;
+      files = i.files.items;
+      dropped = i.dropped.items;
+      archived = i.archived.items;
+    } in
+    let n = c.next_sequence-outcome.new.self in
+    let is = c.next_sequence-outcome.ensures in
+    subst (λ (x : StoreState g.row.D.Denot). GoesOnTaking x (record s { notes = n }))
+    c.self.view_is (λ takes still. takes_moved s.notes n s.dropped is.log
+    (passed_id s.notes.log n.log c.next_sequence-outcome.result is.passes) takes)
+
+pub returns-clause-stays : goal.returns-clause-stays
+returns-clause-stays g c was =
+    let i = c.self.inside in
+    let s : StoreState g.row.D.Denot = record {
+      notes = i.notes;
+      archives = i.archives;
+      first = i.first.value;
+      files = i.files.items;
+      dropped = i.dropped.items;
+      archived = i.archived.items;
+    } in
+    (λ j. record s {
+      notes = c.next_sequence-outcome.ensures.stays (subst (λ (x : StoreState g.row.D.Denot).
+          x.notes.log.is_stopped ≡ true) (sym c.self.view_is) was) j;
+    }) ∙ c.self.view_is

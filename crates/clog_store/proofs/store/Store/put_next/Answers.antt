@@ -1,5 +1,6 @@
 use Rattle.std.proofs.Common.{rules, ◌≡◌, ◌<◌, ◌^◌, ◌++◌, ◌∷◌, [], List, false, sym, ◌∙◌, ap, subst}
 use Rattle.path_core.specs.Keeper.{MayPublish, PutFile}
+use Rattle.clog_store.specs.Counting.{IsCountedIn}
 use Rattle.clog_store.specs.NoteLog.{IsNoteLog, NoteState}
 use Rattle.clog_store.specs.NoteSteps.{GoesOn}
 use Rattle.std.specs.Prelude.{Err}
@@ -12,6 +13,9 @@ use Rattle.clog_store.specs.StoreState.{
   holding_of,
   put_of,
 }
+use Rattle.clog_store.specs.StoreTakes.{GoesOnTaking, TakesNext}
+use Rattle.clog_store.proofs.NoteTakes.{passed_id, takes_moved}
+use Rattle.clog_store.proofs.HeldSegments.{counted_put}
 use Rattle.clog_store.proofs.NoteGoes.{goes_still}
 use Rattle.clog_store.proofs.NotePasses.{passes_same}
 use Rattle.clog_store.proofs.OrderPuts.{order_put}
@@ -138,6 +142,11 @@ invariant_of-self-in-Err g c =
           g.row.D.coded.code g.met.D.Disk.tells_both s c.self.invariant.1 runs noted c.args.file
           c.args.cells.now may c.args.sequence next far)))),
       names_on D.files D.leaves s.first s.notes.log n.log c.self.invariant.2 is.goes.names,
+      subst (λ (fs : List PutFile). IsCountedIn n.logged fs i.dropped.items i.counted)
+          (sym c.reserve.ensures.items)
+          (subst (λ (x : NoteState g.row.D.Denot).
+          IsCountedIn x.logged i.files.items i.dropped.items i.counted) (sym is.log)
+          c.self.invariant.3),
     )
 
 pub invariant_of-self-in-Ok : goal.invariant_of-self-in-Ok
@@ -193,6 +202,11 @@ invariant_of-self-in-Ok g c =
           next.fits n.log (passes_same s.notes n.log c.put.result is.passes)
           (as_passed s.notes n.log c.put.result is.passes) come.bytes come.spelled come.adds))),
       names_on D.files D.leaves s.first s.notes.log n.log c.self.invariant.2 is.goes.names,
+      subst (λ (fs : List PutFile). IsCountedIn n.logged fs i.dropped.items i.counted) (sym all)
+          (counted_put n.logged i.files.items (put ∷ []) i.dropped.items i.counted
+          (subst (λ (x : NoteState g.row.D.Denot).
+          IsCountedIn x.logged i.files.items i.dropped.items i.counted) (sym is.log)
+          c.self.invariant.3)),
     )
 
 pub returns-in-Ok-clause-quiet : goal.returns-in-Ok-clause-quiet
@@ -212,3 +226,39 @@ returns-in-Err-clause-quiet g c =
     let n = c.put.new.self in
     subst (λ (x : StoreState g.row.D.Denot). IsQuiet D.faults x.notes.log n.log) c.self.view_is
     (quiet_on D.faults log n.log c.put.result is.cause is.stops)
+
+pub returns-in-Ok-clause-takes : goal.returns-in-Ok-clause-takes
+returns-in-Ok-clause-takes g c =
+    let i = c.self.inside in
+    let s : StoreState g.row.D.Denot = record {
+      notes = i.notes;
+      archives = i.archives;
+      first = i.first.value;
+      files = i.files.items;
+      dropped = i.dropped.items;
+      archived = i.archived.items;
+    } in
+    let n = c.put.new.self in
+    subst (λ (x : StoreState g.row.D.Denot). GoesOnTaking x (record s { notes = n }))
+    c.self.view_is (λ takes still. takes_moved s.notes n s.dropped c.put.ensures.log
+    (passed_id s.notes.log n.log c.put.result c.put.ensures.passes) takes)
+
+pub returns-in-Err-clause-takes : goal.returns-in-Err-clause-takes
+returns-in-Err-clause-takes g c =
+    let i = c.self.inside in
+    let s : StoreState g.row.D.Denot = record {
+      notes = i.notes;
+      archives = i.archives;
+      first = i.first.value;
+      files = i.files.items;
+      dropped = i.dropped.items;
+      archived = i.archived.items;
+    } in
+    let n = c.put.new.self in
+    subst (λ (x : StoreState g.row.D.Denot). GoesOnTaking x (record s { notes = n }))
+    c.self.view_is (λ takes still. takes_moved s.notes n s.dropped c.put.ensures.log
+    (passed_id s.notes.log n.log c.put.result c.put.ensures.passes) takes)
+
+pub returns-in_err-reserve-clause-takes : goal.returns-in_err-reserve-clause-takes
+returns-in_err-reserve-clause-takes g c takes still =
+    subst (λ (x : StoreState g.row.D.Denot). TakesNext x) (sym c.self.view_is) takes

@@ -1,5 +1,6 @@
 use Rattle.clog_store.proofs.NoteGoes.{goes_then}
-use Rattle.clog_store.proofs.StorePuts.{may_moved, moved_both, quiet_both}
+use Rattle.clog_store.proofs.StorePuts.{may_moved, moved_both, quiet_both, stays_both}
+use Rattle.clog_store.proofs.StoreTaking.{taking_both}
 use Rattle.clog_store.proofs.store.Store.put_table.Goals as goal
 
 pub put_next-requires-clause-may : goal.put_next-requires-clause-may
@@ -39,3 +40,27 @@ returns-clause-quiet g c still =
     (quiet_both faults log c.next_sequence.new.self.notes.log c.put_next.new.self.notes.log
     (quiet_both faults log c.reach.new.self.notes.log c.next_sequence.new.self.notes.log
     c.reach.ensures.quiet c.next_sequence.ensures.quiet) c.put_next.ensures.quiet still).1
+
+pub returns-in_err-sequence-clause-takes : goal.returns-in_err-sequence-clause-takes
+returns-in_err-sequence-clause-takes g c =
+    taking_both g.D.Disk.faults c.args.self.now c.reach.new.self c.next_sequence.new.self
+    c.reach.ensures.takes c.next_sequence.ensures.quiet c.next_sequence.ensures.takes
+
+pub returns-clause-takes : goal.returns-clause-takes
+returns-clause-takes g c =
+    let faults = g.D.Disk.faults in
+    taking_both faults c.args.self.now c.next_sequence.new.self c.put_next.new.self
+    (taking_both faults c.args.self.now c.reach.new.self c.next_sequence.new.self
+    c.reach.ensures.takes c.next_sequence.ensures.quiet c.next_sequence.ensures.takes)
+    c.put_next.ensures.quiet c.put_next.ensures.takes
+
+pub returns-in_err-sequence-clause-stays : goal.returns-in_err-sequence-clause-stays
+returns-in_err-sequence-clause-stays g c =
+    stays_both c.args.self.now c.reach.new.self c.next_sequence.new.self c.reach.ensures.stays
+    c.next_sequence.ensures.stays
+
+pub returns-clause-stays : goal.returns-clause-stays
+returns-clause-stays g c =
+    stays_both c.args.self.now c.next_sequence.new.self c.put_next.new.self
+    (stays_both c.args.self.now c.reach.new.self c.next_sequence.new.self c.reach.ensures.stays
+    c.next_sequence.ensures.stays) c.put_next.ensures.stays

@@ -1,7 +1,10 @@
-use Rattle.std.proofs.Common.{ℕ, sym, ◌∙◌, ap₂, subst}
+use Rattle.std.proofs.Common.{◌≡◌, true, ℕ, sym, ◌∙◌, ap₂, subst}
 use Rattle.path_core.specs.Keeper.{HasKeeperCause}
+use Rattle.clog_store.specs.Counting.{IsCountedIn}
+use Rattle.clog_store.specs.NoteLog.{NoteState}
 use Rattle.clog_store.specs.Stepped.{IsQuiet}
 use Rattle.clog_store.specs.StoreState.{HasMoved, StoreState, holding_of, told_as}
+use Rattle.clog_store.specs.StoreTakes.{GoesOnTaking}
 use Rattle.clog_store.proofs.StoreKept.{keeper_cause, rose_of}
 use Rattle.clog_store.proofs.StorePuts.{on_told, quiet_on, store_gone_on}
 use Rattle.clog_store.proofs.NamesKept.{names_on}
@@ -24,10 +27,13 @@ invariant_of-self g c =
     let told = c.fault_count.ensures in (
       c.self.invariant.0,
       store_gone_on D.files D.changes D.moment D.faults D.read_at D.lasted_at g.row.D.coded.code
-          g.met.D.Disk.tells_both s n c.self.invariant.1 is.same is.goes.opened is.goes.later
-          is.writes is.others is.stays c.reach-outcome.result is.cause is.stops told.sound
-          told.reads,
+          g.met.D.Disk.tells_both s n c.self.invariant.1 is.same is.goes.opened is.goes.first
+          is.goes.later is.writes is.others is.stays c.reach-outcome.result is.cause is.stops
+          told.sound told.reads,
       names_on D.files D.leaves s.first s.notes.log n.log c.self.invariant.2 is.goes.names,
+      subst (λ (x : NoteState g.row.D.Denot).
+          IsCountedIn x.logged i.files.items i.dropped.items i.counted) (sym is.same)
+          c.self.invariant.3,
     )
 
 pub returns-clause-moved : goal.returns-clause-moved
@@ -101,3 +107,34 @@ returns-clause-quiet g c =
     let n = c.reach-outcome.new.self in
     subst (λ (x : StoreState g.row.D.Denot). IsQuiet D.faults x.notes.log n.log) c.self.view_is
     (quiet_on D.faults log n.log c.reach-outcome.result is.cause is.stops)
+
+pub returns-clause-takes : goal.returns-clause-takes
+returns-clause-takes g c =
+    let i = c.self.inside in
+    let s : StoreState g.row.D.Denot = record {
+      notes = i.notes;
+      archives = i.archives;
+      first = i.first.value;
+      files = i.files.items;
+      dropped = i.dropped.items;
+      archived = i.archived.items;
+    } in
+    let n = c.reach-outcome.new.self in
+    subst (λ (x : StoreState g.row.D.Denot). GoesOnTaking x (record s { notes = n }))
+    c.self.view_is (λ takes still. c.reach-outcome.ensures.takes s.dropped takes still)
+
+pub returns-clause-stays : goal.returns-clause-stays
+returns-clause-stays g c was =
+    let i = c.self.inside in
+    let s : StoreState g.row.D.Denot = record {
+      notes = i.notes;
+      archives = i.archives;
+      first = i.first.value;
+      files = i.files.items;
+      dropped = i.dropped.items;
+      archived = i.archived.items;
+    } in
+    (λ j. record s {
+      notes = c.reach-outcome.ensures.stays (subst (λ (x : StoreState g.row.D.Denot).
+          x.notes.log.is_stopped ≡ true) (sym c.self.view_is) was) j;
+    }) ∙ c.self.view_is

@@ -1,4 +1,6 @@
-use Rattle.std.proofs.Common.{refl}
+use Rattle.std.proofs.Common.{refl, sym, ap, ◌∙◌}
+use Rattle.std.proofs.lemmas.Bool.{true≢false}
+use Rattle.clog_store.specs.StoreState.{StoreState}
 use Rattle.clog_store.proofs.Lived.{lives_still}
 use Rattle.clog_store.proofs.StoreDropped.{none_dropped}
 use Rattle.clog_store.proofs.store.Store.try_drop.Goals as goal
@@ -15,3 +17,9 @@ returns-then-is_stopped-clause-lives g c lives =
     let log = c.args.self.now.notes.log in
     lives_still D.files D.moment D.since D.leaves D.read_at D.lasted_at log
     (g.met.D.Disk.only_now log.disk) lives
+
+pub returns-clause-stays : goal.returns-clause-stays
+returns-clause-stays g c was =
+    absurd (true≢false (sym was
+    ∙ sym (ap (λ (x : StoreState g.row.D.Denot). x.notes.log.is_stopped) c.self.view_is)
+    ∙ sym c.is_stopped.ensures ∙ c.if-is_stopped.false))

@@ -1,0 +1,67 @@
+-- No segment of a log of notes stands below its base.
+use Rattle.std.proofs.Common.{
+  ◌≡◌,
+  ℕ,
+  ◌≤◌,
+  inl,
+  inr,
+  List,
+  [],
+  ◌∷◌,
+  ◌++◌,
+  Option,
+  ◌∙◌,
+  ap,
+  subst,
+  arith,
+  append_assoc,
+}
+use Rattle.std.specs.Prelude.{Contains}
+use Rattle.std.proofs.lemmas.List.Elements.{
+  Contains-append_cases,
+  Contains-append_left,
+  Contains-push,
+}
+use Rattle.clog_base.proofs.Members.{only_one}
+use Rattle.clog_disk.specs.Files.{Files}
+use Rattle.clog_scan.specs.Cut.{Section}
+use Rattle.clog_crash.specs.Log.{Write}
+use Rattle.clog_store.specs.Grows.{segments_with}
+use Rattle.clog_store.specs.Life.{State}
+use Rattle.clog_store.specs.NoteLog.{IsFrom, LeavesOthers}
+
+-- at the beginning
+pub from_first : (id : ℕ) (sections : List Section) (w : Write)
+    → Contains (segments_with [] id sections) w → id ≤ w.id
+from_first id sections w among =
+    let same = ap (λ (x : Write). x.id)
+    (only_one (record { id = id; sections = sections }) w among) in
+    omega (arith, same)
+
+module _ {D : Type 0} (base : ℕ) (before now : State D) where
+  -- nothing of the segments has changed
+  pub from_same : now ≡ record before { disk = now.disk; is_stopped = now.is_stopped }
+      → IsFrom base before → IsFrom base now
+  from_same same from w among =
+      from w (subst (λ (x : State D). Contains (segments_with x.past x.id x.sections) w) same among)
+
+  -- a sync, or a further segment
+  pub from_on : (told told_now : Option Files) → LeavesOthers before now told told_now
+      → IsFrom base before → IsFrom base now
+  from_on told told_now leaves from w among =
+      let hand : List Write = record { id = now.id; sections = now.sections } ∷ [] in
+      let parts : segments_with now.past now.id now.sections
+      ≡ before.past ++ segments_with leaves.more now.id now.sections =
+      ap (λ (l : List Write). l ++ hand) leaves.past
+      ∙ append_assoc before.past leaves.more hand in
+      elim (Contains-append_cases before.past (segments_with leaves.more now.id now.sections) w
+      (subst (λ (l : List Write). Contains l w) parts among)) [
+        | inl old ↦
+            from w (Contains-append_left before.past
+            (record { id = before.id; sections = before.sections } ∷ []) w old)
+        | inr new ↦
+            let low = leaves.later w new in
+            let least = from (record { id = before.id; sections = before.sections })
+            (Contains-push before.past (record { id = before.id; sections = before.sections })) in
+            omega (arith, low, least)
+      ]

@@ -1,0 +1,21 @@
+use Rattle.std.proofs.Common.{ℕ, List, Contains, subst, sym}
+use Rattle.std.specs.Prelude.{◌↔◌}
+use Rattle.path_core.specs.declared.note.EntryNote.{EntryNote}
+use Rattle.clog_store.specs.declared.table_log.TableLog.{TableLog}
+use Rattle.clog_store.specs.Dropping.{ArePicked, HasEntry, IsClosedAndGoes}
+use Rattle.clog_store.proofs.Due.{due_is, if_ok_then}
+use Rattle.clog_store.proofs.counted.Counted.due.Goals as goal
+
+pub returns : goal.returns
+returns c h placed counted kept =
+    let held = c.in_ok-held.held in
+    let other = c.in_ok-kept.kept in
+    if_ok_then c.all_due.result c.all_due.ensures (λ due picked.
+    due_is h placed c.args.closed held other c.args.self.now counted
+    (subst (λ (l : List ℕ). (o : ℕ) → Contains held.keys o ↔ Contains l o)
+    c.deref.ensures.value c.in_ok-held.ensures)
+    (subst (λ (l : List EntryNote). (o : ℕ) → Contains other.keys o ↔ HasEntry l o) (sym kept)
+    c.in_ok-kept.ensures) due.items
+    (subst (λ (l : List TableLog).
+    ArePicked (IsClosedAndGoes l other.keys c.args.closed) held.keys due.items)
+    c.deref-2.ensures.value picked))
