@@ -35,8 +35,11 @@ use Rattle.std.proofs.lemmas.List.{
 }
 use Rattle.std.proofs.lemmas.List.Elements.{Contains-append_left}
 use Rattle.clog_spec.specs.Sizes.{header_size}
+use Rattle.clog_base.specs.declared.cell.Cell.{Cell}
+use Rattle.clog_base.specs.declared.cell.CellKey.{CellKey}
 use Rattle.clog_base.specs.declared.sizes.Sizes.{Sizes}
 use Rattle.clog_base.proofs.Members.{from_map, nothing_there}
+use Rattle.clog_cells.proofs.Merging.{of_same}
 use Rattle.clog_disk.specs.declared.change.Change.{Change}
 use Rattle.clog_mutation.specs.declared.mutation.Mutation.{Mutation}
 use Rattle.clog_scan.specs.Cut.{Section, last_until}
@@ -51,7 +54,7 @@ use Rattle.clog_crash.proofs.rest.Sectioned.{stored_front}
 use Rattle.clog_table.specs.declared.table_file.TableFile.{TableFile}
 use Rattle.path_core.specs.declared.note.EntryNote.{EntryNote}
 use Rattle.path_core.specs.History.{IsHistory}
-use Rattle.path_core.specs.Keeper.{Holding, PutFile}
+use Rattle.path_core.specs.Keeper.{Holding, IsLoggedCell, PutFile}
 use Rattle.clog_store.specs.NoteLog.{HasLog, IsNoteLog}
 use Rattle.clog_store.specs.Notes.{places_of}
 use Rattle.clog_store.specs.OnDisk.{file_on}
@@ -61,9 +64,9 @@ use Rattle.clog_store.specs.StoreState.{HasGrown, HasOrdered, StoreState, deeds_
 use Rattle.clog_store.proofs.OrderGoes.{ordered_appended}
 use Rattle.clog_applied.specs.Appended.{IsAppended}
 use Rattle.clog_applied.specs.Closed.{IsAnyFile}
-use Rattle.clog_applied.specs.Early.{AreInOrder}
+use Rattle.clog_applied.specs.Early.{AreInOrder, AreRunChanges, ComeLast}
 use Rattle.clog_applied.specs.Filed.{IsTrueFor}
-use Rattle.clog_applied.specs.History.{LoggedLine}
+use Rattle.clog_applied.specs.History.{LoggedLine, share_of, written_by}
 use Rattle.clog_layout.specs.Laid.{synced_to}
 use Rattle.clog_layout.specs.Logged.{AreLaidLines, AreNotesOf}
 use Rattle.clog_layout.proofs.Standing.{parted}
@@ -113,6 +116,21 @@ between past id part more count all few whole first =
     (ap (λ (l : List Placed). l ++ behind) (sym parted)
     ∙ sym (placed_more past id part more) ∙ whole) in
     parted ∙ ap (λ (l : List Placed). all ++ l) none ∙ append-nil all
+
+-- ---- cells of a file
+
+-- they are those of the notes, whatever else a keeper holds
+logged_there : (h k : Holding) → h.logged ≡ k.logged → (put : PutFile) (pair : CellKey × Cell)
+    → IsLoggedCell h put pair → IsLoggedCell k put pair
+logged_there h k same put pair c = record {
+  note = c.note;
+  among = subst (λ (l : List EntryNote). Contains l c.note) same c.among;
+  whole = c.whole;
+  listed = c.listed;
+  of_table = c.of_table;
+  above = c.above;
+  up_to = c.up_to;
+}
 
 -- ---- the store
 
@@ -204,7 +222,61 @@ module _ {D : Type 0} (changes : D → Option (List Change)) (b : StoreState D)
         (files_by log_in deeds)
     stands = runs_in_order sizes growth.added log_in deeds history goes
 
-  -- ---- lines that one writer logged, and perhaps files
+    -- which are those of a run
+    pub run_changes : (b.archives ≡ false → b.archived ≡ [])
+        → AreRunChanges b.archives (ids_in log_in) (files_by log_in deeds) growth.added
+    run_changes none_archived = only sizes growth.added log_in deeds history goes none_archived
+
+    -- ---- and perhaps files, which reach as far as the notes
+
+    module _ (settled : AreSettled b.notes b.files)
+        (wide : (put : PutFile) → Contains b.files put
+        → (put.lower ≡ 0) × (put.upper ≡ synced_to b.notes.logged))
+        (low : (n : EntryNote) → Contains b.notes.logged n
+        → n.end.0 ≤ synced_to b.notes.logged) where
+      reaches : (put : PutFile) → Contains b.files put → (n : EntryNote)
+          → Contains b.notes.logged n → n.end.0 ≤ put.upper
+      reaches put among n listed =
+          let end = low n listed in let up = (wide put among).1 in omega (arith, end, up)
+
+      pub comes_last : ComeLast growth.added history
+      comes_last = come_last sizes growth.added log_in deeds history goes reaches
+
+      -- those that were put are true, in the words of a keeper that has logged these notes
+      pub are_true : Holding → (file : TableFile) → Contains (files_by log_in deeds) file
+          → IsTrueFor history file
+      are_true k file listed =
+          let own : Holding = record k {
+            base = b.notes.base;
+            sizes = b.notes.sizes;
+            synced = b.notes.synced;
+            logged = b.notes.logged;
+            kept = b.notes.kept;
+          } in
+          let has : HasLog b.notes own = record {
+            base_is = refl;
+            sizes_are = refl;
+            synced_is = refl;
+            logged_are = refl;
+            kept_are = refl;
+          } in
+          let h : Holding = record k {
+            base = b.notes.base;
+            sizes = sizes;
+            logged = b.notes.logged;
+          } in
+          let p = from_map (file_on b.notes.base) b.files file listed in
+          subst (IsTrueFor history) p.2
+          (is_true h history sizes.within.greatest_capacity in_log are
+          (λ n among. (notes.good n
+          (Contains-append_left b.notes.logged b.notes.kept n among)).whole) p.0
+          (of_same (IsLoggedCell own p.0) (IsLoggedCell h p.0) p.0.cells
+          (λ pair. (
+            logged_there own h refl p.0 pair,
+            logged_there h own refl p.0 pair,
+          )) (settled own has p.0 p.1).merged))
+
+  -- ---- lines that one writer logged
 
   module _ (settled : AreSettled b.notes b.files)
       (wide : (put : PutFile) → Contains b.files put
@@ -223,53 +295,24 @@ module _ {D : Type 0} (changes : D → Option (List Change)) (b : StoreState D)
     its_lines : AreLaidLines b.notes.base mutations b.notes.logged its
     its_lines = lines its_sizes b.notes.base mutations b.notes.logged out
 
-    its_run : GoesInOrder its_sizes growth.added log_in deeds its
-    its_run = goes its_sizes its its_log its_lines.notes
+    -- the last one ends last
+    low : (n : EntryNote) → Contains b.notes.logged n → n.end.0 ≤ synced_to b.notes.logged
+    low n listed =
+        (parted its_sizes its_sizes.within.least_capacity its_sizes.within.greatest_capacity
+        out.raw b.notes.logged out.laid).low n listed
 
-    -- files reach as far as the notes
-    reaches : (put : PutFile) → Contains b.files put → (n : EntryNote)
-        → Contains b.notes.logged n → n.end.0 ≤ put.upper
-    reaches put among n listed =
-        let low = (parted its_sizes its_sizes.within.least_capacity
-        its_sizes.within.greatest_capacity out.raw b.notes.logged out.laid).low n listed in
-        let up = (wide put among).1 in
-        omega (arith, low, up)
-
-    -- the files that were put are true, in the words of a keeper that has logged these notes
-    its_true : (k : Holding) → (file : TableFile) → Contains (files_by log_in deeds) file
-        → IsTrueFor its file
-    its_true k file listed =
-        let h : Holding = record k {
-          base = b.notes.base;
-          sizes = b.notes.sizes;
-          synced = b.notes.synced;
-          logged = b.notes.logged;
-          kept = b.notes.kept;
-        } in
-        let has : HasLog b.notes h = record {
-          base_is = refl;
-          sizes_are = refl;
-          synced_is = refl;
-          logged_are = refl;
-          kept_are = refl;
-        } in
-        let p = from_map (file_on b.notes.base) b.files file listed in
-        subst (IsTrueFor its) p.2
-        (is_true h its its_sizes.within.greatest_capacity its_log its_lines.notes
-        (λ n among. (notes.good n
-        (Contains-append_left b.notes.logged b.notes.kept n among)).whole) p.0
-        (settled h has p.0 p.1).merged)
-
-    pub has_gone : Holding → HasGoneInOrder b.archives mutations growth.added
+    pub has_gone : Holding → HasGoneInOrder b.archives 1 mutations growth.added
     has_gone k = record {
       ids = ids_in log_in;
       history = its;
       files = files_by log_in deeds;
-      by_one = its_lines.by_one;
-      lines = its_lines.lines;
+      known = λ w among. let by = its_lines.by_one w among in omega (arith, by);
+      shares = λ writer less.
+          let zero : 0 ≡ writer = omega (arith, less) in
+          subst (λ (k : ℕ). written_by k its ≡ share_of 1 k mutations) zero its_lines.lines;
       is_appended = brings its_sizes its its_log its_lines.notes;
       order = stands its_sizes its its_log its_lines.notes;
-      only = only its_sizes growth.added log_in deeds its its_run none_archived;
-      last = come_last its_sizes growth.added log_in deeds its its_run reaches;
-      are_true = its_true k;
+      only = run_changes its_sizes its its_log its_lines.notes none_archived;
+      last = comes_last its_sizes its its_log its_lines.notes settled wide low;
+      are_true = are_true its_sizes its its_log its_lines.notes settled wide low k;
     }

@@ -56,7 +56,7 @@ use Rattle.clog_lines.proofs.Showing.{
   of_places,
   payload_at,
   placed_payload,
-  restores_lines,
+  restores_said,
   with_hand,
 }
 
@@ -131,13 +131,13 @@ module _ {D : Type 0} (files : D → Option Files) (changes : D → Option (List
 
     as_shown : (least enough : ℕ) (image : Files)
         → HasShown r least b.past b.id b.sections image → enough ≤ least → NoChances ws image
-        → RestoresLines r mutations enough image
+        → RestoresLines r (take count mutations) enough image
     as_shown least enough image shown le none =
-        restores_lines r mutations notes entries count (entries_in ws) in_all least enough image
+        restores_said r mutations notes entries count (entries_in ws) in_all least enough image
         (shown ws goes_on none) le
 
     pub leaves_lines : (least : ℕ) (archives drain : Bool) → least ≤ lasting_in b
-        → (wrote : HasBrought changes a.disk b.disk archives drain mutations ws)
+        → (wrote : HasBrought changes a.disk b.disk archives drain 1 mutations ws)
         → (GoesBeyond wrote.added → length mutations ≤ lasting_in b)
         → LeavesLines changes moment since leaves a.disk b.disk r archives drain mutations least
     leaves_lines least archives drain le wrote full =
@@ -157,7 +157,7 @@ module _ {D : Type 0} (files : D → Option Files) (changes : D → Option (List
           says = record { count = count; says = in_all };
           meanwhile = weakened moment since a.disk b.disk
               (HasShown r (lasting_in a) b.past b.id b.sections)
-              (λ image. NoChances ws image → RestoresLines r mutations 0 image)
+              (λ image. NoChances ws image → RestoresLines r (take count mutations) 0 image)
               (shown b.id (inl refl)).1
               (λ image h none. as_shown (lasting_in a) 0 image h (omega arith) none);
           at_last = λ image left none.

@@ -49,6 +49,7 @@ use Rattle.clog_layout.proofs.Standing.{each_behind, parted}
 use Rattle.clog_closing.specs.Stores.{dropped_ids, files_by, ids_in}
 use Rattle.clog_closing.proofs.Ends.{ends_with, ids_rise}
 use Rattle.clog_closing.proofs.Logs.{is_appended}
+use Rattle.clog_closing.proofs.NextNames.{next_names}
 use Rattle.clog_lines.specs.Drained.{HasDrained}
 use Rattle.clog_lines.specs.Written.{AreLaidFor, IsAskedBy, TellsWritten}
 use Rattle.clog_lines.proofs.Dropped.{StoresAreLeft, store_files, store_left}
@@ -171,6 +172,8 @@ module _ {D : Type 0} (files : D → Option Files) (changes : D → Option (List
               drained.are drained.by opened now.after is now.files_are);
           undrained = λ none. absurd (true≢false (sym asked.drain_is ∙ none));
           reach = reach;
+          names = next_names opened now.after log deeds (folder opened now.after is now.files_are)
+              sound.below sound.stored.fits;
           lines = lines sizes first_id mutations b.notes.logged out;
           by_line = by_line sizes first_id mutations b.notes.logged out;
           positions = positions sizes first_id mutations b.notes.logged out;

@@ -74,6 +74,7 @@ use Rattle.clog_closing.specs.Logs.{AreStoredInOrder, written_ids}
 use Rattle.clog_closing.proofs.Ends.{ends_with, ids_rise}
 use Rattle.clog_closing.proofs.LogAlone.{is_left}
 use Rattle.clog_closing.proofs.Logs.{is_appended}
+use Rattle.clog_closing.proofs.NextNames.{next_names}
 use Rattle.clog_closing.proofs.Tables.{note_of_line}
 use Rattle.clog_lines.specs.Written.{AreLaidFor, IsAskedBy, TellsWritten}
 use Rattle.clog_lines.proofs.Filing.{AreFilesFor, no_files}
@@ -283,6 +284,8 @@ module _ {D : Type 0} (files : D → Option Files) (changes : D → Option (List
               places said.notes)
               (is_appended later base log.past log.id log.sections b.notes.logged its grows stands
               places said.notes).no_other;
+          names = next_names opened after (log_of b.notes) (no_deeds b.archives) holds sound.below
+              sound.stored.fits;
           lines = said;
           by_line = by_line sizes base mutations b.notes.logged out;
           positions = positions sizes base mutations b.notes.logged out;

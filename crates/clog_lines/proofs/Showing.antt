@@ -47,7 +47,7 @@ use Rattle.clog_mutation.specs.Stored.{IsStored}
 use Rattle.clog_mutation.proofs.Decoding.{one_mutation}
 use Rattle.clog_scan.specs.Cut.{Section}
 use Rattle.clog_scan.specs.Segment.{Entry, entries_of}
-use Rattle.clog_crash.specs.Covering.{Either}
+use Rattle.clog_crash.specs.Covering.{Either, SameMerge}
 use Rattle.clog_crash.specs.Log.{Write, entries_in, logged_in}
 use Rattle.clog_crash.specs.Readings.{IsCellAmong, Reading, RestoresIn}
 use Rattle.clog_crash.specs.Runs.{Placed, placed, placed_log, placed_of}
@@ -181,34 +181,49 @@ first_of n count ms few = (
 module _ (r : Reading) (mutations : List Mutation) (notes : List EntryNote)
     (entries : AreEntriesOf mutations notes) (count : ℕ) (es : List Entry)
     (says : map payload_at es ≡ map payload_of (take count mutations)) where
-  -- an image that restores the first of the entries restores the first of the lines
-  pub restores_lines : (least enough : ℕ) (image : Files) → RestoresFirst r least es image
-      → enough ≤ least → RestoresLines r mutations enough image
-  restores_lines least enough image f le =
-      let long : length es ≡ length (take count mutations) =
-      sym (length-map es payload_at) ∙ ap length says
-      ∙ length-map (take count mutations) payload_of in
+  -- an image that restores the first of the entries restores the first of the lines that they say
+  pub restores_said : (least enough : ℕ) (image : Files) → RestoresFirst r least es image
+      → enough ≤ least → RestoresLines r (take count mutations) enough image
+  restores_said least enough image f le =
+      let said = take count mutations in
+      let long : length es ≡ length said =
+      sym (length-map es payload_at) ∙ ap length says ∙ length-map said payload_of in
       let few = first_of f.n count mutations (omega (arith, f.some, long)) in
-      let first : map payload_at (take f.n es) ≡ map payload_of (take f.n mutations) =
-      sym (take-map payload_at f.n es) ∙ ap (take f.n) says
-      ∙ take-map payload_of f.n (take count mutations) ∙ ap (map payload_of) few.1 in
-      let stored : (m : Mutation) → Contains (take f.n mutations) m → IsStored m = λ m h.
+      let first : map payload_at (take f.n es) ≡ map payload_of (take f.n said) =
+      sym (take-map payload_at f.n es) ∙ ap (take f.n) says ∙ take-map payload_of f.n said in
+      let stored : (m : Mutation) → Contains (take f.n said) m → IsStored m = λ m h.
       each_stored mutations notes entries m
       (subst (λ (l : List Mutation). Contains l m) (take-append-drop f.n mutations)
-      (Contains-append_left (take f.n mutations) (drop f.n mutations) m h)) in
-      let same = same_cells (take f.n es) (take f.n mutations) first stored in
+      (Contains-append_left (take f.n mutations) (drop f.n mutations) m
+      (subst (λ (l : List Mutation). Contains l m) few.1 h))) in
+      let same = same_cells (take f.n es) (take f.n said) first stored in
       record {
         n = f.n;
         enough = omega (arith, le, f.enough);
-        some = few.0;
+        some = omega (arith, f.some, long);
         restores = merge_then (RestoresIn (bytes_at image))
             (Either (RestoresIn r) (IsCellAmong (take f.n es)))
-            (Either (RestoresIn r) (Contains (flat_map cells_of (take f.n mutations)))) f.restores
+            (Either (RestoresIn r) (Contains (flat_map cells_of (take f.n said)))) f.restores
             (exactly (Either (RestoresIn r) (IsCellAmong (take f.n es)))
-            (Either (RestoresIn r) (Contains (flat_map cells_of (take f.n mutations))))
+            (Either (RestoresIn r) (Contains (flat_map cells_of (take f.n said))))
             (λ pair. (
               λ h. elim h [ inl old ↦ inl old | inr new ↦ inr ((same pair).0 new) ],
               λ h. elim h [ inl old ↦ inl old | inr new ↦ inr ((same pair).1 new) ],
             )));
         undamaged = f.undamaged;
+      }
+
+  -- which are the first of all lines
+  pub restores_lines : (least enough : ℕ) (image : Files) → RestoresFirst r least es image
+      → enough ≤ least → RestoresLines r mutations enough image
+  restores_lines least enough image f le =
+      let said = restores_said least enough image f le in
+      let few = first_of said.n count mutations said.some in
+      record {
+        n = said.n;
+        enough = said.enough;
+        some = few.0;
+        restores = subst (λ (l : List Mutation). SameMerge (RestoresIn (bytes_at image))
+            (Either (RestoresIn r) (Contains (flat_map cells_of l)))) few.1 said.restores;
+        undamaged = said.undamaged;
       }

@@ -280,11 +280,11 @@ module _ {D : Type 0} (files : D → Option Files) (changes : D → Option (List
       (sound : IsSound b.notes.log) (mutations : List Mutation)
       (out : AreLaidFor a.notes.sizes mutations laid) where
     abbrev Brought : Type 0
-    Brought = HasBrought changes a.notes.log.disk b.notes.log.disk a.archives drain mutations ws
+    Brought = HasBrought changes a.notes.log.disk b.notes.log.disk a.archives drain 1 mutations ws
 
     -- by these further changes
     brought_by : (growth : HasGrown changes b.first b.notes.log)
-        → AreMadeFor a.archives drain mutations growth.added → Brought
+        → AreMadeFor a.archives drain 1 mutations growth.added → Brought
     brought_by growth made_for = record {
       added = growth.added;
       changes_are = growth.changes_are
@@ -311,7 +311,7 @@ module _ {D : Type 0} (files : D → Option Files) (changes : D → Option (List
         let archives : b.archives ≡ a.archives = ap (λ (o : Opening). o.archives) logged.opening_is
         in brought_by ordered.growth (inr (
           full,
-          subst (λ (x : Bool). HasGoneInOrder x mutations ordered.growth.added) archives
+          subst (λ (x : Bool). HasGoneInOrder x 1 mutations ordered.growth.added) archives
               (has_gone changes b ordered notes sound logged.none_kept settled
               (subst (λ (l : List EntryNote). (put : PutFile) → Contains b.files put
               → (put.lower ≡ 0) × (put.upper ≡ synced_to l)) (sym logged.logged_are) begun.wide)
@@ -354,7 +354,8 @@ module _ {D : Type 0} (files : D → Option Files) (changes : D → Option (List
       (opened : Files) (out : AreLaidFor a.notes.sizes mutations laid)
       (is : files a.notes.log.disk ≡ Some opened)
       (lasted : lasted_at a.notes.log.disk a.notes.log.opened)
-      (has : HasBrought changes a.notes.log.disk b.notes.log.disk a.archives drain mutations ws)
+      (has : HasBrought changes a.notes.log.disk b.notes.log.disk a.archives drain 1 mutations
+      ws)
       (made : AreAppends has.added ⊎ HasLogged (Held a) (Held b) laid)
     where
       abbrev Leaves : ℕ → Type 0

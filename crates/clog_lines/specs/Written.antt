@@ -57,6 +57,7 @@ use Rattle.clog_applied.specs.History.{LoggedLine, logged_at, share_of, written_
 use Rattle.clog_applied.specs.Onward.{ReachesNoFurther}
 use Rattle.clog_applied.specs.Printed.{AreByLine}
 use Rattle.clog_closing.specs.Logs.{id_of}
+use Rattle.clog_closing.specs.NextNames.{HaveNextNames}
 use Rattle.clog_layout.specs.Laid.{AreLaid}
 use Rattle.clog_layout.specs.Logged.{AreEntriesOf, AreLaidLines}
 
@@ -86,35 +87,37 @@ pub record IsWrittenBy (appends : List Append) (log : List Write) : Type 0 where
   pub only : (a : Append) → Contains appends a
       → (w : Write) × Contains log w × (0 < length w.sections) × (a.0 ≡ segment_name_of 6 w.id)
 
--- Changes by which a drain has begun: the entries of all lines were appended, by one writer and in
--- order, and then some table files have come, which are true, and segments gone, each in its turn.
--- Nothing else was changed.
-pub record HasGoneInOrder (archives : Bool) (mutations : List Mutation) (changes : List Change)
-    : Type 0 where
+-- Changes by which a drain has begun: the entries of all lines were appended, each by its writer and
+-- each writer's in order, and then some table files have come, which are true, and segments gone,
+-- each in its turn. Nothing else was changed.
+pub record HasGoneInOrder (archives : Bool) (writers : ℕ) (mutations : List Mutation)
+    (changes : List Change) : Type 0 where
   pub ids : List ℕ
   pub history : List LoggedLine
   pub files : List TableFile
-  pub by_one : (w : LoggedLine) → Contains history w → w.writer ≡ 0
-  pub lines : written_by 0 history ≡ share_of 1 0 mutations
+  pub known : (w : LoggedLine) → Contains history w → w.writer < writers
+  pub shares : (writer : ℕ) → writer < writers
+      → written_by writer history ≡ share_of writers writer mutations
   pub is_appended : IsAppended changes ids history
   pub order : AreInOrder IsAnyFile archives changes ids history files
   pub only : AreRunChanges archives ids files changes
   pub last : ComeLast changes history
   pub are_true : (file : TableFile) → Contains files file → IsTrueFor history file
 
--- Changes by which lines are written: appends alone, or those of a drain that has begun.
-abbrev pub AreMadeFor : Bool → Bool → List Mutation → List Change → Type 0
-AreMadeFor archives drain mutations changes =
-    AreAppends changes ⊎ ((drain ≡ true) × HasGoneInOrder archives mutations changes)
+-- Changes by which writers log lines: appends alone, or those of a drain that has begun.
+abbrev pub AreMadeFor : Bool → Bool → ℕ → List Mutation → List Change → Type 0
+AreMadeFor archives drain writers mutations changes =
+    AreAppends changes ⊎ ((drain ≡ true) × HasGoneInOrder archives writers mutations changes)
 
 -- The appends among a disk's further changes since it was so have brought these segments. The
--- changes write the lines.
+-- changes are those by which so many writers log the lines.
 pub record HasBrought {D : Type 0} (changes : D → Option (List Change)) (before now : D)
-    (archives drain : Bool) (mutations : List Mutation) (log : List Write) : Type 0 where
-  pub added : List Change
-  pub changes_are : changes now ≡ option_map (λ made. made ++ added) (changes before)
-  pub made_for : AreMadeFor archives drain mutations added
-  pub brought : IsWrittenBy (appends_of added) log
+    (archives drain : Bool) (writers : ℕ) (mutations : List Mutation) (log : List Write) : Type 0
+  where
+    pub added : List Change
+    pub changes_are : changes now ≡ option_map (λ made. made ++ added) (changes before)
+    pub made_for : AreMadeFor archives drain writers mutations added
+    pub brought : IsWrittenBy (appends_of added) log
 
 -- Where a disk tells its files, no other name has come since than those of these segments, their
 -- archive names and table files.
@@ -129,22 +132,23 @@ pub record GoesBeyond (changes : List Change) : Type 0 where
   pub other : IsAppend change → ⊥
 
 -- The segments that were written, which say the first of these lines. What a crash leaves since a
--- disk was so, and what it leaves of it now, where nothing passes by chance for what was written.
--- Where the changes go beyond appends, all lines last.
+-- disk was so, and what it leaves of it now, where nothing passes by chance for what was written: no
+-- other lines than those that they say. Where the changes go beyond appends, all lines last.
 pub record LeavesLines {D : Type 0} (changes : D → Option (List Change)) (moment : D → ℕ)
     (since : D → ℕ → Files → Type 0) (leaves : D → List ℕ → Option (List ℕ) → Type 0)
     (before now : D) (r : Reading) (archives drain : Bool) (mutations : List Mutation)
     (least : ℕ) : Type 0
   where
     pub log : List Write
-    pub wrote : HasBrought changes before now archives drain mutations log
+    pub wrote : HasBrought changes before now archives drain 1 mutations log
     pub says : SaysFirst log mutations
     pub meanwhile : LeavesOnly moment since before now
-        (λ image. NoChances log image → RestoresLines r mutations 0 image)
+        (λ image. NoChances log image → RestoresLines r (take says.count mutations) 0 image)
     pub at_last : (image : Files) → IsImage (leaves now) image → NoChances log image
-        → RestoresLines r mutations least image
+        → RestoresLines r (take says.count mutations) least image
     pub at_drain : GoesBeyond wrote.added → (image : Files) → IsImage (leaves now) image
-        → NoChances log image → RestoresLines r mutations (length mutations) image
+        → NoChances log image
+        → RestoresLines r (take says.count mutations) (length mutations) image
 
 -- so many lines last for sure
 abbrev pub least_of : {T : Type 0} → Result T KeeperFault → List Mutation → ℕ
@@ -180,8 +184,9 @@ pub record HasWritten (options : ApplyOptions) (base : ℕ) (opened after : File
   pub store : IsStoreLeft options.archive opened after later ids dropped history files
   pub undrained : options.drain ≡ false → (dropped ≡ []) × (files ≡ [])
   pub lines : AreLaidLines base mutations notes history
-  -- how far it reaches
+  -- how far it reaches, in ids and in sequences
   pub reach : ReachesNoFurther options base later ids history files
+  pub names : HaveNextNames opened after files
   -- each line once, in order, and where its entry stands
   pub by_line : AreByLine history (length mutations) history
   pub positions : map logged_at history ≡ map (λ (n : EntryNote). position_of base n.end.0) notes

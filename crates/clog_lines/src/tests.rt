@@ -15,7 +15,10 @@ use std::test::Fail;
 /// Key `ab`, one update: table 0, column `cd`, timestamp 5, a deletion: 20 bytes.
 const DELETION: &[u8] = b"\x00\x02ab\x00\x01\x00\x00\x02cd\x00\x00\x00\x00\x00\x00\x00\x05\x00";
 
-/// The same, but a value, up to its length.
+/// The same in table 1.
+const OTHER: &[u8] = b"\x00\x02ab\x00\x01\x01\x00\x02cd\x00\x00\x00\x00\x00\x00\x00\x05\x00";
+
+/// That of table 0, but a value, up to its length.
 const VALUE: &[u8] =
     b"\x00\x02ab\x00\x01\x00\x00\x02cd\x00\x00\x00\x00\x00\x00\x00\x05\x01\x00\x00";
 
@@ -164,5 +167,16 @@ fn a_drain_that_archives_leaves_the_segment_besides(rt: HostRuntime) -> Result<(
     assert_eq!(rt; disk.list()?.as_slice(), names.as_slice());
     let bytes = disk.read(&archive_name(1000), 0, 1000)?;
     assert_eq!(rt; bytes.as_slice(), BOTH.as_slice());
+    Ok(())
+}
+
+#[test]
+fn a_drained_segment_of_two_tables_goes_behind_both_their_files(
+    rt: HostRuntime,
+) -> Result<(), Fail> {
+    let lines = lines_of(rt.alloc(), [DELETION, OTHER].as_slice())?;
+    let mut disk = written_to(rt.alloc(), lines.as_slice(), 33554432, false, true)?;
+    let names = [table_name(Table(0), 1), table_name(Table(1), 1)];
+    assert_eq!(rt; disk.list()?.as_slice(), names.as_slice());
     Ok(())
 }

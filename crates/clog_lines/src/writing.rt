@@ -69,7 +69,7 @@ pub fn write_lines<D: Disk>(
         (bytes_at opened) store.archives drain mutations (least_of result.1 mutations) }
     ensures wrote { (mutations : List Mutation) → AreLaidFor store.notes.sizes mutations notes.items
         → (log : List Write) × HasBrought D.changes store.notes.log.disk result.0 store.archives
-        drain mutations log × BringsOnly D.files store.notes.log.disk result.0 log }
+        drain 1 mutations log × BringsOnly D.files store.notes.log.disk result.0 log }
     ensures stay { (opened now : Files) → D.files store.notes.log.disk ≡ Some opened
         → D.files result.0 ≡ Some now → AllStay opened now }
     ensures told { SameTold (D.files store.notes.log.disk) (D.files result.0) }

@@ -23,27 +23,40 @@ use Rattle.clog_disk.specs.Files.{Files, SameTold}
 use Rattle.clog_mutation.specs.declared.mutation.Mutation.{Mutation}
 use Rattle.clog_crash.specs.Grown.{appends_of}
 use Rattle.clog_crash.specs.Log.{Write}
+use Rattle.path_core.specs.declared.note.EntryNote.{EntryNote}
 use Rattle.path_core.specs.Keeper.{Holding}
-use Rattle.clog_store.specs.Grows.{segments_with}
+use Rattle.clog_store.specs.Grows.{AreAppends, segments_with}
 use Rattle.clog_store.specs.NoteLog.{IsNoteLog}
-use Rattle.clog_store.specs.StoreFolder.{IsSound}
+use Rattle.clog_store.specs.StoreFolder.{IsSound, log_of}
+use Rattle.clog_store.specs.StoreOrder.{AreSettled}
 use Rattle.clog_store.specs.StoreState.{
   AppendsAlone,
   HasGrown,
   HasOrdered,
+  HoldsItButOne,
   StoreState,
   deeds_by,
   holding_of,
   store_over,
 }
+use Rattle.clog_layout.specs.Laid.{synced_to}
 use Rattle.clog_closing.specs.Stores.{files_by, ids_in}
-use Rattle.clog_lines.specs.Drained.{HasNoDeeds, KeepsLog}
-use Rattle.clog_lines.proofs.Begun.{brings, log_in, stands}
+use Rattle.clog_closing.proofs.StoreNames.{brings_but_one}
+use Rattle.clog_lines.specs.Drained.{HasBegun, HasNoDeeds, KeepsLog}
+use Rattle.clog_lines.specs.Written.{AreMadeFor, BringsOnly, HasBrought, HasGoneInOrder}
+use Rattle.clog_lines.proofs.Begun.{
+  are_true,
+  brings,
+  comes_last,
+  log_in,
+  run_changes,
+  stands,
+}
 use Rattle.clog_lines.proofs.Brought.{written_by}
 use Rattle.clog_lines.proofs.Synced.{none_done}
 use Rattle.clog_lines.proofs.Written.{told_of}
 use Rattle.clog_writers.specs.Logged.{GoesOnAlone, HoldFirsts, HoldShares, LogsShares}
-use Rattle.clog_writers.specs.Written.{AreMadeFor, BringsShares, HasGoneInOrder}
+use Rattle.clog_writers.proofs.LastEnd.{up_to_last}
 use Rattle.clog_writers.proofs.Leaving.{history, its_writer, lines, shares}
 
 -- A store that goes on alone from one that was just opened has the same disk at its opening.
@@ -89,8 +102,31 @@ module _ {D : Type 0} (files : D → Option Files) (changes : D → Option (List
   firsts_on writers ms = subst (HoldFirsts writers ms)
       (sym (ap (λ (h : Holding). h.logged ++ h.kept) keeps))
 
+  -- how far its drain has come
+  pub begun_on : (drain : Bool) (P Q : Type 0)
+      → HasNoDeeds (Held e)
+      ⊎ ((drain ≡ true) × P × HasBegun (Held e) (synced_to b.notes.logged)) → (P → Q)
+      → HasNoDeeds (Held e)
+      ⊎ ((drain ≡ true) × Q × HasBegun (Held e) (synced_to e.notes.logged))
+  begun_on drain P Q begun so = elim begun [
+    | inl none ↦ inl none
+    | inr part ↦ inr (
+      part.0,
+      so part.1,
+      subst (λ (l : List EntryNote). HasBegun (Held e) (synced_to l))
+          (sym (ap (λ (h : Holding). h.logged) keeps)) part.2,
+    )
+  ]
+
   abbrev pub ws : List Write
   ws = segments_with e.notes.log.past e.notes.log.id e.notes.log.sections
+
+  -- names that have come, also where its disk has failed
+  pub brings_only : HoldsItButOne files e
+      → BringsOnly files a.notes.log.disk e.notes.log.disk ws
+  brings_only left opened after is now =
+      brings_but_one opened (log_of e.notes) (deeds_by e) after
+      (left opened after (ap files its_disk ∙ is) now)
 
   module _ (growth : HasGrown changes e.first e.notes.log) where
     changed : changes e.notes.log.disk
@@ -107,7 +143,7 @@ module _ {D : Type 0} (files : D → Option Files) (changes : D → Option (List
 
     brought_by : (archives drain : Bool) (writers : ℕ) (ms : List Mutation)
         → AreMadeFor archives drain writers ms growth.added
-        → BringsShares changes a.notes.log.disk e.notes.log.disk archives drain writers ms ws
+        → HasBrought changes a.notes.log.disk e.notes.log.disk archives drain writers ms ws
     brought_by archives drain writers ms made_for = record {
       added = growth.added;
       changes_are = changed;
@@ -119,24 +155,33 @@ module _ {D : Type 0} (files : D → Option Files) (changes : D → Option (List
   -- ---- whatever was answered
 
   module _ (appends : AppendsAlone changes e) (ordered : HasOrdered changes e)
-      (notes : IsNoteLog e.notes) (sound : IsSound e.notes.log) (drain : Bool) (sizes : Sizes)
-      (base : ℕ) (ms : List Mutation) where
+      (settled : AreSettled e.notes e.files) (notes : IsNoteLog e.notes)
+      (sound : IsSound e.notes.log) (drain : Bool) (sizes : Sizes) (base : ℕ)
+      (ms : List Mutation) where
     abbrev pub Brings : Type 0
     Brings =
-        BringsShares changes a.notes.log.disk e.notes.log.disk a.archives drain sizes.writers ms ws
+        HasBrought changes a.notes.log.disk e.notes.log.disk a.archives drain sizes.writers ms ws
 
-    by_appends : HasNoDeeds (Held e) → Brings
+    -- by appends alone, or all lines are logged
+    abbrev pub IsBrought : Type 0
+    IsBrought = (has : Brings) × (AreAppends has.added ⊎ LogsShares sizes base ms (Held e))
+
+    by_appends : HasNoDeeds (Held e) → IsBrought
+    unfolding brought_by
     by_appends none =
-        let has = appends (none_done files changes moment faults coded.code e none) in
-        brought_by has.growth a.archives drain sizes.writers ms (inl has.alone)
+        let has = appends (none_done files changes moment faults coded.code e none) in (
+          brought_by has.growth a.archives drain sizes.writers ms (inl has.alone),
+          inl has.alone,
+        )
 
-    has_gone : LogsShares sizes base ms (Held e)
+    has_gone : LogsShares sizes base ms (Held e) → HasBegun (Held e) (synced_to e.notes.logged)
         → HasGoneInOrder e.archives sizes.writers ms ordered.growth.added
-    has_gone logs =
+    has_gone logs begun =
         let of = e.notes.base in
         let h = logs.notes in
         let its = history sizes of ms e.notes.logged h in
         let are = lines sizes of ms e.notes.logged h in
+        let low = up_to_last sizes.capacity e.notes.logged h.lawful in
         record {
           ids = ids_in (log_in changes e ordered notes sound logs.none_kept);
           history = its;
@@ -146,16 +191,29 @@ module _ {D : Type 0} (files : D → Option Files) (changes : D → Option (List
           is_appended =
               brings changes e ordered notes sound logs.none_kept sizes its h.lawful are;
           order = stands changes e ordered notes sound logs.none_kept sizes its h.lawful are;
+          only = run_changes changes e ordered notes sound logs.none_kept sizes its h.lawful are
+              begun.none_archived;
+          last = comes_last changes e ordered notes sound logs.none_kept sizes its h.lawful are
+              settled begun.wide low;
+          are_true = are_true changes e ordered notes sound logs.none_kept sizes its h.lawful are
+              settled begun.wide low (Held e);
         }
 
-    pub brings_shares : HasNoDeeds (Held e) ⊎ ((drain ≡ true) × LogsShares sizes base ms (Held e))
-        → Brings
+    by_drain : drain ≡ true → LogsShares sizes base ms (Held e)
+        → HasBegun (Held e) (synced_to e.notes.logged) → IsBrought
+    by_drain full logs begun = (
+      brought_by ordered.growth a.archives drain sizes.writers ms (inr (
+        full,
+        subst (λ (x : Bool). HasGoneInOrder x sizes.writers ms ordered.growth.added)
+            its_archives (has_gone logs begun),
+      )),
+      inr logs,
+    )
+
+    pub brings_shares : HasNoDeeds (Held e)
+        ⊎ ((drain ≡ true) × LogsShares sizes base ms (Held e)
+        × HasBegun (Held e) (synced_to e.notes.logged)) → IsBrought
     brings_shares begun = elim begun [
       | inl none ↦ by_appends none
-      | inr part ↦
-          brought_by ordered.growth a.archives drain sizes.writers ms (inr (
-            part.0,
-            subst (λ (x : Bool). HasGoneInOrder x sizes.writers ms ordered.growth.added)
-                its_archives (has_gone part.1),
-          ))
+      | inr part ↦ by_drain part.0 part.1 part.2
     ]

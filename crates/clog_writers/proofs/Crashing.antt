@@ -37,7 +37,8 @@ use Rattle.std.proofs.lemmas.List.Elements.{
 use Rattle.clog_base.proofs.Members.{further, here}
 use Rattle.clog_disk.specs.declared.change.Change.{Change}
 use Rattle.clog_disk.specs.Files.{Files, SameTold, bytes_at}
-use Rattle.clog_disk.specs.Images.{IsImage, IsLater, SinceThen}
+use Rattle.clog_disk.specs.Images.{IsImage, IsLater, LeavesOnly}
+use Rattle.clog_disk.proofs.Moments.{weakened}
 use Rattle.clog_disk.proofs.Telling.{told_some}
 use Rattle.clog_mutation.specs.declared.mutation.Mutation.{Mutation}
 use Rattle.clog_mutation.specs.Payload.{payload_of}
@@ -68,6 +69,7 @@ use Rattle.clog_layout.specs.Logged.{AreEntriesOf, AreNotesOf}
 use Rattle.clog_layout.proofs.Lines.{are_notes, lines_for}
 use Rattle.clog_closing.proofs.Logs.{payload_is, places_are}
 use Rattle.clog_closing.proofs.Tables.{note_of_line}
+use Rattle.clog_lines.specs.Written.{GoesBeyond, HasBrought}
 use Rattle.clog_lines.proofs.Showing.{
   noted_payload,
   of_log,
@@ -87,7 +89,6 @@ use Rattle.clog_writers.specs.Left.{
 use Rattle.clog_writers.specs.Logged.{
   HoldFirsts,
 }
-use Rattle.clog_writers.specs.Written.{BringsShares}
 use Rattle.clog_writers.proofs.FirstLogged.{shown_held}
 use Rattle.clog_writers.proofs.Histories.{shares_are}
 
@@ -241,7 +242,7 @@ module _ {D : Type 0} (s : NoteState D) (is : IsNoteLog s)
       (same : SameTold (files first) (files s.log.disk)) (opened : Files)
       (at_first : files first ≡ Some opened) (lasted : lasted_at first (moment first))
       (shown : lasted_at s.log.disk s.log.opened
-      → ShownSince files moment since read_at lasted_at s.log.disk s.log.opened s.log.past
+      → ShownSince files moment since read_at lasted_at first s.log.disk s.log.opened s.log.past
       s.log.id s.log.sections)
       (lasts : lasted_at s.log.disk s.log.opened → LastsNow files leaves read_at lasted_at s.log)
     where
@@ -264,18 +265,17 @@ module _ {D : Type 0} (s : NoteState D) (is : IsNoteLog s)
           ((later.lasted_then (moment first) (omega arith)).1 lasted)
 
       pub leaves_shares : (archives drain : Bool) (least : ℕ) → least ≤ lasting_in s.log
-          → BringsShares changes first s.log.disk archives drain writers ms ws
+          → (wrote : HasBrought changes first s.log.disk archives drain writers ms ws)
+          → (GoesBeyond wrote.added → length ms ≤ lasting_in s.log)
           → LeavesShares changes moment since leaves first s.log.disk r archives drain writers ms
           least
-      leaves_shares archives drain least le wrote =
+      leaves_shares archives drain least le wrote full =
           let Shown = HasShown r 0 s.log.past s.log.id s.log.sections in
           let then = at_both (files s.log.disk) (read_at s.log.disk s.log.opened) (λ f q.
           (at : ℕ) → MayGoOnIn s.log.id s.log.sections at
-          → SinceThen moment since s.log.opened s.log.disk
+          → LeavesOnly moment since first s.log.disk
           (HasShown q 0 s.log.past at s.log.sections)) now.0 r (shown still) now.1 read
           s.log.id (inl refl) in
-          let since_first = subst (λ (t : ℕ). SinceThen moment since t s.log.disk Shown) opened_is
-          then in
           let last = at_both (files s.log.disk) (read_at s.log.disk s.log.opened) (λ f q.
           (at : ℕ) → MayGoOnIn s.log.id s.log.sections at → (image : Files)
           → IsImage (leaves s.log.disk) image
@@ -286,11 +286,12 @@ module _ {D : Type 0} (s : NoteState D) (is : IsNoteLog s)
             history = history;
             wrote = wrote;
             says = says;
-            meanwhile = record {
-              later = since_first.later;
-              each = λ image was none.
-                  as_shown r 0 0 image (since_first.each image was) (omega arith) none;
-            };
+            meanwhile = weakened moment since first s.log.disk Shown
+                (λ image. NoChances ws image → RestoresShares r history 0 image) then
+                (λ image was none. as_shown r 0 0 image was (omega arith) none);
             at_last = λ image left none.
                 as_shown r (lasting_in s.log) least image (last image left) le none;
+            at_drain = λ beyond image left none.
+                as_shown r (lasting_in s.log) (length ms) image (last image left) (full beyond)
+                none;
           }

@@ -27,6 +27,7 @@ use Rattle.std.proofs.Common.{
   get_or-set_other,
   length-set,
 }
+use Rattle.std.specs.Prelude.{Err}
 use Rattle.std.specs.List.{filter}
 use Rattle.std.proofs.lemmas.Bool.{eq-eqb, ne_eqb}
 use Rattle.std.proofs.lemmas.List.{get_or_default, length_push}
@@ -34,13 +35,18 @@ use Rattle.std.proofs.lemmas.List.Elements.{filter-append}
 use mathlib.Core.Logic.{dite}
 use native.Mathlib.Decide.{ℕ_discrete}
 use Rattle.clog_base.specs.declared.sizes.Sizes.{Sizes}
+use Rattle.clog_base.proofs.Members.{all_more}
 use Rattle.clog_mutation.specs.declared.mutation.Mutation.{Mutation}
 use Rattle.clog_applied.specs.History.{Line, is_for, numbered, share_of}
 use Rattle.clog_applied.proofs.Lists.{kept_one, left_one}
+use Rattle.clog_lines.specs.Fitting.{HasFittingEntry}
 use Rattle.write_path.specs.declared.prepared.Prepared.{Prepared}
 use Rattle.write_path.specs.Writes.{IsPrepared}
+use Rattle.clog_writers.specs.declared.fault.PlanFault.{PlanFault}
+use Rattle.clog_writers.specs.declared.fault.PlanFault.TheVariants.{OutOfMemory, TooLarge}
 use Rattle.clog_writers.specs.declared.worker.Worker.{Worker}
 use Rattle.clog_writers.specs.Crews.{AreDealt}
+use Rattle.clog_writers.specs.Planned.{AllFit, PlanRefused, PreparesLine}
 use Rattle.clog_writers.specs.Shares.{ArePrepared}
 
 -- ---- lists
@@ -153,23 +159,30 @@ module _ {K : Type 0} (sizes : Sizes) where
             (dealt.each i d (subst (λ (n : ℕ). i < n) (length-set ws at now) there))));
       }
 
-  -- The first lines are dealt out.
+  -- The first lines are dealt out, and each of them fits.
   pub record DealsOut (all rest : List Mutation) (line : ℕ) (ws : List (Worker K)) : Type 0 where
     pub done : List Mutation
     pub parts : all ≡ done ++ rest
     pub line_is : line ≡ length done
     pub dealt : AreDealt sizes done ws
+    pub fit : AllFit sizes done
 
   pub begins_dealing : (all : List Mutation) (ws : List (Worker K)) → AreDealt sizes [] ws
       → DealsOut all all 0 ws
-  begins_dealing all ws dealt = record { done = []; parts = refl; line_is = refl; dealt = dealt }
+  begins_dealing all ws dealt = record {
+    done = [];
+    parts = refl;
+    line_is = refl;
+    dealt = dealt;
+    fit = tt;
+  }
 
   pub deals_one : (all rest : List Mutation) (m : Mutation) (line : ℕ) (ws now : List (Worker K))
-      → DealsOut all (m ∷ rest) line ws
+      → DealsOut all (m ∷ rest) line ws → HasFittingEntry sizes.capacity m
       → ((done : List Mutation) → AreDealt sizes done ws → line + 1 ≡ length done + 1
       → AreDealt sizes (done ++ m ∷ []) now)
       → DealsOut all rest (line + 1) now
-  deals_one all rest m line ws now d more =
+  deals_one all rest m line ws now d fits more =
       let is = d.line_is in
       let long = length_push d.done m in
       record {
@@ -177,9 +190,27 @@ module _ {K : Type 0} (sizes : Sizes) where
         parts = d.parts ∙ sym (append_assoc d.done (m ∷ []) rest);
         line_is = omega (arith, is, long);
         dealt = more d.done d.dealt (ap (λ (k : ℕ). k + 1) is);
+        fit = all_more (HasFittingEntry sizes.capacity) d.done m d.fit fits;
       }
 
   pub all_out : (all : List Mutation) (line : ℕ) (ws : List (Worker K)) → DealsOut all [] line ws
-      → AreDealt sizes all ws
-  all_out all line ws d = subst (λ (l : List Mutation). AreDealt sizes l ws)
-      (sym (d.parts ∙ append-nil d.done)) d.dealt
+      → AreDealt sizes all ws × AllFit sizes all
+  all_out all line ws d = subst (λ (l : List Mutation). AreDealt sizes l ws × AllFit sizes l)
+      (sym (d.parts ∙ append-nil d.done)) (d.dealt, d.fit)
+
+  -- the next one is too large, as the first of all
+  pub refused_at : (all rest : List Mutation) (m : Mutation) (line : ℕ) (ws : List (Worker K))
+      (fault : PlanFault) → DealsOut all (m ∷ rest) line ws
+      → PreparesLine sizes (line + 1) m (Err fault) → PlanRefused sizes all fault
+  refused_at all rest m line ws (TooLarge number size most) d large = record {
+    front = d.done;
+    large = m;
+    rest = rest;
+    parts = d.parts;
+    fitting = d.fit;
+    number_is = large.0 ∙ ap (λ (k : ℕ). k + 1) d.line_is;
+    over = large.1.over;
+    size_is = large.1.size_is;
+    most_is = large.1.max_is;
+  }
+  refused_at all rest m line ws OutOfMemory d large = tt

@@ -53,7 +53,9 @@ use Rattle.clog_layout.specs.Laid.{synced_to}
 use Rattle.clog_layout.specs.Logged.{AreNotesOf}
 use Rattle.clog_layout.proofs.Lines.{are_notes, lawful, lines_for}
 use Rattle.clog_closing.specs.Stores.{dropped_ids, files_by, ids_in}
+use Rattle.clog_closing.specs.NextNames.{HaveNextNames}
 use Rattle.clog_closing.proofs.LogAlone.{is_left}
+use Rattle.clog_closing.proofs.NextNames.{next_names}
 use Rattle.clog_closing.proofs.Tables.{note_of_line}
 use Rattle.clog_lines.specs.Drained.{HasDrained}
 use Rattle.clog_lines.proofs.Dropped.{StoresAreLeft, store_files, store_left}
@@ -165,6 +167,7 @@ module _ {D : Type 0} (files : D → Option Files) (changes : D → Option (List
     pub are : AreFilesFor first_id its options put
     pub store : IsStoreLeft options.archive opened after later ids dropped its put
     pub undrained : options.drain ≡ false → (dropped ≡ []) × (put ≡ [])
+    pub names : HaveNextNames opened after put
 
   tells_all : (growth : HasGrown changes b.first b.notes.log) (archives drain : Bool)
       → IsAskedBy options sizes archives drain
@@ -190,6 +193,7 @@ module _ {D : Type 0} (files : D → Option Files) (changes : D → Option (List
               left.put left.are;
           store = left.store;
           undrained = left.undrained;
+          names = left.names;
           by_line = record {
             numbers = told.numbers ∙ ap (range_with_len 1) long;
             each = told.each;
@@ -218,6 +222,9 @@ module _ {D : Type 0} (files : D → Option Files) (changes : D → Option (List
             (in_order b.notes.log (appends_of growth.added) grows sound) places
             (lines sizes first_id mutations b.notes.logged h) options.archive;
         undrained = λ no. (refl, refl);
+        names = next_names opened after (log_of b.notes) (no_deeds b.archives)
+            (subst (λ (d : Deeds). HoldsStore opened (log_of b.notes) d after) none
+            (folder opened after is now)) sound.below sound.stored.fits;
       })
 
   -- and where all is
@@ -265,4 +272,6 @@ module _ {D : Type 0} (files : D → Option Files) (changes : D → Option (List
               none_kept law sizes upper its fileable drained.memtables drained.are drained.by
               opened after is now);
           undrained = λ no. absurd (true≢false (sym asked.drain_is ∙ no));
+          names = next_names opened after log deeds (folder opened after is now) sound.below
+              sound.stored.fits;
         })

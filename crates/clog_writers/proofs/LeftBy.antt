@@ -16,6 +16,7 @@ use Rattle.std.proofs.Common.{
   arith,
 }
 use Rattle.std.specs.Prelude.{Err, IfOk, Ok, Result, option_map}
+use Rattle.clog_base.specs.declared.sizes.Sizes.{Sizes}
 use Rattle.clog_disk.specs.declared.change.Change.{Change}
 use Rattle.clog_disk.specs.Files.{Files, SameTold, bytes_at}
 use Rattle.clog_disk.specs.Images.{IsLater}
@@ -24,19 +25,32 @@ use Rattle.clog_crash.specs.Readings.{Reading}
 use Rattle.clog_crash.specs.Sections.{IsStored}
 use Rattle.clog_store.specs.Grows.{segments_with}
 use Rattle.clog_store.specs.Life.{LastsNow, ShownSince, lasting_in}
-use Rattle.clog_store.specs.NoteLog.{IsNoteLog}
+use Rattle.clog_store.specs.NoteLog.{IsNoteLog, NoteState}
 use Rattle.clog_store.specs.StoreState.{StoreState}
+use Rattle.clog_lines.specs.Written.{GoesBeyond, HasBrought}
 use Rattle.clog_writers.specs.declared.fault.WriteFault.{WriteFault}
 use Rattle.clog_writers.specs.Left.{LeavesShares, least_of}
-use Rattle.clog_writers.specs.Logged.{HoldFirsts}
-use Rattle.clog_writers.specs.Written.{BringsShares}
-use Rattle.clog_writers.proofs.Crashing.{leaves_shares}
+use Rattle.clog_writers.specs.Logged.{HoldFirsts, HoldShares}
+use Rattle.clog_writers.proofs.Counted.{as_many_lines}
+use Rattle.clog_writers.proofs.Crashing.{lasting, leaves_shares}
 
 -- how many lines last for sure, by the answer
 pub least_reached : {T : Type 0} (r : Result T WriteFault) (ms : List Mutation) (k : ℕ)
     → IfOk r (λ done. length ms ≤ k) → least_of r ms ≤ k
 least_reached (Ok done) ms k all = all
 least_reached (Err fault) ms k all = omega arith
+
+-- where all shares are logged, all lines last
+pub all_last : {D : Type 0} (s : NoteState D) (is : IsNoteLog s)
+    (stored : IsStored s.log.id s.log.sections) (sizes : Sizes) (ms : List Mutation)
+    → HoldFirsts sizes.writers ms (s.logged ++ s.kept)
+    → HoldShares sizes.capacity sizes.writers ms s.logged → length ms ≤ lasting_in s.log
+all_last s is stored sizes ms held shares =
+    let some = sizes.within.some_writer in
+    let many = as_many_lines sizes.capacity sizes.writers ms s.logged (omega (arith, some)) shares
+    in
+    let all = lasting s is stored sizes.writers ms held in
+    omega (arith, many, all)
 
 module _ {D : Type 0} (files : D → Option Files) (changes : D → Option (List Change))
     (moment : D → ℕ) (since : D → ℕ → Files → Type 0)
@@ -52,7 +66,7 @@ module _ {D : Type 0} (files : D → Option Files) (changes : D → Option (List
     pub notes : IsNoteLog b.notes
     pub stored : IsStored b.notes.log.id b.notes.log.sections
     pub shown : lasted_at given b.notes.log.opened
-        → ShownSince files moment since read_at lasted_at given b.notes.log.opened
+        → ShownSince files moment since read_at lasted_at b.first given b.notes.log.opened
         b.notes.log.past b.notes.log.id b.notes.log.sections
     pub lasts : lasted_at given b.notes.log.opened
         → LastsNow files leaves read_at lasted_at b.notes.log
@@ -60,12 +74,13 @@ module _ {D : Type 0} (files : D → Option Files) (changes : D → Option (List
   pub left_by : (given : D) → TellsLife given → SameTold (files start) (files b.notes.log.disk)
       → (archives drain : Bool) (writers least : ℕ) (ms : List Mutation)
       → HoldFirsts writers ms (b.notes.logged ++ b.notes.kept) → least ≤ lasting_in b.notes.log
-      → BringsShares changes start b.notes.log.disk archives drain writers ms
-      (segments_with b.notes.log.past b.notes.log.id b.notes.log.sections)
+      → (brought : HasBrought changes start b.notes.log.disk archives drain writers ms
+      (segments_with b.notes.log.past b.notes.log.id b.notes.log.sections))
+      → (GoesBeyond brought.added → length ms ≤ lasting_in b.notes.log)
       → (opened : Files) → files start ≡ Some opened → lasted_at start (moment start)
       → LeavesShares changes moment since leaves start given (bytes_at opened) archives drain
       writers ms least
-  left_by given told same archives drain writers least ms held le brought opened is lasted =
+  left_by given told same archives drain writers least ms held le brought full opened is lasted =
       let log = b.notes.log in
       subst (λ (d : D). LeavesShares changes moment since leaves start d (bytes_at opened) archives
       drain writers ms least) (sym told.disk)
@@ -74,7 +89,9 @@ module _ {D : Type 0} (files : D → Option Files) (changes : D → Option (List
       (subst (λ (f : D). IsLater moment read_at lasted_at f log.disk) its
       (subst (λ (d : D). IsLater moment read_at lasted_at b.first d) told.disk told.later))
       same opened is lasted
+      (subst (λ (f : D). lasted_at log.disk log.opened → ShownSince files moment since read_at
+      lasted_at f log.disk log.opened log.past log.id log.sections) its
       (subst (λ (d : D). lasted_at d log.opened → ShownSince files moment since read_at lasted_at
-      d log.opened log.past log.id log.sections) told.disk told.shown)
+      b.first d log.opened log.past log.id log.sections) told.disk told.shown))
       (subst (λ (d : D). lasted_at d log.opened → LastsNow files leaves read_at lasted_at log)
-      told.disk told.lasts) archives drain least le brought)
+      told.disk told.lasts) archives drain least le brought full)

@@ -26,7 +26,7 @@ use Rattle.std.proofs.Common.{
   inl,
   inr,
 }
-use Rattle.std.specs.Prelude.{Contains}
+use Rattle.std.specs.Prelude.{Bool, Contains, Option}
 use Rattle.std.specs.List.{filter, flat_map}
 use Rattle.std.proofs.lemmas.Bool.Decides.{nat_tests}
 use Rattle.std.proofs.lemmas.List.{
@@ -39,11 +39,13 @@ use Rattle.std.proofs.lemmas.List.{
 }
 use Rattle.std.proofs.lemmas.List.Elements.{Contains-append_left, filter-append}
 use Rattle.clog_base.proofs.Members.{first_or_further, nothing_there}
+use Rattle.clog_disk.specs.declared.change.Change.{Change}
 use Rattle.clog_disk.specs.Files.{Files, bytes_at}
+use Rattle.clog_disk.proofs.Moments.{weakened}
 use Rattle.clog_mutation.specs.declared.mutation.Mutation.{Mutation}
 use Rattle.clog_mutation.specs.Payload.{cells_of, payload_of}
 use Rattle.clog_crash.specs.Covering.{Either, SameMerge}
-use Rattle.clog_crash.specs.Log.{Write, entries_in}
+use Rattle.clog_crash.specs.Log.{NoChances, Write, entries_in}
 use Rattle.clog_crash.specs.Readings.{Reading, RestoresIn}
 use Rattle.clog_crash.specs.Runs.{Placed, placed_of}
 use Rattle.clog_applied.specs.History.{
@@ -57,11 +59,12 @@ use Rattle.clog_applied.specs.History.{
   written_by,
 }
 use Rattle.clog_closing.proofs.Segments.{placed_line}
-use Rattle.clog_lines.specs.Written.{RestoresLines, SaysFirst}
+use Rattle.clog_lines.specs.Written.{LeavesLines, RestoresLines, SaysFirst}
 use Rattle.clog_lines.proofs.Showing.{of_log, payload_at, placed_payload}
 use Rattle.clog_writers.specs.Left.{
   AreFirstLines,
   HoldsFirsts,
+  LeavesShares,
   RestoresShares,
   SaysShares,
   said_by,
@@ -162,23 +165,6 @@ module _ (ms : List Mutation) (history : List LoggedLine) (held : HoldsFirsts 1 
         undamaged = lines.undamaged;
       }
 
-  -- and back
-  pub to_one_writer : (r : Reading) (least : ℕ) (image : Files)
-      → (lines : RestoresLines r ms least image) → lines.n ≤ length history
-      → RestoresShares r history least image
-  to_one_writer r least image lines few =
-      let same = length-map history (λ (w : LoggedLine). w.mutation) in
-      let now : take lines.n ms ≡ take lines.n (said_by history) =
-      sym (ap (take lines.n) the_first ∙ take-take lines.n (length history) ms few) in
-      record {
-        n = lines.n;
-        enough = lines.enough;
-        some = omega (arith, few, same);
-        restores = subst (λ (l : List Mutation). SameMerge (RestoresIn (bytes_at image))
-            (Either (RestoresIn r) (Contains (flat_map cells_of l)))) now lines.restores;
-        undamaged = lines.undamaged;
-      }
-
 all_payloads : (log : List Write)
     → map payload_at (entries_in log) ≡ map placed_payload (flat_map placed_of log)
 all_payloads log =
@@ -234,6 +220,16 @@ numbered_back n (p ∷ ps) (m ∷ ms) is =
     ap (λ (l : List Line). record { number = n; mutation = m } ∷ l)
     (numbered_back (n + 1) ps ms tails)
 
+said_back : (n : ℕ) (ps : List Placed) (ms : List Mutation)
+    → map placed_payload ps ≡ map payload_of ms → said_by (lines_at n ps ms) ≡ ms
+unfolding lines_at
+said_back n [] [] is = refl
+said_back n [] (m ∷ ms) is = absurd (let long = ap length is in omega (arith, long))
+said_back n (p ∷ ps) [] is = absurd (let long = ap length is in omega (arith, long))
+said_back n (p ∷ ps) (m ∷ ms) is =
+    let tails : map placed_payload ps ≡ map payload_of ms = cc in
+    ap (λ (l : List Mutation). m ∷ l) (said_back (n + 1) ps ms tails)
+
 by_none_other : (n : ℕ) (ps : List Placed) (ms : List Mutation) (w : LoggedLine)
     → Contains (lines_at n ps ms) w → w.writer ≡ 0
 unfolding lines_at
@@ -255,11 +251,9 @@ numbered_first n (suc c) (m ∷ ms) =
       ap (λ (l : List Line). record { number = n; mutation = m } ∷ l) more.1,
     )
 
-pub by_one_writer : (ms : List Mutation) (log : List Write) → SaysFirst log ms
+pub by_one_writer : (ms : List Mutation) (log : List Write) → (said : SaysFirst log ms)
     → (history : List LoggedLine) × SaysShares 1 ms log history
-    × ((opened : Files) (least : ℕ) (image : Files)
-    → (lines : RestoresLines (bytes_at opened) ms least image)
-    → lines.n ≤ length history → RestoresShares (bytes_at opened) history least image)
+    × (said_by history ≡ take said.count ms)
 by_one_writer ms log said =
     let ps = flat_map placed_of log in
     let first = take said.count ms in
@@ -280,5 +274,31 @@ by_one_writer ms log said =
     } in (
       history,
       record { holds = holds; says = sym (placed_back 1 ps first is) },
-      λ opened. to_one_writer ms history holds (bytes_at opened),
+      said_back 1 ps first is,
     )
+
+-- What one writer's lines leave, as of a history.
+pub shares_of_lines : {D : Type 0} (changes : D → Option (List Change)) (moment : D → ℕ)
+    (since : D → ℕ → Files → Type 0) (leaves : D → List ℕ → Option (List ℕ) → Type 0)
+    (before now : D) (r : Reading) (archives drain : Bool) (ms : List Mutation) (least : ℕ)
+    → LeavesLines changes moment since leaves before now r archives drain ms least
+    → LeavesShares changes moment since leaves before now r archives drain 1 ms least
+shares_of_lines changes moment since leaves before now r archives drain ms least lines =
+    let said = take lines.says.count ms in
+    let by = by_one_writer ms lines.log lines.says in
+    let history = by.0 in
+    let back = λ (n : ℕ) (image : Files) (has : RestoresLines r said n image).
+    subst (λ (l : List Mutation). RestoresLines r l n image) (sym by.2) has in
+    record {
+      log = lines.log;
+      history = history;
+      wrote = lines.wrote;
+      says = by.1;
+      meanwhile = weakened moment since before now
+          (λ image. NoChances lines.log image → RestoresLines r said 0 image)
+          (λ image. NoChances lines.log image → RestoresShares r history 0 image)
+          lines.meanwhile (λ image has none. back 0 image (has none));
+      at_last = λ image left none. back least image (lines.at_last image left none);
+      at_drain = λ beyond image left none.
+          back (length ms) image (lines.at_drain beyond image left none);
+    }

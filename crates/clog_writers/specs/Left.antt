@@ -17,15 +17,14 @@ use Rattle.std.specs.Prelude.{
 use Rattle.std.specs.List.{flat_map}
 use Rattle.clog_disk.specs.declared.change.Change.{Change}
 use Rattle.clog_disk.specs.Files.{Files}
-use Rattle.clog_disk.specs.Images.{IsImage, SinceThen}
+use Rattle.clog_disk.specs.Images.{IsImage, LeavesOnly}
 use Rattle.clog_mutation.specs.declared.mutation.Mutation.{Mutation}
 use Rattle.clog_crash.specs.Log.{NoChances, Write}
 use Rattle.clog_crash.specs.Readings.{Reading}
 use Rattle.clog_crash.specs.Runs.{placed_of}
 use Rattle.clog_applied.specs.History.{Line, LoggedLine, entry_of, share_of, written_by}
-use Rattle.clog_lines.specs.Written.{RestoresLines}
+use Rattle.clog_lines.specs.Written.{GoesBeyond, HasBrought, RestoresLines}
 use Rattle.clog_writers.specs.declared.fault.WriteFault.{WriteFault}
-use Rattle.clog_writers.specs.Written.{BringsShares}
 
 -- The first of these lines, in order.
 pub record AreFirstLines (all first : List Line) : Type 0 where
@@ -56,7 +55,7 @@ RestoresShares r history least image = RestoresLines r (said_by history) least i
 
 -- The segments that were appended, which say the first of each writer's share. What a crash leaves
 -- since a disk was so, and what it leaves of it now, where nothing passes by chance for what was
--- written.
+-- written. Where the changes go beyond appends, all lines last.
 pub record LeavesShares {D : Type 0} (changes : D → Option (List Change)) (moment : D → ℕ)
     (since : D → ℕ → Files → Type 0) (leaves : D → List ℕ → Option (List ℕ) → Type 0)
     (before now : D) (r : Reading) (archives drain : Bool) (writers : ℕ)
@@ -64,12 +63,14 @@ pub record LeavesShares {D : Type 0} (changes : D → Option (List Change)) (mom
   where
     pub log : List Write
     pub history : List LoggedLine
-    pub wrote : BringsShares changes before now archives drain writers mutations log
+    pub wrote : HasBrought changes before now archives drain writers mutations log
     pub says : SaysShares writers mutations log history
-    pub meanwhile : SinceThen moment since (moment before) now
+    pub meanwhile : LeavesOnly moment since before now
         (λ image. NoChances log image → RestoresShares r history 0 image)
     pub at_last : (image : Files) → IsImage (leaves now) image → NoChances log image
         → RestoresShares r history least image
+    pub at_drain : GoesBeyond wrote.added → (image : Files) → IsImage (leaves now) image
+        → NoChances log image → RestoresShares r history (length mutations) image
 
 -- so many lines last for sure
 abbrev pub least_of : {T : Type 0} → Result T WriteFault → List Mutation → ℕ

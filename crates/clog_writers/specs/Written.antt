@@ -1,27 +1,5 @@
 -- What is left where the lines of a file were logged by writers of a path over a store.
-use Rattle.std.specs.Prelude.{
-  ◌≡◌,
-  ◌⊎◌,
-  ℕ,
-  ◌<◌,
-  ◌≤◌,
-  true,
-  false,
-  List,
-  [],
-  ◌++◌,
-  length,
-  map,
-  Bool,
-  Contains,
-  Option,
-  Some,
-  None,
-  Result,
-  option_map,
-  Ok,
-  Err,
-}
+use Rattle.std.specs.Prelude.{◌≡◌, ℕ, ◌≤◌, false, List, [], ◌++◌, length, map, Bool, Option, Some, None, Result, Ok, Err}
 use Rattle.clog_io.specs.Causes.{Rose}
 use Rattle.clog_base.specs.declared.sizes.Sizes.{Sizes}
 use Rattle.clog_disk.specs.declared.change.Change.{Change}
@@ -30,24 +8,17 @@ use Rattle.clog_mutation.specs.declared.mutation.Mutation.{Mutation}
 use Rattle.clog_table.specs.declared.table_file.TableFile.{TableFile}
 use Rattle.clog_words.specs.declared.request.ApplyOptions.{ApplyOptions}
 use Rattle.sync_core.specs.declared.SyncCore.TheVariants.{Periodic}
-use Rattle.clog_crash.specs.Grown.{appends_of}
-use Rattle.clog_crash.specs.Log.{Write}
 use Rattle.path_core.specs.declared.keeper.KeeperFault.{KeeperFault}
 use Rattle.path_core.specs.declared.keeper.KeeperFault.TheVariants as keeper
-use Rattle.clog_store.specs.Grows.{AreAppends}
-use Rattle.clog_applied.specs.Appended.{IsAppended}
 use Rattle.clog_applied.specs.Asked.{capacity_of}
-use Rattle.clog_applied.specs.Closed.{IsAnyFile, IsClosedPath, IsStoreLeft}
-use Rattle.clog_applied.specs.Early.{AreInOrder}
-use Rattle.clog_applied.specs.History.{LoggedLine, logged_at, share_of, written_by}
+use Rattle.clog_applied.specs.Closed.{IsClosedPath, IsStoreLeft}
+use Rattle.clog_applied.specs.History.{LoggedLine, logged_at}
 use Rattle.clog_applied.specs.Printed.{AreByLine}
-use Rattle.clog_lines.specs.Written.{IsWrittenBy}
+use Rattle.clog_closing.specs.NextNames.{HaveNextNames}
 use Rattle.path_core.specs.declared.note.EntryNote.{EntryNote}
 use Rattle.write_path.specs.declared.commit.Receipt.{Receipt}
-use Rattle.clog_writers.specs.declared.fault.PlanFault.{PlanFault}
-use Rattle.clog_writers.specs.declared.fault.PlanFault.TheVariants as plan
 use Rattle.clog_writers.specs.declared.fault.WriteFault.{WriteFault}
-use Rattle.clog_writers.specs.declared.fault.WriteFault.TheVariants.{OutOfMemory, Stopped, TooLarge}
+use Rattle.clog_writers.specs.declared.fault.WriteFault.TheVariants.{OutOfMemory, Stopped}
 use Rattle.clog_writers.specs.Logged.{HoldShares}
 use Rattle.clog_writers.specs.Placed.{AreAtTheirLines}
 
@@ -79,37 +50,10 @@ pub record HasWrittenShares (options : ApplyOptions) (base : ℕ) (opened after 
   pub path : IsClosedPath options mutations base history files
   pub store : IsStoreLeft options.archive opened after later ids dropped history files
   pub undrained : options.drain ≡ false → (dropped ≡ []) × (files ≡ [])
+  -- how far it reaches in sequences
+  pub names : HaveNextNames opened after files
   pub by_line : AreByLine history (length mutations) logged
   pub receipts_are : receipts ≡ map line_receipt logged
-
--- Changes by which a drain has begun: the entries of all lines were appended, each by its writer
--- and each writer's in order, and some table files have come and segments gone, each in its turn.
-pub record HasGoneInOrder (archives : Bool) (writers : ℕ) (mutations : List Mutation)
-    (changes : List Change) : Type 0 where
-  pub ids : List ℕ
-  pub history : List LoggedLine
-  pub files : List TableFile
-  pub known : (w : LoggedLine) → Contains history w → w.writer < writers
-  pub shares : (writer : ℕ) → writer < writers
-      → written_by writer history ≡ share_of writers writer mutations
-  pub is_appended : IsAppended changes ids history
-  pub order : AreInOrder IsAnyFile archives changes ids history files
-
--- Changes by which writers log lines: appends alone, or those of a drain that has begun.
-abbrev pub AreMadeFor : Bool → Bool → ℕ → List Mutation → List Change → Type 0
-AreMadeFor archives drain writers mutations changes =
-    AreAppends changes
-    ⊎ ((drain ≡ true) × HasGoneInOrder archives writers mutations changes)
-
--- The appends among a disk's further changes since it was so have brought these segments. The
--- changes are those by which writers log the lines.
-pub record BringsShares {D : Type 0} (changes : D → Option (List Change)) (before now : D)
-    (archives drain : Bool) (writers : ℕ) (mutations : List Mutation) (log : List Write) : Type 0
-  where
-    pub added : List Change
-    pub changes_are : changes now ≡ option_map (λ made. made ++ added) (changes before)
-    pub made_for : AreMadeFor archives drain writers mutations added
-    pub brought : IsWrittenBy (appends_of added) log
 
 -- All lines were logged, and these are their receipts, in the order of the lines, whether or not
 -- the disk tells anything.
@@ -141,8 +85,3 @@ HasShareCause faults now (Err other) = now ≡ faults
 abbrev pub refused_as : KeeperFault → WriteFault
 refused_as (keeper.Stopped at_open now) = Stopped at_open now
 refused_as keeper.OutOfMemory = OutOfMemory
-
--- a refusal before the first line, as one of the lines
-abbrev pub unplanned : PlanFault → WriteFault
-unplanned (plan.TooLarge line size most) = TooLarge line size most
-unplanned plan.OutOfMemory = OutOfMemory

@@ -6,6 +6,7 @@ ghost use Rattle.clog_mutation.specs.declared.mutation.Mutation.{Mutation as Mut
 ghost use Rattle.clog_mutation.specs.Limits.{IsWithinLimits};
 ghost use Rattle.clog_spec.specs.Sizes.{most_tables};
 ghost use Rattle.clog_writers.specs.Crews.{AreDealt};
+ghost use Rattle.clog_writers.specs.Planned.{DealsAll, PreparesLine};
 ghost use Rattle.write_path.specs.Writes.{IsPrepared};
 
 use crate::fault::PlanFault;
@@ -28,7 +29,7 @@ fn idle_worker<K>(alloc: Global) -> Worker<K>
 }
 
 // Workers that have no lines.
-fn idle_crew<K: Keeper + Drop>(alloc: Global, sizes: Sizes) -> Result<Vec<Worker<K>>, PlanFault>
+fn idle_crew<K: Keeper + Drop>(alloc: Global, sizes: Sizes) -> Result<Vec<Worker<K>>, AllocError>
     ensures { IfOk result (λ v. AreDealt sizes [] v.items) }
 {
     let mut workers = Vec::new(alloc);
@@ -47,7 +48,7 @@ fn prepare(
 ) -> Result<Prepared, PlanFault>
     requires within { IsWithinLimits mutation }
     requires tables { sizes.tables ≡ most_tables }
-    ensures { IfOk result (λ p. IsPrepared sizes line mutation p) }
+    ensures { PreparesLine sizes line mutation result }
 {
     match Prepared::make(alloc, sizes, line, mutation) {
         Ok(prepared) => Ok(prepared),
@@ -76,8 +77,8 @@ fn give<K: Keeper + Drop>(
     Ok(workers[number].writes.push(write)?)
 }
 
-/// Deals the lines of a file out to workers that have no seats yet. `TooLarge`: the entry of a line
-/// is larger than half a segment's capacity (`CommitLog.add`).
+/// Deals the lines of a file out to workers that have no seats yet. `TooLarge`: of all lines this is
+/// the first whose entry is larger than half a segment's capacity (`CommitLog.add`).
 pub fn deal<K: Keeper + Drop>(
     alloc: Global,
     sizes: Sizes,
@@ -86,14 +87,17 @@ pub fn deal<K: Keeper + Drop>(
     requires few { length mutations.items < 2 ^ 32 }
     requires within { AllByRecursion IsWithinLimits mutations.items }
     requires tables { sizes.tables ≡ most_tables }
-    ensures { IfOk result (λ v. AreDealt sizes mutations.items v.items) }
+    ensures { DealsAll sizes mutations.items result }
 {
     let mut workers = idle_crew(alloc, sizes)?;
     let mut line: u32 = 0;
     for mutation in mutations {
         line += 1;
-        let write = prepare(alloc, sizes, line, mutation)?;
-        give(workers.as_mut_slice(), sizes, line, write)?;
+        // A match, since the exit speaks of the lines that were dealt out.
+        match prepare(alloc, sizes, line, mutation) {
+            Ok(write) => give(workers.as_mut_slice(), sizes, line, write)?,
+            Err(fault) => return Err(fault),
+        }
     }
     Ok(workers)
 }

@@ -4,7 +4,14 @@
 ghost use Rattle.std.specs.Prelude.{◌≡◌, ◌⊎◌, ℕ, None, OnOk, Some, false, true};
 ghost use Rattle.clog_io.specs.Causes.{Rose};
 ghost use Rattle.clog_layout.specs.Laid.{synced_to};
-ghost use Rattle.clog_lines.specs.Drained.{EndsAs, HasDrained, HasNoDeeds, IsDrainedAs, KeepsLog};
+ghost use Rattle.clog_lines.specs.Drained.{
+  EndsAs,
+  HasBegun,
+  HasDrained,
+  HasNoDeeds,
+  IsDrainedAs,
+  KeepsLog,
+};
 ghost use Rattle.clog_spec.specs.Sizes.{most_tables};
 ghost use Rattle.clog_store.specs.StoreState.{holding_of};
 ghost use Rattle.clog_writers.specs.declared.fault.WriteFault.TheVariants.{Spent, Stopped};
@@ -38,6 +45,9 @@ fn drain_logged<D: Disk>(alloc: Global, store: &mut Store<D>) -> Result<(), Keep
     ensures drains { OnOk result (HasDrained
         (holding_of D.files D.changes D.moment D.faults D.row.coded.code store.new)
         store.old.notes.logged) }
+    ensures begun { HasBegun
+        (holding_of D.files D.changes D.moment D.faults D.row.coded.code store.new)
+        (synced_to store.old.notes.logged) }
     ensures keeps { KeepsLog
         (holding_of D.files D.changes D.moment D.faults D.row.coded.code store.old)
         (holding_of D.files D.changes D.moment D.faults D.row.coded.code store.new) }
@@ -86,7 +96,9 @@ pub(crate) fn drain_asked<D: Disk>(
     ensures spent { result ≡ Some Spent → fault ≡ Some Spent }
     ensures begun { HasNoDeeds
         (holding_of D.files D.changes D.moment D.faults D.row.coded.code store.new)
-        ⊎ ((drain ≡ true) × (fault ≡ None)) }
+        ⊎ ((drain ≡ true) × (fault ≡ None) × HasBegun
+        (holding_of D.files D.changes D.moment D.faults D.row.coded.code store.new)
+        (synced_to store.old.notes.logged)) }
     ensures keeps { KeepsLog
         (holding_of D.files D.changes D.moment D.faults D.row.coded.code store.old)
         (holding_of D.files D.changes D.moment D.faults D.row.coded.code store.new) }

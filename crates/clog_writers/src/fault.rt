@@ -1,7 +1,6 @@
 //! Why lines were not all logged by their writers.
 ghost use Rattle.std.specs.Prelude.{◌≡◌, ◌⊎◌, ℕ, None, Some};
 ghost use Rattle.clog_writers.specs.declared.fault.WriteFault.TheVariants.{Spent, Stopped};
-ghost use Rattle.clog_writers.specs.Written.{unplanned};
 ghost use Rattle.path_rule.specs.declared.answer.SyncAnswer.TheVariants.{
   Done,
   Stopped as LogStopped,
@@ -13,15 +12,6 @@ use write_path::SyncAnswer;
 /// Why lines were not all logged by their writers.
 #[derive(Clone, Copy, Debug, PartialEq, Eq)]
 pub enum WriteFault {
-    /// An entry is larger than half a segment's capacity. Nothing is written.
-    TooLarge {
-        /// The first line whose entry is, from 1.
-        line: u32,
-        /// Its size in bytes, or the greatest `u32` where that is less.
-        size: u32,
-        /// The most bytes that an entry may have.
-        most: u32,
-    },
     /// Memory was refused.
     OutOfMemory,
     /// The log has no further segment for a line. Other lines are logged.
@@ -74,16 +64,6 @@ impl<T: Drop> From<AllocFailed<T>> for PlanFault {
 
     fn from(_: AllocFailed<T>) -> Self {
         PlanFault::OutOfMemory
-    }
-}
-
-/// A refusal before the first line, as one of the lines.
-pub(crate) fn unplanned(fault: PlanFault) -> WriteFault
-    ensures { result ≡ unplanned fault }
-{
-    match fault {
-        PlanFault::TooLarge { line, size, most } => WriteFault::TooLarge { line, size, most },
-        PlanFault::OutOfMemory => WriteFault::OutOfMemory,
     }
 }
 

@@ -1,11 +1,11 @@
 //! What a crash leaves of lines that several writers log, said of one writer.
-ghost use Rattle.std.specs.Prelude.{ℕ, ◌≤◌, List, length, take};
+ghost use Rattle.std.specs.Prelude.{◌≡◌, ℕ, List, take};
 ghost use Rattle.clog_disk.specs.Files.{Files, bytes_at};
 ghost use Rattle.clog_mutation.specs.declared.mutation.Mutation.{Mutation};
 ghost use Rattle.clog_applied.specs.History.{LoggedLine};
 ghost use Rattle.clog_crash.specs.Log.{Write};
 ghost use Rattle.clog_lines.specs.Written.{RestoresLines, SaysFirst};
-ghost use Rattle.clog_writers.specs.Left.{HoldsFirsts, RestoresShares, SaysShares};
+ghost use Rattle.clog_writers.specs.Left.{HoldsFirsts, RestoresShares, SaysShares, said_by};
 
 /// What an image restores of a history are again the first of each writer's lines.
 pub fn the_first_of_a_history_are_the_first_of_each()
@@ -24,12 +24,9 @@ pub fn one_writer_logs_the_first_lines()
         → RestoresLines (bytes_at opened) mutations least image }
 {}
 
-/// And where segments say the first lines, these are a history of one writer, and an image that
-/// restores some of them restores them of this.
+/// And where segments say the first lines, these are a history of one writer, which says just those.
 pub fn first_lines_are_those_of_one_writer()
-    ensures { (mutations : List Mutation) (log : List Write) → SaysFirst log mutations
+    ensures { (mutations : List Mutation) (log : List Write) → (said : SaysFirst log mutations)
         → (history : List LoggedLine) × SaysShares 1 mutations log history
-        × ((opened : Files) (least : ℕ) (image : Files)
-        → (lines : RestoresLines (bytes_at opened) mutations least image)
-        → lines.n ≤ length history → RestoresShares (bytes_at opened) history least image) }
+        × (said_by history ≡ take said.count mutations) }
 {}

@@ -28,4 +28,4 @@ pub use logging::log_shares;
 pub use planning::{Plan, make_plan};
 pub use rows::a_line_comes_behind_the_earlier_ones_of_its_writer;
 pub use worker::Worker;
-pub use writing::write_shares;
+pub use writing::write_plan;

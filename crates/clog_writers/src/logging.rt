@@ -1,5 +1,5 @@
 //! Workers log their shares over a keeper: a path is opened, its seats are given to them, they
-//! commit in threads, the log is synced, and the path is closed.
+//! commit in threads, each seat has the log synced at the end, and the path is closed.
 ghost use Rattle.std.specs.Prelude.{◌≡◌, ◌<◌, ◌≤◌, ◌^◌, ℕ, List, [], None, vec_capacity};
 ghost use Rattle.clog_mutation.specs.declared.mutation.Mutation.{Mutation};
 ghost use Rattle.clog_writers.specs.Crews.{AreDealt, IsOpenFor};
@@ -18,7 +18,7 @@ use std::thread::Threads;
 use sync_core::SyncCore;
 use write_path::{PathSeat, WritePath};
 
-/// Commits wait for no sync. The log is synced once all lines are logged.
+/// Commits wait for no sync. Each seat has the log synced when all lines are logged.
 const PERIOD_MS: u64 = 10000;
 
 // Workers log their shares over an open path, whose seats are handed out; then it is closed.

@@ -1,9 +1,9 @@
 //! What is made for a file's lines before the first of them is written.
-ghost use Rattle.std.specs.Prelude.{◌≡◌, ◌<◌, ◌^◌, length, IfOk};
+ghost use Rattle.std.specs.Prelude.{◌≡◌, ◌<◌, ◌^◌, length};
 ghost use Rattle.std.specs.List.{AllByRecursion};
 ghost use Rattle.clog_spec.specs.Sizes.{most_tables};
 ghost use Rattle.clog_mutation.specs.Limits.{IsWithinLimits};
-ghost use Rattle.clog_writers.specs.Planned.{IsPlanFor};
+ghost use Rattle.clog_writers.specs.Planned.{PlansAll};
 
 use crate::dealing::deal;
 use crate::fault::PlanFault;
@@ -26,8 +26,9 @@ pub struct Plan<K> {
     pub receipts: Vec<Receipt>,
 }
 
-/// Takes all memory that the writing of lines takes. `TooLarge`: the entry of a line is larger than
-/// half a segment's capacity (`CommitLog.add`).
+/// Takes the memory of the lines' writes and receipts; the path's, the syncs' and a drain's come
+/// later. `TooLarge`: of all lines this is the first whose entry is larger than half a segment's
+/// capacity (`CommitLog.add`).
 pub fn make_plan<K: Keeper + Drop>(
     alloc: Global,
     sizes: Sizes,
@@ -36,7 +37,7 @@ pub fn make_plan<K: Keeper + Drop>(
     requires few { length mutations.items < 2 ^ 32 }
     requires within { AllByRecursion IsWithinLimits mutations.items }
     requires tables { sizes.tables ≡ most_tables }
-    ensures { IfOk result (λ p. IsPlanFor sizes mutations.items p) }
+    ensures { PlansAll sizes mutations.items result }
 {
     let none = Receipt {
         line: 0,

@@ -4,7 +4,7 @@ ghost use Rattle.std.specs.Prelude.{IfOk};
 ghost use Rattle.std.specs.List.{AllByRecursion};
 ghost use Rattle.clog_mutation.specs.Limits.{IsWithinLimits};
 
-use crate::write_shares;
+use crate::{make_plan, write_plan};
 use clog_base::{Sizes, Table, segment_name, table_name};
 use clog_disk::{Disk, MemDisk};
 use clog_mutation::{Mutation, decode};
@@ -69,7 +69,10 @@ fn three_by<R: Threads + Wait + Sync>(
     let Ok(store) = Store::open(alloc, MemDisk::new(alloc), 1000, sizes, false) else {
         return Err(Fail::new("no store"));
     };
-    match write_shares(rt, alloc, store, lines, drain) {
+    let Ok(plan) = make_plan(alloc, sizes, lines) else {
+        return Err(Fail::new("no plan"));
+    };
+    match write_plan(rt, alloc, store, sizes, plan, drain) {
         (disk, Ok(receipts)) => Ok((disk, receipts)),
         (_, Err(_)) => Err(Fail::new("not written")),
     }

@@ -1,13 +1,11 @@
-//! The lines of a file are logged by writers over a store that was just opened, which gives its
+//! The lines of a plan are logged by writers over a store that was just opened, which gives its
 //! disk back.
 ghost use Rattle.std.specs.Prelude.{
   ◌≡◌,
   ◌+◌,
   ◌-◌,
   ◌*◌,
-  ◌<◌,
   ◌≤◌,
-  ◌^◌,
   ℕ,
   List,
   None,
@@ -19,23 +17,21 @@ ghost use Rattle.std.specs.Prelude.{
   option_map,
   IfOk,
 };
-ghost use Rattle.std.specs.List.{AllByRecursion};
 ghost use Rattle.clog_spec.specs.Sizes.{most_tables};
 ghost use Rattle.clog_disk.specs.declared.change.Change.{Change};
 ghost use Rattle.clog_disk.specs.Files.{Files, SameTold, bytes_at};
 ghost use Rattle.clog_disk.specs.Images.{IsLater};
 ghost use Rattle.clog_io.specs.Causes.{Rose};
 ghost use Rattle.clog_mutation.specs.declared.mutation.Mutation.{Mutation as MutationOf};
-ghost use Rattle.clog_mutation.specs.Limits.{IsWithinLimits};
 ghost use Rattle.clog_words.specs.declared.request.ApplyOptions.{ApplyOptions};
 ghost use Rattle.clog_crash.specs.Log.{Write};
+ghost use Rattle.clog_lines.specs.Written.{BringsOnly, HasBrought};
 ghost use Rattle.clog_store.specs.StoreFailed.{AllStay};
 ghost use Rattle.clog_store.specs.StoreState.{store_over};
 ghost use Rattle.clog_writers.specs.declared.fault.WriteFault.TheVariants.{Spent, Stopped};
 ghost use Rattle.clog_writers.specs.Left.{LeavesShares, least_of};
 ghost use Rattle.clog_writers.specs.Planned.{IsPlanFor};
 ghost use Rattle.clog_writers.specs.Written.{
-  BringsShares,
   HasReceipts,
   HasShareCause,
   IsAskedBy,
@@ -43,14 +39,13 @@ ghost use Rattle.clog_writers.specs.Written.{
 };
 
 use crate::draining::drain_asked;
-use crate::fault::{WriteFault, unplanned};
+use crate::fault::WriteFault;
 use crate::logging::log_shares;
 use crate::placing::place_receipts;
-use crate::planning::{Plan, make_plan};
+use crate::planning::Plan;
 use clog_base::Sizes;
 use clog_closing::stores_are_left;
 use clog_disk::Disk;
-use clog_mutation::Mutation;
 use clog_store::Store;
 use std::alloc::Global;
 use std::sync::Wait;
@@ -90,8 +85,24 @@ fn disks_read_now<D: Disk>(_store: &Store<D>)
     ensures { (d : D) → D.read_at d (D.moment d) ≡ option_map bytes_at (D.files d) }
 {}
 
-// Writes the lines of a plan.
-fn write_plan<R: Threads + Wait + Sync, D: Disk + Send + Drop>(
+/// Logs the lines of a plan over a store that was just opened, by as many writers as the store's
+/// sizes say, each in a thread of its own where one can be started, and gives the disk back. Line
+/// `n`, from 1, is written by the writer of number `n` modulo their count, each writer's lines in
+/// order, and each writer has the log synced at the end. With `drain` a table file is put then for
+/// each table that one of them touches, and all segments go, each with its archive name first where
+/// the store archives. The receipts are in the order of the lines.
+///
+/// Whatever is answered, the disk's further changes are appends alone, which have brought segments,
+/// and no other names have come; with `drain` perhaps true table files and removals behind them, in
+/// order, once all lines are logged. Where all lasted before, each image of a crash since then
+/// restores what the folder restored, and lines of the plan, of each writer the first of its share;
+/// at `Ok`, and once the changes go beyond appends, each image of now restores all lines. Each file
+/// that was there stands as it was.
+///
+/// `OutOfMemory`: memory was refused for the path, by a sync or for the drain's table files;
+/// `Spent`: the log has no further segment, so it may have at most two segments for each line;
+/// `Rows`: no further group for a barrier; `Stopped`: the disk has failed, with its fault counts.
+pub fn write_plan<R: Threads + Wait + Sync, D: Disk + Send + Drop>(
     rt: &R,
     alloc: Global,
     store: Store<D>,
@@ -121,8 +132,8 @@ fn write_plan<R: Threads + Wait + Sync, D: Disk + Send + Drop>(
     ensures spent { (mutations : List MutationOf) → IsPlanFor sizes mutations plan
         → result.1 ≡ Err Spent → sizes.ordinals ≤ 1 + (2 * length mutations - 1) }
     ensures wrote { (mutations : List MutationOf) → IsPlanFor sizes mutations plan
-        → (log : List Write) × BringsShares D.changes store.notes.log.disk result.0 store.archives
-        drain sizes.writers mutations log }
+        → (log : List Write) × HasBrought D.changes store.notes.log.disk result.0 store.archives
+        drain sizes.writers mutations log × BringsOnly D.files store.notes.log.disk result.0 log }
     ensures stay { (opened now : Files) → D.files store.notes.log.disk ≡ Some opened
         → D.files result.0 ≡ Some now → AllStay opened now }
     ensures told { SameTold (D.files store.notes.log.disk) (D.files result.0) }
@@ -147,65 +158,4 @@ fn write_plan<R: Threads + Wait + Sync, D: Disk + Send + Drop>(
     let fault = drain_asked(alloc, &mut store, at_open, drain, fault);
     let outcome = ended(at_open, store.fault_count(), fault, receipts);
     (store.into_disk(), outcome)
-}
-
-/// Logs the lines of a file over a store that was just opened, by as many writers as its sizes
-/// say, each in a thread of its own where one can be started, and gives the disk back. Line `n`,
-/// from 1, is written by the writer of number `n` modulo their count, each writer's lines in order,
-/// and the log is synced once, at the end. With `drain` a table file is put then for each table
-/// that one of them touches, and all segments go, each with its archive name first where the store
-/// archives. The receipts are in the order of the lines.
-///
-/// Whatever is answered, the disk's further changes are appends alone, which have brought segments;
-/// with `drain` perhaps table files and removals behind them, in order, once all lines are logged.
-/// Where all lasted before, each image of a crash since then restores what the folder restored, and
-/// the first of the lines that were appended, in the order of the log, which are the first of each
-/// writer's; at `Ok` each image of now restores all lines. Each file that was there stands as it
-/// was.
-///
-/// `TooLarge`: the entry of a line is larger than half a segment's capacity; `OutOfMemory`: memory
-/// was refused, before a line was written, by the sync or for the drain's table files; `Spent`: the
-/// log has no further segment, so it may have at most two segments for each line; `Rows`: no
-/// further group for a barrier; `Stopped`: the disk has failed, with its fault counts.
-pub fn write_shares<R: Threads + Wait + Sync, D: Disk + Send + Drop>(
-    rt: &R,
-    alloc: Global,
-    store: Store<D>,
-    mutations: Vec<Mutation>,
-    drain: bool,
-) -> (D, Result<Vec<Receipt>, WriteFault>)
-    requires fresh { store ≡ store_over store.notes.log store.notes.sizes store.archives }
-    requires runs { store.notes.log.is_stopped ≡ false }
-    requires tables { store.notes.sizes.tables ≡ most_tables }
-    requires few { length mutations.items < 2 ^ 32 }
-    requires within { AllByRecursion IsWithinLimits mutations.items }
-    ensures written { (options : ApplyOptions) (opened : Files) (made : List Change)
-        → IsAskedBy options store.notes.sizes store.archives drain
-        → D.files store.notes.log.disk ≡ Some opened → D.changes store.notes.log.disk ≡ Some made
-        → IfOk result.1 (λ receipts. TellsWrittenShares options store.notes.base opened made
-        (D.files result.0) (D.changes result.0) mutations.items receipts.items) }
-    ensures receipts { IfOk result.1
-        (λ r. HasReceipts store.notes.sizes store.notes.base mutations.items r.items) }
-    ensures shown { (opened : Files) → D.files store.notes.log.disk ≡ Some opened
-        → D.lasted_at store.notes.log.disk (D.moment store.notes.log.disk)
-        → LeavesShares D.changes D.moment D.since D.leaves store.notes.log.disk result.0
-        (bytes_at opened) store.archives drain store.notes.sizes.writers mutations.items
-        (least_of result.1 mutations.items) }
-    ensures spent { result.1 ≡ Err Spent
-        → store.notes.sizes.ordinals ≤ 1 + (2 * length mutations.items - 1) }
-    ensures wrote { (log : List Write) × BringsShares D.changes store.notes.log.disk result.0
-        store.archives drain store.notes.sizes.writers mutations.items log }
-    ensures stay { (opened now : Files) → D.files store.notes.log.disk ≡ Some opened
-        → D.files result.0 ≡ Some now → AllStay opened now }
-    ensures told { SameTold (D.files store.notes.log.disk) (D.files result.0) }
-    ensures later { IsLater D.moment D.read_at D.lasted_at store.notes.log.disk result.0 }
-    ensures cause { HasShareCause (D.faults store.notes.log.disk) (D.faults result.0) result.1 }
-{
-    disks_tell_both(&store);
-    disks_read_now(&store);
-    let sizes = store.sizes();
-    match make_plan(alloc, sizes, mutations) {
-        Ok(plan) => write_plan(rt, alloc, store, sizes, plan, drain),
-        Err(fault) => (store.into_disk(), Err(unplanned(fault))),
-    }
 }

@@ -64,7 +64,7 @@ returns-clause-wrote g c mutations out =
     D.lasted_at code g.met.D.Disk.tells_both g.met.D.Disk.reads_now a b c.requires.fresh
     c.requires.runs asked.first notes drain told.left in
     subst (λ (d : g.row.D.Denot). (log : List Write) × HasBrought D.changes a.notes.log.disk d
-    a.archives drain mutations log × BringsOnly D.files a.notes.log.disk d log) (sym told.disk)
+    a.archives drain 1 mutations log × BringsOnly D.files a.notes.log.disk d log) (sym told.disk)
     (_, has.0, brings)
 
 pub returns-clause-stay : goal.returns-clause-stay

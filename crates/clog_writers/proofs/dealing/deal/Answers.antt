@@ -5,7 +5,13 @@ use Rattle.clog_mutation.specs.declared.mutation.Mutation.{Mutation}
 use Rattle.clog_mutation.specs.Limits.{IsWithinLimits}
 use Rattle.clog_writers.specs.Crews.{AreDealt}
 use Rattle.clog_writers.proofs.Running.{written_back}
-use Rattle.clog_writers.proofs.Dealt.{DealsOut, all_out, begins_dealing, deals_one}
+use Rattle.clog_writers.proofs.Dealt.{
+  DealsOut,
+  all_out,
+  begins_dealing,
+  deals_one,
+  refused_at,
+}
 use Rattle.clog_writers.proofs.dealing.deal.Goals as goal
 
 pub loop-mutation-init : goal.loop-mutation-init
@@ -30,11 +36,11 @@ loop-mutation-preserved g c =
     let steps = c.in-Some.ensures.steps in record {
       goes = deals_one sizes all rest m l.line l.workers.items _
           (subst (λ (r : List Mutation). DealsOut sizes all r l.line l.workers.items) steps.0
-          I.goes)
+          I.goes) c.in-Ok.ensures.fits
           (λ done dealt is.
-          let more = c.in_ok-give.ensures done m
+          let more = c.in_ok-give-in-Ok.ensures done m
           (subst (AreDealt sizes done) (sym c.as_mut_slice.ensures.value) dealt) is
-          c.in_ok-write.ensures in
+          c.in-Ok.ensures in
           let a = more.count in
           let b = dealt.count in
           subst (AreDealt sizes (done ++ m ∷ []))
@@ -43,6 +49,15 @@ loop-mutation-preserved g c =
       within = (subst (AllByRecursion IsWithinLimits) steps.0 I.within).1;
       count = let short = ap length steps.0 in omega (arith, short, steps.1, I.count);
     }
+
+pub returns-in-Err : goal.returns-in-Err
+returns-in-Err g c =
+    let l = c.loop-mutation in let I = l.invariant in
+    let steps = c.in-Some.ensures.steps in
+    refused_at c.args.sizes c.args.mutations.items c.next.new.self.rest.items c.in-Some.mutation
+    l.line l.workers.items c.in-Err.fault
+    (subst (λ (r : List Mutation). DealsOut c.args.sizes c.args.mutations.items r l.line
+    l.workers.items) steps.0 I.goes) c.in-Err.ensures
 
 pub returns : goal.returns
 returns g c =

@@ -4,10 +4,13 @@ use Rattle.std.proofs.lemmas.List.Elements.{Contains-append_left}
 use Rattle.clog_spec.specs.Sizes.{most_tables}
 use Rattle.path_core.specs.declared.note.EntryNote.{EntryNote}
 use Rattle.path_core.specs.Whole.{IsWhole}
+use Rattle.clog_memtable.specs.declared.flushing.Memtable.{Memtable}
 use Rattle.clog_memtable.specs.Flushing.{MayFlush}
 use Rattle.clog_memtable.specs.Touched.{AreMemtablesOf}
 use Rattle.clog_store.specs.StoreState.{holding_of}
 use Rattle.clog_layout.specs.Laid.{synced_to}
+use Rattle.clog_lines.specs.Drained.{ReachTo}
+use Rattle.clog_lines.proofs.Begins.{begun_of_none, reach_of}
 use Rattle.clog_writers.proofs.LastEnd.{last_below}
 use Rattle.clog_writers.proofs.MayFlush.{may_flush_to}
 use Rattle.clog_writers.proofs.draining.drain_logged.Goals as goal
@@ -36,3 +39,25 @@ drain-requires-clause-may g c =
     subst (MayFlush h) (sym c.as_slice.ensures.value)
     (may_flush_to h c.end_of-upper.result.0 c.in-Ok.memtables.items low are c.requires.tables
     c.requires.none.no_file)
+
+pub returns-in-Ok-clause-begun : goal.returns-in-Ok-clause-begun
+returns-in-Ok-clause-begun g c =
+    let D = g.D.Disk in
+    let h = holding_of D.files D.changes D.moment D.faults g.row.D.coded.code in
+    let logged = c.args.store.now.notes.logged in
+    let upper : c.end_of-upper.result.0 ≡ synced_to logged =
+    c.end_of-upper.ensures ∙ ap synced_to c.logged.ensures in
+    let reach = subst (λ (ms : List Memtable). ReachTo (synced_to logged) ms)
+    (sym c.as_slice.ensures.value)
+    (subst (λ (k : ℕ). ReachTo k c.in-Ok.memtables.items) upper
+    (reach_of c.logged-2.result.now c.end_of-upper.result.0 most_tables c.in-Ok.memtables.items
+    c.in-Ok.ensures)) in
+    c.drain.ensures.begun (synced_to logged) reach
+    (begun_of_none (h c.args.store.now) (synced_to logged) c.requires.none)
+
+pub returns-in-Err-clause-begun : goal.returns-in-Err-clause-begun
+returns-in-Err-clause-begun g c =
+    let D = g.D.Disk in
+    begun_of_none
+    (holding_of D.files D.changes D.moment D.faults g.row.D.coded.code c.args.store.now)
+    (synced_to c.args.store.now.notes.logged) c.requires.none

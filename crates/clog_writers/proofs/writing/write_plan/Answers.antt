@@ -1,4 +1,4 @@
-use Rattle.std.proofs.Common.{◌≡◌, ℕ, ◌≤◌, inl, inr, Bool, List, length, sym, ◌∙◌, ap, subst, arith}
+use Rattle.std.proofs.Common.{◌≡◌, ℕ, ◌≤◌, inl, inr, Bool, List, length, sym, ◌∙◌, ap, subst}
 use Rattle.std.specs.Prelude.{IfOk}
 use Rattle.std.specs.Global.{Vec}
 use Rattle.clog_base.specs.declared.sizes.Sizes.{Sizes}
@@ -10,17 +10,15 @@ use Rattle.path_core.specs.declared.note.EntryNote.{EntryNote}
 use Rattle.path_core.specs.Keeper.{Holding, IsFresh}
 use Rattle.clog_store.specs.Life.{lasting_in}
 use Rattle.clog_store.specs.StoreState.{holding_of}
+use Rattle.clog_lines.specs.Written.{BringsOnly, HasBrought}
 use Rattle.clog_lines.proofs.Synced.{is_fresh}
 use Rattle.write_path.specs.declared.commit.Receipt.{Receipt}
 use Rattle.clog_writers.specs.Left.{least_of}
 use Rattle.clog_writers.specs.Placed.{AreAtTheirLines}
-use Rattle.clog_writers.specs.Written.{
-  BringsShares,
-  HasReceipts,
-  IsAskedBy,
-  TellsWrittenShares,
-}
+use Rattle.clog_writers.specs.Written.{HasReceipts, IsAskedBy, TellsWrittenShares}
 use Rattle.clog_writers.proofs.Brought.{
+  begun_on,
+  brings_only,
   brings_shares,
   first_disk,
   firsts_on,
@@ -29,10 +27,8 @@ use Rattle.clog_writers.proofs.Brought.{
   logs_on,
   still_told,
 }
-use Rattle.clog_writers.proofs.Counted.{as_many_lines}
-use Rattle.clog_writers.proofs.Crashing.{lasting}
 use Rattle.clog_writers.proofs.Ended.{written}
-use Rattle.clog_writers.proofs.LeftBy.{least_reached, left_by}
+use Rattle.clog_writers.proofs.LeftBy.{all_last, least_reached, left_by}
 use Rattle.clog_writers.proofs.Running.{written_back}
 use Rattle.clog_writers.proofs.Told.{at_ok, no_fewer, runs_on}
 use Rattle.clog_writers.proofs.writing.write_plan.Goals as goal
@@ -82,21 +78,21 @@ returns-clause-wrote g c = λ ms plan.
     let drained = c.drain_asked-fault.ensures in
     let sizes = c.args.sizes in
     let base = c.base-base.result in
-    subst (λ (d : g.row.D.Denot). (log : List Write) × BringsShares D.changes a.notes.log.disk d
-    a.archives c.args.drain sizes.writers ms log) (sym told.disk) (
+    let logs = λ (none : _). logs_on D.files D.changes D.moment D.faults g.row.D.coded a b e
+    c.requires.fresh shares.alone drained.keeps drained.first sizes base ms
+    (shares.logs ms plan.dealt none) in
+    let has = brings_shares D.files D.changes D.moment D.faults g.row.D.coded a b e
+    c.requires.fresh shares.alone drained.keeps drained.first told.alone told.ordered told.settled
+    told.notes told.sound c.args.drain sizes base ms
+    (begun_on D.files D.changes D.moment D.faults g.row.D.coded a b e c.requires.fresh
+    shares.alone drained.keeps drained.first c.args.drain _ _ drained.begun logs) in
+    subst (λ (d : g.row.D.Denot). (log : List Write) × HasBrought D.changes a.notes.log.disk d
+    a.archives c.args.drain sizes.writers ms log × BringsOnly D.files a.notes.log.disk d log)
+    (sym told.disk) (
       _,
-      brings_shares D.files D.changes D.moment D.faults g.row.D.coded a b e c.requires.fresh
-          shares.alone drained.keeps drained.first told.alone told.ordered told.notes told.sound
-          c.args.drain sizes base ms
-          (elim drained.begun [
-            | inl none ↦ inl none
-            | inr part ↦ inr (
-              part.0,
-              logs_on D.files D.changes D.moment D.faults g.row.D.coded a b e c.requires.fresh
-                  shares.alone drained.keeps drained.first sizes base ms
-                  (shares.logs ms plan.dealt part.1),
-            )
-          ]),
+      has.0,
+      brings_only D.files D.changes D.moment D.faults g.row.D.coded a b e c.requires.fresh
+          shares.alone drained.keeps drained.first told.left,
     )
 
 pub returns-clause-receipts : goal.returns-clause-receipts
@@ -138,6 +134,11 @@ returns-clause-shown g c = λ ms opened plan is lasted.
     let logs = λ (none : _). logs_on D.files D.changes D.moment D.faults g.row.D.coded a b e
     c.requires.fresh shares.alone drained.keeps drained.first sizes base ms
     (shares.logs ms plan.dealt none) in
+    let has = brings_shares D.files D.changes D.moment D.faults g.row.D.coded a b e
+    c.requires.fresh shares.alone drained.keeps drained.first told.alone told.ordered told.settled
+    told.notes told.sound c.args.drain sizes base ms
+    (begun_on D.files D.changes D.moment D.faults g.row.D.coded a b e c.requires.fresh
+    shares.alone drained.keeps drained.first c.args.drain _ _ drained.begun logs) in
     left_by D.files D.changes D.moment D.since D.leaves D.read_at D.lasted_at
     c.disks_read_now.ensures a.notes.log.disk e
     (its_disk D.files D.changes D.moment D.faults g.row.D.coded a b e c.requires.fresh shares.alone
@@ -156,16 +157,12 @@ returns-clause-shown g c = λ ms opened plan is lasted.
     c.args.drain sizes.writers (least_of c.ended-outcome.result ms) ms held
     (least_reached c.ended-outcome.result ms (lasting_in e.notes.log)
     (at_ok c.ended-outcome.result _ (λ receipts. length ms ≤ lasting_in e.notes.log)
-    c.ended-outcome.ensures.ok (λ receipts so.
-    let some = sizes.within.some_writer in
-    let many = as_many_lines sizes.capacity sizes.writers ms e.notes.logged
-    (omega (arith, some)) (logs (drained.ok so.1).0).notes in
-    let all = lasting e.notes told.notes told.stored sizes.writers ms held in
-    omega (arith, many, all))))
-    (brings_shares D.files D.changes D.moment D.faults g.row.D.coded a b e c.requires.fresh
-    shares.alone drained.keeps drained.first told.alone told.ordered told.notes told.sound
-    c.args.drain sizes base ms
-    (elim drained.begun [ inl none ↦ inl none | inr part ↦ inr (part.0, logs part.1) ]))
+    c.ended-outcome.ensures.ok (λ receipts so. all_last e.notes told.notes told.stored sizes ms held
+    (logs (drained.ok so.1).0).notes))) has.0
+    (λ beyond. elim has.1 [
+      | inl appends ↦ absurd (beyond.other (appends beyond.change beyond.listed))
+      | inr logged ↦ all_last e.notes told.notes told.stored sizes ms held logged.notes
+    ])
     opened is lasted
 
 pub returns-clause-stay : goal.returns-clause-stay
