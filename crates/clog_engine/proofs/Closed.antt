@@ -34,6 +34,7 @@ use Rattle.clog_disk.specs.declared.change.Change.{Change}
 use Rattle.clog_disk.specs.Files.{Files, bytes_at}
 use Rattle.clog_mutation.specs.declared.mutation.Mutation.{Mutation}
 use Rattle.clog_mutation.specs.Payload.{cells_of}
+use Rattle.clog_table.specs.declared.table_file.TableFile.{TableFile}
 use Rattle.clog_text.specs.CellTexts.{row_line}
 use Rattle.clog_words.specs.declared.request.ApplyOptions.{ApplyOptions}
 use Rattle.clog_crash.specs.Readings.{RestoresIn}
@@ -45,7 +46,7 @@ use Rattle.path_core.specs.Keys.{first_offset, fits, next_segment, ordinal_of}
 use Rattle.clog_store.specs.Opened.{IsOpened}
 use Rattle.clog_applied.specs.Applied.{MergeIsKept}
 use Rattle.clog_applied.specs.Asked.{IsBatch}
-use Rattle.clog_applied.specs.Closed.{ClosedRun}
+use Rattle.clog_applied.specs.Closed.{ClosedRun, IsClosedPath, IsStoreLeft}
 use Rattle.clog_applied.specs.History.{LoggedLine, logged_at}
 use Rattle.clog_applied.specs.Opening.{IsRecoveryChange}
 use Rattle.clog_applied.specs.Printed.{
@@ -102,6 +103,24 @@ rows_text true head report cells ms before after kept restored is = (
   is.text,
 )
 
+-- behind a head with these receipts
+pub printed_by : (options : ApplyOptions) (head receipts : List ℕ) (history : List LoggedLine)
+    (cells : List (CellKey × Cell)) (ms : List Mutation) (report : List ℕ) (before after : Files)
+    → AreReceipts options.receipts history (length ms) receipts
+    → head ≡ applied_line (length ms) ++ receipts → MergeIsKept before after ms
+    → (options.dump ≡ true → IsRestored before cells) → IsReport options.dump head cells ms report
+    → ReportIsPrinted options after (length ms) history report
+printed_by options head receipts history cells ms report before after are head_is kept restored is =
+    let rows = rows_text options.dump head report cells ms before after kept restored is in
+    record {
+      receipts = receipts;
+      rows = rows.0;
+      receipts_are = are;
+      rows_are = rows.1;
+      text = rows.2 ∙ ap (λ (h : List ℕ). h ++ rows.0) head_is
+          ∙ append_assoc (applied_line (length ms)) receipts rows.0;
+    }
+
 is_printed : (options : ApplyOptions) (base : ℕ) (notes : List EntryNote)
     (history : List LoggedLine) (cells : List (CellKey × Cell)) (ms : List Mutation)
     (report : List ℕ) (before after : Files) → length notes ≡ length ms
@@ -114,25 +133,17 @@ is_printed options base notes history cells ms report before after many are by_l
     restored is =
     let receipts = receipts_text options.receipts base (length ms) notes history are by_line
     positions in
-    let rows = rows_text options.dump (head_of options.receipts base notes) report cells ms before
-    after kept restored is in
-    record {
-      receipts = receipts.0;
-      rows = rows.0;
-      receipts_are = receipts.1;
-      rows_are = rows.1;
-      text = rows.2 ∙ ap (λ (head : List ℕ). head ++ rows.0) receipts.2
-          ∙ append_assoc (applied_line (length notes)) receipts.0 rows.0
-          ∙ ap (λ (n : ℕ). applied_line n ++ (receipts.0 ++ rows.0)) many;
-    }
+    printed_by options (head_of options.receipts base notes) receipts.0 history cells ms report
+    before after receipts.1
+    (receipts.2 ∙ ap (λ (n : ℕ). applied_line n ++ receipts.0) many) kept restored is
 
 -- ---- the run
 
 pub is_asked : (options : ApplyOptions) (sizes : Sizes) (archives : Bool) → IsDoable options
-    → AreSizesOf options sizes → archives ≡ options.archive
+    → options.writers ≡ 1 → AreSizesOf options sizes → archives ≡ options.archive
     → IsAskedBy options sizes archives options.drain
-is_asked options sizes archives doable sizes_are archive = record {
-  one_writer = ap (λ (o : ApplyOptions). o.writers) doable.plain;
+is_asked options sizes archives doable one sizes_are archive = record {
+  one_writer = one;
   periodic = ap (λ (o : ApplyOptions). o.sync) doable.plain;
   no_flush = ap (λ (o : ApplyOptions). o.flush_at) doable.plain;
   capacity = sym sizes_are.capacity;
@@ -140,34 +151,35 @@ is_asked options sizes archives doable sizes_are archive = record {
   archive_is = sym archive;
 }
 
-not_batch : (options : ApplyOptions) → IsDoable options → IsBatch options → ⊥
+pub not_batch : (options : ApplyOptions) → IsDoable options → IsBatch options → ⊥
 not_batch options doable batch =
     let periodic : options.sync ≡ Periodic 10000 =
     ap (λ (o : ApplyOptions). o.sync) doable.plain in
     let same : Batch ≡ Periodic 10000 = sym batch ∙ periodic in
     cc
 
-abbrev closed : (options : ApplyOptions) (before opened after : Files)
-    (recovery later : List Change) (ms : List Mutation) (notes : List EntryNote)
-    (moment base : ℕ) → IsDoable options
+abbrev pub closed : (options : ApplyOptions) (before opened after : Files)
+    (recovery later : List Change) (ms : List Mutation) (moment base : ℕ) (ids dropped : List ℕ)
+    (history : List LoggedLine) (files : List TableFile) → IsDoable options
     → IsOpened before moment base opened
     → ((c : Change) → Contains recovery c → IsRecoveryChange before c)
-    → HasWritten options base opened after later ms notes
+    → IsClosedPath options ms base history files
+    → IsStoreLeft options.archive opened after later ids dropped history files
     → ClosedRun options before after (recovery ++ later) ms
-closed options before opened after recovery later ms notes moment base doable is_opened changes w =
-    record {
+closed options before opened after recovery later ms moment base ids dropped history files doable
+    is_opened changes path store = record {
       base = base;
       opened = opened;
       recovery = recovery;
       later = later;
-      ids = w.ids;
-      dropped = w.dropped;
-      history = w.history;
-      files = w.files;
+      ids = ids;
+      dropped = dropped;
+      history = history;
+      files = files;
       parts = refl;
       opening = is_opening before opened moment base recovery is_opened changes;
-      path = w.path;
-      store = w.store;
+      path = path;
+      store = store;
       apart = λ batch. absurd (not_batch options doable batch);
     }
 
@@ -204,8 +216,8 @@ pub run_of : (o : Outside) (options : ApplyOptions) (before opened after : Files
     → IsRun o options ms report before after (recovery ++ later)
 run_of o options before opened after recovery later sizes ms notes moment base cells report doable
     tells laid is_opened changes w many restored is =
-    let run = closed options before opened after recovery later ms notes moment base doable
-    is_opened changes w in
+    let run = closed options before opened after recovery later ms moment base w.ids w.dropped
+    w.history w.files doable is_opened changes w.path w.store in
     let all = recovery ++ later in
     let printed = is_printed options base notes w.history cells ms report before after many
     w.lines.notes w.by_line w.positions (merge_kept options before after all ms run) restored is in
@@ -214,8 +226,9 @@ run_of o options before opened after recovery later sizes ms notes moment base c
       moment = moment;
       told = tells;
       opened = is_opened;
-      begins = first_there sizes laid.raw notes base w.history laid.laid w.lines.notes;
-      reach = w.reach;
+      begins = λ one. first_there sizes laid.raw notes base w.history laid.laid w.lines.notes;
+      reach = λ one. w.reach;
+      names = w.names;
       printed = printed;
       kept = with_report options before after all ms report run printed;
     }

@@ -16,7 +16,8 @@ use Rattle.clog_crash.specs.Readings.{Reading, RestoresIn}
 use Rattle.clog_crash.proofs.changes.Covering.{either_same, exactly, merge_then}
 use Rattle.clog_store.specs.Opened.{KeepsFolder}
 use Rattle.clog_store.proofs.OpenedWhole.{image_keeps, lasts_on}
-use Rattle.clog_lines.specs.Written.{LeavesLines, RestoresLines}
+use Rattle.clog_lines.specs.Written.{RestoresLines}
+use Rattle.clog_writers.specs.Left.{LeavesShares, said_by}
 use Rattle.clog_engine.specs.Apply.{AddsFirst}
 
 -- ---- one image
@@ -82,18 +83,30 @@ module _ {D : Type 0} (changes : D → Option (List Change)) (moment : D → ℕ
 
   -- and while lines are written
   pub while_written : (start opened now : D) (first then : Files) (archives drain : Bool)
-      (ms : List Mutation) (least : ℕ) → KeepsFolder first then
+      (writers : ℕ) (ms : List Mutation) (least : ℕ) → KeepsFolder first then
       → LeavesOnly moment since start opened (KeepsFolder first)
-      → (lines : LeavesLines changes moment since leaves opened now (bytes_at then) archives drain
-      ms least)
+      → (lines : LeavesShares changes moment since leaves opened now (bytes_at then) archives
+      drain writers ms least)
       → (image : Files) → since now (moment start) image → NoChances lines.log image
-      → AddsFirst first ms 0 image
-  while_written start opened now first then archives drain ms least kept opening lines =
-      let has = λ (image : Files). NoChances lines.log image → AddsFirst first ms 0 image in
+      → AddsFirst first (said_by lines.history) 0 image
+  while_written start opened now first then archives drain writers ms least kept opening lines =
+      let said = said_by lines.history in
+      let has = λ (image : Files). NoChances lines.log image → AddsFirst first said 0 image in
       let before = weakened moment since start opened (KeepsFolder first) has opening
-      (λ image keeps chance. adds_none first image ms keeps) in
+      (λ image keeps chance. adds_none first image said keeps) in
       let after = weakened moment since opened now (λ image.
-      NoChances lines.log image → RestoresLines (bytes_at then) ms 0 image) has lines.meanwhile
+      NoChances lines.log image → RestoresLines (bytes_at then) said 0 image) has lines.meanwhile
       (λ image restores chance.
-      adds_lines first then image ms 0 kept (restores chance)) in
+      adds_lines first then image said 0 kept (restores chance)) in
       (goes_on_by moment since start opened now has before after).each
+
+-- at least so many lines are at least none
+pub adds_some : (first image : Files) (ms : List Mutation) (least : ℕ)
+    → AddsFirst first ms least image → AddsFirst first ms 0 image
+adds_some first image ms least adds = record {
+  n = adds.n;
+  enough = omega arith;
+  some = adds.some;
+  restores = adds.restores;
+  undamaged = adds.undamaged;
+}

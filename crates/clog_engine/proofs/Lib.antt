@@ -1,6 +1,7 @@
 pub mod Applied
 pub mod Closed
 pub mod Complete
+pub mod Copied
 pub mod FewMutations
 pub mod GoodInput
 pub mod Images
@@ -12,5 +13,6 @@ pub mod ReceiptLines
 mod Replays
 pub mod ScanReports
 pub mod SegmentFiles
+pub mod SharesApplied
 pub mod Told
 pub mod WordsAsked

@@ -4,6 +4,7 @@ use Rattle.std.proofs.Common.{
   ℕ,
   List,
   ◌++◌,
+  ◌<◌,
   length,
   map,
   Option,
@@ -62,10 +63,12 @@ use Rattle.clog_lines.specs.Written.{
   BringsOnly,
   HasBrought,
   HasWriteCause,
-  LeavesLines,
   TellsWritten,
   least_of,
 }
+use Rattle.clog_writers.specs.Left.{LeavesShares, said_by}
+use Rattle.clog_writers.specs.Written.{TellsWrittenShares}
+use Rattle.write_path.specs.declared.commit.Receipt.{Receipt}
 use Rattle.clog_engine.specs.Apply.{
   Applies,
   Becomes,
@@ -81,10 +84,11 @@ use Rattle.clog_engine.specs.Apply.{
 use Rattle.clog_engine.specs.Input.{IsSized}
 use Rattle.clog_engine.specs.Outside.{IsLeftAlone, Outside, outside_with}
 use Rattle.clog_engine.specs.Refusal.{ended_as}
-use Rattle.clog_engine.specs.Report.{IsReport, head_of}
+use Rattle.clog_engine.specs.Report.{IsReport, head_of, head_with}
 use Rattle.clog_engine.specs.Request.{IsDoable}
 use Rattle.clog_engine.proofs.Closed.{run_of}
 use Rattle.clog_engine.proofs.Images.{adds_lines, while_opened, while_written}
+use Rattle.clog_engine.proofs.SharesApplied.{run_of_shares}
 
 -- ---- what is told
 
@@ -127,7 +131,7 @@ brings_over base first then after ids recovered brings name absent held =
 
 -- ---- how a run ends whose lines were to be written
 
-turns_where : {T : Type 0} (outcome : Result T KeeperFault) (o : Outside)
+pub turns_where : {T E : Type 0} (outcome : Result T E) (o : Outside)
     (P : Files → Files → List Change → Type 0)
     → ((before : Files) (made : List Change) → o.files ≡ Some before → o.changes ≡ Some made
     → OnOk outcome (Becomes o made (P before)))
@@ -135,7 +139,7 @@ turns_where : {T : Type 0} (outcome : Result T KeeperFault) (o : Outside)
 turns_where (ok done) o P each = each
 turns_where (err fault) o P each = tt
 
-pub on_ok : {T : Type 0} (outcome : Result T KeeperFault) (A B : Type 0) → OnOk outcome A
+pub on_ok : {T E : Type 0} (outcome : Result T E) (A B : Type 0) → OnOk outcome A
     → (A → B) → OnOk outcome B
 on_ok (ok done) A B has then = then has
 on_ok (err fault) A B has then = tt
@@ -306,7 +310,7 @@ module _ {D C : Type 0} (disk : DiskTells D) (clock : ClockTells C)
     -- what was appended behind the recovery
     written : (now : D) (options : ApplyOptions) (ms : List Mutation) (first : Files)
         → disk.files looked ≡ Some first → (log : List Write)
-        → HasBrought disk.changes opened now options.archive options.drain ms log
+        → HasBrought disk.changes opened now options.archive options.drain options.writers ms log
         → HasWrittenLog (outside_at now) options first ms log
     written now options ms first is log has = record {
       between = disk.changes opened;
@@ -319,7 +323,7 @@ module _ {D C : Type 0} (disk : DiskTells D) (clock : ClockTells C)
     }
 
     pub wrote : (now : D) (options : ApplyOptions) (ms : List Mutation) → (log : List Write)
-        × HasBrought disk.changes opened now options.archive options.drain ms log
+        × HasBrought disk.changes opened now options.archive options.drain options.writers ms log
         × BringsOnly disk.files opened now log → SameTold (disk.files opened) (disk.files now)
         → Wrote (outside_at now) options ms
     wrote now options ms has told = if_told (disk.files start) (disk.files looked)
@@ -352,8 +356,8 @@ module _ {D C : Type 0} (disk : DiskTells D) (clock : ClockTells C)
     pub lasts_first : (now : D) (options : ApplyOptions) (ms : List Mutation) (least : ℕ)
         → ((then : Files) → disk.files opened ≡ Some then → (first : Files)
         → disk.files looked ≡ Some first → LastsAll first (disk.leaves looked)
-        → LeavesLines disk.changes disk.moment disk.since disk.leaves opened now (bytes_at then)
-        options.archive options.drain ms least)
+        → LeavesShares disk.changes disk.moment disk.since disk.leaves opened now (bytes_at then)
+        options.archive options.drain options.writers ms least)
         → LastsFirst (outside_at now) options ms least
     unfolding written
     lasts_first now options ms least leaves = if_told (disk.files start) (disk.files looked)
@@ -362,20 +366,22 @@ module _ {D C : Type 0} (disk : DiskTells D) (clock : ClockTells C)
         let then = opened_as (disk.files looked) (disk.files opened) moment base first is opens in
         let kept = keeps_same first then.0 then.2.recovered.same in
         let lines = leaves then.0 then.1 first is (lasting first lasts) in
+        let said = said_by lines.history in
         let opening = while_opened disk.changes disk.moment disk.since disk.leaves disk.read_at
         disk.lasted_at start looked opened first only lasts still.same.images still.time
         (any first is (lasting first lasts)) in
         record {
           log = lines.log;
+          history = lines.history;
           wrote = written now options ms first is lines.log lines.wrote;
           says = lines.says;
           since = while_written disk.changes disk.moment disk.since disk.leaves disk.read_at
-              disk.lasted_at start opened now first then.0 options.archive options.drain ms least
-              kept opening lines;
+              disk.lasted_at start opened now first then.0 options.archive options.drain
+              options.writers ms least kept opening lines;
           now = λ image left chance.
-              adds_lines first then.0 image ms least kept (lines.at_last image left chance);
+              adds_lines first then.0 image said least kept (lines.at_last image left chance);
           at_drain = λ beyond image left chance.
-              adds_lines first then.0 image ms (length ms) kept
+              adds_lines first then.0 image said (length ms) kept
               (lines.at_drain beyond image left chance);
         })
 
@@ -415,3 +421,36 @@ module _ {D C : Type 0} (disk : DiskTells D) (clock : ClockTells C)
               subst (λ (o : Option Files). IfSome o (λ held. IsRestored held cells)) files_are
               (restored dumped)) is;
         }))
+
+    -- and where several writers have logged them
+    pub turns_shares : (now : D) (options : ApplyOptions) (ms : List Mutation)
+        (receipts : List Receipt) (cells : List (CellKey × Cell)) (report : List ℕ)
+        → IsDoable options → 1 < options.writers → clock.tells at moment
+        → length receipts ≡ length ms
+        → (options.dump ≡ true → IfSome (disk.files start) (λ first. IsRestored first cells))
+        → IsReport options.dump (head_with options.receipts receipts) cells ms report
+        → ((then : Files) (made : List Change) → disk.files opened ≡ Some then
+        → disk.changes opened ≡ Some made
+        → TellsWrittenShares options base then made (disk.files now) (disk.changes now) ms receipts)
+        → Turns (outside_at now) (IsRun (outside_at now) options ms report)
+    turns_shares now options ms receipts cells report doable several tells long restored is told =
+        λ first made files_are changes_are.
+        let there : disk.files looked ≡ Some first = still.same.files ∙ files_are in
+        let then = opened_as (disk.files looked) (disk.files opened) moment base first there opens
+        in
+        let recovery = recovery_changes first made (disk.changes opened)
+        (subst (λ (c : Option (List Change)). RecoversAll first c (disk.changes opened))
+        (still.changes_are ∙ changes_are) (recovers first there)) in
+        let all = told then.0 (made ++ recovery.0) then.1 recovery.1 in
+        record {
+          after = all.after;
+          added = recovery.0 ++ all.later;
+          files_are = all.files_are;
+          changes_are = all.changes_are ∙ ap Some (append_assoc made recovery.0 all.later);
+          is = run_of_shares (outside_at now) options first then.0 all.after recovery.0 all.later
+              ms receipts moment base cells report doable several tells then.2 recovery.2
+              all.written long
+              (λ dumped.
+              subst (λ (o : Option Files). IfSome o (λ held. IsRestored held cells)) files_are
+              (restored dumped)) is;
+        }

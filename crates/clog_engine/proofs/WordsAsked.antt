@@ -101,13 +101,24 @@ asked_segments (command ∷ words) options asks =
     number_within 32768 4 32768 (said (codes "segment-kib") asks.1.settings) options.segment_kib
     (omega arith) (omega arith) asks.1.says.segment_kib
 
+asked_writers : (words : List (List ℕ)) (options : ApplyOptions) → Asks words (Apply options)
+    → (1 ≤ options.writers) × (options.writers ≤ 64)
+asked_writers [] options asks = absurd asks
+asked_writers (command ∷ words) options asks =
+    number_within 1 1 64 (said (codes "writers") asks.1.settings) options.writers (omega arith)
+    (omega arith) asks.1.says.writers
+
 -- what words ask of `apply` can be done
 pub doable : (words : List (List ℕ)) (options : ApplyOptions)
     → AsksBuilt words (built.Apply options) → IsDoable options
 doable words options asked =
-    let within = asked_segments words options (subst (Asks words) asked.is_built.0 asked.asks) in
+    let asks = subst (Asks words) asked.is_built.0 asked.asks in
+    let within = asked_segments words options asks in
+    let writers = asked_writers words options asks in
     record {
       plain = asked.is_built.1;
+      some_writer = writers.0;
+      few_writers = writers.1;
       least = within.0;
       most = within.1;
     }

@@ -68,13 +68,11 @@ use Rattle.clog_applied.specs.History.{LoggedLine}
 use Rattle.clog_applied.specs.Onward.{ReachesNoFurther}
 use Rattle.clog_applied.specs.Printed.{ReportIsPrinted}
 use Rattle.clog_closing.specs.Logs.{id_of}
-use Rattle.clog_lines.specs.Written.{
-  AreLaidFor,
-  AreMadeFor,
-  GoesBeyond,
-  IsWrittenBy,
-  SaysFirst,
-}
+use Rattle.clog_closing.specs.NextNames.{HaveNextNames}
+use Rattle.clog_lines.specs.Written.{AreLaidFor, AreMadeFor, GoesBeyond, IsWrittenBy}
+use Rattle.clog_writers.specs.Left.{SaysShares, said_by}
+use Rattle.clog_writers.specs.Written.{HasReceipts}
+use Rattle.write_path.specs.declared.commit.Receipt.{Receipt}
 use Rattle.clog_engine.specs.declared.status.Status.{Status}
 use Rattle.clog_engine.specs.declared.status.Status.TheVariants.{
   BadLine,
@@ -95,7 +93,7 @@ use Rattle.clog_engine.specs.Input.{
   Takes,
 }
 use Rattle.clog_engine.specs.Outside.{Outside, IsLeftAlone}
-use Rattle.clog_engine.specs.Report.{IsReport, head_of}
+use Rattle.clog_engine.specs.Report.{IsReport, head_of, head_with}
 use Rattle.clog_engine.specs.Request.{AreSizesOf}
 
 -- The source was read to its end, and the bytes that it gave are such.
@@ -117,15 +115,15 @@ pub record AddsFirst (before : Files) (mutations : List Mutation) (least : ℕ) 
   pub undamaged : IsUndamaged before → IsUndamaged image
 
 -- The run's changes are those of a recovery, and then others whose appends have brought these
--- segments. These write the lines: they are appends alone, or those of a drain that has begun, in
--- order.
+-- segments. By these so many writers log the lines: they are appends alone, or those of a drain that
+-- has begun, in order.
 pub record HasWrittenLog (o : Outside) (options : ApplyOptions) (before : Files)
     (mutations : List Mutation) (log : List Write) : Type 0 where
   pub between : Option (List Change)
   pub recovered : RecoversAll before o.changes between
   pub added : List Change
   pub changes_are : o.changes_now ≡ option_map (λ made. made ++ added) between
-  pub made_for : AreMadeFor options.archive options.drain mutations added
+  pub made_for : AreMadeFor options.archive options.drain options.writers mutations added
   pub brought : IsWrittenBy (appends_of added) log
 
 -- Where the disk tells its files, that is all that was changed, and no other name has come than those
@@ -136,19 +134,21 @@ Wrote o options mutations = IfSome o.files
     × Told o.files_now (BringsNoOther (map id_of log) before))
 
 -- A crash at any moment of the run leaves what restores so, and a crash now at least so many of the
--- lines, where nothing passes by chance for what was written: the segments that were appended,
--- which say the first of the lines. Where the changes go beyond appends, it leaves all of them.
+-- lines, where nothing passes by chance for what was written: the segments that were appended, which
+-- say a history whose lines are, of each writer, the first of its share. Its lines come in the order
+-- of the log. Where the changes go beyond appends, a crash leaves all of them.
 pub record LeavesFirst (o : Outside) (options : ApplyOptions) (before : Files)
     (mutations : List Mutation) (least : ℕ) : Type 0 where
   pub log : List Write
+  pub history : List LoggedLine
   pub wrote : HasWrittenLog o options before mutations log
-  pub says : SaysFirst log mutations
+  pub says : SaysShares options.writers mutations log history
   pub since : (image : Files) → o.since image → NoChances log image
-      → AddsFirst before mutations 0 image
+      → AddsFirst before (said_by history) 0 image
   pub now : (image : Files) → IsImage o.leaves_now image → NoChances log image
-      → AddsFirst before mutations least image
+      → AddsFirst before (said_by history) least image
   pub at_drain : GoesBeyond wrote.added → (image : Files) → IsImage o.leaves_now image
-      → NoChances log image → AddsFirst before mutations (length mutations) image
+      → NoChances log image → AddsFirst before (said_by history) (length mutations) image
 
 -- Where the disk tells its files, and all of them lasted before, a crash leaves that.
 abbrev pub LastsFirst : Outside → ApplyOptions → List Mutation → ℕ → Type 0
@@ -163,17 +163,19 @@ BeginsIn id [] = ⊤
 BeginsIn id (w ∷ ws) = w.id ≡ id
 
 -- The folder was opened at a moment that the clock told, from which and from the ids that it named
--- the base is; the first line stands there, and the run is closed and reaches no further than its
--- lines. So its promises are kept.
+-- the base is; the run is closed, and its table files have the next names of their tables. Of one
+-- writer its first line stands there, and it reaches no further than its lines. So its promises are
+-- kept.
 pub record IsRun (o : Outside) (options : ApplyOptions) (mutations : List Mutation)
     (report : List ℕ) (before after : Files) (added : List Change) : Type 0 where
   pub closed : ClosedRun options before after added mutations
   pub moment : ℕ
   pub told : o.tells moment
   pub opened : IsOpened before moment closed.base closed.opened
-  pub begins : BeginsIn closed.base closed.history
-  pub reach : ReachesNoFurther options closed.base closed.later closed.ids closed.history
-      closed.files
+  pub begins : options.writers ≡ 1 → BeginsIn closed.base closed.history
+  pub reach : options.writers ≡ 1 → ReachesNoFurther options closed.base closed.later closed.ids
+      closed.history closed.files
+  pub names : HaveNextNames closed.opened after closed.files
   pub printed : ReportIsPrinted options after (length mutations) closed.history report
   pub kept : IsAppliedRun options before after added mutations report
 
@@ -193,7 +195,7 @@ Turns o P = (before : Files) (made : List Change) → o.files ≡ Some before
     → o.changes ≡ Some made → Becomes o made (P before)
 
 -- The report of lines that are laid out from some base on, over some cells.
-pub record IsReported (options : ApplyOptions) (mutations : List Mutation) (report : List ℕ)
+pub record IsLaidReport (options : ApplyOptions) (mutations : List Mutation) (report : List ℕ)
     : Type 0 where
   pub sizes : Sizes
   pub sizes_are : AreSizesOf options sizes
@@ -202,6 +204,24 @@ pub record IsReported (options : ApplyOptions) (mutations : List Mutation) (repo
   pub base : ℕ
   pub cells : List (CellKey × Cell)
   pub text : IsReport options.dump (head_of options.receipts base notes) cells mutations report
+
+-- The report of lines that several writers have logged from some base on, over some cells: each
+-- writer its share, in order.
+pub record IsSharesReport (options : ApplyOptions) (mutations : List Mutation) (report : List ℕ)
+    : Type 0 where
+  pub sizes : Sizes
+  pub sizes_are : AreSizesOf options sizes
+  pub base : ℕ
+  pub receipts : List Receipt
+  pub logged : HasReceipts sizes base mutations receipts
+  pub cells : List (CellKey × Cell)
+  pub text : IsReport options.dump (head_with options.receipts receipts) cells mutations report
+
+-- what the report says, by the count of writers
+pub record IsReported (options : ApplyOptions) (mutations : List Mutation) (report : List ℕ)
+    : Type 0 where
+  pub by_one : options.writers ≡ 1 → IsLaidReport options mutations report
+  pub by_several : 1 < options.writers → IsSharesReport options mutations report
 
 -- The lines of the file are applied, and what the report says, whatever the disk tells. Each image
 -- of now has them all.

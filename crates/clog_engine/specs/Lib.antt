@@ -7,6 +7,7 @@ pub mod Input
 pub mod Laying
 pub mod Limits
 pub mod Outside
+pub mod Planning
 pub mod Quiet
 pub mod Reading
 pub mod Refusal

@@ -1,5 +1,6 @@
--- How a run ends whose disk or folder is refused.
-use Rattle.std.specs.Prelude.{List, ℕ, Result}
+-- How a run ends whose disk or folder is refused, or whose lines were written.
+use Rattle.std.specs.Prelude.{◌≡◌, List, ◌++◌, ℕ, Bool, Result, Vec}
+use Rattle.std.specs.declared.alloc.Global.{Global}
 use Rattle.std.specs.declared.result.Result.TheVariants as result
 use Rattle.clog_disk.specs.declared.disk.DiskFault.{DiskFault}
 use Rattle.clog_disk.specs.declared.disk.DiskFault.TheVariants as fault
@@ -7,6 +8,10 @@ use Rattle.clog_folder.specs.declared.fault.OpenFault.{OpenFault}
 use Rattle.clog_folder.specs.declared.fault.OpenFault.TheVariants as refusal
 use Rattle.path_core.specs.declared.keeper.KeeperFault.{KeeperFault}
 use Rattle.path_core.specs.declared.keeper.KeeperFault.TheVariants as keeper
+use Rattle.write_path.specs.declared.commit.Receipt.{Receipt}
+use Rattle.clog_writers.specs.declared.fault.WriteFault.{WriteFault}
+use Rattle.clog_writers.specs.declared.fault.WriteFault.TheVariants.{Spent, Stopped}
+use Rattle.clog_engine.specs.declared.report.PendingReport.{PendingReport}
 use Rattle.clog_engine.specs.declared.status.Status.{Status}
 use Rattle.clog_engine.specs.declared.status.Status.TheVariants.{
   DiskFault as HasDiskFault,
@@ -15,6 +20,7 @@ use Rattle.clog_engine.specs.declared.status.Status.TheVariants.{
   OutOfMemory,
   Limit,
 }
+use Rattle.clog_engine.specs.Report.{head_with}
 
 abbrev pub status_of : DiskFault → Status
 status_of fault.Failed = HasDiskFault
@@ -33,3 +39,18 @@ abbrev pub ended_as : {T : Type 0} → List ℕ → Result T KeeperFault → Res
 ended_as report (result.Ok done) = result.Ok report
 ended_as report (result.Err (keeper.Stopped at_open now)) = result.Err HasDiskFault
 ended_as report (result.Err keeper.OutOfMemory) = result.Err OutOfMemory
+
+-- lines were not refused for want of segments
+abbrev pub IsUnspent : {T : Type 0} → Result T WriteFault → Type 0
+IsUnspent outcome = outcome ≡ result.Err Spent → ⊥
+
+-- A report whose head was to come, where several writers logged all lines; want of memory comes of
+-- both.
+abbrev pub IsToldAs : Bool → PendingReport → Result (Vec Receipt Global) WriteFault
+    → Result (List ℕ) Status → Type 0
+IsToldAs receipts pending (result.Ok told) (result.Ok report) =
+    report ≡ head_with receipts told.items ++ pending.rows.items
+IsToldAs receipts pending (result.Ok told) (result.Err status) = status ≡ OutOfMemory
+IsToldAs receipts pending (result.Err (Stopped at_open now)) told =
+    told ≡ result.Err HasDiskFault
+IsToldAs receipts pending (result.Err other) told = told ≡ result.Err OutOfMemory

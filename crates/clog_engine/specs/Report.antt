@@ -22,6 +22,7 @@ use Rattle.clog_mutation.specs.Payload.{cells_of}
 use Rattle.clog_text.specs.CellTexts.{row_line}
 use Rattle.path_core.specs.declared.note.EntryNote.{EntryNote}
 use Rattle.clog_applied.specs.Printed.{applied_line, line, receipt_line}
+use Rattle.write_path.specs.declared.commit.Receipt.{Receipt}
 
 -- a word, a space and a number
 abbrev pub numbered_line : List ℕ → ℕ → List ℕ
@@ -38,12 +39,24 @@ receipt_at base n =
 abbrev pub receipts_of : ℕ → List EntryNote → List ℕ
 receipts_of base notes = flat_map (receipt_at base) notes
 
+-- the receipt of a line by its position, and those of lines
+abbrev pub receipt_told : Receipt → List ℕ
+receipt_told r = receipt_line r.line r.position.id r.position.offset
+
+abbrev pub receipts_told : List Receipt → List ℕ
+receipts_told receipts = flat_map receipt_told receipts
+
 -- ---- the report
 
 -- how many lines were applied, with their receipts where they are asked for
 abbrev pub head_of : Bool → ℕ → List EntryNote → List ℕ
 head_of false base notes = applied_line (length notes)
 head_of true base notes = applied_line (length notes) ++ receipts_of base notes
+
+-- the same by the receipts of all lines, in the order of the lines
+abbrev pub head_with : Bool → List Receipt → List ℕ
+head_with false receipts = applied_line (length receipts)
+head_with true receipts = applied_line (length receipts) ++ receipts_told receipts
 
 -- that, with the rows where they are asked for
 abbrev pub report_of : Bool → List ℕ → List (CellKey × Cell) → List ℕ
@@ -61,3 +74,10 @@ pub record IsDump (head : List ℕ) (before : List (CellKey × Cell)) (mutations
 abbrev pub IsReport : Bool → List ℕ → List (CellKey × Cell) → List Mutation → List ℕ → Type 0
 IsReport false head before mutations report = report ≡ report_of false head []
 IsReport true head before mutations report = IsDump head before mutations report
+
+-- the text of the rows that cells of before and others merge to, where they are asked for
+abbrev pub AreRowsOf : Bool → List (CellKey × Cell) → List (CellKey × Cell) → List ℕ → Type 0
+AreRowsOf false before cells text = text ≡ []
+AreRowsOf true before cells text =
+    (rows : List (CellKey × Cell)) × IsMerge (before ++ cells) rows
+    × (text ≡ flat_map row_line rows)

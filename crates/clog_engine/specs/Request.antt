@@ -9,15 +9,19 @@ use Rattle.clog_words.specs.Built.{AsksBuilt, plain_options}
 use Rattle.clog_words.specs.Given.{texts}
 use Rattle.clog_applied.specs.Asked.{capacity_of}
 
--- The capacity is within its limits, and no option asks for what is not done.
+-- The count of writers and the capacity are within their limits, and no option asks for what is not
+-- done.
 pub record IsDoable (options : ApplyOptions) : Type 0 where
   pub plain : options ≡ plain_options options
+  pub some_writer : 1 ≤ options.writers
+  pub few_writers : options.writers ≤ 64
   pub least : 4 ≤ options.segment_kib
   pub most : options.segment_kib ≤ 32768
 
--- How large a log is whose segments have the capacity that is asked for, and are as many as there
--- may be, of as many tables.
+-- How large a log is that has as many writers as are asked for, and whose segments have the capacity
+-- that is asked for, and are as many as there may be, of as many tables.
 pub record AreSizesOf (options : ApplyOptions) (sizes : Sizes) : Type 0 where
+  pub writers : sizes.writers ≡ options.writers
   pub capacity : sizes.capacity ≡ capacity_of options
   pub ordinals : sizes.ordinals ≡ most_segments
   pub tables : sizes.tables ≡ most_tables

@@ -21,6 +21,7 @@ use crate::input::{bytes_of, mutations_of};
 use crate::lines::{LaidLines, lay_lines};
 use crate::refusal::folder_status;
 use crate::report::{head, report};
+use crate::sharing::apply_by_several;
 use crate::status::Status;
 use crate::words::sizes_of;
 use clog_base::{Bytes, OutOfMemory, Sizes};
@@ -33,6 +34,7 @@ use clog_store::Store;
 use clog_words::ApplyOptions;
 use path_core::{EntryNote, KeeperFault};
 use std::alloc::Global;
+use std::sync::Wait;
 use std::thread::Threads;
 
 impl From<OutOfMemory> for Status {
@@ -104,6 +106,7 @@ fn apply_lines<T: Threads + Sync, D: Disk, C: Clock, G: Gate + Sync>(
     gate: &G,
 ) -> (D, Result<Bytes, Status>)
     requires doable { IsDoable options }
+    requires one { options.writers ≡ 1 }
     requires sizes { AreSizesOf options sizes }
     requires laid { AreLaidLines sizes lines }
     ensures applies { (left left_now : Option (List ℕ)) (f g : ℕ) (bytes : List ℕ)
@@ -137,9 +140,39 @@ fn apply_lines<T: Threads + Sync, D: Disk, C: Clock, G: Gate + Sync>(
     }
 }
 
+// Applies the source's lines by one writer.
+fn apply_by_one<T: Threads + Sync, S: Source, D: Disk, C: Clock, G: Gate + Sync>(
+    rt: &T,
+    alloc: Global,
+    options: ApplyOptions,
+    source: &mut S,
+    disk: D,
+    clock: &C,
+    gate: &G,
+) -> (D, Result<Bytes, Status>)
+    requires doable { IsDoable options }
+    requires one { options.writers ≡ 1 }
+    ensures applies { Applies options (outside_of S.Source D.Disk C.Clock source.old source.new
+        disk result.0 clock.now) result.1 }
+    ensures quiet { TellsEach (D.faults disk) (D.faults result.0) result.1 }
+    ensures uncalled { IsRefusedBefore result.1 → result.0 ≡ disk }
+{
+    let sizes = sizes_of(&options);
+    match read_lines(rt, alloc, sizes, source) {
+        Ok(lines) => apply_lines(rt, alloc, options, sizes, lines, disk, clock, gate),
+        Err(status) => (disk, Err(status)),
+    }
+}
+
 /// Applies the source's lines to the disk, and gives the report. The clock is asked once, where the
 /// folder is not refused before.
-pub(crate) fn apply<T: Threads + Sync, S: Source, D: Disk, C: Clock, G: Gate + Sync>(
+pub(crate) fn apply<
+    T: Threads + Wait + Sync,
+    S: Source,
+    D: Disk + Send + Drop,
+    C: Clock,
+    G: Gate + Sync,
+>(
     rt: &T,
     alloc: Global,
     options: ApplyOptions,
@@ -154,9 +187,8 @@ pub(crate) fn apply<T: Threads + Sync, S: Source, D: Disk, C: Clock, G: Gate + S
     ensures quiet { TellsEach (D.faults disk) (D.faults result.0) result.1 }
     ensures uncalled { IsRefusedBefore result.1 → result.0 ≡ disk }
 {
-    let sizes = sizes_of(&options);
-    match read_lines(rt, alloc, sizes, source) {
-        Ok(lines) => apply_lines(rt, alloc, options, sizes, lines, disk, clock, gate),
-        Err(status) => (disk, Err(status)),
+    if options.writers == 1 {
+        return apply_by_one(rt, alloc, options, source, disk, clock, gate);
     }
+    apply_by_several(rt, alloc, options, source, disk, clock, gate)
 }

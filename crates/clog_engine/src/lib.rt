@@ -6,6 +6,7 @@
 mod applying;
 mod before;
 mod cells;
+mod copies;
 mod fault_line;
 mod input;
 mod lines;
@@ -16,6 +17,8 @@ mod report;
 mod running;
 mod scan_report;
 mod scanning;
+mod shares;
+mod sharing;
 mod status;
 #[cfg(test)]
 mod tests;

@@ -37,7 +37,7 @@ fn print<K: Sink>(sink: &mut K, outcome: Result<Bytes, Status>) -> Status
 }
 
 // Does what the words ask for.
-fn outcome_of<T: Threads + Sync, R: Source, D: Disk, C: Clock, G: Gate + Sync>(
+fn outcome_of<T: Threads + Wait + Sync, R: Source, D: Disk + Send + Drop, C: Clock, G: Gate + Sync>(
     rt: &T,
     alloc: Global,
     words: &[String],
@@ -73,14 +73,15 @@ fn outcome_of<T: Threads + Sync, R: Source, D: Disk, C: Clock, G: Gate + Sync>(
 /// Of `apply`, where the source tells its bytes and the disk its files and changes, `Ok` means that
 /// the source was read to its end; that a folder that held segments was recovered: they are gone,
 /// table files came for them, and each other file stands as it was; that each line of the file was
-/// logged once in new segments, in order, whose ids begin at the greater of the clock's moment and
-/// one more than each id that the folder named; that the folder restores to what it restored to
-/// before with the lines' cells merged in, no file of it damaged; and that the report went out
-/// whole, whose receipts are the positions of the entries, and whose dump is what the folder
-/// restores to now. With `--drain` none of these segments is left: behind them came a table file of
-/// each table that the lines touch, and with `--archive` each has its archive name. Where all in
-/// the folder lasted before, and nothing passes a check by chance, a crash at any moment leaves
-/// what restores to that with the first of the lines, and after `Ok` with all of them.
+/// logged once in new segments, with `--writers` each writer's share of the lines in order, whose
+/// ids are at or above the greater of the clock's moment and one more than each id that the folder
+/// named (of one writer they begin there); that the folder restores to what it restored to before
+/// with the lines' cells merged in, no file of it damaged; and that the report went out whole, whose
+/// receipts are the positions of the entries, and whose dump is what the folder restores to now.
+/// With `--drain` none of these segments is left: behind them came a table file of each table that
+/// the lines touch, and with `--archive` each has its archive name. Where all in the folder lasted
+/// before, and nothing passes a check by chance, a crash at any moment leaves what restores to that
+/// with lines of the file, of each writer the first of its share, and after `Ok` with all of them.
 ///
 /// Of `replay` it means that the report has the counts of the folder and what it restores to, and
 /// that without `--ignore-errors` nothing of the folder is damaged; of `scan` that the report tells
@@ -92,7 +93,8 @@ fn outcome_of<T: Threads + Sync, R: Source, D: Disk, C: Clock, G: Gate + Sync>(
 /// refuses for what it holds leaves it as it was. After `DiskFault` and `OutOfMemory` the changes
 /// are the first of a recovery's, or all of these and appends to the run's segments, with what a
 /// drain changes, and, under the two premises above, what a crash leaves restores to what was there
-/// before with the first of the lines; the files as they read are one such image.
+/// before with lines of the file, of each writer the first of its share; the files as they read are
+/// one such image.
 pub fn run<
     T: Threads + Wait + Sync,
     R: Source,

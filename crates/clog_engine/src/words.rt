@@ -12,7 +12,7 @@ pub(crate) fn sizes_of(options: &ApplyOptions) -> Sizes
     ensures { AreSizesOf options.now result }
 {
     let capacity = u32::from(options.segment_kib) * 1024;
-    match Sizes::make(MOST_TABLES, 1, capacity, MOST_SEGMENTS) {
+    match Sizes::make(MOST_TABLES, options.writers, capacity, MOST_SEGMENTS) {
         Some(sizes) => sizes,
         None => unreachable!(),
     }

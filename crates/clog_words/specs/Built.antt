@@ -9,11 +9,11 @@ use Rattle.clog_words.specs.declared.request.ApplyOptions.{ApplyOptions}
 use Rattle.clog_words.specs.declared.request.Request.{Request}
 use Rattle.clog_words.specs.declared.request.Request.TheVariants.{Apply, Replay, Scan}
 
--- `--writers`, `--sync` with `--period`, and `--flush-at` as they are where they are not given, and
--- each other option of `apply` as it is
+-- `--sync` with `--period`, and `--flush-at` as they are where they are not given, and each other
+-- option of `apply` as it is
 abbrev pub plain_options : ApplyOptions → ApplyOptions
 plain_options asked = record {
-  writers = 1;
+  writers = asked.writers;
   sync = Periodic 10000;
   segment_kib = asked.segment_kib;
   flush_at = None;

@@ -11,9 +11,8 @@ use clog_base::Name;
 use std::alloc::Global;
 use sync_core::SyncCore;
 
-/// One thing that the program does. Of `apply` it does what `--writers`, `--sync`, `--period` and
-/// `--flush-at` ask for by their defaults, given or not, and what each other option asks for; of
-/// `drill` nothing.
+/// One thing that the program does. Of `apply` it does what `--sync`, `--period` and `--flush-at`
+/// ask for by their defaults, given or not, and what each other option asks for; of `drill` nothing.
 #[derive(Clone, Copy, Debug, PartialEq, Eq)]
 pub enum Built {
     /// `apply`: apply the mutation file on standard input.
@@ -32,7 +31,7 @@ fn plain(asked: ApplyOptions) -> ApplyOptions
     ensures { result ≡ plain_options asked }
 {
     ApplyOptions {
-        writers: 1,
+        writers: asked.writers,
         sync: SyncCore::Periodic { period_ms: 10_000 },
         segment_kib: asked.segment_kib,
         flush_at: None,

@@ -205,8 +205,9 @@ fn what_is_built_is_asked_for(rt: HostRuntime) -> Result<(), Fail> {
             }),
         ),
         (
-            "apply --dump --writers 1",
+            "apply --dump --writers 64",
             Built::Apply(ApplyOptions {
+                writers: 64,
                 dump: true,
                 ..PLAIN
             }),
@@ -226,8 +227,7 @@ fn what_is_built_is_asked_for(rt: HostRuntime) -> Result<(), Fail> {
 fn what_is_planned_alone_is_refused(rt: HostRuntime) -> Result<(), Fail> {
     let alloc = rt.alloc();
     for line in [
-        "apply --writers 2",
-        "apply --sync batch",
+        "apply --writers 2 --sync batch",
         "apply --drain --flush-at 1",
         "drill 7 2",
         "help",

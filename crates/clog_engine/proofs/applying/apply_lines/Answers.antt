@@ -1,4 +1,4 @@
-use Rattle.std.proofs.Common.{◌≡◌, ℕ, Bool, List, Option, inl, inr, sym, subst, ap, ◌∙◌}
+use Rattle.std.proofs.Common.{◌≡◌, ℕ, Bool, List, Option, arith, inl, inr, sym, subst, ap, ◌∙◌}
 use Rattle.clog_base.specs.declared.sizes.Sizes.{Sizes}
 use Rattle.clog_disk.specs.Files.{Files, SameTold, bytes_at}
 use Rattle.clog_crash.specs.Log.{Write}
@@ -12,6 +12,8 @@ use Rattle.clog_lines.specs.Written.{
   LeavesLines,
   least_of,
 }
+use Rattle.clog_writers.specs.Left.{LeavesShares}
+use Rattle.clog_writers.proofs.OneWriter.{shares_of_lines}
 use Rattle.clog_engine.specs.declared.status.Status.{Status}
 use Rattle.clog_engine.specs.Apply.{Applies, ApplyRefuses, KeepsAll}
 use Rattle.clog_engine.specs.Outside.{outside_with}
@@ -74,7 +76,8 @@ returns-in-Ok-report_of-clause-applies g c left left_now f h bytes taken sized =
     let at = c.args.clock.now in
     let o = outside_with left left_now f h g.D.Disk g.C.Clock start now at in
     let sizes_are = ap (λ s. s.notes.sizes) opening.over in
-    let asked = is_asked options store.notes.sizes store.archives c.requires.doable
+    let one = c.requires.one in
+    let asked = is_asked options store.notes.sizes store.archives c.requires.doable one
     (subst (AreSizesOf options) (sym sizes_are) c.requires.sizes)
     (ap (λ s. s.archives) opening.over) in
     let laid_there : AreLaidFor store.notes.sizes ms notes =
@@ -99,28 +102,39 @@ returns-in-Ok-report_of-clause-applies g c left left_now f h bytes taken sized =
     c.now_ms.result store.notes.base opening.opens opening.any_moment opening.recovers now
     options ms (least_of outcome ms)
     (λ then files_are first is_first lasting.
-    subst (λ (x : Bool). LeavesLines g.D.Disk.changes g.D.Disk.moment g.D.Disk.since
+    subst (λ (n : ℕ). LeavesShares g.D.Disk.changes g.D.Disk.moment g.D.Disk.since
+    g.D.Disk.leaves opened now (bytes_at then) options.archive options.drain n ms
+    (least_of outcome ms)) (sym one)
+    (shares_of_lines g.D.Disk.changes g.D.Disk.moment g.D.Disk.since g.D.Disk.leaves opened now
+    (bytes_at then) options.archive options.drain ms (least_of outcome ms)
+    (subst (λ (x : Bool). LeavesLines g.D.Disk.changes g.D.Disk.moment g.D.Disk.since
     g.D.Disk.leaves opened now (bytes_at then) x options.drain ms (least_of outcome ms)) archives
     (c.write_lines-disk.ensures.shown ms then laid_there files_are
-    (opening.lasted first is_first lasting))) in
+    (opening.lasted first is_first lasting))))) in
     let has_written = wrote g.D.Disk g.C.Clock left left_now f h start looked at only still opened
     c.now_ms.result store.notes.base opening.opens opening.any_moment opening.recovers now
-    options ms (subst (λ (x : Bool). (log : List Write)
-    × HasBrought g.D.Disk.changes opened now x options.drain ms log
+    options ms (subst (λ (n : ℕ). (log : List Write)
+    × HasBrought g.D.Disk.changes opened now options.archive options.drain n ms log
+    × BringsOnly g.D.Disk.files opened now log) (sym one)
+    (subst (λ (x : Bool). (log : List Write)
+    × HasBrought g.D.Disk.changes opened now x options.drain 1 ms log
     × BringsOnly g.D.Disk.files opened now log) archives
-    (c.write_lines-disk.ensures.wrote ms laid_there)) c.write_lines-disk.ensures.told in
+    (c.write_lines-disk.ensures.wrote ms laid_there))) c.write_lines-disk.ensures.told in
     let stays = others g.D.Disk g.C.Clock left left_now f h start looked at only still opened
     c.now_ms.result store.notes.base opening.opens opening.any_moment opening.recovers now
     c.write_lines-disk.ensures.told c.write_lines-disk.ensures.stay in
     subst (Applies options o) (sym c.ended.ensures)
     (ended_applies outcome options o report bytes ms taken sized (record {
-      sizes = c.args.sizes;
-      sizes_are = c.requires.sizes;
-      notes = notes;
-      laid = laid;
-      base = store.notes.base;
-      cells = c.in-Ok.cells;
-      text = is;
+      by_one = λ alone. record {
+        sizes = c.args.sizes;
+        sizes_are = c.requires.sizes;
+        notes = notes;
+        laid = laid;
+        base = store.notes.base;
+        cells = c.in-Ok.cells;
+        text = is;
+      };
+      by_several = λ several. absurd (omega (arith, one, several));
     }) run has_written stays lasts
     (subst (λ (n : ℕ). HasWriteCause n (g.D.Disk.faults now) outcome)
     (opening.quiet ∙ c.in-Ok.ensures.quiet) c.write_lines-disk.ensures.cause)

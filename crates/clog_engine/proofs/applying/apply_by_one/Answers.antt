@@ -1,6 +1,6 @@
 use Rattle.std.proofs.Common.{ℕ, subst}
 use Rattle.clog_engine.specs.Input.{IsSized}
-use Rattle.clog_engine.proofs.applying.apply.Goals as goal
+use Rattle.clog_engine.proofs.applying.apply_by_one.Goals as goal
 
 pub returns-in-Ok-clause-applies : goal.returns-in-Ok-clause-applies
 returns-in-Ok-clause-applies g c =

@@ -1,0 +1,145 @@
+use Rattle.std.proofs.Common.{◌≡◌, ℕ, Bool, List, Option, arith, inl, sym, subst, ap, ◌∙◌}
+use Rattle.clog_disk.specs.Files.{Files, SameTold, bytes_at}
+use Rattle.clog_crash.specs.Log.{Write}
+use Rattle.clog_lines.specs.Written.{BringsOnly, HasBrought}
+use Rattle.clog_writers.specs.Left.{LeavesShares, least_of}
+use Rattle.clog_writers.specs.Written.{HasShareCause}
+use Rattle.clog_engine.specs.declared.status.Status.{Status}
+use Rattle.clog_engine.specs.Apply.{ApplyRefuses}
+use Rattle.clog_engine.specs.Outside.{outside_with}
+use Rattle.clog_engine.specs.Refusal.{folder_status}
+use Rattle.clog_engine.specs.Report.{IsReport, head_with}
+use Rattle.clog_engine.specs.Request.{AreSizesOf}
+use Rattle.clog_engine.proofs.Applied.{folder_refuses, left_closed, not_opened}
+use Rattle.clog_engine.proofs.Opened.{
+  keeps_all,
+  lasts_first,
+  left_alone,
+  looked_alone,
+  others,
+  told_then,
+  turns_shares,
+  wrote,
+}
+use Rattle.clog_engine.proofs.SharesApplied.{
+  is_asked,
+  is_report,
+  ok_at,
+  shares_applied,
+  shares_call,
+}
+use Rattle.clog_engine.proofs.sharing.apply_shares.Goals as goal
+
+pub returns-in-Err-pending-clause-applies : goal.returns-in-Err-pending-clause-applies
+returns-in-Err-pending-clause-applies g c left left_now f h bytes ms taken sized planned =
+    inl (looked_alone g.D.Disk g.C.Clock left left_now f h c.args.disk c.cells_before.new.disk
+    c.args.clock.now (c.disks_leave_now.ensures c.args.disk) c.in-Ok.ensures.keeps)
+
+pub returns-in-Err-open-clause-applies : goal.returns-in-Err-open-clause-applies
+returns-in-Err-open-clause-applies g c left left_now f h bytes ms taken sized planned =
+    let start = c.args.disk in
+    let looked = c.cells_before.new.disk in
+    let now = c.in-Err-open.disk in
+    let still = c.in-Ok.ensures.keeps in
+    let refusal = c.in-Err-open.refusal in
+    let options = c.args.options in
+    let o = outside_with left left_now f h g.D.Disk g.C.Clock start now c.args.clock.now in
+    let kept = keeps_all g.D.Disk g.C.Clock left left_now f h start looked c.args.clock.now
+    (c.disks_leave_now.ensures start) still now c.in-Err-open.ensures.told c.in-Err-open.ensures.keeps
+    c.in-Err-open.ensures.others c.in-Err-open.ensures.any_moment c.in-Err-open.ensures.changes in
+    subst (λ (s : Status). ApplyRefuses options s o) (sym c.folder_status.ensures)
+    (folder_refuses options (folder_status refusal) o
+    (bytes, taken, record { mutations = ms; sized = sized })
+    (not_opened (g.D.Disk.files start) (g.D.Disk.files looked) (g.D.Disk.faults start)
+    (g.D.Disk.faults looked) (g.D.Disk.faults now) refusal still.same.files still.later
+    c.in-Err-open.ensures.refused)
+    (left_closed options refusal o _ c.in-Err-open.ensures.alone
+    (left_alone g.D.Disk g.C.Clock left left_now f h start looked c.args.clock.now
+    (c.disks_leave_now.ensures start) still now) kept))
+
+pub returns-clause-applies : goal.returns-clause-applies
+returns-clause-applies g c left left_now f h bytes ms taken sized planned =
+    let start = c.args.disk in
+    let looked = c.cells_before.new.disk in
+    let store = c.in-Ok-open.store in
+    let opened = store.notes.log.disk in
+    let now = c.write_plan-disk.result.0 in
+    let outcome = c.write_plan-disk.result.1 in
+    let done = c.write_plan-disk.ensures in
+    let still = c.in-Ok.ensures.keeps in
+    let before = c.in-Ok.cells in
+    let opening = c.in-Ok-open.ensures in
+    let options = c.args.options in
+    let sizes = c.args.sizes in
+    let base = store.notes.base in
+    let pending = c.in-Ok-pending.pending in
+    let only = c.disks_leave_now.ensures start in
+    let at = c.args.clock.now in
+    let o = outside_with left left_now f h g.D.Disk g.C.Clock start now at in
+    let archives : store.archives ≡ options.archive = ap (λ s. s.archives) opening.over in
+    let its_sizes : store.notes.sizes ≡ sizes = ap (λ s. s.notes.sizes) opening.over in
+    let writers = c.requires.sizes.writers in
+    let asked = is_asked options store.notes.sizes store.archives c.requires.doable
+    (subst (AreSizesOf options) (sym its_sizes) c.requires.sizes) archives in
+    let lasts = lasts_first g.D.Disk g.C.Clock left left_now f h start looked at only still opened
+    c.now_ms.result base opening.opens opening.any_moment opening.recovers now options ms
+    (least_of outcome ms)
+    (λ then files_are first is_first lasting.
+    subst (λ (x : Bool). LeavesShares g.D.Disk.changes g.D.Disk.moment g.D.Disk.since
+    g.D.Disk.leaves opened now (bytes_at then) x options.drain options.writers ms
+    (least_of outcome ms)) archives
+    (subst (λ (n : ℕ). LeavesShares g.D.Disk.changes g.D.Disk.moment g.D.Disk.since
+    g.D.Disk.leaves opened now (bytes_at then) store.archives options.drain n ms
+    (least_of outcome ms)) writers
+    (done.shown ms then planned.plan files_are
+    (subst (g.D.Disk.lasted_at opened) opening.began (opening.lasted first is_first lasting))))) in
+    let has_written = wrote g.D.Disk g.C.Clock left left_now f h start looked at only still opened
+    c.now_ms.result base opening.opens opening.any_moment opening.recovers now options ms
+    (subst (λ (x : Bool). (log : List Write)
+    × HasBrought g.D.Disk.changes opened now x options.drain options.writers ms log
+    × BringsOnly g.D.Disk.files opened now log) archives
+    (subst (λ (n : ℕ). (log : List Write)
+    × HasBrought g.D.Disk.changes opened now store.archives options.drain n ms log
+    × BringsOnly g.D.Disk.files opened now log) writers (done.wrote ms planned.plan)))
+    done.told in
+    let stays = others g.D.Disk g.C.Clock left left_now f h start looked at only still opened
+    c.now_ms.result base opening.opens opening.any_moment opening.recovers now done.told done.stay
+    in
+    shares_applied options o bytes ms taken sized
+    (told_then (g.D.Disk.files start) (g.D.Disk.files opened) (g.D.Disk.files now)
+    (subst (λ (files : Option Files). SameTold files (g.D.Disk.files opened)) still.same.files
+    opening.told) done.told) has_written stays pending outcome c.told.result
+    c.told.ensures lasts
+    (subst (λ (n : ℕ). HasShareCause n (g.D.Disk.faults now) outcome)
+    (opening.quiet ∙ c.in-Ok.ensures.quiet) done.cause)
+    (λ receipts report is_ok text.
+    let logged = ok_at outcome receipts _ is_ok (done.receipts ms planned.plan) in
+    let is : IsReport options.dump (head_with options.receipts receipts.items) before ms report =
+    is_report options.dump (head_with options.receipts receipts.items) pending.rows.items report
+    before c.args.lines.cells ms c.in-Ok.ensures.gives.ordered planned.cells
+    c.in-Ok-pending.ensures.rows text in (
+      record {
+        by_one = λ one. let several = c.requires.several in absurd (omega (arith, one, several));
+        by_several = λ several. record {
+          sizes = sizes;
+          sizes_are = c.requires.sizes;
+          base = base;
+          receipts = receipts.items;
+          logged = logged;
+          cells = before;
+          text = is;
+        };
+      },
+      turns_shares g.D.Disk g.C.Clock left left_now f h start looked at only still opened
+          c.now_ms.result base opening.opens opening.any_moment opening.recovers now options ms
+          receipts.items before report c.requires.doable c.requires.several c.now_ms.ensures.told
+          logged.long c.in-Ok.ensures.gives.restored is
+          (λ then made files_are changes_are.
+          ok_at outcome receipts _ is_ok
+          (done.written ms options then made planned.plan asked files_are changes_are)),
+    ))
+
+pub returns-clause-called : goal.returns-clause-called
+returns-clause-called g c =
+    shares_call c.args.options.receipts c.in-Ok-pending.pending c.write_plan-disk.result.1
+    c.told.result c.told.ensures

@@ -1,0 +1,55 @@
+-- What the steps up to planned lines answer: for private clauses.
+use Rattle.std.specs.Prelude.{◌≡◌, ◌≤◌, ℕ, List, length, Bool, true, Option, Result}
+use Rattle.std.specs.declared.result.Result.TheVariants as result
+use Rattle.std.specs.List.{AllByRecursion, flat_map}
+use Rattle.clog_base.specs.declared.cell.Cell.{Cell}
+use Rattle.clog_base.specs.declared.cell.CellKey.{CellKey}
+use Rattle.clog_base.specs.declared.sizes.Sizes.{Sizes}
+use Rattle.clog_cells.specs.Merge.{IsMerge}
+use Rattle.clog_io.specs.Bytes.{TakesAll}
+use Rattle.clog_mutation.specs.declared.mutation.Mutation.{Mutation}
+use Rattle.clog_mutation.specs.Payload.{cells_of}
+use Rattle.clog_text.specs.FileLines.{line_limit}
+use Rattle.clog_lines.specs.Fitting.{HasFittingEntry}
+use Rattle.clog_writers.specs.Planned.{IsPlanFor}
+use Rattle.clog_engine.specs.declared.shares.PlannedLines.{PlannedLines}
+use Rattle.clog_engine.specs.declared.status.Status.{Status}
+use Rattle.clog_engine.specs.Input.{IsSized}
+use Rattle.clog_engine.specs.Laying.{FileRefused, LinesRefused}
+
+-- the cells that mutations merge to, where a dump asks for them
+pub record IsCellsOf (dump : Bool) (mutations : List Mutation) (cells : List (CellKey × Cell))
+    : Type 0 where
+  pub merged : dump ≡ true → IsMerge (flat_map cells_of mutations) cells
+
+-- The lines are planned, and each of them fits.
+pub record ArePlanned {D : Type 0} (dump : Bool) (sizes : Sizes) (mutations : List Mutation)
+    (lines : PlannedLines D) : Type 0 where
+  pub plan : IsPlanFor sizes mutations lines.plan
+  pub each : AllByRecursion (HasFittingEntry sizes.capacity) mutations
+  pub few : length mutations ≤ line_limit
+  pub cells : IsCellsOf dump mutations lines.cells
+
+-- planned lines, or why there are none
+abbrev pub PlansLines : {D : Type 0} → Bool → Sizes → List Mutation → Result (PlannedLines D) Status
+    → Type 0
+PlansLines dump sizes mutations (result.Ok lines) = ArePlanned dump sizes mutations lines
+PlansLines dump sizes mutations (result.Err status) =
+    LinesRefused sizes.capacity mutations status
+
+-- The source gave a file whose lines these are, planned.
+pub record HasPlanned {D : Type 0} (dump : Bool) (sizes : Sizes)
+    (left left_now : Option (List ℕ)) (lines : PlannedLines D) : Type 0 where
+  pub bytes : List ℕ
+  pub taken : TakesAll left left_now bytes
+  pub mutations : List Mutation
+  pub sized : IsSized sizes.capacity bytes mutations
+  pub planned : ArePlanned dump sizes mutations lines
+
+-- the planned lines of the source, or why there are none
+abbrev pub ReadsPlan : {D : Type 0} → Bool → Sizes → Option (List ℕ) → Option (List ℕ) → ℕ → ℕ
+    → Result (PlannedLines D) Status → Type 0
+ReadsPlan dump sizes left left_now faults now (result.Ok lines) =
+    HasPlanned dump sizes left left_now lines
+ReadsPlan dump sizes left left_now faults now (result.Err status) =
+    FileRefused sizes.capacity left left_now faults now status

@@ -1,0 +1,138 @@
+//! Planned lines are applied by several writers: the folder is opened, the writers log the lines,
+//! and the report tells where each stands.
+//!
+//! The rows of the report, and room for all of it, are there before the folder is opened; its head
+//! is put into that room behind the lines, since where they stand is known then.
+ghost use Rattle.std.specs.Prelude.{◌≡◌, ◌<◌, [], ℕ, List, Option};
+ghost use Rattle.clog_io.specs.Bytes.{TakesAll};
+ghost use Rattle.clog_disk.specs.Files.{Files};
+ghost use Rattle.clog_disk.specs.Images.{IsImage};
+ghost use Rattle.clog_applied.specs.Asked.{capacity_of};
+ghost use Rattle.clog_mutation.specs.declared.mutation.Mutation.{Mutation};
+ghost use Rattle.clog_engine.specs.Apply.{Applies};
+ghost use Rattle.clog_engine.specs.Input.{IsSized};
+ghost use Rattle.clog_engine.specs.Outside.{outside_of, outside_with};
+ghost use Rattle.clog_engine.specs.Planning.{ArePlanned};
+ghost use Rattle.clog_engine.specs.Quiet.{IsRefusedBefore, TellsEach};
+ghost use Rattle.clog_engine.specs.Refusal.{IsToldAs, IsUnspent};
+ghost use Rattle.clog_engine.specs.Request.{AreSizesOf, IsDoable};
+
+use crate::before::cells_before;
+use crate::refusal::folder_status;
+use crate::report::{PendingReport, finished, pending};
+use crate::shares::{PlannedLines, read_plan};
+use crate::status::Status;
+use crate::words::sizes_of;
+use clog_base::{Bytes, OutOfMemory, Sizes};
+use clog_disk::Disk;
+use clog_io::{Clock, Gate, Source};
+use clog_store::Store;
+use clog_words::ApplyOptions;
+use clog_writers::{WriteFault, write_plan};
+use std::alloc::Global;
+use std::sync::Wait;
+use std::thread::Threads;
+use write_path::Receipt;
+
+// How a run ends whose lines were logged by their writers, or not: no log is spent by as many lines
+// as a file has.
+fn told(
+    pending: PendingReport,
+    receipts: bool,
+    outcome: Result<Vec<Receipt>, WriteFault>,
+) -> Result<Bytes, Status>
+    requires unspent { IsUnspent outcome }
+    requires void { pending.room.items ≡ [] }
+    ensures { IsToldAs receipts pending outcome result }
+{
+    match outcome {
+        Ok(told) => match finished(pending, receipts, told.as_slice()) {
+            Ok(report) => Ok(report),
+            Err(OutOfMemory) => Err(Status::OutOfMemory),
+        },
+        Err(WriteFault::Stopped { .. }) => Err(Status::DiskFault),
+        // The words of a path are memory too: none is left for a further group.
+        Err(WriteFault::OutOfMemory | WriteFault::Rows(_)) => Err(Status::OutOfMemory),
+        Err(WriteFault::Spent) => unreachable!(),
+    }
+}
+
+// What a crash at a disk's moment leaves, it may leave now. The law is for contracts alone.
+fn disks_leave_now<D: Disk>(_disk: &D)
+    ensures { (d : D) (image : Files) → D.since d (D.moment d) image → IsImage (D.leaves d) image }
+{}
+
+// Applies planned lines.
+fn apply_shares<T: Threads + Wait + Sync, D: Disk + Send + Drop, C: Clock, G: Gate + Sync>(
+    rt: &T,
+    alloc: Global,
+    options: ApplyOptions,
+    sizes: Sizes,
+    lines: PlannedLines<D>,
+    disk: D,
+    clock: &C,
+    gate: &G,
+) -> (D, Result<Bytes, Status>)
+    requires doable { IsDoable options }
+    requires several { 1 < options.writers }
+    requires sizes { AreSizesOf options sizes }
+    requires planned { (mutations : List Mutation)
+        × ArePlanned options.dump sizes mutations lines }
+    ensures applies { (left left_now : Option (List ℕ)) (f g : ℕ) (bytes : List ℕ)
+        (mutations : List Mutation) → TakesAll left left_now bytes
+        → IsSized (capacity_of options) bytes mutations
+        → ArePlanned options.dump sizes mutations lines
+        → Applies options (outside_with left left_now f g D.Disk C.Clock disk result.0 clock.now)
+        result.1 }
+    ensures quiet { TellsEach (D.faults disk) (D.faults result.0) result.1 }
+    ensures called { IsRefusedBefore result.1 → ⊥ }
+{
+    disks_leave_now(&disk);
+    let PlannedLines { plan, cells } = lines;
+    let mut disk = disk;
+    let before = match cells_before(rt, alloc, &mut disk, options.dump, gate) {
+        Ok(cells) => cells,
+        Err(status) => return (disk, Err(status)),
+    };
+    let pending = match pending(alloc, options.dump, before, cells, plan.receipts.len()) {
+        Ok(pending) => pending,
+        Err(OutOfMemory) => return (disk, Err(Status::OutOfMemory)),
+    };
+    let store = match Store::open(alloc, disk, clock.now_ms(), sizes, options.archive) {
+        Ok(store) => store,
+        Err((disk, refusal)) => return (disk, Err(folder_status(refusal))),
+    };
+    let (disk, outcome) = write_plan(rt, alloc, store, sizes, plan, options.drain);
+    (disk, told(pending, options.receipts, outcome))
+}
+
+/// Applies the source's lines by several writers, each in a thread of its own where one can be
+/// started. The clock is asked once, where the folder is not refused before.
+pub(crate) fn apply_by_several<
+    T: Threads + Wait + Sync,
+    S: Source,
+    D: Disk + Send + Drop,
+    C: Clock,
+    G: Gate + Sync,
+>(
+    rt: &T,
+    alloc: Global,
+    options: ApplyOptions,
+    source: &mut S,
+    disk: D,
+    clock: &C,
+    gate: &G,
+) -> (D, Result<Bytes, Status>)
+    requires doable { IsDoable options }
+    requires several { 1 < options.writers }
+    ensures applies { Applies options (outside_of S.Source D.Disk C.Clock source.old source.new
+        disk result.0 clock.now) result.1 }
+    ensures quiet { TellsEach (D.faults disk) (D.faults result.0) result.1 }
+    ensures uncalled { IsRefusedBefore result.1 → result.0 ≡ disk }
+{
+    let sizes = sizes_of(&options);
+    match read_plan(rt, alloc, sizes, source, options.dump) {
+        Ok(lines) => apply_shares(rt, alloc, options, sizes, lines, disk, clock, gate),
+        Err(status) => (disk, Err(status)),
+    }
+}
