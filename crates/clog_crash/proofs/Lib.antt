@@ -3,6 +3,7 @@ pub mod Good
 pub mod OneMore
 pub mod Payloads
 pub mod TableFiles
+pub mod UpTo
 pub mod changes
 pub mod counts
 pub mod damage

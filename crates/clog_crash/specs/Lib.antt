@@ -18,6 +18,7 @@ pub mod Runs
 pub mod Sections
 pub mod Showing
 pub mod Tail
+pub mod UpTo
 pub mod Worked
 pub mod WorkedCrash
 pub mod WorkedDrop

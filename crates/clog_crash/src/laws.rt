@@ -1,5 +1,5 @@
 //! What follows from the definitions alone of what a folder restores to, and of damage.
-ghost use Rattle.std.specs.Prelude.{◌≡◌, ◌⊎◌, ◌≤◌, ℕ, List, [], ◌∷◌, Some, Contains};
+ghost use Rattle.std.specs.Prelude.{◌≡◌, ◌⊎◌, ◌↔◌, ◌≤◌, ℕ, List, [], ◌∷◌, Some, Contains};
 ghost use Rattle.std.specs.FinMap as finmap;
 ghost use Rattle.clog_spec.specs.Names.{IsSegmentName};
 ghost use Rattle.clog_base.specs.declared.cell.Cell.{Cell};
@@ -18,15 +18,18 @@ ghost use Rattle.clog_scan.specs.Laws.{IsFile};
 ghost use Rattle.clog_scan.specs.Segment.{Entry, IsSegment};
 ghost use Rattle.clog_table.specs.declared.table_file.TableFile.{TableFile};
 ghost use Rattle.clog_table.specs.Refusals.{IsFileOf};
+ghost use Rattle.clog_crash.specs.Damage.{AreSegmentFiles};
 ghost use Rattle.clog_crash.specs.Folder.{IsHeld, IsNameOf, Place};
 ghost use Rattle.clog_crash.specs.Laws.{HasNewest};
 ghost use Rattle.clog_crash.specs.Restore.{
   IsInInterval,
+  IsLogged,
   IsLoggedCell,
   IsRestored,
   IsTableCell,
   IsUndamaged,
 };
+ghost use Rattle.clog_crash.specs.UpTo.{IsLoggedUpTo};
 ghost use Rattle.clog_crash.specs.Worked.{the_folder, first_table, second_table, filed, logged};
 
 /// A folder restores to one list of cells. Which files hold them, and how often, does not matter.
@@ -68,6 +71,12 @@ pub fn only_the_last_segment_may_be_torn()
         → IsSegment bytes id entries (Torn at cause)
         → IsSoft cause × ((other : List ℕ) (version later : ℕ)
         → IsSegmentName other version later → IsHeld files other → later ≤ id) }
+{}
+
+/// In a folder that is not damaged the log up to damage, which an opening reads, is the whole log.
+pub fn the_log_up_to_damage_is_the_whole_log()
+    ensures { (files : Files) (id : ℕ) (entry : Entry) → IsUndamaged files
+        → AreSegmentFiles files → IsLogged files id entry ↔ IsLoggedUpTo files id entry }
 {}
 
 /// In a folder that is not damaged each payload that a segment holds is that of a mutation.

@@ -35,7 +35,7 @@ pub use laws::{
     a_segment_of_another_version_is_damage, an_interval_skips_the_entry_that_ends_in_it,
     cells_of_table_files_and_of_the_log_count, each_payload_is_that_of_a_mutation,
     each_table_file_is_good, folders_restore_to_one_list, intervals_hold_their_upper_end,
-    only_the_last_segment_may_be_torn,
+    only_the_last_segment_may_be_torn, the_log_up_to_damage_is_the_whole_log,
 };
 pub use placing::{
     appended_segments_hold_their_entries, entries_are_cut_where_a_marker_stands,

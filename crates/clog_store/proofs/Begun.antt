@@ -13,8 +13,11 @@ use Rattle.std.proofs.Common.{
   length,
   take,
   Option,
+  None,
+  true,
   false,
   IfSome,
+  refl,
   sym,
   ◌∙◌,
   ap,
@@ -33,10 +36,17 @@ use Rattle.clog_crash.specs.Log.{Write}
 use Rattle.clog_crash.specs.Readings.{Reading}
 use Rattle.clog_crash.specs.Rest.{IsAtRest}
 use Rattle.clog_crash.specs.Sections.{Brings, IsStored, segment_bytes}
+use Rattle.clog_store.specs.declared.sequences.Sequences.{Sequences}
 use Rattle.clog_store.specs.Life.{HasBegun, HasEnd, Lives, LivesOn, MayGoOnIn, State}
-use Rattle.clog_store.specs.Several.{written}
+use Rattle.clog_store.specs.Numbering.{KeepsSequences}
+use Rattle.clog_store.specs.Torn.{HandStands}
 use Rattle.clog_store.proofs.Ends.{end_rolled}
 use Rattle.clog_store.proofs.Lived.{lives_at_first, rest_at_first}
+use Rattle.clog_store.proofs.Torn.{end_stands}
+
+-- the segment at hand, once it is one of the past
+abbrev pub written : ℕ → List Section → Write
+written id sections = record { id = id; sections = sections }
 
 none_below : (w : Write) (P : Type 0) → Contains [] w → P
 none_below w P among = absurd (omega (arith, among.1))
@@ -69,7 +79,7 @@ module _ {D : Type 0} (files : D → Option Files) (moment : D → ℕ)
         sections = sections;
         synced = 0;
         is_stopped = false;
-      }) 0
+      }) 0 None
   begun disk first opened id past sections now same none_past none reads only lasts end rests =
       record {
         began = omega (arith, now);
@@ -79,9 +89,12 @@ module _ {D : Type 0} (files : D → Option Files) (moment : D → ℕ)
         past_stored = λ w among. none_below w (IsStored w.id w.sections)
             (subst (λ (l : List Write). Contains l w) none_past among);
         stored = subst (IsStored id) (sym none) end.stored;
+        stands = end_stands (files disk) id 0 0 sections (omega arith)
+            (subst (λ (l : List Section). HasEnd (files disk) id 0 l) (sym none) end);
         ends = λ runs. subst (λ (l : List Section). HasEnd (files disk) id 0 l) (sym none) end;
         here = λ runs some all. absurd (let no = ap (λ (l : List Section). length l) none in
             omega (arith, no, some));
+        sequences = λ runs. tt;
         lives = λ lasted.
             subst (λ (ps : List Write). Living first ps sections) (sym none_past)
             (subst (λ (l : List Section). Living first [] l) (sym none)
@@ -105,13 +118,15 @@ module _ {D : Type 0} (files : D → Option Files) (moment : D → ℕ)
 
   -- a call by which the log stays in its segment
   pub begun_on : (s : State D) (size : ℕ) (disk : D) (sections : List Section) (synced : ℕ)
-      (stopped : Bool) (size_now : ℕ)
-      → HasBegun files moment since leaves read_at lasted_at s size
+      (stopped : Bool) (size_now : ℕ) {known : Option Sequences} (known_now : Option Sequences)
+      → HasBegun files moment since leaves read_at lasted_at s size known
       → IsLater moment read_at lasted_at s.disk disk → synced ≤ length sections
       → IsStored s.id sections
       → (stopped ≡ false → HasEnd (files disk) s.id size_now sections)
+      → (stopped ≡ true → HandStands (files disk) s.id synced sections)
       → (stopped ≡ false → 0 < length sections → synced ≡ length sections
       → Lasts (files disk) (leaves disk) (segment_name_of 6 s.id))
+      → (stopped ≡ false → KeepsSequences (files disk) known_now)
       → (Lives files moment since leaves read_at lasted_at s
       → LivesOn files moment since leaves read_at lasted_at s (record s {
         disk = disk;
@@ -124,25 +139,33 @@ module _ {D : Type 0} (files : D → Option Files) (moment : D → ℕ)
         sections = sections;
         synced = synced;
         is_stopped = stopped;
-      }) size_now
-  begun_on s size disk sections synced stopped size_now begun later few stored ends here on =
+      }) size_now known_now
+  begun_on s size disk sections synced stopped size_now known_now begun later few stored ends torn here
+      knows on =
       record {
         began = omega (arith, begun.began, later.no_sooner);
         few = few;
         past_below = begun.past_below;
         past_stored = begun.past_stored;
         stored = stored;
+        stands = by stopped refl;
         ends = ends;
         here = here;
+        sequences = knows;
         lives = λ lasted.
             (on (begun.lives ((later.lasted_then s.opened begun.began).0 lasted))).lives;
       }
+    where
+      by : (b : Bool) → stopped ≡ b → HandStands (files disk) s.id synced sections
+      by false runs = end_stands (files disk) s.id size_now synced sections few (ends runs)
+      by true has = torn has
 
   -- it goes on in a further segment
   pub begun_rolled : (s : State D) (size next : ℕ) (past : List Write) (sections : List Section)
+      {known : Option Sequences}
       → past ≡ s.past ++ written s.id s.sections ∷ [] → sections ≡ [] → s.id < next
       → next < 2 ^ 63 → s.is_stopped ≡ false
-      → HasBegun files moment since leaves read_at lasted_at s size
+      → HasBegun files moment since leaves read_at lasted_at s size known
       → (Lives files moment since leaves read_at lasted_at s
       → LivesOn files moment since leaves read_at lasted_at s (record s {
         past = past;
@@ -155,7 +178,7 @@ module _ {D : Type 0} (files : D → Option Files) (moment : D → ℕ)
         id = next;
         sections = sections;
         synced = 0;
-      }) 0
+      }) 0 known
   begun_rolled s size next past sections past_is none over limit runs begun on = record {
     began = begun.began;
     few = omega arith;
@@ -168,9 +191,12 @@ module _ {D : Type 0} (files : D → Option Files) (moment : D → ℕ)
       | inr same ↦ subst (λ (x : Write). IsStored x.id x.sections) same end.stored
     ];
     stored = subst (IsStored next) (sym none) fresh.stored;
+    stands = end_stands (files s.disk) next 0 0 sections (omega arith)
+        (subst (λ (l : List Section). HasEnd (files s.disk) next 0 l) (sym none) fresh);
     ends = λ still. subst (λ (l : List Section). HasEnd (files s.disk) next 0 l) (sym none) fresh;
     here = λ still some all. absurd (let no = ap (λ (l : List Section). length l) none in
         omega (arith, no, some));
+    sequences = begun.sequences;
     lives = λ lasted. (on (begun.lives lasted)).lives;
   }
     where
@@ -187,12 +213,12 @@ module _ {D : Type 0} (files : D → Option Files) (moment : D → ℕ)
           (subst (λ (l : List Write). Contains l w) past_is among)
 
   -- it goes on in a further segment, where this one has no section
-  pub begun_skipped : (s : State D) (size next : ℕ) → s.sections ≡ [] → s.id < next
+  pub begun_skipped : (s : State D) (size next : ℕ) {known : Option Sequences} → s.sections ≡ [] → s.id < next
       → next < 2 ^ 63 → s.is_stopped ≡ false
-      → HasBegun files moment since leaves read_at lasted_at s size
+      → HasBegun files moment since leaves read_at lasted_at s size known
       → (Lives files moment since leaves read_at lasted_at s
       → LivesOn files moment since leaves read_at lasted_at s (record s { id = next }))
-      → HasBegun files moment since leaves read_at lasted_at (record s { id = next }) size
+      → HasBegun files moment since leaves read_at lasted_at (record s { id = next }) size known
   begun_skipped s size next none over limit runs begun on = record {
     began = begun.began;
     few = begun.few;
@@ -200,14 +226,19 @@ module _ {D : Type 0} (files : D → Option Files) (moment : D → ℕ)
     past_stored = begun.past_stored;
     stored = subst (IsStored next) (sym none)
         (end_rolled (files s.disk) s.id next size s.sections over limit (begun.ends runs)).stored;
-    ends = λ still.
-        let end = begun.ends runs in
-        let empty : size ≡ 0 =
-        end.size_is ∙ ap (λ (l : List Section). length (segment_bytes s.id l)) none in
-        subst (λ (l : List Section). HasEnd (files s.disk) next size l) (sym none)
-        (subst (λ (k : ℕ). HasEnd (files s.disk) next k []) (sym empty)
-        (end_rolled (files s.disk) s.id next size s.sections over limit end));
+    stands = end_stands (files s.disk) next size s.synced s.sections begun.few end_there;
+    ends = λ still. end_there;
     here = λ still some all. absurd (let no = ap (λ (l : List Section). length l) none in
         omega (arith, no, some));
+    sequences = begun.sequences;
     lives = λ lasted. (on (begun.lives lasted)).lives;
   }
+    where
+      end_there : HasEnd (files s.disk) next size s.sections
+      end_there =
+          let end = begun.ends runs in
+          let empty : size ≡ 0 =
+          end.size_is ∙ ap (λ (l : List Section). length (segment_bytes s.id l)) none in
+          subst (λ (l : List Section). HasEnd (files s.disk) next size l) (sym none)
+          (subst (λ (k : ℕ). HasEnd (files s.disk) next k []) (sym empty)
+          (end_rolled (files s.disk) s.id next size s.sections over limit end))

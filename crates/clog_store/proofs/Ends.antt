@@ -95,7 +95,19 @@ end_kept (Some f) now id size sections all bytes appends spelled stored end =
           (λ same. let is = one_id id other stored.fits limit same in omega (arith, is, over))));
     })
 
--- bytes were appended that bring one section more
+-- bytes that bring one section more
+pub spelled_more : (id n : ℕ) (sections : List Section) (x : Section) (bytes : List ℕ)
+    → Brings id (take n sections) (drop n sections) (x ∷ []) bytes
+    → segment_bytes id sections ++ bytes ≡ segment_bytes id (sections ++ x ∷ [])
+spelled_more id n sections x bytes brings =
+    let all : take n sections ++ (drop n sections ++ x ∷ []) ≡ sections ++ x ∷ [] =
+    sym (append_assoc (take n sections) (drop n sections) (x ∷ []))
+    ∙ ap (λ (l : List Section). l ++ x ∷ []) (take-append-drop n sections) in
+    let before : segment_bytes id (take n sections ++ drop n sections) ≡ segment_bytes id sections =
+    ap (segment_bytes id) (take-append-drop n sections) in
+    ap (λ (l : List ℕ). l ++ bytes) (sym before) ∙ brings.spelled ∙ ap (segment_bytes id) all
+
+-- they were appended
 pub end_more : (told now : Option Files) (id size n : ℕ) (sections : List Section) (x : Section)
     (bytes : List ℕ) → AppendsTo told now (segment_name_of 6 id) bytes
     → Brings id (take n sections) (drop n sections) (x ∷ []) bytes
@@ -104,11 +116,8 @@ end_more told now id size n sections x bytes appends brings end =
     let all : take n sections ++ (drop n sections ++ x ∷ []) ≡ sections ++ x ∷ [] =
     sym (append_assoc (take n sections) (drop n sections) (x ∷ []))
     ∙ ap (λ (l : List Section). l ++ x ∷ []) (take-append-drop n sections) in
-    let before : segment_bytes id (take n sections ++ drop n sections) ≡ segment_bytes id sections =
-    ap (segment_bytes id) (take-append-drop n sections) in
     end_kept told now id size sections (sections ++ x ∷ []) bytes appends
-    (ap (λ (l : List ℕ). l ++ bytes) (sym before) ∙ brings.spelled ∙ ap (segment_bytes id) all)
-    (subst (IsStored id) all brings.stored) end
+    (spelled_more id n sections x bytes brings) (subst (IsStored id) all brings.stored) end
 
 -- a file that ends at its front reads as no bytes
 empty_reads : (told : Option Files) (name : List ℕ) → IsEnd told name 0 → ReadsAs told name []

@@ -1,13 +1,28 @@
 -- A table file for an interval of the log is the one that is put, as its one spelling.
-use Rattle.std.proofs.Common.{◌≡◌, ℕ, List, [], ◌∷◌, ◌++◌, Option, Some, None, refl, subst}
-use Rattle.std.specs.Prelude.{OnOk, Result, Ok, Err, option_map}
+use Rattle.std.proofs.Common.{
+  ◌≡◌,
+  ℕ,
+  List,
+  [],
+  ◌∷◌,
+  ◌++◌,
+  Option,
+  Some,
+  None,
+  inl,
+  inr,
+  refl,
+  subst,
+}
+use Rattle.std.specs.Prelude.{OnErr, OnOk, Result, Ok, Err, option_map}
+use Rattle.clog_spec.specs.Names.{table_name_of}
 use Rattle.clog_base.specs.declared.cell.Cell.{Cell}
 use Rattle.clog_base.specs.declared.cell.CellKey.{CellKey}
 use Rattle.clog_base.specs.declared.position.Position.{Position}
 use Rattle.clog_base.specs.Positions.{position_of}
 use Rattle.clog_disk.specs.declared.change.Change.{Change}
 use Rattle.clog_disk.specs.Changes.{Adds}
-use Rattle.clog_disk.specs.Files.{Files}
+use Rattle.clog_disk.specs.Files.{Files, MayPutAt}
 use Rattle.clog_scan.specs.Cut.{Section}
 use Rattle.clog_table.specs.declared.table_file.TableFile.{TableFile}
 use Rattle.clog_table.specs.Format.{file_of}
@@ -16,7 +31,7 @@ use Rattle.clog_crash.specs.Log.{Write}
 use Rattle.clog_crash.specs.Readings.{Reading}
 use Rattle.clog_store.specs.declared.publishing.Published.{Published}
 use Rattle.clog_store.specs.Coming.{MayCome}
-use Rattle.clog_store.specs.Publishes.{IsNumbered, MayPut, file_at}
+use Rattle.clog_store.specs.Publishes.{IsNumbered, MayHaveCome, MayPut, file_at}
 use Rattle.clog_store.specs.Resting.{RestsAt}
 
 -- what was written between two positions, and read from another place
@@ -69,3 +84,15 @@ pub added : {T E : Type 0} (change : Change) (before now : Option (List Change))
     → OnOk result (now ≡ option_map (λ changes. changes ++ change ∷ []) before)
 added change before now (Ok x) adds = adds
 added change before now (Err e) adds = tt
+
+-- it has perhaps come
+pub may_have_come : {T E : Type 0} (file : TableFile) (sequence : ℕ) (bytes : List ℕ)
+    → IsFileOf file.table bytes file → (told now : Option Files) (r : Result T E)
+    → OnErr r (MayPutAt told now (table_name_of file.table.0 sequence) (Some bytes))
+    → OnErr r (MayHaveCome told now file sequence)
+may_have_come file sequence bytes spelled told now (Ok done) may = tt
+may_have_come file sequence bytes spelled None now (Err fault) may = inl may
+may_have_come file sequence bytes spelled (Some f) now (Err fault) may = elim may [
+  | inl same ↦ inl same
+  | inr puts ↦ inr (bytes, spelled, puts)
+]

@@ -54,10 +54,12 @@ use Rattle.clog_store.specs.StoreFolder.{
   StoreLog,
   log_of,
 }
+use Rattle.clog_store.specs.Torn.{StandsTorn}
 use Rattle.clog_store.proofs.AllGo.{archive_named}
 use Rattle.clog_store.proofs.FolderNames.{AreBelow, id_below, segment_absent}
 use Rattle.clog_store.proofs.FolderReads.{absent_or_held}
 use Rattle.clog_store.proofs.FolderSyncs.{holds_notes_synced}
+use Rattle.clog_store.proofs.Torn.{stands_fewer}
 
 -- a store's folder is so
 pub but_none : (first f : Files) (log : StoreLog) (deeds : Deeds) → HoldsStore first log deeds f
@@ -68,6 +70,7 @@ but_none first f log deeds holds = record {
   name = segment_name_of 6 log.id;
   failing = inl refl;
   others = λ other apart. refl;
+  stands = inl refl;
 }
 
 same_some : (f g : Files) → Some f ≡ Some g → f ≡ g
@@ -81,111 +84,116 @@ module _ {D : Type 0} (first f g : Files) (before now : NoteState D) (deeds : De
     (rest : LeavesOthers before.log now.log (Some f) (Some g)) (base_is : now.base ≡ before.base)
     (logged_is : now.logged ≡ before.logged ++ run)
     (stay : (n : EntryNote) → Contains run n → Contains deeds.dropped (ordinal_of n.start.0) → ⊥)
-  where
-    abbrev own : List ℕ
-    own = segment_name_of 6 now.log.id
+    (torn : StandsTorn now.log.id now.log.synced now.log.sections
+    (finmap.get g (segment_name_of 6 now.log.id))) where
+  abbrev own : List ℕ
+  own = segment_name_of 6 now.log.id
 
-    abbrev hand : Write
-    hand = record { id = now.log.id; sections = now.log.sections }
+  abbrev hand : Write
+  hand = record { id = now.log.id; sections = now.log.sections }
 
-    fits : now.log.id < 2 ^ 63
-    fits = sound_now.stored.fits
+  fits : now.log.id < 2 ^ 63
+  fits = sound_now.stored.fits
 
-    below : (w : Write) → Contains rest.more w → w.id < now.log.id
-    below w among =
-        sound_now.below w (subst (λ (l : List Write). Contains l w) (sym rest.past)
-        (Contains-append_right before.log.past rest.more w among))
+  below : (w : Write) → Contains rest.more w → w.id < now.log.id
+  below w among =
+      sound_now.below w (subst (λ (l : List Write). Contains l w) (sym rest.past)
+      (Contains-append_right before.log.past rest.more w among))
 
-    -- a segment that the log has left has another name
-    apart : (w : Write) → Contains rest.more w → segment_name_of 6 w.id ≡ own → ⊥
-    apart w among same =
-        let low = below w among in
-        let one = one_id now.log.id w.id fits (omega (arith, low, fits)) same in
-        omega (arith, one, low)
+  -- a segment that the log has left has another name
+  apart : (w : Write) → Contains rest.more w → segment_name_of 6 w.id ≡ own → ⊥
+  apart w among same =
+      let low = below w among in
+      let one = one_id now.log.id w.id fits (omega (arith, low, fits)) same in
+      omega (arith, one, low)
 
-    -- the segment at hand may have got less than its sections
-    module _ (some : 0 < length now.log.sections) where
-      abbrev last : Files
-      last = finmap.insert g own (segment_bytes now.log.id now.log.sections)
+  -- the segment at hand may have got less than its sections
+  module _ (some : 0 < length now.log.sections) where
+    abbrev last : Files
+    last = finmap.insert g own (segment_bytes now.log.id now.log.sections)
 
-      rest_with : LeavesOthers before.log now.log (Some f) (Some last)
-      rest_with = record {
-        more = rest.more;
-        past = rest.past;
-        later = rest.later;
-        grown = rest.grown;
-        others = λ h is name none.
-            put_there g own (segment_bytes now.log.id now.log.sections) name
-            (λ same. none hand (Contains-push rest.more hand) some fits same)
-            ∙ rest.others h is name none;
-        left = λ h is w among.
-            subst (λ (x : Files). unwrap_or (finmap.get x (segment_name_of 6 w.id)) []
-            ≡ segment_bytes w.id w.sections) (same_some last h is)
-            (ap (λ (o : Option (List ℕ)). unwrap_or o [])
-            (put_there g own (segment_bytes now.log.id now.log.sections)
-            (segment_name_of 6 w.id) (apart w among)) ∙ rest.left g refl w among);
-      }
+    rest_with : LeavesOthers before.log now.log (Some f) (Some last)
+    rest_with = record {
+      more = rest.more;
+      past = rest.past;
+      later = rest.later;
+      grown = rest.grown;
+      others = λ h is name none.
+          put_there g own (segment_bytes now.log.id now.log.sections) name
+          (λ same. none hand (Contains-push rest.more hand) some fits same)
+          ∙ rest.others h is name none;
+      left = λ h is w among.
+          subst (λ (x : Files). unwrap_or (finmap.get x (segment_name_of 6 w.id)) []
+          ≡ segment_bytes w.id w.sections) (same_some last h is)
+          (ap (λ (o : Option (List ℕ)). unwrap_or o [])
+          (put_there g own (segment_bytes now.log.id now.log.sections)
+          (segment_name_of 6 w.id) (apart w among)) ∙ rest.left g refl w among);
+    }
 
-      with_sections : HoldsButOne first (log_of now) deeds g
-      with_sections = record {
-        last = last;
-        holds = holds_notes_synced first f last before now deeds run holds sound sound_now
-            rest_with (ap (λ (o : Option (List ℕ)). unwrap_or o [])
-            (put_here g own (segment_bytes now.log.id now.log.sections))) base_is logged_is stay;
-        name = own;
-        failing = inl refl;
-        others = λ other apart.
-            sym (put_there g own (segment_bytes now.log.id now.log.sections) other apart);
-      }
+    with_sections : HoldsButOne first (log_of now) deeds g
+    with_sections = record {
+      last = last;
+      holds = holds_notes_synced first f last before now deeds run holds sound sound_now
+          rest_with (ap (λ (o : Option (List ℕ)). unwrap_or o [])
+          (put_here g own (segment_bytes now.log.id now.log.sections))) base_is logged_is stay;
+      name = own;
+      failing = inl refl;
+      others = λ other apart.
+          sym (put_there g own (segment_bytes now.log.id now.log.sections) other apart);
+      stands = inr (inl (record {
+        name_is = refl;
+        torn = stands_fewer now.log.id now.log.synced now.log.sections (finmap.get g own) torn;
+      }));
+    }
 
-    -- where it has none, nothing stands there
-    module _ (none : now.log.sections ≡ []) where
-      own_is_new : IsNotOf (segments_with rest.more now.log.id now.log.sections) own
-      own_is_new w among some limit same = elim (Contains-push_cases rest.more hand w among) [
-        | inl left ↦ apart w left (sym same)
-        | inr is ↦
-            let len = ap (λ (x : Write). length x.sections) is in
-            let zero_len = ap (λ (l : List Section). length l) none in
-            omega (arith, some, len, zero_len)
-      ]
+  -- where it has none, nothing stands there
+  module _ (none : now.log.sections ≡ []) where
+    own_is_new : IsNotOf (segments_with rest.more now.log.id now.log.sections) own
+    own_is_new w among some limit same = elim (Contains-push_cases rest.more hand w among) [
+      | inl left ↦ apart w left (sym same)
+      | inr is ↦
+          let len = ap (λ (x : Write). length x.sections) is in
+          let zero_len = ap (λ (l : List Section). length l) none in
+          omega (arith, some, len, zero_len)
+    ]
 
-      forward : before.log.id ≤ now.log.id
-      forward = rest.later hand (Contains-push rest.more hand)
+    forward : before.log.id ≤ now.log.id
+    forward = rest.later hand (Contains-push rest.more hand)
 
-      absent : finmap.get f own ≡ None
-      absent =
-          segment_absent first f (log_of before) deeds holds sound.below sound.stored.fits
-          now.log.id fits (λ w among same some stays.
-          elim (Contains-push_cases before.log.past
-          (record { id = before.log.id; sections = before.log.sections }) w among) [
-            | inl past ↦ omega (arith, sound.below w past, same, forward)
-            | inr is ↦
-                let has = rest.grown (subst (λ (x : Write). 0 < length x.sections) (sym is) some)
-                in
-                let ids = ap (λ (x : Write). x.id) is in
-                elim (Contains-push_cases rest.more hand has.segment has.among) [
-                  | inl left ↦ omega (arith, below has.segment left, has.id_is, ids, same)
-                  | inr at ↦
-                      let len = ap (λ (x : Write). length x.sections) at in
-                      let zero_len = ap (λ (l : List Section). length l) none in
-                      omega (arith, has.some, len, zero_len)
-                ]
-          ])
+    absent : finmap.get f own ≡ None
+    absent =
+        segment_absent first f (log_of before) deeds holds sound.below sound.stored.fits
+        now.log.id fits (λ w among same some stays.
+        elim (Contains-push_cases before.log.past
+        (record { id = before.log.id; sections = before.log.sections }) w among) [
+          | inl past ↦ omega (arith, sound.below w past, same, forward)
+          | inr is ↦
+              let has = rest.grown (subst (λ (x : Write). 0 < length x.sections) (sym is) some)
+              in
+              let ids = ap (λ (x : Write). x.id) is in
+              elim (Contains-push_cases rest.more hand has.segment has.among) [
+                | inl left ↦ omega (arith, below has.segment left, has.id_is, ids, same)
+                | inr at ↦
+                    let len = ap (λ (x : Write). length x.sections) at in
+                    let zero_len = ap (λ (l : List Section). length l) none in
+                    omega (arith, has.some, len, zero_len)
+              ]
+        ])
 
-      without : HoldsButOne first (log_of now) deeds g
-      without =
-          but_none first g (log_of now) deeds
-          (holds_notes_synced first f g before now deeds run holds sound sound_now rest
-          (ap (λ (o : Option (List ℕ)). unwrap_or o []) (rest.others f refl own own_is_new ∙ absent)
-          ∙ ap (segment_bytes now.log.id) (sym none)) base_is logged_is stay)
+    without : HoldsButOne first (log_of now) deeds g
+    without =
+        but_none first g (log_of now) deeds
+        (holds_notes_synced first f g before now deeds run holds sound sound_now rest
+        (ap (λ (o : Option (List ℕ)). unwrap_or o []) (rest.others f refl own own_is_new ∙ absent)
+        ∙ ap (segment_bytes now.log.id) (sym none)) base_is logged_is stay)
 
-    pub fails_synced : HoldsButOne first (log_of now) deeds g
-    fails_synced = by now.log.sections refl
-      where
-        by : (ss : List Section) → now.log.sections ≡ ss → HoldsButOne first (log_of now) deeds g
-        by [] is = without is
-        by (x ∷ xs) is =
-            with_sections (let len = ap (λ (l : List Section). length l) is in omega (arith, len))
+  pub fails_synced : HoldsButOne first (log_of now) deeds g
+  fails_synced = by now.log.sections refl
+    where
+      by : (ss : List Section) → now.log.sections ≡ ss → HoldsButOne first (log_of now) deeds g
+      by [] is = without is
+      by (x ∷ xs) is =
+          with_sections (let len = ap (λ (l : List Section). length l) is in omega (arith, len))
 
 -- ---- what was there at the opening
 

@@ -30,7 +30,7 @@ use Rattle.clog_disk.specs.Files.{Files, bytes_at}
 use Rattle.clog_table.specs.declared.table_file.TableFile.{TableFile}
 use Rattle.clog_table.specs.Refusals.{IsFileOf}
 use Rattle.clog_table.proofs.Again.{one_table_file}
-use Rattle.clog_crash.specs.Folder.{AreGoodTables, HoldsName, IsGoodTable, IsHeld, IsNameOf, Place}
+use Rattle.clog_crash.specs.Folder.{AreGoodTables, HoldsName, IsHeld}
 use Rattle.clog_crash.specs.Readings.{IsTableIn}
 use Rattle.clog_crash.specs.Recovery.{IsRecoveryFile, NamesAny}
 use Rattle.clog_crash.proofs.OneMore.{bytes_of}

@@ -21,7 +21,7 @@ use Rattle.clog_disk.specs.Images.{IsImage, Lasts, Tears, Within}
 use Rattle.clog_scan.specs.Cut.{Section}
 use Rattle.clog_crash.specs.Log.{Write, HasShown, logged_in}
 use Rattle.clog_crash.specs.Readings.{Reading}
-use Rattle.clog_crash.specs.Sections.{Brings, IsStored}
+use Rattle.clog_crash.specs.Sections.{Brings}
 use Rattle.clog_crash.proofs.life.Resting.{
   resting_keeps,
   resting_on,
@@ -96,13 +96,6 @@ module _ (leaves later : List ℕ → Option (List ℕ) → Type 0) (r : Reading
       subst (λ (o : Option Files). RestsAt o later r past id (old ++ kept) []) (sym same)
       (resting_settles f leaves r past id old kept rests later within
       (subst (λ (n : List ℕ). Lasts (Some f) later n) is lasts))
-
--- the sections at rest are such as a segment can hold
-pub stored_of : (told : Option Files) (leaves : List ℕ → Option (List ℕ) → Type 0) (r : Reading)
-    (past : List Write) (id : ℕ) (old kept : List Section) → RestsAt told leaves r past id old kept
-    → IsStored id (old ++ kept)
-stored_of None leaves r past id old kept rests = absurd rests
-stored_of (Some f) leaves r past id old kept rests = rests.rest.stored
 
 -- what is so of the files where they are told
 pub if_told : (told : Option Files) (P : Files → Type 0)

@@ -1,5 +1,7 @@
+mod AddsOnly
 mod AllGo
 mod Anywhere
+mod AtMost
 mod Begun
 mod Beside
 mod BothTables
@@ -22,8 +24,9 @@ mod FolderNames
 mod FolderPuts
 pub mod FolderReads
 mod FolderSyncs
-mod Going
+mod Fronts
 mod GoneCuts
+mod GoodTables
 mod HeldSegments
 mod HullRows
 pub mod Ids
@@ -34,6 +37,8 @@ pub mod Lived
 mod LivedCalls
 mod LivedRolls
 pub mod Looking
+mod MayGo
+mod MostOpens
 mod NamesKept
 pub mod NextNames
 mod NoteBegun
@@ -58,8 +63,12 @@ mod NoteStands
 mod NoteSynced
 mod NoteTakes
 mod Noted
+mod Numbering
 mod OnDisk
 mod OneDroppable
+mod OpensSince
+mod OpensWell
+mod OpenedAgain
 pub mod OpenedWhole
 mod OrderDrops
 pub mod OrderGoes
@@ -72,6 +81,9 @@ mod PutTables
 mod Ready
 mod Recovered
 mod Recovery
+pub mod SectionEnds
+mod SegmentFiles
+mod SegmentLengths
 mod SegmentsGo
 mod SeventhFile
 mod ShownNotes
@@ -80,10 +92,14 @@ mod StoreBeside
 mod StoreDropped
 mod StoreFiles
 mod StoreFolds
+mod StoreImages
 mod StoreKept
 mod StoreLetGo
 mod StorePuts
 mod StoreTaking
 mod TableLogs
+mod TablesYet
+mod Torn
+mod TornReads
 mod Untouched
 mod WrongOrders

@@ -36,9 +36,12 @@ use Rattle.clog_crash.specs.Log.{Write}
 use Rattle.clog_crash.specs.Readings.{Reading}
 use Rattle.clog_crash.specs.Sections.{segment_bytes}
 use Rattle.clog_crash.proofs.changes.Names.{not_segment}
+use Rattle.clog_store.specs.declared.sequences.Sequences.{Sequences}
 use Rattle.clog_store.specs.Life.{HasBegun, HasEnd, Lives, LivesOn, MayGoOnIn, State}
+use Rattle.clog_store.specs.Numbering.{KeepsSequences}
 use Rattle.clog_store.specs.Resting.{RestsAt, ShowsBehind}
 use Rattle.clog_store.specs.Publishes.{IsTrueHere, MayPut}
+use Rattle.clog_store.specs.Torn.{HandStands}
 use Rattle.clog_store.proofs.Anywhere.{true_wherever}
 use Rattle.clog_store.proofs.Begun.{begun_on}
 use Rattle.clog_store.proofs.LivedCalls.{lives_same, lives_stopped}
@@ -133,7 +136,8 @@ table_aside id name table sequence named other from limit same =
 module _ {D : Type 0} (files : D → Option Files) (moment : D → ℕ)
     (since : D → ℕ → Files → Type 0) (leaves : D → List ℕ → Option (List ℕ) → Type 0)
     (read_at : D → ℕ → Option Reading) (lasted_at : D → ℕ → Type 0) (s : State D) (size : ℕ)
-    (new : D) (begun : HasBegun files moment since leaves read_at lasted_at s size)
+    (new : D) {known : Option Sequences}
+    (begun : HasBegun files moment since leaves read_at lasted_at s size known)
     (runs : s.is_stopped ≡ false)
     (counts : (image : Files) → IsImage (leaves new) image → since new (moment s.disk) image)
     (told : SameTold (files s.disk) (files new))
@@ -149,11 +153,22 @@ module _ {D : Type 0} (files : D → Option Files) (moment : D → ℕ)
   abbrev LivingOn : State D → Type 0
   LivingOn t = LivesOn files moment since leaves read_at lasted_at s t
 
-  abbrev Begun : State D → Type 0
-  Begun t = HasBegun files moment since leaves read_at lasted_at t size
+  abbrev Begun : State D → Option Sequences → Type 0
+  Begun t now = HasBegun files moment since leaves read_at lasted_at t size now
 
-  -- what it keeps, and that it lives on
-  pub passed : ((at : ℕ) → MayGoOnIn s.id s.sections at → (r : Reading)
+  -- it lives on
+  pub passed_on : ((at : ℕ) → MayGoOnIn s.id s.sections at → (r : Reading)
+      → RestsAt (files s.disk) (leaves s.disk) r s.past at (take s.synced s.sections)
+      (drop s.synced s.sections)
+      → RestsAt (files new) (leaves new) r s.past at (take s.synced s.sections)
+      (drop s.synced s.sections)) → Living s → LivingOn (record s { disk = new })
+  passed_on same lives =
+      lives_same files moment since leaves read_at lasted_at s new runs lives counts told later
+      any_moment same
+
+  -- what it keeps
+  pub passed : (now : Option Sequences)
+      → ((at : ℕ) → MayGoOnIn s.id s.sections at → (r : Reading)
       → RestsAt (files s.disk) (leaves s.disk) r s.past at (take s.synced s.sections)
       (drop s.synced s.sections)
       → RestsAt (files new) (leaves new) r s.past at (take s.synced s.sections)
@@ -161,30 +176,25 @@ module _ {D : Type 0} (files : D → Option Files) (moment : D → ℕ)
       → (HasEnd (files s.disk) s.id size s.sections → HasEnd (files new) s.id size s.sections)
       → (Lasts (files s.disk) (leaves s.disk) (segment_name_of 6 s.id)
       → Lasts (files new) (leaves new) (segment_name_of 6 s.id))
-      → Begun (record s { disk = new }) × (Living s → LivingOn (record s { disk = new }))
-  passed same end still = (
-    begun_on files moment since leaves read_at lasted_at s size new s.sections s.synced
-        s.is_stopped size begun later begun.few begun.stored (λ going. end (begun.ends going))
-        (λ going some all. still (begun.here going some all)) on,
-    on,
-  )
-    where
-      on : Living s → LivingOn (record s { disk = new })
-      on lives =
-          lives_same files moment since leaves read_at lasted_at s new runs lives counts told later
-          any_moment same
+      → (KeepsSequences (files s.disk) known → KeepsSequences (files new) now)
+      → Begun (record s { disk = new }) now
+  passed now same end still knows =
+      begun_on files moment since leaves read_at lasted_at s size new s.sections s.synced
+      s.is_stopped size now begun later begun.few begun.stored (λ going. end (begun.ends going))
+      (λ stopped. absurd (true≢false (sym stopped ∙ runs)))
+      (λ going some all. still (begun.here going some all)) (λ going. knows (begun.sequences going))
+      (passed_on same)
 
   -- where the disk has failed
-  pub broken : Begun (record s { disk = new; is_stopped = true })
-      × (Living s → LivingOn (record s { disk = new; is_stopped = true }))
-  broken = (
-    begun_on files moment since leaves read_at lasted_at s size new s.sections s.synced true size
-        begun later begun.few begun.stored (λ going. absurd (true≢false going))
-        (λ going. absurd (true≢false going)) on,
-    on,
-  )
-    where
-      on : Living s → LivingOn (record s { disk = new; is_stopped = true })
-      on lives =
-          lives_stopped files moment since leaves read_at lasted_at s new runs lives counts told
-          later any_moment
+  pub broken_on : Living s → LivingOn (record s { disk = new; is_stopped = true })
+  broken_on lives =
+      lives_stopped files moment since leaves read_at lasted_at s new runs lives counts told later
+      any_moment
+
+  pub broken : HandStands (files new) s.id s.synced s.sections
+      → Begun (record s { disk = new; is_stopped = true }) known
+  broken stands =
+      begun_on files moment since leaves read_at lasted_at s size new s.sections s.synced true size
+      known begun later begun.few begun.stored (λ going. absurd (true≢false going))
+      (λ stopped. stands) (λ going. absurd (true≢false going)) (λ going. absurd (true≢false going))
+      broken_on

@@ -12,6 +12,8 @@ use Rattle.std.proofs.Common.{
   ◌++◌,
   take,
   drop,
+  get_or,
+  length,
   Option,
   Some,
   None,
@@ -28,10 +30,15 @@ use Rattle.std.proofs.Common.{
 }
 use Rattle.std.specs.Prelude.{Bool, true, false, Result, Err, option_map}
 use Rattle.std.proofs.lemmas.List.{take-append-drop}
-use Rattle.std.proofs.lemmas.List.Elements.{Contains-append_left, Contains-append_right}
+use Rattle.std.proofs.lemmas.List.Elements.{
+  Contains-append_left,
+  Contains-append_right,
+  Contains-get_or,
+}
 use Rattle.std.specs.FinMap as finmap
-use Rattle.clog_spec.specs.Names.{archive_name_of, segment_name_of}
+use Rattle.clog_spec.specs.Names.{IsTableName, archive_name_of, segment_name_of}
 use Rattle.clog_base.proofs.Members.{further, here}
+use Rattle.clog_base.proofs.NameLaws.{archive_is_no_table}
 use Rattle.clog_disk.specs.declared.disk.DiskFault.{DiskFault}
 use Rattle.clog_disk.specs.declared.disk.DiskFault.TheVariants.{Failed, OutOfMemory}
 use Rattle.clog_disk.specs.Files.{Files, SameTold}
@@ -41,8 +48,14 @@ use Rattle.clog_scan.specs.Cut.{Section}
 use Rattle.clog_crash.specs.Flush.{IsCovered}
 use Rattle.clog_crash.specs.Log.{Write}
 use Rattle.clog_crash.specs.Readings.{Reading}
-use Rattle.clog_crash.proofs.changes.Names.{one_id}
-use Rattle.clog_store.specs.Beside.{ImagesBut, IsOfGone}
+use Rattle.clog_crash.proofs.changes.Names.{not_segment, one_id}
+use Rattle.clog_store.specs.Beside.{
+  ImagesBut,
+  IsEitherName,
+  IsOfGone,
+  NamesSegment,
+  StayButOne,
+}
 use Rattle.clog_store.specs.Discards.{
   MayAllGo,
   all_gone_at,
@@ -51,19 +64,25 @@ use Rattle.clog_store.specs.Discards.{
   named_at,
   next_named_at,
 }
+use Rattle.clog_store.specs.declared.sequences.Sequences.{Sequences}
 use Rattle.clog_store.specs.Life.{HasBegun, HasEnd, Lives, LivesOn, MayGoOnIn, State}
 use Rattle.clog_store.specs.Resting.{RestsAt, ShowsBehind}
+use Rattle.clog_store.specs.Torn.{HandStands}
 use Rattle.clog_store.proofs.AllGo.{all_rest, not_archived}
 use Rattle.clog_store.proofs.Anywhere.{covered_wherever}
 use Rattle.clog_store.proofs.OtherFiles.{
   IsAside,
   StandElse,
   broken,
+  broken_on,
   end_aside,
   none_there,
   passed,
+  passed_on,
   put_else,
 }
+use Rattle.clog_store.proofs.Numbering.{keeps_by}
+use Rattle.clog_store.proofs.Torn.{stands_behind}
 
 -- want of memory is no failure
 pub not_failed : {A : Type 0} (result : Result A DiskFault) {fault : DiskFault}
@@ -117,6 +136,10 @@ first_gone_else archives base ordinals n is_named f name apart =
     ∙ all_gone_else archives base front f name
     (λ of. apart (of.0, within of.0 (Contains-append_left front back of.0 of.1), of.2))
 
+either_of : (archives : Bool) (id : ℕ) (name : List ℕ) → NamesSegment archives id name
+    → IsEitherName id name
+either_of archives id name names = elim names [ inl own ↦ inl own | inr archive ↦ inr archive.1 ]
+
 -- older segments stand aside
 gone_aside : (base : ℕ) (ordinals : List ℕ) (id : ℕ) → id < 2 ^ 63
     → ((o : ℕ) → Contains ordinals o → base + o < id) → IsAside (IsOfGone base ordinals) id
@@ -128,6 +151,20 @@ gone_aside base ordinals id fits low other from limit of =
           omega (arith, one, under, from)
       | inr archive ↦
           not_archived (base + of.0) other (omega (arith, under, fits)) limit archive
+    ]
+
+-- no name of theirs is a table file's
+gone_no_table : (base : ℕ) (ordinals : List ℕ) (id : ℕ) → id < 2 ^ 63
+    → ((o : ℕ) → Contains ordinals o → base + o < id) → (name : List ℕ) (table n : ℕ)
+    → IsTableName name table n → IsOfGone base ordinals name → ⊥
+gone_no_table base ordinals id fits low name table n named of =
+    let under = low of.0 of.1 in
+    elim of.2 [
+      | inl own ↦ not_segment (base + of.0) name table n (omega (arith, under, fits)) named own
+      | inr archive ↦ archive_is_no_table name (base + of.0) (record {
+        form = archive;
+        id_fits = omega (arith, under, fits);
+      }) table n named
     ]
 
 abbrev CoveredHere : Option Files → ℕ → List Section → ℕ → List ℕ → Type 0
@@ -186,7 +223,8 @@ go_wherever (Some f) leaves r past id size sections synced kept base ordinals en
 module _ {D : Type 0} (files : D → Option Files) (moment : D → ℕ)
     (since : D → ℕ → Files → Type 0) (leaves : D → List ℕ → Option (List ℕ) → Type 0)
     (read_at : D → ℕ → Option Reading) (lasted_at : D → ℕ → Type 0) (s : State D) (size : ℕ)
-    (new : D) (begun : HasBegun files moment since leaves read_at lasted_at s size)
+    (new : D) {known : Option Sequences}
+    (begun : HasBegun files moment since leaves read_at lasted_at s size known)
     (runs : s.is_stopped ≡ false)
     (counts : (image : Files) → IsImage (leaves new) image → since new (moment s.disk) image)
     (told : SameTold (files s.disk) (files new))
@@ -210,7 +248,14 @@ module _ {D : Type 0} (files : D → Option Files) (moment : D → ℕ)
   LivingOn t = LivesOn files moment since leaves read_at lasted_at s t
 
   abbrev Begun : State D → Type 0
-  Begun t = HasBegun files moment since leaves read_at lasted_at t size
+  Begun t = HasBegun files moment since leaves read_at lasted_at t size known
+
+  -- these may still go
+  abbrev GoOn : List ℕ → Type 0
+  GoOn others =
+      (r : Reading) (past : List Write) (last : ℕ) (old kept : List Section)
+      → MayAllGo (files s.disk) (leaves s.disk) r past last old kept base ordinals
+      → MayAllGo (files new) (leaves new) r past last old kept base others
 
   may : (at : ℕ) → MayGoOnIn s.id s.sections at → (r : Reading)
       → RestsAt (files s.disk) (leaves s.disk) r s.past at old kept
@@ -225,45 +270,76 @@ module _ {D : Type 0} (files : D → Option Files) (moment : D → ℕ)
   any at on r rests = any_moment r s.past at old kept (may at on r rests)
 
   -- some have gone, and others may still go
+  gone_on : (others : List ℕ) → GoOn others → Living s → LivingOn (record s { disk = new })
+  gone_on others goes =
+      passed_on files moment since leaves read_at lasted_at s size new begun runs counts told later
+      any (λ at on r rests. all_rest (files new) (leaves new) r s.past at old kept base others
+      (goes r s.past at old kept (may at on r rests)))
+
   gone_by : (change : Files → Files) (others : List ℕ)
-      → ((f : Files) → StandElse (IsOfGone base ordinals) f (change f))
-      → ((r : Reading) (past : List Write) (last : ℕ) (old kept : List Section)
-      → MayAllGo (files s.disk) (leaves s.disk) r past last old kept base ordinals
-      → MayAllGo (files new) (leaves new) r past last old kept base others)
-      → files new ≡ option_map change (files s.disk)
-      → Begun (record s { disk = new }) × (Living s → LivingOn (record s { disk = new }))
+      → ((f : Files) → StandElse (IsOfGone base ordinals) f (change f)) → GoOn others
+      → files new ≡ option_map change (files s.disk) → Begun (record s { disk = new })
   gone_by change others else goes same =
       passed files moment since leaves read_at lasted_at s size new begun runs counts told later
-      any (λ at on r rests. all_rest (files new) (leaves new) r s.past at old kept base others
+      any known (λ at on r rests. all_rest (files new) (leaves new) r s.past at old kept base others
       (goes r s.past at old kept (may at on r rests)))
       (end_by (files s.disk) (files new) change s.id size s.sections old base ordinals covered
       else same)
       (lasts_by (files s.disk) (files new) change s.id old base ordinals (leaves s.disk)
       (leaves new) covered else same elsewhere begun.stored.fits)
+      (keeps_by (files s.disk) (files new) known (IsOfGone base ordinals) change else
+      (λ f is name table n named of. gone_no_table base ordinals s.id begun.stored.fits
+      (λ o listed. (subst (λ (o : Option Files). CoveredHere o s.id old base ordinals) is covered o
+      listed).below) name table n named of) same)
 
-  pub all_went : ((r : Reading) (past : List Write) (last : ℕ) (old kept : List Section)
-      → MayAllGo (files s.disk) (leaves s.disk) r past last old kept base ordinals
-      → MayAllGo (files new) (leaves new) r past last old kept base [])
-      → files new ≡ option_map (all_gone_at archives base ordinals) (files s.disk)
-      → Begun (record s { disk = new }) × (Living s → LivingOn (record s { disk = new }))
+  pub all_went : GoOn [] → files new ≡ option_map (all_gone_at archives base ordinals) (files s.disk)
+      → Begun (record s { disk = new })
   all_went goes same =
       gone_by (all_gone_at archives base ordinals) [] (all_gone_else archives base ordinals) goes
       same
 
-  pub first_went : (n : ℕ) (is_named : Bool)
-      → ((r : Reading) (past : List Write) (last : ℕ) (old kept : List Section)
-      → MayAllGo (files s.disk) (leaves s.disk) r past last old kept base ordinals
-      → MayAllGo (files new) (leaves new) r past last old kept base (drop n ordinals))
+  pub all_on : GoOn [] → Living s → LivingOn (record s { disk = new })
+  all_on goes = gone_on [] goes
+
+  pub first_went : (n : ℕ) (is_named : Bool) → GoOn (drop n ordinals)
       → files new
       ≡ option_map (first_gone_at archives base ordinals n is_named) (files s.disk)
-      → Begun (record s { disk = new }) × (Living s → LivingOn (record s { disk = new }))
+      → Begun (record s { disk = new })
   first_went n is_named goes same =
       gone_by (first_gone_at archives base ordinals n is_named) (drop n ordinals)
       (first_gone_else archives base ordinals n is_named) goes same
 
+  pub first_on : (n : ℕ) → GoOn (drop n ordinals) → Living s → LivingOn (record s { disk = new })
+  first_on n goes = gone_on (drop n ordinals) goes
+
   -- the disk has failed
-  pub some_went : Begun (record s { disk = new; is_stopped = true })
-      × (Living s → LivingOn (record s { disk = new; is_stopped = true }))
-  some_went =
+  pub some_on : Living s → LivingOn (record s { disk = new; is_stopped = true })
+  some_on =
+      broken_on files moment since leaves read_at lasted_at s size new begun runs counts told later
+      any
+
+  -- what stands of the segment at hand
+  hand : (change : Files → Files) (name : List ℕ) → IsOfGone base ordinals name
+      → ((f : Files) → StandElse (IsOfGone base ordinals) f (change f))
+      → StayButOne name (option_map change (files s.disk)) (files new)
+      → HandStands (files new) s.id s.synced s.sections
+  hand change name of else others =
+      stands_behind (files s.disk) (files new) s.id s.synced s.sections name change told (λ f is.
+      let aside = gone_aside base ordinals s.id begun.stored.fits (λ o listed.
+      (subst (λ (o : Option Files). CoveredHere o s.id old base ordinals) is covered o
+      listed).below) s.id (omega arith) begun.stored.fits in (
+        else f (segment_name_of 6 s.id) aside,
+        λ same. aside (subst (IsOfGone base ordinals) (sym same) of),
+      )) others begun.stands
+
+  pub some_went : (n : ℕ) (is_named : Bool) (name : List ℕ) → n < length ordinals
+      → NamesSegment archives (base + get_or ordinals n 0) name
+      → StayButOne name
+      (option_map (first_gone_at archives base ordinals n is_named) (files s.disk)) (files new)
+      → Begun (record s { disk = new; is_stopped = true })
+  some_went n is_named name inside names others =
       broken files moment since leaves read_at lasted_at s size new begun runs counts told later
       any
+      (hand (first_gone_at archives base ordinals n is_named) name
+      (get_or ordinals n 0, Contains-get_or ordinals n 0 inside, either_of archives _ name names)
+      (first_gone_else archives base ordinals n is_named) others)

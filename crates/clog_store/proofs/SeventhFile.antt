@@ -1,7 +1,6 @@
 -- The worked row of names.
 use Rattle.std.proofs.Common.{
   ◌≡◌,
-  ◌⊎◌,
   ℕ,
   ◌+◌,
   ◌≤◌,

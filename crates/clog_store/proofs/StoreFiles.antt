@@ -39,6 +39,7 @@ use Rattle.clog_cells.specs.Merge.{IsMergeOf}
 use Rattle.clog_cells.proofs.InOrder.{nothing_in_order}
 use Rattle.clog_disk.specs.declared.change.Change.{Change}
 use Rattle.clog_disk.specs.Files.{Files, PutsAt, SameTold}
+use Rattle.clog_disk.proofs.Named.{put_here}
 use Rattle.clog_folder.proofs.Listed.{listed_of}
 use Rattle.clog_crash.specs.Folder.{IsBase}
 use Rattle.clog_crash.specs.Readings.{Reading}
@@ -58,9 +59,10 @@ use Rattle.clog_store.specs.Publishes.{
   IsNextSequence,
   IsNumbered,
   IsTrueHere,
+  MayHaveCome,
   file_at,
 }
-use Rattle.clog_store.specs.StoreFailed.{IsFreeTable}
+use Rattle.clog_store.specs.StoreFailed.{IsFreeTable, MayStand}
 use Rattle.clog_store.specs.StoreFolder.{HoldsStore, IsSound, StoreLog, deeds_of, log_of, with_file}
 use Rattle.clog_store.specs.StoreState.{
   HasReached,
@@ -201,6 +203,15 @@ module _ {D : Type 0} (files : D → Option Files) (changes : D → Option (List
       (changes s.notes.log.disk) kept.grown.added (tells s.first) (tells s.notes.log.disk)
       kept.grown.changes_are f is
 
+  its_name : (f : Files) → files s.notes.log.disk ≡ Some f
+      → IsTableName (table_name_of file.table.0 sequence) file.table.0 sequence
+  its_name f is =
+      let first = told_first f is in
+      named s.notes (holding_of files changes moment faults code s) noted
+      (has_log files changes moment faults code s) file cells may first.0 f
+      (kept.folder runs first.0 f first.1 is) kept.sound sequence (next_at f is) next.fits
+      next.starts far
+
   -- its name is free
   pub free_table : (f : Files) → files s.notes.log.disk ≡ Some f
       → IsFreeTable f (table_name_of file.table.0 sequence)
@@ -211,14 +222,44 @@ module _ {D : Type 0} (files : D → Option Files) (changes : D → Option (List
       record {
         table = file.table.0;
         sequence = sequence;
-        named = named s.notes h noted has file cells may first.0 f
-            (kept.folder runs first.0 f first.1 is) kept.sound sequence (next_at f is) next.fits
-            next.starts far;
+        named = its_name f is;
         next = held_next f file.table sequence (next_at f is);
         free = free s.notes h noted has file cells may first.0 f
             (kept.folder runs first.0 f first.1 is) kept.sound sequence (next_at f is) next.fits
             next.starts far;
       }
+
+  -- what may stand there, where the disk has failed
+  pub stands_table : (l : State D)
+      → MayHaveCome (files s.notes.log.disk) (files l.disk) (file_at s.notes.base file cells)
+      sequence → (f g : Files) → files s.notes.log.disk ≡ Some f → files l.disk ≡ Some g
+      → MayStand (log_of s.notes) (deeds_by s) f (table_name_of file.table.0 sequence)
+      (finmap.get g (table_name_of file.table.0 sequence))
+  stands_table l may f g is here =
+      let name = table_name_of file.table.0 sequence in
+      elim may [
+        | inl same ↦ inl (ap (λ (x : Files). finmap.get x name)
+            (some_one g f (sym here ∙ same ∙ is)))
+        | inr come ↦
+            let puts : files l.disk ≡ Some (finmap.insert f name come.0) =
+            subst (λ (o : Option Files). PutsAt o (files l.disk) name (Some come.0)) is come.2 in
+            inr (inr (inl (record {
+              file = record {
+                put = put_of file cells;
+                sequence = sequence;
+                bytes = come.0;
+              };
+              name_is = refl;
+              next = record {
+                named = its_name f is;
+                next = next_at f is;
+                spelled = come.1;
+              };
+              what_is = ap (λ (x : Files). finmap.get x name)
+                  (some_one g (finmap.insert f name come.0) (sym here ∙ puts))
+                  ∙ put_here f name come.0;
+            })))
+      ]
 
   pub may_be_put : IfSome (files s.notes.log.disk) (λ f. IsTrueHere f s.notes.log.id
       (take s.notes.log.synced s.notes.log.sections) (file_at s.notes.base file cells) sequence)

@@ -20,6 +20,7 @@ use Rattle.std.proofs.Common.{
 }
 use Rattle.std.specs.Prelude.{Err, IfSome, OnErr, OnOk, Ok, Result, is_some, option_map}
 use Rattle.std.specs.List.{Contains}
+use Rattle.std.specs.FinMap as finmap
 use Rattle.std.proofs.lemmas.Bool.{true≢false}
 use Rattle.std.proofs.lemmas.Option.{none-some}
 use base.Stored.{Gv}
@@ -35,7 +36,7 @@ use Rattle.path_core.specs.Keeper.{MaySync}
 use Rattle.clog_store.specs.declared.written.StoreFault.{StoreFault}
 use Rattle.clog_store.specs.declared.written.StoreFault.TheVariants.{Stopped, OutOfMemory}
 use Rattle.clog_store.specs.Grows.{Writes}
-use Rattle.clog_store.specs.Life.{ReadsAs}
+use Rattle.clog_store.specs.Life.{ReadsAs, StandsHere}
 use Rattle.clog_store.specs.NoteLog.{HasRefused, HasSynced, LeavesOthers, NoteState}
 use Rattle.clog_store.specs.Opened.{IsOpened, OpensAs}
 use Rattle.clog_store.specs.Stepped.{HasLogCause, StopsBy}
@@ -53,6 +54,7 @@ use Rattle.clog_store.specs.StoreState.{
   deeds_by,
   holding_of,
 }
+use Rattle.clog_store.specs.Torn.{StandsTorn}
 use Rattle.clog_store.proofs.FolderBegins.{holds_opened}
 use Rattle.clog_store.proofs.FolderFails.{fails_synced}
 use Rattle.clog_store.proofs.FolderSyncs.{holds_notes_synced}
@@ -90,7 +92,8 @@ module _ {D : Type 0} (files : D → Option Files) (changes : D → Option (List
     (others : LeavesOthers s.notes.log n.log (files s.notes.log.disk) (files n.log.disk))
     (sound : IsSound n.log)
     (reads : n.log.is_stopped ≡ false → ReadsAs (files n.log.disk)
-    (segment_name_of 6 n.log.id) (segment_bytes n.log.id n.log.sections)) where
+    (segment_name_of 6 n.log.id) (segment_bytes n.log.id n.log.sections))
+    (torn : StandsHere files n.log) where
   abbrev Holds : Type 0
   Holds = HoldsIt files (record s { notes = n })
 
@@ -126,6 +129,8 @@ module _ {D : Type 0} (files : D → Option Files) (changes : D → Option (List
       fails_synced first was.0 g s.notes n (deeds_by s) []
       (kept.folder runs first was.0 is was.1) kept.sound sound rest base_is
       (same ∙ sym (append-nil s.notes.logged)) (λ m among. absurd (nothing_there m among))
+      (at_some (files n.log.disk) (λ f. StandsTorn n.log.id n.log.synced n.log.sections
+      (finmap.get f (segment_name_of 6 n.log.id))) g torn here)
 
   module _ {T : Type 0} (upto : ℕ) (pending left : List EntryNote)
       (may : MaySync (holding_of files changes moment faults code s) upto pending) where

@@ -76,7 +76,7 @@ use Rattle.clog_store.specs.StoreDrops.{
   dropped_by,
   named_by,
 }
-use Rattle.clog_store.specs.StoreFailed.{HoldsButOne}
+use Rattle.clog_store.specs.StoreFailed.{HoldsButOne, IsToGo}
 use Rattle.clog_store.specs.StoreFolder.{
   Deeds,
   HoldsStore,
@@ -328,26 +328,33 @@ module _ {D : Type 0} (files : D → Option Files) (changes : D → Option (List
         let o = get_or os why.dropped 0 in
         let at = next_among why.dropped os allowed.ascending inside.0 in
         let change = first_gone_at s.archives s.notes.base os why.dropped why.is_named in
+        let done = with_first_gone (deeds_by s) os why.dropped why.is_named in
+        let goes : IsToGo (log_of s.notes) done but.0 = record {
+          ordinal = o;
+          past = allowed.past o at;
+          stays = λ gone. elim (Contains-append_cases s.dropped (take why.dropped os) o
+              (subst (λ (l : List ℕ). Contains l o)
+              (first_dropped (deeds_by s) os why.dropped why.is_named) gone)) [
+                | inl had ↦ allowed.stays o at had
+                | inr first_one ↦
+                    next_left why.dropped os allowed.ascending inside.0 first_one
+              ];
+          name_is = its_name why.dropped why.is_named but.0 but.1;
+        } in
         record {
           last = change f;
           holds = holds_first_gone first (log_of s.notes) sound.below sound.stored.fits os
               why.dropped why.is_named f (deeds_by s) (holds first f at_first was) allowed
               inside.1;
           name = but.0;
-          failing = inr (inr (record {
-            ordinal = o;
-            past = allowed.past o at;
-            stays = λ gone. elim (Contains-append_cases s.dropped (take why.dropped os) o
-                (subst (λ (l : List ℕ). Contains l o)
-                (first_dropped (deeds_by s) os why.dropped why.is_named) gone)) [
-                  | inl had ↦ allowed.stays o at had
-                  | inr first_one ↦
-                      next_left why.dropped os allowed.ascending inside.0 first_one
-                ];
-            name_is = its_name why.dropped why.is_named but.0 but.1;
-          }));
+          failing = inr (inr goes);
           others = at_told (files n.log.disk) g _ now (but.2 (change f)
               (ap (option_map change) was));
+          stands = inr (inr (inr (record {
+            goes = goes;
+            stands = at_told (files n.log.disk) g _ now (but.3 (change f)
+                (ap (option_map change) was));
+          })));
         }
       where
         its_name : (k : ℕ) (named : Bool) (name : List ℕ)

@@ -25,6 +25,7 @@ use Rattle.std.proofs.Common.{
 }
 use Rattle.std.specs.Prelude.{Err, IfOk, OnOk, Ok, Result, is_some, option_map}
 use Rattle.std.proofs.lemmas.Bool.{true≢false}
+use Rattle.std.specs.FinMap as finmap
 use base.Stored.{Gv}
 use Rattle.clog_spec.specs.Names.{segment_name_of}
 use Rattle.clog_base.specs.declared.cell.Cell.{Cell}
@@ -44,10 +45,10 @@ use Rattle.clog_store.specs.declared.written.StoreFault.{StoreFault}
 use Rattle.clog_store.specs.declared.written.StoreFault.TheVariants.{Stopped, OutOfMemory}
 use Rattle.clog_store.specs.Beside.{StayButOne}
 use Rattle.clog_store.specs.Grows.{Writes}
-use Rattle.clog_store.specs.Life.{AllLasts, LastsHere, ReadsAs, State}
+use Rattle.clog_store.specs.Life.{AllLasts, LastsHere, ReadsAs, StandsHere, State}
 use Rattle.clog_store.specs.NoteLog.{LeavesOthers, NoteState}
 use Rattle.clog_store.specs.Stepped.{HasLogCause, IsQuiet, Passes, StopsBy}
-use Rattle.clog_store.specs.StoreFailed.{HoldsButOne, IsFreeTable}
+use Rattle.clog_store.specs.StoreFailed.{HoldsButOne, IsFreeTable, MayStand}
 use Rattle.clog_store.specs.StoreFolder.{Deeds, HoldsStore, IsSound, StoreLog, log_of}
 use Rattle.clog_store.specs.StoreState.{
   HasGrown,
@@ -207,8 +208,10 @@ module _ {D : Type 0} (files : D → Option Files) (changes : D → Option (List
   pub put_failed : (name : List ℕ) → StayButOne name (files s.notes.log.disk) (files l.disk)
       → SameTold (files s.notes.log.disk) (files l.disk)
       → ((f : Files) → files s.notes.log.disk ≡ Some f → IsFreeTable f name)
+      → ((f g : Files) → files s.notes.log.disk ≡ Some f → files l.disk ≡ Some g
+      → MayStand (log_of s.notes) (deeds_by s) f name (finmap.get g name))
       → s.notes.log.is_stopped ≡ false → HoldsItButOne files (with_files s.files)
-  put_failed name others told free runs first g is here =
+  put_failed name others told free stands runs first g is here =
       let was = told_before (files s.notes.log.disk) (files l.disk) g told here in
       let but_it : HoldsButOne first (log_of s.notes) (deeds_by s) g = record {
         last = was.0;
@@ -216,6 +219,7 @@ module _ {D : Type 0} (files : D → Option Files) (changes : D → Option (List
         name = name;
         failing = inr (inl (free was.0 was.1));
         others = at_told (files l.disk) g _ here (others was.0 was.1);
+        stands = stands was.0 g was.1 here;
       } in
       subst (λ (x : StoreLog). HoldsButOne first x (deeds_by s) g) (sym same_mind) but_it
 
@@ -290,20 +294,21 @@ module _ {D : Type 0} (files : D → Option Files) (changes : D → Option (List
     (cause : HasLogCause s.notes.log.is_stopped (faults s.notes.log.disk) (faults n.log.disk) r)
     (stops : StopsBy n.log.is_stopped r) (sound : IsSound n.log)
     (reads : n.log.is_stopped ≡ false → ReadsAs (files n.log.disk)
-    (segment_name_of 6 n.log.id) (segment_bytes n.log.id n.log.sections)) where
+    (segment_name_of 6 n.log.id) (segment_bytes n.log.id n.log.sections))
+    (torn : StandsHere files n.log) where
   pub store_gone_on : IsStore files changes moment faults read_at lasted_at (record s { notes = n })
   store_gone_on =
       store_on files changes moment faults read_at lasted_at s n kept opened began later writes
       stays r cause stops sound (λ still.
       folder_with files changes moment faults read_at lasted_at code tells s n kept writes others
-      sound reads
+      sound reads torn
       (ran_before s.notes.log.is_stopped n.log.is_stopped (faults s.notes.log.disk)
       (faults n.log.disk) r cause stops still) still []
       (ap (λ (x : NoteState D). x.base) same)
       (ap (λ (x : NoteState D). x.logged) same ∙ sym (append-nil s.notes.logged))
       (λ m among. absurd (nothing_there m among)))
       (λ stopped runs. folder_failed files changes moment faults read_at lasted_at code tells s n
-      kept writes others sound reads runs (ap (λ (x : NoteState D). x.base) same)
+      kept writes others sound reads torn runs (ap (λ (x : NoteState D). x.base) same)
       (ap (λ (x : NoteState D). x.logged) same))
       (settled_same s.notes n s.files (ap (λ (x : NoteState D). x.sizes) same)
       (ap (λ (x : NoteState D). x.logged) same) (ap (λ (x : NoteState D). x.synced) same)

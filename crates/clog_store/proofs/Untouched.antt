@@ -4,19 +4,23 @@ use Rattle.clog_spec.specs.Names.{segment_name_of}
 use Rattle.clog_disk.specs.Files.{Files, SameTold}
 use Rattle.clog_disk.specs.Images.{Elapses, IsImage, LeavesOnly, Unchanged}
 use Rattle.clog_crash.specs.Readings.{Reading}
+use Rattle.clog_store.specs.declared.sequences.Sequences.{Sequences}
 use Rattle.clog_store.specs.Life.{HasBegun, Lives, LivesOn, MayGoOnIn, State}
+use Rattle.clog_store.specs.Numbering.{KeepsSequences}
 use Rattle.clog_store.specs.Resting.{RestsAt, ShowsBehind}
 use Rattle.clog_store.proofs.Ends.{end_same}
 use Rattle.clog_store.proofs.Kept.{rests_on, rests_show}
 use Rattle.clog_store.proofs.Lived.{same_told}
-use Rattle.clog_store.proofs.OtherFiles.{broken, passed}
+use Rattle.clog_store.proofs.OtherFiles.{broken, broken_on, passed, passed_on}
 use Rattle.clog_store.proofs.Outcomes.{one_call}
 use Rattle.clog_store.proofs.Stays.{lasts_same}
+use Rattle.clog_store.proofs.Torn.{stands_same}
 
 module _ {D : Type 0} (files : D → Option Files) (moment : D → ℕ)
     (since : D → ℕ → Files → Type 0) (leaves : D → List ℕ → Option (List ℕ) → Type 0)
     (read_at : D → ℕ → Option Reading) (lasted_at : D → ℕ → Type 0) (s : State D) (size : ℕ)
-    (new : D) (begun : HasBegun files moment since leaves read_at lasted_at s size)
+    (new : D) {known : Option Sequences}
+    (begun : HasBegun files moment since leaves read_at lasted_at s size known)
     (runs : s.is_stopped ≡ false)
     (only_now : (image : Files) → since s.disk (moment s.disk) image
     → IsImage (leaves s.disk) image)
@@ -47,22 +51,33 @@ module _ {D : Type 0} (files : D → Option Files) (moment : D → ℕ)
       (rests_show (files new) (leaves new) r s.past at (take s.synced s.sections)
       (drop s.synced s.sections) (rests at r was))
 
-  pub untouched : HasBegun files moment since leaves read_at lasted_at
-      (record s { disk = new }) size
-      × (Lives files moment since leaves read_at lasted_at s
-      → LivesOn files moment since leaves read_at lasted_at s (record s { disk = new }))
-  untouched =
+  -- what is known of sequences may be more then
+  pub untouched : (now : Option Sequences)
+      → (KeepsSequences (files s.disk) known → KeepsSequences (files new) now)
+      → HasBegun files moment since leaves read_at lasted_at (record s { disk = new }) size now
+  untouched now knows =
       passed files moment since leaves read_at lasted_at s size new begun runs counts told
-      time.later any_moment (λ at on r was. rests at r was)
+      time.later any_moment now (λ at on r was. rests at r was)
       (end_same (files s.disk) (files new) s.id size s.sections same.files)
       (lasts_same (segment_name_of 6 s.id) (files s.disk) (files new) (leaves s.disk) (leaves new)
-      same.files (λ left is. same.images.fewer (segment_name_of 6 s.id) left is))
+      same.files (λ left is. same.images.fewer (segment_name_of 6 s.id) left is)) knows
+
+  pub untouched_on : Lives files moment since leaves read_at lasted_at s
+      → LivesOn files moment since leaves read_at lasted_at s (record s { disk = new })
+  untouched_on =
+      passed_on files moment since leaves read_at lasted_at s size new begun runs counts told
+      time.later any_moment (λ at on r was. rests at r was)
 
   pub failed : HasBegun files moment since leaves read_at lasted_at
-      (record s { disk = new; is_stopped = true }) size
-      × (Lives files moment since leaves read_at lasted_at s
-      → LivesOn files moment since leaves read_at lasted_at s
-      (record s { disk = new; is_stopped = true }))
+      (record s { disk = new; is_stopped = true }) size known
   failed =
       broken files moment since leaves read_at lasted_at s size new begun runs counts told
+      time.later any_moment
+      (stands_same (files s.disk) (files new) s.id s.synced s.sections same.files begun.stands)
+
+  pub failed_on : Lives files moment since leaves read_at lasted_at s
+      → LivesOn files moment since leaves read_at lasted_at s
+      (record s { disk = new; is_stopped = true })
+  failed_on =
+      broken_on files moment since leaves read_at lasted_at s size new begun runs counts told
       time.later any_moment

@@ -1,6 +1,6 @@
 -- What a call of a disk leaves of the files beside those that it names, and of what a crash may
 -- leave of them, whatever it answers.
-use Rattle.std.specs.Prelude.{◌≡◌, ◌⊎◌, ℕ, ◌+◌, Bool, true, List, Option, Some, Contains}
+use Rattle.std.specs.Prelude.{◌≡◌, ◌⊎◌, ℕ, ◌+◌, Bool, true, List, Option, Some, None, Contains}
 use Rattle.std.specs.FinMap as finmap
 use Rattle.clog_spec.specs.Names.{archive_name_of, segment_name_of}
 use Rattle.clog_disk.specs.Files.{Files, Told}
@@ -41,3 +41,17 @@ IsOfGone base ordinals name = (o : ℕ) × Contains ordinals o × IsEitherName (
 abbrev pub NamesSegment : Bool → ℕ → List ℕ → Type 0
 NamesSegment archives id name =
     (name ≡ segment_name_of 6 id) ⊎ ((archives ≡ true) × (name ≡ archive_name_of id))
+
+-- Where the disk tells its files, what stands at the name has P, by the files of before.
+abbrev pub StandsAs : List ℕ → (Files → Option (List ℕ) → Type 0) → Option Files → Option Files
+    → Type 0
+StandsAs name P told now =
+    (f : Files) → told ≡ Some f → Told now (λ g. P f (finmap.get g name))
+
+-- Of a segment that was to go there stands at the name what did, or nothing at its own name, or at
+-- its archive name what stands at its own.
+abbrev pub MayBeGoing : ℕ → List ℕ → Files → Option (List ℕ) → Type 0
+MayBeGoing id name files what =
+    (what ≡ finmap.get files name)
+    ⊎ (((name ≡ segment_name_of 6 id) × (what ≡ None))
+    ⊎ ((name ≡ archive_name_of id) × (what ≡ finmap.get files (segment_name_of 6 id))))

@@ -23,7 +23,7 @@ use Rattle.clog_disk.specs.Files.{Files}
 use Rattle.clog_store.specs.declared.section_log.dropping.DropFault.{DropFault}
 use Rattle.clog_store.specs.declared.written.StoreFault.{StoreFault}
 use Rattle.clog_store.specs.declared.written.StoreFault.TheVariants.{Stopped, OutOfMemory}
-use Rattle.clog_store.specs.Beside.{NamesSegment, StayButOne}
+use Rattle.clog_store.specs.Beside.{MayBeGoing, NamesSegment, StandsAs, StayButOne}
 use Rattle.clog_store.specs.Discards.{
   AreBehind,
   MayBeNamed,
@@ -65,13 +65,16 @@ DropsFiles archives base ordinals told now (Ok x) =
 DropsFiles archives base ordinals told now (Err why) =
     IsLeftBy archives base ordinals why.dropped why.is_named why.fault told now
 
--- Whatever was answered, the first have gone, and all but one name of the next one reads so.
+-- Whatever was answered, the first have gone, and all but one name of the next one reads so; at that
+-- one there stands what may of a segment that was to go.
 abbrev pub DropsButOne : {T : Type 0} → Bool → ℕ → List ℕ → Option Files → Option Files
     → Result T DropFault → Type 0
 DropsButOne archives base ordinals told now (Ok x) = ⊤
 DropsButOne archives base ordinals told now (Err why) =
     (name : List ℕ) × NamesSegment archives (base + get_or ordinals why.dropped 0) name
     × StayButOne name
+    (option_map (first_gone_at archives base ordinals why.dropped why.is_named) told) now
+    × StandsAs name (MayBeGoing (base + get_or ordinals why.dropped 0) name)
     (option_map (first_gone_at archives base ordinals why.dropped why.is_named) told) now
 
 -- The same by the disk's changes, whatever was answered.

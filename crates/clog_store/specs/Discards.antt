@@ -38,7 +38,7 @@ use Rattle.clog_crash.specs.Flush.{IsCovered}
 use Rattle.clog_crash.specs.Folder.{IsHeld}
 use Rattle.clog_crash.specs.Log.{Write, IsResting}
 use Rattle.clog_crash.specs.Readings.{Reading}
-use Rattle.clog_store.specs.Beside.{NamesSegment, StayButOne}
+use Rattle.clog_store.specs.Beside.{MayBeGoing, NamesSegment, StandsAs, StayButOne}
 use Rattle.clog_store.specs.declared.discarding.Halt.{Halt}
 use Rattle.clog_store.specs.declared.discarding.Refusal.{Refusal}
 
@@ -88,13 +88,14 @@ first_gone_at archives base ordinals n is_named files =
     (all_gone_at archives base (take n ordinals) files)
 
 -- Where a segment did not go, and got its archive name or not, all but one of its names read so,
--- whatever the disk answered.
+-- whatever the disk answered, and of that one it stands as of a segment that was to go.
 abbrev pub LeftButOne : {T : Type 0} → Bool → ℕ → Option Files → Option Files → Result T Refusal
     → Type 0
 LeftButOne archives id told now (Ok x) = ⊤
 LeftButOne archives id told now (Err refusal) =
     (name : List ℕ) × NamesSegment archives id name
     × StayButOne name (option_map (named_at refusal.is_named id) told) now
+    × StandsAs name (MayBeGoing id name) (option_map (named_at refusal.is_named id) told) now
 
 -- The same of the next one, where the first of them have gone.
 abbrev pub NextLeftButOne : {T : Type 0} → Bool → ℕ → List ℕ → Option Files → Option Files
@@ -103,6 +104,8 @@ NextLeftButOne archives base ordinals told now (Ok x) = ⊤
 NextLeftButOne archives base ordinals told now (Err halt) =
     (name : List ℕ) × NamesSegment archives (base + get_or ordinals halt.dropped 0) name
     × StayButOne name
+    (option_map (first_gone_at archives base ordinals halt.dropped halt.is_named) told) now
+    × StandsAs name (MayBeGoing (base + get_or ordinals halt.dropped 0) name)
     (option_map (first_gone_at archives base ordinals halt.dropped halt.is_named) told) now
 
 -- ---- by which changes

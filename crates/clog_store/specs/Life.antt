@@ -27,6 +27,9 @@ use Rattle.clog_scan.specs.Cut.{Section}
 use Rattle.clog_crash.specs.Log.{Write, HasShown, IsResting, logged_in}
 use Rattle.clog_crash.specs.Readings.{Reading}
 use Rattle.clog_crash.specs.Sections.{IsStored, segment_bytes}
+use Rattle.clog_store.specs.declared.sequences.Sequences.{Sequences}
+use Rattle.clog_store.specs.Numbering.{KeepsSequences}
+use Rattle.clog_store.specs.Torn.{HandStands}
 
 -- A store: its disk, the moment of its opening and the disk then, the segments that it has written,
 -- each of which lasts, the one that it writes with the sections that it was handed, how many of them
@@ -126,19 +129,26 @@ AllLasts files leaves s =
     (s.synced ≡ length s.sections)
     × (0 < length s.sections → Lasts (files s.disk) (leaves s.disk) (segment_name_of 6 s.id))
 
+-- What stands under the name of the segment at hand, whether or not the disk has failed: each section
+-- that lasts, and of the others all, or all but the last and some bytes in its place.
+abbrev pub StandsHere : {D : Type 0} → (D → Option Files) → State D → Type 0
+StandsHere files s = HandStands (files s.disk) s.id s.synced s.sections
+
 -- what stands from the opening on
 pub record HasBegun {D : Type 0} (files : D → Option Files) (moment : D → ℕ)
     (since : D → ℕ → Files → Type 0) (leaves : D → List ℕ → Option (List ℕ) → Type 0)
     (read_at : D → ℕ → Option Reading) (lasted_at : D → ℕ → Type 0) (s : State D) (size : ℕ)
-    : Type 0 where
+    (known : Option Sequences) : Type 0 where
   pub began : s.opened ≤ moment s.disk
   pub few : s.synced ≤ length s.sections
   pub past_below : (w : Write) → Contains s.past w → w.id < s.id
   pub past_stored : (w : Write) → Contains s.past w → IsStored w.id w.sections
   pub stored : IsStored s.id s.sections
+  pub stands : StandsHere files s
   -- until the disk has failed
   pub ends : s.is_stopped ≡ false → HasEnd (files s.disk) s.id size s.sections
   pub here : s.is_stopped ≡ false → LastsHere files leaves s
+  pub sequences : s.is_stopped ≡ false → KeepsSequences (files s.disk) known
   -- where all lasted at the opening
   pub lives : lasted_at s.disk s.opened → Lives files moment since leaves read_at lasted_at s
 

@@ -12,6 +12,7 @@ use Rattle.std.specs.Prelude.{
   List,
   [],
   ◌∷◌,
+  ◌++◌,
   length,
   map,
   ⊤,
@@ -22,6 +23,7 @@ use Rattle.clog_spec.specs.Sizes.{front_size, header_size, marker_size}
 use Rattle.clog_base.specs.declared.sizes.Sizes.{Sizes}
 use Rattle.clog_base.specs.Positions.{ordinal_of, offset_of}
 use Rattle.clog_scan.specs.Cut.{last_until}
+use Rattle.clog_crash.specs.Sections.{next_bytes}
 use Rattle.path_core.specs.declared.note.EntryNote.{EntryNote}
 use Rattle.clog_store.specs.Life.{State}
 use Rattle.clog_store.specs.NoteLog.{IsGood}
@@ -55,6 +57,12 @@ first_start (n ∷ ns) = n.start.0
 -- the length of a segment's file in front of the section whose first entry stands at an offset
 abbrev pub size_before : ℕ → ℕ
 size_before at = if at == front_size then 0 else at - marker_size
+
+-- What stands in front of so many bytes of entries, so that with them it brings the next section of
+-- a segment whose file has this size.
+abbrev pub IsFrontOf : ℕ → ℕ → ℕ → List ℕ → Type 0
+IsFrontOf id size long front =
+    (entries : List ℕ) → length entries ≡ long → front ++ entries ≡ next_bytes id size entries
 
 -- The notes may be the next section of the segment at hand.
 pub record MayBeNext {D : Type 0} (base : ℕ) (log : State D) (notes : List EntryNote) : Type 0 where

@@ -3,6 +3,7 @@ use Rattle.std.specs.Prelude.{
   ◌≡◌,
   ◌⊎◌,
   ℕ,
+  ◌+◌,
   ◌<◌,
   ◌≤◌,
   List,
@@ -75,6 +76,12 @@ pub record CanBeOpened (files : Files) : Type 0 where
 abbrev pub SequencesAreBelow : Files → Type 0
 SequencesAreBelow files = (name : List ℕ) (table sequence : ℕ) → IsTableName name table sequence
     → IsHeld files name → sequence < sequence_limit
+
+-- So many further files of each table have sequences within their limit.
+pub record HasRoomFor (files : Files) (count : ℕ) : Type 0 where
+  pub least : count ≤ sequence_limit
+  pub each : (name : List ℕ) (table sequence : ℕ) → IsTableName name table sequence
+      → IsHeld files name → sequence + count ≤ sequence_limit
 
 -- each file whose name is no segment's stands as it was
 abbrev pub OthersStay : Files → Files → Type 0

@@ -1,6 +1,7 @@
 -- A table file is put for an interval of the log, whose places are keys from a base on.
 use Rattle.std.specs.Prelude.{
   ◌≡◌,
+  ◌⊎◌,
   ℕ,
   ◌+◌,
   ◌<◌,
@@ -83,3 +84,10 @@ pub record HasCome (told now : Option Files) (before after : Option (List Change
   pub adds : after
       ≡ option_map (λ changes.
       changes ++ change.Publish (table_name_of file.table.0 sequence) bytes ∷ []) before
+
+-- Nothing has changed, or the file has come, as its one spelling.
+abbrev pub MayHaveCome : Option Files → Option Files → TableFile → ℕ → Type 0
+MayHaveCome told now file sequence =
+    (now ≡ told)
+    ⊎ ((bytes : List ℕ) × IsFileOf file.table bytes file
+    × PutsAt told now (table_name_of file.table.0 sequence) (Some bytes))

@@ -16,8 +16,8 @@ ghost use Rattle.std.specs.Prelude.{
 ghost use Rattle.clog_spec.specs.Names.{segment_name_of, table_name_of};
 ghost use Rattle.clog_disk.specs.Causes.{Finds, HasDiskCause};
 ghost use Rattle.clog_disk.specs.Changes.{Adds};
-ghost use Rattle.clog_disk.specs.Files.{PutsAt, SameTold};
-ghost use Rattle.clog_disk.specs.Images.{IsLater, LeavesOnly, Unchanged};
+ghost use Rattle.clog_disk.specs.Files.{MayPutAt, PutsAt, SameTold};
+ghost use Rattle.clog_disk.specs.Images.{IsLater, LeavesOnly, Unchanged, Elapses, TurnsTo};
 ghost use Rattle.clog_disk.specs.declared.change.Change.TheVariants as change;
 ghost use Rattle.clog_disk.specs.declared.disk.DiskFault.TheVariants.{
   Failed as failed,
@@ -49,6 +49,8 @@ pub fn put_table<D: Disk>(
         (table_name_of table.0 sequence) (Some bytes.now)) }
     ensures others { StayButOne (table_name_of table.0 sequence) (D.files disk.old)
         (D.files disk.new) }
+    ensures maybe { OnErr result (MayPutAt (D.files disk.old) (D.files disk.new)
+        (table_name_of table.0 sequence) (Some bytes.now)) }
     ensures elsewhere { ImagesButOne (table_name_of table.0 sequence) (D.leaves disk.old)
         (D.leaves disk.new) }
     ensures names_last { result ≢ Err failed → EachLasts (D.files disk.old) (D.leaves disk.old)
@@ -74,6 +76,9 @@ pub fn put_table<D: Disk>(
         → MayCome (D.files disk.old) (D.leaves disk.old) r past id old kept file sequence
         bytes.now
         → LeavesOnly D.moment D.since disk.old disk.new (ShowsBehind r past id old kept) }
+    ensures time { Elapses D.moment D.since D.leaves D.read_at D.lasted_at disk.old disk.new }
+    ensures crash { TurnsTo (D.leaves disk.old) (D.leaves disk.new)
+        (table_name_of table.0 sequence) (Some bytes.now) }
 {
     disk.publish(&table_name(table, sequence), bytes)
 }
@@ -85,6 +90,8 @@ pub fn take_away<D: Disk>(disk: &mut D, segment: u64) -> Result<(), DiskFault>
         (segment_name_of 6 segment) None) }
     ensures others { StayButOne (segment_name_of 6 segment) (D.files disk.old)
         (D.files disk.new) }
+    ensures maybe { OnErr result (MayPutAt (D.files disk.old) (D.files disk.new)
+        (segment_name_of 6 segment) None) }
     ensures elsewhere { ImagesButOne (segment_name_of 6 segment) (D.leaves disk.old)
         (D.leaves disk.new) }
     ensures names_last { result ≢ Err failed → EachLasts (D.files disk.old) (D.leaves disk.old)
@@ -106,6 +113,9 @@ pub fn take_away<D: Disk>(disk: &mut D, segment: u64) -> Result<(), DiskFault>
     ensures any_moment { (r : Reading) (past : List Write) (id : ℕ) (old kept : List Section)
         → MayGo (D.files disk.old) (D.leaves disk.old) r past id old kept segment
         → LeavesOnly D.moment D.since disk.old disk.new (ShowsBehind r past id old kept) }
+    ensures time { Elapses D.moment D.since D.leaves D.read_at D.lasted_at disk.old disk.new }
+    ensures crash { TurnsTo (D.leaves disk.old) (D.leaves disk.new) (segment_name_of 6 segment)
+        None }
 {
     disk.remove(&segment_name(segment))
 }

@@ -12,7 +12,6 @@ ghost use Rattle.std.specs.Prelude.{
   drop,
   ℕ,
   List,
-  Some,
   Err,
   IfErr,
   IfSome,
@@ -23,7 +22,7 @@ ghost use Rattle.std.specs.Prelude.{
 };
 ghost use Rattle.clog_spec.specs.Names.{archive_name_of, segment_name_of};
 ghost use Rattle.clog_disk.specs.Causes.{HasDiskCause};
-ghost use Rattle.clog_disk.specs.Files.{SameTold};
+ghost use Rattle.clog_disk.specs.Files.{Files, SameTold};
 ghost use Rattle.clog_disk.specs.Images.{IsLater, LeavesOnly};
 ghost use Rattle.clog_disk.specs.declared.disk.DiskFault.TheVariants.{
   Failed as failed,
@@ -33,11 +32,14 @@ ghost use Rattle.clog_scan.specs.Cut.{Section};
 ghost use Rattle.clog_crash.specs.Folder.{IsHeld};
 ghost use Rattle.clog_crash.specs.Log.{Write};
 ghost use Rattle.clog_crash.specs.Readings.{Reading};
+ghost use Rattle.clog_store.specs.AtMost.{AddsOnly, IsArchiveAmong, IsArchiveOf};
 ghost use Rattle.clog_store.specs.Beside.{
   ImagesBut,
   ImagesButOne,
   IsEitherName,
   IsOfGone,
+  MayBeGoing,
+  StandsAs,
   StayButOne,
 };
 ghost use Rattle.clog_store.specs.Discards.{
@@ -95,6 +97,8 @@ fn name_archive<D: Disk>(disk: &mut D, id: u64, archives: bool) -> Result<(), Di
         ≡ option_map (named_at archives id) (D.files disk.old)) }
     ensures same { result ≢ Err failed → OnErr result (D.files disk.new ≡ D.files disk.old) }
     ensures others { StayButOne (archive_name_of id) (D.files disk.old) (D.files disk.new) }
+    ensures stands { OnErr result (StandsAs (archive_name_of id)
+        (MayBeGoing id (archive_name_of id)) (D.files disk.old) (D.files disk.new)) }
     ensures elsewhere { ImagesButOne (archive_name_of id) (D.leaves disk.old) (D.leaves disk.new) }
     ensures names_last { result ≢ Err failed → EachLasts (D.files disk.old) (D.leaves disk.old)
         (D.files disk.new) (D.leaves disk.new) }
@@ -114,6 +118,9 @@ fn name_archive<D: Disk>(disk: &mut D, id: u64, archives: bool) -> Result<(), Di
         (base : ℕ) (ordinals : List ℕ)
         → MayAllGo (D.files disk.old) (D.leaves disk.old) r past last old kept base ordinals
         → LeavesOnly D.moment D.since disk.old disk.new (ShowsBehind r past last old kept) }
+    ensures adds_only { (f : Files) → D.files disk.old ≡ Some f
+        → AddsOnly D.files D.moment D.since D.leaves disk.old disk.new
+        (IsArchiveOf (D.leaves disk.old) id) }
 {
     if archives {
         return disk.link(&segment_name(id), &archive_name(id));
@@ -165,6 +172,9 @@ fn drop_segment<D: Disk>(
         → MayAllGo (D.files disk.old) (D.leaves disk.old) r past last old kept base
         (ordinal ∷ others)
         → LeavesOnly D.moment D.since disk.old disk.new (ShowsBehind r past last old kept) }
+    ensures adds_only { (f : Files) → D.files disk.old ≡ Some f
+        → AddsOnly D.files D.moment D.since D.leaves disk.old disk.new
+        (IsArchiveOf (D.leaves disk.old) (base + ordinal)) }
 {
     let id = base + ordinal;
     if let Err(fault) = name_archive(disk, id, archives) {
@@ -222,6 +232,9 @@ pub fn drop_segments<D: Disk>(
     ensures any_moment { (r : Reading) (past : List Write) (last : ℕ) (old kept : List Section)
         → MayAllGo (D.files disk.old) (D.leaves disk.old) r past last old kept base ordinals.now
         → LeavesOnly D.moment D.since disk.old disk.new (ShowsBehind r past last old kept) }
+    ensures adds_only { (f : Files) → D.files disk.old ≡ Some f
+        → AddsOnly D.files D.moment D.since D.leaves disk.old disk.new
+        (IsArchiveAmong (D.leaves disk.old) base ordinals.now) }
 {
     for done in 0..ordinals.len() {
         match drop_segment(disk, base, ordinals[done], archives) {

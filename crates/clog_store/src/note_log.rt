@@ -24,7 +24,7 @@ ghost use Rattle.clog_disk.specs.Images.{IsLater};
 ghost use Rattle.clog_store.specs.Grows.{Grows, Writes};
 ghost use Rattle.clog_spec.specs.Names.{segment_name_of};
 ghost use Rattle.clog_crash.specs.Sections.{segment_bytes};
-ghost use Rattle.clog_store.specs.Life.{LastsHere, Lives, LivesOn, ReadsAs};
+ghost use Rattle.clog_store.specs.Life.{LastsHere, Lives, LivesOn, ReadsAs, StandsHere};
 ghost use Rattle.clog_store.specs.NamesLast.{NamesGoOn};
 ghost use Rattle.clog_store.specs.StoreFolder.{IsSound};
 ghost use Rattle.clog_store.specs.NoteLog.{
@@ -244,6 +244,7 @@ impl<D: Disk> NoteLog<D> {
             (segment_bytes self.now.log.id self.now.log.sections) }
         ensures here { self.now.log.is_stopped ≡ false
             → LastsHere D.files D.leaves self.now.log }
+        ensures stands { StandsHere D.files self.now.log }
     {
         self.log.fault_count()
     }

@@ -1,5 +1,5 @@
 //! Notes of entries as sections: how many of them stand end to end, and their bytes.
-ghost use Rattle.std.specs.Prelude.{◌≡◌, ◌+◌, ◌<◌, ◌≤◌, IfOk, length};
+ghost use Rattle.std.specs.Prelude.{◌≡◌, ◌++◌, ◌+◌, ◌<◌, ◌≤◌, ◌^◌, IfOk, OnOk, length};
 ghost use Rattle.clog_spec.specs.Sizes.{greatest_capacity};
 ghost use Rattle.clog_crash.specs.Sections.{next_bytes};
 ghost use Rattle.clog_store.specs.NoteSections.{
@@ -9,7 +9,7 @@ ghost use Rattle.clog_store.specs.NoteSections.{
   size_before,
 };
 
-use crate::next::bytes_of_next;
+use crate::next::front_of;
 use crate::payloads::Payloads;
 use crate::written::Written;
 use clog_base::{Bytes, FRONT_SIZE, MARKER_SIZE};
@@ -28,14 +28,25 @@ pub(crate) fn section_length(notes: &[EntryNote]) -> usize
     count
 }
 
-fn bytes_of(alloc: Global, notes: &[EntryNote]) -> Result<Vec<u8>, AllocError>
-    ensures { IfOk result (λ bytes. bytes.items ≡ bytes_in notes.now) }
+// How many bytes their entries have.
+fn length_of(notes: &[EntryNote]) -> u32
+    requires room { length (bytes_in notes.now) < 2 ^ 31 }
+    ensures { result ≡ length (bytes_in notes.now) }
 {
-    let mut bytes = Vec::new(alloc);
+    let mut long = 0;
+    for note in notes {
+        long += note.bytes.len() as u32;
+    }
+    long
+}
+
+fn push_entries(bytes: &mut Vec<u8>, notes: &[EntryNote]) -> Result<(), AllocError>
+    ensures { OnOk result (bytes.new.items ≡ bytes.old.items ++ bytes_in notes.now) }
+{
     for note in notes {
         bytes.extend_from_slice(note.bytes.as_slice())?;
     }
-    Ok(bytes)
+    Ok(())
 }
 
 fn copy_of(alloc: Global, note: &EntryNote) -> Result<EntryNote, AllocError>
@@ -55,7 +66,7 @@ fn copy_of(alloc: Global, note: &EntryNote) -> Result<EntryNote, AllocError>
 pub(crate) fn copies_of(alloc: Global, notes: &[EntryNote]) -> Result<Vec<EntryNote>, AllocError>
     ensures { IfOk result (λ copies. copies.items ≡ notes.now) }
 {
-    let mut copies = Vec::new(alloc);
+    let mut copies = Vec::with_capacity(alloc, notes.len())?;
     for note in notes {
         copies.push(copy_of(alloc, note)?)?;
     }
@@ -92,10 +103,11 @@ pub(crate) fn section_of(
         })
         × (made.1.items ≡ next_bytes id (size_before at) (bytes_in notes.now))) }
 {
-    let entries = bytes_of(alloc, notes)?;
-    let bytes = bytes_of_next(alloc, id, size_of(at), &entries)?;
+    let long = length_of(notes);
+    let mut bytes = front_of(alloc, id, size_of(at), long)?;
+    push_entries(&mut bytes, notes)?;
     let section = Written {
-        until: u64::from(at) + entries.len() as u64,
+        until: u64::from(at) + u64::from(long),
         payloads,
     };
     Ok((section, bytes))

@@ -1,11 +1,12 @@
 //! A table file is put for an interval of the log up to which the log lasts. Its bytes are made
 //! first; then one call of the disk puts it in place. A crash meanwhile leaves a folder that
 //! restores the same.
-ghost use Rattle.std.specs.Prelude.{◌≡◌, ◌≢◌, ℕ, List, Err, OnOk, OnErr};
+ghost use Rattle.std.specs.Prelude.{◌≡◌, ◌≢◌, ℕ, List, Some, None, Err, OnOk, OnErr};
+ghost use Rattle.std.specs.FinMap as finmap;
 ghost use Rattle.clog_spec.specs.Names.{table_name_of};
 ghost use Rattle.clog_disk.specs.Causes.{HasDiskCause};
-ghost use Rattle.clog_disk.specs.Files.{SameTold};
-ghost use Rattle.clog_disk.specs.Images.{IsLater, LeavesOnly, Unchanged};
+ghost use Rattle.clog_disk.specs.Files.{Files, SameTold};
+ghost use Rattle.clog_disk.specs.Images.{Elapses, IsLater, LeavesOnly, Unchanged};
 ghost use Rattle.clog_disk.specs.declared.disk.DiskFault.TheVariants.{
   Failed as failed,
   NoSuchFile as no_file,
@@ -15,10 +16,17 @@ ghost use Rattle.clog_crash.specs.Changes.{IsTrueOf};
 ghost use Rattle.clog_crash.specs.Log.{Write};
 ghost use Rattle.clog_crash.specs.Readings.{Reading};
 ghost use Rattle.path_core.specs.Keeper.{Holding, MayPublish, PutFile};
+ghost use Rattle.clog_store.specs.AtMost.{AddsOnly, IsFileAt};
 ghost use Rattle.clog_store.specs.Beside.{ImagesButOne, StayButOne};
 ghost use Rattle.clog_store.specs.NamesLast.{EachLasts};
 ghost use Rattle.clog_store.specs.OnDisk.{IsAllOnDisk, file_on};
-ghost use Rattle.clog_store.specs.Publishes.{HasCome, IsNumbered, MayPut, file_at};
+ghost use Rattle.clog_store.specs.Publishes.{
+  HasCome,
+  IsNumbered,
+  MayHaveCome,
+  MayPut,
+  file_at,
+};
 ghost use Rattle.clog_store.specs.Resting.{RestsAt, ShowsBehind};
 
 use crate::changing::put_table;
@@ -60,6 +68,8 @@ pub fn publish_file<D: Disk>(
     ensures quiet { OnErr result (D.changes disk.new ≡ D.changes disk.old) }
     ensures others { StayButOne (table_name_of file.table.0 sequence) (D.files disk.old)
         (D.files disk.new) }
+    ensures maybe { OnErr result (MayHaveCome (D.files disk.old) (D.files disk.new)
+        (file_at base file cells.now) sequence) }
     ensures elsewhere { ImagesButOne (table_name_of file.table.0 sequence) (D.leaves disk.old)
         (D.leaves disk.new) }
     ensures names_last { result ≢ Err failed → EachLasts (D.files disk.old) (D.leaves disk.old)
@@ -78,6 +88,11 @@ pub fn publish_file<D: Disk>(
         → MayPut (D.files disk.old) (D.leaves disk.old) r past id old kept
         (file_at base file cells.now) sequence
         → LeavesOnly D.moment D.since disk.old disk.new (ShowsBehind r past id old kept) }
+    ensures time { Elapses D.moment D.since D.leaves D.read_at D.lasted_at disk.old disk.new }
+    ensures adds_only { (f : Files) → D.files disk.old ≡ Some f
+        → finmap.get f (table_name_of file.table.0 sequence) ≡ None
+        → AddsOnly D.files D.moment D.since D.leaves disk.old disk.new
+        (IsFileAt (table_name_of file.table.0 sequence) (file_at base file cells.now)) }
 {
     let lower = file.lower.position(base);
     let upper = file.upper.position(base);

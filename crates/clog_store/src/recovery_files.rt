@@ -1,6 +1,6 @@
 //! The first half of a recovery: for each table that has cells which the log restores, one file is
 //! put, whose interval holds the whole log.
-ghost use Rattle.std.specs.Prelude.{◌≡◌, ◌<◌, ◌≤◌, ◌+◌, ◌^◌, List, OnOk, Contains};
+ghost use Rattle.std.specs.Prelude.{◌≡◌, ◌<◌, ◌≤◌, ◌+◌, List, OnOk, Contains};
 ghost use Rattle.std.specs.List.{AllByRecursion, Any};
 ghost use Rattle.clog_spec.specs.Sizes.{most_tables};
 ghost use Rattle.clog_base.specs.declared.cell.Cell.{Cell};

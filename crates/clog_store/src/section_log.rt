@@ -5,9 +5,8 @@
 //! nothing.
 ghost use Rattle.std.specs.Prelude.{◌≡◌, ◌<◌, ◌≤◌, ◌^◌, ◌++◌, ℕ, List, [], ◌∷◌, take, drop, length};
 ghost use Rattle.std.specs.Prelude.{Contains, IfErr, IfOk, IfSome, Some};
-ghost use Rattle.std.specs.Prelude.{Err, true, false, option_map};
+ghost use Rattle.std.specs.Prelude.{Err, true, false};
 ghost use Rattle.clog_spec.specs.Names.{segment_name_of};
-ghost use Rattle.clog_store.specs.declared.written.StoreFault.TheVariants.{Stopped as stopped};
 ghost use Rattle.clog_scan.specs.Cut.{Section};
 ghost use Rattle.clog_disk.specs.Files.{Files, SameTold, Told};
 ghost use Rattle.clog_disk.specs.Images.{IsLater, LastsAll, LeavesOnly};
@@ -15,6 +14,7 @@ ghost use Rattle.clog_crash.specs.Log.{Write};
 ghost use Rattle.clog_crash.specs.Rest.{IsAtRest};
 ghost use Rattle.clog_crash.specs.Sections.{Brings, IsStored, segment_bytes};
 ghost use Rattle.clog_folder.specs.Passing.{IsUntouched, TellsFault};
+ghost use Rattle.clog_store.specs.AtMost.{HoldsMost};
 ghost use Rattle.clog_store.specs.Beside.{StayButOne};
 ghost use Rattle.clog_store.specs.Filing.{AreRecoveryPuts, ComesFrom};
 ghost use Rattle.clog_store.specs.Life.{
@@ -26,6 +26,7 @@ ghost use Rattle.clog_store.specs.Life.{
   MayGoOnIn,
   ReadsAs,
   ShownSince,
+  StandsHere,
 };
 ghost use Rattle.clog_store.specs.NamesLast.{NamesGoOn};
 ghost use Rattle.clog_store.specs.StoreFolder.{IsSound};
@@ -54,6 +55,7 @@ mod rolling;
 
 use crate::opening::recover;
 use crate::sections::{keep_sections, settle_sections};
+use crate::sequences::Sequences;
 use crate::written::{PastSegment, StoreFault, Written};
 use clog_disk::{Disk, DiskFault};
 use clog_folder::OpenFault;
@@ -79,9 +81,12 @@ pub struct SectionLog<D: Disk> {
     synced: usize,
     /// The disk has failed.
     is_stopped: bool,
+    /// The greatest sequences of table files, once the disk's names were read for them.
+    sequences: Option<Sequences>,
 }
 
 impl<D: Disk> Model for SectionLog<D> {
+    ghost use Rattle.clog_store.specs.AtMost.{HoldsMost};
     ghost use Rattle.clog_store.specs.Life.{State, HasBegun};
 
     ghost Value = { State D };
@@ -107,7 +112,17 @@ impl<D: Disk> Model for SectionLog<D> {
           sections = s.sections.items;
           synced = s.synced;
           is_stopped = s.is_stopped;
-        }) s.size };
+        }) s.size s.sequences
+        × HoldsMost D.files D.moment D.since D.leaves (record {
+          disk = s.disk;
+          opened = s.opened;
+          first = s.first.value;
+          past = s.past.items;
+          id = s.id;
+          sections = s.sections.items;
+          synced = s.synced;
+          is_stopped = s.is_stopped;
+        }) };
 }
 
 // The last section goes, since nothing of it came onto the disk.
@@ -147,6 +162,7 @@ impl<D: Disk> SectionLog<D> {
             sections: Vec::new(alloc),
             synced: 0,
             is_stopped: false,
+            sequences: None,
         }
     }
 
@@ -214,6 +230,7 @@ impl<D: Disk> SectionLog<D> {
         ensures reads { self.now.is_stopped ≡ false → ReadsAs (D.files self.now.disk)
             (segment_name_of 6 self.now.id) (segment_bytes self.now.id self.now.sections) }
         ensures here { self.now.is_stopped ≡ false → LastsHere D.files D.leaves self.now }
+        ensures stands { StandsHere D.files self.now }
     {
         self.disk.fault_count()
     }
@@ -295,7 +312,10 @@ impl<D: Disk> SectionLog<D> {
 
     /// Gives the disk back. Where all lasted at the opening, each image since restores what the
     /// folder restored then and the first of the entries, and each image of now all that last.
-    /// Where all sections of the segment at hand last, its name does, whatever lasted then.
+    /// Where all sections of the segment at hand last, its name does, whatever lasted then. What
+    /// stands under that name are its sections, or after a failure all but the last and some bytes
+    /// in its place. Each image since the opening holds at most what a crash left then, parts of the
+    /// log's segments, archive names of earlier ones, and table files with the next sequences.
     pub fn into_disk(self) -> D
         ensures disk { result ≡ self.disk }
         ensures stored { IsStored self.id self.sections }
@@ -305,6 +325,8 @@ impl<D: Disk> SectionLog<D> {
         ensures lasts { D.lasted_at result self.opened
             → LastsNow D.files D.leaves D.read_at D.lasted_at self }
         ensures here { self.is_stopped ≡ false → LastsHere D.files D.leaves self }
+        ensures stands { StandsHere D.files self }
+        ensures most { HoldsMost D.files D.moment D.since D.leaves self }
     {
         self.disk
     }
@@ -319,6 +341,7 @@ impl<D: Disk> SectionLog<D> {
         ensures sound { IsSound self.now }
         ensures reads { self.now.is_stopped ≡ false → ReadsAs (D.files self.now.disk)
             (segment_name_of 6 self.now.id) (segment_bytes self.now.id self.now.sections) }
+        ensures stands { StandsHere D.files self.now }
     {
         self.id
     }

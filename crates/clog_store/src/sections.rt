@@ -3,11 +3,12 @@
 ghost use Rattle.std.specs.Prelude.{
   ◌≡◌,
   ◌≢◌,
-  ◌⊎◌,
+  ◌+◌,
   ◌++◌,
   [],
   ℕ,
   List,
+  length,
   OnOk,
   OnErr,
   Err,
@@ -16,8 +17,15 @@ ghost use Rattle.std.specs.Prelude.{
 ghost use Rattle.clog_spec.specs.Names.{segment_name_of};
 ghost use Rattle.clog_disk.specs.Causes.{Finds, HasDiskCause};
 ghost use Rattle.clog_disk.specs.Changes.{Adds};
-ghost use Rattle.clog_disk.specs.Files.{AppendsTo, Files, IsEnd, SameTold};
-ghost use Rattle.clog_disk.specs.Images.{IsLater, Lasts, LeavesOnly, SameImages, Within};
+ghost use Rattle.clog_disk.specs.Files.{AppendsTo, Files, IsEnd, MayAppend, SameTold};
+ghost use Rattle.clog_disk.specs.Images.{
+  IsLater,
+  Lasts,
+  LeavesOnly,
+  SameImages,
+  Within,
+  Elapses,
+};
 ghost use Rattle.clog_disk.specs.declared.change.Change.TheVariants as change;
 ghost use Rattle.clog_disk.specs.declared.disk.DiskFault.TheVariants.{
   Failed as failed,
@@ -27,6 +35,7 @@ ghost use Rattle.clog_scan.specs.Cut.{Section};
 ghost use Rattle.clog_crash.specs.Log.{Write};
 ghost use Rattle.clog_crash.specs.Readings.{Reading};
 ghost use Rattle.clog_crash.specs.Sections.{Brings};
+ghost use Rattle.clog_store.specs.AtMost.{AddsOnly, IsUpToAt};
 ghost use Rattle.clog_store.specs.Beside.{ImagesButOne, StayButOne};
 ghost use Rattle.clog_store.specs.Resting.{RestsAt, ShowsBehind};
 
@@ -51,6 +60,8 @@ pub fn keep_sections<D: Disk>(
     ensures cause { HasDiskCause (D.faults disk.old) (D.faults disk.new) result }
     ensures found { result ≢ Err no_file }
     ensures others { StayButOne (segment_name_of 6 id) (D.files disk.old) (D.files disk.new) }
+    ensures maybe { OnErr result (MayAppend (D.files disk.old) (D.files disk.new)
+        (segment_name_of 6 id) (length bytes.now)) }
     ensures elsewhere { (f : Files) → D.files disk.old ≡ Some f
         → ImagesButOne (segment_name_of 6 id) (D.leaves disk.old) (D.leaves disk.new) }
     ensures kept { (r : Reading) (past : List Write) (old kept new : List Section)
@@ -71,6 +82,10 @@ pub fn keep_sections<D: Disk>(
         → RestsAt (D.files disk.old) (D.leaves disk.old) r past id old kept
         → LeavesOnly D.moment D.since disk.old disk.new
         (ShowsBehind r past id old (kept ++ new)) }
+    ensures time { Elapses D.moment D.since D.leaves D.read_at D.lasted_at disk.old disk.new }
+    ensures adds_only { (f : Files) → D.files disk.old ≡ Some f
+        → AddsOnly D.files D.moment D.since D.leaves disk.old disk.new
+        (IsUpToAt (segment_name_of 6 id) (size + length bytes.now)) }
 {
     disk.append_at(&segment_name(id), size, bytes)
 }
@@ -96,40 +111,7 @@ pub fn settle_sections<D: Disk>(disk: &mut D, id: u64) -> Result<(), DiskFault>
     ensures any_moment { (r : Reading) (past : List Write) (old kept : List Section)
         → RestsAt (D.files disk.old) (D.leaves disk.old) r past id old kept
         → LeavesOnly D.moment D.since disk.old disk.new (ShowsBehind r past id old kept) }
+    ensures time { Elapses D.moment D.since D.leaves D.read_at D.lasted_at disk.old disk.new }
 {
     disk.sync(&segment_name(id))
-}
-
-/// Puts the bytes of further sections behind those of a segment and makes them last, with those
-/// that were kept there. Where it is refused for memory, the new ones are kept or are not there.
-pub fn put_sections<D: Disk>(
-    disk: &mut D,
-    id: u64,
-    size: u64,
-    bytes: &[u8],
-) -> Result<(), DiskFault>
-    requires end { IsEnd (D.files disk.old) (segment_name_of 6 id) size }
-    ensures told { SameTold (D.files disk.old) (D.files disk.new) }
-    ensures appends { OnOk result (AppendsTo (D.files disk.old) (D.files disk.new)
-        (segment_name_of 6 id) bytes.now) }
-    ensures later { IsLater D.moment D.read_at D.lasted_at disk.old disk.new }
-    ensures cause { HasDiskCause (D.faults disk.old) (D.faults disk.new) result }
-    ensures put { (r : Reading) (past : List Write) (old kept new : List Section)
-        → Brings id old kept new bytes.now
-        → RestsAt (D.files disk.old) (D.leaves disk.old) r past id old kept
-        → OnOk result
-        (RestsAt (D.files disk.new) (D.leaves disk.new) r past id (old ++ (kept ++ new)) []) }
-    ensures refused { result ≢ Err failed → (r : Reading) (past : List Write)
-        (old kept new : List Section) → Brings id old kept new bytes.now
-        → RestsAt (D.files disk.old) (D.leaves disk.old) r past id old kept
-        → OnErr result (RestsAt (D.files disk.new) (D.leaves disk.new) r past id old kept
-        ⊎ RestsAt (D.files disk.new) (D.leaves disk.new) r past id old (kept ++ new)) }
-    ensures any_moment { (r : Reading) (past : List Write) (old kept new : List Section)
-        → Brings id old kept new bytes.now
-        → RestsAt (D.files disk.old) (D.leaves disk.old) r past id old kept
-        → LeavesOnly D.moment D.since disk.old disk.new
-        (ShowsBehind r past id old (kept ++ new)) }
-{
-    keep_sections(disk, id, size, bytes)?;
-    settle_sections(disk, id)
 }

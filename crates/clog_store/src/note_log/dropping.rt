@@ -23,7 +23,7 @@ ghost use Rattle.clog_store.specs.Discarding.{DropsBy, DropsButOne, DropsFiles, 
 ghost use Rattle.clog_store.specs.Discards.{AreDroppable};
 ghost use Rattle.clog_store.specs.Dropping.{AreDue};
 ghost use Rattle.clog_store.specs.Grows.{Writes};
-ghost use Rattle.clog_store.specs.Life.{Lives, LivesOn, ReadsAs};
+ghost use Rattle.clog_store.specs.Life.{Lives, LivesOn, ReadsAs, StandsHere};
 ghost use Rattle.clog_store.specs.NamesLast.{NamesGoOn};
 ghost use Rattle.clog_store.specs.NoteLog.{HasLog, IsNoteLog, LeavesOthers};
 ghost use Rattle.clog_store.specs.Stepped.{HasLogCause, Passes, StopsBy};
@@ -57,6 +57,7 @@ impl<D: Disk> NoteLog<D> {
         ensures reads { self.now.log.is_stopped ≡ false → ReadsAs (D.files self.now.log.disk)
             (segment_name_of 6 self.now.log.id)
             (segment_bytes self.now.log.id self.now.log.sections) }
+        ensures stands { StandsHere D.files self.now.log }
     {
         self.log.id();
     }

@@ -2,6 +2,7 @@
 ghost use Rattle.std.specs.Prelude.{
   ◌≡◌,
   ◌≢◌,
+  ◌+◌,
   ◌<◌,
   ◌^◌,
   Err,
@@ -13,10 +14,9 @@ ghost use Rattle.std.specs.Prelude.{
   true,
 };
 ghost use Rattle.clog_spec.specs.Names.{table_name_of};
-ghost use Rattle.clog_crash.specs.Folder.{IsBase};
 ghost use Rattle.clog_disk.specs.Files.{SameTold};
+ghost use Rattle.clog_store.specs.AtMost.{IsNextWithin};
 ghost use Rattle.clog_store.specs.Beside.{StayButOne};
-ghost use Rattle.clog_store.specs.Named.{HasSequence, OneHas};
 ghost use Rattle.clog_store.specs.NoteLog.{IsNoteLog};
 ghost use Rattle.clog_store.specs.NoteSteps.{GoesOn};
 ghost use Rattle.clog_store.specs.Publishes.{
@@ -24,6 +24,7 @@ ghost use Rattle.clog_store.specs.Publishes.{
   IsNextSequence,
   IsNumbered,
   IsTrueHere,
+  MayHaveCome,
   file_at,
 };
 ghost use Rattle.clog_store.specs.Stepped.{HasLogCause, Passes, StopsBy};
@@ -32,26 +33,25 @@ ghost use Rattle.clog_store.specs.declared.written.StoreFault.TheVariants.{
   Stopped as stopped,
 };
 
-use crate::naming::{GREATEST_SEQUENCE, next_sequence};
+use crate::naming::GREATEST_SEQUENCE;
 use crate::note_log::NoteLog;
 use crate::publishing::Published;
 use crate::written::StoreFault;
-use clog_base::{Name, Table};
+use clog_base::Table;
 use clog_cells::CellMap;
 use clog_disk::Disk;
 
-// The next sequence of a table, where a name can have it.
-fn sequence_in(names: &[Name], table: Table) -> Result<u64, StoreFault>
-    ensures next { IfOk result (λ n. IsBase (OneHas (HasSequence table) names.now) 1 n) }
+// The sequence behind the greatest one, where a name can have it.
+fn next_behind(greatest: u64) -> Result<u64, StoreFault>
+    ensures next { IfOk result (λ n. n ≡ greatest + 1) }
     ensures starts { IfOk result (λ n. 0 < n) }
     ensures fits { IfOk result (λ n. n < 2 ^ 63) }
     ensures memory { result ≢ Err stopped }
 {
-    let sequence = next_sequence(names, table);
-    if sequence > GREATEST_SEQUENCE {
+    if greatest >= GREATEST_SEQUENCE {
         return Err(StoreFault::OutOfMemory);
     }
-    Ok(sequence)
+    Ok(greatest + 1)
 }
 
 impl<D: Disk> NoteLog<D> {
@@ -71,20 +71,22 @@ impl<D: Disk> NoteLog<D> {
         ensures goes { GoesOn D.files D.moment D.since D.leaves D.read_at D.lasted_at self.old.log
             self.new.log }
     {
-        let names = match self.log.names() {
-            Ok(names) => names,
+        let known = match self.log.table_sequences() {
+            Ok(known) => known,
             Err(fault) => return Err(fault),
         };
-        sequence_in(names.as_slice(), table)
+        next_behind(known.greatest(table))
     }
 
     /// Puts the file of an interval with these cells, which is true of what lasts. The sequence is
-    /// that of the file's name, which is free.
+    /// that of the file's name, which is free: the next one of its table.
     pub fn put(&mut self, sequence: u64, file: Published, cells: &CellMap) -> Result<(), StoreFault>
         requires numbered { IsNumbered self.old.base sequence file cells.now }
         requires may { IfSome (D.files self.old.log.disk) (λ f. IsTrueHere f self.old.log.id
             (take self.old.log.synced self.old.log.sections)
             (file_at self.old.base file cells.now) sequence) }
+        requires next { IsNextWithin (D.files self.old.log.disk) self.old.log.id
+            (file_at self.old.base file cells.now) sequence }
         ensures log { self.new ≡ record self.old { log = self.new.log } }
         ensures noted { IsNoteLog self.new }
         ensures passes { Passes self.old.log self.new.log result }
@@ -97,6 +99,8 @@ impl<D: Disk> NoteLog<D> {
             (D.changes self.new.log.disk ≡ D.changes self.old.log.disk) }
         ensures others { StayButOne (table_name_of file.table.0 sequence)
             (D.files self.old.log.disk) (D.files self.new.log.disk) }
+        ensures maybe { OnErr result (MayHaveCome (D.files self.old.log.disk)
+            (D.files self.new.log.disk) (file_at self.old.base file cells.now) sequence) }
         ensures same { result ≡ Err no_memory
             → D.files self.new.log.disk ≡ D.files self.old.log.disk }
         ensures cause { HasLogCause self.old.log.is_stopped (D.faults self.old.log.disk)

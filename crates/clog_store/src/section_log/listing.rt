@@ -1,20 +1,22 @@
-//! The names of the disk's files are read beside the log of sections, which leaves all as it is.
+//! The greatest sequences of table files are read off the disk's names, once: that leaves the log of
+//! sections as it is. From then on they are kept.
 ghost use Rattle.std.specs.Prelude.{◌≡◌, IfOk, true};
-ghost use Rattle.clog_disk.specs.Files.{Lists};
 ghost use Rattle.clog_disk.specs.Images.{IsLater};
 ghost use Rattle.clog_store.specs.Life.{Lives, LivesOn};
 ghost use Rattle.clog_store.specs.NamesLast.{NamesGoOn};
+ghost use Rattle.clog_store.specs.Numbering.{AreOfNames};
 ghost use Rattle.clog_store.specs.Stepped.{HasLogCause, Passes, StopsBy};
 
 use crate::section_log::SectionLog;
+use crate::sequences::Sequences;
 use crate::written::StoreFault;
-use clog_base::{Name, Rows};
 use clog_disk::{Disk, DiskFault};
 
 impl<D: Disk> SectionLog<D> {
-    /// The names of the disk's files.
-    pub fn names(&mut self) -> Result<Rows<Name>, StoreFault>
-        ensures names { IfOk result (λ names. Lists (D.files self.new.disk) names) }
+    /// The greatest sequence of each table's files, by the disk's names. They are read in the first
+    /// call that ends well.
+    pub(crate) fn table_sequences(&mut self) -> Result<Sequences, StoreFault>
+        ensures known { IfOk result (AreOfNames (D.files self.new.disk)) }
         ensures passes { Passes self.old self.new result }
         ensures names_last { NamesGoOn D.files D.leaves self.old self.new }
         ensures stays { self.old.is_stopped ≡ true → self.new ≡ self.old }
@@ -30,8 +32,15 @@ impl<D: Disk> SectionLog<D> {
         if self.is_stopped {
             return Err(StoreFault::Stopped);
         }
+        if let Some(known) = self.sequences {
+            return Ok(known);
+        }
         match self.disk.list() {
-            Ok(names) => Ok(names),
+            Ok(names) => {
+                let listed = Sequences::of(names.as_slice());
+                self.sequences = Some(listed);
+                Ok(listed)
+            }
             Err(DiskFault::OutOfMemory) => Err(StoreFault::OutOfMemory),
             Err(DiskFault::Failed) => {
                 self.is_stopped = true;

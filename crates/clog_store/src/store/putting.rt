@@ -23,6 +23,7 @@ ghost use Rattle.clog_store.specs.StoreTakes.{GoesOnTaking};
 
 use crate::publishing::Published;
 use crate::store::{Store, StoredFile, told};
+use crate::written::StoreFault;
 use clog_base::{Key, Table};
 use clog_cells::CellMap;
 use clog_disk::Disk;
@@ -30,6 +31,22 @@ use path_core::KeeperFault;
 use std::snapshot::Snapshot;
 
 impl<D: Disk> Store<D> {
+    // Takes the memory for one file more, before the disk is called.
+    fn make_room_for_file(&mut self) -> Result<(), KeeperFault>
+        ensures same { self.new ≡ self.old }
+        ensures noted { IsNoteLog self.new.notes }
+        ensures cause { HasKeeperCause
+            (holding_of D.files D.changes D.moment D.faults D.row.coded.code self.old)
+            (holding_of D.files D.changes D.moment D.faults D.row.coded.code self.new) result }
+    {
+        let faults = self.notes.fault_count();
+        if self.notes.is_stopped() {
+            return told(self.at_open, faults, Err(StoreFault::Stopped));
+        }
+        self.files.reserve(1)?;
+        Ok(())
+    }
+
     // The log goes on so far that a file may be put up to a key.
     fn reach(&mut self, upper: Key) -> Result<(), KeeperFault>
         requires { upper.0 ≤ after self.old.notes.sizes.capacity self.old.notes.synced }
@@ -88,7 +105,6 @@ impl<D: Disk> Store<D> {
             (holding_of D.files D.changes D.moment D.faults D.row.coded.code self.new)
             (put_of file cells.now)) }
         ensures refused { OnErr result (HasMoved self.old self.new) }
-        ensures stays { self.old.notes.log.is_stopped ≡ true → self.new ≡ self.old }
         ensures first { self.new.first ≡ self.old.first }
         ensures noted { IsNoteLog self.new.notes }
         ensures goes { GoesOn D.files D.moment D.since D.leaves D.read_at D.lasted_at
@@ -168,6 +184,7 @@ impl<D: Disk> Store<D> {
             → LivesOn D.files D.moment D.since D.leaves D.read_at D.lasted_at self.old.notes.log
             self.new.notes.log }
     {
+        self.make_room_for_file()?;
         self.reach(upper)?;
         let sequence = self.next_sequence(table)?;
         let file = Published {

@@ -1,9 +1,11 @@
-use Rattle.std.proofs.Common.{◌∷◌, ◌+◌, Option, inl, inr, refl, subst}
+use Rattle.std.proofs.Common.{◌≡◌, ◌∷◌, ◌+◌, Option, Some, None, inl, inr, refl, subst}
 use Rattle.clog_spec.specs.Names.{archive_name_of, segment_name_of}
 use Rattle.clog_disk.specs.Files.{Files}
 use Rattle.clog_disk.proofs.Moments.{goes_on_by}
-use Rattle.clog_store.specs.Beside.{StayButOne}
+use Rattle.clog_store.specs.AtMost.{IsArchiveOf}
+use Rattle.clog_store.specs.Beside.{MayBeGoing, StandsAs, StayButOne}
 use Rattle.clog_store.specs.Resting.{ShowsBehind}
+use Rattle.clog_store.proofs.AddsOnly.{adds_by, adds_then, tables_but_segment, turned_only}
 use Rattle.clog_store.proofs.AllGo.{
   all_rest_on,
   not_missing,
@@ -11,6 +13,7 @@ use Rattle.clog_store.proofs.AllGo.{
   others_go,
   still_there,
 }
+use Rattle.clog_store.proofs.MayGo.{removed_stands}
 use Rattle.clog_store.proofs.Stays.{unnamed}
 use Rattle.clog_store.proofs.NamesKept.{each_then}
 use Rattle.clog_store.proofs.discarding.drop_segment.Goals as goal
@@ -84,6 +87,8 @@ returns-in-Err-clause-others g c =
       inr (c.in-Err.ensures.linked, refl),
       subst (λ (o : Option Files). StayButOne (archive_name_of id) o now) (unnamed id told)
           c.name_archive.ensures.others,
+      subst (λ (o : Option Files). StandsAs (archive_name_of id)
+          (MayBeGoing id (archive_name_of id)) o now) (unnamed id told) c.in-Err.ensures.stands,
     )
 
 pub returns-in-Err-take_away-clause-others : goal.returns-in-Err-take_away-clause-others
@@ -95,6 +100,10 @@ returns-in-Err-take_away-clause-others g c =
       inl refl,
       subst (λ (o : Option Files). StayButOne (segment_name_of 6 id) o now)
           c.in_default.ensures.files c.take_away.ensures.others,
+      subst (λ (o : Option Files). StandsAs (segment_name_of 6 id)
+          (MayBeGoing id (segment_name_of 6 id)) o now) c.in_default.ensures.files
+          (removed_stands (D.files c.name_archive.new.disk) now id
+          c.in-Err-take_away.ensures.maybe),
     )
 
 -- ---- what a crash may leave of the other names
@@ -137,3 +146,39 @@ returns-in-Err-take_away-clause-names_last g c other =
     each_then (D.files before) (D.files mid) (D.files after) (D.leaves before) (D.leaves mid)
     (D.leaves after) c.take_away.ensures.told (c.in_default.ensures.names_last (λ e. cc))
     (c.in-Err-take_away.ensures.names_last other)
+
+-- ---- what they add to images
+
+pub returns-in-Ok-clause-adds_only : goal.returns-in-Ok-clause-adds_only
+returns-in-Ok-clause-adds_only g c f is =
+    let D = g.D.Disk in
+    let before = c.args.disk.now in
+    let mid = c.name_archive.new.disk in
+    let after = c.take_away.new.disk in
+    let id = c.args.base + c.args.ordinal in
+    let own = segment_name_of 6 id in
+    let Archive = IsArchiveOf (D.leaves before) id in
+    let away = c.take_away.ensures in
+    adds_then D.files D.moment D.since D.leaves before mid after Archive away.told
+    c.name_archive.ensures.later.no_sooner (c.name_archive.ensures.adds_only f is)
+    (adds_by D.files D.moment D.since D.leaves D.read_at D.lasted_at mid after Archive away.time
+    (tables_but_segment (D.files mid) (D.files after) id away.others)
+    (turned_only (D.leaves mid) (D.leaves after) own None Archive away.crash
+    (λ bytes same. let no : None ≡ Some bytes = same in cc)))
+
+pub returns-in-Err-take_away-clause-adds_only : goal.returns-in-Err-take_away-clause-adds_only
+returns-in-Err-take_away-clause-adds_only g c f is =
+    let D = g.D.Disk in
+    let before = c.args.disk.now in
+    let mid = c.name_archive.new.disk in
+    let after = c.take_away.new.disk in
+    let id = c.args.base + c.args.ordinal in
+    let own = segment_name_of 6 id in
+    let Archive = IsArchiveOf (D.leaves before) id in
+    let away = c.take_away.ensures in
+    adds_then D.files D.moment D.since D.leaves before mid after Archive away.told
+    c.name_archive.ensures.later.no_sooner (c.name_archive.ensures.adds_only f is)
+    (adds_by D.files D.moment D.since D.leaves D.read_at D.lasted_at mid after Archive away.time
+    (tables_but_segment (D.files mid) (D.files after) id away.others)
+    (turned_only (D.leaves mid) (D.leaves after) own None Archive away.crash
+    (λ bytes same. let no : None ≡ Some bytes = same in cc)))

@@ -3,6 +3,7 @@ use Rattle.std.proofs.Common.{
   ℕ,
   ◌+◌,
   ◌∷◌,
+  ◌++◌,
   List,
   drop,
   get_or,
@@ -24,16 +25,21 @@ use Rattle.clog_store.specs.Discards.{
   MayAllGo,
   all_go_by,
   all_gone_at,
+  names_by,
+  next_by,
 }
 use Rattle.clog_disk.specs.Files.{Files}
-use Rattle.clog_store.specs.Beside.{StayButOne}
+use Rattle.clog_store.specs.AtMost.{IsArchiveAmong}
+use Rattle.clog_store.specs.Beside.{MayBeGoing, StandsAs, StayButOne}
 use Rattle.clog_store.specs.Resting.{ShowsBehind}
+use Rattle.clog_store.proofs.AddsOnly.{adds_none, archived_on}
 use Rattle.clog_store.proofs.AllGo.{
   all_go_more,
   all_gone_none,
   all_gone_then,
   all_rest,
   behind_none,
+  behind_then,
   others_there_still,
 }
 use Rattle.clog_store.proofs.Kept.{rests_show}
@@ -63,6 +69,8 @@ loop-done-init g c =
       elsewhere = λ name left apart is. is;
       names = each_same (D.files disk) (D.files disk) (D.leaves disk) (D.leaves disk) refl
           (λ name left is. is);
+      adds = λ f told. adds_none D.files D.moment D.since D.leaves disk
+          (IsArchiveAmong (D.leaves disk) c.args.base c.args.ordinals.now);
       may = λ r past last old kept may. may;
       only = λ r past last old kept may.
           started D.moment D.since disk (ShowsBehind r past last old kept) (λ image left.
@@ -138,6 +146,9 @@ loop-done-preserved g c =
       names = each_then (D.files first) (D.files before) (D.files after) (D.leaves first)
           (D.leaves before) (D.leaves after) c.drop_segment.ensures.told is.names
           (c.in-Ok.ensures.names_last (λ e. cc));
+      adds = archived_on D.files D.moment D.since D.leaves first before after base xs o
+          (in_all i xs o (drop (i + 1) xs) split) is.told c.drop_segment.ensures.told
+          is.later.no_sooner is.adds c.drop_segment.ensures.adds_only;
       may = λ r past last old kept may.
           c.in-Ok.ensures.goes r past last old kept (drop (i + 1) xs)
           (subst (MayAllGo (D.files before) (D.leaves before) r past last old kept base) split
@@ -165,13 +176,15 @@ returns-in-Err-clause-others g c =
     let i = c.loop-done.done in
     let xs = c.args.ordinals.now in
     let its = c.in-Err.ensures.others in
-    let now = D.files c.drop_segment.new.disk in (
+    let now = D.files c.drop_segment.new.disk in
+    let are = next_named c.args.archives c.in-Err.refusal.is_named c.args.base i (get_or xs i 0) xs
+    (drop (i + 1) xs) (D.files c.args.disk.now) (D.files c.loop-done.disk)
+    (drop_more xs i 0 c.loop-done-test.true) c.loop-done.invariant.gone in (
       its.0,
       its.1,
-      subst (λ (o : Option Files). StayButOne its.0 o now)
-          (next_named c.args.archives c.in-Err.refusal.is_named c.args.base i (get_or xs i 0) xs
-          (drop (i + 1) xs) (D.files c.args.disk.now) (D.files c.loop-done.disk)
-          (drop_more xs i 0 c.loop-done-test.true) c.loop-done.invariant.gone) its.2,
+      subst (λ (o : Option Files). StayButOne its.0 o now) are its.2,
+      subst (λ (o : Option Files). StandsAs its.0
+          (MayBeGoing (c.args.base + get_or xs i 0) its.0) o now) are its.3,
     )
 
 pub returns-in-Err-clause-elsewhere : goal.returns-in-Err-clause-elsewhere
@@ -195,3 +208,49 @@ returns-in-Err-clause-names_last g c other =
     each_then (D.files first) (D.files before) (D.files after) (D.leaves first) (D.leaves before)
     (D.leaves after) c.drop_segment.ensures.told c.loop-done.invariant.names
     (c.in-Err.ensures.names_last other)
+
+pub returns-in-Err-clause-adds_only : goal.returns-in-Err-clause-adds_only
+returns-in-Err-clause-adds_only g c =
+    let D = g.D.Disk in
+    let i = c.loop-done.done in
+    let xs = c.args.ordinals.now in
+    let o = get_or xs i 0 in
+    let base = c.args.base in
+    let split : drop i xs ≡ o ∷ drop (i + 1) xs = drop_more xs i 0 c.loop-done-test.true in
+    let first = c.args.disk.now in
+    let before = c.loop-done.disk in
+    let after = c.drop_segment.new.disk in
+    let is = c.loop-done.invariant in
+    archived_on D.files D.moment D.since D.leaves first before after base xs o
+    (in_all i xs o (drop (i + 1) xs) split) is.told c.drop_segment.ensures.told
+    is.later.no_sooner is.adds c.drop_segment.ensures.adds_only
+
+-- ---- how far it went
+
+pub returns-in-Err-clause-left : goal.returns-in-Err-clause-left
+returns-in-Err-clause-left g c other =
+    let D = g.D.Disk in
+    let i = c.loop-done.done in
+    let xs = c.args.ordinals.now in
+    c.in-Err.ensures.left other
+    ∙ next_named c.args.archives c.in-Err.refusal.is_named c.args.base i (get_or xs i 0) xs
+    (drop (i + 1) xs) (D.files c.args.disk.now) (D.files c.loop-done.disk)
+    (drop_more xs i 0 c.loop-done-test.true) c.loop-done.invariant.gone
+
+pub returns-in-Err-clause-changes : goal.returns-in-Err-clause-changes
+returns-in-Err-clause-changes g c =
+    let D = g.D.Disk in
+    let i = c.loop-done.done in
+    let xs = c.args.ordinals.now in
+    let base = c.args.base in
+    let named = c.in-Err.refusal.is_named in
+    let first = D.changes c.args.disk.now in
+    let after = D.changes c.drop_segment.new.disk in (
+      c.loop-done-test.true,
+      subst (λ (l : List ℕ).
+          AreBehind (all_go_by c.args.archives base (take i xs) ++ next_by named base l) first
+          after) (sym (drop_more xs i 0 c.loop-done-test.true))
+          (behind_then (all_go_by c.args.archives base (take i xs))
+          (names_by named (base + get_or xs i 0)) first (D.changes c.loop-done.disk) after
+          c.loop-done.invariant.changes c.in-Err.ensures.changes),
+    )

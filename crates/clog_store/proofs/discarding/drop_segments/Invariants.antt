@@ -1,10 +1,11 @@
-use Rattle.std.proofs.Common.{◌≡◌, ℕ, List, drop, take}
+use Rattle.std.proofs.Common.{◌≡◌, ℕ, List, Some, drop, take}
 use Rattle.std.specs.Prelude.{option_map}
-use Rattle.clog_disk.specs.Files.{SameTold}
+use Rattle.clog_disk.specs.Files.{Files, SameTold}
 use Rattle.clog_disk.specs.Images.{IsLater, LeavesOnly}
 use Rattle.clog_scan.specs.Cut.{Section}
 use Rattle.clog_crash.specs.Log.{Write}
 use Rattle.clog_crash.specs.Readings.{Reading}
+use Rattle.clog_store.specs.AtMost.{AddsOnly, IsArchiveAmong}
 use Rattle.clog_store.specs.Beside.{ImagesBut, IsOfGone}
 use Rattle.clog_store.specs.Discards.{
   AreBehind,
@@ -34,6 +35,9 @@ invariant-loop-done g l =
       elsewhere : ImagesBut (IsOfGone l.base l.ordinals) (D.leaves l.fn.disk) (D.leaves l.disk);
       names : EachLasts (D.files l.fn.disk) (D.leaves l.fn.disk) (D.files l.disk)
           (D.leaves l.disk);
+      adds : (f : Files) → D.files l.fn.disk ≡ Some f
+          → AddsOnly D.files D.moment D.since D.leaves l.fn.disk l.disk
+          (IsArchiveAmong (D.leaves l.fn.disk) l.base l.ordinals);
       may : (r : Reading) (past : List Write) (last : ℕ) (old kept : List Section)
           → MayAllGo (D.files l.fn.disk) (D.leaves l.fn.disk) r past last old kept l.base l.ordinals
           → MayAllGo (D.files l.disk) (D.leaves l.disk) r past last old kept l.base

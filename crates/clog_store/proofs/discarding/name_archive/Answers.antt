@@ -1,13 +1,17 @@
 use Rattle.std.proofs.Common.{ℕ, List, refl, subst}
-use Rattle.clog_spec.specs.Names.{archive_name_of}
+use Rattle.clog_spec.specs.Names.{archive_name_of, segment_name_of}
 use Rattle.clog_disk.specs.Files.{at_name}
+use Rattle.clog_disk.specs.Images.{TurnsLike}
+use Rattle.clog_store.specs.AtMost.{IsArchiveOf}
 use Rattle.clog_store.specs.Beside.{ImagesButOne, StayButOne}
 use Rattle.clog_disk.proofs.Moments.{started}
 use Rattle.clog_store.specs.Resting.{ShowsBehind}
+use Rattle.clog_store.proofs.AddsOnly.{adds_by, adds_none, linked_only, tables_but_archive}
 use Rattle.clog_store.proofs.AllGo.{all_rest, link_rests, link_shows, named_by}
 use Rattle.clog_store.proofs.Kept.{rests_show}
 use Rattle.clog_store.proofs.Outcomes.{ok_both, one_call}
 use Rattle.clog_store.proofs.Stays.{linked, stay_put, stay_same}
+use Rattle.clog_store.proofs.MayGo.{linked_stands}
 use Rattle.clog_store.proofs.NamesKept.{each_linked, each_same}
 use Rattle.clog_store.proofs.discarding.name_archive.Goals as goal
 
@@ -96,3 +100,39 @@ returns-clause-names_last g c other =
     let disk = c.args.disk.now in
     each_same (D.files disk) (D.files disk) (D.leaves disk) (D.leaves disk) refl
     (λ name left is. is)
+
+pub returns-then-archives-clause-stands : goal.returns-then-archives-clause-stands
+returns-then-archives-clause-stands g c =
+    let D = g.D.Disk in
+    linked_stands (D.files c.args.disk.now) (D.files c.link.new.self) c.args.id
+    c.segment_name.result c.archive_name.result c.segment_name.ensures c.archive_name.ensures
+    c.link.result c.link.ensures.maybe
+
+-- ---- what it adds to images
+
+pub returns-then-archives-clause-adds_only : goal.returns-then-archives-clause-adds_only
+returns-then-archives-clause-adds_only g c f is =
+    let D = g.D.Disk in
+    let before = c.args.disk.now in
+    let after = c.link.new.self in
+    let own = archive_name_of c.args.id in
+    let from = segment_name_of 6 c.args.id in
+    adds_by D.files D.moment D.since D.leaves D.read_at D.lasted_at before after
+    (IsArchiveOf (D.leaves before) c.args.id) c.link.ensures.time
+    (tables_but_archive (D.files before) (D.files after) c.args.id
+    (subst (λ (name : List ℕ). StayButOne name (D.files before) (D.files after))
+    c.archive_name.ensures
+    (stay_put c.archive_name.result (at_name (D.files before) c.segment_name.result)
+    (D.files before) (D.files after) c.link.result c.link.ensures.puts c.link.ensures.maybe)))
+    (linked_only (D.files before) (D.leaves before) (D.leaves after) from own
+    (subst (λ (name : List ℕ). TurnsLike (D.files before) (D.leaves before) (D.leaves after) name
+    own) c.segment_name.ensures
+    (subst (λ (name : List ℕ). TurnsLike (D.files before) (D.leaves before) (D.leaves after)
+    c.segment_name.result name) c.archive_name.ensures c.link.ensures.crash))
+    (g.met.D.Disk.reads_an_image before) f is)
+
+pub returns-clause-adds_only : goal.returns-clause-adds_only
+returns-clause-adds_only g c f is =
+    let D = g.D.Disk in
+    adds_none D.files D.moment D.since D.leaves c.args.disk.now
+    (IsArchiveOf (D.leaves c.args.disk.now) c.args.id)

@@ -1,8 +1,13 @@
-use Rattle.std.proofs.Common.{refl, sym}
-use Rattle.clog_disk.proofs.Moments.{started}
+use Rattle.std.proofs.Common.{List, ℕ, Some, inl, refl, sym, subst}
+use Rattle.clog_spec.specs.Names.{table_name_of}
+use Rattle.clog_disk.proofs.Moments.{started, still_now}
+use Rattle.clog_table.specs.Refusals.{IsFileOf}
+use Rattle.clog_crash.proofs.OneMore.{some_is}
+use Rattle.clog_store.specs.AtMost.{IsFileAt}
 use Rattle.clog_store.specs.Publishes.{file_at}
 use Rattle.clog_store.specs.Resting.{ShowsBehind}
-use Rattle.clog_store.proofs.FilePut.{added, may_come, put_rests, spelled_at}
+use Rattle.clog_store.proofs.FilePut.{added, may_come, may_have_come, put_rests, spelled_at}
+use Rattle.clog_store.proofs.AddsOnly.{adds_by, adds_none, tables_but_free, turned_only}
 use Rattle.clog_store.proofs.Kept.{rests_show}
 use Rattle.clog_store.proofs.Outcomes.{ok_both}
 use Rattle.clog_store.proofs.NamesKept.{each_same}
@@ -62,3 +67,52 @@ returns-in_default-clause-names_last g c other =
     let disk = c.args.disk.now in
     each_same (D.files disk) (D.files disk) (D.leaves disk) (D.leaves disk) refl
     (λ name left is. is)
+
+pub returns-clause-maybe : goal.returns-clause-maybe
+returns-clause-maybe g c =
+    let D = g.D.Disk in
+    may_have_come (file_at c.args.base c.args.file c.args.cells.now) c.args.sequence
+    c.deref.result.now
+    (spelled_at c.args.base c.args.file c.args.cells.now _ _ c.in-Ok.bytes.items c.deref.result.now
+    c.in-Ok.ensures c.position-lower.ensures c.position-upper.ensures (sym c.deref.ensures.value))
+    (D.files c.args.disk.now) (D.files c.put_table.new.disk) c.put_table.result
+    c.put_table.ensures.maybe
+
+-- ---- what it adds to images
+
+pub returns-in_default-clause-adds_only : goal.returns-in_default-clause-adds_only
+returns-in_default-clause-adds_only g c f is free =
+    let D = g.D.Disk in
+    adds_none D.files D.moment D.since D.leaves c.args.disk.now
+    (IsFileAt (table_name_of c.args.file.table.0 c.args.sequence)
+    (file_at c.args.base c.args.file c.args.cells.now))
+
+pub returns-clause-adds_only : goal.returns-clause-adds_only
+returns-clause-adds_only g c f is free =
+    let D = g.D.Disk in
+    let before = c.args.disk.now in
+    let after = c.put_table.new.disk in
+    let file = file_at c.args.base c.args.file c.args.cells.now in
+    let own = table_name_of c.args.file.table.0 c.args.sequence in
+    let put = c.put_table.ensures in
+    adds_by D.files D.moment D.since D.leaves D.read_at D.lasted_at before after
+    (IsFileAt own file) put.time
+    (tables_but_free (D.files before) (D.files after) own f is free put.others)
+    (turned_only (D.leaves before) (D.leaves after) own (Some c.deref.result.now)
+    (IsFileAt own file) put.crash (λ bytes same. (
+      refl,
+      subst (λ (b : List ℕ). IsFileOf file.table b file)
+          (some_is c.deref.result.now bytes same)
+          (spelled_at c.args.base c.args.file c.args.cells.now _ _ c.in-Ok.bytes.items
+          c.deref.result.now c.in-Ok.ensures c.position-lower.ensures c.position-upper.ensures
+          (sym c.deref.ensures.value)),
+    )))
+
+pub returns-in_default-clause-time : goal.returns-in_default-clause-time
+returns-in_default-clause-time g c =
+    let D = g.D.Disk in
+    record {
+      later = still_now D.moment D.read_at D.lasted_at c.args.disk.now;
+      nothing_else = λ t image le left. inl left;
+      keeps = λ t image le left. left;
+    }

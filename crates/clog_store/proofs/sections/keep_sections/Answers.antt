@@ -1,6 +1,10 @@
-use Rattle.std.proofs.Common.{◌++◌, List, ℕ, length, subst}
+use Rattle.std.proofs.Common.{◌+◌, ◌++◌, List, ℕ, length, subst}
+use Rattle.clog_spec.specs.Names.{segment_name_of}
+use Rattle.clog_disk.specs.Images.{Tears}
+use Rattle.clog_store.specs.AtMost.{IsUpToAt}
 use Rattle.clog_store.specs.Beside.{ImagesButOne, StayButOne}
 use Rattle.clog_store.specs.Resting.{ShowsBehind}
+use Rattle.clog_store.proofs.AddsOnly.{adds_by, tables_but_segment, torn_up_to}
 use Rattle.clog_store.proofs.Kept.{rests_show, rests_show_more, rests_on, torn_show, rests_kept}
 use Rattle.clog_store.proofs.Outcomes.{ok_then, err_then, one_call}
 use Rattle.clog_store.proofs.Stays.{stay_appended}
@@ -67,3 +71,21 @@ returns-clause-elsewhere g c f is =
     c.segment_name.ensures
     (torn_elsewhere (D.files before) (D.leaves before) (D.leaves after) c.segment_name.result
     (length c.args.bytes.now) c.append_at.ensures.crash f is)
+
+pub returns-clause-adds_only : goal.returns-clause-adds_only
+returns-clause-adds_only g c f is =
+    let D = g.D.Disk in
+    let before = c.args.disk.now in
+    let after = c.append_at.new.self in
+    let own = segment_name_of 6 c.args.id in
+    let n = length c.args.bytes.now in
+    adds_by D.files D.moment D.since D.leaves D.read_at D.lasted_at before after
+    (IsUpToAt own (c.args.size + n)) c.append_at.ensures.time
+    (tables_but_segment (D.files before) (D.files after) c.args.id
+    (subst (λ (name : List ℕ). StayButOne name (D.files before) (D.files after))
+    c.segment_name.ensures
+    (stay_appended c.segment_name.result c.args.bytes.now n (D.files before) (D.files after)
+    c.append_at.result c.append_at.ensures.appends c.append_at.ensures.maybe)))
+    (torn_up_to (D.files before) (D.leaves before) (D.leaves after) own n c.args.size
+    (subst (λ (name : List ℕ). Tears (D.files before) (D.leaves before) (D.leaves after) name n)
+    c.segment_name.ensures c.append_at.ensures.crash) c.requires.end f is)

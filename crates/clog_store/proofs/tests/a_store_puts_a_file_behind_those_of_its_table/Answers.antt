@@ -1,4 +1,4 @@
-use Rattle.std.proofs.Common.{◌<◌, ◌≤◌, refl, arith}
+use Rattle.std.proofs.Common.{refl, arith}
 use Rattle.clog_store.proofs.StoreFiles.{nothing_to_put}
 use Rattle.clog_store.proofs.tests.a_store_puts_a_file_behind_those_of_its_table.Goals as goal
 

@@ -1,7 +1,9 @@
 use Rattle.std.proofs.Common.{ap, subst}
+use Rattle.std.specs.Prelude.{OnErr}
 use Rattle.clog_store.specs.Life.{State}
 use Rattle.clog_store.specs.NoteLog.{NoteState}
 use Rattle.clog_store.specs.NoteSteps.{GoesOn}
+use Rattle.clog_store.specs.Publishes.{MayHaveCome, file_at}
 use Rattle.clog_store.proofs.NotePasses.{noted_passed, passes_goes}
 use Rattle.clog_store.proofs.note_log.NoteLog.put.Goals as goal
 
@@ -43,3 +45,11 @@ returns-clause-goes g c =
     (ap (λ (x : NoteState g.row.D.Denot). x.log) c.self.view_is)
     (passes_goes D.files D.moment D.since D.leaves D.read_at D.lasted_at log c.publish.new.self
     c.publish.result is.passes is.later is.lives is.names_last)
+
+pub returns-clause-maybe : goal.returns-clause-maybe
+returns-clause-maybe g c =
+    let D = g.D.Disk in
+    subst (λ (x : NoteState g.row.D.Denot). OnErr c.publish.result (MayHaveCome
+    (D.files x.log.disk) (D.files c.publish.new.self.disk)
+    (file_at x.base c.args.file c.args.cells.now) c.args.sequence)) c.self.view_is
+    c.publish.ensures.maybe

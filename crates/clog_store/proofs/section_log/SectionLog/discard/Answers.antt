@@ -1,9 +1,18 @@
-use Rattle.std.proofs.Common.{ℕ, ◌+◌, Err, refl, sym, subst, take}
+use Rattle.std.proofs.Common.{ℕ, ◌+◌, Err, refl, sym, subst, take, true}
 use Rattle.std.specs.Prelude.{Contains, IfSome}
 use Rattle.clog_crash.specs.Flush.{IsCovered}
 use Rattle.clog_store.specs.Life.{Lives, State}
+use Rattle.clog_store.proofs.AtMost.{low_of, most_gone}
 use Rattle.clog_store.proofs.Lived.{lives_from, lives_still}
-use Rattle.clog_store.proofs.SegmentsGo.{all_went, first_went, not_failed, some_went}
+use Rattle.clog_store.proofs.SegmentsGo.{
+  all_went,
+  first_went,
+  not_failed,
+  some_went,
+  all_on,
+  first_on,
+  some_on,
+}
 use Rattle.clog_store.proofs.NamesKept.{names_beside, names_from, names_still, names_stopped}
 use Rattle.clog_store.proofs.section_log.SectionLog.discard.Goals as goal
 
@@ -28,12 +37,18 @@ invariant_of-self g c =
     let xs = c.args.ordinals.now in
     let covered = subst (λ (st : State g.row.D.Denot). IfSome (D.files st.disk) (λ f. (o : ℕ)
     → Contains xs o → IsCovered f st.id (take st.synced st.sections) (c.args.base + o)))
-    (sym c.self.view_is) c.requires.covered in
-    (all_went D.files D.moment D.since D.leaves D.read_at D.lasted_at before s.size new
-    c.self.invariant c.if-self.false
-    (λ image left. g.met.D.Disk.counts_now new (D.moment s.disk) image is.later.no_sooner left)
-    is.told is.later c.args.archives c.args.base xs covered is.any_moment is.elsewhere
-    c.in-Ok.ensures.goes c.in-Ok.ensures.files).0
+    (sym c.self.view_is) c.requires.covered in (
+      all_went D.files D.moment D.since D.leaves D.read_at D.lasted_at before s.size new
+          c.self.invariant.0 c.if-self.false
+          (λ image left. g.met.D.Disk.counts_now new (D.moment s.disk) image is.later.no_sooner
+          left)
+          is.told is.later c.args.archives c.args.base xs covered is.any_moment is.elsewhere
+          c.in-Ok.ensures.goes c.in-Ok.ensures.files,
+      most_gone D.files D.moment D.since D.leaves before new c.args.base xs s.is_stopped
+          c.if-self.false is.told is.later.no_sooner is.adds_only
+          (low_of (D.files s.disk) s.id (take s.synced s.sections.items) c.args.base xs covered)
+          c.self.invariant.1,
+    )
 
 pub invariant_of-self-in-OutOfMemory : goal.invariant_of-self-in-OutOfMemory
 invariant_of-self-in-OutOfMemory g c =
@@ -54,14 +69,20 @@ invariant_of-self-in-OutOfMemory g c =
     let xs = c.args.ordinals.now in
     let covered = subst (λ (st : State g.row.D.Denot). IfSome (D.files st.disk) (λ f. (o : ℕ)
     → Contains xs o → IsCovered f st.id (take st.synced st.sections) (c.args.base + o)))
-    (sym c.self.view_is) c.requires.covered in
-    (first_went D.files D.moment D.since D.leaves D.read_at D.lasted_at before s.size new
-    c.self.invariant c.if-self.false
-    (λ image left. g.met.D.Disk.counts_now new (D.moment s.disk) image is.later.no_sooner left)
-    is.told is.later c.args.archives c.args.base xs covered is.any_moment is.elsewhere
-    c.in-Err.halt.dropped c.in-Err.halt.is_named
-    (c.in-Err.ensures.refused (not_failed (Err c.in-Err.halt.fault) refl c.in-OutOfMemory.is))
-    (c.in-Err.ensures.left (not_failed (Err c.in-Err.halt.fault) refl c.in-OutOfMemory.is))).0
+    (sym c.self.view_is) c.requires.covered in (
+      first_went D.files D.moment D.since D.leaves D.read_at D.lasted_at before s.size new
+          c.self.invariant.0 c.if-self.false
+          (λ image left. g.met.D.Disk.counts_now new (D.moment s.disk) image is.later.no_sooner
+          left)
+          is.told is.later c.args.archives c.args.base xs covered is.any_moment is.elsewhere
+          c.in-Err.halt.dropped c.in-Err.halt.is_named
+          (c.in-Err.ensures.refused (not_failed (Err c.in-Err.halt.fault) refl c.in-OutOfMemory.is))
+          (c.in-Err.ensures.left (not_failed (Err c.in-Err.halt.fault) refl c.in-OutOfMemory.is)),
+      most_gone D.files D.moment D.since D.leaves before new c.args.base xs s.is_stopped
+          c.if-self.false is.told is.later.no_sooner is.adds_only
+          (low_of (D.files s.disk) s.id (take s.synced s.sections.items) c.args.base xs covered)
+          c.self.invariant.1,
+    )
 
 pub invariant_of-self-in-Failed : goal.invariant_of-self-in-Failed
 invariant_of-self-in-Failed g c =
@@ -83,10 +104,19 @@ invariant_of-self-in-Failed g c =
     let covered = subst (λ (st : State g.row.D.Denot). IfSome (D.files st.disk) (λ f. (o : ℕ)
     → Contains xs o → IsCovered f st.id (take st.synced st.sections) (c.args.base + o)))
     (sym c.self.view_is) c.requires.covered in
-    (some_went D.files D.moment D.since D.leaves D.read_at D.lasted_at before s.size new
-    c.self.invariant c.if-self.false
-    (λ image left. g.met.D.Disk.counts_now new (D.moment s.disk) image is.later.no_sooner left)
-    is.told is.later c.args.archives c.args.base xs covered is.any_moment is.elsewhere).0
+    let others = c.in-Err.ensures.others in (
+      some_went D.files D.moment D.since D.leaves D.read_at D.lasted_at before s.size new
+          c.self.invariant.0 c.if-self.false
+          (λ image left. g.met.D.Disk.counts_now new (D.moment s.disk) image is.later.no_sooner
+          left)
+          is.told is.later c.args.archives c.args.base xs covered is.any_moment is.elsewhere
+          c.in-Err.halt.dropped c.in-Err.halt.is_named others.0 c.in-Err.ensures.changes.0 others.1
+          others.2,
+      most_gone D.files D.moment D.since D.leaves before new c.args.base xs true
+          c.if-self.false is.told is.later.no_sooner is.adds_only
+          (low_of (D.files s.disk) s.id (take s.synced s.sections.items) c.args.base xs covered)
+          c.self.invariant.1,
+    )
 
 -- ---- that it lives on
 
@@ -117,11 +147,11 @@ returns-in-Ok-clause-lives g c lives =
     → Contains xs o → IsCovered f st.id (take st.synced st.sections) (c.args.base + o)))
     (sym c.self.view_is) c.requires.covered in
     lives_from D.files D.moment D.since D.leaves D.read_at D.lasted_at c.self.view_is
-    ((all_went D.files D.moment D.since D.leaves D.read_at D.lasted_at before s.size new
-    c.self.invariant c.if-self.false
+    (all_on D.files D.moment D.since D.leaves D.read_at D.lasted_at before s.size new
+    c.self.invariant.0 c.if-self.false
     (λ image left. g.met.D.Disk.counts_now new (D.moment s.disk) image is.later.no_sooner left)
     is.told is.later c.args.archives c.args.base xs covered is.any_moment is.elsewhere
-    c.in-Ok.ensures.goes c.in-Ok.ensures.files).1
+    c.in-Ok.ensures.goes
     (subst (Lives D.files D.moment D.since D.leaves D.read_at D.lasted_at) (sym c.self.view_is)
     lives))
 
@@ -146,13 +176,12 @@ returns-in-OutOfMemory-clause-lives g c lives =
     → Contains xs o → IsCovered f st.id (take st.synced st.sections) (c.args.base + o)))
     (sym c.self.view_is) c.requires.covered in
     lives_from D.files D.moment D.since D.leaves D.read_at D.lasted_at c.self.view_is
-    ((first_went D.files D.moment D.since D.leaves D.read_at D.lasted_at before s.size new
-    c.self.invariant c.if-self.false
+    (first_on D.files D.moment D.since D.leaves D.read_at D.lasted_at before s.size new
+    c.self.invariant.0 c.if-self.false
     (λ image left. g.met.D.Disk.counts_now new (D.moment s.disk) image is.later.no_sooner left)
     is.told is.later c.args.archives c.args.base xs covered is.any_moment is.elsewhere
-    c.in-Err.halt.dropped c.in-Err.halt.is_named
+    c.in-Err.halt.dropped
     (c.in-Err.ensures.refused (not_failed (Err c.in-Err.halt.fault) refl c.in-OutOfMemory.is))
-    (c.in-Err.ensures.left (not_failed (Err c.in-Err.halt.fault) refl c.in-OutOfMemory.is))).1
     (subst (Lives D.files D.moment D.since D.leaves D.read_at D.lasted_at) (sym c.self.view_is)
     lives))
 
@@ -177,10 +206,10 @@ returns-in-Failed-clause-lives g c lives =
     → Contains xs o → IsCovered f st.id (take st.synced st.sections) (c.args.base + o)))
     (sym c.self.view_is) c.requires.covered in
     lives_from D.files D.moment D.since D.leaves D.read_at D.lasted_at c.self.view_is
-    ((some_went D.files D.moment D.since D.leaves D.read_at D.lasted_at before s.size new
-    c.self.invariant c.if-self.false
+    (some_on D.files D.moment D.since D.leaves D.read_at D.lasted_at before s.size new
+    c.self.invariant.0 c.if-self.false
     (λ image left. g.met.D.Disk.counts_now new (D.moment s.disk) image is.later.no_sooner left)
-    is.told is.later c.args.archives c.args.base xs covered is.any_moment is.elsewhere).1
+    is.told is.later c.args.archives c.args.base xs covered is.any_moment is.elsewhere
     (subst (Lives D.files D.moment D.since D.leaves D.read_at D.lasted_at) (sym c.self.view_is)
     lives))
 

@@ -14,14 +14,16 @@ use Rattle.std.proofs.Common.{
   subst,
   arith,
   length-append,
+  ◌∙◌,
 }
 use Rattle.std.proofs.lemmas.Bool.{true≢false}
 use Rattle.clog_spec.specs.Names.{segment_name_of}
 use Rattle.clog_scan.specs.Cut.{Section}
 use Rattle.clog_crash.specs.Sections.{Brings, IsStored}
 use Rattle.clog_store.specs.Life.{HasEnd, Lives, LivesOn, State}
+use Rattle.clog_store.proofs.AtMost.{most_kept, most_same}
 use Rattle.clog_store.proofs.Begun.{begun_on, stored_more}
-use Rattle.clog_store.proofs.Ends.{end_more, end_same}
+use Rattle.clog_store.proofs.Ends.{end_more, end_same, spelled_more}
 use Rattle.clog_store.proofs.Lived.{lives_from, lives_still}
 use Rattle.clog_store.proofs.LivedCalls.{lives_kept, lives_same, lives_torn}
 use Rattle.clog_store.proofs.Outcomes.{no_failure}
@@ -35,6 +37,10 @@ use Rattle.clog_store.proofs.NamesKept.{
   names_still,
   names_stopped,
 }
+use Rattle.clog_crash.proofs.changes.Names.{not_segment}
+use Rattle.clog_store.specs.Torn.{HandStands}
+use Rattle.clog_store.proofs.Torn.{stands_appended}
+use Rattle.clog_store.proofs.Numbering.{keeps_beside, keeps_same}
 use Rattle.clog_store.proofs.section_log.SectionLog.keep.Goals as goal
 
 -- the disk is not called
@@ -217,34 +223,50 @@ invariant_of-self-in-Ok g c =
     let brings = subst (λ (st : State g.row.D.Denot). Brings st.id (take st.synced st.sections)
     (drop st.synced st.sections) (x ∷ []) c.args.bytes.now) (sym c.self.view_is)
     c.requires.brings in
-    let bytes = c.args.bytes.now in
-    begun_on D.files D.moment D.since D.leaves D.read_at D.lasted_at before s.size mid
-    c.push.new.self.items s.synced s.is_stopped (s.size + length bytes) c.self.invariant
-    c.keep_sections.ensures.later
-    (omega (arith, c.self.invariant.few, ap length more, length-append ss (x ∷ [])))
-    (subst (IsStored s.id) (sym more) (stored_more s.id s.synced ss x c.args.bytes.now brings))
-    (λ runs. subst (λ (l : List Section). HasEnd (D.files mid) s.id (s.size + length bytes) l)
-    (sym more)
-    (end_more (D.files s.disk) (D.files mid) s.id s.size s.synced ss x bytes
-    c.in-Ok.ensures.appends brings (c.self.invariant.ends runs)))
-    (λ runs some all. absurd (omega (
-      arith,
-      all,
-      c.self.invariant.few,
-      ap length more,
-      length-append ss (x ∷ []),
-    )))
-    (λ lived. subst (λ (l : List Section). LivesOn D.files D.moment D.since D.leaves D.read_at
-    D.lasted_at before (record before { disk = mid; sections = l })) (sym more)
-    (lives_kept D.files D.moment D.since D.leaves D.read_at D.lasted_at before mid c.if-self.false
-    lived
-    (λ image left. g.met.D.Disk.counts_now mid (D.moment s.disk) image
-    c.keep_sections.ensures.later.no_sooner left) c.keep_sections.ensures.told
-    c.keep_sections.ensures.later x (λ r rests.
-    c.keep_sections.ensures.any_moment r s.past.items (take s.synced ss) (drop s.synced ss) (x ∷ [])
-    brings rests) (λ r rests.
-    c.in-Ok.ensures.kept r s.past.items (take s.synced ss) (drop s.synced ss) (x ∷ []) brings
-    rests)))
+    let bytes = c.args.bytes.now in (
+      begun_on D.files D.moment D.since D.leaves D.read_at D.lasted_at before s.size mid
+          c.push.new.self.items s.synced s.is_stopped (s.size + length bytes) s.sequences
+          c.self.invariant.0
+          c.keep_sections.ensures.later
+          (omega (arith, c.self.invariant.0.few, ap length more, length-append ss (x ∷ [])))
+          (subst (IsStored s.id) (sym more) (stored_more s.id s.synced ss x c.args.bytes.now
+          brings))
+          (λ runs. subst (λ (l : List Section). HasEnd (D.files mid) s.id (s.size + length bytes) l)
+          (sym more)
+          (end_more (D.files s.disk) (D.files mid) s.id s.size s.synced ss x bytes
+          c.in-Ok.ensures.appends brings (c.self.invariant.0.ends runs)))
+          (λ stopped. absurd (true≢false (sym stopped ∙ c.if-self.false)))
+          (λ runs some all. absurd (omega (
+            arith,
+            all,
+            c.self.invariant.0.few,
+            ap length more,
+            length-append ss (x ∷ []),
+          )))
+          (λ runs. keeps_beside (D.files s.disk) (D.files mid) s.sequences (segment_name_of 6 s.id)
+          c.keep_sections.ensures.told c.keep_sections.ensures.others (λ table n named.
+          not_segment s.id (segment_name_of 6 s.id) table n c.self.invariant.0.stored.fits named
+          refl)
+          (c.self.invariant.0.sequences runs))
+          (λ lived. subst (λ (l : List Section). LivesOn D.files D.moment D.since D.leaves D.read_at
+          D.lasted_at before (record before { disk = mid; sections = l })) (sym more)
+          (lives_kept D.files D.moment D.since D.leaves D.read_at D.lasted_at before mid
+          c.if-self.false
+          lived
+          (λ image left. g.met.D.Disk.counts_now mid (D.moment s.disk) image
+          c.keep_sections.ensures.later.no_sooner left) c.keep_sections.ensures.told
+          c.keep_sections.ensures.later x (λ r rests.
+          c.keep_sections.ensures.any_moment r s.past.items (take s.synced ss) (drop s.synced ss) (x
+          ∷ [])
+          brings rests) (λ r rests.
+          c.in-Ok.ensures.kept r s.past.items (take s.synced ss) (drop s.synced ss) (x ∷ []) brings
+          rests))),
+      most_kept D.files D.moment D.since D.leaves before mid x c.args.bytes.now s.size
+          c.push.new.self.items s.is_stopped c.if-self.false more
+          c.keep_sections.ensures.told c.keep_sections.ensures.later.no_sooner
+          c.keep_sections.ensures.adds_only (c.self.invariant.0.ends c.if-self.false).size_is brings
+          c.self.invariant.1,
+    )
 
 pub invariant_of-self-in-Err-OutOfMemory : goal.invariant_of-self-in-Err-OutOfMemory
 invariant_of-self-in-Err-OutOfMemory g c =
@@ -268,39 +290,55 @@ invariant_of-self-in-Err-OutOfMemory g c =
     (drop st.synced st.sections) (x ∷ []) c.args.bytes.now) (sym c.self.view_is)
     c.requires.brings in
     let back : c.take_back.new.sections.items ≡ ss =
-    c.take_back.ensures ss x more in
-    begun_on D.files D.moment D.since D.leaves D.read_at D.lasted_at before s.size mid
-    c.take_back.new.sections.items s.synced s.is_stopped s.size c.self.invariant
-    c.keep_sections.ensures.later
-    (omega (arith, c.self.invariant.few, ap length back))
-    (subst (IsStored s.id) (sym back) c.self.invariant.stored)
-    (λ runs. subst (λ (l : List Section). HasEnd (D.files mid) s.id s.size l) (sym back)
-    (end_same (D.files s.disk) (D.files mid) s.id s.size ss
-    (no_failure c.keep_sections.result c.in-Err-OutOfMemory.is
-    c.in-Err-OutOfMemory.field-0-is (λ other. c.keep_sections.ensures.same other))
-    (c.self.invariant.ends runs)))
-    (λ runs some all. lasts_same (segment_name_of 6 s.id) (D.files s.disk) (D.files mid)
-    (D.leaves s.disk) (D.leaves mid)
-    (no_failure c.keep_sections.result c.in-Err-OutOfMemory.is
-    c.in-Err-OutOfMemory.field-0-is (λ other. c.keep_sections.ensures.same other))
-    (λ left is. (no_failure c.keep_sections.result c.in-Err-OutOfMemory.is
-    c.in-Err-OutOfMemory.field-0-is (λ other. c.keep_sections.ensures.images other)).fewer
-    (segment_name_of 6 s.id) left is)
-    (c.self.invariant.here runs (omega (arith, some, ap length back))
-    (omega (arith, all, ap length back))))
-    (λ lived. subst (λ (l : List Section). LivesOn D.files D.moment D.since D.leaves D.read_at
-    D.lasted_at before (record before { disk = mid; sections = l })) (sym back)
-    (lives_same D.files D.moment D.since D.leaves D.read_at D.lasted_at before mid c.if-self.false
-    lived
-    (λ image left. g.met.D.Disk.counts_now mid (D.moment s.disk) image
-    c.keep_sections.ensures.later.no_sooner left) c.keep_sections.ensures.told
-    c.keep_sections.ensures.later
-    (λ at may r rests. (no_failure c.keep_sections.result c.in-Err-OutOfMemory.is
-    c.in-Err-OutOfMemory.field-0-is (λ other. c.keep_sections.ensures.refused other r s.past.items
-    at (take s.synced ss) (drop s.synced ss) rests)).1)
-    (λ at may r rests. (no_failure c.keep_sections.result c.in-Err-OutOfMemory.is
-    c.in-Err-OutOfMemory.field-0-is (λ other. c.keep_sections.ensures.refused other r s.past.items
-    at (take s.synced ss) (drop s.synced ss) rests)).0)))
+    c.take_back.ensures ss x more in (
+      begun_on D.files D.moment D.since D.leaves D.read_at D.lasted_at before s.size mid
+          c.take_back.new.sections.items s.synced s.is_stopped s.size s.sequences c.self.invariant.0
+          c.keep_sections.ensures.later
+          (omega (arith, c.self.invariant.0.few, ap length back))
+          (subst (IsStored s.id) (sym back) c.self.invariant.0.stored)
+          (λ runs. subst (λ (l : List Section). HasEnd (D.files mid) s.id s.size l) (sym back)
+          (end_same (D.files s.disk) (D.files mid) s.id s.size ss
+          (no_failure c.keep_sections.result c.in-Err-OutOfMemory.is
+          c.in-Err-OutOfMemory.field-0-is (λ other. c.keep_sections.ensures.same other))
+          (c.self.invariant.0.ends runs)))
+          (λ stopped. absurd (true≢false (sym stopped ∙ c.if-self.false)))
+          (λ runs some all. lasts_same (segment_name_of 6 s.id) (D.files s.disk) (D.files mid)
+          (D.leaves s.disk) (D.leaves mid)
+          (no_failure c.keep_sections.result c.in-Err-OutOfMemory.is
+          c.in-Err-OutOfMemory.field-0-is (λ other. c.keep_sections.ensures.same other))
+          (λ left is. (no_failure c.keep_sections.result c.in-Err-OutOfMemory.is
+          c.in-Err-OutOfMemory.field-0-is (λ other. c.keep_sections.ensures.images other)).fewer
+          (segment_name_of 6 s.id) left is)
+          (c.self.invariant.0.here runs (omega (arith, some, ap length back))
+          (omega (arith, all, ap length back))))
+          (λ runs. keeps_same (D.files s.disk) (D.files mid) s.sequences
+          (no_failure c.keep_sections.result c.in-Err-OutOfMemory.is
+          c.in-Err-OutOfMemory.field-0-is (λ other. c.keep_sections.ensures.same other))
+          (c.self.invariant.0.sequences runs))
+          (λ lived. subst (λ (l : List Section). LivesOn D.files D.moment D.since D.leaves D.read_at
+          D.lasted_at before (record before { disk = mid; sections = l })) (sym back)
+          (lives_same D.files D.moment D.since D.leaves D.read_at D.lasted_at before mid
+          c.if-self.false
+          lived
+          (λ image left. g.met.D.Disk.counts_now mid (D.moment s.disk) image
+          c.keep_sections.ensures.later.no_sooner left) c.keep_sections.ensures.told
+          c.keep_sections.ensures.later
+          (λ at may r rests. (no_failure c.keep_sections.result c.in-Err-OutOfMemory.is
+          c.in-Err-OutOfMemory.field-0-is (λ other. c.keep_sections.ensures.refused other r
+          s.past.items
+          at (take s.synced ss) (drop s.synced ss) rests)).1)
+          (λ at may r rests. (no_failure c.keep_sections.result c.in-Err-OutOfMemory.is
+          c.in-Err-OutOfMemory.field-0-is (λ other. c.keep_sections.ensures.refused other r
+          s.past.items
+          at (take s.synced ss) (drop s.synced ss) rests)).0))),
+      most_same D.files D.moment D.since D.leaves D.read_at D.lasted_at before mid
+          c.take_back.new.sections.items s.synced s.is_stopped c.if-self.false back
+          (no_failure c.keep_sections.result c.in-Err-OutOfMemory.is c.in-Err-OutOfMemory.field-0-is
+          (λ other. c.keep_sections.ensures.same other))
+          (no_failure c.keep_sections.result c.in-Err-OutOfMemory.is c.in-Err-OutOfMemory.field-0-is
+          (λ other. c.keep_sections.ensures.images other)).fewer c.keep_sections.ensures.time
+          c.self.invariant.1,
+    )
 
 pub invariant_of-self-in-Err-Failed : goal.invariant_of-self-in-Err-Failed
 invariant_of-self-in-Err-Failed g c =
@@ -322,21 +360,40 @@ invariant_of-self-in-Err-Failed g c =
     let more = c.in_ok-push.ensures.items in
     let brings = subst (λ (st : State g.row.D.Denot). Brings st.id (take st.synced st.sections)
     (drop st.synced st.sections) (x ∷ []) c.args.bytes.now) (sym c.self.view_is)
-    c.requires.brings in
-    begun_on D.files D.moment D.since D.leaves D.read_at D.lasted_at before s.size mid
-    c.push.new.self.items s.synced true s.size c.self.invariant c.keep_sections.ensures.later
-    (omega (arith, c.self.invariant.few, ap length more, length-append ss (x ∷ [])))
-    (subst (IsStored s.id) (sym more) (stored_more s.id s.synced ss x c.args.bytes.now brings))
-    (λ runs. absurd (true≢false runs)) (λ runs. absurd (true≢false runs))
-    (λ lived. subst (λ (l : List Section). LivesOn D.files D.moment D.since D.leaves D.read_at
-    D.lasted_at before (record before { disk = mid; sections = l; is_stopped = true })) (sym more)
-    (lives_torn D.files D.moment D.since D.leaves D.read_at D.lasted_at before mid c.if-self.false
-    lived
-    (λ image left. g.met.D.Disk.counts_now mid (D.moment s.disk) image
-    c.keep_sections.ensures.later.no_sooner left) c.keep_sections.ensures.told
-    c.keep_sections.ensures.later x (λ r rests.
-    c.keep_sections.ensures.any_moment r s.past.items (take s.synced ss) (drop s.synced ss) (x ∷ [])
-    brings rests)))
+    c.requires.brings in (
+      begun_on D.files D.moment D.since D.leaves D.read_at D.lasted_at before s.size mid
+          c.push.new.self.items s.synced true s.size s.sequences c.self.invariant.0
+          c.keep_sections.ensures.later
+          (omega (arith, c.self.invariant.0.few, ap length more, length-append ss (x ∷ [])))
+          (subst (IsStored s.id) (sym more) (stored_more s.id s.synced ss x c.args.bytes.now
+          brings))
+          (λ runs. absurd (true≢false runs))
+          (λ stopped. subst (λ (l : List Section). HandStands (D.files mid) s.id s.synced l) (sym
+          more)
+          (stands_appended s.id s.synced ss x c.args.bytes.now
+          (spelled_more s.id s.synced ss x c.args.bytes.now brings) c.self.invariant.0.few (D.files
+          s.disk)
+          (D.files mid) s.size (c.self.invariant.0.ends c.if-self.false)
+          c.in-Err-Failed.ensures.maybe))
+          (λ runs. absurd (true≢false runs)) (λ runs. absurd (true≢false runs))
+          (λ lived. subst (λ (l : List Section). LivesOn D.files D.moment D.since D.leaves D.read_at
+          D.lasted_at before (record before { disk = mid; sections = l; is_stopped = true })) (sym
+          more)
+          (lives_torn D.files D.moment D.since D.leaves D.read_at D.lasted_at before mid
+          c.if-self.false
+          lived
+          (λ image left. g.met.D.Disk.counts_now mid (D.moment s.disk) image
+          c.keep_sections.ensures.later.no_sooner left) c.keep_sections.ensures.told
+          c.keep_sections.ensures.later x (λ r rests.
+          c.keep_sections.ensures.any_moment r s.past.items (take s.synced ss) (drop s.synced ss) (x
+          ∷ [])
+          brings rests))),
+      most_kept D.files D.moment D.since D.leaves before mid x c.args.bytes.now s.size
+          c.push.new.self.items true c.if-self.false more
+          c.keep_sections.ensures.told c.keep_sections.ensures.later.no_sooner
+          c.keep_sections.ensures.adds_only (c.self.invariant.0.ends c.if-self.false).size_is brings
+          c.self.invariant.1,
+    )
 
 -- ---- which names last
 
@@ -383,7 +440,7 @@ returns-in-Ok-clause-names_last g c =
     (names_kept D.files D.leaves before c.keep_sections.new.disk c.push.new.self.items
     (omega (
       arith,
-      c.self.invariant.few,
+      c.self.invariant.0.few,
       ap length more,
       length-append s.sections.items (c.args.section ∷ []),
     )) is.told is.others is.elsewhere)

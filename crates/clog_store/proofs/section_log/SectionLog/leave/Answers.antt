@@ -17,8 +17,8 @@ use Rattle.std.proofs.Common.{
 use Rattle.clog_scan.specs.Cut.{Section}
 use Rattle.clog_crash.specs.Log.{Write}
 use Rattle.clog_store.specs.Life.{Lives, LivesOn, State}
-use Rattle.clog_store.specs.Several.{written}
-use Rattle.clog_store.proofs.Begun.{begun_rolled}
+use Rattle.clog_store.proofs.AtMost.{most_left}
+use Rattle.clog_store.proofs.Begun.{begun_rolled, written}
 use Rattle.clog_store.proofs.Lived.{lives_from}
 use Rattle.clog_store.proofs.LivedRolls.{lives_rolled}
 use Rattle.clog_store.proofs.section_log.SectionLog.leave.Goals as goal
@@ -94,30 +94,37 @@ invariant_of-self-2 g c =
     let past : c.push_reserved.new.self.items ≡ s.past.items ++ written s.id ss ∷ [] =
     c.push_reserved.ensures.items
     ∙ ap₂ (λ (l : List Write) (x : List Section). l ++ written s.id x ∷ []) c.reserve.ensures.items
-    (ap (λ v. v.items) c.replace-sections.ensures.value) in
-    begun_rolled D.files D.moment D.since D.leaves D.read_at D.lasted_at before s.size c.args.id
-    c.push_reserved.new.self.items c.replace-sections.new.dest.items past none
-    (subst (λ (st : State g.row.D.Denot). st.id < c.args.id) (sym c.self.view_is)
-    c.requires.above) c.requires.fits runs c.self.invariant
-    (λ lived.
-    (subst (λ (l : List Section). LivesOn D.files D.moment D.since D.leaves D.read_at D.lasted_at
-    before
-    (record before {
-      past = c.push_reserved.new.self.items;
-      id = c.args.id;
-      sections = l;
-      synced = 0;
-    })) (sym none)
-    (subst (λ (l : List Write). LivesOn D.files D.moment D.since D.leaves D.read_at D.lasted_at
-    before
-    (record before { past = l; id = c.args.id; sections = []; synced = 0 })) (sym past)
-    (lives_rolled D.files D.moment D.since D.leaves D.read_at D.lasted_at before c.args.id
-    runs lived
-    (g.met.D.Disk.only_now s.disk)
-    (λ image left. g.met.D.Disk.counts_now s.disk (D.moment s.disk) image (omega arith) left)
-    (subst (λ (st : State g.row.D.Denot). st.id < c.args.id) (sym c.self.view_is)
-    c.requires.above) c.requires.fits
-    (subst (λ (st : State g.row.D.Denot). 0 < length st.sections) (sym c.self.view_is)
-    c.requires.some)
-    (subst (λ (st : State g.row.D.Denot). st.synced ≡ length st.sections) (sym c.self.view_is)
-    c.requires.all)))))
+    (ap (λ v. v.items) c.replace-sections.ensures.value) in (
+      begun_rolled D.files D.moment D.since D.leaves D.read_at D.lasted_at before s.size c.args.id
+          c.push_reserved.new.self.items c.replace-sections.new.dest.items past none
+          (subst (λ (st : State g.row.D.Denot). st.id < c.args.id) (sym c.self.view_is)
+          c.requires.above) c.requires.fits runs c.self.invariant.0
+          (λ lived.
+          (subst (λ (l : List Section). LivesOn D.files D.moment D.since D.leaves D.read_at
+          D.lasted_at
+          before
+          (record before {
+            past = c.push_reserved.new.self.items;
+            id = c.args.id;
+            sections = l;
+            synced = 0;
+          })) (sym none)
+          (subst (λ (l : List Write). LivesOn D.files D.moment D.since D.leaves D.read_at
+          D.lasted_at
+          before
+          (record before { past = l; id = c.args.id; sections = []; synced = 0 })) (sym past)
+          (lives_rolled D.files D.moment D.since D.leaves D.read_at D.lasted_at before c.args.id
+          runs lived
+          (g.met.D.Disk.only_now s.disk)
+          (λ image left. g.met.D.Disk.counts_now s.disk (D.moment s.disk) image (omega arith) left)
+          (subst (λ (st : State g.row.D.Denot). st.id < c.args.id) (sym c.self.view_is)
+          c.requires.above) c.requires.fits
+          (subst (λ (st : State g.row.D.Denot). 0 < length st.sections) (sym c.self.view_is)
+          c.requires.some)
+          (subst (λ (st : State g.row.D.Denot). st.synced ≡ length st.sections) (sym c.self.view_is)
+          c.requires.all))))),
+      most_left D.files D.moment D.since D.leaves before c.args.id c.push_reserved.new.self.items
+          c.replace-sections.new.dest.items runs past none
+          (subst (λ (st : State g.row.D.Denot). st.id < c.args.id) (sym c.self.view_is)
+          c.requires.above) c.self.invariant.1,
+    )

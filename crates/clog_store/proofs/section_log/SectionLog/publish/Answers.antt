@@ -1,17 +1,30 @@
-use Rattle.std.proofs.Common.{ℕ, Some, take, drop, refl, sym, subst, arith}
+use Rattle.std.proofs.Common.{ℕ, Some, take, drop, refl, sym, subst, arith, true}
 use Rattle.std.specs.Prelude.{IfSome}
 use Rattle.clog_spec.specs.Names.{segment_name_of, table_name_of}
 use Rattle.clog_crash.specs.Readings.{Reading}
 use Rattle.clog_store.specs.Life.{Lives, MayGoOnIn, State}
-use Rattle.clog_store.specs.Publishes.{IsTrueHere, MayPut, file_at}
+use Rattle.clog_store.specs.Publishes.{IsTrueHere, MayHaveCome, MayPut, file_at}
 use Rattle.clog_store.specs.Resting.{RestsAt}
 use Rattle.clog_store.proofs.Ends.{end_same}
 use Rattle.clog_store.proofs.Lived.{lives_from, lives_still}
-use Rattle.clog_store.proofs.OtherFiles.{broken, end_beside, passed, put_wherever, table_aside}
+use Rattle.clog_store.proofs.OtherFiles.{
+  broken,
+  broken_on,
+  end_beside,
+  passed,
+  passed_on,
+  put_wherever,
+  table_aside,
+}
 use Rattle.clog_store.proofs.Outcomes.{no_failure}
 use Rattle.clog_store.proofs.Stays.{lasts_beside, lasts_same}
 use Rattle.clog_store.proofs.NamesKept.{names_beside, names_from, names_still, names_stopped}
 use Rattle.clog_store.proofs.SegmentsGo.{not_failed}
+use Rattle.clog_store.proofs.Numbering.{keeps_same}
+use Rattle.clog_store.proofs.TablesYet.{maybe_yet, put_yet}
+use Rattle.clog_store.proofs.Torn.{stands_beside}
+use Rattle.clog_store.specs.AtMost.{IsNextWithin}
+use Rattle.clog_store.proofs.AtMost.{free_here, most_put, most_same}
 use Rattle.clog_store.proofs.section_log.SectionLog.publish.Goals as goal
 
 -- ---- what it keeps
@@ -42,35 +55,52 @@ invariant_of-self g c =
     → MayPut (D.files s.disk) (D.leaves s.disk) r s.past.items at (take s.synced ss)
     (drop s.synced ss) file c.args.sequence =
     λ at on r rests. put_wherever (D.files s.disk) (D.leaves s.disk) r s.past.items s.id s.size ss
-    s.synced (drop s.synced ss) file c.args.sequence (c.self.invariant.ends c.if-self.false) here at
-    on rests in
-    (passed D.files D.moment D.since D.leaves D.read_at D.lasted_at before s.size new
-    c.self.invariant c.if-self.false
-    (λ image left. g.met.D.Disk.counts_now new (D.moment s.disk) image is.later.no_sooner left)
-    is.told is.later
-    (λ at on r rests. is.any_moment r s.past.items at (take s.synced ss) (drop s.synced ss)
-    (may at on r rests))
-    (λ at on r rests. c.in-Ok.ensures.rests r s.past.items at (take s.synced ss)
-    (drop s.synced ss) (may at on r rests))
-    (end_beside (D.files s.disk) (D.files new)
-    (table_name_of c.args.file.table.0 c.args.sequence) (Some c.in-Ok.ensures.comes.bytes) s.id
-    s.size ss c.in-Ok.ensures.comes.put
-    (table_aside s.id (table_name_of c.args.file.table.0 c.args.sequence) c.args.file.table.0
-    c.args.sequence (record {
-      form = refl;
-      table_fits = c.requires.numbered.writable.table;
-      sequence_starts = c.requires.numbered.starts;
-      sequence_fits = c.requires.numbered.fits;
-    })))
-    (lasts_beside (segment_name_of 6 s.id) (table_name_of c.args.file.table.0 c.args.sequence)
-    (D.files s.disk) (D.files new) (D.leaves s.disk) (D.leaves new) is.told is.others is.elsewhere
-    (table_aside s.id (table_name_of c.args.file.table.0 c.args.sequence) c.args.file.table.0
-    c.args.sequence (record {
-      form = refl;
-      table_fits = c.requires.numbered.writable.table;
-      sequence_starts = c.requires.numbered.starts;
-      sequence_fits = c.requires.numbered.fits;
-    }) s.id (omega arith) c.self.invariant.stored.fits))).0
+    s.synced (drop s.synced ss) file c.args.sequence (c.self.invariant.0.ends c.if-self.false) here at
+    on rests in (
+      passed D.files D.moment D.since D.leaves D.read_at D.lasted_at before s.size new
+          c.self.invariant.0 c.if-self.false
+          (λ image left. g.met.D.Disk.counts_now new (D.moment s.disk) image is.later.no_sooner left)
+          is.told is.later
+          (λ at on r rests. is.any_moment r s.past.items at (take s.synced ss) (drop s.synced ss)
+          (may at on r rests))
+          c.with_file-self-inside.result
+          (λ at on r rests. c.in-Ok.ensures.rests r s.past.items at (take s.synced ss)
+          (drop s.synced ss) (may at on r rests))
+          (end_beside (D.files s.disk) (D.files new)
+          (table_name_of c.args.file.table.0 c.args.sequence) (Some c.in-Ok.ensures.comes.bytes) s.id
+          s.size ss c.in-Ok.ensures.comes.put
+          (table_aside s.id (table_name_of c.args.file.table.0 c.args.sequence) c.args.file.table.0
+          c.args.sequence (record {
+            form = refl;
+            table_fits = c.requires.numbered.writable.table;
+            sequence_starts = c.requires.numbered.starts;
+            sequence_fits = c.requires.numbered.fits;
+          })))
+          (lasts_beside (segment_name_of 6 s.id) (table_name_of c.args.file.table.0 c.args.sequence)
+          (D.files s.disk) (D.files new) (D.leaves s.disk) (D.leaves new) is.told is.others is.elsewhere
+          (table_aside s.id (table_name_of c.args.file.table.0 c.args.sequence) c.args.file.table.0
+          c.args.sequence (record {
+            form = refl;
+            table_fits = c.requires.numbered.writable.table;
+            sequence_starts = c.requires.numbered.starts;
+            sequence_fits = c.requires.numbered.fits;
+          }) s.id (omega arith) c.self.invariant.0.stored.fits))
+          (λ keeps. c.with_file-self-inside.ensures (D.files s.disk) (D.files new) c.in-Ok.ensures.comes.bytes keeps
+          c.in-Ok.ensures.comes.put),
+      most_put D.files D.moment D.since D.leaves before new file c.args.sequence s.is_stopped
+          c.if-self.false (record {
+            form = refl;
+            table_fits = c.requires.numbered.writable.table;
+            sequence_starts = c.requires.numbered.starts;
+            sequence_fits = c.requires.numbered.fits;
+          }) (subst (λ (st : State g.row.D.Denot). IsNextWithin (D.files st.disk) st.id file
+          c.args.sequence) (sym c.self.view_is) c.requires.next) is.told is.later.no_sooner
+          (λ f at. is.adds_only f at (free_here (D.files s.disk) f s.id (take s.synced ss) file
+          c.args.sequence at here))
+          (put_yet (D.files s.disk) (D.files new)
+          (table_name_of c.args.file.table.0 c.args.sequence) file c.in-Ok.ensures.comes.bytes
+          s.is_stopped c.in-Ok.ensures.comes.put c.in-Ok.ensures.comes.spelled) c.self.invariant.1,
+    )
 
 pub invariant_of-self-in-Err-OutOfMemory : goal.invariant_of-self-in-Err-OutOfMemory
 invariant_of-self-in-Err-OutOfMemory g c =
@@ -98,26 +128,37 @@ invariant_of-self-in-Err-OutOfMemory g c =
     → MayPut (D.files s.disk) (D.leaves s.disk) r s.past.items at (take s.synced ss)
     (drop s.synced ss) file c.args.sequence =
     λ at on r rests. put_wherever (D.files s.disk) (D.leaves s.disk) r s.past.items s.id s.size ss
-    s.synced (drop s.synced ss) file c.args.sequence (c.self.invariant.ends c.if-self.false) here at
-    on rests in
-    (passed D.files D.moment D.since D.leaves D.read_at D.lasted_at before s.size new
-    c.self.invariant c.if-self.false
-    (λ image left. g.met.D.Disk.counts_now new (D.moment s.disk) image is.later.no_sooner left)
-    is.told is.later
-    (λ at on r rests. is.any_moment r s.past.items at (take s.synced ss) (drop s.synced ss)
-    (may at on r rests))
-    (λ at on r rests. no_failure c.publish_file.result c.in-Err-OutOfMemory.is
-    c.in-Err-OutOfMemory.field-0-is (λ other. is.refused other r s.past.items at
-    (take s.synced ss) (drop s.synced ss) rests))
-    (end_same (D.files s.disk) (D.files new) s.id s.size ss
-    (no_failure c.publish_file.result c.in-Err-OutOfMemory.is c.in-Err-OutOfMemory.field-0-is
-    (λ other. is.same other)).files)
-    (lasts_same (segment_name_of 6 s.id) (D.files s.disk) (D.files new) (D.leaves s.disk)
-    (D.leaves new)
-    (no_failure c.publish_file.result c.in-Err-OutOfMemory.is c.in-Err-OutOfMemory.field-0-is
-    (λ other. is.same other)).files (λ left at.
-    (no_failure c.publish_file.result c.in-Err-OutOfMemory.is c.in-Err-OutOfMemory.field-0-is
-    (λ other. is.same other)).images.fewer (segment_name_of 6 s.id) left at))).0
+    s.synced (drop s.synced ss) file c.args.sequence (c.self.invariant.0.ends c.if-self.false) here at
+    on rests in (
+      passed D.files D.moment D.since D.leaves D.read_at D.lasted_at before s.size new
+          c.self.invariant.0 c.if-self.false
+          (λ image left. g.met.D.Disk.counts_now new (D.moment s.disk) image is.later.no_sooner left)
+          is.told is.later
+          (λ at on r rests. is.any_moment r s.past.items at (take s.synced ss) (drop s.synced ss)
+          (may at on r rests))
+          s.sequences
+          (λ at on r rests. no_failure c.publish_file.result c.in-Err-OutOfMemory.is
+          c.in-Err-OutOfMemory.field-0-is (λ other. is.refused other r s.past.items at
+          (take s.synced ss) (drop s.synced ss) rests))
+          (end_same (D.files s.disk) (D.files new) s.id s.size ss
+          (no_failure c.publish_file.result c.in-Err-OutOfMemory.is c.in-Err-OutOfMemory.field-0-is
+          (λ other. is.same other)).files)
+          (lasts_same (segment_name_of 6 s.id) (D.files s.disk) (D.files new) (D.leaves s.disk)
+          (D.leaves new)
+          (no_failure c.publish_file.result c.in-Err-OutOfMemory.is c.in-Err-OutOfMemory.field-0-is
+          (λ other. is.same other)).files (λ left at.
+          (no_failure c.publish_file.result c.in-Err-OutOfMemory.is c.in-Err-OutOfMemory.field-0-is
+          (λ other. is.same other)).images.fewer (segment_name_of 6 s.id) left at))
+          (keeps_same (D.files s.disk) (D.files new) s.sequences
+          (no_failure c.publish_file.result c.in-Err-OutOfMemory.is c.in-Err-OutOfMemory.field-0-is
+          (λ other. is.same other)).files),
+      most_same D.files D.moment D.since D.leaves D.read_at D.lasted_at before new ss s.synced
+          s.is_stopped c.if-self.false refl
+          (no_failure c.publish_file.result c.in-Err-OutOfMemory.is c.in-Err-OutOfMemory.field-0-is
+          (λ other. is.same other)).files
+          (no_failure c.publish_file.result c.in-Err-OutOfMemory.is c.in-Err-OutOfMemory.field-0-is
+          (λ other. is.same other)).images.fewer is.time c.self.invariant.1,
+    )
 
 pub invariant_of-self-in-Err-Failed : goal.invariant_of-self-in-Err-Failed
 invariant_of-self-in-Err-Failed g c =
@@ -145,14 +186,42 @@ invariant_of-self-in-Err-Failed g c =
     → MayPut (D.files s.disk) (D.leaves s.disk) r s.past.items at (take s.synced ss)
     (drop s.synced ss) file c.args.sequence =
     λ at on r rests. put_wherever (D.files s.disk) (D.leaves s.disk) r s.past.items s.id s.size ss
-    s.synced (drop s.synced ss) file c.args.sequence (c.self.invariant.ends c.if-self.false) here at
+    s.synced (drop s.synced ss) file c.args.sequence (c.self.invariant.0.ends c.if-self.false) here at
     on rests in
-    (broken D.files D.moment D.since D.leaves D.read_at D.lasted_at before s.size new
-    c.self.invariant c.if-self.false
-    (λ image left. g.met.D.Disk.counts_now new (D.moment s.disk) image is.later.no_sooner left)
-    is.told is.later
-    (λ at on r rests. is.any_moment r s.past.items at (take s.synced ss) (drop s.synced ss)
-    (may at on r rests))).0
+    let name = table_name_of c.args.file.table.0 c.args.sequence in (
+      broken D.files D.moment D.since D.leaves D.read_at D.lasted_at before s.size new
+          c.self.invariant.0 c.if-self.false
+          (λ image left. g.met.D.Disk.counts_now new (D.moment s.disk) image is.later.no_sooner left)
+          is.told is.later
+          (λ at on r rests. is.any_moment r s.past.items at (take s.synced ss) (drop s.synced ss)
+          (may at on r rests))
+          (stands_beside (D.files s.disk) (D.files new) s.id s.synced ss name is.told is.others
+          (table_aside s.id name c.args.file.table.0 c.args.sequence (record {
+            form = refl;
+            table_fits = c.requires.numbered.writable.table;
+            sequence_starts = c.requires.numbered.starts;
+            sequence_fits = c.requires.numbered.fits;
+          }) s.id (omega arith) c.self.invariant.0.stored.fits) c.self.invariant.0.stands),
+      most_put D.files D.moment D.since D.leaves before new file c.args.sequence true
+          c.if-self.false (record {
+            form = refl;
+            table_fits = c.requires.numbered.writable.table;
+            sequence_starts = c.requires.numbered.starts;
+            sequence_fits = c.requires.numbered.fits;
+          }) (subst (λ (st : State g.row.D.Denot). IsNextWithin (D.files st.disk) st.id file
+          c.args.sequence) (sym c.self.view_is) c.requires.next) is.told is.later.no_sooner
+          (λ f at. is.adds_only f at (free_here (D.files s.disk) f s.id (take s.synced ss) file
+          c.args.sequence at here))
+          (maybe_yet (D.files s.disk) (D.files new) s.id (take s.synced ss) file c.args.sequence
+          (record {
+            form = refl;
+            table_fits = c.requires.numbered.writable.table;
+            sequence_starts = c.requires.numbered.starts;
+            sequence_fits = c.requires.numbered.fits;
+          }) (subst (λ (st : State g.row.D.Denot). IsNextWithin (D.files st.disk) st.id file
+          c.args.sequence) (sym c.self.view_is) c.requires.next) here c.in-Err-Failed.ensures.maybe)
+          c.self.invariant.1,
+    )
 
 -- ---- that it lives on
 
@@ -188,36 +257,17 @@ returns-in-Ok-clause-lives g c lives =
     → MayPut (D.files s.disk) (D.leaves s.disk) r s.past.items at (take s.synced ss)
     (drop s.synced ss) file c.args.sequence =
     λ at on r rests. put_wherever (D.files s.disk) (D.leaves s.disk) r s.past.items s.id s.size ss
-    s.synced (drop s.synced ss) file c.args.sequence (c.self.invariant.ends c.if-self.false) here at
+    s.synced (drop s.synced ss) file c.args.sequence (c.self.invariant.0.ends c.if-self.false) here at
     on rests in
     lives_from D.files D.moment D.since D.leaves D.read_at D.lasted_at c.self.view_is
-    ((passed D.files D.moment D.since D.leaves D.read_at D.lasted_at before s.size new
-    c.self.invariant c.if-self.false
+    (passed_on D.files D.moment D.since D.leaves D.read_at D.lasted_at before s.size new
+    c.self.invariant.0 c.if-self.false
     (λ image left. g.met.D.Disk.counts_now new (D.moment s.disk) image is.later.no_sooner left)
     is.told is.later
     (λ at on r rests. is.any_moment r s.past.items at (take s.synced ss) (drop s.synced ss)
     (may at on r rests))
     (λ at on r rests. c.in-Ok.ensures.rests r s.past.items at (take s.synced ss)
     (drop s.synced ss) (may at on r rests))
-    (end_beside (D.files s.disk) (D.files new)
-    (table_name_of c.args.file.table.0 c.args.sequence) (Some c.in-Ok.ensures.comes.bytes) s.id
-    s.size ss c.in-Ok.ensures.comes.put
-    (table_aside s.id (table_name_of c.args.file.table.0 c.args.sequence) c.args.file.table.0
-    c.args.sequence (record {
-      form = refl;
-      table_fits = c.requires.numbered.writable.table;
-      sequence_starts = c.requires.numbered.starts;
-      sequence_fits = c.requires.numbered.fits;
-    })))
-    (lasts_beside (segment_name_of 6 s.id) (table_name_of c.args.file.table.0 c.args.sequence)
-    (D.files s.disk) (D.files new) (D.leaves s.disk) (D.leaves new) is.told is.others is.elsewhere
-    (table_aside s.id (table_name_of c.args.file.table.0 c.args.sequence) c.args.file.table.0
-    c.args.sequence (record {
-      form = refl;
-      table_fits = c.requires.numbered.writable.table;
-      sequence_starts = c.requires.numbered.starts;
-      sequence_fits = c.requires.numbered.fits;
-    }) s.id (omega arith) c.self.invariant.stored.fits))).1
     (subst (Lives D.files D.moment D.since D.leaves D.read_at D.lasted_at) (sym c.self.view_is)
     lives))
 
@@ -247,11 +297,11 @@ returns-in-Err-OutOfMemory-clause-lives g c lives =
     → MayPut (D.files s.disk) (D.leaves s.disk) r s.past.items at (take s.synced ss)
     (drop s.synced ss) file c.args.sequence =
     λ at on r rests. put_wherever (D.files s.disk) (D.leaves s.disk) r s.past.items s.id s.size ss
-    s.synced (drop s.synced ss) file c.args.sequence (c.self.invariant.ends c.if-self.false) here at
+    s.synced (drop s.synced ss) file c.args.sequence (c.self.invariant.0.ends c.if-self.false) here at
     on rests in
     lives_from D.files D.moment D.since D.leaves D.read_at D.lasted_at c.self.view_is
-    ((passed D.files D.moment D.since D.leaves D.read_at D.lasted_at before s.size new
-    c.self.invariant c.if-self.false
+    (passed_on D.files D.moment D.since D.leaves D.read_at D.lasted_at before s.size new
+    c.self.invariant.0 c.if-self.false
     (λ image left. g.met.D.Disk.counts_now new (D.moment s.disk) image is.later.no_sooner left)
     is.told is.later
     (λ at on r rests. is.any_moment r s.past.items at (take s.synced ss) (drop s.synced ss)
@@ -259,15 +309,6 @@ returns-in-Err-OutOfMemory-clause-lives g c lives =
     (λ at on r rests. no_failure c.publish_file.result c.in-Err-OutOfMemory.is
     c.in-Err-OutOfMemory.field-0-is (λ other. is.refused other r s.past.items at
     (take s.synced ss) (drop s.synced ss) rests))
-    (end_same (D.files s.disk) (D.files new) s.id s.size ss
-    (no_failure c.publish_file.result c.in-Err-OutOfMemory.is c.in-Err-OutOfMemory.field-0-is
-    (λ other. is.same other)).files)
-    (lasts_same (segment_name_of 6 s.id) (D.files s.disk) (D.files new) (D.leaves s.disk)
-    (D.leaves new)
-    (no_failure c.publish_file.result c.in-Err-OutOfMemory.is c.in-Err-OutOfMemory.field-0-is
-    (λ other. is.same other)).files (λ left at.
-    (no_failure c.publish_file.result c.in-Err-OutOfMemory.is c.in-Err-OutOfMemory.field-0-is
-    (λ other. is.same other)).images.fewer (segment_name_of 6 s.id) left at))).1
     (subst (Lives D.files D.moment D.since D.leaves D.read_at D.lasted_at) (sym c.self.view_is)
     lives))
 
@@ -297,15 +338,15 @@ returns-in-Err-Failed-clause-lives g c lives =
     → MayPut (D.files s.disk) (D.leaves s.disk) r s.past.items at (take s.synced ss)
     (drop s.synced ss) file c.args.sequence =
     λ at on r rests. put_wherever (D.files s.disk) (D.leaves s.disk) r s.past.items s.id s.size ss
-    s.synced (drop s.synced ss) file c.args.sequence (c.self.invariant.ends c.if-self.false) here at
+    s.synced (drop s.synced ss) file c.args.sequence (c.self.invariant.0.ends c.if-self.false) here at
     on rests in
     lives_from D.files D.moment D.since D.leaves D.read_at D.lasted_at c.self.view_is
-    ((broken D.files D.moment D.since D.leaves D.read_at D.lasted_at before s.size new
-    c.self.invariant c.if-self.false
+    (broken_on D.files D.moment D.since D.leaves D.read_at D.lasted_at before s.size new
+    c.self.invariant.0 c.if-self.false
     (λ image left. g.met.D.Disk.counts_now new (D.moment s.disk) image is.later.no_sooner left)
     is.told is.later
     (λ at on r rests. is.any_moment r s.past.items at (take s.synced ss) (drop s.synced ss)
-    (may at on r rests))).1
+    (may at on r rests))
     (subst (Lives D.files D.moment D.since D.leaves D.read_at D.lasted_at) (sym c.self.view_is)
     lives))
 
@@ -354,3 +395,13 @@ returns-in-Err-OutOfMemory-clause-names_last g c =
 
 pub returns-in-Err-Failed-clause-names_last : goal.returns-in-Err-Failed-clause-names_last
 returns-in-Err-Failed-clause-names_last g c = names_stopped g.D.Disk.files g.D.Disk.leaves _ _ refl
+
+-- ---- what may stand under its name
+
+pub returns-in-Err-Failed-clause-maybe : goal.returns-in-Err-Failed-clause-maybe
+returns-in-Err-Failed-clause-maybe g c =
+    let D = g.D.Disk in
+    subst (λ (st : State g.row.D.Denot). MayHaveCome (D.files st.disk)
+    (D.files c.publish_file.new.disk)
+    (file_at c.args.base c.args.file c.args.cells.now) c.args.sequence) c.self.view_is
+    c.in-Err-Failed.ensures.maybe

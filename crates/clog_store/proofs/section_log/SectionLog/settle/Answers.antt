@@ -21,6 +21,7 @@ use Rattle.clog_crash.specs.Readings.{Reading}
 use Rattle.clog_store.specs.Life.{Lives, LivesOn, State}
 use Rattle.clog_store.specs.Resting.{RestsAt, ShowsBehind}
 use Rattle.clog_store.proofs.Anywhere.{here_only}
+use Rattle.clog_store.proofs.AtMost.{most_same}
 use Rattle.clog_store.proofs.Begun.{begun_on}
 use Rattle.clog_store.proofs.Ends.{end_same}
 use Rattle.clog_store.proofs.Lived.{lives_from, lives_still, same_told}
@@ -33,6 +34,8 @@ use Rattle.clog_store.proofs.NamesKept.{
   names_still,
   names_stopped,
 }
+use Rattle.clog_store.proofs.Numbering.{keeps_same}
+use Rattle.clog_store.proofs.Torn.{stands_same}
 use Rattle.clog_store.proofs.section_log.SectionLog.settle.Goals as goal
 
 pub returns-then-self-clause-lives : goal.returns-then-self-clause-lives
@@ -68,7 +71,7 @@ returns-in-Ok-clause-lives g c lives =
     let new = c.settle_sections.new.disk in
     let told = same_told (D.files s.disk) (D.files new) c.settle_sections.ensures.same in
     let some : 0 < length ss =
-    let few = c.self.invariant.few in
+    let few = c.self.invariant.0.few in
     let apart = c.if-self-len.false in
     let len = c.len.ensures ∙ s.sections.ok.0 in
     grind (arith, nat_tests) in
@@ -110,7 +113,7 @@ returns-in-Err-OutOfMemory-clause-lives g c lives =
     let new = c.settle_sections.new.disk in
     let told = same_told (D.files s.disk) (D.files new) c.settle_sections.ensures.same in
     let some : 0 < length ss =
-    let few = c.self.invariant.few in
+    let few = c.self.invariant.0.few in
     let apart = c.if-self-len.false in
     let len = c.len.ensures ∙ s.sections.ok.0 in
     grind (arith, nat_tests) in
@@ -155,7 +158,7 @@ returns-in-Err-Failed-clause-lives g c lives =
     let new = c.settle_sections.new.disk in
     let told = same_told (D.files s.disk) (D.files new) c.settle_sections.ensures.same in
     let some : 0 < length ss =
-    let few = c.self.invariant.few in
+    let few = c.self.invariant.0.few in
     let apart = c.if-self-len.false in
     let len = c.len.ensures ∙ s.sections.ok.0 in
     grind (arith, nat_tests) in
@@ -192,34 +195,46 @@ invariant_of-self g c =
     let new = c.settle_sections.new.disk in
     let told = same_told (D.files s.disk) (D.files new) c.settle_sections.ensures.same in
     let some : 0 < length ss =
-    let few = c.self.invariant.few in
+    let few = c.self.invariant.0.few in
     let apart = c.if-self-len.false in
     let len = c.len.ensures ∙ s.sections.ok.0 in
     grind (arith, nat_tests) in
-    let len = c.len-self-inside.ensures ∙ s.sections.ok.0 in
-    begun_on D.files D.moment D.since D.leaves D.read_at D.lasted_at before s.size new ss
-    c.len-self-inside.result s.is_stopped s.size c.self.invariant c.settle_sections.ensures.later
-    (omega (arith, len)) c.self.invariant.stored
-    (λ runs. end_same (D.files s.disk) (D.files new) s.id s.size ss
-    c.settle_sections.ensures.same (c.self.invariant.ends runs))
-    (λ runs least all. subst (λ (o : Option Files). Lasts o (D.leaves new) (segment_name_of 6 s.id))
-    (sym c.settle_sections.ensures.same) c.in-Ok.ensures.here)
-    (λ lived. subst (λ (k : ℕ). LivesOn D.files D.moment D.since D.leaves D.read_at D.lasted_at
-    before
-    (record before { disk = new; synced = k })) (sym len)
-    (lives_settled D.files D.moment D.since D.leaves D.read_at D.lasted_at before new
-    c.if-self.false lived
-    (λ image left. g.met.D.Disk.counts_now new (D.moment s.disk) image
-    c.settle_sections.ensures.later.no_sooner left) told c.settle_sections.ensures.later
-    (here_only s.id ss (λ at. (r : Reading)
-    → RestsAt (D.files s.disk) (D.leaves s.disk) r s.past.items at (take s.synced ss)
-    (drop s.synced ss)
-    → LeavesOnly D.moment D.since s.disk new (ShowsBehind r s.past.items at (take s.synced ss)
-    (drop s.synced ss))) some (λ r rests.
-    c.settle_sections.ensures.any_moment r s.past.items (take s.synced ss) (drop s.synced ss)
-    rests))
-    some (λ r rests. c.in-Ok.ensures.lasts r s.past.items (take s.synced ss) (drop s.synced ss)
-    rests)))
+    let len = c.len-self-inside.ensures ∙ s.sections.ok.0 in (
+      begun_on D.files D.moment D.since D.leaves D.read_at D.lasted_at before s.size new ss
+          c.len-self-inside.result s.is_stopped s.size s.sequences c.self.invariant.0
+          c.settle_sections.ensures.later
+          (omega (arith, len)) c.self.invariant.0.stored
+          (λ runs. end_same (D.files s.disk) (D.files new) s.id s.size ss
+          c.settle_sections.ensures.same (c.self.invariant.0.ends runs))
+          (λ stopped. absurd (true≢false (sym stopped ∙ c.if-self.false)))
+          (λ runs least all. subst (λ (o : Option Files). Lasts o (D.leaves new) (segment_name_of 6
+          s.id))
+          (sym c.settle_sections.ensures.same) c.in-Ok.ensures.here)
+          (λ runs. keeps_same (D.files s.disk) (D.files new) s.sequences
+          c.settle_sections.ensures.same (c.self.invariant.0.sequences runs))
+          (λ lived. subst (λ (k : ℕ). LivesOn D.files D.moment D.since D.leaves D.read_at
+          D.lasted_at
+          before
+          (record before { disk = new; synced = k })) (sym len)
+          (lives_settled D.files D.moment D.since D.leaves D.read_at D.lasted_at before new
+          c.if-self.false lived
+          (λ image left. g.met.D.Disk.counts_now new (D.moment s.disk) image
+          c.settle_sections.ensures.later.no_sooner left) told c.settle_sections.ensures.later
+          (here_only s.id ss (λ at. (r : Reading)
+          → RestsAt (D.files s.disk) (D.leaves s.disk) r s.past.items at (take s.synced ss)
+          (drop s.synced ss)
+          → LeavesOnly D.moment D.since s.disk new (ShowsBehind r s.past.items at (take s.synced ss)
+          (drop s.synced ss))) some (λ r rests.
+          c.settle_sections.ensures.any_moment r s.past.items (take s.synced ss) (drop s.synced ss)
+          rests))
+          some (λ r rests. c.in-Ok.ensures.lasts r s.past.items (take s.synced ss) (drop s.synced
+          ss)
+          rests))),
+      most_same D.files D.moment D.since D.leaves D.read_at D.lasted_at before new ss
+          c.len-self-inside.result s.is_stopped c.if-self.false refl
+          c.settle_sections.ensures.same c.settle_sections.ensures.fewer
+          c.settle_sections.ensures.time c.self.invariant.1,
+    )
 
 pub invariant_of-self-in-Err-OutOfMemory : goal.invariant_of-self-in-Err-OutOfMemory
 invariant_of-self-in-Err-OutOfMemory g c =
@@ -239,37 +254,46 @@ invariant_of-self-in-Err-OutOfMemory g c =
     let new = c.settle_sections.new.disk in
     let told = same_told (D.files s.disk) (D.files new) c.settle_sections.ensures.same in
     let some : 0 < length ss =
-    let few = c.self.invariant.few in
+    let few = c.self.invariant.0.few in
     let apart = c.if-self-len.false in
     let len = c.len.ensures ∙ s.sections.ok.0 in
-    grind (arith, nat_tests) in
-    begun_on D.files D.moment D.since D.leaves D.read_at D.lasted_at before s.size new ss
-    s.synced s.is_stopped s.size c.self.invariant c.settle_sections.ensures.later
-    c.self.invariant.few c.self.invariant.stored
-    (λ runs. end_same (D.files s.disk) (D.files new) s.id s.size ss
-    c.settle_sections.ensures.same (c.self.invariant.ends runs))
-    (λ runs least all. absurd (
-    let apart = c.if-self-len.false in
-    let len = c.len.ensures ∙ s.sections.ok.0 in
-    grind (arith, nat_tests)))
-    (λ lived. lives_same D.files D.moment D.since D.leaves D.read_at D.lasted_at before new
-    c.if-self.false lived
-    (λ image left. g.met.D.Disk.counts_now new (D.moment s.disk) image
-    c.settle_sections.ensures.later.no_sooner left) told c.settle_sections.ensures.later
-    (here_only s.id ss (λ at. (r : Reading)
-    → RestsAt (D.files s.disk) (D.leaves s.disk) r s.past.items at (take s.synced ss)
-    (drop s.synced ss)
-    → LeavesOnly D.moment D.since s.disk new (ShowsBehind r s.past.items at (take s.synced ss)
-    (drop s.synced ss))) some (λ r rests.
-    c.settle_sections.ensures.any_moment r s.past.items (take s.synced ss) (drop s.synced ss)
-    rests))
-    (here_only s.id ss (λ at. (r : Reading)
-    → RestsAt (D.files s.disk) (D.leaves s.disk) r s.past.items at (take s.synced ss)
-    (drop s.synced ss)
-    → RestsAt (D.files new) (D.leaves new) r s.past.items at (take s.synced ss)
-    (drop s.synced ss)) some
-    (λ r rests. c.in-Err-OutOfMemory.ensures.refused r s.past.items (take s.synced ss)
-    (drop s.synced ss) rests)))
+    grind (arith, nat_tests) in (
+      begun_on D.files D.moment D.since D.leaves D.read_at D.lasted_at before s.size new ss
+          s.synced s.is_stopped s.size s.sequences c.self.invariant.0
+          c.settle_sections.ensures.later
+          c.self.invariant.0.few c.self.invariant.0.stored
+          (λ runs. end_same (D.files s.disk) (D.files new) s.id s.size ss
+          c.settle_sections.ensures.same (c.self.invariant.0.ends runs))
+          (λ stopped. absurd (true≢false (sym stopped ∙ c.if-self.false)))
+          (λ runs least all. absurd (
+          let apart = c.if-self-len.false in
+          let len = c.len.ensures ∙ s.sections.ok.0 in
+          grind (arith, nat_tests)))
+          (λ runs. keeps_same (D.files s.disk) (D.files new) s.sequences
+          c.settle_sections.ensures.same (c.self.invariant.0.sequences runs))
+          (λ lived. lives_same D.files D.moment D.since D.leaves D.read_at D.lasted_at before new
+          c.if-self.false lived
+          (λ image left. g.met.D.Disk.counts_now new (D.moment s.disk) image
+          c.settle_sections.ensures.later.no_sooner left) told c.settle_sections.ensures.later
+          (here_only s.id ss (λ at. (r : Reading)
+          → RestsAt (D.files s.disk) (D.leaves s.disk) r s.past.items at (take s.synced ss)
+          (drop s.synced ss)
+          → LeavesOnly D.moment D.since s.disk new (ShowsBehind r s.past.items at (take s.synced ss)
+          (drop s.synced ss))) some (λ r rests.
+          c.settle_sections.ensures.any_moment r s.past.items (take s.synced ss) (drop s.synced ss)
+          rests))
+          (here_only s.id ss (λ at. (r : Reading)
+          → RestsAt (D.files s.disk) (D.leaves s.disk) r s.past.items at (take s.synced ss)
+          (drop s.synced ss)
+          → RestsAt (D.files new) (D.leaves new) r s.past.items at (take s.synced ss)
+          (drop s.synced ss)) some
+          (λ r rests. c.in-Err-OutOfMemory.ensures.refused r s.past.items (take s.synced ss)
+          (drop s.synced ss) rests))),
+      most_same D.files D.moment D.since D.leaves D.read_at D.lasted_at before new ss
+          s.synced s.is_stopped c.if-self.false refl
+          c.settle_sections.ensures.same c.settle_sections.ensures.fewer
+          c.settle_sections.ensures.time c.self.invariant.1,
+    )
 
 pub invariant_of-self-in-Err-Failed : goal.invariant_of-self-in-Err-Failed
 invariant_of-self-in-Err-Failed g c =
@@ -289,24 +313,34 @@ invariant_of-self-in-Err-Failed g c =
     let new = c.settle_sections.new.disk in
     let told = same_told (D.files s.disk) (D.files new) c.settle_sections.ensures.same in
     let some : 0 < length ss =
-    let few = c.self.invariant.few in
+    let few = c.self.invariant.0.few in
     let apart = c.if-self-len.false in
     let len = c.len.ensures ∙ s.sections.ok.0 in
-    grind (arith, nat_tests) in
-    begun_on D.files D.moment D.since D.leaves D.read_at D.lasted_at before s.size new ss
-    s.synced true s.size c.self.invariant c.settle_sections.ensures.later c.self.invariant.few
-    c.self.invariant.stored (λ runs. absurd (true≢false runs)) (λ runs. absurd (true≢false runs))
-    (λ lived. lives_stopped D.files D.moment D.since D.leaves D.read_at D.lasted_at before new
-    c.if-self.false lived
-    (λ image left. g.met.D.Disk.counts_now new (D.moment s.disk) image
-    c.settle_sections.ensures.later.no_sooner left) told c.settle_sections.ensures.later
-    (here_only s.id ss (λ at. (r : Reading)
-    → RestsAt (D.files s.disk) (D.leaves s.disk) r s.past.items at (take s.synced ss)
-    (drop s.synced ss)
-    → LeavesOnly D.moment D.since s.disk new (ShowsBehind r s.past.items at (take s.synced ss)
-    (drop s.synced ss))) some (λ r rests.
-    c.settle_sections.ensures.any_moment r s.past.items (take s.synced ss) (drop s.synced ss)
-    rests)))
+    grind (arith, nat_tests) in (
+      begun_on D.files D.moment D.since D.leaves D.read_at D.lasted_at before s.size new ss
+          s.synced true s.size s.sequences c.self.invariant.0 c.settle_sections.ensures.later
+          c.self.invariant.0.few
+          c.self.invariant.0.stored (λ runs. absurd (true≢false runs))
+          (λ stopped. stands_same (D.files s.disk) (D.files new) s.id s.synced ss
+          c.settle_sections.ensures.same c.self.invariant.0.stands) (λ runs. absurd (true≢false
+          runs))
+          (λ runs. absurd (true≢false runs))
+          (λ lived. lives_stopped D.files D.moment D.since D.leaves D.read_at D.lasted_at before new
+          c.if-self.false lived
+          (λ image left. g.met.D.Disk.counts_now new (D.moment s.disk) image
+          c.settle_sections.ensures.later.no_sooner left) told c.settle_sections.ensures.later
+          (here_only s.id ss (λ at. (r : Reading)
+          → RestsAt (D.files s.disk) (D.leaves s.disk) r s.past.items at (take s.synced ss)
+          (drop s.synced ss)
+          → LeavesOnly D.moment D.since s.disk new (ShowsBehind r s.past.items at (take s.synced ss)
+          (drop s.synced ss))) some (λ r rests.
+          c.settle_sections.ensures.any_moment r s.past.items (take s.synced ss) (drop s.synced ss)
+          rests))),
+      most_same D.files D.moment D.since D.leaves D.read_at D.lasted_at before new ss
+          s.synced true c.if-self.false refl
+          c.settle_sections.ensures.same c.settle_sections.ensures.fewer
+          c.settle_sections.ensures.time c.self.invariant.1,
+    )
 
 -- ---- which names last
 

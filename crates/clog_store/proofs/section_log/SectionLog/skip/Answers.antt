@@ -1,5 +1,6 @@
 use Rattle.std.proofs.Common.{◌≡◌, ◌<◌, [], false, sym, subst, arith}
 use Rattle.clog_store.specs.Life.{Lives, State}
+use Rattle.clog_store.proofs.AtMost.{most_skipped}
 use Rattle.clog_store.proofs.Begun.{begun_skipped}
 use Rattle.clog_store.proofs.Lived.{lives_from}
 use Rattle.clog_store.proofs.LivedRolls.{lives_skipped}
@@ -51,10 +52,13 @@ invariant_of-self g c =
     let above = subst (λ (st : State g.row.D.Denot). st.id < c.args.id) (sym c.self.view_is)
     c.requires.above in
     let none = subst (λ (st : State g.row.D.Denot). st.sections ≡ []) (sym c.self.view_is)
-    c.requires.none in
-    begun_skipped D.files D.moment D.since D.leaves D.read_at D.lasted_at before s.size c.args.id
-    none above c.requires.fits runs c.self.invariant
-    (λ lived. lives_skipped D.files D.moment D.since D.leaves D.read_at D.lasted_at before
-    c.args.id runs lived (g.met.D.Disk.only_now s.disk)
-    (λ image left. g.met.D.Disk.counts_now s.disk (D.moment s.disk) image (omega arith) left)
-    above c.requires.fits none)
+    c.requires.none in (
+      begun_skipped D.files D.moment D.since D.leaves D.read_at D.lasted_at before s.size c.args.id
+          none above c.requires.fits runs c.self.invariant.0
+          (λ lived. lives_skipped D.files D.moment D.since D.leaves D.read_at D.lasted_at before
+          c.args.id runs lived (g.met.D.Disk.only_now s.disk)
+          (λ image left. g.met.D.Disk.counts_now s.disk (D.moment s.disk) image (omega arith) left)
+          above c.requires.fits none),
+      most_skipped D.files D.moment D.since D.leaves before c.args.id runs none above
+          c.self.invariant.1,
+    )

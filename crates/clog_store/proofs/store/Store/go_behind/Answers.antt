@@ -65,13 +65,13 @@ invariant_of-self g c =
           is.stops told.sound
           (λ still. folder_with D.files D.changes D.moment D.faults D.read_at D.lasted_at
           g.row.D.coded.code g.met.D.Disk.tells_both s n c.self.invariant.1 is.writes is.others
-          told.sound told.reads runs still []
+          told.sound told.reads told.stands runs still []
           (ap (λ (x : NoteState g.row.D.Denot). x.base) is.same)
           (ap (λ (x : NoteState g.row.D.Denot). x.logged) is.same
           ∙ sym (append-nil s.notes.logged)) (λ m among. absurd (nothing_there m among)))
           (λ stopped _. folder_failed D.files D.changes D.moment D.faults D.read_at D.lasted_at
           g.row.D.coded.code g.met.D.Disk.tells_both s n c.self.invariant.1 is.writes is.others
-          told.sound told.reads runs (ap (λ (x : NoteState g.row.D.Denot). x.base) is.same)
+          told.sound told.reads told.stands runs (ap (λ (x : NoteState g.row.D.Denot). x.base) is.same)
           (ap (λ (x : NoteState g.row.D.Denot). x.logged) is.same))
           (settled_same s.notes n s.files (ap (λ (x : NoteState g.row.D.Denot). x.sizes) is.same)
           (ap (λ (x : NoteState g.row.D.Denot). x.logged) is.same)

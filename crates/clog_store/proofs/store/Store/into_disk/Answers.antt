@@ -1,6 +1,9 @@
-use Rattle.std.proofs.Common.{◌≡◌, ◌∙◌, Some, false, sym, ap, subst}
+use Rattle.std.proofs.Common.{◌≡◌, ◌∙◌, Some, false, refl, sym, ap, subst}
+use Rattle.clog_store.specs.AtMost.{HoldsMost}
+use Rattle.clog_store.specs.NoteLog.{IsNoteLog, NoteState}
 use Rattle.clog_store.specs.NamesLast.{NamesLast}
 use Rattle.clog_store.specs.StoreFolder.{IsSound}
+use Rattle.clog_store.specs.StoreImages.{MostSince, OpensSince, TablesSince}
 use Rattle.clog_store.specs.StoreNames.{RowsLast}
 use Rattle.clog_store.specs.StoreOrder.{AreSettled}
 use Rattle.clog_store.specs.Life.{ShownSince, State}
@@ -12,6 +15,8 @@ use Rattle.clog_store.specs.StoreState.{
   HoldsItButOne,
   StoreState,
 }
+use Rattle.clog_store.proofs.OpensSince.{opens_since}
+use Rattle.clog_store.proofs.StoreImages.{most_of, tables_of}
 use Rattle.clog_store.proofs.StoreKept.{all_stay_of, left_of, rows_last}
 use Rattle.clog_store.proofs.store.Store.into_disk.Goals as goal
 
@@ -84,3 +89,87 @@ returns-clause-shown g c =
     (subst (λ (l : State g.row.D.Denot). D.lasted_at d l.opened
     → Shown l.first d l.opened l.past l.id l.sections) c.into_log.ensures.log
     c.into_disk.ensures.shown lasted))
+
+-- ---- its images since the opening
+
+pub returns-clause-most : goal.returns-clause-most
+returns-clause-most g c =
+    let D = g.D.Disk in
+    let d = c.into_disk.result in
+    let kept = c.self.invariant.1 in
+    let i : StoreState g.row.D.Denot = record {
+      notes = c.self.inside.notes;
+      archives = c.self.inside.archives;
+      first = c.self.inside.first.value;
+      files = c.self.inside.files.items;
+      dropped = c.self.inside.dropped.items;
+      archived = c.self.inside.archived.items;
+    } in
+    let its_disk : d ≡ i.notes.log.disk =
+    c.into_disk.ensures.disk ∙ ap (λ (l : State g.row.D.Denot). l.disk) c.into_log.ensures.log in
+    subst (λ (x : StoreState g.row.D.Denot). D.lasted_at d x.notes.log.opened
+    → MostSince D.files D.moment D.since x) c.self.view_is
+    (λ lasted. most_of D.files D.changes D.moment D.since D.leaves D.read_at D.lasted_at D.faults i
+    d
+    kept its_disk (subst (λ (l : State g.row.D.Denot). HoldsMost D.files D.moment D.since D.leaves
+    l)
+    c.into_log.ensures.log c.into_disk.ensures.most) (g.met.D.Disk.lasts_now i.first) lasted)
+
+pub returns-clause-tables : goal.returns-clause-tables
+returns-clause-tables g c =
+    let D = g.D.Disk in
+    let d = c.into_disk.result in
+    let kept = c.self.invariant.1 in
+    let i : StoreState g.row.D.Denot = record {
+      notes = c.self.inside.notes;
+      archives = c.self.inside.archives;
+      first = c.self.inside.first.value;
+      files = c.self.inside.files.items;
+      dropped = c.self.inside.dropped.items;
+      archived = c.self.inside.archived.items;
+    } in
+    let its_disk : d ≡ i.notes.log.disk =
+    c.into_disk.ensures.disk ∙ ap (λ (l : State g.row.D.Denot). l.disk) c.into_log.ensures.log in
+    subst (λ (x : StoreState g.row.D.Denot). D.lasted_at d x.notes.log.opened
+    → TablesSince D.files D.moment D.since x) c.self.view_is
+    (λ lasted. tables_of D.files D.changes D.moment D.since D.leaves D.read_at D.lasted_at
+    D.faults i d
+    kept its_disk (subst (λ (l : State g.row.D.Denot). HoldsMost D.files D.moment D.since D.leaves
+    l)
+    c.into_log.ensures.log c.into_disk.ensures.most) (g.met.D.Disk.lasts_now i.first) lasted)
+
+pub returns-clause-opens : goal.returns-clause-opens
+returns-clause-opens g c =
+    let D = g.D.Disk in
+    let d = c.into_disk.result in
+    let kept = c.self.invariant.1 in
+    let i : StoreState g.row.D.Denot = record {
+      notes = c.self.inside.notes;
+      archives = c.self.inside.archives;
+      first = c.self.inside.first.value;
+      files = c.self.inside.files.items;
+      dropped = c.self.inside.dropped.items;
+      archived = c.self.inside.archived.items;
+    } in
+    let its_disk : d ≡ i.notes.log.disk =
+    c.into_disk.ensures.disk ∙ ap (λ (l : State g.row.D.Denot). l.disk) c.into_log.ensures.log in
+    let shown = λ (lasted : D.lasted_at d i.notes.log.opened).
+    subst (λ (x : g.row.D.Denot). ShownSince D.files D.moment D.since D.read_at D.lasted_at x
+    i.notes.log.disk i.notes.log.opened i.notes.log.past i.notes.log.id i.notes.log.sections)
+    kept.began
+    (subst (λ (x : g.row.D.Denot). ShownSince D.files D.moment D.since D.read_at D.lasted_at
+    i.notes.log.first x i.notes.log.opened i.notes.log.past i.notes.log.id i.notes.log.sections)
+    its_disk
+    (subst (λ (l : State g.row.D.Denot). D.lasted_at d l.opened
+    → ShownSince D.files D.moment D.since D.read_at D.lasted_at l.first d l.opened l.past l.id
+    l.sections) c.into_log.ensures.log c.into_disk.ensures.shown lasted)) in
+    subst (λ (x : StoreState g.row.D.Denot). D.lasted_at d x.notes.log.opened
+    → OpensSince D.files D.moment D.since x) c.self.view_is
+    (λ lasted. opens_since D.files D.changes D.moment D.since D.read_at D.lasted_at i kept.opened
+    kept.later (g.met.D.Disk.reads_now i.first) (shown lasted)
+    (subst (λ (n : NoteState g.row.D.Denot). IsNoteLog n) refl c.into_log.ensures.notes) kept.sound
+    kept.grown
+    (left_of D.files D.changes D.moment D.faults D.read_at D.lasted_at i kept)
+    (most_of D.files D.changes D.moment D.since D.leaves D.read_at D.lasted_at D.faults i d kept
+    its_disk (subst (λ (l : State g.row.D.Denot). HoldsMost D.files D.moment D.since D.leaves l)
+    c.into_log.ensures.log c.into_disk.ensures.most) (g.met.D.Disk.lasts_now i.first) lasted))

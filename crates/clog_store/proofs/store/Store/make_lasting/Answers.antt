@@ -69,12 +69,12 @@ invariant_of-self g c =
           c.sync-outcome.result is.cause is.stops told.sound
           (folder_synced D.files D.changes D.moment D.faults D.read_at D.lasted_at
           g.row.D.coded.code g.met.D.Disk.tells_both s n c.self.invariant.1 is.writes is.others
-          told.sound told.reads c.args.upto.0 c.args.pending.now.items
+          told.sound told.reads told.stands c.args.upto.0 c.args.pending.now.items
           c.sync-outcome.new.pending.items may c.sync-outcome.result is.cause is.stops is.syncs
           is.refused)
           (failed_synced D.files D.changes D.moment D.faults D.read_at D.lasted_at
           g.row.D.coded.code g.met.D.Disk.tells_both s n c.self.invariant.1 is.writes is.others
-          told.sound told.reads c.args.upto.0 c.args.pending.now.items
+          told.sound told.reads told.stands c.args.upto.0 c.args.pending.now.items
           c.sync-outcome.new.pending.items may c.sync-outcome.result is.stops is.refused)
           (synced_settled D.files D.changes D.moment D.faults g.row.D.coded.code s n
           c.self.invariant.1.order.settled c.args.upto.0 c.args.pending.now.items

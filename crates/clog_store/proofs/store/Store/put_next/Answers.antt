@@ -1,4 +1,20 @@
-use Rattle.std.proofs.Common.{rules, ◌≡◌, ◌<◌, ◌^◌, ◌++◌, ◌∷◌, [], List, false, sym, ◌∙◌, ap, subst}
+use Rattle.std.proofs.Common.{
+  rules,
+  ◌≡◌,
+  ◌<◌,
+  ◌^◌,
+  ◌++◌,
+  ◌∷◌,
+  [],
+  List,
+  take,
+  false,
+  sym,
+  ◌∙◌,
+  ap,
+  subst,
+}
+use Rattle.clog_base.specs.Positions.{position_of}
 use Rattle.path_core.specs.Keeper.{MayPublish, PutFile}
 use Rattle.clog_store.specs.Counting.{IsCountedIn}
 use Rattle.clog_store.specs.NoteLog.{IsNoteLog, NoteState}
@@ -14,12 +30,20 @@ use Rattle.clog_store.specs.StoreState.{
   put_of,
 }
 use Rattle.clog_store.specs.StoreTakes.{GoesOnTaking, TakesNext}
+use Rattle.clog_store.proofs.AtMost.{ends_up_to}
 use Rattle.clog_store.proofs.NoteTakes.{passed_id, takes_moved}
 use Rattle.clog_store.proofs.HeldSegments.{counted_put}
 use Rattle.clog_store.proofs.NoteGoes.{goes_still}
 use Rattle.clog_store.proofs.NotePasses.{passes_same}
 use Rattle.clog_store.proofs.OrderPuts.{order_put}
-use Rattle.clog_store.proofs.StoreFiles.{folder_put, free_table, has_log, may_be_put, numbered}
+use Rattle.clog_store.proofs.StoreFiles.{
+  folder_put,
+  free_table,
+  has_log,
+  may_be_put,
+  numbered,
+  stands_table,
+}
 use Rattle.clog_store.proofs.StorePuts.{
   as_passed,
   at_memory,
@@ -69,6 +93,21 @@ put-requires-clause-numbered g c =
     c.args.cells.now may c.args.sequence next.starts next.fits
     (let low : c.args.file.lower.0 < 2 ^ 64 = search rules in low)
     (let low : c.args.file.upper.0 < 2 ^ 64 = search rules in low)
+
+pub put-requires-clause-next : goal.put-requires-clause-next
+put-requires-clause-next g c =
+    let D = g.D.Disk in
+    let i = c.self.inside in
+    let next = subst (λ (x : StoreState g.row.D.Denot). IsNextSequence
+    (D.files x.notes.log.disk) c.args.file.table c.args.sequence) (sym c.self.view_is)
+    c.requires.next in
+    let far = subst (λ (x : StoreState g.row.D.Denot). HasReached x.notes c.args.file.upper.0)
+    (sym c.self.view_is) c.requires.far in
+    record {
+      within = ends_up_to i.notes.log.id (take i.notes.log.synced i.notes.log.sections)
+          (position_of i.notes.base c.args.file.upper.0) far;
+      next = next.next;
+    }
 
 pub put-requires-clause-may : goal.put-requires-clause-may
 put-requires-clause-may g c =
@@ -140,7 +179,10 @@ invariant_of-self-in-Err g c =
           (λ was. sym is.log ∙ is.stays was) _ is.others is.told
           (free_table D.files D.changes D.moment D.faults D.read_at D.lasted_at
           g.row.D.coded.code g.met.D.Disk.tells_both s c.self.invariant.1 runs noted c.args.file
-          c.args.cells.now may c.args.sequence next far)))),
+          c.args.cells.now may c.args.sequence next far)
+          (stands_table D.files D.changes D.moment D.faults D.read_at D.lasted_at
+          g.row.D.coded.code g.met.D.Disk.tells_both s c.self.invariant.1 runs noted c.args.file
+          c.args.cells.now may c.args.sequence next far n.log c.in-Err.ensures.maybe)))),
       names_on D.files D.leaves s.first s.notes.log n.log c.self.invariant.2 is.goes.names,
       subst (λ (fs : List PutFile). IsCountedIn n.logged fs i.dropped.items i.counted)
           (sym c.reserve.ensures.items)

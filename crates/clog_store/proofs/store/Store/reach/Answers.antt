@@ -29,7 +29,7 @@ invariant_of-self g c =
       store_gone_on D.files D.changes D.moment D.faults D.read_at D.lasted_at g.row.D.coded.code
           g.met.D.Disk.tells_both s n c.self.invariant.1 is.same is.goes.opened is.goes.first
           is.goes.later is.writes is.others is.stays c.reach-outcome.result is.cause is.stops
-          told.sound told.reads,
+          told.sound told.reads told.stands,
       names_on D.files D.leaves s.first s.notes.log n.log c.self.invariant.2 is.goes.names,
       subst (λ (x : NoteState g.row.D.Denot).
           IsCountedIn x.logged i.files.items i.dropped.items i.counted) (sym is.same)

@@ -1,5 +1,4 @@
-use Rattle.std.proofs.Common.{List, sym, subst}
-use Rattle.path_core.specs.declared.note.EntryNote.{EntryNote}
+use Rattle.std.proofs.Common.{sym, subst}
 use Rattle.clog_store.specs.Dropping.{ArePlaced}
 use Rattle.clog_store.proofs.HeldSegments.{counted_none}
 use Rattle.clog_store.proofs.store.tests.due.Goals as goal
