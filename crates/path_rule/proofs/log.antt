@@ -6,3 +6,4 @@ pub mod Behind
 pub mod TrailsTell
 pub mod KeptStays
 pub mod OwnWrites
+pub mod StoppedTakes

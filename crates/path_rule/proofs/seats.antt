@@ -23,3 +23,4 @@ pub mod Accepting
 pub mod SwitchStages
 pub mod OldestBelow
 pub mod OldestMoves
+pub mod BarrierIssues

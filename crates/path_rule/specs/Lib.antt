@@ -27,3 +27,4 @@ pub mod Marks
 pub mod Switched
 pub mod Sharing
 pub mod FirstBoxes
+pub mod Stopped

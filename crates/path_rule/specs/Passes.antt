@@ -1,18 +1,33 @@
 -- What a barrier answers, and a try to move the oldest group on.
-use Rattle.std.specs.Prelude.{◌≡◌, ◌≢◌, ℕ, suc, ◌^◌, length}
+use Rattle.std.specs.Prelude.{◌≡◌, ◌≢◌, ℕ, suc, ◌^◌, List, ◌++◌, map, length}
+use Rattle.std.specs.List.{Contains}
 use Rattle.op_core.specs.declared.count.Order.{Order}
-use Rattle.path_core.specs.declared.event.Event.TheVariants.{Advance as AdvanceStep}
+use Rattle.path_core.specs.declared.event.Event.TheVariants.{
+  Advance as AdvanceStep,
+  Expire,
+  MoveCurrent,
+}
 use Rattle.path_core.specs.declared.event.Place.TheVariants.{Count, Oldest}
 use Rattle.path_rule.specs.declared.advancing.Advance.{Advance}
 use Rattle.path_rule.specs.declared.advancing.Advance.TheVariants.{Moved, Running}
+use Rattle.path_rule.specs.declared.view.OwnStep.{OwnStep}
 use Rattle.path_rule.specs.declared.view.View.{View}
 use Rattle.path_rule.specs.declared.waiting.Passed.{Passed as PassedOf}
 use Rattle.path_rule.specs.declared.waiting.Passed.TheVariants.{Passed, Rows}
 use Rattle.path_rule.specs.Calls.{Did, FoundSince, acts}
+use Rattle.path_rule.specs.Rule.{event_of}
 
 abbrev pub MatchPassed : PassedOf → (ℕ → Type 0) → (ℕ → Type 0) → Type 0
 MatchPassed (Passed g) P Q = P g
 MatchPassed (Rows n) P Q = Q n
+
+-- Seat w issued a barrier of an order, that of this group: behind its earlier steps it made the
+-- next group the current one, and expired this one.
+pub record HasIssued (o : Order) (w group : ℕ) (v after : View) : Type 0 where
+  pub newer : List OwnStep
+  pub trail : after.trail ≡ newer ++ v.trail
+  pub moved : Contains (map event_of newer) (MoveCurrent w o (suc group))
+  pub expired : Contains (map event_of newer) (Expire w o group)
 
 abbrev pub MatchAdvance : Advance → (ℕ → Type 0) → (ℕ → ℕ → Type 0) → Type 0
 MatchAdvance (Moved group) P Q = P group

@@ -25,9 +25,10 @@ use Rattle.atomic_table.specs.Table.{State}
 use Rattle.clog_base.specs.Sizes.{IsWithinLimits}
 use Rattle.op_core.specs.declared.count.Order.{Order}
 use Rattle.op_core.specs.declared.count.Order.TheVariants.{Append}
+use Rattle.path_core.specs.declared.event.ClaimKind.TheVariants.{Marker}
 use Rattle.path_core.specs.declared.event.Cursor.TheVariants.{Synced, OldestLive, Stopped}
 use Rattle.path_core.specs.declared.event.Event.{Event}
-use Rattle.path_core.specs.declared.event.Event.TheVariants.{OpenGroup, Put}
+use Rattle.path_core.specs.declared.event.Event.TheVariants.{Claim, OpenGroup, Put}
 use Rattle.path_core.specs.declared.event.Place.{Place}
 use Rattle.path_core.specs.declared.seat.Seat.{Seat}
 use Rattle.path_core.specs.declared.state.PathState.{PathState}
@@ -171,13 +172,14 @@ abbrev pub IsSized : PathSize → View → Type 0
 IsSized size v = SizedAs size v.role v.size
 
 -- A step of a kind that is built: none retires a memtable, the log is stopped only with a count of
--- faults that has risen, and a group of the append order is made only where a marker of the seat
--- wants a barrier.
+-- faults that has risen, a marker is claimed only while the log runs, and so is a group of the
+-- append order made, where a marker of the seat wants a barrier.
 abbrev pub IsBuilt : ℕ → PathState → Event → Type 0
 IsBuilt opened x (Put by (OldestLive t) value) = ⊥
 IsBuilt opened x (Put by Synced value) = Unit {0}
 IsBuilt opened x (Put by Stopped value) = HasRisen opened value
-IsBuilt opened x (OpenGroup by Append group) = WantsBarrier Append x by
+IsBuilt opened x (OpenGroup by Append group) = WantsBarrier Append x by × (x.stopped ≡ 0)
+IsBuilt opened x (Claim by from to Marker) = x.stopped ≡ 0
 IsBuilt opened x _ = Unit {0}
 
 -- each of these steps was

@@ -2,11 +2,12 @@
 use Rattle.std.specs.Prelude.{◌≡◌, ℕ, ◌<◌, ◌≤◌, List, [], ◌∷◌}
 use mathlib.Core.Option.{some}
 use lib.ListN.{get_elem?}
+use Rattle.op_core.specs.declared.count.Order.TheVariants.{Append}
 use Rattle.path_core.specs.declared.event.ClaimKind.TheVariants.{Entry}
 use Rattle.path_core.specs.declared.event.Cursor.TheVariants.{Synced, Stopped}
 use Rattle.path_core.specs.declared.event.Event.{Event}
 use Rattle.path_core.specs.declared.event.Event.TheVariants.{Claim}
-use Rattle.path_core.specs.declared.event.Place.TheVariants.{CursorWord, Log}
+use Rattle.path_core.specs.declared.event.Place.TheVariants.{Current, CursorWord, Log}
 use Rattle.path_core.specs.declared.state.PathState.{PathState}
 use Rattle.path_core.specs.Keys.{after, behind_marker, first_offset}
 use Rattle.path_core.specs.Steps.{HasMarkerAt}
@@ -46,6 +47,8 @@ pub record TrailTells (capacity : ℕ) (x : PathState) (trail : List OwnStep) : 
   pub come : (key : ℕ) → Finds Log key trail → key ≤ x.log
   -- each count with which it found the log stopped, or stopped it, is that of the log
   pub stopped : (n : ℕ) → Finds (CursorWord Stopped) n trail → 0 < n → n ≡ x.stopped
+  -- each group of the append order that it found current is at or below the current one
+  pub current : (g : ℕ) → Finds (Current Append) g trail → g ≤ x.append.current
   -- each entry was claimed behind the markers that the seat had found
   pub past : AllClaimPast capacity trail
 

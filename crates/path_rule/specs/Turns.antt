@@ -42,6 +42,10 @@ abbrev pub TurnRuns : Seat → ℕ → Type 0
 TurnRuns p key = (t : SyncTurn) × (k : ℕ) × (p.sync ≡ Some t) × (t.stopped ≡ Some 0)
     × (t.synced ≡ Some k) × (k < key)
 
+-- The holder found the log running.
+abbrev pub FoundRunning : Seat → Type 0
+FoundRunning p = (t : SyncTurn) × (p.sync ≡ Some t) × (t.stopped ≡ Some 0)
+
 -- The barrier of a group of the write order is passed: the seat found a later group as the oldest.
 abbrev pub FoundPast : Seat → ℕ → Type 0
 FoundPast p g = (h : ℕ) × ((found_of Write p).oldest ≡ Some h) × (g < h)

@@ -24,7 +24,14 @@ ghost use Rattle.path_rule.specs.Members.{
   SteppedAs,
 };
 ghost use Rattle.path_rule.specs.Rule.{Was};
-ghost use Rattle.path_rule.specs.Turns.{MarkerWaits, TurnSaw, TurnOld, TurnGone, KeepsCurrent};
+ghost use Rattle.path_rule.specs.Turns.{
+  FoundRunning,
+  MarkerWaits,
+  TurnSaw,
+  TurnOld,
+  TurnGone,
+  KeepsCurrent,
+};
 
 use crate::table::{Member, PathTable};
 use crate::turn_plays::{AdvanceAppend, ExpireAppend, MoveAppend, OpenAppend};
@@ -33,13 +40,15 @@ use path_core::Keeper;
 use std::alloc::Allocator;
 
 impl<K: Keeper, A: Allocator> PathTable<K, A> {
-    /// Makes the next group, where the member's own marker, the last one, has no barrier.
+    /// Makes the next group, where the member's own marker, the last one, has no barrier, and the
+    /// log was found running.
     pub fn open_append(&self, member: &mut Member<K>, group: u64, current: u64)
         requires table { IsOf self.now.table.shared.table_id self.now.size member.old }
         requires turn { Holds Rest (view_of member.old)
             × TurnSaw Append (part_of member.old) current × (group ≡ suc current)
             × (group < 65536) }
         requires marker { (start : ℕ) × MarkerWaits member.old.number (part_of member.old) start }
+        requires runs { FoundRunning (part_of member.old) }
         ensures same { KeepsSizes member.old member.new }
         ensures step { Stepped member.old (OpenGroup member.old.number Append group) 0 member.new }
         ensures allowed { (was : Was (view_of member.old) member.old.number

@@ -16,6 +16,7 @@ ghost use Rattle.path_rule.specs.Members.{
 };
 ghost use Rattle.path_core.specs.Holders.{behind_last};
 ghost use Rattle.path_rule.specs.Rule.{Was};
+ghost use Rattle.path_rule.specs.Turns.{FoundRunning};
 
 use crate::plays::{ClaimAt, LookAt};
 use crate::table::{Member, PathTable};
@@ -56,13 +57,14 @@ impl<K: Keeper, A: Allocator> PathTable<K, A> {
             .compare_exchange::<ClaimAt<K>>(&mut member.seat, LOG, from, to)
     }
 
-    /// Claims a marker, where an entry was claimed since the last one: the log key tells it. The
-    /// marker is the last one then, and has no barrier yet. Where another key than the first is
-    /// found, this was a look.
+    /// Claims a marker, where an entry was claimed since the last one, as the log key tells, and
+    /// the log was found running: a stopped log takes no marker. It is the last one then, and has
+    /// no barrier yet. Where another key than the first is found, this was a look.
     pub fn claim_marker(&self, member: &mut Member<K>, from: u64, to: u64) -> u64
         requires table { IsOf self.now.table.shared.table_id self.now.size member.old }
         requires turn { IsTrue (is_some (part_of member.old).sync)
             × ((hands_of member.old).box_taken ≡ None) }
+        requires runs { FoundRunning (part_of member.old) }
         requires entry { behind_last (view_of member.old).size.capacity
             (hands_of member.old).progress.marker < from }
         requires moves { MovesLog Marker (view_of member.old).size.capacity

@@ -9,7 +9,7 @@ ghost use Rattle.path_rule.specs.Lasts.{shows_of};
 ghost use Rattle.path_rule.specs.Members.{view_of, part_of, hands_of, boxes_of, IsOf, IsSame};
 ghost use Rattle.path_rule.specs.SyncEnd.{stopped_by, EndsSync, TellsFaults};
 ghost use Rattle.path_rule.specs.TurnTold.{CarriesDesk};
-ghost use Rattle.path_rule.specs.Turns.{IsBarred};
+ghost use Rattle.path_rule.specs.Turns.{FoundRunning, IsBarred};
 
 use crate::table::{Member, PathTable};
 use path_core::{Keeper, KeeperFault};
@@ -26,7 +26,7 @@ impl<K: Keeper, A: Allocator> PathTable<K, A> {
     pub fn end_sync(&self, member: Member<K>, upto: u64) -> (Member<K>, Result<u64, KeeperFault>)
         requires table { IsOf self.now.table.shared.table_id self.now.size member }
         requires turn { MayGive (view_of member) × ((hands_of member).progress.gathered ≡ true)
-            × ((t : SyncTurn) × ((part_of member).sync ≡ Some t) × (t.stopped ≡ Some 0)) }
+            × FoundRunning (part_of member) }
         requires marker { IsBarred (hands_of member) upto }
         requires desk { CarriesDesk (shows_of K.holds) member.seat.me }
         ensures same { IsSame member result.0

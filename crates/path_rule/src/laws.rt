@@ -1,23 +1,27 @@
 //! What the rule of the table says of each moment, for whatever the words, the boxes and the views
 //! hold then. Nothing here runs; each function's contract is a promise of the table.
-ghost use Rattle.std.specs.Prelude.{◌≡◌, ◌<◌, ◌≤◌, ◌⊎◌, ℕ, true, false, Some};
+ghost use Rattle.std.specs.Prelude.{◌≡◌, ◌<◌, ◌≤◌, ◌⊎◌, ℕ, true, false, List, Some};
 ghost use Rattle.std.specs.List.{Contains};
 ghost use mathlib.Core.Option.{some};
 ghost use lib.ListN.{get_elem?};
 ghost use Rattle.atomic_table.specs.Table.{State};
+ghost use Rattle.path_core.specs.declared.event.Event.{Event};
 ghost use Rattle.path_core.specs.declared.event.Turn.{Turn};
 ghost use Rattle.path_core.specs.declared.note.EntryNote.{EntryNote};
 ghost use Rattle.path_core.specs.declared.state.Claim.{Claim};
+ghost use Rattle.path_core.specs.declared.state.PathState.{PathState};
 ghost use Rattle.path_core.specs.Keeper.{HasRisen};
 ghost use Rattle.path_core.specs.Lawful.{IsLawfulPath};
 ghost use Rattle.path_core.specs.Parts.{holds_turn, last_marker, seat_of};
+ghost use Rattle.path_core.specs.Runs.{Past};
 ghost use Rattle.path_rule.specs.declared.lasting.Beside.{Beside};
 ghost use Rattle.path_rule.specs.declared.slot.Slot.{Slot};
 ghost use Rattle.path_rule.specs.declared.view.PathSize.{PathSize};
 ghost use Rattle.path_rule.specs.declared.view.View.{View};
 ghost use Rattle.path_rule.specs.Boxes.{desk_box, DeskIs, HoldsBox};
 ghost use Rattle.path_rule.specs.Lasts.{shown, shows_of};
-ghost use Rattle.path_rule.specs.Rule.{Ruled};
+ghost use Rattle.path_rule.specs.Rule.{AreBuilt, Ruled};
+ghost use Rattle.path_rule.specs.Stopped.{TakesNothing};
 
 use path_core::Keeper;
 
@@ -45,6 +49,13 @@ pub fn a_stopped_log_tells_a_count_that_has_risen<K: Keeper>()
     ensures { (o : Beside) (size : PathSize) (s : State (Slot K) View)
         (r : Ruled (shows_of K.holds) o size s)
         → 0 < r.core.stopped → HasRisen size.at_open r.core.stopped }
+{}
+
+/// A stopped log takes no marker and no group of the append order: in each run of steps that are
+/// built there are as many of both behind a state in which it is stopped as in that state.
+pub fn a_stopped_log_takes_nothing()
+    ensures { (opened : ℕ) (x y : PathState) (steps : List Event) (run : Past x steps y)
+        → AreBuilt opened x steps y run → 0 < x.stopped → TakesNothing x y }
 {}
 
 /// No two seats have one box.

@@ -50,9 +50,9 @@ pub use advancing::Advance;
 pub use answer::SyncAnswer;
 pub use lasting::{Beside, Lasting};
 pub use laws::{
-    a_stopped_log_tells_a_count_that_has_risen, each_box_has_one_holder,
-    gathering_reaches_the_last_marker, the_keeper_at_home_shows_what_is_lasting,
-    the_table_shows_a_lawful_state,
+    a_stopped_log_takes_nothing, a_stopped_log_tells_a_count_that_has_risen,
+    each_box_has_one_holder, gathering_reaches_the_last_marker,
+    the_keeper_at_home_shows_what_is_lasting, the_table_shows_a_lawful_state,
 };
 pub use opening::open;
 pub use rule::PathRule;
@@ -63,5 +63,9 @@ pub use trying::{Begun, PathSeat, Seen};
 pub use view::{Hands, OwnStep, PathKey, PathSize, Progress, Returned, Role, View};
 pub use waiting::{Holder, Passed};
 
+#[cfg(test)]
+mod late_tests;
+#[cfg(test)]
+mod rows_tests;
 #[cfg(test)]
 mod tests;

@@ -22,7 +22,7 @@ ghost use Rattle.path_rule.specs.Members.{
 };
 ghost use Rattle.path_rule.specs.Rounds.{RoundSteps, WroteBelow};
 ghost use Rattle.path_rule.specs.SyncAnswers.{IsFullBy, KnowsMarker, marker_start};
-ghost use Rattle.path_rule.specs.Turns.{KeepsCurrent};
+ghost use Rattle.path_rule.specs.Turns.{FoundRunning, KeepsCurrent};
 
 use crate::answer::SyncAnswer;
 use crate::marker_keys::{is_entry_since, key_behind_marker};
@@ -93,7 +93,9 @@ impl<K: Keeper, A: Allocator> PathTable<K, A> {
         requires table { IsOf self.now.table.shared.table_id self.now.size member.old }
         requires turn { MayGive (view_of member.old)
             × (marker ≡ (hands_of member.old).progress.marker) }
+        requires runs { FoundRunning (part_of member.old) }
         ensures same { KeepsSizes member.old member.new }
+        ensures runs { FoundRunning (part_of member.new) }
         ensures steps { RoundSteps member.old.number [] (view_of member.old) (view_of member.new) }
         ensures give { MayGive (view_of member.new) }
         ensures claim { ClaimsMarker member.old.number (view_of member.old) result
@@ -113,7 +115,8 @@ impl<K: Keeper, A: Allocator> PathTable<K, A> {
     }
 
     /// Claims the next marker, unless no entry was claimed since the last one, and notes it on the
-    /// desk. It tries again while the log moves, and no clause says that it returns.
+    /// desk. The log was found running. It tries again while the log moves, and no clause says that
+    /// it returns.
     pub fn claim_next<R: Wait>(
         &self,
         rt: &R,
@@ -122,6 +125,7 @@ impl<K: Keeper, A: Allocator> PathTable<K, A> {
     ) -> (Member<K>, Option<u64>)
         requires table { IsOf self.now.table.shared.table_id self.now.size member }
         requires turn { MayGive (view_of member) × (progress ≡ (hands_of member).progress) }
+        requires runs { FoundRunning (part_of member) }
         requires desk { HasDesk (shows_of K.holds) (hands_of member).lasting
             (hands_of member).pending (hands_of member).progress (boxes_of member) }
         ensures same { IsSame member result.0 }
@@ -129,6 +133,7 @@ impl<K: Keeper, A: Allocator> PathTable<K, A> {
         ensures give { MayGive (view_of result.0) }
         ensures claimed { MarksNext member.number (view_of member) result.1 (view_of result.0) }
         ensures current { KeepsCurrent Append (part_of member) (part_of result.0) }
+        ensures runs { FoundRunning (part_of result.0) }
         ensures desk { HasDesk (shows_of K.holds) (hands_of result.0).lasting
             (hands_of result.0).pending (hands_of result.0).progress (boxes_of result.0) }
     {

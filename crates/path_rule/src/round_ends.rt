@@ -1,7 +1,7 @@
 //! How a round of a sync ends, in the hand of the holder of the Sync turn, which has the desk
 //! alone: by what the keeper answers up to the last marker, behind whose barrier all boxes are
 //! gathered.
-ghost use Rattle.std.specs.Prelude.{◌≡◌, ℕ, true};
+ghost use Rattle.std.specs.Prelude.{◌≡◌, ℕ, true, None};
 ghost use Rattle.path_core.specs.declared.event.Cursor.TheVariants.{Stopped};
 ghost use Rattle.path_core.specs.declared.event.Event.TheVariants.{Look};
 ghost use Rattle.path_core.specs.declared.event.Place.TheVariants.{CursorWord};
@@ -12,6 +12,7 @@ ghost use Rattle.path_rule.specs.Desks.{HasDesk};
 ghost use Rattle.path_rule.specs.Lasts.{shows_of};
 ghost use Rattle.path_rule.specs.Members.{
   view_of,
+  part_of,
   hands_of,
   boxes_of,
   IsOf,
@@ -28,7 +29,7 @@ ghost use Rattle.path_rule.specs.SyncAnswers.{
   IsHaltedBy,
   MayAnswer,
 };
-ghost use Rattle.path_rule.specs.Turns.{IsBarred};
+ghost use Rattle.path_rule.specs.Turns.{FoundRunning, IsBarred};
 
 use crate::answer::SyncAnswer;
 use crate::table::{Member, PathTable};
@@ -56,6 +57,7 @@ impl<K: Keeper, A: Allocator> PathTable<K, A> {
             × Stepped member.old (Look member.old.number (CursorWord Stopped)) now member.new
             × IsHaltedBy self.now.size.at_open now result }
         ensures give { MayGive (view_of member.new) }
+        ensures runs { result ≡ None → FoundRunning (part_of member.new) }
         ensures hands { hands_of member.new ≡ hands_of member.old }
     {
         let now = self.look_stopped(member);

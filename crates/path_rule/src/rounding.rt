@@ -10,7 +10,7 @@ ghost use Rattle.path_rule.specs.Reached.{Reaches, ReachesFound};
 ghost use Rattle.path_rule.specs.Rounds.{RoundSteps, WroteBelow};
 ghost use Rattle.path_rule.specs.Sweeps.{SweptAll};
 ghost use Rattle.path_rule.specs.SyncAnswers.{KnowsMarker, Answers, MayAnswer};
-ghost use Rattle.path_rule.specs.Turns.{MarkerWaits, TurnSaw};
+ghost use Rattle.path_rule.specs.Turns.{FoundRunning, MarkerWaits, TurnSaw};
 
 use crate::answer::SyncAnswer;
 use crate::marking::progress_with;
@@ -25,7 +25,8 @@ use std::sync::Wait;
 
 impl<K: Keeper, A: Allocator> PathTable<K, A> {
     /// Issues the barrier of the seat's own marker, which is the last one, waits until it is
-    /// passed, gathers all boxes behind it, and ends the sync. The seat has found the current group.
+    /// passed, gathers all boxes behind it, and ends the sync. The seat has found the log running,
+    /// and the current group.
     pub fn bar_round<R: Wait>(
         &self,
         rt: &R,
@@ -40,6 +41,7 @@ impl<K: Keeper, A: Allocator> PathTable<K, A> {
         requires marker { MarkerWaits member.number (part_of member) start
             × ((hands_of member).progress.marker
             ≡ Some (record { by = member.number; start = start; barrier = None })) }
+        requires runs { FoundRunning (part_of member) }
         requires current { TurnSaw Append (part_of member) current × (current < 65535) }
         requires desk { HasDesk (shows_of K.holds) (hands_of member).lasting
             (hands_of member).pending (hands_of member).progress (boxes_of member) }

@@ -9,7 +9,14 @@ ghost use Rattle.path_core.specs.Parts.{marker_of, stage_of};
 ghost use Rattle.path_rule.specs.Calls.{Holds};
 ghost use Rattle.path_rule.specs.Layout.{word_at};
 ghost use Rattle.path_rule.specs.Members.{view_of, part_of, hands_of, IsOf, KeepsSizes, Stepped};
-ghost use Rattle.path_rule.specs.Turns.{TurnSaw, TurnOld, TurnGone, KeepsCurrent, KeepsOldest};
+ghost use Rattle.path_rule.specs.Turns.{
+  FoundRunning,
+  TurnSaw,
+  TurnOld,
+  TurnGone,
+  KeepsCurrent,
+  KeepsOldest,
+};
 
 use crate::plays::LookAt;
 use crate::table::{Member, PathTable};
@@ -62,6 +69,7 @@ impl<K: Keeper, A: Allocator> PathTable<K, A> {
         ensures turn { Holds Rest (view_of member.new)
             × TurnSaw order (part_of member.new) result }
         ensures marker { marker_of (part_of member.new) ≡ marker_of (part_of member.old) }
+        ensures runs { FoundRunning (part_of member.old) → FoundRunning (part_of member.new) }
         ensures hands { hands_of member.new ≡ hands_of member.old }
         ensures stages { (t : ℕ) → stage_of (part_of member.new) t
             ≡ stage_of (part_of member.old) t }

@@ -28,7 +28,9 @@ fn crosses<K: Keeper + Send>(table: &PathTable<K, Global>, member: Member<K>) ->
 }
 
 // A table of two seats, and the seat that hands them out.
-fn opened(alloc: Global) -> Result<(PathTable<ListKeeper, Global>, Opener<ListKeeper>), Fail>
+pub(crate) fn opened(
+    alloc: Global,
+) -> Result<(PathTable<ListKeeper, Global>, Opener<ListKeeper>), Fail>
     ensures of { IfOk result (λ r. (r.1.seat.table_id ≡ r.0.table.shared.table_id)
         × (r.1.seat.me.0.size ≡ r.0.size)) }
     ensures seats { IfOk result (λ r. (r.1.made ≡ 0) × (r.0.size.seats ≡ 2)) }

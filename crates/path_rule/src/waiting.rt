@@ -6,7 +6,7 @@ ghost use Rattle.path_core.specs.declared.event.Event.TheVariants.{Advance};
 ghost use Rattle.path_core.specs.declared.seat.Issue.TheVariants.{Rest};
 ghost use Rattle.path_core.specs.declared.seat.Switching.TheVariants.{Waiting, WithBarrier};
 ghost use Rattle.path_core.specs.Parts.{stage_of};
-ghost use Rattle.path_rule.specs.Calls.{Holds, IsPast};
+ghost use Rattle.path_rule.specs.Calls.{acts, Holds, IsPast};
 ghost use Rattle.path_rule.specs.HandsAfter.{issued_hands};
 ghost use Rattle.path_rule.specs.Members.{
   view_of,
@@ -16,9 +16,16 @@ ghost use Rattle.path_rule.specs.Members.{
   KeepsSizes,
   Stepped,
 };
-ghost use Rattle.path_rule.specs.Passes.{MatchPassed};
+ghost use Rattle.path_rule.specs.Passes.{HasIssued, MatchPassed};
 ghost use Rattle.path_rule.specs.Rounds.{RoundSteps};
-ghost use Rattle.path_rule.specs.Turns.{MarkerWaits, TurnSaw, TurnOld, TurnGone, KeepsCurrent};
+ghost use Rattle.path_rule.specs.Turns.{
+  FoundRunning,
+  MarkerWaits,
+  TurnSaw,
+  TurnOld,
+  TurnGone,
+  KeepsCurrent,
+};
 
 use crate::table::{Member, PathTable};
 use crate::words::{EXPIRED, LAST_GROUP};
@@ -115,7 +122,7 @@ impl<K: Keeper, A: Allocator> PathTable<K, A> {
 
     /// Issues a barrier of the write order, and waits until it is passed. A memtable that waits for
     /// its barrier has this one then. Where the last group that there is a word for is the current
-    /// one, it answers `Rows` and issues nothing. No clause says that it returns.
+    /// one, it answers `Rows`, and only looked. No clause says that it returns.
     pub fn barrier<R: Wait>(&self, rt: &R, holder: Holder<K>) -> (Holder<K>, Passed)
         requires { IsOf self.now.table.shared.table_id self.now.size holder.member }
         ensures same { KeepsSizes holder.member result.0.member }
@@ -124,6 +131,10 @@ impl<K: Keeper, A: Allocator> PathTable<K, A> {
         ensures passed { MatchPassed result.1
             (λ g. IsPast Write (view_of result.0.member) g)
             (λ n. (n ≡ 65536) × TurnSaw Write (part_of result.0.member) 65535) }
+        ensures issues { MatchPassed result.1
+            (λ g. HasIssued Write holder.member.number g (view_of holder.member)
+            (view_of result.0.member))
+            (λ n. acts (view_of result.0.member).trail ≡ acts (view_of holder.member).trail) }
         ensures issued { (t memtable : ℕ)
             → stage_of (part_of holder.member) t ≡ Some (Waiting memtable)
             → MatchPassed result.1
@@ -144,12 +155,13 @@ impl<K: Keeper, A: Allocator> PathTable<K, A> {
 
     /// Issues the barrier of the last marker, which is the member's own and has none, and waits
     /// until it is passed: then the boxes of the groups up to `current` may be gathered. The boxes
-    /// of the barrier before it have to be. The member has found this group current, and there is a
-    /// word for the next one. No clause says that it returns.
+    /// of the barrier before it have to be. The member has found the log running and this group
+    /// current, and there is a word for the next one. No clause says that it returns.
     pub fn marker_barrier<R: Wait>(&self, rt: &R, holder: Holder<K>, current: u64) -> Holder<K>
         requires table { IsOf self.now.table.shared.table_id self.now.size holder.member }
         requires marker { (start : ℕ)
             × MarkerWaits holder.member.number (part_of holder.member) start }
+        requires runs { FoundRunning (part_of holder.member) }
         requires gathered { (hands_of holder.member).progress.gathered ≡ true }
         requires current { TurnSaw Append (part_of holder.member) current × (current < 65535) }
         ensures same { KeepsSizes holder.member result.member }
@@ -157,6 +169,8 @@ impl<K: Keeper, A: Allocator> PathTable<K, A> {
             (view_of result.member) }
         ensures passed { IsPast Append (view_of result.member) current
             × (hands_of result.member ≡ issued_hands current (hands_of holder.member)) }
+        ensures issues { HasIssued Append holder.member.number current (view_of holder.member)
+            (view_of result.member) }
     {
         let Holder { mut member } = holder;
         self.open_append(&mut member, current + 1, current);

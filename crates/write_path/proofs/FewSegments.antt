@@ -230,7 +230,7 @@ module _ (x : PathState) (L : IsLawfulPath x)
       let long = entry_is_long x.capacity x.ordinals x.log x.claims T (get_or entries j d) one.0
       one.1 in omega (arith, up, long)
 
-  few_entries : length entries ≤ length x.notes
+  pub few_entries : length (filter is_entry x.claims) ≤ length x.notes
   few_entries = covered entries x.notes rise (notes_rise x L) (λ c h.
       let one = filter_from is_entry x.claims c h in noted_end c one.0 one.1)
 
@@ -240,6 +240,11 @@ module _ (x : PathState) (L : IsLawfulPath x)
   each zero inside m = absurd (let r = (T.entry_before zero inside m).1 in omega (arith, r))
   each (suc k) inside m = let r = T.entry_before (suc k) inside m in
       subst (λ j. IsTrue (is_entry (claim_in x.claims j))) (let q = r.1 in omega (arith, q)) r.2
+
+  -- so at least half of the claims are entries
+  pub few_claims : length x.claims ≤ 2 * length (filter is_entry x.claims)
+  few_claims = let few : length x.claims ≤ 2 * length entries + 0 = few_markers x.claims false each
+      in omega (arith, few)
 
   large : 4096 ≤ x.capacity
   large = L.sized.limits.least_capacity
@@ -273,6 +278,5 @@ module _ (x : PathState) (L : IsLawfulPath x)
   pub few_segments : ordinal_of x.log ≤ 2 * length x.notes - 1
   few_segments = let low = (walk (length x.claims) (omega arith)).1 in
       let at = ap ordinal_of T.log_is_behind in
-      let few : length x.claims ≤ 2 * length entries + 0 = few_markers x.claims false each in
-      let noted = few_entries in
+      let few = few_claims in let noted = few_entries in
       omega (arith, low, at, few, noted)

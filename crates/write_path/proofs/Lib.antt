@@ -10,6 +10,7 @@ pub mod Histories
 pub mod Accounted
 pub mod NoneDropped
 pub mod FewSegments
+pub mod FewGroups
 pub mod NonePassed
 pub mod Parted
 pub mod Outcomes
@@ -25,3 +26,4 @@ pub mod Growing
 pub mod Acknowledged
 pub mod Promises
 pub mod Spending
+pub mod FlushHeld

@@ -79,12 +79,14 @@ use Rattle.write_path.specs.Closed.{
   AreStoppedFor,
   AreSyncedFor,
   ArePartedFor,
+  FindsGroupsTo,
   HasComeFor,
   all_writes,
 }
 use Rattle.write_path.specs.Opened.{numbers_of}
 use Rattle.write_path.specs.Sealed.{AreSealed, AreSealedApart}
 use Rattle.write_path.proofs.Accounted.{each_once, each_there}
+use Rattle.write_path.proofs.FewGroups.{few_groups}
 use Rattle.write_path.proofs.FewSegments.{few_segments}
 use Rattle.write_path.proofs.NoneDropped.{none_dropped}
 use Rattle.write_path.proofs.NonePassed.{first_part, none_passed}
@@ -218,6 +220,12 @@ module _ {K : Type 0} (size : PathSize) where
             omega (arith, low, log)) seats E.tell;
         few_segments = subst (λ k. ordinal_of k ≤ 2 * length x.notes - 1) (sym e.log_is)
             (few_segments x L idle);
+        few_groups = let most = few_groups size size.at_open e.events x
+            (opening_lawful size.tables size.seats size.capacity size.ordinals size.base e.fit)
+            e.run e.built idle in known_of x
+            (λ (s : PathSeat K). TrailTells size.capacity x (view_of s.member).trail)
+            (FindsGroupsTo (length x.notes)) (λ s T g F. let low = T.current g F in
+            omega (arith, low, most)) seats E.tell;
         none_passed = λ key. first_part x.capacity L.sized.limits.greatest_capacity key x.notes
             (is_history x L.claims_tile_the_log L.notes_are_claims) (none_passed x L idle);
         synced_is = synced;
@@ -325,6 +333,8 @@ module _ {K : Type 0} (size : PathSize) where
             (sym (no_seat seats none_there)) (All-nil (AreSyncedFor h));
         all_stopped = subst (λ (l : List (PathSeat K)). All (AreStoppedFor h) l)
             (sym (no_seat seats none_there)) (All-nil (AreStoppedFor h));
+        few_groups = subst (λ (l : List (PathSeat K)). All (FindsGroupsTo 0) l)
+            (sym (no_seat seats none_there)) (All-nil (FindsGroupsTo 0));
         parted = subst (λ (l : List (PathSeat K)). All (ArePartedFor size.capacity []) l)
             (sym (no_seat seats none_there)) (All-nil (ArePartedFor size.capacity []));
         sealed = subst (λ (l : List (PathSeat K)). All (λ (s : PathSeat K).

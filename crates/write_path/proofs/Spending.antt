@@ -1,6 +1,9 @@
--- A path whose seat found no room has at most two segments for each of its writes.
+-- A path whose seat found no room has at most two segments for each of its writes, and one whose
+-- seat found no group left has a write for each group but the first.
 use Rattle.std.proofs.Common.{
+  ◌≡◌,
   ℕ,
+  suc,
   ◌+◌,
   ◌-◌,
   ◌*◌,
@@ -24,18 +27,31 @@ use Rattle.std.specs.List.{All, Contains}
 use Rattle.std.proofs.lemmas.List.{length-append}
 use Rattle.std.proofs.lemmas.List.Elements.{All-contains, All-head, All-tail}
 use Rattle.std.proofs.lemmas.List.Sorted.{length_permutation}
-use Rattle.path_core.specs.declared.event.Place.TheVariants.{Log}
+use mathlib.Core.Logic.{inl}
+use Rattle.op_core.specs.declared.count.Order.TheVariants.{Append}
+use Rattle.path_core.specs.declared.event.Place.TheVariants.{Current, Log}
 use Rattle.path_core.specs.Keeper.{Holding}
 use Rattle.path_core.specs.Keys.{entry_end, fits, next_segment, ordinal_of}
+use Rattle.path_rule.specs.declared.answer.SyncAnswer.TheVariants.{Rows}
 use Rattle.path_rule.specs.declared.trying.PathSeat.{PathSeat}
 use Rattle.path_rule.specs.declared.view.OwnStep.{OwnStep}
 use Rattle.path_rule.specs.declared.view.PathSize.{PathSize}
+use Rattle.path_rule.specs.declared.view.View.{View}
 use Rattle.path_rule.specs.Finds.{Finds}
+use Rattle.path_rule.specs.Layout.{group_rows}
 use Rattle.path_rule.specs.Members.{view_of}
-use Rattle.path_rule.proofs.seats.Answering.{found_before}
-use Rattle.write_path.specs.Closed.{HasComeFor, IsOutcome, all_writes}
+use Rattle.path_rule.proofs.seats.Answering.{found_after, found_before}
+use Rattle.sync_core.specs.declared.SyncCore.TheVariants.{Batch}
+use Rattle.write_path.specs.declared.commit.Commit.TheVariants.{Unsynced}
+use Rattle.write_path.specs.declared.commit.Receipt.{Receipt}
+use Rattle.write_path.specs.declared.commit.SyncFault.TheVariants.{Rows as NoRows}
+use Rattle.write_path.specs.declared.prepared.Prepared.{Prepared}
+use Rattle.write_path.specs.Closed.{FindsGroupsTo, HasComeFor, IsOutcome, all_writes}
 use Rattle.write_path.specs.Ends.{writes_of}
+use Rattle.write_path.specs.Grown.{HasGrown}
 use Rattle.write_path.specs.Promised.{WasSpent}
+use Rattle.write_path.specs.Receipts.{IsCommitted}
+use Rattle.write_path.specs.Syncs.{Syncs}
 
 -- an entry that is claimed at a key ends in its segment, or in the next one
 ends_near : (capacity key bytes : ℕ) → capacity ≤ 33554432 → bytes ≤ capacity / 2
@@ -80,3 +96,34 @@ module _ {K : Type 0} (size : PathSize) (seats : List (PathSeat K)) (end : ℕ) 
   never_spent few each wide s one bytes key small S =
       let most = segments_spent s one bytes key small S in
       let all = logged_together seats each in absurd (omega (arith, few, wide, most, all))
+
+  -- a seat found the last group that there is a word for current
+  module _ (s : PathSeat K) (one : Contains seats s) (groups last : ℕ) (next : suc last ≡ groups)
+      (all : groups ≡ group_rows) (after : List OwnStep)
+      (since : HasGrown after (view_of s.member).trail) where
+    many_writes : Finds (Current Append) last after → 65535 ≤ length (all_writes seats)
+    many_writes found =
+        let most = All-contains (FindsGroupsTo (length O.core.notes)) seats s O.few_groups one last
+        (subst (λ (l : List OwnStep). Finds (Current Append) last l) (sym since.is)
+        (found_before (Current Append) last since.newer after found)) in
+        let long = length_permutation (all_writes seats) O.core.notes O.of_writes in
+        omega (arith, next, all, most, long)
+
+  pub synced_many : (s : PathSeat K) → Contains seats s → (w opened groups : ℕ)
+      (before after : View) → Syncs w opened before (Rows groups) after
+      → HasGrown after.trail (view_of s.member).trail → 65535 ≤ length (all_writes seats)
+  synced_many s one w opened groups before after S since =
+      let A = S.answers in let F = A.now in
+      many_writes s one groups F.0 F.1 A.is.0.all after.trail since
+      (subst (λ (l : List OwnStep). Finds (Current Append) F.0 l) (sym A.steps.trail)
+      (found_after (Current Append) F.0 A.steps.steps before.trail F.2))
+
+  pub committed_many : (s : PathSeat K) → Contains seats s → (w groups : ℕ)
+      (before : List OwnStep) (p : Prepared) (r : Receipt) (after : View)
+      → IsCommitted Batch size w before p (Unsynced r (NoRows groups)) after
+      → HasGrown after.trail (view_of s.member).trail → 65535 ≤ length (all_writes seats)
+  committed_many s one w groups before p r after C since =
+      let T = C.2 in let F = T.2 in
+      many_writes s one groups T.0 T.1 C.1.all after.trail since
+      (subst (λ (l : List OwnStep). Finds (Current Append) T.0 l) (sym F.cut)
+      (found_before (Current Append) T.0 F.later (F.step ∷ F.before) (inl F.found)))

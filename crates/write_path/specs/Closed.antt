@@ -19,9 +19,10 @@ use Rattle.std.specs.Prelude.{
 use Rattle.std.specs.List.{All, Contains, filter, flat_map, range_with_len}
 use Rattle.std.specs.List.Sorted.{IsPermutation}
 use Rattle.atomic_table.specs.Seated.{TableId}
+use Rattle.op_core.specs.declared.count.Order.TheVariants.{Append}
 use Rattle.path_core.specs.declared.event.Cursor.TheVariants.{Synced, Stopped}
 use Rattle.path_core.specs.declared.event.Event.{Event}
-use Rattle.path_core.specs.declared.event.Place.TheVariants.{CursorWord, Log}
+use Rattle.path_core.specs.declared.event.Place.TheVariants.{Current, CursorWord, Log}
 use Rattle.path_core.specs.declared.note.EntryNote.{EntryNote}
 use Rattle.path_core.specs.declared.state.PathState.{PathState}
 use Rattle.path_core.specs.History.{IsHistory}
@@ -102,6 +103,10 @@ AreStoppedFor h s = (n : ℕ) → Finds (CursorWord Stopped) n (view_of s.member
 abbrev pub HasComeFor : {K : Type 0} → ℕ → PathSeat K → Type 0
 HasComeFor end s = (key : ℕ) → Finds Log key (view_of s.member).trail → key ≤ end
 
+-- Each group of the append order that a seat found current is at most this one.
+abbrev pub FindsGroupsTo : {K : Type 0} → ℕ → PathSeat K → Type 0
+FindsGroupsTo last s = (g : ℕ) → Finds (Current Append) g (view_of s.member).trail → g ≤ last
+
 -- The keeper that a path gives back has beside its log what the one had over which it was opened:
 -- the same disk at the opening, and no table file and no archive name where there was none.
 pub record StaysBeside (first h : Holding) : Type 0 where
@@ -141,8 +146,9 @@ pub record IsOutcome {K : Type 0} (size : PathSize) (seats : List (PathSeat K)) 
   pub core : PathState
   pub events : List Event
   pub run : Past (start_of size) events core
-  -- each step was of a kind that is built: no memtable was retired, and a group of the append order
-  -- was made only where a marker of the seat wanted a barrier
+  -- each step was of a kind that is built: no memtable was retired, a marker was claimed only while
+  -- the log ran, and so was a group of the append order made, where a marker of the seat wanted a
+  -- barrier
   pub built : AreBuilt size.at_open (start_of size) events core run
   pub own : All (λ (s : PathSeat K). map event_of (view_of s.member).trail
       ≡ steps_by s.member.number events) seats
@@ -158,6 +164,8 @@ pub record IsOutcome {K : Type 0} (size : PathSize) (seats : List (PathSeat K)) 
   -- but for one
   pub found_log : All (HasComeFor end) seats
   pub few_segments : ordinal_of end ≤ 2 * length core.notes - 1
+  -- a seat found at most one group of the append order current for each write, but for the first
+  pub few_groups : All (FindsGroupsTo (length core.notes)) seats
   -- its first entries pass over no segment, up to whatever key
   pub none_passed : (key : ℕ) → PassesNoSegment (filter (is_at_most key) core.notes)
   -- the keeper has what the run made lasting, dropped and stopped

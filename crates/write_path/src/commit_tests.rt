@@ -1,10 +1,11 @@
-//! Commits of one seat, by worked values: ranges, receipts, markers between them, a log that is
-//! spent, and what a gate is told.
+//! Commits by worked values: of one seat ranges, receipts, markers between them and a log that is
+//! spent, and of two seats what a gate is told.
 ghost use Rattle.std.specs.Prelude.{◌≡◌, ℕ, IfOk};
 ghost use Rattle.clog_mutation.specs.declared.mutation.Mutation.{Mutation};
 ghost use Rattle.path_rule.specs.Members.{IsOf};
 ghost use Rattle.write_path.specs.Writes.{IsPrepared};
 
+use crate::turning_tests::two_seats;
 use crate::{Commit, PathSeat, Prepared, Receipt, SyncAnswer, WritePath};
 use clog_base::{Key, Position, Sizes, Writer};
 use clog_io::{Gate, OpenGate, Point};
@@ -72,13 +73,12 @@ pub(crate) fn one_seat(
 }
 
 // Two commits of the same payload, and a sync.
-fn commit_twice<R: Wait, G: Gate>(
+fn commit_twice<R: Wait>(
     rt: &R,
     alloc: Global,
     segments: u32,
     mode: SyncCore,
     payload: &[u8],
-    gate: &G,
 ) -> Result<(Commit, Commit, SyncAnswer), Fail> {
     let Some(sizes) = Sizes::make(16, 1, 4096, segments) else {
         return Err(Fail::new("no sizes"));
@@ -86,8 +86,9 @@ fn commit_twice<R: Wait, G: Gate>(
     let one = prepared(alloc, sizes, 1, payload)?;
     let two = prepared(alloc, sizes, 2, payload)?;
     let (path, seat) = one_seat(alloc, sizes, mode)?;
-    let (seat, first) = path.commit(rt, alloc, seat, one, gate);
-    let (seat, second) = path.commit(rt, alloc, seat, two, gate);
+    let gate = OpenGate::new();
+    let (seat, first) = path.commit(rt, alloc, seat, one, &gate);
+    let (seat, second) = path.commit(rt, alloc, seat, two, &gate);
     let (_seat, answer) = path.sync(rt, alloc, seat);
     Ok((first, second, answer))
 }
@@ -131,14 +132,7 @@ pub(crate) fn done(answer: SyncAnswer) -> Option<u64> {
 #[test]
 fn periodic_commits_follow_one_another(rt: HostRuntime) -> Result<(), Fail> {
     let mode = SyncCore::periodic(10);
-    let (first, second, answer) = commit_twice(
-        &rt,
-        rt.alloc(),
-        4,
-        mode,
-        DELETION,
-        &OpenGate::new(),
-    )?;
+    let (first, second, answer) = commit_twice(&rt, rt.alloc(), 4, mode, DELETION)?;
     assert_eq!(&rt; logged(&first), receipt(1, 60));
     assert_eq!(&rt; logged(&second), receipt(2, 92));
     assert_eq!(&rt; done(answer), Some(92));
@@ -148,14 +142,7 @@ fn periodic_commits_follow_one_another(rt: HostRuntime) -> Result<(), Fail> {
 #[test]
 fn a_marker_stands_between_batch_commits(rt: HostRuntime) -> Result<(), Fail> {
     let mode = SyncCore::batch();
-    let (first, second, answer) = commit_twice(
-        &rt,
-        rt.alloc(),
-        4,
-        mode,
-        DELETION,
-        &OpenGate::new(),
-    )?;
+    let (first, second, answer) = commit_twice(&rt, rt.alloc(), 4, mode, DELETION)?;
     assert_eq!(&rt; durable(&first), receipt(1, 60));
     assert_eq!(&rt; durable(&second), receipt(2, 100));
     assert_eq!(&rt; done(answer), Some(100));
@@ -166,28 +153,31 @@ fn a_marker_stands_between_batch_commits(rt: HostRuntime) -> Result<(), Fail> {
 fn a_spent_log_hands_the_write_back(rt: HostRuntime) -> Result<(), Fail> {
     let payload = long_payload(rt.alloc())?;
     let mode = SyncCore::periodic(10);
-    let (first, second, answer) = commit_twice(
-        &rt,
-        rt.alloc(),
-        1,
-        mode,
-        payload.as_slice(),
-        &OpenGate::new(),
-    )?;
+    let payload = payload.as_slice();
+    let (first, second, answer) = commit_twice(&rt, rt.alloc(), 1, mode, payload)?;
     assert_eq!(&rt; logged(&first), receipt(1, 2076));
     assert_eq!(&rt; spent(&second), Some((2048, Key(2076))));
     assert_eq!(&rt; done(answer), Some(2076));
     Ok(())
 }
 
-/// A gate that notes the points one behind another, each as a digit from 1 on.
+/// A gate that notes the points one behind another, each in two digits: the writer's number, and
+/// the point's from 1 on.
 #[derive(Drop)]
 struct Noted {
     digits: AtomicU64,
 }
 
+impl Noted {
+    fn new() -> Noted {
+        Noted {
+            digits: AtomicU64::new(0),
+        }
+    }
+}
+
 impl Gate for Noted {
-    fn reached(&self, _writer: Writer, point: Point) {
+    fn reached(&self, writer: Writer, point: Point) {
         let digit = match point {
             Point::Started => 1,
             Point::Claimed => 2,
@@ -196,18 +186,39 @@ impl Gate for Noted {
             Point::Finished => 5,
             Point::Returned => 6,
         };
+        let note = 10 * u64::from(writer.0) + digit;
         let before = self.digits.load(Ordering::SeqCst);
-        let now = before.wrapping_mul(10).wrapping_add(digit);
+        let now = before.wrapping_mul(100).wrapping_add(note);
         self.digits.store(now, Ordering::SeqCst);
     }
 }
 
-#[test]
-fn a_gate_is_told_each_point_in_order(rt: HostRuntime) -> Result<(), Fail> {
-    let gate = Noted {
-        digits: AtomicU64::new(0),
+// Commits of the same payload by two seats, each with a gate of its own.
+fn commit_by_two<R: Wait, G: Gate>(
+    rt: &R,
+    alloc: Global,
+    payload: &[u8],
+    zero_gate: &G,
+    one_gate: &G,
+) -> Result<(Commit, Commit), Fail> {
+    let Some(sizes) = Sizes::make(16, 2, 4096, 4) else {
+        return Err(Fail::new("no sizes"));
     };
-    let _answers = commit_twice(&rt, rt.alloc(), 4, SyncCore::batch(), TWO_TABLES, &gate)?;
-    assert_eq!(&rt; gate.digits.load(Ordering::SeqCst), 12_344_561_234_456);
+    let first = prepared(alloc, sizes, 1, payload)?;
+    let second = prepared(alloc, sizes, 2, payload)?;
+    let keeper = ListKeeper::new(alloc, sizes, 7);
+    let (path, zero, one) = two_seats(alloc, keeper, sizes)?;
+    let (_zero, first) = path.commit(rt, alloc, zero, first, zero_gate);
+    let (_one, second) = path.commit(rt, alloc, one, second, one_gate);
+    Ok((first, second))
+}
+
+#[test]
+fn a_gate_is_told_the_writer_and_each_point_in_order(rt: HostRuntime) -> Result<(), Fail> {
+    let zero = Noted::new();
+    let one = Noted::new();
+    let _answers = commit_by_two(&rt, rt.alloc(), TWO_TABLES, &zero, &one)?;
+    assert_eq!(&rt; zero.digits.load(Ordering::SeqCst), 1_020_304_040_506);
+    assert_eq!(&rt; one.digits.load(Ordering::SeqCst), 11_121_314_141_516);
     Ok(())
 }

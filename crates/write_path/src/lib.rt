@@ -32,8 +32,8 @@ pub use commit::{Commit, Receipt, SyncFault};
 pub use deposited::Deposited;
 pub use fault::PrepareFault;
 pub use laws::{
-    note_laws, what_a_sync_reaches, what_close_keeps, what_seals_a_write, what_spends_a_path,
-    where_a_log_begins,
+    note_laws, rows_need_many_writes, what_a_sync_reaches, what_close_keeps, what_seals_a_write,
+    what_spends_a_path, where_a_log_begins,
 };
 pub use path_rule::{Advance, Begun, PathSeat, Seen, SyncAnswer};
 pub use prepared::Prepared;
@@ -55,3 +55,5 @@ mod stopping_tests;
 mod sync_tests;
 #[cfg(test)]
 mod tests;
+#[cfg(test)]
+mod turning_tests;

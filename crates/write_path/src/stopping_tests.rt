@@ -1,11 +1,12 @@
 //! A keeper that stops at its first sync: each seat is answered so from then on. What it writes is
 //! logged all the same, and no marker stands between.
-ghost use Rattle.std.specs.Prelude.{◌≡◌, cond, IfOk};
-ghost use Rattle.path_rule.specs.Members.{IsOf};
+ghost use Rattle.std.specs.Prelude.{cond};
+ghost use Rattle.path_core.specs.Keeper.{IsFresh};
 
 use crate::commit_tests::{DELETION, prepared, receipt};
 use crate::refusing_tests::unsynced;
-use crate::{Commit, PathSeat, SyncAnswer, SyncFault, WritePath};
+use crate::turning_tests::two_seats;
+use crate::{Commit, SyncAnswer, SyncFault};
 use clog_base::{Key, Sizes, Table};
 use clog_cells::CellMap;
 use clog_io::OpenGate;
@@ -13,7 +14,6 @@ use path_core::{EntryNote, Keeper, KeeperFault, ListKeeper};
 use std::alloc::Global;
 use std::sync::Wait;
 use std::test::*;
-use sync_core::SyncCore;
 
 /// A keeper whose disk fails at the first call.
 #[derive(Drop)]
@@ -48,37 +48,14 @@ impl Keeper for Stopping {
     }
 }
 
-// A path with two seats over such a keeper.
-fn two_seats(
-    alloc: Global,
-    sizes: Sizes,
-) -> Result<
-    (
-        WritePath<Stopping, Global>,
-        PathSeat<Stopping>,
-        PathSeat<Stopping>,
-    ),
-    Fail,
->
-    ensures zero { IfOk result (λ r. IsOf r.0.table.table.shared.table_id r.0.table.size
-        r.1.member) }
-    ensures one { IfOk result (λ r. IsOf r.0.table.table.shared.table_id r.0.table.size
-        r.2.member) }
-    ensures sized { IfOk result (λ r. (sizes.tables ≡ r.0.table.size.tables)
-        × (sizes.capacity ≡ r.0.table.size.capacity)) }
+// Such a keeper, which was just opened.
+fn new_stopping(alloc: Global, sizes: Sizes) -> Stopping
+    ensures { IsFresh 7 sizes (⟦<Stopping as Keeper>⟧.holds result) }
 {
-    let keeper = Stopping {
+    Stopping {
         fresh: ListKeeper::new(alloc, sizes, 7),
         has_failed: false,
-    };
-    let Ok(mut path) = WritePath::open(alloc, keeper, sizes, 7, SyncCore::batch()) else {
-        return Err(Fail::new("no path"));
-    };
-    let mut seats = path.seats(alloc)?;
-    let (Some(one), Some(zero)) = (seats.pop(), seats.pop()) else {
-        return Err(Fail::new("no two seats"));
-    };
-    Ok((path, zero, one))
+    }
 }
 
 // Commits by two seats, a sync, and a commit behind it.
@@ -92,7 +69,7 @@ fn commit_by_both<R: Wait>(
     let first = prepared(alloc, sizes, 1, DELETION)?;
     let second = prepared(alloc, sizes, 2, DELETION)?;
     let third = prepared(alloc, sizes, 3, DELETION)?;
-    let (path, zero, one) = two_seats(alloc, sizes)?;
+    let (path, zero, one) = two_seats(alloc, new_stopping(alloc, sizes), sizes)?;
     let gate = OpenGate::new();
     let (zero, first) = path.commit(rt, alloc, zero, first, &gate);
     let (_one, second) = path.commit(rt, alloc, one, second, &gate);

@@ -1,15 +1,15 @@
-//! One write by hand, from opening a path to closing it, and who gets the Sync turn.
+//! One write by hand, from opening a path to closing it.
 ghost use Rattle.std.specs.Prelude.{◌≡◌};
 ghost use Rattle.clog_mutation.specs.declared.mutation.Mutation.{Mutation};
 ghost use Rattle.path_rule.specs.Members.{IsOf};
 ghost use Rattle.write_path.specs.Tries.{Stays};
 ghost use Rattle.write_path.specs.Writes.{IsPrepared};
 
-use crate::{Advance, PathSeat, Prepared, TryClaim, WritePath};
-use clog_base::{Key, OutOfMemory, Sizes, Table};
+use crate::{PathSeat, Prepared, TryClaim, WritePath};
+use clog_base::{Key, Sizes};
 use clog_io::OpenGate;
-use clog_mutation::{Mutation, decode};
-use path_core::{Keeper, ListKeeper, Order, Turn};
+use clog_mutation::decode;
+use path_core::{Keeper, ListKeeper};
 use std::alloc::Global;
 use std::test::*;
 use sync_core::SyncCore;
@@ -96,36 +96,5 @@ fn one_write_is_the_whole_history(rt: HostRuntime) -> Result<(), Fail> {
     seats.push(seat)?;
     let (_keeper, outcome) = path.close(seats);
     assert_eq!(&rt; outcome.end, Key(60));
-    Ok(())
-}
-
-#[test]
-fn one_seat_has_the_turn(rt: HostRuntime) -> Result<(), Fail> {
-    let alloc = rt.alloc();
-    let Some(sizes) = Sizes::make(1, 2, 4096, 4) else {
-        return Err(Fail::new("no sizes"));
-    };
-    let keeper = ListKeeper::new(alloc, sizes, 7);
-    let Ok(mut path) = WritePath::open(alloc, keeper, sizes, 7, SyncCore::batch()) else {
-        return Err(Fail::new("no path"));
-    };
-    let mut seats = path.seats(alloc)?;
-    let (Some(one), Some(zero)) = (seats.pop(), seats.pop()) else {
-        return Err(Fail::new("no two seats"));
-    };
-    let Ok(mut holder) = path.try_turn(zero, Turn::Sync) else {
-        return Err(Fail::new("the turn is taken"));
-    };
-    let oldest = path.try_advance(&mut holder, Order::Append);
-    assert_eq!(&rt; oldest, Advance::Running { group: 0, count: 0 });
-    let Err((one, found)) = path.try_turn(one, Turn::Sync) else {
-        return Err(Fail::new("the turn is free"));
-    };
-    assert_eq!(&rt; found, 1);
-    let _zero = path.give(holder);
-    let Ok(holder) = path.try_turn(one, Turn::Sync) else {
-        return Err(Fail::new("the turn is taken still"));
-    };
-    let _one = path.give(holder);
     Ok(())
 }

@@ -1,83 +1,169 @@
-//! The Sync turn: an idle seat takes it by one try, moves the oldest group of an order on by one
-//! try, and gives the turn back. Flush turns come with the switching of memtables.
-ghost use Rattle.std.specs.Prelude.{◌≡◌, false, [], IfOk, MatchResult};
-ghost use Rattle.path_core.specs.declared.event.Event.TheVariants.{Look, GiveTurn};
+//! Turns: an idle seat takes the Sync turn, or the Flush turn of a table, by one try, and gives it
+//! back. With the Sync turn it moves the oldest group of an order on by one try. A switch of a
+//! table's memtables comes with the flush.
+ghost use Rattle.std.specs.Prelude.{◌≡◌, ◌<◌, [], IfOk, MatchResult};
+ghost use Rattle.clog_base.specs.declared.cell.Table.{Table};
+ghost use Rattle.path_core.specs.declared.event.Event.TheVariants.{Look};
 ghost use Rattle.path_core.specs.declared.event.Place.TheVariants.{TurnWord};
-ghost use Rattle.path_core.specs.declared.event.Turn.TheVariants.{Sync};
-ghost use Rattle.path_core.specs.declared.seat.Issue.TheVariants.{Rest};
-ghost use Rattle.path_core.specs.Next.{has_filed};
-ghost use Rattle.path_rule.specs.Calls.{Holds};
-ghost use Rattle.path_rule.specs.HandsAfter.{unswept_hands};
+ghost use Rattle.path_core.specs.declared.event.Turn.TheVariants.{Sync, Flush};
 ghost use Rattle.path_rule.specs.Lasts.{shows_of};
-ghost use Rattle.path_rule.specs.Members.{view_of, hands_of, IsOf, Stepped, SteppedAs};
+ghost use Rattle.path_rule.specs.Members.{view_of, IsOf, Stepped};
 ghost use Rattle.path_rule.specs.Passes.{HasMovedOn, MatchAdvance, RunsStill};
-ghost use Rattle.path_rule.specs.Rounds.{IsAtRest, RoundSteps};
+ghost use Rattle.path_rule.specs.Rounds.{RoundSteps};
 ghost use Rattle.write_path.specs.Tries.{Stays};
-ghost use Rattle.write_path.specs.Turned.{TookTurn, HoldsDesk};
+ghost use Rattle.write_path.specs.Turned.{
+  GaveTurn,
+  HoldsDesk,
+  HoldsFlush,
+  HoldsSync,
+  TookTurn,
+};
 
 use crate::seats::WritePath;
+use clog_base::Table;
 use path_core::{Keeper, Order, Turn};
 use path_rule::{Advance, Member, PathSeat};
 use std::alloc::Allocator;
 
-/// A seat that has the Sync turn, with no barrier under way and no box of another seat. It runs no
-/// write, and filed nothing.
+/// A seat that has a turn, of which nothing is left half done: with the Sync turn no barrier is
+/// under way, and nothing was filed; with a table's Flush turn no switch was begun. It runs no
+/// write.
 #[derive(Drop)]
 pub struct TurnSeat<K> {
     /// The seat.
     pub member: Member<K>,
-    pub ghost holds: { Holds Rest member.seat.me.0 },
-    pub ghost unfiled: { has_filed member.seat.me.0.part ≡ false },
-    pub ghost rests: { IsAtRest member.seat.me.0.part },
+    /// The turn that it has.
+    pub turn: Turn,
+    pub ghost syncs: { turn ≡ Sync → HoldsSync member.seat.me.0 },
+    pub ghost flushes: { (t : Table) → turn ≡ Flush t → HoldsFlush t.0 member.seat.me },
 }
 
 impl<K: Keeper, A: Allocator> WritePath<K, A> {
-    /// Takes the Sync turn, with the desk, where nobody has it. A refused seat only looked, and
-    /// found the turn's word 1.
+    /// Takes a turn, where nobody has it: the Sync turn comes with the desk, and that of a table is
+    /// of one that there is. A refused seat only looked, and found the turn's word 1.
     pub fn try_turn(&self, seat: PathSeat<K>, turn: Turn) -> Result<TurnSeat<K>, (PathSeat<K>, u64)>
         requires table { IsOf self.now.table.table.shared.table_id self.now.table.size seat.member }
-        requires sync { turn ≡ Sync }
+        requires there { (t : Table) → turn ≡ Flush t → t.0 < self.now.table.size.tables }
         ensures same { MatchResult result
             (λ t. Stays self.now.table.table.shared.table_id self.now.table.size seat.member
-            t.member)
+            t.member × (t.turn ≡ turn))
             (λ r. Stays self.now.table.table.shared.table_id self.now.table.size seat.member
             r.0.member) }
         ensures step { MatchResult result
-            (λ t. TookTurn self.now.table.size.at_open seat.member t.member)
+            (λ t. TookTurn self.now.table.size.at_open turn seat.member t.member)
+            (λ r. (r.1 ≡ 1) × Stepped seat.member (Look seat.member.number (TurnWord turn)) r.1
+            r.0.member) }
+        ensures desk { IfOk result (λ t. turn ≡ Sync → HoldsDesk (shows_of K.holds) t.member) }
+    {
+        match turn {
+            Turn::Sync => self.try_sync_turn(seat),
+            Turn::Flush(table) => self.try_flush_turn(seat, table),
+        }
+    }
+
+    // Takes the Sync turn, with the desk, where nobody has it.
+    fn try_sync_turn(&self, seat: PathSeat<K>) -> Result<TurnSeat<K>, (PathSeat<K>, u64)>
+        requires { IsOf self.now.table.table.shared.table_id self.now.table.size seat.member }
+        ensures same { MatchResult result
+            (λ t. Stays self.now.table.table.shared.table_id self.now.table.size seat.member
+            t.member × (t.turn ≡ Sync))
+            (λ r. Stays self.now.table.table.shared.table_id self.now.table.size seat.member
+            r.0.member) }
+        ensures step { MatchResult result
+            (λ t. TookTurn self.now.table.size.at_open Sync seat.member t.member)
             (λ r. (r.1 ≡ 1) × Stepped seat.member (Look seat.member.number (TurnWord Sync)) r.1
             r.0.member) }
         ensures desk { IfOk result (λ t. HoldsDesk (shows_of K.holds) t.member) }
     {
-        let _ = turn;
         let PathSeat { mut member } = seat;
         let found = self.table.take_sync(&mut member);
         if found == 0 {
-            Ok(TurnSeat { member })
+            let turn = Turn::Sync;
+            Ok(TurnSeat { member, turn })
         } else {
             Err((PathSeat { member }, found))
         }
     }
 
-    /// Gives the Sync turn back, and the desk with it. The seat is idle again.
+    // Takes a table's Flush turn, where nobody has it.
+    fn try_flush_turn(
+        &self,
+        seat: PathSeat<K>,
+        table: Table,
+    ) -> Result<TurnSeat<K>, (PathSeat<K>, u64)>
+        requires table { IsOf self.now.table.table.shared.table_id self.now.table.size seat.member }
+        requires there { table.0 < self.now.table.size.tables }
+        ensures same { MatchResult result
+            (λ t. Stays self.now.table.table.shared.table_id self.now.table.size seat.member
+            t.member × (t.turn ≡ Flush table))
+            (λ r. Stays self.now.table.table.shared.table_id self.now.table.size seat.member
+            r.0.member) }
+        ensures step { MatchResult result
+            (λ t. TookTurn self.now.table.size.at_open (Flush table) seat.member t.member)
+            (λ r. (r.1 ≡ 1)
+            × Stepped seat.member (Look seat.member.number (TurnWord (Flush table))) r.1
+            r.0.member) }
+    {
+        let PathSeat { mut member } = seat;
+        let found = self.table.take_flush(&mut member, table);
+        if found != 0 {
+            return Err((PathSeat { member }, found));
+        }
+        let turn = Turn::Flush(table);
+        Ok(TurnSeat { member, turn })
+    }
+
+    /// Gives the turn back, the Sync turn with the desk. The seat is idle again.
     pub fn give(&self, seat: TurnSeat<K>) -> PathSeat<K>
         requires table { IsOf self.now.table.table.shared.table_id self.now.table.size seat.member }
-        requires desk { HoldsDesk (shows_of K.holds) seat.member }
+        requires desk { seat.turn ≡ Sync → HoldsDesk (shows_of K.holds) seat.member }
         ensures same { Stays self.now.table.table.shared.table_id self.now.table.size seat.member
             result.member }
-        ensures step { SteppedAs seat.member (GiveTurn seat.member.number Sync) 0
-            (unswept_hands (hands_of seat.member)) result.member }
+        ensures step { GaveTurn seat.turn seat.member result.member }
     {
-        let TurnSeat { mut member } = seat;
+        let TurnSeat { member, turn } = seat;
+        match turn {
+            Turn::Sync => self.give_sync_turn(member),
+            Turn::Flush(table) => self.give_flush_turn(member, table),
+        }
+    }
+
+    // Gives the Sync turn back, and the desk with it.
+    fn give_sync_turn(&self, member: Member<K>) -> PathSeat<K>
+        requires table { IsOf self.now.table.table.shared.table_id self.now.table.size member }
+        requires holds { HoldsSync (view_of member) }
+        requires desk { HoldsDesk (shows_of K.holds) member }
+        ensures same { Stays self.now.table.table.shared.table_id self.now.table.size member
+            result.member }
+        ensures step { GaveTurn Sync member result.member }
+    {
+        let mut member = member;
         self.table.give_sync(&mut member);
         PathSeat { member }
     }
 
-    /// Moves the oldest group of an order on, by its last step, where its count is found finished.
-    /// Where the group runs still, only looks were made, and it says what it found as its count.
+    // Gives a table's Flush turn back.
+    fn give_flush_turn(&self, member: Member<K>, table: Table) -> PathSeat<K>
+        requires table { IsOf self.now.table.table.shared.table_id self.now.table.size member }
+        requires holds { HoldsFlush table.0 member.seat.me }
+        ensures same { Stays self.now.table.table.shared.table_id self.now.table.size member
+            result.member }
+        ensures step { GaveTurn (Flush table) member result.member }
+    {
+        let mut member = member;
+        self.table.give_flush(&mut member, table);
+        PathSeat { member }
+    }
+
+    /// Moves the oldest group of an order on, by its last step, where its count is found finished,
+    /// by a seat that has the Sync turn. Where the group runs still, only looks were made, and it
+    /// says what it found as its count.
     pub fn try_advance(&self, seat: &mut TurnSeat<K>, order: Order) -> Advance
-        requires { IsOf self.now.table.table.shared.table_id self.now.table.size seat.old.member }
+        requires table { IsOf self.now.table.table.shared.table_id self.now.table.size
+            seat.old.member }
+        requires turn { seat.old.turn ≡ Sync }
         ensures same { Stays self.now.table.table.shared.table_id self.now.table.size
-            seat.old.member seat.new.member }
+            seat.old.member seat.new.member × (seat.new.turn ≡ seat.old.turn) }
         ensures steps { RoundSteps seat.old.member.number [] (view_of seat.old.member)
             (view_of seat.new.member) }
         ensures desk { HoldsDesk (shows_of K.holds) seat.old.member

@@ -16,6 +16,7 @@ use Rattle.std.proofs.Common.{
   is_some,
   IsTrue,
   refl,
+  sym,
   ap,
   ◌∙◌,
   arith,
@@ -43,10 +44,11 @@ use Rattle.path_rule.specs.declared.view.View.{View}
 use Rattle.path_rule.specs.Rule.{Ruled, view_after, Was, HasRows}
 use Rattle.path_rule.specs.Told.{Made}
 use Rattle.path_rule.specs.TurnTold.{AppendOpened}
-use Rattle.path_rule.specs.Turns.{MarkerWaits, TurnSaw}
+use Rattle.path_rule.specs.Turns.{FoundRunning, MarkerWaits, TurnSaw}
 use Rattle.path_rule.proofs.moves.HolderFacts.{outside, has, issue_at}
 use Rattle.path_rule.proofs.moves.Looks.{within, own_part, each_name}
 use Rattle.path_rule.proofs.moves.Moving.{core_lawful, was, plays}
+use Rattle.path_rule.proofs.moves.SyncFacts.{turn_exact}
 use Rattle.path_rule.proofs.moves.TurnFacts.{now_is, unseen}
 use Rattle.path_rule.proofs.seats.HolderKnows.{still}
 
@@ -54,10 +56,10 @@ module _ {K : Type 0} (shows : K → Lasting) (o : Beside) (size : PathSize) (sl
     (m : Me (Slot K) View) (w : ℕ) (mine : m.0.role ≡ Steps w) where
   pub opens_append : (g c start : ℕ) → MarkerWaits w m.0.part start → IsTrue (is_some m.0.part.sync)
       → issue_of m.0.part ≡ Rest → TurnSaw Append m.0.part c → g ≡ suc c
-      → m.0.hands.box_taken ≡ None → g < 65536
+      → m.0.hands.box_taken ≡ None → FoundRunning m.0.part → g < 65536
       → Allows (Ruled shows o size) slots id m (73 + 2 * g) (λ _. 0)
       (λ _. AppendOpened (step slots (73 + 2 * g) 0 0 none) m 0)
-  opens_append g c start waits held calm saw up empty fits s r _ there _ = let x = r.core in
+  opens_append g c start waits held calm saw up empty runs fits s r _ there _ = let x = r.core in
       let e = OpenGroup w Append g in let v' = view_after m.0 e 0 false in
       let law = core_lawful shows o size s r in
       let now = now_is shows o size slots id m w mine s r there held Append c saw in
@@ -79,11 +81,14 @@ module _ {K : Type 0} (shows : K → Lasting) (o : Beside) (size : PathSize) (sl
       let wants = own_wants x law w (record { by = w; start = start; barrier = None })
       (own_part shows o size slots id m w mine s r there marker_of
       (Some (record { by = w; start = start; barrier = None })) waits) refl refl in
+      let running : x.stopped ≡ 0 = sym ((turn_exact shows o size slots id m w mine s r there runs.0
+      runs.1).stopped 0 runs.2) in
       let out = outside shows o size slots id m w mine s r there held in (
         v',
         keeps,
         tt,
-        plays shows o size s r id w m.0 there mine e refl may tt wants fits
+        plays shows o size s r id w m.0 there mine e refl may tt (wants, running)
+            fits
             (rows s r g (let q = up ∙ ap suc now in omega arith)) 0 0 false m.0.hands told refl m.1
             keeps
             (unseen shows o size slots id m w mine s r there held

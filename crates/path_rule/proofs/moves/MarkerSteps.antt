@@ -46,6 +46,7 @@ use Rattle.path_rule.specs.Lasts.{shown}
 use Rattle.path_rule.specs.Rule.{Ruled, start_of, view_after, with_hands}
 use Rattle.path_rule.specs.Told.{MadeAs, Made}
 use Rattle.path_rule.specs.TurnTold.{MarkerClaimed}
+use Rattle.path_rule.specs.Turns.{FoundRunning}
 use Rattle.path_core.specs.Holders.{behind_last}
 use Rattle.path_rule.proofs.boxes.HandsStay.{stamp_stays}
 use Rattle.path_rule.proofs.boxes.HolderBoxes.{boxed_goes}
@@ -53,6 +54,7 @@ use Rattle.path_rule.proofs.moves.HolderFacts.{has, outside, others_free, others
 use Rattle.path_rule.proofs.moves.Looks.{Owes, look_owes, within, each_seat_name}
 use Rattle.path_rule.proofs.moves.Moving.{core_lawful, known, was, plays}
 use Rattle.path_rule.proofs.moves.StepFacts.{claim_bars}
+use Rattle.path_rule.proofs.moves.SyncFacts.{turn_exact}
 use Rattle.path_rule.proofs.places.ReadBack.{rows_stay}
 use Rattle.path_rule.proofs.seats.HolderKnows.{still}
 
@@ -60,11 +62,12 @@ module _ {K : Type 0} (shows : K → Lasting) (o : Beside) (size : PathSize) (sl
     (Slot K) View)
     (w : ℕ) (mine : m.0.role ≡ Steps w) where
   pub claims_marker : (from to : ℕ) → IsTrue (is_some m.0.part.sync) → m.0.hands.box_taken ≡ None
+      → FoundRunning m.0.part
       → behind_last m.0.size.capacity m.0.hands.progress.marker < from
       → MovesLog Marker m.0.size.capacity m.0.size.ordinals from to
       → Allows (Ruled shows o size) slots id m 4 (λ n. either (eqb n from) to n)
       (MarkerClaimed (step slots 4 from to none) m)
-  claims_marker from to held empty moved moves s r _ there _ = let n = slice_index s.words 4 in
+  claims_marker from to held empty runs moved moves s r _ there _ = let n = slice_index s.words 4 in
       let x = r.core in let B = r.boxed in let found : n ≡ x.log = r.words Log tt in
       let then = MarkerClaimed (step slots 4 from to none) m n in
       exchanged n from to (λ z. Owes shows o size slots id m w mine s 4 z then)
@@ -78,6 +81,8 @@ module _ {K : Type 0} (shows : K → Lasting) (o : Beside) (size : PathSize) (sl
       let wide = ap (λ (q : PathSize). q.capacity) k ∙ sym z.capacity in
       let many = ap (λ (q : PathSize). q.ordinals) k ∙ sym z.ordinals in
       let stands : from ≡ x.log = sym hit ∙ found in
+      let running : x.stopped ≡ 0 = sym ((turn_exact shows o size slots id m w mine s r there runs.0
+      runs.1).stopped 0 runs.2) in
       let kept : last_kept x.claims ≡ m.0.hands.progress.marker =
       B.marked ∙ ap (λ (f : Progress). f.marker) (sym D.2) in
       let since : IsTrue (is_entry_last x) =
@@ -97,7 +102,7 @@ module _ {K : Type 0} (shows : K → Lasting) (o : Beside) (size : PathSize) (sl
         v',
         keeps,
         tt,
-        plays shows o size s r id w m.0 there mine e refl may tt tt tt
+        plays shows o size s r id w m.0 there mine e refl may tt running tt
             (rows_stay x e may (λ q. q) r.rows) to to false h refl refl m.1 keeps
             (boxed_goes shows size.seats x.notes (shown o size.at_open r.kept_to x) x.claims
             (next_of x e).claims x.append x.append s.homes s.views B id w m.0 v' there mine refl

@@ -11,7 +11,7 @@ use Rattle.path_core.specs.declared.seat.SyncTurn.{SyncTurn}
 use Rattle.path_rule.specs.declared.view.View.{View}
 use Rattle.path_rule.specs.Calls.{Holds}
 use Rattle.path_rule.specs.Layout.{tally_in}
-use Rattle.path_rule.specs.Turns.{TurnSaw, TurnOld, turn_groups}
+use Rattle.path_rule.specs.Turns.{FoundRunning, TurnSaw, TurnOld, turn_groups}
 
 pub the_turn : (p : Seat) → IsTrue (is_some p.sync) → (t : SyncTurn) × (p.sync ≡ Some t)
 the_turn p = by p.sync
@@ -67,6 +67,11 @@ pub saw_after : (f : SyncTurn → SyncTurn) (o : Order) (p q : Seat) (c : ℕ)
     → ((t : SyncTurn) → (turn_groups o (f t)).current ≡ (turn_groups o t).current)
     → q.sync ≡ option_map f p.sync → TurnSaw o p c → TurnSaw o q c
 saw_after f o p q c g sync (t, e, saw) = (f t, sync ∙ ap (option_map f) e, g t ∙ saw)
+
+pub runs_after : (f : SyncTurn → SyncTurn) (p q : Seat)
+    → ((t : SyncTurn) → (f t).stopped ≡ t.stopped) → q.sync ≡ option_map f p.sync
+    → FoundRunning p → FoundRunning q
+runs_after f p q g sync (t, e, runs) = (f t, sync ∙ ap (option_map f) e, g t ∙ runs)
 
 pub old_after : (f : SyncTurn → SyncTurn) (o : Order) (p q : Seat) (c : ℕ)
     → ((t : SyncTurn) → (turn_groups o (f t)).oldest ≡ (turn_groups o t).oldest)

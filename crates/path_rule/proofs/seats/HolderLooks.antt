@@ -14,7 +14,7 @@ use Rattle.path_rule.specs.declared.view.View.{View}
 use Rattle.path_rule.specs.Calls.{Holds}
 use Rattle.path_rule.specs.Layout.{tally_in}
 use Rattle.path_rule.specs.Rule.{view_after}
-use Rattle.path_rule.specs.Turns.{TurnSaw, TurnOld, TurnGone}
+use Rattle.path_rule.specs.Turns.{FoundRunning, TurnSaw, TurnOld, TurnGone}
 use Rattle.path_rule.proofs.seats.HolderKnows.{
   the_turn,
   marker_stays,
@@ -36,6 +36,11 @@ module _ (v : View) (w n : ℕ) where
       → TurnSaw o (view_after v (Look w (Current o)) n false).part n
   current_saw Write h = let t = the_turn v.part h in (_, ap (option_map _) t.1, refl)
   current_saw Append h = let t = the_turn v.part h in (_, ap (option_map _) t.1, refl)
+
+  pub current_runs : (o : Order) → FoundRunning v.part
+      → FoundRunning (view_after v (Look w (Current o)) n false).part
+  current_runs Write r = (_, ap (option_map _) r.1, r.2)
+  current_runs Append r = (_, ap (option_map _) r.1, r.2)
 
   pub oldest_held : (o : Order) (i : Issue) → Holds i v
       → Holds i (view_after v (Look w (Oldest o)) n false)

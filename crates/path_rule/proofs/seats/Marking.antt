@@ -40,9 +40,9 @@ use Rattle.path_rule.specs.Marks.{HasMarked}
 use Rattle.path_rule.specs.Rounds.{WroteBelow}
 use Rattle.path_rule.specs.Rule.{Was, start_of, view_after, with_hands}
 use Rattle.path_rule.specs.SyncAnswers.{marker_start}
-use Rattle.path_rule.specs.Turns.{KeepsCurrent, MarkerWaits, IsBarred, TurnSaw}
+use Rattle.path_rule.specs.Turns.{FoundRunning, KeepsCurrent, MarkerWaits, IsBarred, TurnSaw}
 use Rattle.path_rule.proofs.log.OwnWrites.{wrote_below, below_log, below_marker}
-use Rattle.path_rule.proofs.seats.HolderKnows.{saw_after, the_turn}
+use Rattle.path_rule.proofs.seats.HolderKnows.{runs_after, saw_after, the_turn}
 use Rattle.path_rule.proofs.seats.RoundsGo.{one_as, still_wrote}
 
 -- where the log does not stand above the key behind the last marker
@@ -81,6 +81,16 @@ marked_keeps u after w from to D =
     (Claim w (record { 0 = from }) (record { 0 = to }) Marker) to false in
     λ k saw. subst (λ (z : View). TurnSaw Append z.part k) (sym D.view)
     (saw_after (marker_claimed w from) Append u.part v.part k (λ t. refl) refl saw)
+
+-- and that the log runs
+pub marked_runs : (u after : View) (w from to : ℕ) → DidAs u w (Claim w (record { 0 = from })
+    (record { 0 = to }) Marker) to (with_marker w from u.hands) after
+    → FoundRunning u.part → FoundRunning after.part
+marked_runs u after w from to D runs =
+    let v = view_after (with_hands (with_marker w from u.hands) u)
+    (Claim w (record { 0 = from }) (record { 0 = to }) Marker) to false in
+    subst (λ (z : View). FoundRunning z.part) (sym D.view)
+    (runs_after (marker_claimed w from) u.part v.part (λ t. refl) refl runs)
 
 -- Each log key that a seat had found lies at or below one that it finds.
 pub rises_to : (v : View) (w n : ℕ) (was : Was v w (Look w Log)) → was.core.log ≡ n → (key : ℕ)

@@ -3,7 +3,7 @@ use Rattle.op_core.specs.declared.count.Order.TheVariants.{Append}
 use Rattle.path_rule.specs.declared.view.View.{View}
 use Rattle.path_rule.specs.Rounds.{RoundSteps}
 use Rattle.path_rule.specs.SyncAnswers.{Answers}
-use Rattle.path_rule.specs.Turns.{MarkerWaits, TurnSaw}
+use Rattle.path_rule.specs.Turns.{FoundRunning, MarkerWaits, TurnSaw}
 use Rattle.path_rule.proofs.log.Marks.{behind_above}
 use Rattle.path_rule.proofs.seats.Answering.{answers_after}
 use Rattle.path_rule.proofs.seats.Reaching.{reaches_less}
@@ -64,3 +64,7 @@ pub returns-clause-reaches : goal.returns-clause-reaches
 returns-clause-reaches g c = let E = c.end_round in let capacity = c.args.self.now.size.capacity in
     reaches_less capacity c.args.start _ E.result.1 (behind_above capacity c.args.start)
     E.ensures.reaches
+
+pub marker_barrier-holder-requires-clause-runs : goal.marker_barrier-holder-requires-clause-runs
+marker_barrier-holder-requires-clause-runs g c = subst (λ (v : View). FoundRunning v.part)
+    (sym c.progress-member.ensures.same.1) c.requires.runs

@@ -1,4 +1,4 @@
-use Rattle.std.proofs.Common.{◌+◌, [], refl, ◌∙◌, arith}
+use Rattle.std.proofs.Common.{◌≡◌, suc, ◌+◌, false, List, [], ◌∷◌, refl, ap, ◌∙◌, arith}
 use Rattle.op_core.specs.declared.count.Order.TheVariants.{Write}
 use Rattle.path_core.specs.declared.event.Event.TheVariants.{
   Look,
@@ -7,6 +7,10 @@ use Rattle.path_core.specs.declared.event.Event.TheVariants.{
   Expire,
 }
 use Rattle.path_core.specs.declared.event.Place.TheVariants.{Current}
+use Rattle.path_rule.specs.declared.view.OwnStep.{OwnStep}
+use Rattle.path_rule.specs.declared.view.View.{View}
+use Rattle.path_rule.specs.Calls.{acts}
+use Rattle.path_rule.proofs.seats.BarrierIssues.{issues}
 use Rattle.path_rule.proofs.seats.RoundsGo.{one, next}
 use Rattle.path_rule.proofs.table.PathTable.barrier.Goals as goal
 
@@ -44,3 +48,35 @@ returns-clause-issued g c = let S = c.seek_current-current.ensures in
     λ t f waits. c.advance_to-holder.ensures.stages t ∙ (c.expire_write.ensures.stages t
     ∙ c.move_write.ensures.issued t f
     (c.open_write.ensures.stages t ∙ (S.stages t ∙ waits)))
+
+pub returns-then-current-eq-LAST_GROUP-clause-issues :
+    goal.returns-then-current-eq-LAST_GROUP-clause-issues
+returns-then-current-eq-LAST_GROUP-clause-issues g c =
+    ap (λ (v : View). acts v.trail) c.seek_current-current.ensures.step.view
+
+pub returns-clause-issues : goal.returns-clause-issues
+returns-clause-issues g c =
+    let w = c.args.holder.member.number in let S = c.seek_current-current in
+    let cur = S.result in let O = c.open_write in let M = c.move_write in
+    let E = c.expire_write in let o = O.ensures.same.1 ∙ S.ensures.same.1 in
+    let m = M.ensures.same.1 ∙ o in let more : cur + 1 ≡ suc cur = omega arith in
+    issues Write w cur
+    (record { event = MoveCurrent O.new.member.number Write (cur + 1); found = cur; filed = false })
+    (record { event = Expire M.new.member.number Write cur; found = E.result; filed = false })
+    (record {
+      event = OpenGroup S.new.member.number Write (cur + 1);
+      found = 0;
+      filed = false;
+    } ∷ record { event = Look w (Current Write); found = cur; filed = false } ∷ [])
+    c.advance_to-holder.ensures.steps.steps (λ i. MoveCurrent (o i) Write (more i))
+    (λ i. Expire (m i) Write cur)
+    _ O.new.member.seat.me.0 M.new.member.seat.me.0 E.new.member.seat.me.0 _
+    (ap (λ (v : View). v.trail) O.ensures.step.view
+    ∙ ap (λ (l : List OwnStep). record {
+      event = OpenGroup S.new.member.number Write (cur + 1);
+      found = 0;
+      filed = false;
+    } ∷ l) (ap (λ (v : View). v.trail) S.ensures.step.view))
+    (ap (λ (v : View). v.trail) M.ensures.step.view)
+    (ap (λ (v : View). v.trail) E.ensures.step.view)
+    c.advance_to-holder.ensures.steps.trail

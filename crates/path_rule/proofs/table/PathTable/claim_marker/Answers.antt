@@ -14,7 +14,7 @@ compare_exchange-requires g c = let t = c.args.self.now in let m = c.args.member
       omega arith,
       claims_marker (shows_of g.K.Keeper.holds) o k t.table.shared.table_id.slots
           m.seat.id m.seat.me m.number m.role c.args.from c.args.to c.requires.turn.0
-          c.requires.turn.1
+          c.requires.turn.1 c.requires.runs
           c.requires.entry c.requires.moves,
     )
 

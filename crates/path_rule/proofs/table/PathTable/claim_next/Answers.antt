@@ -8,7 +8,7 @@ use Rattle.path_rule.specs.HandsAfter.{with_marker}
 use Rattle.path_rule.specs.Lasts.{shows_of}
 use Rattle.path_rule.specs.Marks.{HasMarked}
 use Rattle.path_rule.specs.Rounds.{RoundSteps}
-use Rattle.path_rule.specs.Turns.{MarkerWaits, TurnSaw}
+use Rattle.path_rule.specs.Turns.{FoundRunning, MarkerWaits, TurnSaw}
 use Rattle.path_rule.proofs.seats.Reaching.{found_on}
 use Rattle.path_rule.proofs.seats.RoundsGo.{next}
 use Rattle.path_rule.proofs.table.PathTable.claim_next.Goals as goal
@@ -68,5 +68,10 @@ loop-preserved g c = let I = c.loop.invariant in let C = c.claim_once.ensures in
   steps = next c.args.member.number _ [] [] _ _ _ I.number I.steps C.steps;
   give = C.give;
   current = λ k saw. C.current k (I.current k saw);
+  runs = C.runs;
   hands = c.in-Moved.ensures.claim ∙ I.hands;
 }
+
+pub returns-in-Claimed-clause-runs : goal.returns-in-Claimed-clause-runs
+returns-in-Claimed-clause-runs g c = subst (λ (u : View). FoundRunning u.part)
+    (sym c.note_progress.ensures.same.1) c.claim_once.ensures.runs

@@ -2,7 +2,7 @@ use Rattle.std.proofs.Common.{◌≡◌, []}
 use Rattle.op_core.specs.declared.count.Order.TheVariants.{Append}
 use Rattle.path_rule.specs.Calls.{MayGive}
 use Rattle.path_rule.specs.Rounds.{RoundSteps}
-use Rattle.path_rule.specs.Turns.{KeepsCurrent}
+use Rattle.path_rule.specs.Turns.{FoundRunning, KeepsCurrent}
 use Rattle.path_rule.proofs.table.PathTable.claim_next.Given as goal
 
 abbrev pub invariant-loop : goal.invariant-loop
@@ -15,5 +15,6 @@ invariant-loop g l = record {
   steps : RoundSteps l.initial.member.number [] l.initial.member.seat.me.0 l.member.seat.me.0;
   give : MayGive l.member.seat.me.0;
   current : KeepsCurrent Append l.initial.member.seat.me.0.part l.member.seat.me.0.part;
+  runs : FoundRunning l.member.seat.me.0.part;
   hands : l.member.seat.me.0.hands ≡ l.initial.member.seat.me.0.hands;
 }

@@ -1,11 +1,12 @@
-use Rattle.std.proofs.Common.{[], is_some, refl, ap, ◌∙◌, subst}
+use Rattle.std.proofs.Common.{[], is_some, refl, sym, ap, ◌∙◌, subst}
 use Rattle.path_core.specs.declared.event.ClaimKind.TheVariants.{Marker}
 use Rattle.path_core.specs.declared.event.Event.TheVariants.{Look, Claim}
 use Rattle.path_core.specs.declared.event.Place.TheVariants.{Log}
 use Rattle.path_rule.specs.declared.view.View.{View}
 use Rattle.path_rule.specs.HandsAfter.{with_marker}
 use Rattle.path_rule.specs.Marks.{HasMarked}
-use Rattle.path_rule.proofs.seats.Marking.{log_keeps, marked, marked_keeps}
+use Rattle.path_rule.specs.Turns.{FoundRunning}
+use Rattle.path_rule.proofs.seats.Marking.{log_keeps, marked, marked_keeps, marked_runs}
 use Rattle.path_rule.proofs.seats.Reaching.{found_on}
 use Rattle.path_rule.proofs.seats.RoundsGo.{one, one_as, next}
 use Rattle.path_rule.proofs.table.PathTable.claim_once.Goals as goal
@@ -64,3 +65,25 @@ returns-else-claim_marker-from-clause-steps g c =
     next w _ [] [] _ _ _ L.ensures.same.1 (one w (Look w Log) L.result _ _ refl L.ensures.step)
     (one _ (Look _ Log) c.claim_marker.result _ _ refl
     (c.claim_marker.ensures.miss c.if-claim_marker-from.false))
+
+pub claim_marker-requires-clause-runs : goal.claim_marker-requires-clause-runs
+claim_marker-requires-clause-runs g c =
+    subst (λ (v : View). FoundRunning v.part) (sym c.look_log-from.ensures.step.view)
+    c.requires.runs
+
+pub returns-then-not-is_entry_since-clause-runs : goal.returns-then-not-is_entry_since-clause-runs
+returns-then-not-is_entry_since-clause-runs g c =
+    subst (λ (v : View). FoundRunning v.part) (sym c.look_log-from.ensures.step.view)
+    c.requires.runs
+
+pub returns-then-claim_marker-from-clause-runs : goal.returns-then-claim_marker-from-clause-runs
+returns-then-claim_marker-from-clause-runs g c = let L = c.look_log-from in
+    marked_runs _ _ _ L.result c.key_behind_marker-to.result
+    (c.claim_marker.ensures.hit c.if-claim_marker-from.true)
+    (subst (λ (v : View). FoundRunning v.part) (sym L.ensures.step.view) c.requires.runs)
+
+pub returns-else-claim_marker-from-clause-runs : goal.returns-else-claim_marker-from-clause-runs
+returns-else-claim_marker-from-clause-runs g c = let L = c.look_log-from in
+    subst (λ (v : View). FoundRunning v.part)
+    (sym (c.claim_marker.ensures.miss c.if-claim_marker-from.false).view)
+    (subst (λ (v : View). FoundRunning v.part) (sym L.ensures.step.view) c.requires.runs)

@@ -1,4 +1,5 @@
-use Rattle.std.proofs.Common.{Some, refl, sym, subst, arith}
+use Rattle.std.proofs.Common.{Some, refl, sym, ap, ◌∙◌, subst, arith}
+use Rattle.std.proofs.lemmas.Option.{none-some}
 use Rattle.path_core.specs.declared.seat.SyncTurn.{SyncTurn}
 use Rattle.path_rule.specs.Calls.{MayGive}
 use Rattle.path_rule.proofs.seats.MayGives.{gives_still}
@@ -23,3 +24,10 @@ returns-then-now-gt0-clause-looked g c = let L = c.look_stopped-now in
 pub returns-else-now-gt0-clause-looked : goal.returns-else-now-gt0-clause-looked
 returns-else-now-gt0-clause-looked g c = let L = c.look_stopped-now in
     (L.result, L.ensures.step, let none = c.if-now-gt0.false in omega (arith, none))
+
+pub returns-then-now-gt0-clause-runs : goal.returns-then-now-gt0-clause-runs
+returns-then-now-gt0-clause-runs g c = λ none. absurd (none-some _ (sym none))
+
+pub returns-else-now-gt0-clause-runs : goal.returns-else-now-gt0-clause-runs
+returns-else-now-gt0-clause-runs g c = let T = c.look_stopped-now.ensures.turn in
+    λ _. (T.0, T.1, T.2 ∙ ap Some (let none = c.if-now-gt0.false in omega (arith, none)))

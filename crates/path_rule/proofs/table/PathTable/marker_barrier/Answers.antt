@@ -1,7 +1,9 @@
-use Rattle.std.proofs.Common.{◌+◌, [], refl, ap, ◌∙◌, arith}
+use Rattle.std.proofs.Common.{◌≡◌, suc, ◌+◌, false, [], ◌∷◌, refl, ap, ◌∙◌, arith}
 use Rattle.op_core.specs.declared.count.Order.TheVariants.{Append}
 use Rattle.path_core.specs.declared.event.Event.TheVariants.{OpenGroup, MoveCurrent, Expire}
+use Rattle.path_rule.specs.declared.view.View.{View}
 use Rattle.path_rule.specs.HandsAfter.{issued_hands}
+use Rattle.path_rule.proofs.seats.BarrierIssues.{issues}
 use Rattle.path_rule.proofs.seats.RoundsGo.{one, one_as, next}
 use Rattle.path_rule.proofs.table.PathTable.marker_barrier.Goals as goal
 
@@ -25,3 +27,24 @@ returns-clause-steps g c =
     (one w (OpenGroup w Append (cur + 1)) 0 _ _ refl O.step)
     (one_as _ (MoveCurrent _ Append (cur + 1)) cur _ _ _ refl M.step))
     (one _ (Expire _ Append cur) E.result _ _ refl E.ensures.step)) A.steps
+
+pub returns-clause-issues : goal.returns-clause-issues
+returns-clause-issues g c =
+    let w = c.args.holder.member.number in let cur = c.args.current in let O = c.open_append in
+    let M = c.move_append in let E = c.expire_append in
+    let m = M.ensures.same.1 ∙ O.ensures.same.1 in let more : cur + 1 ≡ suc cur = omega arith in
+    issues Append w cur
+    (record {
+      event = MoveCurrent O.new.member.number Append (cur + 1);
+      found = cur;
+      filed = false;
+    })
+    (record { event = Expire M.new.member.number Append cur; found = E.result; filed = false })
+    (record { event = OpenGroup w Append (cur + 1); found = 0; filed = false } ∷ [])
+    c.advance_to.ensures.steps.steps (λ i. MoveCurrent (O.ensures.same.1 i) Append (more i))
+    (λ i. Expire (m i) Append cur)
+    _ O.new.member.seat.me.0 M.new.member.seat.me.0 E.new.member.seat.me.0 _
+    (ap (λ (v : View). v.trail) O.ensures.step.view)
+    (ap (λ (v : View). v.trail) M.ensures.step.view)
+    (ap (λ (v : View). v.trail) E.ensures.step.view)
+    c.advance_to.ensures.steps.trail

@@ -18,6 +18,7 @@ use Rattle.path_rule.proofs.seats.Reaching.{
   reaches_less,
 }
 use Rattle.path_rule.proofs.seats.RoundsGo.{one, next, from}
+use Rattle.path_rule.proofs.seats.Staying.{none_is}
 use Rattle.path_rule.proofs.table.PathTable.new_round.Goals as goal
 
 pub returns-then-is_some-clause-answer : goal.returns-then-is_some-clause-answer
@@ -125,3 +126,8 @@ returns-clause-reaches g c =
     (one _ (Look _ (Current Append)) S.result _ _ refl S.ensures.step) in
     λ key F. reaches_less c.args.self.now.size.capacity key c.in-Some.start B.result.1
     (marked.rises key (found_on w [] _ _ Log key before F)) B.ensures.reaches
+
+pub claim_next-member-requires-clause-runs : goal.claim_next-member-requires-clause-runs
+claim_next-member-requires-clause-runs g c = let H = c.look_halted-halted in
+    c.seek_current-current.ensures.runs (H.ensures.runs (none_is H.result
+    (sym c.is_some.ensures ∙ c.if-is_some.false)))

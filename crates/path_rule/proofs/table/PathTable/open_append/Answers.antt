@@ -20,7 +20,7 @@ store-requires g c = let t = c.args.self.now in let m = c.args.member.now in
       opens_append (shows_of g.K.Keeper.holds) o k t.table.shared.table_id.slots m.seat.id m.seat.me
           m.number m.role c.args.group c.args.current c.requires.marker.0 c.requires.marker.1
           c.requires.turn.0.held c.requires.turn.0.issue c.requires.turn.1 c.requires.turn.2
-          c.requires.turn.0.empty c.requires.turn.3,
+          c.requires.turn.0.empty c.requires.runs c.requires.turn.3,
     )
 
 pub invariant_of-member : goal.invariant_of-member

@@ -5,7 +5,7 @@ use Rattle.path_core.specs.Parts.{marker_of}
 use Rattle.path_core.specs.Parts.{stage_of}
 use Rattle.path_rule.specs.declared.view.View.{View}
 use Rattle.path_rule.specs.Calls.{Holds}
-use Rattle.path_rule.specs.Turns.{TurnSaw}
+use Rattle.path_rule.specs.Turns.{FoundRunning, TurnSaw}
 use Rattle.path_rule.proofs.moves.Looks.{looks_at}
 use Rattle.path_rule.proofs.moves.StepFacts.{current_below}
 use Rattle.path_rule.proofs.places.SamePlace.{in_rows}
@@ -82,3 +82,10 @@ returns-clause-stages g c = let m = c.args.member.now in
     c.current_word.ensures in
     λ t. ap (λ (v : View). stage_of v.part t) q.0.0.0
     ∙ current_stages m.seat.me.0 m.number c.load.result c.args.order t
+
+pub returns-clause-runs : goal.returns-clause-runs
+returns-clause-runs g c = let m = c.args.member.now in
+    let q = c.load.ensures.2 m.number (Current c.args.order) m.role tt
+    c.current_word.ensures in
+    λ runs. subst (λ (z : View). FoundRunning z.part) (sym q.0.0.0)
+    (know.current_runs m.seat.me.0 m.number c.load.result c.args.order runs)

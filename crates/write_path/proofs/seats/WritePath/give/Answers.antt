@@ -1,20 +1,4 @@
-use Rattle.std.proofs.Common.{ℕ, List, refl, ap, ◌∙◌}
-use Rattle.atomic_table.specs.Table.{rest}
-use Rattle.path_core.specs.declared.event.Event.TheVariants.{GiveTurn}
-use Rattle.path_core.specs.declared.event.Turn.TheVariants.{Sync}
-use Rattle.path_rule.specs.declared.slot.Slot.{Slot}
-use Rattle.path_rule.specs.declared.view.View.{View}
-use Rattle.path_rule.specs.HandsAfter.{unswept_hands}
-use Rattle.path_rule.proofs.seats.RoundsGo.{one_as}
 use Rattle.write_path.proofs.seats.WritePath.give.Goals as goal
 
-pub invariant_of-result : goal.invariant_of-result
-invariant_of-result g c = let m = c.args.seat.member in let d = c.give_sync.ensures.step in
-    let r = (one_as m.number (GiveTurn m.number Sync) 0 (unswept_hands m.seat.me.0.hands)
-    m.seat.me.0 c.give_sync.new.member.seat.me.0 refl d).rests c.args.seat.rests in record {
-      idle = r.idle;
-      unclaimed = r.unclaimed;
-      free = record { sync = ap (λ (v : View). v.part.sync) d.view; flush = r.flush };
-      bare = c.give_sync.ensures.same.2
-          ∙ ap (λ (l : List (ℕ × Slot g.row.K.Denot)). rest l) c.requires.desk.1;
-    }
+pub give_flush_turn-requires-clause-holds : goal.give_flush_turn-requires-clause-holds
+give_flush_turn-requires-clause-holds g c = c.args.seat.flushes c.in-Flush.table c.in-Flush.is
