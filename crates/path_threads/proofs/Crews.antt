@@ -10,6 +10,7 @@ use Rattle.std.proofs.Common.{
   ◌++◌,
   map,
   length,
+  take,
   get_or,
   Some,
   None,
@@ -21,7 +22,6 @@ use Rattle.std.proofs.Common.{
   arith,
   append_assoc,
 }
-use Rattle.std.specs.List.{All}
 use Rattle.std.specs.Option.{option_map_or}
 use Rattle.std.proofs.lemmas.List.{map-append}
 use Rattle.atomic_table.specs.Seated.{TableId}
@@ -31,6 +31,13 @@ use Rattle.path_rule.specs.Members.{IsOf}
 use Rattle.write_path.specs.Opened.{numbers_of}
 use Rattle.path_threads.specs.declared.worker.Worker.{Worker}
 use Rattle.path_threads.specs.Crews.{IsSeated, number_of}
+
+-- what a slice of a whole list is written back to
+pub written_back : {A : Type 0} (n : ℕ) (xs ys : List A) → n ≡ length xs → take n (xs ++ ys) ≡ xs
+written_back n [] ys is = ap (λ (k : ℕ). take k ys) is
+written_back {A} n (x ∷ xs) ys is =
+    ap (λ (k : ℕ). take k (x ∷ (xs ++ ys))) is
+    ∙ ap (λ (l : List A). x ∷ l) (written_back (length xs) xs ys refl)
 
 module _ {K : Type 0} where
   -- Writers whose numbers are the same one by one have the same numbers.

@@ -1,11 +1,22 @@
 //! All seats of a path are lent to threads, one to each, and come back.
 ghost use Rattle.std.specs.Prelude.{◌≡◌, IfOk};
-ghost use Rattle.path_threads.specs.Crews.{AreCrew, IsSeated, IsSizedAs, number_of};
+ghost use Rattle.atomic_table.specs.Seated.{TableId};
+ghost use Rattle.path_rule.specs.declared.view.PathSize.{PathSize};
+ghost use Rattle.path_threads.specs.Crews.{
+  AreCrew,
+  AreReady,
+  AreWrites,
+  IsSeated,
+  IsSizedAs,
+  number_of,
+};
 ghost use Rattle.write_path.specs.Closed.{AreOf};
 ghost use Rattle.write_path.specs.Opened.{AreNew, numbers_of};
 ghost use Rattle.std.specs.List.{range_with_len};
 
-use crate::worker::{Answered, Plan, Worker, commit_lines};
+use crate::plan::Plan;
+use crate::preparing::prepare_share;
+use crate::worker::{Worker, commit_share};
 use clog_base::{OutOfMemory, Sizes};
 use path_core::Keeper;
 use std::alloc::Global;
@@ -27,44 +38,34 @@ pub fn crew_of<K: Keeper + Drop>(
 {
     let mut workers = Vec::new(alloc);
     for seat in seats {
-        workers.push(Worker {
-            seat: Some(seat),
-            answered: Answered::new(),
-            receipts: Vec::new(alloc),
-        })?;
+        workers.push(Worker::new(alloc, seat))?;
     }
     Ok(workers)
 }
 
-/// Each writer commits its lines in a thread of its own, where one can be started.
-pub fn commit_all<R: Threads + Wait + Sync, K: Keeper + Send>(
+/// Each writer prepares its writes in a thread of its own, where one can be started.
+pub fn prepare_all<R: Threads + Sync, K: Keeper + Send>(
     rt: &R,
     alloc: Global,
-    path: &WritePath<K, Global>,
     sizes: Sizes,
     plan: Plan,
     workers: &mut [Worker<K>],
 )
-    requires tables { sizes.tables ≡ 16 }
-    requires sized { IsSizedAs path.now.table.size sizes }
-    requires crew { AreCrew path.now.table.table.shared.table_id path.now.table.size workers.old }
-    ensures { AreCrew path.now.table.table.shared.table_id path.now.table.size workers.new }
+    requires { sizes.tables ≡ 16 }
+    ensures { (id : TableId) (size : PathSize) → AreCrew id size workers.old
+        → AreReady id size sizes workers.new }
 {
     thread::for_each_mut(
         rt,
         workers,
         64,
         &|place, worker: &mut Worker<K>|
-            requires { (sizes.tables ≡ 16) × IsSizedAs path.now.table.size sizes
-                × IsSeated path.now.table.table.shared.table_id path.now.table.size worker.old }
-            ensures { IsSeated path.entry.now.table.table.shared.table_id
-                path.entry.now.table.size worker.new
-                × (number_of worker.new ≡ number_of worker.old) }
+            requires { sizes.tables ≡ 16 }
+            ensures { (worker.new.seat ≡ worker.old.seat)
+                × AreWrites sizes worker.new.writes.items }
         {
-            commit_lines(
-                rt,
+            prepare_share(
                 alloc,
-                path,
                 sizes,
                 plan,
                 u32::try_from(place).unwrap_or(u32::MAX),
@@ -74,12 +75,42 @@ pub fn commit_all<R: Threads + Wait + Sync, K: Keeper + Send>(
     );
 }
 
+/// Each writer commits its writes in a thread of its own, where one can be started.
+pub fn commit_all<R: Threads + Wait + Sync, K: Keeper + Send>(
+    rt: &R,
+    alloc: Global,
+    path: &WritePath<K, Global>,
+    sizes: Sizes,
+    plan: Plan,
+    workers: &mut [Worker<K>],
+)
+    requires sized { IsSizedAs path.now.table.size sizes }
+    requires ready { AreReady path.now.table.table.shared.table_id path.now.table.size sizes
+        workers.old }
+    ensures { AreCrew path.now.table.table.shared.table_id path.now.table.size workers.new }
+{
+    thread::for_each_mut(
+        rt,
+        workers,
+        64,
+        &|_place, worker: &mut Worker<K>|
+            requires { IsSizedAs path.now.table.size sizes
+                × AreWrites sizes worker.old.writes.items
+                × IsSeated path.now.table.table.shared.table_id path.now.table.size worker.old }
+            ensures { IsSeated path.entry.now.table.table.shared.table_id
+                path.entry.now.table.size worker.new
+                × (number_of worker.new ≡ number_of worker.old) }
+        { commit_share(rt, alloc, path, sizes, plan, worker) },
+    );
+}
+
 // The seat that a writer had.
 fn seat_of<K>(worker: Worker<K>) -> Option<PathSeat<K>>
     ensures { result ≡ worker.seat }
 {
     let Worker {
         seat,
+        writes: _,
         answered: _,
         receipts: _,
     } = worker;

@@ -1,141 +1,151 @@
 //! Writers in threads of their own commit to one path over a store. When all have ended the path is
 //! closed, and what the store made lasting is checked: each line stands there once, at the position
-//! that its commit answered, each writer's in order, and no range of the log lies within another;
-//! and the disk is read again, with an entry at each of these positions and no other.
+//! that its commit answered, each writer's in order, and no range of the log lies within another.
+//! The disk is read again, with an entry at each of these positions and no other, and so are its
+//! sections, each of which begins behind its marker and ends with an entry.
 //!
-//! With no words the disks are in memory, and the counts of all runs are printed. `WRITERS LINES`
-//! times periodic commits over a disk in memory, and `batch WRITERS LINES` commits in batch mode
-//! over the folder `commitlog` below the current one.
+//! With no words the disks are in memory, and the counts of all runs are printed, and before them
+//! what two commits of one writer leave, to the byte. Words ask for one run that is timed:
+//!
+//! - `periodic WRITERS LINES SYNC_AFTER`: over a store whose disk drops its bytes, where each
+//!   writer syncs behind so many of its lines each time.
+//! - `folder WRITERS LINES`: in batch mode, over the folder `commitlog` below the current one.
+//! - `memory WRITERS LINES TURNS`: in batch mode, over a disk in memory, where other threads are
+//!   let run so often before each sync.
 #![tactic(auto)]
 
+mod answered;
 mod crew;
+mod dropping;
+mod plan;
+mod preparing;
 mod recorder;
 mod rereading;
 mod running;
+mod sections;
+mod stores;
 mod tally;
+mod timing;
+mod two_commits;
 mod worker;
 
+use answered::Answered;
 use anyhow::{Result, bail};
-use clog_disk::{Disk, FolderDisk, MemDisk};
-use running::{Ran, check_run, run_writers};
+use clog_disk::{FolderDisk, MemDisk};
+use plan::{Payload, Plan};
 use std::alloc::Global;
 use std::env;
 use std::io::Print;
 use std::sync::Wait;
 use std::thread::Threads;
-use std::time::{Clock, Instant};
+use std::time::Clock;
+use stores::{check_run, run_recorded};
 use sync_core::SyncCore;
-use worker::{Answered, Plan, prepare_lines};
+use timing::{batch_run, time_runs};
+use two_commits::print_commits;
 
-/// The lines of each writer of a run in memory, in periodic mode and in batch mode.
-const PERIODIC_LINES: u32 = 1000;
+/// The lines of each writer of a run in memory.
+const LINES: u32 = 10_000;
 
-const BATCH_LINES: u32 = 200;
+/// How often other threads are let run before a sync in batch mode. The 640,000 commits of 64
+/// writers took 20,000 to 35,000 syncs so, of 65,535 that a path has groups for. More turns take
+/// more time.
+const TURNS: u8 = 8;
 
-// Prints what a run in memory came to.
-fn print_run<R: Print>(rt: &R, name: &str, writers: u8, ran: &Ran) -> Result<()> {
+/// The bytes of a segment in memory.
+const SMALL: u32 = 4096;
+
+// A writer's periodic commits. It syncs seldom enough that a path, which has groups for 65,535
+// syncs, has one for each of 64 writers.
+fn periodic(payload: Payload, lines: u32, sync_after: u32) -> Plan {
+    Plan {
+        mode: SyncCore::periodic(10),
+        payload,
+        capacity: SMALL,
+        lines,
+        sync_after,
+        turns: 0,
+    }
+}
+
+// A writer's commits in batch mode.
+fn batch(payload: Payload, lines: u32) -> Plan {
+    Plan {
+        mode: SyncCore::batch(),
+        payload,
+        capacity: SMALL,
+        lines,
+        sync_after: 0,
+        turns: TURNS,
+    }
+}
+
+// Runs writers over a disk in memory, checks what they left, and prints what that came to.
+fn count_run<R: Threads + Wait + Clock + Print + Sync>(
+    rt: &R,
+    alloc: Global,
+    name: &str,
+    writers: u8,
+    plan: Plan,
+) -> Result<()> {
+    let disk = MemDisk::new(alloc);
+    let (mut ran, mut lent, store) = run_recorded(rt, alloc, disk, writers, plan)?;
+    let (entries, _disk) = check_run(rt, alloc, &mut ran, &mut lent, store, writers, plan)?;
     let Answered {
         logged,
         durable,
-        refused,
         ..
     } = ran.answered;
     print!(rt; "{name}, {writers} writers: {logged} logged, {durable} durable, ")?;
-    println!(rt; "{refused} refused, {} lasting", ran.lent.rows.len())?;
+    println!(rt;
+        "{} lasting, {entries} entries on the disk",
+        lent.rows.len()
+    )?;
     Ok(())
 }
 
-// Runs 2, 8 and 64 writers in both modes, and prints their counts.
+// Two commits in both modes, and then runs of 2, 8 and 64 writers.
 fn count_runs<R: Threads + Wait + Clock + Print + Sync>(rt: &R, alloc: Global) -> Result<()> {
-    let (mut receipts, mut entries, mut unsynced) = (0usize, 0u64, 0u32);
-    // In batch mode nothing is synced but by the commits, so there may be as many syncs as commits,
-    // and a path has groups for 65,535 of them.
-    for (name, mode, lines, sync_after) in [
-        ("periodic", SyncCore::periodic(10), PERIODIC_LINES, 16),
-        ("batch", SyncCore::batch(), BATCH_LINES, 0),
-    ] {
-        let plan = Plan {
-            capacity: 4096,
-            lines,
-            sync_after,
-        };
-        for writers in [2u8, 8, 64] {
-            let disk = MemDisk::new(alloc);
-            let (mut ran, store) = run_writers(rt, alloc, disk, writers, mode, plan)?;
-            let is_batch = sync_after == 0;
-            let count = check_run(rt, alloc, &mut ran, store, writers, plan.lines, is_batch)?;
-            print_run(rt, name, writers, &ran)?;
-            receipts = receipts.saturating_add(ran.receipts.len());
-            entries = entries.saturating_add(count);
-            unsynced = unsynced.saturating_add(ran.answered.unsynced);
-        }
+    print_commits(rt, alloc, batch(Payload::OneUpdate, 2))?;
+    print_commits(rt, alloc, periodic(Payload::OneUpdate, 2, 2))?;
+    for writers in [2u8, 8, 64] {
+        let plan = periodic(Payload::TwoTables, LINES, 16);
+        count_run(rt, alloc, "periodic", writers, plan)?;
     }
-    println!(rt; "{receipts} receipts, each of its row; {unsynced} unsynced")?;
-    println!(rt; "{entries} entries on the disks, each at its receipt's position")?;
+    for writers in [2u8, 8, 64] {
+        let plan = batch(Payload::TwoTables, LINES);
+        count_run(rt, alloc, "batch", writers, plan)?;
+    }
     Ok(())
 }
 
-// Times periodic commits of so many writers, and the preparing of their writes alone.
-fn time_runs<R: Threads + Wait + Clock + Print + Sync>(
-    rt: &R,
-    alloc: Global,
-    writers: u8,
-    lines: u32,
-) -> Result<()> {
-    let plan = Plan {
-        capacity: 33554432,
-        lines,
-        sync_after: 0,
-    };
-    let begun = Instant::now(rt)?;
-    prepare_lines(alloc, lines)?;
-    let alone = begun.elapsed(rt)?.as_nanos();
-    let disk = MemDisk::new(alloc);
-    let (ran, _store) = run_writers(rt, alloc, disk, writers, SyncCore::periodic(10), plan)?;
-    let count = u128::from(lines).max(1);
-    let all = count.saturating_mul(u128::from(writers).max(1));
-    println!(rt; "preparing a write: {} ns", alone / count)?;
-    println!(rt;
-        "preparing and committing one of the lines of all {writers} writers: {} ns",
-        ran.nanos / all
-    )?;
-    Ok(())
+// What is run with numbers.
+#[derive(Clone, Copy, PartialEq, Eq)]
+enum Kind {
+    // Periodic commits, which are timed.
+    Periodic,
+    // Commits in batch mode over a folder.
+    Folder,
+    // The same over a disk in memory.
+    Memory,
 }
 
-// Commits in batch mode over a disk, and prints how many commits had a sync together.
-fn batch_run<R: Threads + Wait + Clock + Print + Sync, D: Disk + Send + Drop>(
-    rt: &R,
-    alloc: Global,
-    disk: D,
-    writers: u8,
-    lines: u32,
-) -> Result<()> {
-    let plan = Plan {
-        capacity: 33554432,
-        lines,
-        sync_after: 0,
-    };
-    let (mut ran, store) = run_writers(rt, alloc, disk, writers, SyncCore::batch(), plan)?;
-    let commits = check_run(rt, alloc, &mut ran, store, writers, lines, true)?;
-    let syncs = ran.lent.syncs;
-    let tenths = commits.saturating_mul(10) / syncs.max(1);
-    println!(rt;
-        "{writers} writers: {commits} commits, {syncs} syncs, {}.{} commits a sync, {} us a commit",
-        tenths / 10,
-        tenths % 10,
-        ran.nanos / 1000 / u128::from(commits).max(1)
-    )?;
-    Ok(())
+fn kind_of(word: &str) -> Option<Kind> {
+    match word {
+        "periodic" => Some(Kind::Periodic),
+        "folder" => Some(Kind::Folder),
+        "memory" => Some(Kind::Memory),
+        _ => None,
+    }
 }
 
 fn main(rt: HostRuntime) -> Result<()> {
-    let mut is_batch = false;
+    let mut kind = None;
     let mut numbers = Vec::new(rt.alloc());
     for word in env::args(&rt)?.skip(1) {
-        if word.as_str() == "batch" && numbers.is_empty() && !is_batch {
-            is_batch = true;
-        } else {
-            numbers.push(word.parse::<u32>()?)?;
+        match kind_of(word.as_str()) {
+            Some(named) => kind = Some(named),
+            None => numbers.push(word.parse::<u32>()?)?,
         }
     }
     let Ok(for_disk) = rt.clone() else {
@@ -143,12 +153,18 @@ fn main(rt: HostRuntime) -> Result<()> {
     };
     let alloc = rt.alloc();
     match *numbers.as_slice() {
-        [] => count_runs(&rt, alloc),
-        [writers, lines] if is_batch => {
+        [] if kind.is_none() => count_runs(&rt, alloc),
+        [writers, lines] if kind == Some(Kind::Folder) => {
             let disk = FolderDisk::for_writing(for_disk);
-            batch_run(&rt, alloc, disk, u8::try_from(writers)?, lines)
+            batch_run(&rt, alloc, disk, u8::try_from(writers)?, lines, 0)
         }
-        [writers, lines] => time_runs(&rt, alloc, u8::try_from(writers)?, lines),
-        _ => bail!("the words are none, or counts of writers and of lines, maybe behind `batch`"),
+        [writers, lines, turns] if kind == Some(Kind::Memory) => {
+            let (writers, turns) = (u8::try_from(writers)?, u8::try_from(turns)?);
+            batch_run(&rt, alloc, MemDisk::new(alloc), writers, lines, turns)
+        }
+        [writers, lines, sync_after] if kind == Some(Kind::Periodic) => {
+            time_runs(&rt, alloc, u8::try_from(writers)?, lines, sync_after)
+        }
+        _ => bail!("no words, or `periodic` or `memory` and 3 numbers, or `folder` and 2"),
     }
 }

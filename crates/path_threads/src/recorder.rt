@@ -1,9 +1,11 @@
-//! A keeper that records what it made lasting, and how often it was called for that.
+//! A keeper that records what it made lasting, and how often it was called for that. Before each
+//! sync it lets other threads run, as a keeper over a slow disk would.
 ghost use Rattle.std.specs.Prelude.{◌≡◌};
 
 use clog_base::{Key, Table};
 use clog_cells::CellMap;
 use path_core::{EntryNote, Keeper, KeeperFault};
+use std::thread::yield_now;
 
 /// An entry that was made lasting.
 #[derive(Clone, Copy, Debug, PartialEq, Eq)]
@@ -35,16 +37,19 @@ pub struct Lent {
 pub struct Recorder<K> {
     keeper: K,
     lent: Lent,
+    /// How often other threads are let run before each sync.
+    turns: u8,
 }
 
 impl<K> Recorder<K> {
-    /// A recorder over a keeper.
-    pub fn new(keeper: K, rows: Vec<Row>) -> Recorder<K>
+    /// A recorder over a keeper, which lets other threads run so often before each sync.
+    pub fn new(keeper: K, rows: Vec<Row>, turns: u8) -> Recorder<K>
         ensures { result.keeper ≡ keeper }
     {
         Recorder {
             keeper,
             lent: Lent { rows, syncs: 0 },
+            turns,
         }
     }
 
@@ -52,7 +57,11 @@ impl<K> Recorder<K> {
     pub fn into_parts(self) -> (K, Lent)
         ensures { result.0 ≡ self.keeper }
     {
-        let Recorder { keeper, lent } = self;
+        let Recorder {
+            keeper,
+            lent,
+            turns: _,
+        } = self;
         (keeper, lent)
     }
 }
@@ -74,10 +83,18 @@ fn add_rows(rows: &mut Vec<Row>, pending: &[EntryNote], upto: Key, sync: u64) {
     }
 }
 
+// Lets other threads run, so often.
+fn let_others_run(turns: u8) {
+    for _ in 0..turns {
+        yield_now();
+    }
+}
+
 impl<K: Keeper> Keeper for Recorder<K> {
     ghost holds = { λ r. K.holds r.keeper };
 
     fn sync(&mut self, pending: &mut Vec<EntryNote>, upto: Key) -> Result<(), KeeperFault> {
+        let_others_run(self.turns);
         let before = self.lent.rows.len();
         self.lent.syncs = self.lent.syncs.saturating_add(1);
         let number = self.lent.syncs;

@@ -1,37 +1,70 @@
-//! The disk of a store is read again: it has as many entries as were made lasting, and they end
-//! where the commits were answered.
+//! The disk of a store is read again: it has as many entries as were made lasting, they end where
+//! the commits were answered, and its sections are of these.
+use crate::plan::Plan;
+use crate::sections::{Entry, check_sections, sections_in};
 use anyhow::{Result, bail};
 use clog_base::Position;
 use clog_disk::Disk;
-use clog_folder::{SegmentHeld, read_folder};
+use clog_folder::{Folder, SegmentHeld, read_folder};
 use clog_io::OpenGate;
+use clog_scan::Found;
 use replay_merge::replay;
 use std::alloc::Global;
 use std::thread::Threads;
 use write_path::Receipt;
 
-// Adds where each entry of a segment ends.
-fn add_ends(ends: &mut Vec<Position>, held: &SegmentHeld) -> Result<()> {
+/// What a disk has.
+pub fn folder_on<D: Disk>(alloc: Global, disk: &mut D) -> Result<Folder> {
+    match read_folder(alloc, disk, false) {
+        Ok(folder) => Ok(folder),
+        Err(_) => bail!("the disk is not read again"),
+    }
+}
+
+// Adds an entry for each that was found in a segment, by the receipts of which it takes the next.
+fn add_entries(entries: &mut Vec<Entry>, held: &SegmentHeld, receipts: &[Receipt]) -> Result<()> {
     for found in held.entries.as_slice() {
-        ends.push(Position {
-            id: held.id,
-            offset: found.end,
-        })?;
+        let Some(receipt) = receipts.get(entries.len()) else {
+            bail!("more entries than receipts");
+        };
+        entries.push(entry_of(held.id, *found, receipt)?)?;
     }
     Ok(())
 }
 
-// Where the entries of a disk's segments end, by position.
-fn ends_on<D: Disk>(alloc: Global, disk: &mut D) -> Result<Vec<Position>> {
-    let folder = match read_folder(alloc, disk, false) {
-        Ok(folder) => folder,
-        Err(_) => bail!("the disk is not read again"),
+// The entry that was found in the segment of an id, where the receipt is of it.
+fn entry_of(id: u64, found: Found, receipt: &Receipt) -> Result<Entry> {
+    let end = Position {
+        id,
+        offset: found.end,
     };
-    let mut ends = Vec::new(alloc);
-    for held in folder.segments.as_slice() {
-        add_ends(&mut ends, held)?;
+    if receipt.position != end {
+        bail!("line {} does not stand on the disk", receipt.line);
     }
-    Ok(ends)
+    Ok(Entry {
+        id,
+        start: found.start,
+        end: found.end,
+        line: receipt.line,
+    })
+}
+
+/// The entries of a folder, in order, each with its receipt, whose position is its end. There are
+/// as many receipts, which are in the order of their positions then.
+pub fn entries_in(
+    alloc: Global,
+    folder: &Folder,
+    receipts: &mut Vec<Receipt>,
+) -> Result<Vec<Entry>> {
+    receipts.sort_unstable_by_key(|receipt| receipt.position);
+    let mut entries = Vec::new(alloc);
+    for held in folder.segments.as_slice() {
+        add_entries(&mut entries, held, receipts.as_slice())?;
+    }
+    if entries.len() != receipts.len() {
+        bail!("{} entries of {} receipts", entries.len(), receipts.len());
+    }
+    Ok(entries)
 }
 
 // How many entries a disk is replayed with.
@@ -42,25 +75,25 @@ fn replayed_on<R: Threads + Sync, D: Disk>(rt: &R, alloc: Global, disk: &mut D) 
     }
 }
 
-/// Reads a disk again: it is replayed with one entry for each receipt, and each receipt's position
-/// is the end of one. Answers how many there are; the receipts are in the order of their positions
-/// then.
+/// Reads a disk again: it is replayed with one entry for each receipt, each receipt's position is
+/// the end of one, and they stand in sections without a gap. Answers how many there are; the
+/// receipts are in the order of their positions then.
 pub fn read_again<R: Threads + Sync, D: Disk>(
     rt: &R,
     alloc: Global,
     disk: &mut D,
     receipts: &mut Vec<Receipt>,
+    writers: u8,
+    plan: Plan,
 ) -> Result<u64> {
-    let entries = replayed_on(rt, alloc, disk)?;
-    let ends = ends_on(alloc, disk)?;
-    if entries != receipts.len() as u64 || ends.len() != receipts.len() {
-        bail!("{entries} entries of {} receipts", receipts.len());
+    let replayed = replayed_on(rt, alloc, disk)?;
+    let folder = folder_on(alloc, disk)?;
+    let entries = entries_in(alloc, &folder, receipts)?;
+    let sections = sections_in(alloc, &folder)?;
+    let is_batch = plan.is_batch();
+    check_sections(sections.as_slice(), entries.as_slice(), writers, is_batch)?;
+    if replayed != entries.len() as u64 {
+        bail!("{replayed} entries are replayed of {}", entries.len());
     }
-    receipts.sort_unstable_by_key(|receipt| receipt.position);
-    for (receipt, end) in receipts.iter().zip(ends.as_slice()) {
-        if receipt.position != *end {
-            bail!("line {} does not stand on the disk", receipt.line);
-        }
-    }
-    Ok(entries)
+    Ok(replayed)
 }

@@ -1,5 +1,6 @@
 //! What a run of writers left is counted: each line once, by the receipt of its commit, each
 //! writer's in order, and no range within another.
+use crate::plan::{Plan, writer_of};
 use crate::recorder::Row;
 use anyhow::{Result, bail};
 use clog_base::{Key, Position};
@@ -64,9 +65,7 @@ fn check_writer(rows: &[Row], writer: u8, writers: u8, is_batch: bool) -> Result
             bail!("line {} of writer {writer} shares a sync", row.line);
         }
         sync = row.sync;
-        if row.line <= last
-            || row.line.wrapping_sub(1) % u32::from(writers).max(1) != u32::from(writer)
-        {
+        if row.line <= last || writer_of(row.line, writers) != u32::from(writer) {
             bail!("line {} of writer {writer} behind {last}", row.line);
         }
         last = row.line;
@@ -74,21 +73,20 @@ fn check_writer(rows: &[Row], writer: u8, writers: u8, is_batch: bool) -> Result
     Ok(())
 }
 
-/// Checks what was made lasting by so many writers of so many lines each, and by which receipts; in
-/// batch mode no two entries of a writer by one sync. The first segment has the id `base`.
+/// Checks what was made lasting by so many writers by a plan, and by which receipts; in batch mode
+/// no two entries of a writer by one sync. The first segment has the id `base`.
 pub fn check(
     rows: &mut Vec<Row>,
     receipts: &mut Vec<Receipt>,
     base: u32,
     writers: u8,
-    lines: u32,
-    is_batch: bool,
+    plan: Plan,
 ) -> Result<()> {
-    check_lines(rows, u32::from(writers).wrapping_mul(lines))?;
+    check_lines(rows, u32::from(writers).wrapping_mul(plan.lines))?;
     check_receipts(rows.as_slice(), receipts, base)?;
     check_ranges(rows)?;
     for writer in 0..writers {
-        check_writer(rows.as_slice(), writer, writers, is_batch)?;
+        check_writer(rows.as_slice(), writer, writers, plan.is_batch())?;
     }
     Ok(())
 }

@@ -1,4 +1,4 @@
-use Rattle.std.proofs.Common.{◌≡◌, ◌++◌, ◌∷◌, [], List, Some, map, length, refl, sym, ap, ◌∙◌}
+use Rattle.std.proofs.Common.{◌≡◌, ◌++◌, ◌∷◌, [], List, map, length, sym, ap, ◌∙◌}
 use Rattle.std.proofs.Common.{subst, arith}
 use Rattle.std.specs.List.{All, range_with_len}
 use Rattle.std.proofs.lemmas.List.{append-nil, nil_from_length}
@@ -15,7 +15,8 @@ loop-seat-init g c =
     let gives = c.into_iter-seat-iterator.ensures.into_iter_gives in
     let t = c.args.path.now.table in
     let none_yet = c.new-workers.ensures.items in record {
-      each = subst (λ (l : List (Worker g.row.K.Denot)). All (IsSeated t.table.shared.table_id t.size) l)
+      each = subst (λ (l : List (Worker g.row.K.Denot)).
+          All (IsSeated t.table.shared.table_id t.size) l)
           (sym none_yet) (All-nil (IsSeated t.table.shared.table_id t.size));
       left = subst (λ (l : List (PathSeat g.row.K.Denot)).
           All (IsNewSeat t.table.shared.table_id t.size) l) (sym gives.0) c.requires.each;
@@ -30,21 +31,17 @@ loop-seat-preserved g c =
     let t = c.args.path.now.table in
     let P = IsSeated t.table.shared.table_id t.size in
     let N = IsNewSeat t.table.shared.table_id t.size in
-    let left : All N (s ∷ rest) = subst (λ (r : List (PathSeat g.row.K.Denot)). All N r) steps.0 I.left
-    in
-    let w : Worker g.row.K.Denot = record {
-      seat = Some s;
-      answered = c.new.result;
-      receipts = c.new-in-loop-seat.result;
-    } in
+    let left : All N (s ∷ rest) =
+    subst (λ (r : List (PathSeat g.row.K.Denot)). All N r) steps.0 I.left in
+    let w = c.new.result in
     let pushed : c.push.new.self.items ≡ l.workers.items ++ w ∷ [] = c.in_ok-push.ensures.items
     in record {
       each = subst (λ (r : List (Worker g.row.K.Denot)). All P r) (sym pushed)
           (All-append P l.workers.items (w ∷ []) I.each
-          (All-cons P w [] (s, refl, (All-head N s rest left).of_path) (All-nil P)));
+          (All-cons P w [] (s, c.new.ensures, (All-head N s rest left).of_path) (All-nil P)));
       left = All-tail N s rest left;
       numbers = ap (λ (r : List (Worker g.row.K.Denot)). map number_of r ++ numbers_of rest) pushed
-          ∙ one_seated l.workers.items w s rest (range_with_len 0 t.size.seats) refl
+          ∙ one_seated l.workers.items w s rest (range_with_len 0 t.size.seats) c.new.ensures
           (ap (λ (r : List (PathSeat g.row.K.Denot)). map number_of l.workers.items ++ numbers_of r)
           (sym steps.0) ∙ I.numbers);
       count = let short = ap length steps.0 in omega (arith, short, steps.1, I.count);
@@ -58,6 +55,7 @@ returns g c =
     record {
       each = I.each;
       numbers = sym (append-nil (map number_of l.workers.items))
-          ∙ (ap (λ (r : List (PathSeat g.row.K.Denot)). map number_of l.workers.items ++ numbers_of r)
+          ∙ (ap (λ (r : List (PathSeat g.row.K.Denot)).
+          map number_of l.workers.items ++ numbers_of r)
           (sym none_left) ∙ I.numbers);
     }

@@ -19,7 +19,8 @@ loop-worker-init g c =
       each = subst (λ (l : List (PathSeat g.row.K.Denot)). AreOf t.table.shared.table_id t.size l)
           (sym none_yet) (All-nil (λ (s : PathSeat g.row.K.Denot).
           IsOf t.table.shared.table_id t.size s.member));
-      left = subst (λ (l : List (Worker g.row.K.Denot)). All (IsSeated t.table.shared.table_id t.size) l)
+      left = subst (λ (l : List (Worker g.row.K.Denot)).
+          All (IsSeated t.table.shared.table_id t.size) l)
           (sym gives.0) c.requires.each;
       numbers = (λ i. numbers_of (none_yet i) ++ map number_of (gives.0 i)) ∙ c.requires.numbers;
       count = let items = ap length gives.0 in omega (arith, items, gives.1, c.args.workers.ok);
@@ -33,7 +34,8 @@ loop-worker-preserved-in-Continue-1 g c =
     let rest = c.next.new.self.rest.items in let t = c.args.path.now.table in
     let P = IsSeated t.table.shared.table_id t.size in
     let Q : PathSeat g.row.K.Denot → Type 0 = λ s. IsOf t.table.shared.table_id t.size s.member in
-    let left : All P (w ∷ rest) = subst (λ (r : List (Worker g.row.K.Denot)). All P r) steps.0 I.left in
+    let left : All P (w ∷ rest) =
+    subst (λ (r : List (Worker g.row.K.Denot)). All P r) steps.0 I.left in
     let pushed : c.push.new.self.items ≡ l.seats.items ++ s ∷ [] = c.in_ok-push.ensures.items in
     record {
       each = subst (λ (r : List (PathSeat g.row.K.Denot)). All Q r) (sym pushed)
@@ -41,10 +43,11 @@ loop-worker-preserved-in-Continue-1 g c =
           (All-cons Q s [] (seat_in t.table.shared.table_id t.size w s (All-head P w rest left)
           is) (All-nil Q)));
       left = All-tail P w rest left;
-      numbers = ap (λ (r : List (PathSeat g.row.K.Denot)). numbers_of r ++ map number_of rest) pushed
+      numbers = ap (λ (r : List (PathSeat g.row.K.Denot)). numbers_of r ++ map number_of rest)
+          pushed
           ∙ one_back l.seats.items w s rest (range_with_len 0 t.size.seats) is
-          (ap (λ (r : List (Worker g.row.K.Denot)). numbers_of l.seats.items ++ map number_of r) (sym steps.0)
-          ∙ I.numbers);
+          (ap (λ (r : List (Worker g.row.K.Denot)). numbers_of l.seats.items ++ map number_of r)
+          (sym steps.0) ∙ I.numbers);
       count = let short = ap length steps.0 in omega (arith, short, steps.1, I.count);
     }
 
@@ -53,7 +56,8 @@ loop-worker-preserved g c = let l = c.loop-worker in let t = c.args.path.now.tab
     let P = IsSeated t.table.shared.table_id t.size in
     absurd (has_seat t.table.shared.table_id t.size c.in-Some.worker
     (All-head P c.in-Some.worker c.next.new.self.rest.items
-    (subst (λ (r : List (Worker g.row.K.Denot)). All P r) c.in-Some.ensures.steps.0 l.invariant.left))
+    (subst (λ (r : List (Worker g.row.K.Denot)). All P r) c.in-Some.ensures.steps.0
+    l.invariant.left))
     (sym c.seat_of.ensures ∙ c.in_default.is))
 
 pub returns : goal.returns
