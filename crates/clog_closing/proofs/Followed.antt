@@ -59,14 +59,14 @@ use Rattle.clog_crash.proofs.flush.NewFile.{one_place}
 use Rattle.clog_folder.specs.Segments.{IsTooLong}
 use Rattle.clog_store.specs.Filing.{AreRecoveryPuts}
 use Rattle.clog_store.specs.Named.{IsLateTable, id_limit}
-use Rattle.clog_store.specs.Opened.{CanBeOpened}
+use Rattle.clog_store.specs.Opened.{CanBeOpened, HasRoomFor}
 use Rattle.clog_applied.specs.Appended.{appended, entries_in}
 use Rattle.clog_applied.specs.Asked.{capacity_of}
 use Rattle.clog_applied.specs.Closed.{ClosedRun}
 use Rattle.clog_applied.specs.Onward.{ReachesNoFurther}
 use Rattle.clog_applied.proofs.Merged.{merge_kept, old_or_new}
 use Rattle.clog_applied.proofs.Opened.{older, table_is_no_segment}
-use Rattle.clog_closing.specs.NextNames.{HasRoomFor, HaveNextNames}
+use Rattle.clog_closing.specs.NextNames.{HaveNextNames}
 use Rattle.clog_closing.proofs.RoomFor.{none_late}
 
 -- a member of a range is below its end

@@ -1,3 +1,4 @@
+pub mod Apart
 pub mod Dropping
 pub mod Ends
 pub mod Entries

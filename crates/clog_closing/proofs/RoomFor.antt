@@ -37,10 +37,11 @@ use Rattle.clog_crash.proofs.OneMore.{bytes_of}
 use Rattle.clog_folder.proofs.Listed.{held_of}
 use Rattle.clog_store.specs.Filing.{AreRecoveryPuts}
 use Rattle.clog_store.specs.Named.{IsLateTable, sequence_limit}
+use Rattle.clog_store.specs.Opened.{HasRoomFor}
 use Rattle.clog_store.proofs.FolderReads.{absent_or_held}
 use Rattle.clog_applied.specs.Filed.{files_of, is_of}
 use Rattle.clog_applied.proofs.Lists.{kept_one, left_one}
-use Rattle.clog_closing.specs.NextNames.{HasRoomFor, HaveNextNames, HoldsSequence}
+use Rattle.clog_closing.specs.NextNames.{HaveNextNames, HoldsSequence}
 
 -- of numbers up to a bound it is absurd that none is next
 not_none : (P : ℕ → Type 0) (most : ℕ) → ((n : ℕ) → P n → n ≤ most)

@@ -1,3 +1,4 @@
+pub mod Gaps
 pub mod Logs
 pub mod NextNames
 pub mod Sequence

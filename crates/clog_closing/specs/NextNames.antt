@@ -4,8 +4,7 @@ use Rattle.clog_spec.specs.Names.{IsTableName}
 use Rattle.clog_base.specs.declared.cell.Table.{Table}
 use Rattle.clog_disk.specs.Files.{Files}
 use Rattle.clog_table.specs.declared.table_file.TableFile.{TableFile}
-use Rattle.clog_crash.specs.Folder.{HoldsName, IsBase, IsHeld}
-use Rattle.clog_store.specs.Named.{sequence_limit}
+use Rattle.clog_crash.specs.Folder.{HoldsName, IsBase}
 use Rattle.clog_applied.specs.Filed.{files_of}
 
 -- a file of the table has the sequence
@@ -19,9 +18,3 @@ HaveNextNames opened after files =
     (table : Table) (next n : ℕ) → IsBase (HoldsSequence opened table) 1 next
     → HoldsSequence after table n
     ↔ (HoldsSequence opened table n ⊎ ((next ≤ n) × (n < next + length (files_of table files))))
-
--- So many further files of each table have sequences within their limit.
-pub record HasRoomFor (files : Files) (count : ℕ) : Type 0 where
-  pub least : count ≤ sequence_limit
-  pub each : (name : List ℕ) (table sequence : ℕ) → IsTableName name table sequence
-      → IsHeld files name → sequence + count ≤ sequence_limit

@@ -7,6 +7,7 @@ ghost use Rattle.std.specs.Prelude.{
   ℕ,
   List,
   [],
+  ◌∷◌,
   map,
   Option,
   Some,
@@ -23,7 +24,7 @@ ghost use Rattle.clog_disk.specs.declared.change.Change.{Change};
 ghost use Rattle.clog_disk.specs.Files.{Files};
 ghost use Rattle.clog_scan.specs.Cut.{Section};
 ghost use Rattle.clog_scan.specs.Laws.{IsFile};
-ghost use Rattle.clog_spec.specs.Sizes.{file_limit};
+ghost use Rattle.clog_spec.specs.Sizes.{file_limit, greatest_capacity};
 ghost use Rattle.clog_mutation.specs.declared.mutation.Mutation.{Mutation};
 ghost use Rattle.clog_words.specs.declared.request.ApplyOptions.{ApplyOptions};
 ghost use Rattle.clog_crash.specs.Droppable.{IsDroppable};
@@ -47,7 +48,7 @@ ghost use Rattle.clog_store.specs.Notes.{places_of};
 ghost use Rattle.clog_store.specs.OnDisk.{file_on};
 ghost use Rattle.clog_store.specs.Filing.{AreRecoveryPuts};
 ghost use Rattle.clog_store.specs.Named.{id_limit};
-ghost use Rattle.clog_store.specs.Opened.{CanBeOpened, IsOpened, RecoversAll};
+ghost use Rattle.clog_store.specs.Opened.{CanBeOpened, HasRoomFor, IsOpened, RecoversAll};
 ghost use Rattle.clog_store.specs.StoreFolder.{Deeds, HoldsStore, StoreLog, no_deeds};
 ghost use Rattle.clog_applied.specs.Appended.{IsAppended, appended, entries_in};
 ghost use Rattle.clog_applied.specs.Asked.{capacity_of};
@@ -55,10 +56,12 @@ ghost use Rattle.clog_applied.specs.Closed.{ClosedRun, IsAnyFile, IsStoreLeft};
 ghost use Rattle.clog_applied.specs.Early.{AreInOrder};
 ghost use Rattle.clog_applied.specs.Filed.{FollowFrom, IsTrueFor, files_of, first_of};
 ghost use Rattle.clog_applied.specs.History.{LoggedLine};
+ghost use Rattle.clog_applied.specs.Log.{AreSyncedApart};
 ghost use Rattle.clog_applied.specs.Onward.{ReachesNoFurther};
 ghost use Rattle.clog_applied.specs.Opening.{IsOpening, IsRecoveryChange};
 ghost use Rattle.clog_layout.specs.Logged.{AreNotesOf};
-ghost use Rattle.clog_closing.specs.NextNames.{HasRoomFor, HaveNextNames};
+ghost use Rattle.clog_closing.specs.NextNames.{HaveNextNames};
+ghost use Rattle.clog_closing.specs.Gaps.{HasGap, StandApart};
 ghost use Rattle.clog_closing.specs.Logs.{AreStoredInOrder, written_ids};
 ghost use Rattle.clog_closing.specs.Sequence.{AreInSequence};
 ghost use Rattle.clog_closing.specs.Stores.{
@@ -110,6 +113,24 @@ pub fn logs_of_notes_are_appended()
         → placed_log past id sections ≡ places_of base notes → AreNotesOf base notes history
         → (i : ℕ) → Contains (written_ids (segments_with past id sections)) i
         → IsFile (appended changes i) }
+{}
+
+/// Entries of one section stand end to end. So where a marker parts each two entries of one writer
+/// in such a log, no section of what was appended holds two of them.
+pub fn entries_apart_are_in_two_sections()
+    // A marker of 8 bytes parts an entry that ends at 60 from one that starts at 68.
+    ensures gap { (a b : EntryNote) → a.end.0 ≡ 60 → b.start.0 ≡ 68
+        → HasGap 4096 (a ∷ b ∷ []) 60 68 }
+    // Another entry between two of them does not.
+    ensures filled { (a b c : EntryNote) → a.end.0 ≡ 60 → b.start.0 ≡ 60 → b.end.0 ≡ 92
+        → c.start.0 ≡ 92 → HasGap 4096 (a ∷ b ∷ c ∷ []) 60 92 → ⊥ }
+    ensures synced { (changes : List Change) (base : ℕ) (past : List Write) (id : ℕ)
+        (sections : List Section) (notes : List EntryNote) (history : List LoggedLine)
+        (capacity : ℕ) → IsGrown (appends_of changes) past id sections
+        → AreStoredInOrder (segments_with past id sections)
+        → placed_log past id sections ≡ places_of base notes → AreNotesOf base notes history
+        → capacity ≤ greatest_capacity → IsHistory capacity notes → StandApart capacity notes
+        → AreSyncedApart changes history }
 {}
 
 /// A table file that a keeper has put, and that has the merge of what its interval holds of the

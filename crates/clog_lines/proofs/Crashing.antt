@@ -136,11 +136,12 @@ module _ {D : Type 0} (files : D → Option Files) (changes : D → Option (List
         restores_said r mutations notes entries count (entries_in ws) in_all least enough image
         (shown ws goes_on none) le
 
-    pub leaves_lines : (least : ℕ) (archives drain : Bool) → least ≤ lasting_in b
-        → (wrote : HasBrought changes a.disk b.disk archives drain 1 mutations ws)
+    pub leaves_lines : (least base : ℕ) (archives drain : Bool) → least ≤ lasting_in b
+        → (wrote : HasBrought changes a.disk b.disk base archives drain 1 mutations ws)
         → (GoesBeyond wrote.added → length mutations ≤ lasting_in b)
-        → LeavesLines changes moment since leaves a.disk b.disk r archives drain mutations least
-    leaves_lines least archives drain le wrote full =
+        → LeavesLines changes moment since leaves a.disk b.disk r base archives drain mutations
+        least
+    leaves_lines least base archives drain le wrote full =
         let now = told in
         let shown = at_both (files b.disk) (read_at b.disk b.opened) (λ f q. (at : ℕ)
         → MayGoOnIn b.id b.sections at

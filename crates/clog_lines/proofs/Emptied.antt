@@ -62,6 +62,7 @@ use Rattle.clog_lines.proofs.Leaving.{
   in_order,
   is_a_history,
   lines,
+  none_passed,
   path,
   positions,
   tells_now,
@@ -135,7 +136,7 @@ module _ {D : Type 0} (files : D → Option Files) (changes : D → Option (List
       let said = (lines sizes first_id mutations ns out).notes in
       subst (λ (fs : List PutFile). ReachesNoFurther options first_id later
       (ids_in (log_of b.notes)) its (map (file_on first_id) fs)) (sym drained.by.files_are)
-      (reaches_drained sizes first_id out.raw ns out.laid
+      (reaches_drained sizes first_id ns (none_passed sizes first_id mutations ns out)
       (is_a_history sizes first_id mutations ns out) its said options its_path.lawful later
       (ids_in (log_of b.notes))
       (ids_rise later first_id l.past l.id l.sections ns its grows stands places said)

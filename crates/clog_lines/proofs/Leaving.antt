@@ -69,6 +69,7 @@ use Rattle.clog_applied.specs.Printed.{AreByLine, number_of}
 use Rattle.clog_layout.specs.Laid.{AreLaid}
 use Rattle.clog_layout.specs.Logged.{AreEntriesOf, AreLaidLines, AreNotesOf}
 use Rattle.clog_layout.proofs.Lines.{is_position, laid_lines, lawful}
+use Rattle.clog_layout.proofs.Reaching.{each_segment}
 use Rattle.clog_layout.proofs.Standing.{is_history}
 use Rattle.clog_closing.specs.Logs.{AreStoredInOrder, written_ids}
 use Rattle.clog_closing.proofs.Ends.{ends_with, ids_rise}
@@ -78,7 +79,7 @@ use Rattle.clog_closing.proofs.NextNames.{next_names}
 use Rattle.clog_closing.proofs.Tables.{note_of_line}
 use Rattle.clog_lines.specs.Written.{AreLaidFor, IsAskedBy, TellsWritten}
 use Rattle.clog_lines.proofs.Filing.{AreFilesFor, no_files}
-use Rattle.clog_lines.proofs.Reaches.{reaches}
+use Rattle.clog_lines.proofs.Reaches.{PassesNone, reaches}
 
 -- ---- the lines of laid notes, one by one
 
@@ -128,6 +129,11 @@ module _ (sizes : Sizes) (base : ℕ) (mutations : List Mutation) (laid : List E
   pub is_a_history : IsHistory sizes.capacity laid
   is_a_history =
       is_history sizes sizes.within.least_capacity sizes.within.greatest_capacity out.raw laid
+      out.laid
+
+  pub none_passed : PassesNone laid
+  none_passed =
+      each_segment sizes sizes.within.least_capacity sizes.within.greatest_capacity out.raw laid
       out.laid
 
   shares : (writers writer : ℕ) → writers ≡ 1 → writer < writers
@@ -275,7 +281,8 @@ module _ {D : Type 0} (files : D → Option Files) (changes : D → Option (List
               (history sizes base mutations b.notes.logged out) holds grows appended.alone stands
               places said.notes options.archive;
           undrained = λ none. (refl, refl);
-          reach = reaches sizes base out.raw b.notes.logged out.laid
+          reach = reaches sizes base b.notes.logged
+              (none_passed sizes base mutations b.notes.logged out)
               (is_a_history sizes base mutations b.notes.logged out) its said.notes options
               its_path.lawful later (written_ids ws)
               (ids_rise later base log.past log.id log.sections b.notes.logged its grows stands

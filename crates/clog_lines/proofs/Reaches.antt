@@ -1,4 +1,5 @@
--- How far a run of laid lines reaches: its segments, and the table files of a drain.
+-- How far a run of lines reaches that pass over no segment: its segments, and the table files of a
+-- drain.
 use Rattle.std.proofs.Common.{
   ◌≡◌,
   ℕ,
@@ -30,25 +31,29 @@ use Rattle.clog_table.specs.declared.table_file.TableFile.{TableFile}
 use Rattle.clog_words.specs.declared.request.ApplyOptions.{ApplyOptions}
 use Rattle.path_core.specs.declared.note.EntryNote.{EntryNote}
 use Rattle.path_core.specs.History.{IsHistory}
-use Rattle.path_core.specs.Keys.{first_offset}
 use Rattle.clog_store.specs.OnDisk.{file_on}
 use Rattle.clog_applied.specs.Appended.{appended}
 use Rattle.clog_applied.specs.Asked.{capacity_of}
 use Rattle.clog_applied.specs.Filed.{first_of}
 use Rattle.clog_applied.specs.History.{IsLawful, LoggedLine, logged_at}
 use Rattle.clog_applied.specs.Onward.{EndsNear, HasWholeLog, ReachesNoFurther}
-use Rattle.clog_layout.specs.Laid.{AreLaid, synced_to}
+use Rattle.clog_layout.specs.Laid.{synced_to}
 use Rattle.clog_layout.specs.Logged.{AreNotesOf}
 use Rattle.clog_layout.proofs.Lines.{is_position}
-use Rattle.clog_layout.proofs.Reaching.{each_segment, has_last, is_range}
+use Rattle.clog_layout.proofs.Reaching.{has_last, is_range}
 use Rattle.clog_closing.proofs.Tables.{line_of_note, note_of_line}
 use Rattle.clog_memtable.specs.declared.flushing.Memtable.{Memtable}
 use Rattle.clog_memtable.specs.Flushing.{file_of, files_of}
 use Rattle.clog_memtable.specs.Touched.{AreMemtablesOf}
 
-module _ (sizes : Sizes) (base : ℕ) (raw laid : List EntryNote)
-    (all_laid : AreLaid sizes first_offset 1 raw laid) (in_log : IsHistory sizes.capacity laid)
-    (its : List LoggedLine) (said : AreNotesOf base laid its) where
+-- the notes pass over no segment: in each one up to that in which a note begins, one begins
+abbrev pub PassesNone : List EntryNote → Type 0
+PassesNone notes = (n : EntryNote) → Contains notes n → (o : ℕ) → o ≤ ordinal_of n.start.0
+    → (m : EntryNote) × Contains notes m × (ordinal_of m.start.0 ≡ o)
+
+module _ (sizes : Sizes) (base : ℕ) (laid : List EntryNote) (none_passed : PassesNone laid)
+    (in_log : IsHistory sizes.capacity laid) (its : List LoggedLine)
+    (said : AreNotesOf base laid its) where
   -- a segment of a line is one of these, and each of these has a line, and ends with one
   abbrev pub EndWell : List Change → List ℕ → Type 0
   EndWell later ids =
@@ -70,8 +75,7 @@ module _ (sizes : Sizes) (base : ℕ) (raw laid : List EntryNote)
       down i listed k le up =
           let l = ends i listed in
           let n = note_of_line base laid its said l.0 l.1 in
-          let m = each_segment sizes sizes.within.least_capacity sizes.within.greatest_capacity
-          raw laid all_laid n.note n.listed (k - base) (omega (arith, n.is.id, l.2, le, up)) in
+          let m = none_passed n.note n.listed (k - base) (omega (arith, n.is.id, l.2, le, up)) in
           let w = line_of_note base laid its said m.0 m.1 in
           subst (λ (j : ℕ). Contains ids j) (omega (arith, w.is.id, m.2, le))
           (all w.line w.listed)

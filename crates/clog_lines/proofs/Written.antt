@@ -12,6 +12,7 @@ use Rattle.std.proofs.Common.{
   List,
   ◌++◌,
   length,
+  map,
   Option,
   Some,
   None,
@@ -56,6 +57,7 @@ use Rattle.clog_store.specs.StoreOrder.{AreSettled}
 use Rattle.clog_store.specs.Grows.{AreAppends, segments_with}
 use Rattle.clog_crash.specs.Grown.{appends_of}
 use Rattle.clog_crash.specs.Log.{Write}
+use Rattle.clog_store.proofs.NoteGrows.{rises_with}
 use Rattle.clog_lines.proofs.Brought.{written_by}
 use Rattle.clog_store.specs.StoreState.{
   AppendsAlone,
@@ -88,6 +90,7 @@ use Rattle.clog_lines.specs.Written.{
   HasWriteCause,
   IsAskedBy,
   LeavesLines,
+  SaysFirst,
   TellsWritten,
   least_of,
 }
@@ -99,6 +102,7 @@ use Rattle.clog_lines.proofs.Crashing.{as_many, leaves_lines, says}
 use Rattle.clog_lines.proofs.Dropped.{StoresAreLeft}
 use Rattle.clog_lines.proofs.Emptied.{tells_drained}
 use Rattle.clog_lines.proofs.Leaving.{tells_written}
+use Rattle.clog_lines.proofs.Showing.{payload_at, with_hand}
 use Rattle.clog_lines.proofs.Synced.{
   AreFirst,
   all_logged,
@@ -168,6 +172,10 @@ module _ {D : Type 0} (files : D → Option Files) (changes : D → Option (List
 
   pub its_disk : b.first ≡ a.notes.log.disk
   its_disk = first ∙ ap (λ (s : StoreState D). s.first) opens
+
+  -- the segment at hand
+  abbrev hand : Write
+  hand = record { id = b.notes.log.id; sections = b.notes.log.sections }
 
   abbrev ws : List Write
   ws = segments_with b.notes.log.past b.notes.log.id b.notes.log.sections
@@ -280,36 +288,62 @@ module _ {D : Type 0} (files : D → Option Files) (changes : D → Option (List
       (sound : IsSound b.notes.log) (mutations : List Mutation)
       (out : AreLaidFor a.notes.sizes mutations laid) where
     abbrev Brought : Type 0
-    Brought = HasBrought changes a.notes.log.disk b.notes.log.disk a.archives drain 1 mutations ws
+    Brought =
+        HasBrought changes a.notes.log.disk b.notes.log.disk a.notes.base a.archives drain 1
+        mutations ws
 
-    -- by these further changes
-    brought_by : (growth : HasGrown changes b.first b.notes.log)
+    -- by these further changes, in segments from the same base on
+    brought_by : b.notes.base ≡ a.notes.base → (growth : HasGrown changes b.first b.notes.log)
         → AreMadeFor a.archives drain 1 mutations growth.added → Brought
-    brought_by growth made_for = record {
+    brought_by same growth made_for = record {
       added = growth.added;
       changes_are = growth.changes_are
           ∙ ap (λ (x : D). option_map (λ made. made ++ growth.added) (changes x)) its_disk;
       made_for = made_for;
       brought = written_by b.notes.log growth.part (appends_of growth.added) growth.brought
           growth.grown;
+      rise = rises_with b.notes.log.past hand growth.grown.rise growth.grown.below;
+      above = λ w among. subst (λ (k : ℕ). k ≤ w.id) same (notes.from w among);
     }
+
+    -- what was shown of them says the first lines
+    says_first : AreFirst laid (Held b) notes.stands.shown → SaysFirst ws mutations
+    says_first first = record {
+      count = first.count;
+      says = ap (map payload_at) (with_hand b.notes.log.past b.notes.log.id b.notes.log.sections)
+          ∙ says a.notes.sizes mutations laid out b.notes.base b.notes.log.past b.notes.log.id
+          b.notes.log.sections first.count (b.notes.logged ++ take notes.stands.shown b.notes.kept)
+          notes.stands.all first.are;
+    }
+
+    pub says_of : {T : Type 0} (r : Result T KeeperFault)
+        → OnOk r (LogsAll (Held a) (Held b) laid drain)
+        → OnErr r (LogsPart (Held a) (Held b) laid drain) → SaysFirst ws mutations
+    says_of (Ok done) ok err =
+        says_first (first_logged (Held a) (Held b) laid ok.logged notes.stands.shown)
+    says_of (Err fault) ok err = elim err [
+      | inl refused ↦
+          says_first (first_refused a.notes.base a.notes.sizes (Held a) fresh mutations laid out
+          (Held b) refused notes.stands.shown)
+      | inr part ↦ says_first (first_logged (Held a) (Held b) laid part.1 notes.stands.shown)
+    ]
 
     -- appends alone, or all notes are logged
     abbrev IsBrought : Type 0
     IsBrought =
         (has : Brought) × (AreAppends has.added ⊎ HasLogged (Held a) (Held b) laid)
 
-    by_appends : HasNoDeeds (Held b) → IsBrought
+    by_appends : b.notes.base ≡ a.notes.base → HasNoDeeds (Held b) → IsBrought
     unfolding brought_by
-    by_appends none =
+    by_appends same none =
         let has = alone (none_done files changes moment faults code b none) in
-        (brought_by has.growth (inl has.alone), inl has.alone)
+        (brought_by same has.growth (inl has.alone), inl has.alone)
 
     by_drained : drain ≡ true → HasLogged (Held a) (Held b) laid
         → HasBegun (Held b) (synced_to laid) → Brought
     by_drained full logged begun =
         let archives : b.archives ≡ a.archives = ap (λ (o : Opening). o.archives) logged.opening_is
-        in brought_by ordered.growth (inr (
+        in brought_by logged.base_is ordered.growth (inr (
           full,
           subst (λ (x : Bool). HasGoneInOrder x 1 mutations ordered.growth.added) archives
               (has_gone changes b ordered notes sound logged.none_kept settled
@@ -336,9 +370,10 @@ module _ {D : Type 0} (files : D → Option Files) (changes : D → Option (List
             by_drain is ok.logged (begun_of_all (Held b) laid
             (subst (λ (d : Bool). IsDrainedAs d (Held b) laid) is ok.deeds))
         by_case false is =
-            by_appends (subst (λ (d : Bool). IsDrainedAs d (Held b) laid) is ok.deeds)
+            by_appends ok.logged.base_is
+            (subst (λ (d : Bool). IsDrainedAs d (Held b) laid) is ok.deeds)
     brought_of (Err fault) ok err = elim err [
-      | inl refused ↦ by_appends refused.no_deeds
+      | inl refused ↦ by_appends refused.base_is refused.no_deeds
       | inr part ↦ by_drain part.0 part.1 part.2
     ]
 
@@ -354,14 +389,14 @@ module _ {D : Type 0} (files : D → Option Files) (changes : D → Option (List
       (opened : Files) (out : AreLaidFor a.notes.sizes mutations laid)
       (is : files a.notes.log.disk ≡ Some opened)
       (lasted : lasted_at a.notes.log.disk a.notes.log.opened)
-      (has : HasBrought changes a.notes.log.disk b.notes.log.disk a.archives drain 1 mutations
-      ws)
+      (has : HasBrought changes a.notes.log.disk b.notes.log.disk a.notes.base a.archives drain 1
+      mutations ws)
       (made : AreAppends has.added ⊎ HasLogged (Held a) (Held b) laid)
     where
       abbrev Leaves : ℕ → Type 0
       Leaves least =
           LeavesLines changes moment since leaves a.notes.log.disk b.notes.log.disk
-          (bytes_at opened) a.archives drain mutations least
+          (bytes_at opened) a.notes.base a.archives drain mutations least
 
       living : LivesOn files moment since leaves read_at lasted_at a.notes.log b.notes.log
       living = on (lives lasted)
@@ -394,7 +429,7 @@ module _ {D : Type 0} (files : D → Option Files) (changes : D → Option (List
           (reads_now a.notes.log.disk) opened is mutations out.raw out.entries first.count
           (says a.notes.sizes mutations laid out b.notes.base b.notes.log.past b.notes.log.id
           b.notes.log.sections first.count (b.notes.logged ++ take notes.stands.shown b.notes.kept)
-          notes.stands.all first.are) least a.archives drain le has all_last
+          notes.stands.all first.are) least a.notes.base a.archives drain le has all_last
 
       shown_all : HasLogged (Held a) (Held b) laid → Leaves (length mutations)
       shown_all logged =

@@ -23,7 +23,7 @@ use Rattle.std.specs.Prelude.{
   Ok,
   Err,
 }
-use Rattle.std.specs.List.{flat_map}
+use Rattle.std.specs.List.{AllPairs, flat_map}
 use Rattle.clog_spec.specs.Names.{segment_name_of}
 use Rattle.clog_base.specs.declared.sizes.Sizes.{Sizes}
 use Rattle.clog_base.specs.Positions.{position_of}
@@ -109,21 +109,33 @@ abbrev pub AreMadeFor : Bool → Bool → ℕ → List Mutation → List Change 
 AreMadeFor archives drain writers mutations changes =
     AreAppends changes ⊎ ((drain ≡ true) × HasGoneInOrder archives writers mutations changes)
 
--- The appends among a disk's further changes since it was so have brought these segments. The
--- changes are those by which so many writers log the lines.
-pub record HasBrought {D : Type 0} (changes : D → Option (List Change)) (before now : D)
+-- The appends among a disk's further changes since it was so have brought these segments, in the
+-- order of their ids, which begin at a base. The changes are those by which so many writers log the
+-- lines.
+pub record HasBrought {D : Type 0} (changes : D → Option (List Change)) (before now : D) (base : ℕ)
     (archives drain : Bool) (writers : ℕ) (mutations : List Mutation) (log : List Write) : Type 0
   where
     pub added : List Change
     pub changes_are : changes now ≡ option_map (λ made. made ++ added) (changes before)
     pub made_for : AreMadeFor archives drain writers mutations added
     pub brought : IsWrittenBy (appends_of added) log
+    pub rise : AllPairs (λ (a b : Write). a.id < b.id) log
+    pub above : (w : Write) → Contains log w → base ≤ w.id
 
 -- Where a disk tells its files, no other name has come since than those of these segments, their
 -- archive names and table files.
 abbrev pub BringsOnly : {D : Type 0} → (D → Option Files) → D → D → List Write → Type 0
 BringsOnly files before now log = (opened after : Files) → files before ≡ Some opened
     → files now ≡ Some after → BringsNoOther (map id_of log) opened after
+
+-- The segments that were appended since a disk was so, which say the first of these lines, whatever
+-- was answered. No other names have come.
+pub record WritesLines {D : Type 0} (files : D → Option Files) (changes : D → Option (List Change))
+    (before now : D) (base : ℕ) (archives drain : Bool) (mutations : List Mutation) : Type 0 where
+  pub log : List Write
+  pub wrote : HasBrought changes before now base archives drain 1 mutations log
+  pub says : SaysFirst log mutations
+  pub only : BringsOnly files before now log
 
 -- one of the changes is no append
 pub record GoesBeyond (changes : List Change) : Type 0 where
@@ -136,11 +148,11 @@ pub record GoesBeyond (changes : List Change) : Type 0 where
 -- other lines than those that they say. Where the changes go beyond appends, all lines last.
 pub record LeavesLines {D : Type 0} (changes : D → Option (List Change)) (moment : D → ℕ)
     (since : D → ℕ → Files → Type 0) (leaves : D → List ℕ → Option (List ℕ) → Type 0)
-    (before now : D) (r : Reading) (archives drain : Bool) (mutations : List Mutation)
+    (before now : D) (r : Reading) (base : ℕ) (archives drain : Bool) (mutations : List Mutation)
     (least : ℕ) : Type 0
   where
     pub log : List Write
-    pub wrote : HasBrought changes before now archives drain 1 mutations log
+    pub wrote : HasBrought changes before now base archives drain 1 mutations log
     pub says : SaysFirst log mutations
     pub meanwhile : LeavesOnly moment since before now
         (λ image. NoChances log image → RestoresLines r (take says.count mutations) 0 image)

@@ -7,19 +7,17 @@ ghost use Rattle.clog_disk.specs.Images.{IsLater};
 ghost use Rattle.clog_mutation.specs.declared.mutation.Mutation.{Mutation};
 ghost use Rattle.clog_words.specs.declared.request.ApplyOptions.{ApplyOptions};
 ghost use Rattle.path_core.specs.Keys.{first_offset};
-ghost use Rattle.clog_crash.specs.Log.{Write};
 ghost use Rattle.clog_store.specs.Life.{Lives};
 ghost use Rattle.clog_store.specs.StoreFailed.{AllStay};
 ghost use Rattle.clog_store.specs.StoreState.{store_over};
 ghost use Rattle.clog_layout.specs.Laid.{end_behind};
 ghost use Rattle.clog_lines.specs.Written.{
   AreLaidFor,
-  BringsOnly,
-  HasBrought,
   HasWriteCause,
   IsAskedBy,
   LeavesLines,
   TellsWritten,
+  WritesLines,
   least_of,
 };
 
@@ -66,10 +64,11 @@ pub fn write_lines<D: Disk>(
         → D.files store.notes.log.disk ≡ Some opened
         → D.lasted_at store.notes.log.disk store.notes.log.opened
         → LeavesLines D.changes D.moment D.since D.leaves store.notes.log.disk result.0
-        (bytes_at opened) store.archives drain mutations (least_of result.1 mutations) }
+        (bytes_at opened) store.notes.base store.archives drain mutations
+        (least_of result.1 mutations) }
     ensures wrote { (mutations : List Mutation) → AreLaidFor store.notes.sizes mutations notes.items
-        → (log : List Write) × HasBrought D.changes store.notes.log.disk result.0 store.archives
-        drain 1 mutations log × BringsOnly D.files store.notes.log.disk result.0 log }
+        → WritesLines D.files D.changes store.notes.log.disk result.0 store.notes.base
+        store.archives drain mutations }
     ensures stay { (opened now : Files) → D.files store.notes.log.disk ≡ Some opened
         → D.files result.0 ≡ Some now → AllStay opened now }
     ensures told { SameTold (D.files store.notes.log.disk) (D.files result.0) }

@@ -2,6 +2,7 @@
 use Rattle.std.proofs.Common.{
   ◌≡◌,
   ℕ,
+  ◌≤◌,
   inl,
   inr,
   Bool,
@@ -27,6 +28,7 @@ use Rattle.path_core.specs.declared.note.EntryNote.{EntryNote}
 use Rattle.path_core.specs.Keeper.{Holding}
 use Rattle.clog_store.specs.Grows.{AreAppends, segments_with}
 use Rattle.clog_store.specs.NoteLog.{IsNoteLog}
+use Rattle.clog_store.proofs.NoteGrows.{rises_with}
 use Rattle.clog_store.specs.StoreFolder.{IsSound, log_of}
 use Rattle.clog_store.specs.StoreOrder.{AreSettled}
 use Rattle.clog_store.specs.StoreState.{
@@ -55,6 +57,7 @@ use Rattle.clog_lines.proofs.Begun.{
 use Rattle.clog_lines.proofs.Brought.{written_by}
 use Rattle.clog_lines.proofs.Synced.{none_done}
 use Rattle.clog_lines.proofs.Written.{told_of}
+use Rattle.write_path.specs.Closed.{PassesNoSegment}
 use Rattle.clog_writers.specs.Logged.{GoesOnAlone, HoldFirsts, HoldShares, LogsShares}
 use Rattle.clog_writers.proofs.LastEnd.{up_to_last}
 use Rattle.clog_writers.proofs.Leaving.{history, its_writer, lines, shares}
@@ -82,6 +85,9 @@ module _ {D : Type 0} (files : D → Option Files) (changes : D → Option (List
   pub its_disk : e.first ≡ a.notes.log.disk
   its_disk = first ∙ first_disk files changes moment faults coded a b opens alone
 
+  its_base : e.notes.base ≡ a.notes.base
+  its_base = ap (λ (h : Holding). h.base) keeps ∙ alone.base_is
+
   pub its_archives : e.archives ≡ a.archives
   its_archives = ap (λ (h : Holding). h.opening.archives) keeps ∙ alone.archives_are
 
@@ -92,6 +98,8 @@ module _ {D : Type 0} (files : D → Option Files) (changes : D → Option (List
     base_is = ap (λ (h : Holding). h.base) keeps ∙ logs.base_is;
     notes = subst (HoldShares sizes.capacity sizes.writers ms)
         (sym (ap (λ (h : Holding). h.logged) keeps)) logs.notes;
+    none_passed = subst PassesNoSegment (sym (ap (λ (h : Holding). h.logged) keeps))
+        logs.none_passed;
     none_kept = ap (λ (h : Holding). h.kept) keeps ∙ logs.none_kept;
   }
 
@@ -118,6 +126,10 @@ module _ {D : Type 0} (files : D → Option Files) (changes : D → Option (List
     )
   ]
 
+  -- the segment at hand
+  abbrev hand : Write
+  hand = record { id = e.notes.log.id; sections = e.notes.log.sections }
+
   abbrev pub ws : List Write
   ws = segments_with e.notes.log.past e.notes.log.id e.notes.log.sections
 
@@ -141,15 +153,18 @@ module _ {D : Type 0} (files : D → Option Files) (changes : D → Option (List
         (changes e.notes.log.disk) growth.added (tells a.notes.log.disk)
         (tells e.notes.log.disk) changed
 
-    brought_by : (archives drain : Bool) (writers : ℕ) (ms : List Mutation)
+    brought_by : IsNoteLog e.notes → (archives drain : Bool) (writers : ℕ) (ms : List Mutation)
         → AreMadeFor archives drain writers ms growth.added
-        → HasBrought changes a.notes.log.disk e.notes.log.disk archives drain writers ms ws
-    brought_by archives drain writers ms made_for = record {
+        → HasBrought changes a.notes.log.disk e.notes.log.disk a.notes.base archives drain writers
+        ms ws
+    brought_by notes archives drain writers ms made_for = record {
       added = growth.added;
       changes_are = changed;
       made_for = made_for;
       brought = written_by e.notes.log growth.part (appends_of growth.added) growth.brought
           growth.grown;
+      rise = rises_with e.notes.log.past hand growth.grown.rise growth.grown.below;
+      above = λ w among. subst (λ (k : ℕ). k ≤ w.id) its_base (notes.from w among);
     }
 
   -- ---- whatever was answered
@@ -160,7 +175,8 @@ module _ {D : Type 0} (files : D → Option Files) (changes : D → Option (List
       (ms : List Mutation) where
     abbrev pub Brings : Type 0
     Brings =
-        HasBrought changes a.notes.log.disk e.notes.log.disk a.archives drain sizes.writers ms ws
+        HasBrought changes a.notes.log.disk e.notes.log.disk a.notes.base a.archives drain
+        sizes.writers ms ws
 
     -- by appends alone, or all lines are logged
     abbrev pub IsBrought : Type 0
@@ -170,7 +186,7 @@ module _ {D : Type 0} (files : D → Option Files) (changes : D → Option (List
     unfolding brought_by
     by_appends none =
         let has = appends (none_done files changes moment faults coded.code e none) in (
-          brought_by has.growth a.archives drain sizes.writers ms (inl has.alone),
+          brought_by has.growth notes a.archives drain sizes.writers ms (inl has.alone),
           inl has.alone,
         )
 
@@ -202,7 +218,7 @@ module _ {D : Type 0} (files : D → Option Files) (changes : D → Option (List
     by_drain : drain ≡ true → LogsShares sizes base ms (Held e)
         → HasBegun (Held e) (synced_to e.notes.logged) → IsBrought
     by_drain full logs begun = (
-      brought_by ordered.growth a.archives drain sizes.writers ms (inr (
+      brought_by ordered.growth notes a.archives drain sizes.writers ms (inr (
         full,
         subst (λ (x : Bool). HasGoneInOrder x sizes.writers ms ordered.growth.added)
             its_archives (has_gone logs begun),

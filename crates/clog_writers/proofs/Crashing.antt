@@ -264,12 +264,12 @@ module _ {D : Type 0} (s : NoteState D) (is : IsNoteLog s)
       still = subst (lasted_at s.log.disk) (sym opened_is)
           ((later.lasted_then (moment first) (omega arith)).1 lasted)
 
-      pub leaves_shares : (archives drain : Bool) (least : ℕ) → least ≤ lasting_in s.log
-          → (wrote : HasBrought changes first s.log.disk archives drain writers ms ws)
+      pub leaves_shares : (base : ℕ) (archives drain : Bool) (least : ℕ) → least ≤ lasting_in s.log
+          → (wrote : HasBrought changes first s.log.disk base archives drain writers ms ws)
           → (GoesBeyond wrote.added → length ms ≤ lasting_in s.log)
-          → LeavesShares changes moment since leaves first s.log.disk r archives drain writers ms
-          least
-      leaves_shares archives drain least le wrote full =
+          → LeavesShares changes moment since leaves first s.log.disk r base archives drain writers
+          ms least
+      leaves_shares base archives drain least le wrote full =
           let Shown = HasShown r 0 s.log.past s.log.id s.log.sections in
           let then = at_both (files s.log.disk) (read_at s.log.disk s.log.opened) (λ f q.
           (at : ℕ) → MayGoOnIn s.log.id s.log.sections at

@@ -26,6 +26,8 @@ use Rattle.clog_disk.specs.Files.{Files}
 use Rattle.clog_mutation.specs.declared.mutation.Mutation.{Mutation}
 use Rattle.clog_words.specs.declared.request.ApplyOptions.{ApplyOptions}
 use Rattle.clog_crash.specs.Runs.{placed_log}
+use Rattle.sync_core.specs.declared.SyncCore.{SyncCore}
+use Rattle.sync_core.specs.declared.SyncCore.TheVariants.{Batch}
 use Rattle.path_core.specs.declared.note.EntryNote.{EntryNote}
 use Rattle.path_core.specs.Keeper.{Holding}
 use Rattle.clog_store.specs.NoteLog.{IsNoteLog}
@@ -38,6 +40,7 @@ use Rattle.clog_store.specs.StoreState.{
   StoreState,
   holding_of,
 }
+use Rattle.clog_closing.specs.Gaps.{StandApart}
 use Rattle.clog_lines.specs.Drained.{IsDrainedAs}
 use Rattle.clog_lines.proofs.Dropped.{StoresAreLeft}
 use Rattle.clog_lines.proofs.Synced.{none_done}
@@ -66,14 +69,15 @@ module _ {D : Type 0} (files : D → Option Files) (changes : D → Option (List
       (ap (λ (l : List EntryNote). e.notes.logged ++ l)
       (ap (take shown) logs.none_kept ∙ take-nil shown) ∙ append-nil e.notes.logged)
 
-  pub written : (drain : Bool) → IsDrainedAs drain Held e.notes.logged
-      → (options : ApplyOptions) → IsAskedBy options sizes e.archives drain
+  pub written : (mode : SyncCore) → (mode ≡ Batch → StandApart sizes.capacity e.notes.logged)
+      → (drain : Bool) → IsDrainedAs drain Held e.notes.logged
+      → (options : ApplyOptions) → IsAskedBy options sizes mode e.archives drain
       → (receipts : List Receipt) → AreAtTheirLines base e.notes.logged receipts
       → length receipts ≡ length ms → (opened : Files) (made : List Change)
       → files e.first ≡ Some opened → changes e.first ≡ Some made
       → TellsWrittenShares options base opened made (files e.notes.log.disk)
       (changes e.notes.log.disk) ms receipts
-  written drain done options asked receipts placed long opened made is made_is =
+  written mode apart drain done options asked receipts placed long opened made is made_is =
       subst (λ (k : ℕ). TellsWrittenShares options k opened made (files e.notes.log.disk)
       (changes e.notes.log.disk) ms receipts) logs.base_is (by drain done asked)
     where
@@ -82,14 +86,14 @@ module _ {D : Type 0} (files : D → Option Files) (changes : D → Option (List
           placed
 
       by : (d : Bool) → IsDrainedAs d Held e.notes.logged
-          → IsAskedBy options sizes e.archives d
+          → IsAskedBy options sizes mode e.archives d
           → TellsWrittenShares options e.notes.base opened made (files e.notes.log.disk)
           (changes e.notes.log.disk) ms receipts
       by true all its =
           tells_drained files changes tells e runs sound folder places options sizes ms logs.notes
-          receipts there long opened made is made_is notes logs.none_kept moment faults
-          code ordered law all its
+          logs.none_passed receipts there long opened made is made_is notes logs.none_kept moment
+          faults code ordered law all mode apart its
       by false none its =
           tells_alone files changes tells e runs sound folder places options sizes ms logs.notes
-          receipts there long opened made is made_is e.archives its
+          logs.none_passed receipts there long opened made is made_is mode apart e.archives its
           (none_done files changes moment faults code e none) appends

@@ -34,6 +34,8 @@ use Rattle.clog_table.specs.declared.table_file.TableFile.{TableFile}
 use Rattle.clog_words.specs.declared.request.ApplyOptions.{ApplyOptions}
 use Rattle.clog_crash.specs.Grown.{appends_of}
 use Rattle.clog_crash.specs.Runs.{placed_log}
+use Rattle.sync_core.specs.declared.SyncCore.{SyncCore}
+use Rattle.sync_core.specs.declared.SyncCore.TheVariants.{Batch}
 use Rattle.path_core.specs.declared.note.EntryNote.{EntryNote}
 use Rattle.clog_store.specs.NoteLog.{IsNoteLog}
 use Rattle.clog_store.specs.Notes.{places_of}
@@ -47,13 +49,17 @@ use Rattle.clog_store.specs.StoreState.{
   deeds_by,
   holding_of,
 }
+use Rattle.clog_applied.specs.Asked.{capacity_of}
 use Rattle.clog_applied.specs.Closed.{IsClosedPath, IsStoreLeft}
 use Rattle.clog_applied.specs.History.{IsLawful, LoggedLine, share_of, written_by}
+use Rattle.clog_applied.specs.Onward.{ReachesNoFurther}
 use Rattle.clog_layout.specs.Laid.{synced_to}
 use Rattle.clog_layout.specs.Logged.{AreNotesOf}
 use Rattle.clog_layout.proofs.Lines.{are_notes, lawful, lines_for}
 use Rattle.clog_closing.specs.Stores.{dropped_ids, files_by, ids_in}
 use Rattle.clog_closing.specs.NextNames.{HaveNextNames}
+use Rattle.clog_closing.specs.Gaps.{StandApart}
+use Rattle.clog_closing.proofs.Apart.{synced_apart}
 use Rattle.clog_closing.proofs.LogAlone.{is_left}
 use Rattle.clog_closing.proofs.NextNames.{next_names}
 use Rattle.clog_closing.proofs.Tables.{note_of_line}
@@ -62,6 +68,7 @@ use Rattle.clog_lines.proofs.Dropped.{StoresAreLeft, store_files, store_left}
 use Rattle.clog_lines.proofs.Filing.{AreFileable, AreFilesFor, no_files}
 use Rattle.clog_lines.proofs.Leaving.{all_brought, in_order, tells_now}
 use Rattle.write_path.specs.declared.commit.Receipt.{Receipt}
+use Rattle.write_path.specs.Closed.{PassesNoSegment}
 use Rattle.clog_writers.specs.Logged.{HoldShares, is_note_of}
 use Rattle.clog_writers.specs.Shares.{AreWritesOf}
 use Rattle.clog_writers.specs.Placed.{AreAtTheirLines}
@@ -74,6 +81,7 @@ use Rattle.clog_writers.proofs.Histories.{
   shares_are,
 }
 use Rattle.clog_writers.proofs.LastEnd.{up_to_last}
+use Rattle.clog_writers.proofs.Reached.{first_there, reach_alone, reach_drained}
 
 -- ---- the path
 
@@ -101,17 +109,19 @@ module _ (sizes : Sizes) (base : ℕ) (mutations : List Mutation) (notes : List 
       (filter (is_note_of writer) notes)) (sym same)
       (h.shares writer (omega (arith, low, same)))) lines
 
-  pub path : (options : ApplyOptions) (archives drain : Bool)
-      → IsAskedBy options sizes archives drain → (files : List TableFile)
+  pub its_lawful : (capacity : ℕ) → capacity ≡ sizes.capacity → IsLawful capacity history
+  its_lawful capacity same = subst (λ (k : ℕ). IsLawful k history) (sym same)
+      (lawful base sizes.capacity sizes.within.greatest_capacity notes history h.lawful lines)
+
+  pub path : (options : ApplyOptions) (mode : SyncCore) (archives drain : Bool)
+      → IsAskedBy options sizes mode archives drain → (files : List TableFile)
       → AreFilesFor base history options files
       → IsClosedPath options mutations base history files
-  path options archives drain asked files are =
+  path options mode archives drain asked files are =
       let some = sizes.within.some_writer in
       let count = asked.writers in
       record {
-        lawful = subst (λ (k : ℕ). IsLawful k history) (sym asked.capacity)
-            (lawful base sizes.capacity sizes.within.greatest_capacity notes history h.lawful
-            lines);
+        lawful = its_lawful (capacity_of options) asked.capacity;
         from_base = λ w among.
             let n = note_of_line base notes history lines w among in omega (arith, n.is.id);
         writers = omega (arith, some, count);
@@ -150,7 +160,8 @@ module _ {D : Type 0} (files : D → Option Files) (changes : D → Option (List
     ≡ places_of b.notes.base b.notes.logged) (options : ApplyOptions) (sizes : Sizes)
     (mutations : List Mutation)
     (h : HoldShares sizes.capacity sizes.writers mutations b.notes.logged)
-    (receipts : List Receipt) (placed : AreAtTheirLines b.notes.base b.notes.logged receipts)
+    (passes : PassesNoSegment b.notes.logged) (receipts : List Receipt)
+    (placed : AreAtTheirLines b.notes.base b.notes.logged receipts)
     (long : length receipts ≡ length mutations) (opened : Files) (made : List Change)
     (is : files b.first ≡ Some opened) (made_is : changes b.first ≡ Some made) where
   abbrev first_id : ℕ
@@ -167,14 +178,17 @@ module _ {D : Type 0} (files : D → Option Files) (changes : D → Option (List
     pub are : AreFilesFor first_id its options put
     pub store : IsStoreLeft options.archive opened after later ids dropped its put
     pub undrained : options.drain ≡ false → (dropped ≡ []) × (put ≡ [])
+    pub reach : ReachesNoFurther options first_id later ids its put
     pub names : HaveNextNames opened after put
 
-  tells_all : (growth : HasGrown changes b.first b.notes.log) (archives drain : Bool)
-      → IsAskedBy options sizes archives drain
+  tells_all : (growth : HasGrown changes b.first b.notes.log) (mode : SyncCore)
+      → (mode ≡ Batch → StandApart sizes.capacity b.notes.logged) → (archives drain : Bool)
+      → IsAskedBy options sizes mode archives drain
       → ((after : Files) → files b.notes.log.disk ≡ Some after → Leaves growth.added after)
       → TellsWrittenShares options first_id opened made (files b.notes.log.disk)
       (changes b.notes.log.disk) mutations receipts
-  tells_all growth archives drain asked so =
+  tells_all growth mode apart archives drain asked so =
+      let grows = all_brought changes b.first b.notes.log growth runs in
       let now = tells_now files changes tells b.first b.notes.log growth made made_is in
       let left = so now.after now.files_are in
       let told = receipts_are sizes first_id mutations b.notes.logged h receipts placed long in
@@ -189,11 +203,20 @@ module _ {D : Type 0} (files : D → Option Files) (changes : D → Option (List
           history = its;
           files = left.put;
           logged = told.logged;
-          path = path sizes first_id mutations b.notes.logged h options archives drain asked
-              left.put left.are;
+          path = path sizes first_id mutations b.notes.logged h options mode archives drain
+              asked left.put left.are;
           store = left.store;
           undrained = left.undrained;
+          begins = first_there first_id sizes.capacity b.notes.logged its h.lawful passes
+              (lines sizes first_id mutations b.notes.logged h);
+          reach = left.reach;
           names = left.names;
+          apart = λ batch.
+              synced_apart growth.added first_id b.notes.log.past b.notes.log.id
+              b.notes.log.sections b.notes.logged its grows
+              (in_order b.notes.log (appends_of growth.added) grows sound) places
+              (lines sizes first_id mutations b.notes.logged h) sizes.capacity
+              sizes.within.greatest_capacity h.lawful (apart (sym asked.sync ∙ batch));
           by_line = record {
             numbers = told.numbers ∙ ap (range_with_len 1) long;
             each = told.each;
@@ -203,15 +226,17 @@ module _ {D : Type 0} (files : D → Option Files) (changes : D → Option (List
       }
 
   -- where nothing is drained
-  pub tells_alone : (archives : Bool) → IsAskedBy options sizes archives false
+  pub tells_alone : (mode : SyncCore)
+      → (mode ≡ Batch → StandApart sizes.capacity b.notes.logged) → (archives : Bool)
+      → IsAskedBy options sizes mode archives false
       → deeds_by b ≡ no_deeds b.archives → AppendsAlone changes b
       → TellsWrittenShares options first_id opened made (files b.notes.log.disk)
       (changes b.notes.log.disk) mutations receipts
-  tells_alone archives asked none alone =
+  tells_alone mode apart archives asked none alone =
       let appended = alone none in
       let growth = appended.growth in
       let grows = all_brought changes b.first b.notes.log growth runs in
-      tells_all growth archives false asked (λ after now. record {
+      tells_all growth mode apart archives false asked (λ after now. record {
         ids = ids_in (log_of b.notes);
         dropped = [];
         put = [];
@@ -222,6 +247,10 @@ module _ {D : Type 0} (files : D → Option Files) (changes : D → Option (List
             (in_order b.notes.log (appends_of growth.added) grows sound) places
             (lines sizes first_id mutations b.notes.logged h) options.archive;
         undrained = λ no. (refl, refl);
+        reach = reach_alone b.notes sizes h.lawful passes its
+            (lines sizes first_id mutations b.notes.logged h) options
+            (its_lawful sizes first_id mutations b.notes.logged h (capacity_of options)
+            asked.capacity) growth.added grows sound places;
         names = next_names opened after (log_of b.notes) (no_deeds b.archives)
             (subst (λ (d : Deeds). HoldsStore opened (log_of b.notes) d after) none
             (folder opened after is now)) sound.below sound.stored.fits;
@@ -251,14 +280,16 @@ module _ {D : Type 0} (files : D → Option Files) (changes : D → Option (List
           omega (arith, there, few);
     }
 
-    pub tells_drained : IsAskedBy options sizes b.archives true
+    pub tells_drained : (mode : SyncCore)
+        → (mode ≡ Batch → StandApart sizes.capacity b.notes.logged)
+        → IsAskedBy options sizes mode b.archives true
         → TellsWrittenShares options first_id opened made (files b.notes.log.disk)
         (changes b.notes.log.disk) mutations receipts
-    tells_drained asked =
+    tells_drained mode apart asked =
         let log = log_of b.notes in
         let deeds = deeds_by b in
         let upper = synced_to b.notes.logged in
-        tells_all ordered.growth b.archives true asked (λ after now. record {
+        tells_all ordered.growth mode apart b.archives true asked (λ after now. record {
           ids = ids_in log;
           dropped = dropped_ids log deeds;
           put = files_by log deeds;
@@ -272,6 +303,12 @@ module _ {D : Type 0} (files : D → Option Files) (changes : D → Option (List
               none_kept law sizes upper its fileable drained.memtables drained.are drained.by
               opened after is now);
           undrained = λ no. absurd (true≢false (sym asked.drain_is ∙ no));
+          reach = reach_drained b.notes sizes h.lawful passes its
+              (lines sizes first_id mutations b.notes.logged h) options
+              (its_lawful sizes first_id mutations b.notes.logged h (capacity_of options)
+              asked.capacity) ordered.growth.added
+              (all_brought changes b.first b.notes.log ordered.growth runs) sound places
+              drained.memtables drained.are b.files drained.by.files_are;
           names = next_names opened after log deeds (folder opened after is now) sound.below
               sound.stored.fits;
         })

@@ -4,12 +4,14 @@ pub mod Firsts
 pub mod Owned
 pub mod FirstLogged
 pub mod Ending
+pub mod Apart
 pub mod Totals
 pub mod Dealt
 pub mod Seating
 pub mod Gathering
 pub mod Running
 pub mod Histories
+pub mod Reached
 pub mod Leaving
 pub mod Told
 pub mod Slots
@@ -21,3 +23,4 @@ pub mod LastEnd
 pub mod Brought
 pub mod Ended
 pub mod MayFlush
+pub mod SegmentOrder

@@ -59,7 +59,7 @@ use Rattle.clog_applied.specs.History.{
   written_by,
 }
 use Rattle.clog_closing.proofs.Segments.{placed_line}
-use Rattle.clog_lines.specs.Written.{LeavesLines, RestoresLines, SaysFirst}
+use Rattle.clog_lines.specs.Written.{LeavesLines, RestoresLines, SaysFirst, WritesLines}
 use Rattle.clog_lines.proofs.Showing.{of_log, payload_at, placed_payload}
 use Rattle.clog_writers.specs.Left.{
   AreFirstLines,
@@ -67,6 +67,7 @@ use Rattle.clog_writers.specs.Left.{
   LeavesShares,
   RestoresShares,
   SaysShares,
+  WritesShares,
   said_by,
 }
 use Rattle.clog_writers.proofs.Firsts.{all_pass}
@@ -280,10 +281,10 @@ by_one_writer ms log said =
 -- What one writer's lines leave, as of a history.
 pub shares_of_lines : {D : Type 0} (changes : D → Option (List Change)) (moment : D → ℕ)
     (since : D → ℕ → Files → Type 0) (leaves : D → List ℕ → Option (List ℕ) → Type 0)
-    (before now : D) (r : Reading) (archives drain : Bool) (ms : List Mutation) (least : ℕ)
-    → LeavesLines changes moment since leaves before now r archives drain ms least
-    → LeavesShares changes moment since leaves before now r archives drain 1 ms least
-shares_of_lines changes moment since leaves before now r archives drain ms least lines =
+    (before now : D) (r : Reading) (base : ℕ) (archives drain : Bool) (ms : List Mutation)
+    (least : ℕ) → LeavesLines changes moment since leaves before now r base archives drain ms least
+    → LeavesShares changes moment since leaves before now r base archives drain 1 ms least
+shares_of_lines changes moment since leaves before now r base archives drain ms least lines =
     let said = take lines.says.count ms in
     let by = by_one_writer ms lines.log lines.says in
     let history = by.0 in
@@ -301,4 +302,19 @@ shares_of_lines changes moment since leaves before now r archives drain ms least
       at_last = λ image left none. back least image (lines.at_last image left none);
       at_drain = λ beyond image left none.
           back (length ms) image (lines.at_drain beyond image left none);
+    }
+
+-- What one writer's lines were appended as, of a history, whatever was answered.
+pub shares_written : {D : Type 0} (files : D → Option Files) (changes : D → Option (List Change))
+    (before now : D) (base : ℕ) (archives drain : Bool) (ms : List Mutation)
+    → WritesLines files changes before now base archives drain ms
+    → WritesShares files changes before now base archives drain 1 ms
+shares_written files changes before now base archives drain ms lines =
+    let by = by_one_writer ms lines.log lines.says in
+    record {
+      log = lines.log;
+      history = by.0;
+      wrote = lines.wrote;
+      says = by.1;
+      only = lines.only;
     }

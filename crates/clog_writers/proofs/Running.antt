@@ -34,8 +34,9 @@ use Rattle.path_core.specs.Keeper.{Holding, IsFresh}
 use Rattle.path_rule.specs.declared.lasting.Lasting.{Lasting}
 use Rattle.path_rule.specs.declared.trying.PathSeat.{PathSeat}
 use Rattle.path_rule.specs.declared.view.PathSize.{PathSize}
-use Rattle.write_path.specs.Closed.{IsOutcome, IsStoppedFor, StaysBeside}
+use Rattle.write_path.specs.Closed.{AreStoppedFor, IsOutcome, StaysBeside}
 use Rattle.write_path.specs.Opened.{ShowsAsBefore, numbers_of, size_of}
+use Rattle.write_path.proofs.NonePassed.{logged_passes_none}
 use Rattle.write_path.proofs.Outcomes.{stays_beside}
 use Rattle.write_path.proofs.Spending.{segments_spent}
 use Rattle.clog_writers.specs.declared.fault.WriteFault.{WriteFault}
@@ -43,6 +44,7 @@ use Rattle.clog_writers.specs.declared.fault.WriteFault.TheVariants.{OutOfMemory
 use Rattle.clog_writers.specs.declared.worker.Worker.{Worker}
 use Rattle.clog_writers.specs.Crews.{AreDealt, AreReady, HaveEnded, HaveLogged, IsSizedAs}
 use Rattle.clog_writers.specs.Logged.{EndsShares, GoesOnAlone, HoldFirsts, HoldShares}
+use Rattle.clog_writers.specs.Sealing.{SealShares}
 use Rattle.clog_writers.proofs.Ending.{hold_shares, none_kept}
 use Rattle.clog_writers.proofs.FirstLogged.{hold_firsts, none_held, none_written}
 use Rattle.clog_writers.proofs.Totals.{few_writes}
@@ -86,6 +88,16 @@ module _ {K : Type 0} (id : TableId) (size : PathSize) (sizes : Sizes)
       subst (HaveLogged id size ms)
       (sym (written_back n now rest (omega (arith, long, a, b, same)))) logged
 
+  pub back_sealed : (n : ℕ) (ws now rest : List (Worker K)) → AreDealt sizes ms ws
+      → n ≡ length ws → HaveLogged id size ms now → SealShares now
+      → SealShares (take n (now ++ rest))
+  back_sealed n ws now rest dealt long logged seals =
+      let a = dealt.count in
+      let b = logged.count in
+      let same = sized.writers in
+      subst (λ (l : List (Worker K)). SealShares l)
+      (sym (written_back n now rest (omega (arith, long, a, b, same)))) seals
+
 -- ---- seats
 
 module _ {K : Type 0} where
@@ -120,9 +132,11 @@ not_stopped at_open n is =
     same_Some OutOfMemory (Stopped at_open n) is in cc)
 
 module _ (sizes : Sizes) (base : ℕ) (before now : Holding) (fresh : IsFresh base sizes before) where
-  alone_by : StaysBeside before now → now.dropped ≡ [] → GoesOnAlone before now
-  alone_by beside none = record {
+  alone_by : now.base ≡ before.base → StaysBeside before now → now.dropped ≡ []
+      → GoesOnAlone before now
+  alone_by same beside none = record {
     disk_is = beside.disk_is;
+    base_is = same;
     archives_are = beside.archives_are;
     tables_are = beside.tables_are;
     no_file = beside.no_file fresh.no_file;
@@ -148,17 +162,19 @@ module _ {K : Type 0} (sizes : Sizes) (base : ℕ) (before now : Holding)
       → EndsShares sizes base before now workers (Some OutOfMemory)
   unopened workers same =
       refused workers
-      (alone_by sizes base before now fresh
+      (alone_by sizes base before now fresh (ap (λ (l : Lasting). l.base) same)
       (stays_beside before now (ap (λ (l : Lasting). l.beside) same))
       (ap (λ (l : Lasting). l.dropped) same ∙ fresh.none_dropped))
       (ap (λ (l : Lasting). l.logged ++ l.kept) same
       ∙ ap (λ (l : List EntryNote). l ++ before.kept) fresh.nothing_logged ∙ fresh.nothing_kept)
 
   pub unseated : (size : PathSize) (seats : List (PathSeat K)) (end : ℕ)
-      → IsOutcome size seats end now → StaysBeside before now → seats ≡ []
+      → size.base ≡ base → IsOutcome size seats end now → StaysBeside before now → seats ≡ []
       → (workers : List (Worker K)) → EndsShares sizes base before now workers (Some OutOfMemory)
-  unseated size seats end o beside none workers =
-      refused workers (alone_by sizes base before now fresh beside o.none_dropped)
+  unseated size seats end is o beside none workers =
+      refused workers
+      (alone_by sizes base before now fresh (o.sized.base_is ∙ is ∙ sym fresh.base_is) beside
+      o.none_dropped)
       (none_written size seats end now o none)
 
   module _ (id : TableId) (size : PathSize) (at_open : ℕ) (is : size ≡ size_of sizes base at_open)
@@ -169,7 +185,9 @@ module _ {K : Type 0} (sizes : Sizes) (base : ℕ) (before now : Holding)
         → ((ms : List Mutation) → AreDealt sizes ms workers → HaveEnded id size ms fault seats)
         → EndsShares sizes base before now workers fault
     ran workers fault some dealt ended = record {
-      alone = alone_by sizes base before now fresh beside o.none_dropped;
+      alone = alone_by sizes base before now fresh
+          (o.sized.base_is ∙ ap (λ (z : PathSize). z.base) is ∙ sym fresh.base_is) beside
+          o.none_dropped;
       logs = λ ms given none.
           let all = subst (λ (f : Option WriteFault). HaveEnded id size ms f seats) none
           (ended ms given) in
@@ -177,6 +195,7 @@ module _ {K : Type 0} (sizes : Sizes) (base : ℕ) (before now : Holding)
             base_is = o.sized.base_is ∙ ap (λ (z : PathSize). z.base) is;
             notes = subst (λ (z : PathSize). HoldShares z.capacity z.seats ms now.logged) is
                 (hold_shares id size ms seats all end now o);
+            none_passed = logged_passes_none size seats end now o;
             none_kept = none_kept id size ms seats all end now o;
           };
       firsts = λ ms given.
@@ -184,7 +203,7 @@ module _ {K : Type 0} (sizes : Sizes) (base : ℕ) (before now : Holding)
           (hold_firsts id size ms fault seats (ended ms given) end now o);
       stops = λ a n stopped.
           let one = (ended some dealt).stops a n stopped in
-          (All-contains (IsStoppedFor now) seats one.0 o.found_stopped one.1 n one.2.0 one.2.1).0;
+          (All-contains (AreStoppedFor now) seats one.0 o.all_stopped one.1 n one.2.0 one.2.1).0;
       spent = λ ms given no_room.
           let e = ended ms given in
           let k = e.spent no_room in

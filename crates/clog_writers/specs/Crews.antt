@@ -18,11 +18,12 @@ use Rattle.atomic_table.specs.Seated.{TableId}
 use Rattle.clog_base.specs.declared.sizes.Sizes.{Sizes}
 use Rattle.clog_mutation.specs.declared.mutation.Mutation.{Mutation}
 use Rattle.clog_applied.specs.History.{Line, share_of}
+use Rattle.path_core.specs.declared.event.Cursor.TheVariants.{Stopped as StoppedCursor}
+use Rattle.path_core.specs.declared.event.Place.TheVariants.{CursorWord}
 use Rattle.path_rule.specs.declared.trying.PathSeat.{PathSeat}
 use Rattle.path_rule.specs.declared.view.PathSize.{PathSize}
+use Rattle.path_rule.specs.Finds.{Finds}
 use Rattle.path_rule.specs.Members.{IsOf, part_of, view_of}
-use Rattle.sync_core.specs.declared.SyncCore.{SyncCore}
-use Rattle.sync_core.specs.declared.SyncCore.TheVariants.{Periodic}
 use Rattle.write_path.specs.Commits.{WritesEndBelow}
 use Rattle.write_path.specs.Opened.{size_of}
 use Rattle.write_path.specs.Ends.{writes_of}
@@ -66,6 +67,10 @@ module _ {K : Type 0} where
   abbrev pub IsReady : TableId → PathSize → Sizes → ℕ → List Line → Worker K → Type 0
   IsReady id size sizes number lines w = IsSeated id size number w × IsDealt sizes lines w
 
+  -- the seat found, or put, this count of faults, with which the log is stopped
+  abbrev pub KnowsStopped : ℕ → PathSeat K → Type 0
+  KnowsStopped n s = Finds (CursorWord StoppedCursor) n (view_of s.member).trail × (0 < n)
+
   -- the seat found that an entry, of a size that may be, has no segment
   abbrev pub KnowsSpent : PathSize → PathSeat K → Type 0
   KnowsSpent size s = (bytes key : ℕ) × (bytes ≤ size.capacity / 2)
@@ -79,13 +84,9 @@ module _ {K : Type 0} where
     pub of_path : IsOf id size seat.member
     pub number_is : seat.member.number ≡ number
     pub logs : LogsShare number lines (logged_by seat.member) w.fault
-    -- it stops only where the log has no room, which its seat has found
-    pub stops : (f : WriteFault) → w.fault ≡ Some f → f ≡ Spent
+    -- where the log has stopped, or has no room, its seat has found that
+    pub stops : (at_open now : ℕ) → w.fault ≡ Some (Stopped at_open now) → KnowsStopped now seat
     pub spent : w.fault ≡ Some Spent → KnowsSpent size seat
-
-  -- the seat found or put this count of faults, with which the log is stopped
-  abbrev pub KnowsStopped : ℕ → PathSeat K → Type 0
-  KnowsStopped n s = ((part_of s.member).found.stopped ≡ Some n) × (0 < n)
 
   -- each worker is ready to log its share
   pub record AreReady (id : TableId) (size : PathSize) (sizes : Sizes) (mutations : List Mutation)
@@ -120,10 +121,7 @@ module _ {K : Type 0} where
         → (s : PathSeat K) × Contains seats s × KnowsStopped now s
     pub spent : fault ≡ Some Spent → (s : PathSeat K) × Contains seats s × KnowsSpent size s
 
--- The path was opened with these sizes over a keeper of this base, in periodic mode.
-pub record IsOpenFor (sizes : Sizes) (base : ℕ) (mode : SyncCore) (size : PathSize) :
-    Type 0 where
+-- The path was opened with these sizes over a keeper of this base.
+pub record IsOpenFor (sizes : Sizes) (base : ℕ) (size : PathSize) : Type 0 where
   pub at_open : ℕ
   pub size_is : size ≡ size_of sizes base at_open
-  pub period : ℕ
-  pub mode_is : mode ≡ Periodic period

@@ -23,7 +23,7 @@ use Rattle.clog_crash.specs.Log.{NoChances, Write}
 use Rattle.clog_crash.specs.Readings.{Reading}
 use Rattle.clog_crash.specs.Runs.{placed_of}
 use Rattle.clog_applied.specs.History.{Line, LoggedLine, entry_of, share_of, written_by}
-use Rattle.clog_lines.specs.Written.{GoesBeyond, HasBrought, RestoresLines}
+use Rattle.clog_lines.specs.Written.{BringsOnly, GoesBeyond, HasBrought, RestoresLines}
 use Rattle.clog_writers.specs.declared.fault.WriteFault.{WriteFault}
 
 -- The first of these lines, in order.
@@ -53,17 +53,28 @@ said_by history = map (λ (w : LoggedLine). w.mutation) history
 abbrev pub RestoresShares : Reading → List LoggedLine → ℕ → Files → Type 0
 RestoresShares r history least image = RestoresLines r (said_by history) least image
 
+-- The segments that were appended since a disk was so, which say the first of each writer's share,
+-- whatever was answered. No other names have come.
+pub record WritesShares {D : Type 0} (files : D → Option Files)
+    (changes : D → Option (List Change)) (before now : D) (base : ℕ) (archives drain : Bool)
+    (writers : ℕ) (mutations : List Mutation) : Type 0 where
+  pub log : List Write
+  pub history : List LoggedLine
+  pub wrote : HasBrought changes before now base archives drain writers mutations log
+  pub says : SaysShares writers mutations log history
+  pub only : BringsOnly files before now log
+
 -- The segments that were appended, which say the first of each writer's share. What a crash leaves
 -- since a disk was so, and what it leaves of it now, where nothing passes by chance for what was
 -- written. Where the changes go beyond appends, all lines last.
 pub record LeavesShares {D : Type 0} (changes : D → Option (List Change)) (moment : D → ℕ)
     (since : D → ℕ → Files → Type 0) (leaves : D → List ℕ → Option (List ℕ) → Type 0)
-    (before now : D) (r : Reading) (archives drain : Bool) (writers : ℕ)
+    (before now : D) (r : Reading) (base : ℕ) (archives drain : Bool) (writers : ℕ)
     (mutations : List Mutation) (least : ℕ) : Type 0
   where
     pub log : List Write
     pub history : List LoggedLine
-    pub wrote : HasBrought changes before now archives drain writers mutations log
+    pub wrote : HasBrought changes before now base archives drain writers mutations log
     pub says : SaysShares writers mutations log history
     pub meanwhile : LeavesOnly moment since before now
         (λ image. NoChances log image → RestoresShares r history 0 image)

@@ -1,5 +1,6 @@
 pub mod Shares
 pub mod Crews
+pub mod Sealing
 pub mod Logged
 pub mod Placed
 pub mod Planned

@@ -26,6 +26,7 @@ use Rattle.path_core.specs.declared.note.EntryNote.{EntryNote}
 use Rattle.path_core.specs.History.{IsHistory}
 use Rattle.path_core.specs.Keeper.{Holding}
 use Rattle.path_core.specs.Whole.{IsWhole}
+use Rattle.write_path.specs.Closed.{PassesNoSegment}
 use Rattle.clog_writers.specs.declared.fault.WriteFault.{WriteFault}
 use Rattle.clog_writers.specs.declared.fault.WriteFault.TheVariants.{Spent, Stopped}
 use Rattle.clog_writers.specs.declared.worker.Worker.{Worker}
@@ -35,6 +36,7 @@ use Rattle.clog_writers.specs.Shares.{AreFirstWrites, AreWritesOf}
 -- The keeper goes on from the disk of the one before, and has done nothing beside its log.
 pub record GoesOnAlone (before now : Holding) : Type 0 where
   pub disk_is : now.opening.disk ≡ before.opening.disk
+  pub base_is : now.base ≡ before.base
   pub archives_are : now.opening.archives ≡ before.opening.archives
   pub tables_are : now.sizes.tables ≡ before.sizes.tables
   pub no_file : now.files ≡ []
@@ -64,11 +66,12 @@ pub record HoldFirsts (writers : ℕ) (mutations : List Mutation) (notes : List 
         → AreFirstWrites writer (share_of writers writer mutations)
         (filter (is_note_of writer) notes)
 
--- The keeper has made lasting all shares, and nothing else.
+-- The keeper has made lasting all shares, and nothing else, and passes over no segment.
 pub record LogsShares (sizes : Sizes) (base : ℕ) (mutations : List Mutation) (now : Holding) :
     Type 0 where
   pub base_is : now.base ≡ base
   pub notes : HoldShares sizes.capacity sizes.writers mutations now.logged
+  pub none_passed : PassesNoSegment now.logged
   pub none_kept : now.kept ≡ []
 
 -- What became of the shares that were dealt out to workers: where nothing was refused all of them

@@ -26,11 +26,22 @@ use Rattle.write_path.specs.declared.commit.Commit.TheVariants.{
   Unsynced,
   Spent as NoRoom,
 }
+use Rattle.write_path.specs.declared.commit.SyncFault.{SyncFault}
+use Rattle.write_path.specs.declared.commit.SyncFault.TheVariants.{
+  Stopped as LogStopped,
+  OutOfMemory as NoMemory,
+  Rows as NoRows,
+}
 use Rattle.write_path.specs.declared.prepared.Prepared.{Prepared}
 use Rattle.write_path.specs.Ends.{writes_of}
 use Rattle.write_path.specs.Writes.{IsNoteOf, IsPrepared}
 use Rattle.clog_writers.specs.declared.fault.WriteFault.{WriteFault}
-use Rattle.clog_writers.specs.declared.fault.WriteFault.TheVariants.{Spent}
+use Rattle.clog_writers.specs.declared.fault.WriteFault.TheVariants.{
+  OutOfMemory,
+  Rows,
+  Spent,
+  Stopped,
+}
 
 -- these are the writes of lines, one by one, with all of their memory
 abbrev pub ArePrepared : Sizes → List Line → List Prepared → Type 0
@@ -77,9 +88,15 @@ pub record LogsShare (writer : ℕ) (lines : List Line) (notes : List EntryNote)
   pub rise : Rise notes
   pub all : fault ≡ None → left ≡ []
 
--- why a write was not logged, if it was not
+-- why the sync that a write waited for was refused
+abbrev pub fault_of : SyncFault → WriteFault
+fault_of (LogStopped at_open now) = Stopped at_open now
+fault_of NoMemory = OutOfMemory
+fault_of (NoRows groups) = Rows groups
+
+-- why a write was not logged, or not made lasting where it waited for that, if it was not
 abbrev pub refusal_in : Commit → Option WriteFault
 refusal_in (Logged r) = None
 refusal_in (Durable r) = None
-refusal_in (Unsynced r fault) = None
+refusal_in (Unsynced r fault) = Some (fault_of fault)
 refusal_in (NoRoom back key) = Some Spent

@@ -1,5 +1,24 @@
 -- What is left where the lines of a file were logged by writers of a path over a store.
-use Rattle.std.specs.Prelude.{◌≡◌, ℕ, ◌≤◌, false, List, [], ◌++◌, length, map, Bool, Option, Some, None, Result, Ok, Err}
+use Rattle.std.specs.Prelude.{
+  ◌≡◌,
+  ℕ,
+  ◌≤◌,
+  false,
+  List,
+  [],
+  ◌∷◌,
+  ◌++◌,
+  length,
+  map,
+  Bool,
+  Option,
+  Some,
+  None,
+  Result,
+  Ok,
+  Err,
+  ⊤,
+}
 use Rattle.clog_io.specs.Causes.{Rose}
 use Rattle.clog_base.specs.declared.sizes.Sizes.{Sizes}
 use Rattle.clog_disk.specs.declared.change.Change.{Change}
@@ -7,12 +26,14 @@ use Rattle.clog_disk.specs.Files.{Files}
 use Rattle.clog_mutation.specs.declared.mutation.Mutation.{Mutation}
 use Rattle.clog_table.specs.declared.table_file.TableFile.{TableFile}
 use Rattle.clog_words.specs.declared.request.ApplyOptions.{ApplyOptions}
-use Rattle.sync_core.specs.declared.SyncCore.TheVariants.{Periodic}
+use Rattle.sync_core.specs.declared.SyncCore.{SyncCore}
 use Rattle.path_core.specs.declared.keeper.KeeperFault.{KeeperFault}
 use Rattle.path_core.specs.declared.keeper.KeeperFault.TheVariants as keeper
-use Rattle.clog_applied.specs.Asked.{capacity_of}
+use Rattle.clog_applied.specs.Asked.{IsBatch, capacity_of}
 use Rattle.clog_applied.specs.Closed.{IsClosedPath, IsStoreLeft}
 use Rattle.clog_applied.specs.History.{LoggedLine, logged_at}
+use Rattle.clog_applied.specs.Log.{AreSyncedApart}
+use Rattle.clog_applied.specs.Onward.{ReachesNoFurther}
 use Rattle.clog_applied.specs.Printed.{AreByLine}
 use Rattle.clog_closing.specs.NextNames.{HaveNextNames}
 use Rattle.path_core.specs.declared.note.EntryNote.{EntryNote}
@@ -22,20 +43,25 @@ use Rattle.clog_writers.specs.declared.fault.WriteFault.TheVariants.{OutOfMemory
 use Rattle.clog_writers.specs.Logged.{HoldShares}
 use Rattle.clog_writers.specs.Placed.{AreAtTheirLines}
 
--- So many writers log all lines, and the log is synced at the end; nothing is flushed before.
--- Behind it all is drained or nothing, and what is dropped gets its archive name or not.
-pub record IsAskedBy (options : ApplyOptions) (sizes : Sizes) (archives drain : Bool) : Type 0
-  where
-    pub writers : options.writers ≡ sizes.writers
-    pub periodic : options.sync ≡ Periodic 10000
-    pub no_flush : options.flush_at ≡ None
-    pub capacity : capacity_of options ≡ sizes.capacity
-    pub drain_is : options.drain ≡ drain
-    pub archive_is : options.archive ≡ archives
+-- So many writers log all lines in this mode, and the log is synced at the end; nothing is flushed
+-- before. Behind it all is drained or nothing, and what is dropped gets its archive name or not.
+pub record IsAskedBy (options : ApplyOptions) (sizes : Sizes) (mode : SyncCore)
+    (archives drain : Bool) : Type 0 where
+  pub writers : options.writers ≡ sizes.writers
+  pub sync : options.sync ≡ mode
+  pub no_flush : options.flush_at ≡ None
+  pub capacity : capacity_of options ≡ sizes.capacity
+  pub drain_is : options.drain ≡ drain
+  pub archive_is : options.archive ≡ archives
 
 -- the receipt of a line that is logged
 abbrev pub line_receipt : LoggedLine → Receipt
 line_receipt w = record { line = w.number; position = logged_at w }
+
+-- the first line, where there is one, stands in the segment of an id
+abbrev pub BeginsIn : ℕ → List LoggedLine → Type 0
+BeginsIn id [] = ⊤
+BeginsIn id (w ∷ ws) = w.id ≡ id
 
 -- All lines were logged: what the path and the store of such a run tell, with the ids of the
 -- segments that were dropped and the table files that were put, and the lines' receipts, in the
@@ -50,8 +76,12 @@ pub record HasWrittenShares (options : ApplyOptions) (base : ℕ) (opened after 
   pub path : IsClosedPath options mutations base history files
   pub store : IsStoreLeft options.archive opened after later ids dropped history files
   pub undrained : options.drain ≡ false → (dropped ≡ []) × (files ≡ [])
-  -- how far it reaches in sequences
+  -- where it begins, and how far it reaches, in ids and in sequences
+  pub begins : BeginsIn base history
+  pub reach : ReachesNoFurther options base later ids history files
   pub names : HaveNextNames opened after files
+  -- in batch mode no section holds two entries of one writer
+  pub apart : IsBatch options → AreSyncedApart later history
   pub by_line : AreByLine history (length mutations) logged
   pub receipts_are : receipts ≡ map line_receipt logged
 

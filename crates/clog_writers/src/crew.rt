@@ -1,6 +1,6 @@
 //! The seats of a path are given to workers, all workers commit their shares in threads, and the
 //! seats come back.
-ghost use Rattle.std.specs.Prelude.{◌≡◌, ◌≤◌, ℕ, List, [], length, Some, vec_capacity};
+ghost use Rattle.std.specs.Prelude.{◌≡◌, ◌≤◌, ℕ, List, [], length, None, Some, vec_capacity};
 ghost use Rattle.clog_mutation.specs.declared.mutation.Mutation.{Mutation};
 ghost use Rattle.clog_applied.specs.History.{Line};
 ghost use Rattle.clog_writers.specs.Crews.{
@@ -16,12 +16,14 @@ ghost use Rattle.clog_writers.specs.Crews.{
   KnowsStopped,
 };
 ghost use Rattle.clog_writers.specs.declared.fault.WriteFault.TheVariants.{Spent, Stopped};
-ghost use Rattle.sync_core.specs.declared.SyncCore.TheVariants.{Periodic};
+ghost use Rattle.clog_writers.specs.Sealing.{HasSealed, HaveSealed, SealShares, SealsShare};
+ghost use Rattle.sync_core.specs.declared.SyncCore.TheVariants.{Batch};
 ghost use Rattle.write_path.specs.Opened.{AreNew};
 
 use crate::fault::{WriteFault, first_of, refusal_of};
 use crate::worker::{Worker, commit_share};
 use clog_base::Sizes;
+use clog_io::Gate;
 use path_core::Keeper;
 use std::alloc::Global;
 use std::sync::Wait;
@@ -60,23 +62,24 @@ pub fn seat_all<K: Keeper + Drop>(
 }
 
 /// Each worker commits its share in a thread of its own, where one can be started.
-pub fn commit_all<R: Threads + Wait + Sync, K: Keeper + Send>(
+pub fn commit_all<R: Threads + Wait + Sync, K: Keeper + Send, G: Gate + Sync>(
     rt: &R,
     alloc: Global,
     path: &WritePath<K, Global>,
     sizes: Sizes,
+    gate: &G,
     workers: &mut [Worker<K>],
 )
     requires sized { IsSizedAs path.now.table.size sizes }
-    requires periodic { (period : ℕ) × (path.now.mode ≡ Periodic period) }
     requires ready { (mutations : List Mutation)
         × AreReady path.now.table.table.shared.table_id path.now.table.size sizes mutations
         workers.old }
-    ensures { (mutations : List Mutation)
+    ensures logged { (mutations : List Mutation)
         → AreReady path.now.table.table.shared.table_id path.now.table.size sizes mutations
         workers.old
         → HaveLogged path.now.table.table.shared.table_id path.now.table.size mutations
         workers.new }
+    ensures sealed { path.now.mode ≡ Batch → SealShares workers.new }
 {
     thread::for_each_mut(
         rt,
@@ -84,16 +87,16 @@ pub fn commit_all<R: Threads + Wait + Sync, K: Keeper + Send>(
         64,
         &|_place, worker: &mut Worker<K>|
             requires { IsSizedAs path.now.table.size sizes
-                × ((period : ℕ) × (path.now.mode ≡ Periodic period))
                 × ((number : ℕ) × (lines : List Line)
                 × IsReady path.now.table.table.shared.table_id path.now.table.size sizes number
                 lines worker.old) }
-            ensures { (number : ℕ) (lines : List Line)
+            ensures { ((number : ℕ) (lines : List Line)
                 → IsReady path.entry.now.table.table.shared.table_id path.entry.now.table.size
                 sizes number lines worker.old
                 → HasLogged path.entry.now.table.table.shared.table_id path.entry.now.table.size
-                number lines worker.new }
-        { commit_share(rt, alloc, path, sizes, worker) },
+                number lines worker.new)
+                × (path.entry.now.mode ≡ Batch → SealsShare worker.new) }
+        { commit_share(rt, alloc, path, sizes, gate, worker) },
     );
 }
 
@@ -110,8 +113,10 @@ fn end_share<R: Wait, K: Keeper + Drop>(
         → HasLogged path.now.table.table.shared.table_id path.now.table.size number lines worker
         → HasEnded path.now.table.table.shared.table_id path.now.table.size number lines result.1
         result.0 }
-    ensures stops { (at_open now : ℕ) → result.1 ≡ Some (Stopped at_open now)
-        → KnowsStopped now result.0 }
+    ensures stops { (number : ℕ) (lines : List Line)
+        → HasLogged path.now.table.table.shared.table_id path.now.table.size number lines worker
+        → (at_open now : ℕ) → result.1 ≡ Some (Stopped at_open now) → KnowsStopped now result.0 }
+    ensures sealed { SealsShare worker → result.1 ≡ None → HasSealed result.0 }
     ensures spent { (number : ℕ) (lines : List Line)
         → HasLogged path.now.table.table.shared.table_id path.now.table.size number lines worker
         → result.1 ≡ Some Spent → KnowsSpent path.now.table.size result.0 }
@@ -143,11 +148,12 @@ pub fn end_all<R: Wait, K: Keeper + Drop>(
         workers.items }
     requires room { length workers.items ≤ vec_capacity seats.old }
     requires none { seats.old.items ≡ [] }
-    ensures { (mutations : List Mutation)
+    ensures ended { (mutations : List Mutation)
         → HaveLogged path.now.table.table.shared.table_id path.now.table.size mutations
         workers.items
         → HaveEnded path.now.table.table.shared.table_id path.now.table.size mutations result
         seats.new.items }
+    ensures sealed { SealShares workers.items → result ≡ None → HaveSealed seats.new.items }
 {
     let mut first = None;
     for worker in workers {

@@ -1,5 +1,6 @@
 //! What a crash leaves of lines that several writers log, said of one writer.
-ghost use Rattle.std.specs.Prelude.{◌≡◌, ℕ, List, take};
+ghost use Rattle.std.specs.Prelude.{◌≡◌, ◌<◌, ◌≤◌, ℕ, List, take};
+ghost use Rattle.std.specs.List.{AllPairs};
 ghost use Rattle.clog_disk.specs.Files.{Files, bytes_at};
 ghost use Rattle.clog_mutation.specs.declared.mutation.Mutation.{Mutation};
 ghost use Rattle.clog_applied.specs.History.{LoggedLine};
@@ -11,6 +12,15 @@ ghost use Rattle.clog_writers.specs.Left.{HoldsFirsts, RestoresShares, SaysShare
 pub fn the_first_of_a_history_are_the_first_of_each()
     ensures { (writers n : ℕ) (mutations : List Mutation) (history : List LoggedLine)
         → HoldsFirsts writers mutations history → HoldsFirsts writers mutations (take n history) }
+{}
+
+/// Where segments are written in the order of their ids, the lines that they say stand in it too: a
+/// line does not come before one of an earlier segment, whoever wrote them.
+pub fn lines_stand_in_the_order_of_their_segments()
+    ensures { (writers : ℕ) (mutations : List Mutation) (log : List Write)
+        (history : List LoggedLine) → AllPairs (λ (a b : Write). a.id < b.id) log
+        → SaysShares writers mutations log history
+        → AllPairs (λ (a b : LoggedLine). a.id ≤ b.id) history }
 {}
 
 /// The lines of one writer are the first of all: the segments say them, and an image restores

@@ -21,8 +21,8 @@ mod writing;
 pub use dealing::deal;
 pub use fault::{PlanFault, WriteFault};
 pub use laws::{
-    first_lines_are_those_of_one_writer, one_writer_logs_the_first_lines,
-    the_first_of_a_history_are_the_first_of_each,
+    first_lines_are_those_of_one_writer, lines_stand_in_the_order_of_their_segments,
+    one_writer_logs_the_first_lines, the_first_of_a_history_are_the_first_of_each,
 };
 pub use logging::log_shares;
 pub use planning::{Plan, make_plan};

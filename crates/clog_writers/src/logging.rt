@@ -1,16 +1,20 @@
 //! Workers log their shares over a keeper: a path is opened, its seats are given to them, they
-//! commit in threads, each seat has the log synced at the end, and the path is closed.
+//! commit in threads, each seat has the log synced at the end, and the path is closed. In batch
+//! mode a marker stands then between each two entries of one writer.
 ghost use Rattle.std.specs.Prelude.{◌≡◌, ◌<◌, ◌≤◌, ◌^◌, ℕ, List, [], None, vec_capacity};
 ghost use Rattle.clog_mutation.specs.declared.mutation.Mutation.{Mutation};
 ghost use Rattle.clog_writers.specs.Crews.{AreDealt, IsOpenFor};
 ghost use Rattle.clog_writers.specs.Logged.{EndsShares};
 ghost use Rattle.path_core.specs.Keeper.{Holding, IsFresh};
+ghost use Rattle.clog_closing.specs.Gaps.{StandApart};
+ghost use Rattle.sync_core.specs.declared.SyncCore.TheVariants.{Batch};
 ghost use Rattle.write_path.specs.Opened.{AreNew};
 
 use crate::crew::{commit_all, end_all, seat_all};
 use crate::fault::WriteFault;
 use crate::worker::Worker;
 use clog_base::{OutOfMemory, Sizes};
+use clog_io::Gate;
 use path_core::Keeper;
 use std::alloc::Global;
 use std::sync::Wait;
@@ -18,46 +22,49 @@ use std::thread::Threads;
 use sync_core::SyncCore;
 use write_path::{PathSeat, WritePath};
 
-/// Commits wait for no sync. Each seat has the log synced when all lines are logged.
-const PERIOD_MS: u64 = 10000;
-
 // Workers log their shares over an open path, whose seats are handed out; then it is closed.
-fn run_crew<R: Threads + Wait + Sync, K: Keeper + Send + Drop>(
+fn run_crew<R: Threads + Wait + Sync, K: Keeper + Send + Drop, G: Gate + Sync>(
     rt: &R,
     alloc: Global,
     path: WritePath<K, Global>,
     sizes: Sizes,
+    gate: &G,
     workers: Vec<Worker<K>>,
     handed: Vec<PathSeat<K>>,
     room: Vec<PathSeat<K>>,
 ) -> (K, Option<WriteFault>)
-    requires open { (base : ℕ) × IsOpenFor sizes base path.mode path.table.size }
+    requires open { (base : ℕ) × IsOpenFor sizes base path.table.size }
     requires seats { AreNew path.table.table.shared.table_id path.table.size path.table.size.seats
         handed.items }
     requires made { path.opener ≡ None }
     requires dealt { (mutations : List Mutation) × AreDealt sizes mutations workers.items }
     requires room { sizes.writers ≤ vec_capacity room }
     requires void { room.items ≡ [] }
-    ensures { (base : ℕ) (before : Holding) → IsOpenFor sizes base path.mode path.table.size
+    ensures ends { (base : ℕ) (before : Holding) → IsOpenFor sizes base path.table.size
         → K.holds path.table.table.shared.key.first.value ≡ before → IsFresh base sizes before
         → EndsShares sizes base before (K.holds result.0) workers.items result.1 }
+    ensures apart { path.mode ≡ Batch → result.1 ≡ None
+        → StandApart sizes.capacity (K.holds result.0).logged }
 {
     let mut workers = workers;
     let mut seats = room;
     seat_all(&path, sizes, workers.as_mut_slice(), handed);
-    commit_all(rt, alloc, &path, sizes, workers.as_mut_slice());
+    commit_all(rt, alloc, &path, sizes, gate, workers.as_mut_slice());
     let fault = end_all(rt, alloc, &path, workers, &mut seats);
     let (keeper, _end) = path.close(seats);
     (keeper, fault)
 }
 
 /// Logs the lines that were dealt out to workers, over a keeper that was just opened. There is room
-/// for a seat of each. Whatever is refused, the keeper does nothing beside its log.
-pub fn log_shares<R: Threads + Wait + Sync, K: Keeper + Send + Drop>(
+/// for a seat of each. Whatever is refused, the keeper does nothing beside its log. The gate is
+/// told how far each commit is.
+pub fn log_shares<R: Threads + Wait + Sync, K: Keeper + Send + Drop, G: Gate + Sync>(
     rt: &R,
     alloc: Global,
     keeper: K,
     sizes: Sizes,
+    mode: SyncCore,
+    gate: &G,
     base: u64,
     workers: Vec<Worker<K>>,
     room: Vec<PathSeat<K>>,
@@ -67,15 +74,17 @@ pub fn log_shares<R: Threads + Wait + Sync, K: Keeper + Send + Drop>(
     requires dealt { (mutations : List Mutation) × AreDealt sizes mutations workers.items }
     requires room { sizes.writers ≤ vec_capacity room }
     requires void { room.items ≡ [] }
-    ensures { EndsShares sizes base (K.holds keeper) (K.holds result.0) workers.items result.1 }
+    ensures ends { EndsShares sizes base (K.holds keeper) (K.holds result.0) workers.items
+        result.1 }
+    ensures apart { mode ≡ Batch → result.1 ≡ None
+        → StandApart sizes.capacity (K.holds result.0).logged }
 {
-    let mode = SyncCore::periodic(PERIOD_MS);
     let mut path = match WritePath::open(alloc, keeper, sizes, base, mode) {
         Ok(path) => path,
         Err((keeper, OutOfMemory)) => return (keeper, Some(WriteFault::OutOfMemory)),
     };
     match path.seats(alloc) {
-        Ok(handed) => run_crew(rt, alloc, path, sizes, workers, handed, room),
+        Ok(handed) => run_crew(rt, alloc, path, sizes, gate, workers, handed, room),
         Err(_) => {
             let (keeper, _end) = path.close(room);
             (keeper, Some(WriteFault::OutOfMemory))

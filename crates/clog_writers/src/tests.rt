@@ -7,13 +7,17 @@ ghost use Rattle.clog_mutation.specs.Limits.{IsWithinLimits};
 use crate::{make_plan, write_plan};
 use clog_base::{Sizes, Table, segment_name, table_name};
 use clog_disk::{Disk, MemDisk};
+use clog_io::OpenGate;
 use clog_mutation::{Mutation, decode};
 use clog_store::Store;
 use std::alloc::Global;
 use std::sync::Wait;
 use std::test::Fail;
 use std::thread::Threads;
+use sync_core::SyncCore;
 use write_path::Receipt;
+
+const PERIODIC: SyncCore = SyncCore::Periodic { period_ms: 10_000 };
 
 /// Key `ab`, one update: table 0, column `cd`, timestamp 5, a deletion: 20 bytes.
 const DELETION: &[u8] = b"\x00\x02ab\x00\x01\x00\x00\x02cd\x00\x00\x00\x00\x00\x00\x00\x05\x00";
@@ -52,11 +56,12 @@ fn lines_of(alloc: Global, payloads: &[&[u8]]) -> Result<Vec<Mutation>, Fail>
     Ok(lines)
 }
 
-// So many writers log three deletions to an empty disk, at 1000 ms, and drain it or not.
+// So many writers log three deletions to an empty disk in a mode, at 1000 ms, and drain it or not.
 fn three_by<R: Threads + Wait + Sync>(
     rt: &R,
     alloc: Global,
     writers: u8,
+    mode: SyncCore,
     drain: bool,
 ) -> Result<(MemDisk, Vec<Receipt>), Fail> {
     let lines = lines_of(alloc, [DELETION, DELETION, DELETION].as_slice())?;
@@ -72,7 +77,7 @@ fn three_by<R: Threads + Wait + Sync>(
     let Ok(plan) = make_plan(alloc, sizes, lines) else {
         return Err(Fail::new("no plan"));
     };
-    match write_plan(rt, alloc, store, sizes, plan, drain) {
+    match write_plan(rt, alloc, store, sizes, mode, &OpenGate::new(), plan, drain) {
         (disk, Ok(receipts)) => Ok((disk, receipts)),
         (_, Err(_)) => Err(Fail::new("not written")),
     }
@@ -89,7 +94,7 @@ fn ends_of(alloc: Global, receipts: &[Receipt]) -> Result<Vec<(u32, u32)>, Fail>
 
 #[test]
 fn one_writer_logs_its_lines_in_order(rt: HostRuntime) -> Result<(), Fail> {
-    let (mut disk, receipts) = three_by(&rt, rt.alloc(), 1, false)?;
+    let (mut disk, receipts) = three_by(&rt, rt.alloc(), 1, PERIODIC, false)?;
     let ends = ends_of(rt.alloc(), receipts.as_slice())?;
     assert_eq!(rt; ends.as_slice(), [(60, 1), (92, 2), (124, 3)].as_slice());
     let bytes = disk.read(&segment_name(1000), 0, 1000)?;
@@ -98,8 +103,16 @@ fn one_writer_logs_its_lines_in_order(rt: HostRuntime) -> Result<(), Fail> {
 }
 
 #[test]
+fn in_batch_mode_a_marker_stands_behind_each_line(rt: HostRuntime) -> Result<(), Fail> {
+    let (_, receipts) = three_by(&rt, rt.alloc(), 1, SyncCore::batch(), false)?;
+    let ends = ends_of(rt.alloc(), receipts.as_slice())?;
+    assert_eq!(rt; ends.as_slice(), [(60, 1), (100, 2), (140, 3)].as_slice());
+    Ok(())
+}
+
+#[test]
 fn two_writers_log_each_line_once(rt: HostRuntime) -> Result<(), Fail> {
-    let (mut disk, receipts) = three_by(&rt, rt.alloc(), 2, false)?;
+    let (mut disk, receipts) = three_by(&rt, rt.alloc(), 2, PERIODIC, false)?;
     let bytes = disk.read(&segment_name(1000), 0, 1000)?;
     assert_eq!(rt; bytes.as_slice(), THREE.as_slice());
     let mut ends = ends_of(rt.alloc(), receipts.as_slice())?;
@@ -117,7 +130,7 @@ fn two_writers_log_each_line_once(rt: HostRuntime) -> Result<(), Fail> {
 
 #[test]
 fn a_drain_of_two_writers_leaves_a_table_file(rt: HostRuntime) -> Result<(), Fail> {
-    let (mut disk, receipts) = three_by(&rt, rt.alloc(), 2, true)?;
+    let (mut disk, receipts) = three_by(&rt, rt.alloc(), 2, PERIODIC, true)?;
     assert_eq!(rt; receipts.len(), 3);
     assert_eq!(rt;
         disk.list()?.as_slice(),

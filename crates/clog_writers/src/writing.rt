@@ -24,12 +24,10 @@ ghost use Rattle.clog_disk.specs.Images.{IsLater};
 ghost use Rattle.clog_io.specs.Causes.{Rose};
 ghost use Rattle.clog_mutation.specs.declared.mutation.Mutation.{Mutation as MutationOf};
 ghost use Rattle.clog_words.specs.declared.request.ApplyOptions.{ApplyOptions};
-ghost use Rattle.clog_crash.specs.Log.{Write};
-ghost use Rattle.clog_lines.specs.Written.{BringsOnly, HasBrought};
 ghost use Rattle.clog_store.specs.StoreFailed.{AllStay};
 ghost use Rattle.clog_store.specs.StoreState.{store_over};
 ghost use Rattle.clog_writers.specs.declared.fault.WriteFault.TheVariants.{Spent, Stopped};
-ghost use Rattle.clog_writers.specs.Left.{LeavesShares, least_of};
+ghost use Rattle.clog_writers.specs.Left.{LeavesShares, WritesShares, least_of};
 ghost use Rattle.clog_writers.specs.Planned.{IsPlanFor};
 ghost use Rattle.clog_writers.specs.Written.{
   HasReceipts,
@@ -46,10 +44,12 @@ use crate::planning::Plan;
 use clog_base::Sizes;
 use clog_closing::stores_are_left;
 use clog_disk::Disk;
+use clog_io::Gate;
 use clog_store::Store;
 use std::alloc::Global;
 use std::sync::Wait;
 use std::thread::Threads;
+use sync_core::SyncCore;
 use write_path::Receipt;
 
 // How lines were written, by the disk's counts of faults before and now: with their receipts, where
@@ -88,9 +88,10 @@ fn disks_read_now<D: Disk>(_store: &Store<D>)
 /// Logs the lines of a plan over a store that was just opened, by as many writers as the store's
 /// sizes say, each in a thread of its own where one can be started, and gives the disk back. Line
 /// `n`, from 1, is written by the writer of number `n` modulo their count, each writer's lines in
-/// order, and each writer has the log synced at the end. With `drain` a table file is put then for
-/// each table that one of them touches, and all segments go, each with its archive name first where
-/// the store archives. The receipts are in the order of the lines.
+/// order, and each writer has the log synced at the end; in batch mode behind each of its lines,
+/// before its next one. With `drain` a table file is put then for each table that one of them
+/// touches, and all segments go, each with its archive name first where the store archives. The
+/// receipts are in the order of the lines. The gate is told how far each commit is.
 ///
 /// Whatever is answered, the disk's further changes are appends alone, which have brought segments,
 /// and no other names have come; with `drain` perhaps true table files and removals behind them, in
@@ -102,11 +103,13 @@ fn disks_read_now<D: Disk>(_store: &Store<D>)
 /// `OutOfMemory`: memory was refused for the path, by a sync or for the drain's table files;
 /// `Spent`: the log has no further segment, so it may have at most two segments for each line;
 /// `Rows`: no further group for a barrier; `Stopped`: the disk has failed, with its fault counts.
-pub fn write_plan<R: Threads + Wait + Sync, D: Disk + Send + Drop>(
+pub fn write_plan<R: Threads + Wait + Sync, D: Disk + Send + Drop, G: Gate + Sync>(
     rt: &R,
     alloc: Global,
     store: Store<D>,
     sizes: Sizes,
+    mode: SyncCore,
+    gate: &G,
     plan: Plan<Store<D>>,
     drain: bool,
 ) -> (D, Result<Vec<Receipt>, WriteFault>)
@@ -117,7 +120,7 @@ pub fn write_plan<R: Threads + Wait + Sync, D: Disk + Send + Drop>(
     requires plan { (mutations : List MutationOf) × IsPlanFor sizes mutations plan }
     ensures written { (mutations : List MutationOf) (options : ApplyOptions) (opened : Files)
         (made : List Change) → IsPlanFor sizes mutations plan
-        → IsAskedBy options store.notes.sizes store.archives drain
+        → IsAskedBy options store.notes.sizes mode store.archives drain
         → D.files store.notes.log.disk ≡ Some opened → D.changes store.notes.log.disk ≡ Some made
         → IfOk result.1 (λ receipts. TellsWrittenShares options store.notes.base opened made
         (D.files result.0) (D.changes result.0) mutations receipts.items) }
@@ -127,13 +130,13 @@ pub fn write_plan<R: Threads + Wait + Sync, D: Disk + Send + Drop>(
         → IsPlanFor sizes mutations plan → D.files store.notes.log.disk ≡ Some opened
         → D.lasted_at store.notes.log.disk (D.moment store.notes.log.disk)
         → LeavesShares D.changes D.moment D.since D.leaves store.notes.log.disk result.0
-        (bytes_at opened) store.archives drain sizes.writers mutations
+        (bytes_at opened) store.notes.base store.archives drain sizes.writers mutations
         (least_of result.1 mutations) }
     ensures spent { (mutations : List MutationOf) → IsPlanFor sizes mutations plan
         → result.1 ≡ Err Spent → sizes.ordinals ≤ 1 + (2 * length mutations - 1) }
     ensures wrote { (mutations : List MutationOf) → IsPlanFor sizes mutations plan
-        → (log : List Write) × HasBrought D.changes store.notes.log.disk result.0 store.archives
-        drain sizes.writers mutations log × BringsOnly D.files store.notes.log.disk result.0 log }
+        → WritesShares D.files D.changes store.notes.log.disk result.0 store.notes.base
+        store.archives drain sizes.writers mutations }
     ensures stay { (opened now : Files) → D.files store.notes.log.disk ≡ Some opened
         → D.files result.0 ≡ Some now → AllStay opened now }
     ensures told { SameTold (D.files store.notes.log.disk) (D.files result.0) }
@@ -152,7 +155,7 @@ pub fn write_plan<R: Threads + Wait + Sync, D: Disk + Send + Drop>(
         receipts,
     } = plan;
     let mut receipts = receipts;
-    let (store, fault) = log_shares(rt, alloc, store, sizes, base, workers, room);
+    let (store, fault) = log_shares(rt, alloc, store, sizes, mode, gate, base, workers, room);
     let mut store = store;
     place_receipts(base, store.logged(), receipts.as_mut_slice());
     let fault = drain_asked(alloc, &mut store, at_open, drain, fault);

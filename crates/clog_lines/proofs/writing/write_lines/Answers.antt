@@ -1,21 +1,20 @@
-use Rattle.std.proofs.Common.{ℕ, ◌≤◌, ◌++◌, List, sym, ◌∙◌, ap, subst}
+use Rattle.std.proofs.Common.{ℕ, ◌≤◌, ◌++◌, sym, ◌∙◌, ap, subst}
 use Rattle.std.specs.Prelude.{OnOk, option_map}
 use Rattle.clog_disk.specs.Files.{SameTold, bytes_at}
 use Rattle.clog_disk.specs.Images.{IsLater}
 use Rattle.clog_store.specs.StoreState.{StoreState, holding_of}
-use Rattle.clog_crash.specs.Log.{Write}
 use Rattle.clog_lines.specs.Written.{
-  BringsOnly,
-  HasBrought,
   HasWriteCause,
   LeavesLines,
   TellsWritten,
+  WritesLines,
   least_of,
 }
 use Rattle.clog_lines.proofs.Written.{
   brings_of,
   brought_of,
   cause_of,
+  says_of,
   shown_of,
   told_of,
   written_of,
@@ -38,7 +37,8 @@ returns-clause-shown g c mutations opened out is lasted =
     asked.first notes drain told.alone told.ordered told.settled told.notes told.sound mutations
     out r asked.logs asked.refused in
     subst (λ (d : g.row.D.Denot). LeavesLines D.changes D.moment D.since D.leaves
-    a.notes.log.disk d (bytes_at opened) a.archives drain mutations (least_of r mutations))
+    a.notes.log.disk d (bytes_at opened) a.notes.base a.archives drain mutations
+    (least_of r mutations))
     (sym told.disk)
     (shown_of D.files D.changes D.moment D.faults D.since D.leaves D.read_at D.lasted_at code
     g.met.D.Disk.tells_both g.met.D.Disk.reads_now a b c.requires.fresh c.requires.runs
@@ -63,9 +63,13 @@ returns-clause-wrote g c mutations out =
     let brings = brings_of D.files D.changes D.moment D.faults D.since D.leaves D.read_at
     D.lasted_at code g.met.D.Disk.tells_both g.met.D.Disk.reads_now a b c.requires.fresh
     c.requires.runs asked.first notes drain told.left in
-    subst (λ (d : g.row.D.Denot). (log : List Write) × HasBrought D.changes a.notes.log.disk d
-    a.archives drain 1 mutations log × BringsOnly D.files a.notes.log.disk d log) (sym told.disk)
-    (_, has.0, brings)
+    let says = says_of D.files D.changes D.moment D.faults D.since D.leaves D.read_at D.lasted_at
+    code g.met.D.Disk.tells_both g.met.D.Disk.reads_now a b c.requires.fresh c.requires.runs
+    asked.first notes drain told.alone told.ordered told.settled told.notes told.sound mutations
+    out r asked.logs asked.refused in
+    subst (λ (d : g.row.D.Denot). WritesLines D.files D.changes a.notes.log.disk d a.notes.base
+    a.archives drain mutations) (sym told.disk)
+    (record { log = _; wrote = has.0; says = says; only = brings })
 
 pub returns-clause-stay : goal.returns-clause-stay
 returns-clause-stay g c opened now is is_now =

@@ -1,7 +1,8 @@
-use Rattle.std.proofs.Common.{◌<◌, length, sym, subst, arith}
+use Rattle.std.proofs.Common.{◌<◌, length, sym, ◌∙◌, subst, arith}
 use Rattle.clog_applied.specs.History.{share_of}
 use Rattle.clog_writers.specs.declared.worker.Worker.{Worker}
 use Rattle.clog_writers.specs.Crews.{HasLogged, IsReady}
+use Rattle.clog_writers.specs.Sealing.{SealsShare}
 use Rattle.clog_writers.proofs.crew.commit_all.Goals as goal
 
 pub for_each_mut-requires-clause-accepts : goal.for_each_mut-requires-clause-accepts
@@ -10,7 +11,6 @@ for_each_mut-requires-clause-accepts g c κs within = λ i p inside is.
     let ready = c.requires.ready in
     let lines = share_of t.size.seats i ready.0 in (
       c.requires.sized,
-      c.requires.periodic,
       (
         i,
         lines,
@@ -20,8 +20,8 @@ for_each_mut-requires-clause-accepts g c κs within = λ i p inside is.
       ),
     )
 
-pub returns : goal.returns
-returns g c = λ mutations ready.
+pub returns-clause-logged : goal.returns-clause-logged
+returns-clause-logged g c = λ mutations ready.
     let t = c.args.path.now.table in
     let count = ready.count in
     let long = c.for_each_mut.auto.s in record {
@@ -31,7 +31,14 @@ returns g c = λ mutations ready.
           let lines = share_of t.size.seats i mutations in
           let one = (c.for_each_mut.ensures i d low).1 in
           subst (HasLogged t.table.shared.table_id t.size i lines) one.left
-          (one.call i lines
+          (one.call.0 i lines
           (subst (IsReady t.table.shared.table_id t.size c.args.sizes i lines)
           (sym one.argument_is) (ready.each i d low)));
     }
+
+pub returns-clause-sealed : goal.returns-clause-sealed
+returns-clause-sealed g c = λ batch w among.
+    let inside = among.1 in
+    let long = c.for_each_mut.auto.s in
+    let one = (c.for_each_mut.ensures among.0 w (omega (arith, inside, long))).1 in
+    subst (λ (x : Worker g.row.K.Denot). SealsShare x) (one.left ∙ among.2) (one.call.1 batch)

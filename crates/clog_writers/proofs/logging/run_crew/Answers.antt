@@ -1,9 +1,19 @@
-use Rattle.std.proofs.Common.{sym, subst}
+use Rattle.std.proofs.Common.{ℕ, Option, sym, subst}
+use Rattle.clog_closing.specs.Gaps.{StandApart}
 use Rattle.path_core.specs.Keeper.{Holding}
 use Rattle.write_path.specs.Closed.{AreAll, StaysBeside}
 use Rattle.write_path.specs.Opened.{numbers_of}
-use Rattle.clog_writers.specs.Crews.{AreDealt}
-use Rattle.clog_writers.proofs.Running.{all_numbers, back_logged, lent_ready, ran, sized_as}
+use Rattle.clog_writers.specs.declared.fault.WriteFault.{WriteFault}
+use Rattle.clog_writers.specs.Crews.{AreDealt, HaveEnded}
+use Rattle.clog_writers.proofs.Apart.{stand_apart}
+use Rattle.clog_writers.proofs.Running.{
+  all_numbers,
+  back_logged,
+  back_sealed,
+  lent_ready,
+  ran,
+  sized_as,
+}
 use Rattle.clog_writers.proofs.logging.run_crew.Goals as goal
 
 pub commit_all-requires-clause-ready : goal.commit_all-requires-clause-ready
@@ -30,7 +40,7 @@ end_all-fault-requires-clause-logged g c =
       d.0,
       back_logged id t.size c.args.sizes sized d.0 c.args.workers.len c.args.workers.items
           c.commit_all.new.workers _ d.1 c.args.workers.ok.0
-          (c.commit_all.ensures d.0
+          (c.commit_all.ensures.logged d.0
           (lent_ready id t.size c.args.sizes sized d.0 c.args.workers.len c.args.workers.items
           c.seat_all.new.workers c.as_mut_slice-2.result.now _ d.1 c.args.workers.ok.0
           c.as_mut_slice-2.ensures.value
@@ -45,10 +55,10 @@ close-keeper-requires-clause-seats g c =
     let d = c.requires.dealt in
     let open_for = c.requires.open in
     let sized = sized_as t.size c.args.sizes open_for.0 open_for.1.at_open open_for.1.size_is in
-    let ended = c.end_all-fault.ensures d.0
+    let ended = c.end_all-fault.ensures.ended d.0
     (back_logged id t.size c.args.sizes sized d.0 c.args.workers.len c.args.workers.items
     c.commit_all.new.workers _ d.1 c.args.workers.ok.0
-    (c.commit_all.ensures d.0
+    (c.commit_all.ensures.logged d.0
     (lent_ready id t.size c.args.sizes sized d.0 c.args.workers.len c.args.workers.items
     c.seat_all.new.workers c.as_mut_slice-2.result.now _ d.1 c.args.workers.ok.0
     c.as_mut_slice-2.ensures.value
@@ -64,10 +74,10 @@ close-keeper-requires-clause-all g c =
     let open_for = c.requires.open in
     let sized = sized_as t.size c.args.sizes open_for.0 open_for.1.at_open open_for.1.size_is in
     let seats = c.end_all-fault.new.seats.items in
-    let ended = c.end_all-fault.ensures d.0
+    let ended = c.end_all-fault.ensures.ended d.0
     (back_logged id t.size c.args.sizes sized d.0 c.args.workers.len c.args.workers.items
     c.commit_all.new.workers _ d.1 c.args.workers.ok.0
-    (c.commit_all.ensures d.0
+    (c.commit_all.ensures.logged d.0
     (lent_ready id t.size c.args.sizes sized d.0 c.args.workers.len c.args.workers.items
     c.seat_all.new.workers c.as_mut_slice-2.result.now _ d.1 c.args.workers.ok.0
     c.as_mut_slice-2.ensures.value
@@ -76,8 +86,8 @@ close-keeper-requires-clause-all g c =
     subst (λ o. AreAll o t.size.seats (numbers_of seats)) (sym c.requires.made)
     (all_numbers id t.size d.0 c.end_all-fault.result seats ended)
 
-pub returns : goal.returns
-returns g c = λ base before open_for is fresh.
+pub returns-clause-ends : goal.returns-clause-ends
+returns-clause-ends g c = λ base before open_for is fresh.
     let t = c.args.path.table in
     let id = t.table.shared.table_id in
     let d = c.requires.dealt in
@@ -89,12 +99,39 @@ returns g c = λ base before open_for is fresh.
     (subst (λ (h : Holding). StaysBeside h (g.K.Keeper.holds closed.result.0)) is
     closed.ensures.beside)
     c.args.workers.items c.end_all-fault.result d.0 d.1
-    (λ ms dealt. c.end_all-fault.ensures ms
+    (λ ms dealt. c.end_all-fault.ensures.ended ms
     (back_logged id t.size c.args.sizes sized ms c.args.workers.len c.args.workers.items
     c.commit_all.new.workers _ dealt c.args.workers.ok.0
-    (c.commit_all.ensures ms
+    (c.commit_all.ensures.logged ms
     (lent_ready id t.size c.args.sizes sized ms c.args.workers.len c.args.workers.items
     c.seat_all.new.workers c.as_mut_slice-2.result.now _ dealt c.args.workers.ok.0
     c.as_mut_slice-2.ensures.value
     (c.seat_all.ensures ms
     (subst (AreDealt c.args.sizes ms) (sym c.as_mut_slice.ensures.value) dealt))))))
+
+pub returns-clause-apart : goal.returns-clause-apart
+returns-clause-apart g c = λ batch none.
+    let t = c.args.path.table in
+    let id = t.table.shared.table_id in
+    let d = c.requires.dealt in
+    let open_for = c.requires.open in
+    let sized = sized_as t.size c.args.sizes open_for.0 open_for.1.at_open open_for.1.size_is in
+    let seats = c.end_all-fault.new.seats.items in
+    let logged = c.commit_all.ensures.logged d.0
+    (lent_ready id t.size c.args.sizes sized d.0 c.args.workers.len c.args.workers.items
+    c.seat_all.new.workers c.as_mut_slice-2.result.now _ d.1 c.args.workers.ok.0
+    c.as_mut_slice-2.ensures.value
+    (c.seat_all.ensures d.0
+    (subst (AreDealt c.args.sizes d.0) (sym c.as_mut_slice.ensures.value) d.1))) in
+    let ended = c.end_all-fault.ensures.ended d.0
+    (back_logged id t.size c.args.sizes sized d.0 c.args.workers.len c.args.workers.items
+    c.commit_all.new.workers _ d.1 c.args.workers.ok.0 logged) in
+    let sealed = c.end_all-fault.ensures.sealed
+    (back_sealed id t.size c.args.sizes sized d.0 c.args.workers.len c.args.workers.items
+    c.commit_all.new.workers _ d.1 c.args.workers.ok.0 logged (c.commit_all.ensures.sealed batch))
+    none in
+    let held = g.K.Keeper.holds c.close-keeper.result.0 in
+    subst (λ (k : ℕ). StandApart k held.logged) (sym sized.capacity)
+    (stand_apart id t.size d.0 seats
+    (subst (λ (f : Option WriteFault). HaveEnded id t.size d.0 f seats) none ended)
+    c.close-keeper.result.1.end.0 held c.close-keeper.ensures.outcome sealed)

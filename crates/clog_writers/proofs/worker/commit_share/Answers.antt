@@ -1,11 +1,12 @@
 use Rattle.std.proofs.Common.{ℕ, refl, sym, ap, ◌∙◌, subst}
 use Rattle.std.proofs.lemmas.Option.{same_Some}
 use Rattle.path_rule.specs.declared.trying.PathSeat.{PathSeat}
+use Rattle.clog_writers.specs.Sealing.{HasSealed}
 use Rattle.clog_writers.specs.Shares.{ArePrepared, LogsShare, logged_by}
 use Rattle.clog_writers.proofs.worker.commit_share.Goals as goal
 
-pub returns : goal.returns
-returns g c = λ number lines ready.
+pub returns-clause-logged : goal.returns-clause-logged
+returns-clause-logged g c = λ number lines ready.
     let seated = ready.0 in
     let same = same_Some seated.seat c.in-Some.seat
     (sym seated.has ∙ (sym c.take.ensures.value ∙ c.in-Some.is)) in
@@ -25,3 +26,9 @@ returns g c = λ number lines ready.
       stops = w.ensures.stops;
       spent = w.ensures.spent;
     }
+
+pub returns-clause-sealed : goal.returns-clause-sealed
+returns-clause-sealed g c = λ batch none s is.
+    let w = c.commit_writes-seat in
+    subst (λ (t : PathSeat g.row.K.Denot). HasSealed t) (same_Some w.result.0 s is)
+    (w.ensures.sealed batch none)

@@ -1,5 +1,7 @@
 use Rattle.std.proofs.Common.{
   ℕ,
+  inl,
+  inr,
   List,
   ◌∷◌,
   length,
@@ -13,8 +15,10 @@ use Rattle.std.proofs.Common.{
   refl,
   arith,
 }
+use Rattle.std.specs.Prelude.{Contains}
 use Rattle.std.proofs.lemmas.List.{nil_from_length}
 use Rattle.std.proofs.lemmas.Option.{none-some}
+use Rattle.clog_base.proofs.Members.{nothing_there}
 use Rattle.path_core.specs.declared.note.EntryNote.{EntryNote}
 use Rattle.path_rule.specs.Members.{view_of}
 use Rattle.sync_core.specs.declared.SyncCore.{SyncCore}
@@ -26,12 +30,15 @@ use Rattle.clog_writers.proofs.Committing.{
   GoesOn,
   begins,
   ends,
+  in_periodic,
   logged,
   next_of,
+  one_sealed,
   spent,
   where_logged,
   where_refused,
   where_spent,
+  where_stopped,
 }
 use Rattle.clog_writers.proofs.worker.commit_writes.Goals as goal
 
@@ -44,6 +51,8 @@ loop-prepared-init g c =
           GoesOn c.args.sizes w lines q.0 q.1)
           (λ i. (sym gives.0 i, reverse (sym c.requires.unused i)))
           (begins c.args.sizes w lines c.args.writes.items prepared);
+      sealed = λ batch n among. absurd (nothing_there n
+          (subst (λ (l : List EntryNote). Contains l n) c.requires.unused among));
       count = let items = ap length gives.0 in omega (arith, items, gives.1, c.args.writes.ok);
     }
 
@@ -71,16 +80,16 @@ commit-next-requires-clause-prepared g c =
 pub loop-prepared-preserved : goal.loop-prepared-preserved
 loop-prepared-preserved g c =
     let l = c.loop-prepared in let I = l.invariant in let w = c.args.seat.member.number in
+    let size = c.args.path.now.table.size in
     let steps = c.in-Some.ensures.steps in
     let rest = c.next.new.self.rest.items in
     let before = (view_of l.seat.member).trail in
     let v = view_of c.commit-next.result.0.member in
-    let done = subst (λ (mode : SyncCore). IsCommitted mode c.args.path.now.table.size
-    l.seat.member.number before c.in-Some.prepared c.commit-next.result.1 v)
-    c.requires.periodic.1 c.commit-next.ensures.committed in
-    let there = where_logged c.requires.periodic.0 c.args.path.now.table.size
-    l.seat.member.number before c.in-Some.prepared v c.commit-next.result.1 done
-    (sym c.refusal_in.ensures ∙ c.in-None-refusal_in.is) in
+    let mode = c.args.path.now.mode in
+    let done = c.commit-next.ensures.committed in
+    let none = sym c.refusal_in.ensures ∙ c.in-None-refusal_in.is in
+    let there = where_logged size l.seat.member.number before c.in-Some.prepared v mode
+    c.commit-next.result.1 done none in
     record {
       same = (c.commit-next.ensures.same.0, c.commit-next.ensures.same.1 ∙ I.same.1);
       goes = λ lines prepared.
@@ -89,6 +98,10 @@ loop-prepared-preserved g c =
           I.same.1 there.is)
           (subst (λ (ps : List Prepared). GoesOn c.args.sizes w lines ps
           (logged_by l.seat.member)) steps.0 (I.goes lines prepared));
+      sealed = λ batch.
+          one_sealed size l.seat.member.number before c.in-Some.prepared v c.commit-next.result.1
+          (subst (λ (m : SyncCore). IsCommitted m size l.seat.member.number before
+          c.in-Some.prepared c.commit-next.result.1 v) batch done) none (I.sealed batch);
       count = let short = ap length steps.0 in omega (arith, short, steps.1, I.count);
     }
 
@@ -103,31 +116,55 @@ returns-in-Some-refusal_in-clause-logs g c = λ lines prepared.
     let rest = c.next.new.self.rest.items in
     let before = (view_of l.seat.member).trail in
     let v = view_of c.commit-next.result.0.member in
-    let done = subst (λ (mode : SyncCore). IsCommitted mode c.args.path.now.table.size
-    l.seat.member.number before c.in-Some.prepared c.commit-next.result.1 v)
-    c.requires.periodic.1 c.commit-next.ensures.committed in
-    let refused = where_refused c.requires.periodic.0 c.args.path.now.table.size
-    l.seat.member.number before c.in-Some.prepared v c.commit-next.result.1 fault done
-    (sym c.refusal_in.ensures ∙ c.in-Some-refusal_in.is) in
-    ends c.args.sizes w lines (c.in-Some.prepared ∷ rest)
-    (logged_by c.commit-next.result.0.member) (Some fault)
-    (spent c.args.sizes w lines c.in-Some.prepared rest before v.trail refused.1
-    (subst (λ (ps : List Prepared). GoesOn c.args.sizes w lines ps (logged_by l.seat.member))
-    c.in-Some.ensures.steps.0 (I.goes lines prepared)))
-    (λ none. absurd (none-some fault (sym none)))
+    let notes = logged_by c.commit-next.result.0.member in
+    let goes = subst (λ (ps : List Prepared). GoesOn c.args.sizes w lines ps
+    (logged_by l.seat.member)) c.in-Some.ensures.steps.0 (I.goes lines prepared) in
+    elim (where_refused c.args.path.now.table.size l.seat.member.number before c.in-Some.prepared v
+    c.args.path.now.mode c.commit-next.result.1 fault c.commit-next.ensures.committed
+    (sym c.refusal_in.ensures ∙ c.in-Some-refusal_in.is)) [
+      | inl there ↦
+          ends c.args.sizes w lines rest notes (Some fault)
+          (logged c.args.sizes w lines c.in-Some.prepared rest before v.trail there.start there.end
+          (subst (λ (k : ℕ). IsLogged before k there.start there.end c.in-Some.prepared v.trail)
+          I.same.1 there.is) goes)
+          (λ none. absurd (none-some fault (sym none)))
+      | inr same ↦
+          ends c.args.sizes w lines (c.in-Some.prepared ∷ rest) notes (Some fault)
+          (spent c.args.sizes w lines c.in-Some.prepared rest before v.trail same goes)
+          (λ none. absurd (none-some fault (sym none)))
+    ]
+
+pub returns-in-Some-refusal_in-clause-periodic : goal.returns-in-Some-refusal_in-clause-periodic
+returns-in-Some-refusal_in-clause-periodic g c = λ period mode f is.
+    let size = c.args.path.now.table.size in
+    let w = c.loop-prepared.seat.member.number in
+    let before = (view_of c.loop-prepared.seat.member).trail in
+    let v = view_of c.commit-next.result.0.member in
+    in_periodic size w before c.in-Some.prepared v period c.commit-next.result.1 f
+    (subst (λ (m : SyncCore). IsCommitted m size w before c.in-Some.prepared
+    c.commit-next.result.1 v) mode c.commit-next.ensures.committed)
+    (sym c.refusal_in.ensures ∙ c.in-Some-refusal_in.is ∙ is)
+
+pub returns-in-Some-refusal_in-clause-stops : goal.returns-in-Some-refusal_in-clause-stops
+returns-in-Some-refusal_in-clause-stops g c = λ at_open now is.
+    let l = c.loop-prepared in
+    where_stopped c.args.path.now.table.size l.seat.member.number (view_of l.seat.member).trail
+    c.in-Some.prepared (view_of c.commit-next.result.0.member) c.args.path.now.mode
+    c.commit-next.result.1 at_open now c.commit-next.ensures.committed
+    (sym c.refusal_in.ensures ∙ c.in-Some-refusal_in.is ∙ is)
+
+pub returns-in-Some-refusal_in-clause-sealed : goal.returns-in-Some-refusal_in-clause-sealed
+returns-in-Some-refusal_in-clause-sealed g c = λ batch none.
+    absurd (none-some c.in-Some-refusal_in.fault (sym none))
 
 pub returns-in-Some-refusal_in-clause-spent : goal.returns-in-Some-refusal_in-clause-spent
 returns-in-Some-refusal_in-clause-spent g c = λ is.
     let l = c.loop-prepared in let I = l.invariant in let w = c.args.seat.member.number in
-    let size = c.args.path.now.table.size in
-    let fault = c.in-Some-refusal_in.fault in
     let p = c.in-Some.prepared in
-    let before = (view_of l.seat.member).trail in
-    let v = view_of c.commit-next.result.0.member in
-    let done = subst (λ (mode : SyncCore). IsCommitted mode size l.seat.member.number before p
-    c.commit-next.result.1 v) c.requires.periodic.1 c.commit-next.ensures.committed in
-    let found = where_spent c.requires.periodic.0 size l.seat.member.number before p v
-    c.commit-next.result.1 fault done (sym c.refusal_in.ensures ∙ c.in-Some-refusal_in.is) in
+    let found = where_spent c.args.path.now.table.size l.seat.member.number
+    (view_of l.seat.member).trail p (view_of c.commit-next.result.0.member) c.args.path.now.mode
+    c.commit-next.result.1 c.commit-next.ensures.committed
+    (sym c.refusal_in.ensures ∙ c.in-Some-refusal_in.is ∙ is) in
     let some = c.requires.prepared in
     let goes = subst (λ (ps : List Prepared). GoesOn c.args.sizes w some.0 ps
     (logged_by l.seat.member)) c.in-Some.ensures.steps.0 (I.goes some.0 some.1) in
@@ -136,6 +173,9 @@ returns-in-Some-refusal_in-clause-spent g c = λ is.
     let fits = next.prepared.fits in let long = next.prepared.size in
     let same = c.requires.sized.capacity in
     (p.size, found.0, omega (arith, fits, long, same), found.1)
+
+pub returns-clause-sealed : goal.returns-clause-sealed
+returns-clause-sealed g c = λ batch none. c.loop-prepared.invariant.sealed batch
 
 pub returns-clause-same : goal.returns-clause-same
 returns-clause-same g c = c.loop-prepared.invariant.same

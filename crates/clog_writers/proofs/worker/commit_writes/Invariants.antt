@@ -1,6 +1,8 @@
 use Rattle.std.proofs.Common.{◌≡◌, List, length}
 use Rattle.clog_applied.specs.History.{Line}
+use Rattle.sync_core.specs.declared.SyncCore.TheVariants.{Batch}
 use Rattle.write_path.specs.Tries.{Stays}
+use Rattle.clog_writers.specs.Sealing.{HasSealed}
 use Rattle.clog_writers.specs.Shares.{ArePrepared, logged_by}
 use Rattle.clog_writers.proofs.Committing.{GoesOn}
 use Rattle.clog_writers.proofs.worker.commit_writes.Given as goal
@@ -12,5 +14,6 @@ invariant-loop-prepared g l = let t = l.path.table in record {
   goes : (lines : List Line) → ArePrepared l.fn.sizes lines l.fn.writes.items
       → GoesOn l.fn.sizes l.fn.seat.member.number lines l.prepared-iterator.rest.items
       (logged_by l.seat.member);
+  sealed : l.path.mode ≡ Batch → HasSealed l.seat;
   count : l.prepared-iterator.rest.len ≡ length l.prepared-iterator.rest.items;
 }

@@ -2,18 +2,17 @@ use Rattle.std.proofs.Common.{◌≡◌, ℕ, ◌≤◌, inl, inr, Bool, List, l
 use Rattle.std.specs.Prelude.{IfOk}
 use Rattle.std.specs.Global.{Vec}
 use Rattle.clog_base.specs.declared.sizes.Sizes.{Sizes}
-use Rattle.clog_crash.specs.Log.{Write}
 use Rattle.clog_disk.specs.Files.{SameTold}
 use Rattle.clog_disk.specs.Images.{IsLater}
 use Rattle.clog_io.specs.Causes.{Rose}
 use Rattle.path_core.specs.declared.note.EntryNote.{EntryNote}
 use Rattle.path_core.specs.Keeper.{Holding, IsFresh}
+use Rattle.clog_closing.specs.Gaps.{StandApart}
 use Rattle.clog_store.specs.Life.{lasting_in}
 use Rattle.clog_store.specs.StoreState.{holding_of}
-use Rattle.clog_lines.specs.Written.{BringsOnly, HasBrought}
 use Rattle.clog_lines.proofs.Synced.{is_fresh}
 use Rattle.write_path.specs.declared.commit.Receipt.{Receipt}
-use Rattle.clog_writers.specs.Left.{least_of}
+use Rattle.clog_writers.specs.Left.{WritesShares, least_of}
 use Rattle.clog_writers.specs.Placed.{AreAtTheirLines}
 use Rattle.clog_writers.specs.Written.{HasReceipts, IsAskedBy, TellsWrittenShares}
 use Rattle.clog_writers.proofs.Brought.{
@@ -27,6 +26,7 @@ use Rattle.clog_writers.proofs.Brought.{
   logs_on,
   still_told,
 }
+use Rattle.clog_writers.proofs.Crashing.{history, says}
 use Rattle.clog_writers.proofs.Ended.{written}
 use Rattle.clog_writers.proofs.LeftBy.{all_last, least_reached, left_by}
 use Rattle.clog_writers.proofs.Running.{written_back}
@@ -48,16 +48,16 @@ drain_asked-fault-requires-clause-opened g c =
     let D = g.D.Disk in
     c.fault_count-at_open.ensures.count
     ∙ ap D.faults (sym (first_disk D.files D.changes D.moment D.faults g.row.D.coded c.args.store
-    c.log_shares-store.result.0 c.requires.fresh c.log_shares-store.ensures.alone))
+    c.log_shares-store.result.0 c.requires.fresh c.log_shares-store.ensures.ends.alone))
 
 pub drain_asked-fault-requires-clause-tables : goal.drain_asked-fault-requires-clause-tables
 drain_asked-fault-requires-clause-tables g c =
-    c.log_shares-store.ensures.alone.tables_are
+    c.log_shares-store.ensures.ends.alone.tables_are
     ∙ ap (λ (z : Sizes). z.tables) (sym c.requires.sizes) ∙ c.requires.tables
 
 pub drain_asked-fault-requires-clause-none : goal.drain_asked-fault-requires-clause-none
 drain_asked-fault-requires-clause-none g c =
-    let alone = c.log_shares-store.ensures.alone in
+    let alone = c.log_shares-store.ensures.ends.alone in
     record {
       no_file = alone.no_file;
       none_dropped = alone.none_dropped;
@@ -65,7 +65,7 @@ drain_asked-fault-requires-clause-none g c =
     }
 
 pub drain_asked-fault-requires-clause-stopped : goal.drain_asked-fault-requires-clause-stopped
-drain_asked-fault-requires-clause-stopped g c = c.log_shares-store.ensures.stops
+drain_asked-fault-requires-clause-stopped g c = c.log_shares-store.ensures.ends.stops
 
 pub returns-clause-wrote : goal.returns-clause-wrote
 returns-clause-wrote g c = λ ms plan.
@@ -74,7 +74,7 @@ returns-clause-wrote g c = λ ms plan.
     let b = c.log_shares-store.result.0 in
     let e = c.drain_asked-fault.new.store in
     let told = c.into_disk.ensures in
-    let shares = c.log_shares-store.ensures in
+    let shares = c.log_shares-store.ensures.ends in
     let drained = c.drain_asked-fault.ensures in
     let sizes = c.args.sizes in
     let base = c.base-base.result in
@@ -86,14 +86,18 @@ returns-clause-wrote g c = λ ms plan.
     told.notes told.sound c.args.drain sizes base ms
     (begun_on D.files D.changes D.moment D.faults g.row.D.coded a b e c.requires.fresh
     shares.alone drained.keeps drained.first c.args.drain _ _ drained.begun logs) in
-    subst (λ (d : g.row.D.Denot). (log : List Write) × HasBrought D.changes a.notes.log.disk d
-    a.archives c.args.drain sizes.writers ms log × BringsOnly D.files a.notes.log.disk d log)
-    (sym told.disk) (
-      _,
-      has.0,
-      brings_only D.files D.changes D.moment D.faults g.row.D.coded a b e c.requires.fresh
-          shares.alone drained.keeps drained.first told.left,
-    )
+    let held = firsts_on D.files D.changes D.moment D.faults g.row.D.coded a b e c.requires.fresh
+    shares.alone drained.keeps drained.first sizes.writers ms (shares.firsts ms plan.dealt) in
+    subst (λ (d : g.row.D.Denot). WritesShares D.files D.changes a.notes.log.disk d a.notes.base
+    a.archives c.args.drain sizes.writers ms) (sym told.disk)
+    (record {
+      log = _;
+      history = history e.notes told.notes told.stored sizes.writers ms held;
+      wrote = has.0;
+      says = says e.notes told.notes told.stored sizes.writers ms held;
+      only = brings_only D.files D.changes D.moment D.faults g.row.D.coded a b e c.requires.fresh
+          shares.alone drained.keeps drained.first told.left;
+    })
 
 pub returns-clause-receipts : goal.returns-clause-receipts
 returns-clause-receipts g c = λ ms plan.
@@ -110,7 +114,7 @@ returns-clause-receipts g c = λ ms plan.
     (sym back ∙ ap (λ (v : Vec Receipt). v.items) (sym so.0))
     (record {
       notes = b.notes.logged;
-      holds = (c.log_shares-store.ensures.logs ms plan.dealt
+      holds = (c.log_shares-store.ensures.ends.logs ms plan.dealt
           (c.drain_asked-fault.ensures.ok so.1).0).notes;
       placed = subst (λ (k : ℕ). AreAtTheirLines k b.notes.logged xs) c.base-base.ensures.base
           (subst (λ (l : List EntryNote). AreAtTheirLines c.base-base.result l xs)
@@ -125,7 +129,7 @@ returns-clause-shown g c = λ ms opened plan is lasted.
     let b = c.log_shares-store.result.0 in
     let e = c.drain_asked-fault.new.store in
     let told = c.into_disk.ensures in
-    let shares = c.log_shares-store.ensures in
+    let shares = c.log_shares-store.ensures.ends in
     let drained = c.drain_asked-fault.ensures in
     let sizes = c.args.sizes in
     let base = c.base-base.result in
@@ -153,8 +157,8 @@ returns-clause-shown g c = λ ms opened plan is lasted.
       lasts = told.lasts;
     })
     (still_told D.files D.changes D.moment D.faults g.row.D.coded a b e c.requires.fresh
-    shares.alone drained.keeps drained.first told.grown c.disks_tell_both.ensures) a.archives
-    c.args.drain sizes.writers (least_of c.ended-outcome.result ms) ms held
+    shares.alone drained.keeps drained.first told.grown c.disks_tell_both.ensures) a.notes.base
+    a.archives c.args.drain sizes.writers (least_of c.ended-outcome.result ms) ms held
     (least_reached c.ended-outcome.result ms (lasting_in e.notes.log)
     (at_ok c.ended-outcome.result _ (λ receipts. length ms ≤ lasting_in e.notes.log)
     c.ended-outcome.ensures.ok (λ receipts so. all_last e.notes told.notes told.stored sizes ms held
@@ -171,7 +175,7 @@ returns-clause-stay g c = λ opened now is is_now.
     let drained = c.drain_asked-fault.ensures in
     let its = its_disk D.files D.changes D.moment D.faults g.row.D.coded c.args.store
     c.log_shares-store.result.0 c.drain_asked-fault.new.store c.requires.fresh
-    c.log_shares-store.ensures.alone drained.keeps drained.first in
+    c.log_shares-store.ensures.ends.alone drained.keeps drained.first in
     c.into_disk.ensures.stay opened now (ap D.files its ∙ is) is_now
 
 pub returns-clause-told : goal.returns-clause-told
@@ -183,7 +187,7 @@ returns-clause-told g c =
     (sym told.disk)
     (still_told D.files D.changes D.moment D.faults g.row.D.coded c.args.store
     c.log_shares-store.result.0 c.drain_asked-fault.new.store c.requires.fresh
-    c.log_shares-store.ensures.alone drained.keeps drained.first told.grown
+    c.log_shares-store.ensures.ends.alone drained.keeps drained.first told.grown
     c.disks_tell_both.ensures)
 
 pub returns-clause-later : goal.returns-clause-later
@@ -193,7 +197,7 @@ returns-clause-later g c =
     subst (λ (d : g.row.D.Denot). IsLater D.moment D.read_at D.lasted_at d c.into_disk.result)
     (its_disk D.files D.changes D.moment D.faults g.row.D.coded c.args.store
     c.log_shares-store.result.0 c.drain_asked-fault.new.store c.requires.fresh
-    c.log_shares-store.ensures.alone drained.keeps drained.first) c.into_disk.ensures.later
+    c.log_shares-store.ensures.ends.alone drained.keeps drained.first) c.into_disk.ensures.later
 
 pub ended-outcome-requires-clause-later : goal.ended-outcome-requires-clause-later
 ended-outcome-requires-clause-later g c =
@@ -201,8 +205,8 @@ ended-outcome-requires-clause-later g c =
     let e = c.drain_asked-fault.new.store in
     let drained = c.drain_asked-fault.ensures in
     let its = its_disk D.files D.changes D.moment D.faults g.row.D.coded c.args.store
-    c.log_shares-store.result.0 e c.requires.fresh c.log_shares-store.ensures.alone drained.keeps
-    drained.first in
+    c.log_shares-store.result.0 e c.requires.fresh c.log_shares-store.ensures.ends.alone
+    drained.keeps drained.first in
     let first = c.fault_count-at_open.ensures.count in
     let n = c.fault_count.ensures in
     let same = ap D.faults its ∙ sym first in
@@ -217,7 +221,7 @@ ended-outcome-requires-clause-stopped g c = λ x k is.
     let drained = c.drain_asked-fault.ensures in
     let its = its_disk D.files D.changes D.moment D.faults g.row.D.coded c.args.store
     c.log_shares-store.result.0 c.drain_asked-fault.new.store c.requires.fresh
-    c.log_shares-store.ensures.alone drained.keeps drained.first in
+    c.log_shares-store.ensures.ends.alone drained.keeps drained.first in
     let n = c.fault_count.ensures in
     elim (drained.stopped x k is) [
       | inl stopped ↦ subst (λ (p : ℕ × ℕ). Rose p.0 p.1)
@@ -233,7 +237,7 @@ returns-clause-written g c = λ ms options opened made plan asked is made_is.
     let b = c.log_shares-store.result.0 in
     let e = c.drain_asked-fault.new.store in
     let told = c.into_disk.ensures in
-    let shares = c.log_shares-store.ensures in
+    let shares = c.log_shares-store.ensures.ends in
     let drained = c.drain_asked-fault.ensures in
     let its = its_disk D.files D.changes D.moment D.faults g.row.D.coded a b e c.requires.fresh
     shares.alone drained.keeps drained.first in
@@ -268,15 +272,18 @@ returns-clause-written g c = λ ms options opened made plan asked is made_is.
     c.stores_are_left.ensures c.args.sizes base ms
     (logs_on D.files D.changes D.moment D.faults g.row.D.coded a b e c.requires.fresh shares.alone
     drained.keeps drained.first c.args.sizes base ms (shares.logs ms plan.dealt done.0))
-    c.args.drain done.1 options
-    (subst (λ (x : Bool). IsAskedBy options c.args.sizes x c.args.drain)
+    c.args.mode
+    (λ batch. subst (λ (l : List EntryNote). StandApart c.args.sizes.capacity l)
+    (sym (ap (λ (h : Holding). h.logged) drained.keeps))
+    (c.log_shares-store.ensures.apart batch done.0)) c.args.drain done.1 options
+    (subst (λ (x : Bool). IsAskedBy options c.args.sizes c.args.mode x c.args.drain)
     (sym (its_archives D.files D.changes D.moment D.faults g.row.D.coded a b e c.requires.fresh
     shares.alone drained.keeps drained.first))
-    (subst (λ (z : Sizes). IsAskedBy options z a.archives c.args.drain) (sym c.requires.sizes)
-    asked)) xs placed (lent ∙ plan.receipts) opened made (ap D.files its ∙ is)
-    (ap D.changes its ∙ made_is)))))
+    (subst (λ (z : Sizes). IsAskedBy options z c.args.mode a.archives c.args.drain)
+    (sym c.requires.sizes) asked)) xs placed (lent ∙ plan.receipts) opened made
+    (ap D.files its ∙ is) (ap D.changes its ∙ made_is)))))
 
 pub returns-clause-spent : goal.returns-clause-spent
 returns-clause-spent g c = λ ms plan is.
-    c.log_shares-store.ensures.spent ms plan.dealt
+    c.log_shares-store.ensures.ends.spent ms plan.dealt
     (c.drain_asked-fault.ensures.spent (c.ended-outcome.ensures.spent is))
