@@ -1,5 +1,19 @@
 -- What `apply` answers, from what its steps answered.
-use Rattle.std.proofs.Common.{◌≡◌, ℕ, ◌≤◌, Option, inl, inr, sym, subst, arith}
+use Rattle.std.proofs.Common.{
+  ◌≡◌,
+  ℕ,
+  ◌≤◌,
+  List,
+  Option,
+  Result,
+  Ok as ok,
+  Err as err,
+  inl,
+  inr,
+  sym,
+  subst,
+  arith,
+}
 use Rattle.std.specs.Prelude.{false}
 use Rattle.clog_base.specs.declared.fault.Quantity.TheVariants.{
   FileBytes,
@@ -8,10 +22,12 @@ use Rattle.clog_base.specs.declared.fault.Quantity.TheVariants.{
   Ids,
   TableFiles,
 }
+use Rattle.clog_io.specs.Bytes.{TakesAll}
 use Rattle.clog_disk.specs.Files.{Files}
 use Rattle.clog_folder.specs.declared.fault.OpenFault.{OpenFault}
 use Rattle.clog_folder.specs.declared.fault.OpenFault.TheVariants as folder
 use Rattle.clog_folder.specs.Folder.{FolderRefused}
+use Rattle.clog_mutation.specs.declared.mutation.Mutation.{Mutation}
 use Rattle.clog_words.specs.declared.request.ApplyOptions.{ApplyOptions}
 use Rattle.clog_applied.specs.Asked.{capacity_of}
 use Rattle.clog_store.specs.Opened.{LeftAlone, OpenRefused}
@@ -28,11 +44,14 @@ use Rattle.clog_engine.specs.declared.status.Status.TheVariants.{
   BadTable,
   OutOfMemory,
   Limit,
+  Groups,
   Absent,
 }
-use Rattle.clog_engine.specs.Apply.{ApplyRefuses, KeepsAll, LeavesPart, ReadsGood}
+use Rattle.clog_engine.specs.Apply.{Applies, ApplyRefuses, LeavesPart, ReadsGood}
 use Rattle.clog_engine.specs.Before.{FolderRefuses}
+use Rattle.clog_engine.specs.Input.{IsSized}
 use Rattle.clog_engine.specs.Laying.{FileRefused}
+use Rattle.clog_engine.specs.Logged.{AppliesLines, KeepsAll, LeavesSome, LinesRefuse}
 use Rattle.clog_engine.specs.Outside.{IsLeftAlone, Outside}
 use Rattle.clog_engine.specs.Refusal.{folder_status}
 
@@ -56,53 +75,100 @@ file_refuses n (Limit Lines most) o refused still = (refused.0, refused.1, still
 file_refuses n (Limit SegmentBytes most) o refused still = absurd refused
 file_refuses n (Limit Ids most) o refused still = absurd refused
 file_refuses n (Limit TableFiles most) o refused still = absurd refused
+file_refuses n (Groups most) o refused still = absurd refused
 file_refuses n (Absent name) o refused still = absurd refused
 
 -- ---- the folder is refused
 
 -- what is left of it: for the disk's own reasons it may have changed
-abbrev pub LeftBy : ApplyOptions → Status → Outside → Type 0
-LeftBy options DiskFault o = LeavesPart options o
-LeftBy options OutOfMemory o = LeavesPart options o
-LeftBy options other o = IsLeftAlone o
+abbrev pub LeftBy : ApplyOptions → List Mutation → Status → Outside → Type 0
+LeftBy options ms DiskFault o = LeavesSome options ms o
+LeftBy options ms OutOfMemory o = LeavesSome options ms o
+LeftBy options ms other o = IsLeftAlone o
 
-pub folder_refuses : (options : ApplyOptions) (status : Status) (o : Outside)
-    → ReadsGood options o → FolderRefuses o.files o.disk_faults o.disk_faults_now status
-    → LeftBy options status o → ApplyRefuses options status o
-folder_refuses n Ok o good refused left = absurd refused
-folder_refuses n Usage o good refused left = absurd refused
-folder_refuses n (BadLine number cause) o good refused left = absurd refused
-folder_refuses n (TooLarge number size most) o good refused left = absurd refused
-folder_refuses n ReadFault o good refused left = absurd refused
-folder_refuses n WriteFault o good refused left = absurd refused
-folder_refuses n DiskFault o good refused left = (good, refused, left)
-folder_refuses n (Damaged name at cause) o good refused left = (good, refused, left)
-folder_refuses n (BadTable name fault) o good refused left = (good, refused, left)
-folder_refuses n OutOfMemory o good refused left = left
-folder_refuses n (Limit FileBytes most) o good refused left = absurd refused
-folder_refuses n (Limit Lines most) o good refused left = absurd refused
-folder_refuses n (Limit SegmentBytes most) o good refused left =
-    (refused.0, good, refused.1, left)
-folder_refuses n (Limit Ids most) o good refused left = (refused.0, good, refused.1, left)
-folder_refuses n (Limit TableFiles most) o good refused left = (refused.0, good, refused.1, left)
-folder_refuses n (Absent name) o good refused left = absurd refused
+pub folder_refuses : (options : ApplyOptions) (ms : List Mutation) (status : Status) (o : Outside)
+    → FolderRefuses o.files o.disk_faults o.disk_faults_now status
+    → LeftBy options ms status o → LinesRefuse options ms status o
+folder_refuses n ms Ok o refused left = absurd refused
+folder_refuses n ms Usage o refused left = absurd refused
+folder_refuses n ms (BadLine number cause) o refused left = absurd refused
+folder_refuses n ms (TooLarge number size most) o refused left = absurd refused
+folder_refuses n ms ReadFault o refused left = absurd refused
+folder_refuses n ms WriteFault o refused left = absurd refused
+folder_refuses n ms DiskFault o refused left = (refused, left)
+folder_refuses n ms (Damaged name at cause) o refused left = (refused, left)
+folder_refuses n ms (BadTable name fault) o refused left = (refused, left)
+folder_refuses n ms OutOfMemory o refused left = left
+folder_refuses n ms (Limit FileBytes most) o refused left = absurd refused
+folder_refuses n ms (Limit Lines most) o refused left = absurd refused
+folder_refuses n ms (Limit SegmentBytes most) o refused left = (refused.0, refused.1, left)
+folder_refuses n ms (Limit Ids most) o refused left = (refused.0, refused.1, left)
+folder_refuses n ms (Limit TableFiles most) o refused left = (refused.0, refused.1, left)
+folder_refuses n ms (Groups most) o refused left = absurd refused
+folder_refuses n ms (Absent name) o refused left = absurd refused
 
 -- where nothing has changed
-pub left_still : (options : ApplyOptions) (status : Status) (o : Outside) → IsLeftAlone o
-    → LeftBy options status o
-left_still n DiskFault o still = inl still
-left_still n OutOfMemory o still = inl still
-left_still n other o still = still
+pub left_still : (options : ApplyOptions) (ms : List Mutation) (status : Status) (o : Outside)
+    → IsLeftAlone o → LeftBy options ms status o
+left_still n ms DiskFault o still = inl still
+left_still n ms OutOfMemory o still = inl still
+left_still n ms other o still = still
 
 -- where it was not opened
-pub left_closed : (options : ApplyOptions) (refusal : OpenFault) (o : Outside) (alone : Type 0)
-    → LeftAlone alone refusal → (alone → IsLeftAlone o) → KeepsAll o
-    → LeftBy options (folder_status refusal) o
-left_closed n folder.Disk o alone left still kept = inr (inl kept)
-left_closed n folder.OutOfMemory o alone left still kept = inr (inl kept)
-left_closed n (folder.Damaged name at cause) o alone left still kept = still left
-left_closed n (folder.BadTable name fault) o alone left still kept = still left
-left_closed n (folder.Limit what most) o alone left still kept = still left
+pub left_closed : (options : ApplyOptions) (ms : List Mutation) (refusal : OpenFault) (o : Outside)
+    (alone : Type 0) → LeftAlone alone refusal → (alone → IsLeftAlone o) → KeepsAll o
+    → LeftBy options ms (folder_status refusal) o
+left_closed n ms folder.Disk o alone left still kept = inr (inl kept)
+left_closed n ms folder.OutOfMemory o alone left still kept = inr (inl kept)
+left_closed n ms (folder.Damaged name at cause) o alone left still kept = still left
+left_closed n ms (folder.BadTable name fault) o alone left still kept = still left
+left_closed n ms (folder.Limit what most) o alone left still kept = still left
+
+-- ---- the lines of a file
+
+module _ (options : ApplyOptions) (o : Outside) (bytes : List ℕ) (ms : List Mutation)
+    (taken : TakesAll o.left o.left_now bytes) (sized : IsSized (capacity_of options) bytes ms)
+  where
+    good : ReadsGood options o
+    good = (bytes, taken, record { mutations = ms; sized = sized })
+
+    part_of_file : LeavesSome options ms o → LeavesPart options o
+    part_of_file (inl still) = inl still
+    part_of_file (inr (inl kept)) = inr (inl kept)
+    part_of_file (inr (inr logged)) = inr (inr (record {
+      bytes = bytes;
+      taken = taken;
+      mutations = ms;
+      sized = sized;
+      logged = logged;
+    }))
+
+    refuses_file : (status : Status) → LinesRefuse options ms status o
+        → ApplyRefuses options status o
+    refuses_file Ok refused = absurd refused
+    refuses_file Usage refused = absurd refused
+    refuses_file (BadLine number cause) refused = absurd refused
+    refuses_file (TooLarge number size most) refused = absurd refused
+    refuses_file ReadFault refused = absurd refused
+    refuses_file WriteFault refused = absurd refused
+    refuses_file DiskFault refused = (good, refused.0, part_of_file refused.1)
+    refuses_file (Damaged name at cause) refused = (good, refused.0, refused.1)
+    refuses_file (BadTable name fault) refused = (good, refused.0, refused.1)
+    refuses_file OutOfMemory refused = part_of_file refused
+    refuses_file (Limit FileBytes most) refused = absurd refused
+    refuses_file (Limit Lines most) refused = absurd refused
+    refuses_file (Limit SegmentBytes most) refused = (refused.0, good, refused.1, refused.2)
+    refuses_file (Limit Ids most) refused = (refused.0, good, refused.1, refused.2)
+    refuses_file (Limit TableFiles most) refused = (refused.0, good, refused.1, refused.2)
+    refuses_file (Groups most) refused = (refused.0, good, part_of_file refused.1)
+    refuses_file (Absent name) refused = absurd refused
+
+    -- what comes of the lines comes of their file
+    pub file_applies : (result : Result (List ℕ) Status) → AppliesLines options ms o result
+        → Applies options o result
+    file_applies (ok report) applied =
+        (bytes, taken, record { mutations = ms; sized = sized; applied = applied })
+    file_applies (err status) refused = refuses_file status refused
 
 -- ---- why
 

@@ -24,6 +24,7 @@ use Rattle.std.specs.Prelude.{Contains}
 use Rattle.std.specs.List.{flat_map}
 use Rattle.std.proofs.lemmas.Bool.{lt-ltb}
 use Rattle.std.proofs.lemmas.List.{append-nil}
+use Rattle.sync_core.specs.declared.SyncCore.{SyncCore}
 use Rattle.sync_core.specs.declared.SyncCore.TheVariants.{Batch, Periodic}
 use Rattle.clog_base.specs.declared.cell.Cell.{Cell}
 use Rattle.clog_base.specs.declared.cell.CellKey.{CellKey}
@@ -37,6 +38,7 @@ use Rattle.clog_mutation.specs.Payload.{cells_of}
 use Rattle.clog_table.specs.declared.table_file.TableFile.{TableFile}
 use Rattle.clog_text.specs.CellTexts.{row_line}
 use Rattle.clog_words.specs.declared.request.ApplyOptions.{ApplyOptions}
+use Rattle.clog_words.specs.Built.{plain_sync}
 use Rattle.clog_crash.specs.Readings.{RestoresIn}
 use Rattle.clog_crash.specs.Restore.{IsRestored}
 use Rattle.clog_crash.proofs.changes.BothWays.{rows_are}
@@ -48,6 +50,7 @@ use Rattle.clog_applied.specs.Applied.{MergeIsKept}
 use Rattle.clog_applied.specs.Asked.{IsBatch}
 use Rattle.clog_applied.specs.Closed.{ClosedRun, IsClosedPath, IsStoreLeft}
 use Rattle.clog_applied.specs.History.{LoggedLine, logged_at}
+use Rattle.clog_applied.specs.Log.{AreSyncedApart}
 use Rattle.clog_applied.specs.Opening.{IsRecoveryChange}
 use Rattle.clog_applied.specs.Printed.{
   AreByLine,
@@ -62,7 +65,8 @@ use Rattle.clog_closing.proofs.Openings.{is_opening}
 use Rattle.clog_layout.specs.Laid.{AreLaid}
 use Rattle.clog_layout.specs.Logged.{AreNotesOf}
 use Rattle.clog_lines.specs.Written.{AreLaidFor, HasWritten, IsAskedBy}
-use Rattle.clog_engine.specs.Apply.{BeginsIn, IsRun}
+use Rattle.clog_writers.specs.Written.{BeginsIn}
+use Rattle.clog_engine.specs.Logged.{IsRun}
 use Rattle.clog_engine.specs.Outside.{Outside}
 use Rattle.clog_engine.specs.Report.{IsReport, head_of, receipts_of}
 use Rattle.clog_engine.specs.Request.{AreSizesOf, IsDoable}
@@ -139,35 +143,35 @@ is_printed options base notes history cells ms report before after many are by_l
 
 -- ---- the run
 
+-- what is not batch mode is periodic mode, with the period that there is
+periodic_else : (sync : SyncCore) → sync ≡ plain_sync sync → (sync ≡ Batch → ⊥)
+    → sync ≡ Periodic 10000
+periodic_else Batch plain not_batch = absurd (not_batch refl)
+periodic_else (Periodic period) plain not_batch = plain
+
 pub is_asked : (options : ApplyOptions) (sizes : Sizes) (archives : Bool) → IsDoable options
-    → options.writers ≡ 1 → AreSizesOf options sizes → archives ≡ options.archive
+    → options.writers ≡ 1 → (IsBatch options → ⊥) → AreSizesOf options sizes
+    → archives ≡ options.archive
     → IsAskedBy options sizes archives options.drain
-is_asked options sizes archives doable one sizes_are archive = record {
+is_asked options sizes archives doable one not_batch sizes_are archive = record {
   one_writer = one;
-  periodic = ap (λ (o : ApplyOptions). o.sync) doable.plain;
+  periodic = periodic_else options.sync (ap (λ (o : ApplyOptions). o.sync) doable.plain) not_batch;
   no_flush = ap (λ (o : ApplyOptions). o.flush_at) doable.plain;
   capacity = sym sizes_are.capacity;
   drain_is = refl;
   archive_is = sym archive;
 }
 
-pub not_batch : (options : ApplyOptions) → IsDoable options → IsBatch options → ⊥
-not_batch options doable batch =
-    let periodic : options.sync ≡ Periodic 10000 =
-    ap (λ (o : ApplyOptions). o.sync) doable.plain in
-    let same : Batch ≡ Periodic 10000 = sym batch ∙ periodic in
-    cc
-
 abbrev pub closed : (options : ApplyOptions) (before opened after : Files)
     (recovery later : List Change) (ms : List Mutation) (moment base : ℕ) (ids dropped : List ℕ)
-    (history : List LoggedLine) (files : List TableFile) → IsDoable options
-    → IsOpened before moment base opened
+    (history : List LoggedLine) (files : List TableFile) → IsOpened before moment base opened
     → ((c : Change) → Contains recovery c → IsRecoveryChange before c)
     → IsClosedPath options ms base history files
     → IsStoreLeft options.archive opened after later ids dropped history files
+    → (IsBatch options → AreSyncedApart later history)
     → ClosedRun options before after (recovery ++ later) ms
-closed options before opened after recovery later ms moment base ids dropped history files doable
-    is_opened changes path store = record {
+closed options before opened after recovery later ms moment base ids dropped history files
+    is_opened changes path store apart = record {
       base = base;
       opened = opened;
       recovery = recovery;
@@ -180,7 +184,7 @@ closed options before opened after recovery later ms moment base ids dropped his
       opening = is_opening before opened moment base recovery is_opened changes;
       path = path;
       store = store;
-      apart = λ batch. absurd (not_batch options doable batch);
+      apart = apart;
     }
 
 -- ---- where it begins
@@ -207,17 +211,18 @@ first_there sizes (r ∷ raw) (n ∷ notes) base (w ∷ history) laid are =
 -- its base is the one of the opening.
 pub run_of : (o : Outside) (options : ApplyOptions) (before opened after : Files)
     (recovery later : List Change) (sizes : Sizes) (ms : List Mutation) (notes : List EntryNote)
-    (moment base : ℕ) (cells : List (CellKey × Cell)) (report : List ℕ) → IsDoable options
-    → o.tells moment → AreLaidFor sizes ms notes → IsOpened before moment base opened
+    (moment base : ℕ) (cells : List (CellKey × Cell)) (report : List ℕ)
+    → (IsBatch options → ⊥) → o.tells moment → AreLaidFor sizes ms notes
+    → IsOpened before moment base opened
     → ((c : Change) → Contains recovery c → IsRecoveryChange before c)
     → HasWritten options base opened after later ms notes → length notes ≡ length ms
     → (options.dump ≡ true → IsRestored before cells)
     → IsReport options.dump (head_of options.receipts base notes) cells ms report
     → IsRun o options ms report before after (recovery ++ later)
-run_of o options before opened after recovery later sizes ms notes moment base cells report doable
-    tells laid is_opened changes w many restored is =
+run_of o options before opened after recovery later sizes ms notes moment base cells report
+    not_batch tells laid is_opened changes w many restored is =
     let run = closed options before opened after recovery later ms moment base w.ids w.dropped
-    w.history w.files doable is_opened changes w.path w.store in
+    w.history w.files is_opened changes w.path w.store (λ batch. absurd (not_batch batch)) in
     let all = recovery ++ later in
     let printed = is_printed options base notes w.history cells ms report before after many
     w.lines.notes w.by_line w.positions (merge_kept options before after all ms run) restored is in
@@ -226,8 +231,8 @@ run_of o options before opened after recovery later sizes ms notes moment base c
       moment = moment;
       told = tells;
       opened = is_opened;
-      begins = λ one. first_there sizes laid.raw notes base w.history laid.laid w.lines.notes;
-      reach = λ one. w.reach;
+      begins = first_there sizes laid.raw notes base w.history laid.laid w.lines.notes;
+      reach = w.reach;
       names = w.names;
       printed = printed;
       kept = with_report options before after all ms report run printed;

@@ -44,10 +44,13 @@ use Rattle.clog_engine.specs.declared.status.Status.TheVariants.{
   BadTable,
   OutOfMemory,
   Limit,
+  Groups,
   Absent,
 }
+use Rattle.clog_mutation.specs.declared.mutation.Mutation.{Mutation}
+use Rattle.clog_text.specs.Made.{made_lines}
 use Rattle.clog_words.specs.declared.built.Built.{Built}
-use Rattle.clog_words.specs.declared.built.Built.TheVariants.{Apply, Replay, Scan}
+use Rattle.clog_words.specs.declared.built.Built.TheVariants.{Apply, Replay, Scan, Drill}
 use Rattle.clog_words.specs.declared.request.ApplyOptions.{ApplyOptions}
 use Rattle.clog_words.specs.Given.{texts}
 use Rattle.clog_applied.specs.Asked.{capacity_of}
@@ -73,6 +76,7 @@ use Rattle.clog_crash.proofs.damage.BadTables.{good_has_none}
 use Rattle.clog_crash.proofs.damage.First.{undamaged_has_none}
 use Rattle.clog_folder.specs.Folder.{HasDamage, HasLongSegment}
 use Rattle.clog_folder.specs.Segments.{IsTooLong}
+use Rattle.clog_engine.specs.Drill.{DrillRefuses, IsRefusedFor}
 use Rattle.clog_engine.specs.Replaying.{ReplayRefused}
 use Rattle.clog_engine.specs.Scanning.{ReadRefused}
 use Rattle.clog_engine.proofs.WordsAsked.{one_asked}
@@ -114,7 +118,7 @@ apply_completes options (Damaged name at cause) o s good fit quiet refused =
 apply_completes options (BadTable name fault) o s good fit quiet refused =
     absurd (told_openable o.files _ fit refused.1 (λ files can bad.
     good_has_none files name fault can.within.readable.tables bad))
-apply_completes options OutOfMemory o s good fit quiet refused = inr refl
+apply_completes options OutOfMemory o s good fit quiet refused = inr (inl refl)
 apply_completes options (Limit FileBytes most) o s good fit quiet refused =
     absurd (good_is_short (capacity_of options) o.left good refused.1)
 apply_completes options (Limit Lines most) o s good fit quiet refused =
@@ -129,6 +133,8 @@ apply_completes options (Limit Ids most) o s good fit quiet refused =
 apply_completes options (Limit TableFiles most) o s good fit quiet refused =
     absurd (told_openable o.files _ fit refused.2 (λ files can many.
     can.within.few many.late))
+apply_completes options (Groups most) o s good fit quiet refused =
+    inr (inr (ap Groups refused.0))
 apply_completes options (Absent name) o s good fit quiet refused = absurd refused
 
 -- ---- a file that is there is not refused
@@ -162,13 +168,14 @@ scan_completes WriteFault o s name there quiet refused = absurd refused
 scan_completes DiskFault o s name there quiet refused = absurd (quiet.disk refused)
 scan_completes (Damaged other at cause) o s name there quiet refused = absurd refused
 scan_completes (BadTable other fault) o s name there quiet refused = absurd refused
-scan_completes OutOfMemory o s name there quiet refused = inr refl
+scan_completes OutOfMemory o s name there quiet refused = inr (inl refl)
 scan_completes (Limit FileBytes most) o s name there quiet refused = absurd refused
 scan_completes (Limit Lines most) o s name there quiet refused = absurd refused
 scan_completes (Limit SegmentBytes most) o s name there quiet refused =
     absurd (short_is_short o.files name there refused.1)
 scan_completes (Limit Ids most) o s name there quiet refused = absurd refused
 scan_completes (Limit TableFiles most) o s name there quiet refused = absurd refused
+scan_completes (Groups most) o s name there quiet refused = absurd refused
 scan_completes (Absent other) o s name there quiet refused =
     absurd (there_is_there o.files name there refused.1)
 
@@ -208,14 +215,64 @@ replay_completes ignore (Damaged name at cause) o s fit quiet refused =
     absurd (no_damage ignore o.files name at cause fit refused.0 refused.1)
 replay_completes ignore (BadTable name fault) o s fit quiet refused =
     absurd (no_bad_table ignore o.files name fault fit refused)
-replay_completes ignore OutOfMemory o s fit quiet refused = inr refl
+replay_completes ignore OutOfMemory o s fit quiet refused = inr (inl refl)
 replay_completes ignore (Limit FileBytes most) o s fit quiet refused = absurd refused
 replay_completes ignore (Limit Lines most) o s fit quiet refused = absurd refused
 replay_completes ignore (Limit SegmentBytes most) o s fit quiet refused =
     absurd (no_long_segment ignore o.files fit refused.1)
 replay_completes ignore (Limit Ids most) o s fit quiet refused = absurd refused
 replay_completes ignore (Limit TableFiles most) o s fit quiet refused = absurd refused
+replay_completes ignore (Groups most) o s fit quiet refused = absurd refused
 replay_completes ignore (Absent name) o s fit quiet refused = absurd refused
+
+-- ---- nor is one that is drilled
+
+module _ (lines : List Mutation) (o : Outside) (s : Sinks) (opens : Told o.files IsOpenable)
+    (reads : Told o.files_now (IsReplayable false)) (quiet : IsQuiet o s) where
+  not_damaged : (name : List ℕ) (at : ℕ) (cause : Cause)
+      → IsRefusedFor o lines (λ files. HasDamage files name at cause) → ⊥
+  not_damaged name at cause (inl (damage, still)) =
+      told_openable o.files _ opens damage (λ files can is.
+      undamaged_has_none files name at cause can.segments (can.within.readable.undamaged refl)
+      is.first.damage)
+  not_damaged name at cause (inr behind) =
+      no_damage false o.files_now name at cause reads refl behind.refused
+
+  not_long : IsRefusedFor o lines (HasLongSegment false) → ⊥
+  not_long (inl (long, still)) =
+      told_openable o.files _ opens long (λ files can is.
+      can.within.readable.short is.first.name is.first.id is.first.named is.first.long)
+  not_long (inr behind) = no_long_segment false o.files_now reads behind.refused
+
+  no_bad : (name : List ℕ) (fault : TableFault)
+      → IsRefusedFor o lines (λ files. IsFirstBad files name fault) → ⊥
+  no_bad name fault (inl (bad, still)) =
+      told_openable o.files _ opens bad (λ files can is.
+      good_has_none files name fault can.within.readable.tables is)
+  no_bad name fault (inr behind) =
+      no_bad_table false o.files_now name fault reads behind.refused
+
+  drill_completes : (status : Status) → DrillRefuses lines status o → EndsWell status
+  drill_completes Ok refused = absurd refused
+  drill_completes Usage refused = absurd refused
+  drill_completes (BadLine number cause) refused = absurd refused
+  drill_completes (TooLarge number size most) refused = absurd refused
+  drill_completes ReadFault refused = absurd refused
+  drill_completes WriteFault refused = absurd refused
+  drill_completes DiskFault refused = absurd (quiet.disk refused.0)
+  drill_completes (Damaged name at cause) refused = absurd (not_damaged name at cause refused)
+  drill_completes (BadTable name fault) refused = absurd (no_bad name fault refused)
+  drill_completes OutOfMemory refused = inr (inl refl)
+  drill_completes (Limit FileBytes most) refused = absurd refused
+  drill_completes (Limit Lines most) refused = absurd refused
+  drill_completes (Limit SegmentBytes most) refused = absurd (not_long refused.1)
+  drill_completes (Limit Ids most) refused =
+      absurd (told_openable o.files _ opens refused.1 (λ files can great.
+      let low = can.within.low great.id great.named in omega (arith, low, great.great)))
+  drill_completes (Limit TableFiles most) refused =
+      absurd (told_openable o.files _ opens refused.1 (λ files can many. can.within.few many.late))
+  drill_completes (Groups most) refused = inr (inr (ap Groups refused.0))
+  drill_completes (Absent name) refused = absurd refused
 
 does_complete : (request : Built) (o : Outside) (s : Sinks) (status : Status) → IsFit request o
     → IsQuiet o s → Does (Some request) o (err status) → EndsWell status
@@ -225,6 +282,8 @@ does_complete (Replay options) o s status fit quiet done =
     replay_completes options.ignore_errors status o s fit quiet done.0
 does_complete (Scan id) o s status fit quiet done =
     scan_completes status o s (segment_name_of 6 id) fit quiet done.0
+does_complete (Drill seed count) o s status fit quiet done =
+    drill_completes (made_lines seed count) o s fit.0 fit.1 quiet status done.0
 
 -- a report goes out, where the sink does not fail
 reports_complete : (report : List ℕ) (status : Status) (o : Outside) (s : Sinks) → IsQuiet o s
@@ -240,6 +299,7 @@ reports_complete report (Damaged name at cause) o s quiet reports = absurd repor
 reports_complete report (BadTable name fault) o s quiet reports = absurd reports
 reports_complete report OutOfMemory o s quiet reports = absurd reports
 reports_complete report (Limit what most) o s quiet reports = absurd reports
+reports_complete report (Groups most) o s quiet reports = absurd reports
 reports_complete report (Absent name) o s quiet reports = absurd reports
 
 outcome_completes : (request : Built) (o : Outside) (s : Sinks) (status : Status)
@@ -264,7 +324,7 @@ no_words_complete : (o : Outside) (s : Sinks) (status : Status)
     (outcome : Result (List ℕ) Status) → outcome ≡ err OutOfMemory → Prints outcome status s
     → EndsWell status
 no_words_complete o s status outcome is prints =
-    inr ((subst (λ (r : Result (List ℕ) Status). Prints r status s) is prints).0)
+    inr (inl ((subst (λ (r : Result (List ℕ) Status). Prints r status s) is prints).0))
 
 asked_completes : (words : List (String Global)) (o : Outside) (s : Sinks) (status : Status)
     (outcome : Result (List ℕ) Status) → DoesAsked words o outcome → Prints outcome status s

@@ -61,7 +61,7 @@ all_fit_in : (capacity : ℕ) (front : List Mutation) (m : Mutation) (rest : Lis
 all_fit_in capacity [] m rest all = all.0
 all_fit_in capacity (x ∷ front) m rest all = all_fit_in capacity front m rest all.1
 
-none_is_large : (capacity : ℕ) (ms : List Mutation) (number size most : ℕ)
+pub none_is_large : (capacity : ℕ) (ms : List Mutation) (number size most : ℕ)
     → AllByRecursion (HasFittingEntry capacity) ms
     → HasLargeMutation capacity ms number size most → ⊥
 none_is_large capacity ms number size most all large =

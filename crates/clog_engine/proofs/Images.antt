@@ -18,7 +18,7 @@ use Rattle.clog_store.specs.Opened.{KeepsFolder}
 use Rattle.clog_store.proofs.OpenedWhole.{image_keeps, lasts_on}
 use Rattle.clog_lines.specs.Written.{RestoresLines}
 use Rattle.clog_writers.specs.Left.{LeavesShares, said_by}
-use Rattle.clog_engine.specs.Apply.{AddsFirst}
+use Rattle.clog_engine.specs.Logged.{AddsFirst}
 
 -- ---- one image
 
@@ -82,14 +82,16 @@ module _ {D : Type 0} (changes : D → Option (List Change)) (moment : D → ℕ
       goes_on_by moment since start looked now kept then opening
 
   -- and while lines are written
-  pub while_written : (start opened now : D) (first then : Files) (archives drain : Bool)
-      (writers : ℕ) (ms : List Mutation) (least : ℕ) → KeepsFolder first then
+  pub while_written : (start opened now : D) (first then : Files) (base : ℕ)
+      (archives drain : Bool) (writers : ℕ) (ms : List Mutation) (least : ℕ)
+      → KeepsFolder first then
       → LeavesOnly moment since start opened (KeepsFolder first)
-      → (lines : LeavesShares changes moment since leaves opened now (bytes_at then) archives
+      → (lines : LeavesShares changes moment since leaves opened now (bytes_at then) base archives
       drain writers ms least)
       → (image : Files) → since now (moment start) image → NoChances lines.log image
       → AddsFirst first (said_by lines.history) 0 image
-  while_written start opened now first then archives drain writers ms least kept opening lines =
+  while_written start opened now first then base archives drain writers ms least kept opening
+      lines =
       let said = said_by lines.history in
       let has = λ (image : Files). NoChances lines.log image → AddsFirst first said 0 image in
       let before = weakened moment since start opened (KeepsFolder first) has opening
@@ -99,14 +101,3 @@ module _ {D : Type 0} (changes : D → Option (List Change)) (moment : D → ℕ
       (λ image restores chance.
       adds_lines first then image said 0 kept (restores chance)) in
       (goes_on_by moment since start opened now has before after).each
-
--- at least so many lines are at least none
-pub adds_some : (first image : Files) (ms : List Mutation) (least : ℕ)
-    → AddsFirst first ms least image → AddsFirst first ms 0 image
-adds_some first image ms least adds = record {
-  n = adds.n;
-  enough = omega arith;
-  some = adds.some;
-  restores = adds.restores;
-  undamaged = adds.undamaged;
-}

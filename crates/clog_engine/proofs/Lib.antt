@@ -2,11 +2,14 @@ pub mod Applied
 pub mod Closed
 pub mod Complete
 pub mod Copied
+pub mod Drilled
 pub mod FewMutations
 pub mod GoodInput
 pub mod Images
 pub mod LinesLaid
+pub mod MadeLines
 pub mod Merged
+pub mod Onward
 pub mod Opened
 pub mod Quiet
 pub mod ReceiptLines

@@ -4,7 +4,6 @@ use Rattle.std.proofs.Common.{
   ℕ,
   List,
   ◌++◌,
-  ◌<◌,
   length,
   map,
   Option,
@@ -29,7 +28,6 @@ use Rattle.std.specs.FinMap as finmap
 use Rattle.clog_base.specs.declared.cell.Cell.{Cell}
 use Rattle.clog_base.specs.declared.cell.CellKey.{CellKey}
 use Rattle.clog_io.specs.declared.clock.Clock.{Ghosts as ClockTells}
-use Rattle.clog_io.specs.Bytes.{TakesAll}
 use Rattle.clog_disk.specs.declared.change.Change.{Change}
 use Rattle.clog_disk.specs.declared.disk.Disk.{Ghosts as DiskTells}
 use Rattle.clog_disk.specs.Files.{Files, SameTold, Told, bytes_at}
@@ -40,8 +38,9 @@ use Rattle.clog_crash.specs.Log.{Write}
 use Rattle.clog_crash.specs.Restore.{IsRestored}
 use Rattle.clog_folder.specs.Passing.{IsUntouched as IsDiskUntouched}
 use Rattle.clog_folder.proofs.Passing.{both, no_call}
-use Rattle.clog_applied.specs.Asked.{capacity_of}
+use Rattle.clog_applied.specs.Asked.{IsBatch}
 use Rattle.clog_applied.specs.Filed.{BringsNoOther, IsNewName, KeepsOthers}
+use Rattle.clog_applied.specs.History.{LoggedLine}
 use Rattle.path_core.specs.declared.keeper.KeeperFault.{KeeperFault}
 use Rattle.path_core.specs.declared.keeper.KeeperFault.TheVariants.{OutOfMemory, Stopped}
 use Rattle.path_core.specs.declared.note.EntryNote.{EntryNote}
@@ -66,11 +65,11 @@ use Rattle.clog_lines.specs.Written.{
   TellsWritten,
   least_of,
 }
-use Rattle.clog_writers.specs.Left.{LeavesShares, said_by}
+use Rattle.clog_writers.specs.Left.{LeavesShares, SaysShares, WritesShares, said_by}
 use Rattle.clog_writers.specs.Written.{TellsWrittenShares}
 use Rattle.write_path.specs.declared.commit.Receipt.{Receipt}
-use Rattle.clog_engine.specs.Apply.{
-  Applies,
+use Rattle.clog_engine.specs.Logged.{
+  AppliesLines,
   Becomes,
   HasWrittenLog,
   IsReported,
@@ -81,11 +80,9 @@ use Rattle.clog_engine.specs.Apply.{
   Turns,
   Wrote,
 }
-use Rattle.clog_engine.specs.Input.{IsSized}
 use Rattle.clog_engine.specs.Outside.{IsLeftAlone, Outside, outside_with}
 use Rattle.clog_engine.specs.Refusal.{ended_as}
 use Rattle.clog_engine.specs.Report.{IsReport, head_of, head_with}
-use Rattle.clog_engine.specs.Request.{IsDoable}
 use Rattle.clog_engine.proofs.Closed.{run_of}
 use Rattle.clog_engine.proofs.Images.{adds_lines, while_opened, while_written}
 use Rattle.clog_engine.proofs.SharesApplied.{run_of_shares}
@@ -146,54 +143,24 @@ on_ok (err fault) A B has then = tt
 
 -- at the end all lines are applied, or the first of them have come
 pub ended_applies : {T : Type 0} (outcome : Result T KeeperFault) (options : ApplyOptions)
-    (o : Outside) (report bytes : List ℕ) (ms : List Mutation)
-    → TakesAll o.left o.left_now bytes → IsSized (capacity_of options) bytes ms
-    → IsReported options ms report → OnOk outcome (Turns o (IsRun o options ms report))
-    → Wrote o options ms → IfSome o.files (λ before. Told o.files_now (KeepsOthers before))
+    (o : Outside) (report : List ℕ) (ms : List Mutation) → IsReported options ms report
+    → OnOk outcome (Turns o (IsRun o options ms report)) → Wrote o options ms
+    → IfSome o.files (λ before. Told o.files_now (KeepsOthers before))
     → LastsFirst o options ms (least_of outcome ms)
     → HasWriteCause o.disk_faults o.disk_faults_now outcome → SameTold o.files o.files_now
-    → Applies options o (ended_as report outcome)
-ended_applies (ok done) options o report bytes ms taken sized reported run wrote others lasts
-    cause told = (
-      bytes,
-      taken,
-      record {
-        mutations = ms;
-        sized = sized;
-        reported = reported;
-        told = told;
-        wrote = wrote;
-        run = run;
-        lasts = lasts;
-      },
-    )
-ended_applies (err (Stopped at_open now)) options o report bytes ms taken sized reported run wrote
-    others lasts cause told = (
-      (bytes, taken, record { mutations = ms; sized = sized }),
+    → AppliesLines options ms o (ended_as report outcome)
+ended_applies (ok done) options o report ms reported run wrote others lasts cause told = record {
+  reported = reported;
+  logged = record { told = told; wrote = wrote; others = others; lasts = lasts };
+  run = run;
+}
+ended_applies (err (Stopped at_open now)) options o report ms reported run wrote others lasts cause
+    told = (
       cause.1,
-      inr (inr (record {
-        bytes = bytes;
-        taken = taken;
-        mutations = ms;
-        sized = sized;
-        told = told;
-        wrote = wrote;
-        others = others;
-        lasts = lasts;
-      })),
+      inr (inr (record { told = told; wrote = wrote; others = others; lasts = lasts })),
     )
-ended_applies (err OutOfMemory) options o report bytes ms taken sized reported run wrote others
-    lasts cause told =
-    inr (inr (record {
-      bytes = bytes;
-      taken = taken;
-      mutations = ms;
-      sized = sized;
-      told = told;
-      wrote = wrote;
-      others = others;
-      lasts = lasts;
-    }))
+ended_applies (err OutOfMemory) options o report ms reported run wrote others lasts cause told =
+    inr (inr (record { told = told; wrote = wrote; others = others; lasts = lasts }))
 
 -- ---- by a disk
 
@@ -310,8 +277,8 @@ module _ {D C : Type 0} (disk : DiskTells D) (clock : ClockTells C)
     -- what was appended behind the recovery
     written : (now : D) (options : ApplyOptions) (ms : List Mutation) (first : Files)
         → disk.files looked ≡ Some first → (log : List Write)
-        → HasBrought disk.changes opened now options.archive options.drain options.writers ms log
-        → HasWrittenLog (outside_at now) options first ms log
+        → HasBrought disk.changes opened now base options.archive options.drain options.writers ms
+        log → HasWrittenLog (outside_at now) options first ms log
     written now options ms first is log has = record {
       between = disk.changes opened;
       recovered = subst (λ (c : Option (List Change)). RecoversAll first c (disk.changes opened))
@@ -320,20 +287,28 @@ module _ {D C : Type 0} (disk : DiskTells D) (clock : ClockTells C)
       changes_are = has.changes_are;
       made_for = has.made_for;
       brought = has.brought;
+      rise = has.rise;
+      new = λ w among other named.
+          let then = opened_as (disk.files looked) (disk.files opened) moment base first is opens in
+          let below = then.2.is_base.above other named in
+          let above = has.above w among in omega (arith, below, above);
     }
 
-    pub wrote : (now : D) (options : ApplyOptions) (ms : List Mutation) → (log : List Write)
-        × HasBrought disk.changes opened now options.archive options.drain options.writers ms log
-        × BringsOnly disk.files opened now log → SameTold (disk.files opened) (disk.files now)
+    pub wrote : (now : D) (options : ApplyOptions) (ms : List Mutation)
+        → WritesShares disk.files disk.changes opened now base options.archive options.drain
+        options.writers ms → SameTold (disk.files opened) (disk.files now)
         → Wrote (outside_at now) options ms
     wrote now options ms has told = if_told (disk.files start) (disk.files looked)
-        (λ (first : Files).
-        (log : List Write) × HasWrittenLog (outside_at now) options first ms log
+        (λ (first : Files). (log : List Write) × (history : List LoggedLine)
+        × HasWrittenLog (outside_at now) options first ms log
+        × SaysShares options.writers ms log history
         × Told (disk.files now) (BringsNoOther (map id_of log) first))
         still.same.files (λ first is. (
-          has.0,
-          written now options ms first is has.0 has.1,
-          no_stray now first is has.0 has.2 told,
+          has.log,
+          has.history,
+          written now options ms first is has.log has.wrote,
+          has.says,
+          no_stray now first is has.log has.only told,
         ))
 
     -- what is no segment stands as it was
@@ -357,7 +332,7 @@ module _ {D C : Type 0} (disk : DiskTells D) (clock : ClockTells C)
         → ((then : Files) → disk.files opened ≡ Some then → (first : Files)
         → disk.files looked ≡ Some first → LastsAll first (disk.leaves looked)
         → LeavesShares disk.changes disk.moment disk.since disk.leaves opened now (bytes_at then)
-        options.archive options.drain options.writers ms least)
+        base options.archive options.drain options.writers ms least)
         → LastsFirst (outside_at now) options ms least
     unfolding written
     lasts_first now options ms least leaves = if_told (disk.files start) (disk.files looked)
@@ -376,7 +351,7 @@ module _ {D C : Type 0} (disk : DiskTells D) (clock : ClockTells C)
           wrote = written now options ms first is lines.log lines.wrote;
           says = lines.says;
           since = while_written disk.changes disk.moment disk.since disk.leaves disk.read_at
-              disk.lasted_at start opened now first then.0 options.archive options.drain
+              disk.lasted_at start opened now first then.0 base options.archive options.drain
               options.writers ms least kept opening lines;
           now = λ image left chance.
               adds_lines first then.0 image said least kept (lines.at_last image left chance);
@@ -388,7 +363,7 @@ module _ {D C : Type 0} (disk : DiskTells D) (clock : ClockTells C)
     -- and where all are written, the run's promises are kept
     pub turns_run : {T : Type 0} (outcome : Result T KeeperFault) (now : D)
         (options : ApplyOptions) (sizes : Sizes) (ms : List Mutation) (notes : List EntryNote)
-        (cells : List (CellKey × Cell)) (report : List ℕ) → IsDoable options
+        (cells : List (CellKey × Cell)) (report : List ℕ) → (IsBatch options → ⊥)
         → clock.tells at moment → AreLaidFor sizes ms notes → length notes ≡ length ms
         → (options.dump ≡ true → IfSome (disk.files start) (λ first. IsRestored first cells))
         → IsReport options.dump (head_of options.receipts base notes) cells ms report
@@ -397,7 +372,7 @@ module _ {D C : Type 0} (disk : DiskTells D) (clock : ClockTells C)
         → OnOk outcome (TellsWritten options base then made (disk.files now) (disk.changes now) ms
         notes))
         → OnOk outcome (Turns (outside_at now) (IsRun (outside_at now) options ms report))
-    turns_run outcome now options sizes ms notes cells report doable tells laid many restored is
+    turns_run outcome now options sizes ms notes cells report not_batch tells laid many restored is
         told = turns_where outcome (outside_at now) (IsRun (outside_at now) options ms report)
         (λ first made files_are changes_are.
         let there : disk.files looked ≡ Some first = still.same.files ∙ files_are in
@@ -416,7 +391,7 @@ module _ {D C : Type 0} (disk : DiskTells D) (clock : ClockTells C)
           files_are = all.files_are;
           changes_are = all.changes_are ∙ ap Some (append_assoc made recovery.0 all.later);
           is = run_of (outside_at now) options first then.0 all.after recovery.0 all.later sizes ms
-              notes moment base cells report doable tells laid then.2 recovery.2 all.written many
+              notes moment base cells report not_batch tells laid then.2 recovery.2 all.written many
               (λ dumped.
               subst (λ (o : Option Files). IfSome o (λ held. IsRestored held cells)) files_are
               (restored dumped)) is;
@@ -425,15 +400,14 @@ module _ {D C : Type 0} (disk : DiskTells D) (clock : ClockTells C)
     -- and where several writers have logged them
     pub turns_shares : (now : D) (options : ApplyOptions) (ms : List Mutation)
         (receipts : List Receipt) (cells : List (CellKey × Cell)) (report : List ℕ)
-        → IsDoable options → 1 < options.writers → clock.tells at moment
-        → length receipts ≡ length ms
+        → clock.tells at moment → length receipts ≡ length ms
         → (options.dump ≡ true → IfSome (disk.files start) (λ first. IsRestored first cells))
         → IsReport options.dump (head_with options.receipts receipts) cells ms report
         → ((then : Files) (made : List Change) → disk.files opened ≡ Some then
         → disk.changes opened ≡ Some made
         → TellsWrittenShares options base then made (disk.files now) (disk.changes now) ms receipts)
         → Turns (outside_at now) (IsRun (outside_at now) options ms report)
-    turns_shares now options ms receipts cells report doable several tells long restored is told =
+    turns_shares now options ms receipts cells report tells long restored is told =
         λ first made files_are changes_are.
         let there : disk.files looked ≡ Some first = still.same.files ∙ files_are in
         let then = opened_as (disk.files looked) (disk.files opened) moment base first there opens
@@ -448,7 +422,7 @@ module _ {D C : Type 0} (disk : DiskTells D) (clock : ClockTells C)
           files_are = all.files_are;
           changes_are = all.changes_are ∙ ap Some (append_assoc made recovery.0 all.later);
           is = run_of_shares (outside_at now) options first then.0 all.after recovery.0 all.later
-              ms receipts moment base cells report doable several tells then.2 recovery.2
+              ms receipts moment base cells report tells then.2 recovery.2
               all.written long
               (λ dumped.
               subst (λ (o : Option Files). IfSome o (λ held. IsRestored held cells)) files_are

@@ -32,6 +32,7 @@ use Rattle.clog_engine.specs.declared.status.Status.TheVariants.{
   BadTable,
   OutOfMemory,
   Limit,
+  Groups,
   Absent,
 }
 use Rattle.clog_engine.specs.Refusal.{folder_status, status_of}
@@ -98,6 +99,7 @@ reports_call report (Damaged name at cause) s printed before = printed
 reports_call report (BadTable name fault) s printed before = printed
 reports_call report OutOfMemory s printed before = printed
 reports_call report (Limit what most) s printed before = printed
+reports_call report (Groups most) s printed before = printed
 reports_call report (Absent name) s printed before = printed
 
 pub printed_before : (outcome : Result (List ℕ) Status) (status : Status) (s : Sinks)
@@ -131,6 +133,7 @@ looked_at files f g (Limit Lines most) refused before = refused
 looked_at files f g (Limit SegmentBytes most) refused before = before
 looked_at files f g (Limit Ids most) refused before = before
 looked_at files f g (Limit TableFiles most) refused before = before
+looked_at files f g (Groups most) refused before = before
 looked_at files f g (Absent name) refused before = before
 
 -- nor one that comes of reading a segment's file
@@ -151,6 +154,7 @@ read_at files f g name (Limit Lines most) refused before = refused
 read_at files f g name (Limit SegmentBytes most) refused before = before
 read_at files f g name (Limit Ids most) refused before = before
 read_at files f g name (Limit TableFiles most) refused before = before
+read_at files f g name (Groups most) refused before = before
 read_at files f g name (Absent other) refused before = before
 
 -- nor one that comes of replaying the folder
@@ -171,4 +175,5 @@ replayed_at ignore files f g (Limit Lines most) refused before = refused
 replayed_at ignore files f g (Limit SegmentBytes most) refused before = before
 replayed_at ignore files f g (Limit Ids most) refused before = before
 replayed_at ignore files f g (Limit TableFiles most) refused before = before
+replayed_at ignore files f g (Groups most) refused before = before
 replayed_at ignore files f g (Absent name) refused before = before

@@ -1,5 +1,27 @@
 -- A run whose lines several writers were to log: what it answers, from what its steps answered.
-use Rattle.std.proofs.Common.{◌≡◌, ℕ, ◌<◌, List, [], ◌∷◌, ◌++◌, length, map, Bool, true, false, Option, Some, None, Result, Ok as ok, Err as err, inr, refl, sym, ap, subst, ◌∙◌, append-nil, arith}
+use Rattle.std.proofs.Common.{
+  ◌≡◌,
+  ℕ,
+  List,
+  [],
+  ◌∷◌,
+  ◌++◌,
+  length,
+  map,
+  Bool,
+  true,
+  false,
+  Result,
+  Ok as ok,
+  Err as err,
+  inr,
+  refl,
+  sym,
+  ap,
+  subst,
+  ◌∙◌,
+  append-nil,
+}
 use Rattle.std.specs.Prelude.{Contains, IfOk, IfSome}
 use Rattle.std.specs.Global.{Vec}
 use Rattle.std.specs.List.{flat_map}
@@ -8,16 +30,13 @@ use Rattle.clog_base.specs.declared.cell.CellKey.{CellKey}
 use Rattle.clog_base.specs.declared.sizes.Sizes.{Sizes}
 use Rattle.clog_cells.specs.Merge.{AreInOrder}
 use Rattle.clog_cells.proofs.Merging.{joins, of_itself}
-use Rattle.clog_io.specs.Bytes.{TakesAll}
 use Rattle.clog_disk.specs.declared.change.Change.{Change}
 use Rattle.clog_disk.specs.Files.{Files, SameTold, Told}
-use Rattle.clog_disk.specs.Images.{LastsAll}
 use Rattle.clog_mutation.specs.declared.mutation.Mutation.{Mutation}
 use Rattle.clog_mutation.specs.Payload.{cells_of}
 use Rattle.clog_words.specs.declared.request.ApplyOptions.{ApplyOptions}
 use Rattle.clog_crash.specs.Restore.{IsRestored}
 use Rattle.clog_store.specs.Opened.{IsOpened}
-use Rattle.clog_applied.specs.Asked.{capacity_of}
 use Rattle.clog_applied.specs.Filed.{KeepsOthers}
 use Rattle.clog_applied.specs.History.{LoggedLine}
 use Rattle.clog_applied.specs.Opening.{IsRecoveryChange}
@@ -37,8 +56,15 @@ use Rattle.clog_writers.specs.Written.{
 use Rattle.clog_engine.specs.declared.report.PendingReport.{PendingReport}
 use Rattle.clog_engine.specs.declared.status.Status.{Status}
 use Rattle.clog_engine.specs.declared.status.Status.TheVariants.{OutOfMemory}
-use Rattle.clog_engine.specs.Apply.{Applies, ApplyRefuses, IsReported, IsRun, LastsFirst, LeavesFirst, LeavesPart, Turns, Wrote}
-use Rattle.clog_engine.specs.Input.{IsSized}
+use Rattle.clog_engine.specs.Logged.{
+  AppliesLines,
+  IsReported,
+  IsRun,
+  LastsFirst,
+  LeavesSome,
+  Turns,
+  Wrote,
+}
 use Rattle.clog_engine.specs.Outside.{Outside}
 use Rattle.clog_engine.specs.Planning.{IsCellsOf}
 use Rattle.clog_engine.specs.Quiet.{IsRefusedBefore}
@@ -46,7 +72,6 @@ use Rattle.clog_engine.specs.Refusal.{IsToldAs}
 use Rattle.clog_engine.specs.Report.{AreRowsOf, IsReport, head_with, receipts_told}
 use Rattle.clog_engine.specs.Request.{AreSizesOf, IsDoable}
 use Rattle.clog_engine.proofs.Closed.{closed, printed_by}
-use Rattle.clog_engine.proofs.Images.{adds_some}
 
 -- ---- the report
 
@@ -87,10 +112,10 @@ is_report true head text report before cells ms ordered of rows is = record {
 
 pub is_asked : (options : ApplyOptions) (sizes : Sizes) (archives : Bool) → IsDoable options
     → AreSizesOf options sizes → archives ≡ options.archive
-    → IsAskedBy options sizes archives options.drain
+    → IsAskedBy options sizes options.sync archives options.drain
 is_asked options sizes archives doable sizes_are archive = record {
   writers = sym sizes_are.writers;
-  periodic = ap (λ (o : ApplyOptions). o.sync) doable.plain;
+  sync = refl;
   no_flush = ap (λ (o : ApplyOptions). o.flush_at) doable.plain;
   capacity = sym sizes_are.capacity;
   drain_is = refl;
@@ -100,17 +125,17 @@ is_asked options sizes archives doable sizes_are archive = record {
 -- A run that has opened a folder, and whose writers have logged its lines, with its report.
 pub run_of_shares : (o : Outside) (options : ApplyOptions) (before opened after : Files)
     (recovery later : List Change) (ms : List Mutation) (receipts : List Receipt)
-    (moment base : ℕ) (cells : List (CellKey × Cell)) (report : List ℕ) → IsDoable options
-    → 1 < options.writers → o.tells moment → IsOpened before moment base opened
+    (moment base : ℕ) (cells : List (CellKey × Cell)) (report : List ℕ) → o.tells moment
+    → IsOpened before moment base opened
     → ((c : Change) → Contains recovery c → IsRecoveryChange before c)
     → HasWrittenShares options base opened after later ms receipts
     → length receipts ≡ length ms → (options.dump ≡ true → IsRestored before cells)
     → IsReport options.dump (head_with options.receipts receipts) cells ms report
     → IsRun o options ms report before after (recovery ++ later)
 run_of_shares o options before opened after recovery later ms receipts moment base cells report
-    doable several tells is_opened changes w long restored is =
+    tells is_opened changes w long restored is =
     let run = closed options before opened after recovery later ms moment base w.ids w.dropped
-    w.history w.files doable is_opened changes w.path w.store in
+    w.history w.files is_opened changes w.path w.store w.apart in
     let all = recovery ++ later in
     let text = receipts_text options.receipts (length ms) w.history w.logged receipts w.by_line
     w.receipts_are long in
@@ -122,8 +147,8 @@ run_of_shares o options before opened after recovery later ms receipts moment ba
       moment = moment;
       told = tells;
       opened = is_opened;
-      begins = λ one. absurd (omega (arith, one, several));
-      reach = λ one. absurd (omega (arith, one, several));
+      begins = w.begins;
+      reach = w.reach;
       names = w.names;
       printed = printed;
       kept = with_report options before after all ms report run printed;
@@ -136,50 +161,17 @@ pub ok_at : {R E : Type 0} (outcome : Result R E) (x : R) (P : R → Type 0) →
     → IfOk outcome P → P x
 ok_at outcome x P is has = subst (λ r. IfOk r P) is has
 
-if_still : (files : Option Files) (P Q : Files → Type 0) → ((f : Files) → P f → Q f)
-    → IfSome files P → IfSome files Q
-if_still None P Q so has = tt
-if_still (Some f) P Q so has = so f has
-
--- where all lines last, the first of them do
-lasts_some : (o : Outside) (options : ApplyOptions) (ms : List Mutation) (least : ℕ)
-    → LastsFirst o options ms least → LastsFirst o options ms 0
-lasts_some o options ms least =
-    if_still o.files
-    (λ (before : Files). LastsAll before o.leaves → LeavesFirst o options before ms least)
-    (λ (before : Files). LastsAll before o.leaves → LeavesFirst o options before ms 0)
-    (λ before has lasts.
-    let l = has lasts in
-    record {
-      log = l.log;
-      history = l.history;
-      wrote = l.wrote;
-      says = l.says;
-      since = l.since;
-      now = λ image left none. adds_some before image _ least (l.now image left none);
-      at_drain = l.at_drain;
-    })
-
-module _ (options : ApplyOptions) (o : Outside) (bytes : List ℕ) (ms : List Mutation)
-    (taken : TakesAll o.left o.left_now bytes) (sized : IsSized (capacity_of options) bytes ms)
+module _ (options : ApplyOptions) (o : Outside) (ms : List Mutation)
     (told : SameTold o.files o.files_now) (wrote : Wrote o options ms)
     (others : IfSome o.files (λ before. Told o.files_now (KeepsOthers before))) where
-  partly : LastsFirst o options ms 0 → LeavesPart options o
-  partly lasts = inr (inr (record {
-    bytes = bytes;
-    taken = taken;
-    mutations = ms;
-    sized = sized;
-    told = told;
-    wrote = wrote;
-    others = others;
-    lasts = lasts;
-  }))
+  partly : LastsFirst o options ms 0 → LeavesSome options ms o
+  partly lasts =
+      inr (inr (record { told = told; wrote = wrote; others = others; lasts = lasts }))
 
   failed : (result : Result (List ℕ) Status) → result ≡ err OutOfMemory
-      → LastsFirst o options ms 0 → Applies options o result
+      → LastsFirst o options ms 0 → AppliesLines options ms o result
   failed result is lasts =
-      subst (Applies options o) (sym is) (partly lasts)
+      subst (AppliesLines options ms o) (sym is) (partly lasts)
 
   -- by what was logged, and how it was told
   pub shares_applied : (pending : PendingReport) (outcome : Result (Vec Receipt) WriteFault)
@@ -190,44 +182,30 @@ module _ (options : ApplyOptions) (o : Outside) (bytes : List ℕ) (ms : List Mu
       → ((receipts : Vec Receipt) (report : List ℕ) → outcome ≡ ok receipts
       → report ≡ head_with options.receipts receipts.items ++ pending.rows.items
       → IsReported options ms report × Turns o (IsRun o options ms report))
-      → Applies options o result
-  shares_applied pending (ok receipts) (ok report) told_as lasts cause so =
-      let is = so receipts report refl told_as in (
-        bytes,
-        taken,
-        record {
-          mutations = ms;
-          sized = sized;
-          reported = is.0;
-          told = told;
-          wrote = wrote;
-          run = is.1;
-          lasts = lasts;
-        },
-      )
-  shares_applied pending (ok receipts) (err status) told_as lasts cause so =
-      subst (λ (s : Status). ApplyRefuses options s o) (sym told_as)
-      (partly (lasts_some o options ms (length ms) lasts))
+      → AppliesLines options ms o result
+  shares_applied pending (ok receipts) result told_as lasts cause so =
+      let report = head_with options.receipts receipts.items ++ pending.rows.items in
+      let is = so receipts report refl refl in
+      subst (AppliesLines options ms o) (sym told_as) (record {
+        reported = is.0;
+        logged = record { told = told; wrote = wrote; others = others; lasts = lasts };
+        run = is.1;
+      })
   shares_applied pending (err (fault.Stopped at_open now)) result told_as lasts cause so =
-      subst (Applies options o) (sym told_as) (
-        (bytes, taken, record { mutations = ms; sized = sized }),
-        cause.1,
-        partly lasts,
-      )
+      subst (AppliesLines options ms o) (sym told_as) (cause.1, partly lasts)
   shares_applied pending (err fault.OutOfMemory) result told_as lasts cause so =
       failed result told_as lasts
   shares_applied pending (err fault.Spent) result told_as lasts cause so =
       failed result told_as lasts
   shares_applied pending (err (fault.Rows n)) result told_as lasts cause so =
-      failed result told_as lasts
+      subst (AppliesLines options ms o) (sym told_as) (refl, partly lasts)
 
 -- a run that comes so far has called the disk
 pub shares_call : (receipts : Bool) (pending : PendingReport)
     (outcome : Result (Vec Receipt) WriteFault) (result : Result (List ℕ) Status)
     → IsToldAs receipts pending outcome result → IsRefusedBefore result → ⊥
-shares_call receipts pending (ok told) (ok report) told_as before = before
-shares_call receipts pending (ok told) (err status) told_as before =
-    subst (λ (s : Status). IsRefusedBefore {T = List ℕ} (err s)) told_as before
+shares_call receipts pending (ok told) result told_as before =
+    subst IsRefusedBefore told_as before
 shares_call receipts pending (err (fault.Stopped at_open now)) result told_as before =
     subst IsRefusedBefore told_as before
 shares_call receipts pending (err fault.OutOfMemory) result told_as before =

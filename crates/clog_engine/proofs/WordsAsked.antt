@@ -23,7 +23,7 @@ use Rattle.clog_words.specs.declared.built.Built.TheVariants as built
 use Rattle.clog_words.specs.declared.request.ApplyOptions.{ApplyOptions}
 use Rattle.clog_words.specs.declared.request.ReplayOptions.{ReplayOptions}
 use Rattle.clog_words.specs.declared.request.Request.{Request}
-use Rattle.clog_words.specs.declared.request.Request.TheVariants.{Apply, Replay, Scan}
+use Rattle.clog_words.specs.declared.request.Request.TheVariants.{Apply, Replay, Scan, Drill}
 use Rattle.clog_words.specs.Asks.{Asks, IsNumberOr, IsValueWithin}
 use Rattle.clog_words.specs.Built.{AsksBuilt, IsBuilt}
 use Rattle.clog_words.specs.Given.{Setting, said}
@@ -39,6 +39,10 @@ one_replay r a b p q = let same : Replay a ≡ Replay b = sym p ∙ q in cc
 one_scan : (r : Request) (a b : List ℕ) → r ≡ Scan a → r ≡ Scan b → a ≡ b
 one_scan r a b p q = let same : Scan a ≡ Scan b = sym p ∙ q in cc
 
+one_drill : (r : Request) (s t m n : ℕ) → r ≡ Drill s m → r ≡ Drill t n
+    → built.Drill s m ≡ built.Drill t n
+one_drill r s t m n p q = let same : Drill s m ≡ Drill t n = sym p ∙ q in cc
+
 -- a request asks for one thing
 one_built : (r : Request) (a b : Built) → IsBuilt r a → IsBuilt r b → a ≡ b
 one_built r (built.Apply o) (built.Apply o') p q = ap built.Apply (one_apply r o o' p.0 q.0)
@@ -46,11 +50,15 @@ one_built r (built.Apply o) (built.Replay o') p q =
     let same : Apply o ≡ Replay o' = sym p.0 ∙ q in cc
 one_built r (built.Apply o) (built.Scan id) p q =
     let same : Apply o ≡ Scan q.0 = sym p.0 ∙ q.1 in cc
+one_built r (built.Apply o) (built.Drill t n) p q =
+    let same : Apply o ≡ Drill t n = sym p.0 ∙ q in cc
 one_built r (built.Replay o) (built.Apply o') p q =
     let same : Replay o ≡ Apply o' = sym p ∙ q.0 in cc
 one_built r (built.Replay o) (built.Replay o') p q = ap built.Replay (one_replay r o o' p q)
 one_built r (built.Replay o) (built.Scan id) p q =
     let same : Replay o ≡ Scan q.0 = sym p ∙ q.1 in cc
+one_built r (built.Replay o) (built.Drill t n) p q =
+    let same : Replay o ≡ Drill t n = sym p ∙ q in cc
 one_built r (built.Scan id) (built.Apply o) p q =
     let same : Scan p.0 ≡ Apply o = sym p.1 ∙ q.0 in cc
 one_built r (built.Scan id) (built.Replay o) p q =
@@ -59,6 +67,15 @@ one_built r (built.Scan id) (built.Scan id') p q =
     let same = one_scan r p.0 q.0 p.1 q.1 in
     ap built.Scan (one_segment q.0 6 id 6 id'
     (subst (λ (n : List ℕ). IsSegmentName n 6 id) same p.2) q.2).1
+one_built r (built.Scan id) (built.Drill t n) p q =
+    let same : Scan p.0 ≡ Drill t n = sym p.1 ∙ q in cc
+one_built r (built.Drill s m) (built.Apply o) p q =
+    let same : Drill s m ≡ Apply o = sym p ∙ q.0 in cc
+one_built r (built.Drill s m) (built.Replay o) p q =
+    let same : Drill s m ≡ Replay o = sym p ∙ q in cc
+one_built r (built.Drill s m) (built.Scan id) p q =
+    let same : Drill s m ≡ Scan q.0 = sym p ∙ q.1 in cc
+one_built r (built.Drill s m) (built.Drill t n) p q = one_drill r s t m n p q
 
 -- words do not ask for two things
 pub one_asked : (words : List (List ℕ)) (a b : Built) → AsksBuilt words a → AsksBuilt words b
@@ -93,6 +110,17 @@ pub workers_within : (words : List (List ℕ)) (options : ReplayOptions)
     → AsksBuilt words (built.Replay options) → (1 ≤ options.workers) × (options.workers ≤ 64)
 workers_within words options asked =
     asked_workers words options (subst (Asks words) asked.is_built asked.asks)
+
+asked_count : (words : List (List ℕ)) (seed count : ℕ) → Asks words (Drill seed count)
+    → count ≤ 1000000
+asked_count [] seed count asks = absurd asks
+asked_count (command ∷ words) seed count asks = asks.1.count_is.up_to
+
+-- a drill makes no more lines than there may be
+pub count_within : (words : List (List ℕ)) (seed count : ℕ)
+    → AsksBuilt words (built.Drill seed count) → count ≤ 1000000
+count_within words seed count asked =
+    asked_count words seed count (subst (Asks words) asked.is_built asked.asks)
 
 asked_segments : (words : List (List ℕ)) (options : ApplyOptions) → Asks words (Apply options)
     → (4 ≤ options.segment_kib) × (options.segment_kib ≤ 32768)

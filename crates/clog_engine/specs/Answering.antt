@@ -10,7 +10,8 @@ use Rattle.clog_engine.specs.declared.status.Status.TheVariants.{
   OutOfMemory,
 }
 use Rattle.clog_words.specs.declared.built.Built.{Built}
-use Rattle.clog_words.specs.declared.built.Built.TheVariants.{Apply, Replay, Scan}
+use Rattle.clog_words.specs.declared.built.Built.TheVariants.{Apply, Replay, Scan, Drill}
+use Rattle.clog_engine.specs.Drill.{Drills}
 use Rattle.clog_engine.specs.Replaying.{ReplaysFolder}
 use Rattle.clog_engine.specs.Request.{Asks}
 use Rattle.clog_engine.specs.Scanning.{Scans}
@@ -33,6 +34,7 @@ Does (Some (Replay options)) o outcome =
     × IsLeftAlone o × IsUnread o
 Does (Some (Scan id)) o outcome =
     Scans id o.files o.disk_faults o.disk_faults_now outcome × IsLeftAlone o × IsUnread o
+Does (Some (Drill seed count)) o outcome = Drills seed count o outcome × IsUnread o
 
 -- Memory for the words was refused.
 abbrev pub HasNoWords : Outside → Result (List ℕ) Status → Type 0

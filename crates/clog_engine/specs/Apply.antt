@@ -1,32 +1,6 @@
 -- What `apply` does to the disk and reports, and why it does not.
-use Rattle.std.specs.Prelude.{
-  ◌≡◌,
-  ◌⊎◌,
-  ℕ,
-  ◌<◌,
-  ◌≤◌,
-  List,
-  [],
-  ◌∷◌,
-  ◌++◌,
-  length,
-  map,
-  take,
-  false,
-  Contains,
-  Option,
-  Some,
-  IfSome,
-  option_map,
-  ⊤,
-  Result,
-}
+use Rattle.std.specs.Prelude.{◌≡◌, ◌⊎◌, ℕ, ◌<◌, List, length, false, IfSome, Result}
 use Rattle.std.specs.declared.result.Result.TheVariants as result
-use Rattle.std.specs.List.{flat_map}
-use Rattle.clog_base.specs.declared.cell.Cell.{Cell}
-use Rattle.clog_base.specs.declared.cell.CellKey.{CellKey}
-use Rattle.clog_base.specs.declared.sizes.Sizes.{Sizes}
-use Rattle.path_core.specs.declared.note.EntryNote.{EntryNote}
 use Rattle.clog_base.specs.declared.fault.Quantity.TheVariants.{
   FileBytes,
   Lines,
@@ -36,43 +10,15 @@ use Rattle.clog_base.specs.declared.fault.Quantity.TheVariants.{
 }
 use Rattle.clog_io.specs.Bytes.{TakesAll}
 use Rattle.clog_io.specs.Causes.{Rose}
-use Rattle.clog_disk.specs.declared.change.Change.{Change}
-use Rattle.clog_disk.specs.Files.{Files, SameTold, Told, bytes_at}
-use Rattle.clog_disk.specs.Images.{IsImage, LastsAll}
 use Rattle.clog_mutation.specs.declared.mutation.Mutation.{Mutation}
-use Rattle.clog_mutation.specs.Payload.{cells_of}
 use Rattle.clog_text.specs.FileLines.{line_limit}
 use Rattle.clog_spec.specs.Sizes.{file_limit}
 use Rattle.clog_words.specs.declared.request.ApplyOptions.{ApplyOptions}
-use Rattle.clog_crash.specs.Covering.{Either, SameMerge}
 use Rattle.clog_crash.specs.Folder.{IsFirstBad}
-use Rattle.clog_crash.specs.Grown.{appends_of}
-use Rattle.clog_crash.specs.Log.{NoChances, Write}
-use Rattle.clog_crash.specs.Readings.{RestoresIn}
-use Rattle.clog_crash.specs.Restore.{IsUndamaged}
 use Rattle.clog_folder.specs.Folder.{HasDamage, HasLongSegment}
 use Rattle.clog_store.specs.Named.{sequence_limit, id_limit}
-use Rattle.clog_store.specs.Opened.{
-  HasGreatId,
-  HasManyTables,
-  IsOpened,
-  KeepsFolder,
-  RecoversAll,
-  RecoversFirst,
-}
-use Rattle.clog_applied.specs.Applied.{IsAppliedRun}
+use Rattle.clog_store.specs.Opened.{HasGreatId, HasManyTables}
 use Rattle.clog_applied.specs.Asked.{capacity_of}
-use Rattle.clog_applied.specs.Closed.{ClosedRun}
-use Rattle.clog_applied.specs.Filed.{BringsNoOther, KeepsOthers}
-use Rattle.clog_applied.specs.History.{LoggedLine}
-use Rattle.clog_applied.specs.Onward.{ReachesNoFurther}
-use Rattle.clog_applied.specs.Printed.{ReportIsPrinted}
-use Rattle.clog_closing.specs.Logs.{id_of}
-use Rattle.clog_closing.specs.NextNames.{HaveNextNames}
-use Rattle.clog_lines.specs.Written.{AreLaidFor, AreMadeFor, GoesBeyond, IsWrittenBy}
-use Rattle.clog_writers.specs.Left.{SaysShares, said_by}
-use Rattle.clog_writers.specs.Written.{HasReceipts}
-use Rattle.write_path.specs.declared.commit.Receipt.{Receipt}
 use Rattle.clog_engine.specs.declared.status.Status.{Status}
 use Rattle.clog_engine.specs.declared.status.Status.TheVariants.{
   BadLine,
@@ -83,6 +29,7 @@ use Rattle.clog_engine.specs.declared.status.Status.TheVariants.{
   BadTable,
   OutOfMemory,
   Limit,
+  Groups,
 }
 use Rattle.clog_engine.specs.Input.{
   HasManyLines,
@@ -92,173 +39,29 @@ use Rattle.clog_engine.specs.Input.{
   IsSized,
   Takes,
 }
+use Rattle.clog_engine.specs.Limits.{group_limit}
+use Rattle.clog_engine.specs.Logged.{AreApplied, AreLogged, KeepsAll}
 use Rattle.clog_engine.specs.Outside.{Outside, IsLeftAlone}
-use Rattle.clog_engine.specs.Report.{IsReport, head_of, head_with}
-use Rattle.clog_engine.specs.Request.{AreSizesOf}
 
 -- The source was read to its end, and the bytes that it gave are such.
 abbrev pub ReadsToEnd : Outside → (List ℕ → Type 0) → Type 0
 ReadsToEnd o P = Takes o.left o.left_now P
 
--- ---- what a crash leaves
-
--- An image restores what the folder restored before, and the first of these lines, at least so
--- many. It has no damage that was not there.
-pub record AddsFirst (before : Files) (mutations : List Mutation) (least : ℕ) (image : Files)
-    : Type 0 where
-  pub n : ℕ
-  pub enough : least ≤ n
-  pub some : n ≤ length mutations
-  pub restores :
-      SameMerge (RestoresIn (bytes_at image))
-      (Either (RestoresIn (bytes_at before)) (Contains (flat_map cells_of (take n mutations))))
-  pub undamaged : IsUndamaged before → IsUndamaged image
-
--- The run's changes are those of a recovery, and then others whose appends have brought these
--- segments. By these so many writers log the lines: they are appends alone, or those of a drain that
--- has begun, in order.
-pub record HasWrittenLog (o : Outside) (options : ApplyOptions) (before : Files)
-    (mutations : List Mutation) (log : List Write) : Type 0 where
-  pub between : Option (List Change)
-  pub recovered : RecoversAll before o.changes between
-  pub added : List Change
-  pub changes_are : o.changes_now ≡ option_map (λ made. made ++ added) between
-  pub made_for : AreMadeFor options.archive options.drain options.writers mutations added
-  pub brought : IsWrittenBy (appends_of added) log
-
--- Where the disk tells its files, that is all that was changed, and no other name has come than those
--- of these segments, their archive names and table files.
-abbrev pub Wrote : Outside → ApplyOptions → List Mutation → Type 0
-Wrote o options mutations = IfSome o.files
-    (λ before. (log : List Write) × HasWrittenLog o options before mutations log
-    × Told o.files_now (BringsNoOther (map id_of log) before))
-
--- A crash at any moment of the run leaves what restores so, and a crash now at least so many of the
--- lines, where nothing passes by chance for what was written: the segments that were appended, which
--- say a history whose lines are, of each writer, the first of its share. Its lines come in the order
--- of the log. Where the changes go beyond appends, a crash leaves all of them.
-pub record LeavesFirst (o : Outside) (options : ApplyOptions) (before : Files)
-    (mutations : List Mutation) (least : ℕ) : Type 0 where
-  pub log : List Write
-  pub history : List LoggedLine
-  pub wrote : HasWrittenLog o options before mutations log
-  pub says : SaysShares options.writers mutations log history
-  pub since : (image : Files) → o.since image → NoChances log image
-      → AddsFirst before (said_by history) 0 image
-  pub now : (image : Files) → IsImage o.leaves_now image → NoChances log image
-      → AddsFirst before (said_by history) least image
-  pub at_drain : GoesBeyond wrote.added → (image : Files) → IsImage o.leaves_now image
-      → NoChances log image → AddsFirst before (said_by history) (length mutations) image
-
--- Where the disk tells its files, and all of them lasted before, a crash leaves that.
-abbrev pub LastsFirst : Outside → ApplyOptions → List Mutation → ℕ → Type 0
-LastsFirst o options mutations least = IfSome o.files
-    (λ before. LastsAll before o.leaves → LeavesFirst o options before mutations least)
-
--- ---- the run ends well
-
--- the first line, where there is one, stands in the segment of an id
-abbrev pub BeginsIn : ℕ → List LoggedLine → Type 0
-BeginsIn id [] = ⊤
-BeginsIn id (w ∷ ws) = w.id ≡ id
-
--- The folder was opened at a moment that the clock told, from which and from the ids that it named
--- the base is; the run is closed, and its table files have the next names of their tables. Of one
--- writer its first line stands there, and it reaches no further than its lines. So its promises are
--- kept.
-pub record IsRun (o : Outside) (options : ApplyOptions) (mutations : List Mutation)
-    (report : List ℕ) (before after : Files) (added : List Change) : Type 0 where
-  pub closed : ClosedRun options before after added mutations
-  pub moment : ℕ
-  pub told : o.tells moment
-  pub opened : IsOpened before moment closed.base closed.opened
-  pub begins : options.writers ≡ 1 → BeginsIn closed.base closed.history
-  pub reach : options.writers ≡ 1 → ReachesNoFurther options closed.base closed.later closed.ids
-      closed.history closed.files
-  pub names : HaveNextNames closed.opened after closed.files
-  pub printed : ReportIsPrinted options after (length mutations) closed.history report
-  pub kept : IsAppliedRun options before after added mutations report
-
--- The disk tells its files and its changes still, which are those of before and others; and it has
--- turned so.
-pub record Becomes (o : Outside) (made : List Change) (P : Files → List Change → Type 0) : Type 0
-  where
-    pub after : Files
-    pub added : List Change
-    pub files_are : o.files_now ≡ Some after
-    pub changes_are : o.changes_now ≡ Some (made ++ added)
-    pub is : P after added
-
--- The same of a disk that told its files and its changes before.
-abbrev pub Turns : Outside → (Files → Files → List Change → Type 0) → Type 0
-Turns o P = (before : Files) (made : List Change) → o.files ≡ Some before
-    → o.changes ≡ Some made → Becomes o made (P before)
-
--- The report of lines that are laid out from some base on, over some cells.
-pub record IsLaidReport (options : ApplyOptions) (mutations : List Mutation) (report : List ℕ)
-    : Type 0 where
-  pub sizes : Sizes
-  pub sizes_are : AreSizesOf options sizes
-  pub notes : List EntryNote
-  pub laid : AreLaidFor sizes mutations notes
-  pub base : ℕ
-  pub cells : List (CellKey × Cell)
-  pub text : IsReport options.dump (head_of options.receipts base notes) cells mutations report
-
--- The report of lines that several writers have logged from some base on, over some cells: each
--- writer its share, in order.
-pub record IsSharesReport (options : ApplyOptions) (mutations : List Mutation) (report : List ℕ)
-    : Type 0 where
-  pub sizes : Sizes
-  pub sizes_are : AreSizesOf options sizes
-  pub base : ℕ
-  pub receipts : List Receipt
-  pub logged : HasReceipts sizes base mutations receipts
-  pub cells : List (CellKey × Cell)
-  pub text : IsReport options.dump (head_with options.receipts receipts) cells mutations report
-
--- what the report says, by the count of writers
-pub record IsReported (options : ApplyOptions) (mutations : List Mutation) (report : List ℕ)
-    : Type 0 where
-  pub by_one : options.writers ≡ 1 → IsLaidReport options mutations report
-  pub by_several : 1 < options.writers → IsSharesReport options mutations report
-
--- The lines of the file are applied, and what the report says, whatever the disk tells. Each image
--- of now has them all.
+-- The lines of the file are applied.
 pub record IsApplied (o : Outside) (options : ApplyOptions) (report bytes : List ℕ) : Type 0 where
   pub mutations : List Mutation
   pub sized : IsSized (capacity_of options) bytes mutations
-  pub reported : IsReported options mutations report
-  pub told : SameTold o.files o.files_now
-  pub wrote : Wrote o options mutations
-  pub run : Turns o (IsRun o options mutations report)
-  pub lasts : LastsFirst o options mutations (length mutations)
+  pub applied : AreApplied o options mutations report
 
 -- ---- the run is refused
 
--- The run broke off before any line was written. The folder restores the same, and each file of
--- before that is no segment stands as it was.
-pub record KeepsAll (o : Outside) : Type 0 where
-  pub told : SameTold o.files o.files_now
-  -- the changes are those of a recovery, or the first of them
-  pub changes : IfSome o.files (λ before. RecoversFirst before o.changes o.changes_now)
-  pub same : IfSome o.files (λ before. Told o.files_now (KeepsFolder before))
-  pub others : IfSome o.files (λ before. Told o.files_now (KeepsOthers before))
-  -- and whatever a crash leaves, where all of it lasted
-  pub lasts : IfSome o.files (λ before. LastsAll before o.leaves
-      → (image : Files) → o.since image → KeepsFolder before image)
-
--- All was good, and the run broke off while the lines were written. Each file of before that is no
--- segment stands as it was.
+-- All was good, and the run broke off while the lines were written.
 pub record IsPartly (options : ApplyOptions) (o : Outside) : Type 0 where
   pub bytes : List ℕ
   pub taken : TakesAll o.left o.left_now bytes
   pub mutations : List Mutation
   pub sized : IsSized (capacity_of options) bytes mutations
-  pub told : SameTold o.files o.files_now
-  pub wrote : Wrote o options mutations
-  pub others : IfSome o.files (λ before. Told o.files_now (KeepsOthers before))
-  pub lasts : LastsFirst o options mutations 0
+  pub logged : AreLogged o options mutations 0
 
 -- the disk was left alone, or the folder restores the same, or the first of the lines came
 abbrev pub LeavesPart : ApplyOptions → Outside → Type 0
@@ -297,6 +100,9 @@ ApplyRefuses options (Limit TableFiles most) o =
     × IsLeftAlone o
 ApplyRefuses options (Limit Ids most) o =
     (most ≡ id_limit) × ReadsGood options o × IfSome o.files HasGreatId × IsLeftAlone o
+-- a group was wanted behind the last: all was good, and the lines are not all written or synced
+ApplyRefuses options (Groups most) o =
+    (most ≡ group_limit) × ReadsGood options o × LeavesPart options o
 ApplyRefuses options other o = ⊥
 
 -- a report, or why there is none

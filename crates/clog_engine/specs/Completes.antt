@@ -1,4 +1,4 @@
--- When a run ends well, or for want of memory alone.
+-- When a run ends well, or for want of memory or of groups alone.
 use Rattle.std.specs.Prelude.{
   ◌≡◌,
   ◌≤◌,
@@ -7,6 +7,7 @@ use Rattle.std.specs.Prelude.{
   List,
   length,
   Bool,
+  false,
   Option,
   Some,
   None,
@@ -21,14 +22,14 @@ use Rattle.clog_crash.specs.Damage.{AreSegmentFiles}
 use Rattle.clog_folder.specs.Folder.{CanBeRead}
 use Rattle.clog_store.specs.Opened.{CanBeOpened}
 use Rattle.clog_words.specs.declared.built.Built.{Built}
-use Rattle.clog_words.specs.declared.built.Built.TheVariants.{Apply, Replay, Scan}
+use Rattle.clog_words.specs.declared.built.Built.TheVariants.{Apply, Replay, Scan, Drill}
 use Rattle.clog_words.specs.Built.{AsksBuilt}
 use Rattle.clog_words.specs.Given.{texts}
 use Rattle.clog_applied.specs.Asked.{capacity_of}
 use Rattle.clog_engine.specs.declared.status.Status.{Status}
-use Rattle.clog_engine.specs.declared.status.Status.TheVariants.{Ok, OutOfMemory}
+use Rattle.clog_engine.specs.declared.status.Status.TheVariants.{Groups, Ok, OutOfMemory}
 use Rattle.clog_engine.specs.Input.{IsGood}
-use Rattle.clog_engine.specs.Limits.{scan_limit}
+use Rattle.clog_engine.specs.Limits.{group_limit, scan_limit}
 use Rattle.clog_engine.specs.Outside.{Outside, Sinks}
 
 -- The source tells its bytes, and they are such.
@@ -55,11 +56,14 @@ pub record IsReplayable (ignore : Bool) (files : Files) : Type 0 where
   pub segments : AreSegmentFiles files
 
 -- What is asked for can be done: `apply` has a good mutation file and a folder that can be opened,
--- `replay` a folder that can be read, `scan` its file.
+-- `replay` a folder that can be read, `scan` its file, `drill` a folder that can be opened, and
+-- read behind its lines.
 abbrev pub IsFit : Built → Outside → Type 0
 IsFit (Apply options) o = Tells o.left (IsGood (capacity_of options)) × Told o.files IsOpenable
 IsFit (Replay options) o = Told o.files (IsReplayable options.ignore_errors)
 IsFit (Scan id) o = Told o.files (λ files. IsScannable files (segment_name_of 6 id))
+IsFit (Drill seed count) o =
+    Told o.files IsOpenable × Told o.files_now (IsReplayable false)
 
 -- No fault was counted, and no count stands at its type's end.
 pub record IsQuiet (o : Outside) (s : Sinks) : Type 0 where
@@ -67,8 +71,12 @@ pub record IsQuiet (o : Outside) (s : Sinks) : Type 0 where
   pub disk : ¬ Rose o.disk_faults o.disk_faults_now
   pub sink : ¬ Rose s.faults s.faults_now
 
+-- for want of memory, or of a further group of the append order
+abbrev pub WantsRoom : Status → Type 0
+WantsRoom status = (status ≡ OutOfMemory) ⊎ (status ≡ Groups group_limit)
+
 abbrev pub EndsWell : Status → Type 0
-EndsWell status = (status ≡ Ok) ⊎ (status ≡ OutOfMemory)
+EndsWell status = (status ≡ Ok) ⊎ WantsRoom status
 
 -- Where the words ask for what can be done and no fault was counted, the run ends well.
 abbrev pub Completes : List (String Global) → Outside → Sinks → Status → Type 0

@@ -24,6 +24,7 @@ use Rattle.clog_engine.specs.declared.status.Status.TheVariants.{
   BadTable,
   OutOfMemory,
   Limit,
+  Groups,
   Absent,
 }
 use Rattle.clog_applied.specs.Printed.{line}
@@ -34,6 +35,11 @@ quantity_name Lines = codes "lines"
 quantity_name SegmentBytes = codes "segment-bytes"
 quantity_name Ids = codes "ids"
 quantity_name TableFiles = codes "table-files"
+
+-- a limit of this name
+abbrev pub limit_line : List ℕ → ℕ → List ℕ
+limit_line name number =
+    line (codes "error 10: limit " ++ name ++ codes " " ++ decimal number)
 
 abbrev pub fault_line : Status → List ℕ
 fault_line Ok = []
@@ -51,8 +57,8 @@ fault_line (Damaged name at cause) =
 fault_line (BadTable name fault) =
     line (codes "error 8: " ++ name ++ codes ": " ++ fault_text fault)
 fault_line OutOfMemory = line (codes "error 9: out of memory")
-fault_line (Limit what number) =
-    line (codes "error 10: limit " ++ quantity_name what ++ codes " " ++ decimal number)
+fault_line (Limit what number) = limit_line (quantity_name what) number
+fault_line (Groups number) = limit_line (codes "groups") number
 fault_line (Absent name) = line (codes "error 11: no file " ++ name)
 
 abbrev pub number_of : Status → ℕ
@@ -67,4 +73,5 @@ number_of (Damaged name at cause) = 7
 number_of (BadTable name fault) = 8
 number_of OutOfMemory = 9
 number_of (Limit what number) = 10
+number_of (Groups number) = 10
 number_of (Absent name) = 11

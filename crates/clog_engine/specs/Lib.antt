@@ -2,10 +2,12 @@ pub mod Answering
 pub mod Apply
 pub mod Before
 pub mod Completes
+pub mod Drill
 pub mod Faults
 pub mod Input
 pub mod Laying
 pub mod Limits
+pub mod Logged
 pub mod Outside
 pub mod Planning
 pub mod Quiet

@@ -1,5 +1,18 @@
 -- How a run ends whose disk or folder is refused, or whose lines were written.
-use Rattle.std.specs.Prelude.{◌≡◌, List, ◌++◌, ℕ, Bool, Result, Vec}
+use Rattle.std.specs.Prelude.{
+  ◌≡◌,
+  ℕ,
+  ◌+◌,
+  ◌*◌,
+  ◌≤◌,
+  List,
+  ◌++◌,
+  length,
+  vec_capacity,
+  Bool,
+  Result,
+  Vec,
+}
 use Rattle.std.specs.declared.alloc.Global.{Global}
 use Rattle.std.specs.declared.result.Result.TheVariants as result
 use Rattle.clog_disk.specs.declared.disk.DiskFault.{DiskFault}
@@ -10,7 +23,7 @@ use Rattle.path_core.specs.declared.keeper.KeeperFault.{KeeperFault}
 use Rattle.path_core.specs.declared.keeper.KeeperFault.TheVariants as keeper
 use Rattle.write_path.specs.declared.commit.Receipt.{Receipt}
 use Rattle.clog_writers.specs.declared.fault.WriteFault.{WriteFault}
-use Rattle.clog_writers.specs.declared.fault.WriteFault.TheVariants.{Spent, Stopped}
+use Rattle.clog_writers.specs.declared.fault.WriteFault.TheVariants.{Rows, Spent, Stopped}
 use Rattle.clog_engine.specs.declared.report.PendingReport.{PendingReport}
 use Rattle.clog_engine.specs.declared.status.Status.{Status}
 use Rattle.clog_engine.specs.declared.status.Status.TheVariants.{
@@ -19,8 +32,10 @@ use Rattle.clog_engine.specs.declared.status.Status.TheVariants.{
   BadTable,
   OutOfMemory,
   Limit,
+  Groups,
 }
-use Rattle.clog_engine.specs.Report.{head_with}
+use Rattle.clog_engine.specs.Limits.{group_limit}
+use Rattle.clog_engine.specs.Report.{head_with, longest_receipt}
 
 abbrev pub status_of : DiskFault → Status
 status_of fault.Failed = HasDiskFault
@@ -44,13 +59,17 @@ ended_as report (result.Err keeper.OutOfMemory) = result.Err OutOfMemory
 abbrev pub IsUnspent : {T : Type 0} → Result T WriteFault → Type 0
 IsUnspent outcome = outcome ≡ result.Err Spent → ⊥
 
--- A report whose head was to come, where several writers logged all lines; want of memory comes of
--- both.
+-- there is room for a head of so many receipts, and for the rows
+abbrev pub HasRoomFor : ℕ → PendingReport → Type 0
+HasRoomFor lines pending =
+    longest_receipt * (lines + 1) + length pending.rows.items ≤ vec_capacity pending.room
+
+-- A report whose head was to come, where several writers logged all lines; else why they did not.
 abbrev pub IsToldAs : Bool → PendingReport → Result (Vec Receipt Global) WriteFault
     → Result (List ℕ) Status → Type 0
-IsToldAs receipts pending (result.Ok told) (result.Ok report) =
-    report ≡ head_with receipts told.items ++ pending.rows.items
-IsToldAs receipts pending (result.Ok told) (result.Err status) = status ≡ OutOfMemory
+IsToldAs receipts pending (result.Ok logged) told =
+    told ≡ result.Ok (head_with receipts logged.items ++ pending.rows.items)
 IsToldAs receipts pending (result.Err (Stopped at_open now)) told =
     told ≡ result.Err HasDiskFault
+IsToldAs receipts pending (result.Err (Rows groups)) told = told ≡ result.Err (Groups group_limit)
 IsToldAs receipts pending (result.Err other) told = told ≡ result.Err OutOfMemory

@@ -43,6 +43,11 @@ receipts_of base notes = flat_map (receipt_at base) notes
 abbrev pub receipt_told : Receipt → List ℕ
 receipt_told r = receipt_line r.line r.position.id r.position.offset
 
+-- No line of a head is longer: a receipt has its word and spaces, 10 digits of its number, 20 of an
+-- id and 10 of an end.
+abbrev pub longest_receipt : ℕ
+longest_receipt = 51
+
 abbrev pub receipts_told : List Receipt → List ℕ
 receipts_told receipts = flat_map receipt_told receipts
 

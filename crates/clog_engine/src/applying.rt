@@ -2,19 +2,18 @@
 //!
 //! Whatever is refused for the words, the file or what the folder holds, leaves the folder alone.
 //! All memory for the report is taken before any line is written.
-ghost use Rattle.std.specs.Prelude.{◌≡◌, ◌<◌, ◌^◌, ℕ, List, Option, IfOk};
+ghost use Rattle.std.specs.Prelude.{◌≡◌, ◌<◌, ◌^◌, ℕ, List, Option, IfOk, false, true};
 ghost use Rattle.clog_cells.specs.Merge.{AreInOrder};
 ghost use Rattle.clog_spec.specs.Sizes.{most_segments};
-ghost use Rattle.clog_io.specs.Bytes.{TakesAll};
-ghost use Rattle.clog_applied.specs.Asked.{capacity_of};
+ghost use Rattle.clog_applied.specs.Asked.{IsBatch};
 ghost use Rattle.clog_engine.specs.Apply.{Applies};
-ghost use Rattle.clog_engine.specs.Input.{IsSized};
+ghost use Rattle.clog_engine.specs.Logged.{AppliesLines};
 ghost use Rattle.clog_engine.specs.Laying.{AreLaidLines, ReadsLines};
 ghost use Rattle.clog_engine.specs.Outside.{outside_of, outside_with};
 ghost use Rattle.clog_engine.specs.Quiet.{TellsEach, IsRefusedBefore};
 ghost use Rattle.clog_engine.specs.Refusal.{ended_as};
 ghost use Rattle.clog_engine.specs.Report.{IsReport, head_of};
-ghost use Rattle.clog_engine.specs.Request.{AreSizesOf, IsDoable};
+ghost use Rattle.clog_engine.specs.Request.{AreSizesOf, IsDoable, IsForWriters};
 
 use crate::before::cells_before;
 use crate::input::{bytes_of, mutations_of};
@@ -36,6 +35,7 @@ use path_core::{EntryNote, KeeperFault};
 use std::alloc::Global;
 use std::sync::Wait;
 use std::thread::Threads;
+use sync_core::SyncCore;
 
 impl From<OutOfMemory> for Status {
     ghost use Rattle.clog_engine.specs.declared.status.Status.TheVariants.{
@@ -107,12 +107,12 @@ fn apply_lines<T: Threads + Sync, D: Disk, C: Clock, G: Gate + Sync>(
 ) -> (D, Result<Bytes, Status>)
     requires doable { IsDoable options }
     requires one { options.writers ≡ 1 }
+    requires periodic { IsBatch options → ⊥ }
     requires sizes { AreSizesOf options sizes }
     requires laid { AreLaidLines sizes lines }
-    ensures applies { (left left_now : Option (List ℕ)) (f g : ℕ) (bytes : List ℕ)
-        → TakesAll left left_now bytes → IsSized (capacity_of options) bytes lines.mutations
-        → Applies options (outside_with left left_now f g D.Disk C.Clock disk result.0 clock.now)
-        result.1 }
+    ensures applies { (left left_now : Option (List ℕ)) (f g : ℕ)
+        → AppliesLines options lines.mutations
+        (outside_with left left_now f g D.Disk C.Clock disk result.0 clock.now) result.1 }
     ensures quiet { TellsEach (D.faults disk) (D.faults result.0) result.1 }
     ensures called { IsRefusedBefore result.1 → ⊥ }
 {
@@ -140,7 +140,7 @@ fn apply_lines<T: Threads + Sync, D: Disk, C: Clock, G: Gate + Sync>(
     }
 }
 
-// Applies the source's lines by one writer.
+// Applies the source's lines by one writer in periodic mode.
 fn apply_by_one<T: Threads + Sync, S: Source, D: Disk, C: Clock, G: Gate + Sync>(
     rt: &T,
     alloc: Global,
@@ -152,6 +152,7 @@ fn apply_by_one<T: Threads + Sync, S: Source, D: Disk, C: Clock, G: Gate + Sync>
 ) -> (D, Result<Bytes, Status>)
     requires doable { IsDoable options }
     requires one { options.writers ≡ 1 }
+    requires periodic { IsBatch options → ⊥ }
     ensures applies { Applies options (outside_of S.Source D.Disk C.Clock source.old source.new
         disk result.0 clock.now) result.1 }
     ensures quiet { TellsEach (D.faults disk) (D.faults result.0) result.1 }
@@ -161,6 +162,18 @@ fn apply_by_one<T: Threads + Sync, S: Source, D: Disk, C: Clock, G: Gate + Sync>
     match read_lines(rt, alloc, sizes, source) {
         Ok(lines) => apply_lines(rt, alloc, options, sizes, lines, disk, clock, gate),
         Err(status) => (disk, Err(status)),
+    }
+}
+
+// Whether one writer logs the lines by itself, with one sync behind all of them.
+fn is_for_one(options: ApplyOptions) -> bool
+    requires { IsDoable options }
+    ensures one { result ≡ true → (options.writers ≡ 1) × (IsBatch options → ⊥) }
+    ensures several { result ≡ false → IsForWriters options }
+{
+    match options.sync {
+        SyncCore::Batch => false,
+        SyncCore::Periodic { .. } => options.writers == 1,
     }
 }
 
@@ -187,7 +200,7 @@ pub(crate) fn apply<
     ensures quiet { TellsEach (D.faults disk) (D.faults result.0) result.1 }
     ensures uncalled { IsRefusedBefore result.1 → result.0 ≡ disk }
 {
-    if options.writers == 1 {
+    if is_for_one(options) {
         return apply_by_one(rt, alloc, options, source, disk, clock, gate);
     }
     apply_by_several(rt, alloc, options, source, disk, clock, gate)

@@ -1,7 +1,7 @@
 //! The line that tells a fault. It takes no memory.
 ghost use Rattle.std.specs.Prelude.{◌≡◌, ◌≤◌, ◌+◌, ◌++◌, [], length};
 ghost use Rattle.clog_text.specs.Refusals.{part_name, refusal_name, refusal_text};
-ghost use Rattle.clog_engine.specs.Faults.{fault_line, quantity_name};
+ghost use Rattle.clog_engine.specs.Faults.{fault_line, limit_line, quantity_name};
 
 use crate::status::Status;
 use clog_base::{Name, Quantity, TextRow};
@@ -74,12 +74,13 @@ fn put_too_large(row: &mut TextRow, number: u32, size: u32, most: u32)
     row.put(b"\n");
 }
 
-fn put_limit(row: &mut TextRow, what: Quantity, number: u64)
-    requires { row.old ≡ [] }
-    ensures { row.new ≡ fault_line (Status.Limit what number) }
+fn put_limit(row: &mut TextRow, name: &[u8], number: u64)
+    requires void { row.old ≡ [] }
+    requires short { length name.now ≤ 13 }
+    ensures { row.new ≡ limit_line name.now number }
 {
     row.put(b"error 10: limit ");
-    row.put(quantity_name(what));
+    row.put(name);
     row.put(b" ");
     row.put_number(number);
     row.put(b"\n");
@@ -135,7 +136,8 @@ fn put_fault(row: &mut TextRow, status: &Status)
         Status::Damaged(name, at, cause) => put_damaged(row, name, *at, *cause),
         Status::BadTable(name, fault) => put_bad_table(row, name, fault),
         Status::OutOfMemory => row.put(b"error 9: out of memory\n"),
-        Status::Limit(what, number) => put_limit(row, *what, *number),
+        Status::Limit(what, number) => put_limit(row, quantity_name(*what), *number),
+        Status::Groups(number) => put_limit(row, b"groups", *number),
         Status::Absent(name) => put_absent(row, name),
     }
 }

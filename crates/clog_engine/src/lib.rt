@@ -1,12 +1,14 @@
 //! The commit log as one call: `run` reads a mutation file, writes it to the log and tells what
-//! came of it, or tells what the folder or a segment of it holds. Its clause is what is promised of
-//! a run, where the source and the disk tell what they hold.
+//! came of it, does the same with lines that it makes, or tells what the folder or a segment of it
+//! holds. Its clause is what is promised of a run, where the source and the disk tell what they
+//! hold.
 #![tactic(auto)]
 
 mod applying;
 mod before;
 mod cells;
 mod copies;
+mod drilling;
 mod fault_line;
 mod input;
 mod lines;
@@ -20,6 +22,7 @@ mod scanning;
 mod shares;
 mod sharing;
 mod status;
+mod summary;
 #[cfg(test)]
 mod tests;
 mod words;

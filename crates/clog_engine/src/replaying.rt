@@ -18,8 +18,8 @@ use replay_merge::{Counts, Restored, replay};
 use std::alloc::{AllocError, Global};
 use std::thread::Threads;
 
-// Puts what is counted, and how many there are.
-fn put_count(out: &mut Vec<u8>, what: &str, count: u64) -> Result<(), AllocError>
+/// Puts what is counted, and how many there are.
+pub(crate) fn put_count(out: &mut Vec<u8>, what: &str, count: u64) -> Result<(), AllocError>
     ensures { OnOk result (out.new.items ≡ out.old.items ++ numbered_line what.now count) }
 {
     let mut buffer = Buffer::new();

@@ -1,13 +1,36 @@
 //! What a run prints where it is well.
-ghost use Rattle.std.specs.Prelude.{◌≡◌, ◌<◌, ◌^◌, ◌++◌, [], OnOk, IfOk};
+ghost use Rattle.std.specs.Prelude.{
+  ◌≡◌,
+  ◌+◌,
+  ◌*◌,
+  ◌<◌,
+  ◌≤◌,
+  ◌^◌,
+  ◌++◌,
+  [],
+  length,
+  vec_capacity,
+  vec_len,
+  IfOk,
+  IsOk,
+  OnOk,
+};
 ghost use Rattle.std.specs.List.{flat_map};
 ghost use Rattle.clog_cells.specs.Merge.{AreInOrder};
 ghost use Rattle.clog_text.specs.CellTexts.{row_line};
+ghost use Rattle.clog_text.specs.FileLines.{line_limit};
 ghost use Rattle.clog_applied.specs.Printed.{applied_line};
-ghost use Rattle.clog_engine.specs.Report.{AreRowsOf, IsReport, head_of, head_with};
+ghost use Rattle.clog_engine.specs.Report.{
+  AreRowsOf,
+  IsReport,
+  head_of,
+  head_with,
+  longest_receipt,
+};
+ghost use Rattle.clog_engine.specs.Refusal.{HasRoomFor};
 
 use crate::cells::merged;
-use crate::receipts::{put_receipts, put_told};
+use crate::receipts::{LONGEST_RECEIPT, put_receipts, put_told};
 use clog_base::{Bytes, Cell, CellKey, OutOfMemory};
 use clog_cells::CellMap;
 use clog_mutation::Mutations;
@@ -18,12 +41,12 @@ use std::alloc::{AllocError, Global};
 use std::collections::BTreeMap;
 use write_path::Receipt;
 
-/// The most bytes of a receipt's line: 10 digits of its number, 20 of an id, 10 of an end.
-const LONGEST_RECEIPT: usize = 51;
-
-// Puts how many lines were applied.
+// Puts how many lines were applied. It is not refused where there is room for the longest line.
 fn put_applied(out: &mut Vec<u8>, lines: u64) -> Result<(), AllocError>
-    ensures { OnOk result (out.new.items ≡ out.old.items ++ applied_line lines) }
+    ensures items { OnOk result (out.new.items ≡ out.old.items ++ applied_line lines) }
+    ensures len { OnOk result (vec_len out.new ≤ vec_len out.old + longest_receipt) }
+    ensures room { vec_len out.old + longest_receipt ≤ vec_capacity out.old → IsOk result }
+    ensures capacity { vec_capacity out.old ≤ vec_capacity out.new }
 {
     let mut buffer = Buffer::new();
     out.extend_from_slice(b"applied ")?;
@@ -127,7 +150,8 @@ fn rows_text(
     Ok(text)
 }
 
-/// Takes the memory of a report of so many lines over the cells of before and of the lines.
+/// Takes the memory of a report of so many lines over the cells of before and of the lines: there
+/// is room for a head of the longest lines, and for the rows behind it.
 pub(crate) fn pending(
     alloc: Global,
     dump: bool,
@@ -135,19 +159,28 @@ pub(crate) fn pending(
     cells: CellMap,
     lines: usize,
 ) -> Result<PendingReport, OutOfMemory>
+    requires few { lines ≤ line_limit }
+    ensures room { IfOk result (HasRoomFor lines) }
     ensures rows { IfOk result (λ p. AreRowsOf dump before cells p.rows.items) }
     ensures void { IfOk result (λ p. p.room.items ≡ []) }
 {
     let rows = rows_text(alloc, dump, before, cells)?;
-    let head = lines.saturating_add(1).saturating_mul(LONGEST_RECEIPT);
-    let room = Vec::with_capacity(alloc, head.saturating_add(rows.len()))?;
+    let head = (lines + 1) * LONGEST_RECEIPT;
+    let Some(size) = head.checked_add(rows.len()) else {
+        return Err(OutOfMemory);
+    };
+    let room = Vec::with_capacity(alloc, size)?;
     Ok(PendingReport { room, rows })
 }
 
-// Puts what stands in front of a report, by the receipts of all lines.
+// Puts what stands in front of a report, by the receipts of all lines, for which there is room.
 fn put_head(out: &mut Vec<u8>, receipts: bool, told: &[Receipt]) -> Result<(), OutOfMemory>
-    requires { out.old.items ≡ [] }
-    ensures { OnOk result (out.new.items ≡ head_with receipts told.now) }
+    requires void { out.old.items ≡ [] }
+    requires room { longest_receipt * (length told.now + 1) ≤ vec_capacity out.old }
+    ensures ok { IsOk result }
+    ensures items { OnOk result (out.new.items ≡ head_with receipts told.now) }
+    ensures len { OnOk result (vec_len out.new ≤ longest_receipt * (length told.now + 1)) }
+    ensures capacity { vec_capacity out.old ≤ vec_capacity out.new }
 {
     put_applied(out, told.len() as u64)?;
     // Each way returns by itself, since nothing is known of the two joined.
@@ -158,19 +191,33 @@ fn put_head(out: &mut Vec<u8>, receipts: bool, told: &[Receipt]) -> Result<(), O
     Ok(())
 }
 
-/// Puts the head in front of the rows. The room is large enough, so want of memory is not to come.
-pub(crate) fn finished(
-    pending: PendingReport,
+// Puts a report, for which there is room: its head, and the rows behind it.
+fn put_report(
+    out: &mut Vec<u8>,
     receipts: bool,
     told: &[Receipt],
-) -> Result<Bytes, OutOfMemory>
-    requires { pending.room.items ≡ [] }
-    ensures { IfOk result
-        (λ report. report ≡ head_with receipts told.now ++ pending.rows.items) }
+    rows: &[u8],
+) -> Result<(), OutOfMemory>
+    requires void { out.old.items ≡ [] }
+    requires room { longest_receipt * (length told.now + 1) + length rows.now
+        ≤ vec_capacity out.old }
+    ensures ok { IsOk result }
+    ensures items { out.new.items ≡ head_with receipts told.now ++ rows.now }
+{
+    put_head(out, receipts, told)?;
+    Ok(out.extend_from_slice(rows)?)
+}
+
+/// Puts the head in front of the rows, in the room that there is for both. It takes no memory.
+pub(crate) fn finished(pending: PendingReport, receipts: bool, told: &[Receipt]) -> Bytes
+    requires void { pending.room.items ≡ [] }
+    requires room { HasRoomFor (length told.now) pending }
+    ensures { result ≡ head_with receipts told.now ++ pending.rows.items }
 {
     let PendingReport { room, rows } = pending;
     let mut out = room;
-    put_head(&mut out, receipts, told)?;
-    out.extend_from_slice(rows.as_slice())?;
-    Ok(Bytes::new(out))
+    if put_report(&mut out, receipts, told, rows.as_slice()).is_err() {
+        unreachable!()
+    }
+    Bytes::new(out)
 }

@@ -6,6 +6,7 @@ ghost use Rattle.clog_engine.specs.Run.{Runs};
 ghost use Rattle.clog_engine.specs.Quiet.{IsBeforeDisk, IsRefusedBefore, TellsEach};
 
 use crate::applying::apply;
+use crate::drilling::drill;
 use crate::fault_line::FaultLine;
 use crate::replaying::replay_folder;
 use crate::scanning::scan_segment;
@@ -62,6 +63,7 @@ fn outcome_of<T: Threads + Wait + Sync, R: Source, D: Disk + Send + Drop, C: Clo
             let outcome = scan_segment(alloc, &mut disk, id);
             (disk, outcome)
         }
+        Ok(Some(Built::Drill { seed, count })) => drill(rt, alloc, seed, count, disk, clock, gate),
         Ok(None) => (disk, Err(Status::Usage)),
         Err(OutOfMemory) => (disk, Err(Status::OutOfMemory)),
     }
@@ -74,27 +76,35 @@ fn outcome_of<T: Threads + Wait + Sync, R: Source, D: Disk + Send + Drop, C: Clo
 /// the source was read to its end; that a folder that held segments was recovered: they are gone,
 /// table files came for them, and each other file stands as it was; that each line of the file was
 /// logged once in new segments, with `--writers` each writer's share of the lines in order, whose
-/// ids are at or above the greater of the clock's moment and one more than each id that the folder
-/// named (of one writer they begin there); that the folder restores to what it restored to before
-/// with the lines' cells merged in, no file of it damaged; and that the report went out whole, whose
-/// receipts are the positions of the entries, and whose dump is what the folder restores to now.
-/// With `--drain` none of these segments is left: behind them came a table file of each table that
-/// the lines touch, and with `--archive` each has its archive name. Where all in the folder lasted
-/// before, and nothing passes a check by chance, a crash at any moment leaves what restores to that
-/// with lines of the file, of each writer the first of its share, and after `Ok` with all of them.
+/// ids begin at the greater of the clock's moment and one more than each id that the folder named;
+/// that the folder restores to what it restored to before with the lines' cells merged in, no file
+/// of it damaged; and that the report went out whole, whose receipts are the positions of the
+/// entries, and whose dump is what the folder restores to now. With `--drain` none of these segments
+/// is left: behind them came a table file of each table that the lines touch, and with `--archive`
+/// each has its archive name. Where all in the folder lasted before, and nothing passes a check by
+/// chance, a crash at any moment leaves what restores to that with the first of the lines in the
+/// order of the log, which are of each writer the first of its share, and after `Ok` with all of
+/// them.
+///
+/// With `--sync batch` a writer waits for the sync of each line before it logs its next one, so no
+/// section of a segment holds two lines of one writer, and where a sync is refused it logs no more.
 ///
 /// Of `replay` it means that the report has the counts of the folder and what it restores to, and
 /// that without `--ignore-errors` nothing of the folder is damaged; of `scan` that the report tells
-/// what the segment's file holds.
+/// what the segment's file holds. Of `drill` it means all that it means of `apply` without options
+/// but `--writers 4` and `--segment-kib 1024`, with the made lines as those of the file, and that
+/// the report has their numbers, and those of what the folder then restores to; the source is not
+/// read.
 ///
 /// Where the words ask for what can be done and no fault was counted, it ends with `Ok`, or for
-/// want of memory. A fault of the disk is told: without `DiskFault` none was counted. What the
-/// words or the mutation file refuse by themselves leaves the disk uncalled, and what the folder
-/// refuses for what it holds leaves it as it was. After `DiskFault` and `OutOfMemory` the changes
-/// are the first of a recovery's, or all of these and appends to the run's segments, with what a
-/// drain changes, and, under the two premises above, what a crash leaves restores to what was there
-/// before with lines of the file, of each writer the first of its share; the files as they read are
-/// one such image.
+/// want of memory or of groups. A fault of the disk is told: without `DiskFault` none was counted.
+/// What the words or the mutation file refuse by themselves leaves the disk uncalled, and what the
+/// folder refuses for what it holds leaves it as it was. After `DiskFault`, `OutOfMemory` and
+/// `Groups` the changes are the first of a recovery's, or all of these and appends to the run's
+/// segments, with what a drain changes, and, under the two premises above, what a crash leaves
+/// restores to what was there before with the first of the lines that were logged, of each writer
+/// the first of its share; the files as they read are one such image. The gate is told how far each
+/// writer and each worker is.
 pub fn run<
     T: Threads + Wait + Sync,
     R: Source,

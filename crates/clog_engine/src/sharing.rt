@@ -1,21 +1,19 @@
-//! Planned lines are applied by several writers: the folder is opened, the writers log the lines,
-//! and the report tells where each stands.
+//! Planned lines are applied by writers of a path, several or in batch mode: the folder is opened,
+//! the writers log the lines, and the report tells where each stands.
 //!
 //! The rows of the report, and room for all of it, are there before the folder is opened; its head
 //! is put into that room behind the lines, since where they stand is known then.
-ghost use Rattle.std.specs.Prelude.{◌≡◌, ◌<◌, [], ℕ, List, Option};
-ghost use Rattle.clog_io.specs.Bytes.{TakesAll};
+ghost use Rattle.std.specs.Prelude.{◌≡◌, ◌<◌, ◌≤◌, [], ℕ, List, length, Option, IfOk};
 ghost use Rattle.clog_disk.specs.Files.{Files};
 ghost use Rattle.clog_disk.specs.Images.{IsImage};
-ghost use Rattle.clog_applied.specs.Asked.{capacity_of};
 ghost use Rattle.clog_mutation.specs.declared.mutation.Mutation.{Mutation};
 ghost use Rattle.clog_engine.specs.Apply.{Applies};
-ghost use Rattle.clog_engine.specs.Input.{IsSized};
+ghost use Rattle.clog_engine.specs.Logged.{AppliesLines};
 ghost use Rattle.clog_engine.specs.Outside.{outside_of, outside_with};
 ghost use Rattle.clog_engine.specs.Planning.{ArePlanned};
 ghost use Rattle.clog_engine.specs.Quiet.{IsRefusedBefore, TellsEach};
-ghost use Rattle.clog_engine.specs.Refusal.{IsToldAs, IsUnspent};
-ghost use Rattle.clog_engine.specs.Request.{AreSizesOf, IsDoable};
+ghost use Rattle.clog_engine.specs.Refusal.{HasRoomFor, IsToldAs, IsUnspent};
+ghost use Rattle.clog_engine.specs.Request.{AreSizesOf, IsDoable, IsForWriters};
 
 use crate::before::cells_before;
 use crate::refusal::folder_status;
@@ -34,8 +32,11 @@ use std::sync::Wait;
 use std::thread::Threads;
 use write_path::Receipt;
 
+// The groups of the append order that a path has words for.
+const MOST_GROUPS: u64 = 65_536;
+
 // How a run ends whose lines were logged by their writers, or not: no log is spent by as many lines
-// as a file has.
+// as a file has, and there is room for the report of as many.
 fn told(
     pending: PendingReport,
     receipts: bool,
@@ -43,27 +44,31 @@ fn told(
 ) -> Result<Bytes, Status>
     requires unspent { IsUnspent outcome }
     requires void { pending.room.items ≡ [] }
+    requires room { IfOk outcome (λ told. HasRoomFor (length told.items) pending) }
     ensures { IsToldAs receipts pending outcome result }
 {
     match outcome {
-        Ok(told) => match finished(pending, receipts, told.as_slice()) {
-            Ok(report) => Ok(report),
-            Err(OutOfMemory) => Err(Status::OutOfMemory),
-        },
+        Ok(told) => Ok(finished(pending, receipts, told.as_slice())),
         Err(WriteFault::Stopped { .. }) => Err(Status::DiskFault),
-        // The words of a path are memory too: none is left for a further group.
-        Err(WriteFault::OutOfMemory | WriteFault::Rows(_)) => Err(Status::OutOfMemory),
+        Err(WriteFault::OutOfMemory) => Err(Status::OutOfMemory),
+        // There is one number that it can be: that of the words that each path has for groups.
+        Err(WriteFault::Rows(_)) => Err(Status::Groups(MOST_GROUPS)),
         Err(WriteFault::Spent) => unreachable!(),
     }
 }
 
-// What a crash at a disk's moment leaves, it may leave now. The law is for contracts alone.
-fn disks_leave_now<D: Disk>(_disk: &D)
+/// What a crash at a disk's moment leaves, it may leave now. The law is for contracts alone.
+pub(crate) fn disks_leave_now<D: Disk>(_disk: &D)
     ensures { (d : D) (image : Files) → D.since d (D.moment d) image → IsImage (D.leaves d) image }
 {}
 
-// Applies planned lines.
-fn apply_shares<T: Threads + Wait + Sync, D: Disk + Send + Drop, C: Clock, G: Gate + Sync>(
+/// Applies planned lines, however they came.
+pub(crate) fn apply_shares<
+    T: Threads + Wait + Sync,
+    D: Disk + Send + Drop,
+    C: Clock,
+    G: Gate + Sync,
+>(
     rt: &T,
     alloc: Global,
     options: ApplyOptions,
@@ -74,16 +79,15 @@ fn apply_shares<T: Threads + Wait + Sync, D: Disk + Send + Drop, C: Clock, G: Ga
     gate: &G,
 ) -> (D, Result<Bytes, Status>)
     requires doable { IsDoable options }
-    requires several { 1 < options.writers }
+    requires writers { IsForWriters options }
     requires sizes { AreSizesOf options sizes }
     requires planned { (mutations : List Mutation)
         × ArePlanned options.dump sizes mutations lines }
-    ensures applies { (left left_now : Option (List ℕ)) (f g : ℕ) (bytes : List ℕ)
-        (mutations : List Mutation) → TakesAll left left_now bytes
-        → IsSized (capacity_of options) bytes mutations
+    ensures applies { (left left_now : Option (List ℕ)) (f g : ℕ) (mutations : List Mutation)
         → ArePlanned options.dump sizes mutations lines
-        → Applies options (outside_with left left_now f g D.Disk C.Clock disk result.0 clock.now)
-        result.1 }
+        → AppliesLines options mutations
+        (outside_with left left_now f g D.Disk C.Clock disk result.0 clock.now) result.1 }
+    ensures later { D.moment disk ≤ D.moment result.0 }
     ensures quiet { TellsEach (D.faults disk) (D.faults result.0) result.1 }
     ensures called { IsRefusedBefore result.1 → ⊥ }
 {
@@ -102,11 +106,20 @@ fn apply_shares<T: Threads + Wait + Sync, D: Disk + Send + Drop, C: Clock, G: Ga
         Ok(store) => store,
         Err((disk, refusal)) => return (disk, Err(folder_status(refusal))),
     };
-    let (disk, outcome) = write_plan(rt, alloc, store, sizes, plan, options.drain);
+    let (disk, outcome) = write_plan(
+        rt,
+        alloc,
+        store,
+        sizes,
+        options.sync,
+        gate,
+        plan,
+        options.drain,
+    );
     (disk, told(pending, options.receipts, outcome))
 }
 
-/// Applies the source's lines by several writers, each in a thread of its own where one can be
+/// Applies the source's lines by writers of a path, each in a thread of its own where one can be
 /// started. The clock is asked once, where the folder is not refused before.
 pub(crate) fn apply_by_several<
     T: Threads + Wait + Sync,
@@ -124,7 +137,7 @@ pub(crate) fn apply_by_several<
     gate: &G,
 ) -> (D, Result<Bytes, Status>)
     requires doable { IsDoable options }
-    requires several { 1 < options.writers }
+    requires writers { IsForWriters options }
     ensures applies { Applies options (outside_of S.Source D.Disk C.Clock source.old source.new
         disk result.0 clock.now) result.1 }
     ensures quiet { TellsEach (D.faults disk) (D.faults result.0) result.1 }

@@ -30,6 +30,9 @@ const NEXT: [u8; 60] = [
 const REPLAYED: &[u8] = b"segments 2\ntables 0\nentries 2\nupdates 2\nskipped 0\n\
 {\"column\":\"cd\",\"key\":\"ab\",\"table\":0,\"ts\":5,\"value\":null}\n";
 
+// Each entry of that line has 32 bytes, and the header and the marker 28.
+const RECEIPTS: &[u8] = b"applied 2\nreceipt 1 1000 92\nreceipt 2 1000 60\n";
+
 fn words_of(alloc: Global, list: &[&str]) -> Result<Vec<String>, Fail> {
     let mut words = Vec::new(alloc);
     for word in list {
@@ -88,6 +91,69 @@ fn two_workers_of_a_replay_meet(rt: HostRuntime) -> Result<(), Fail> {
     Ok(())
 }
 
+// Writer 1, which has line 1, waits until writer 0 has deposited line 2, and writer 0 until the
+// other has returned. So the order of the log is forced, and no single thread runs both.
+#[test]
+fn two_writers_of_an_apply_meet(rt: HostRuntime) -> Result<(), Fail> {
+    let words = [
+        "apply",
+        "--writers",
+        "2",
+        "--segment-kib",
+        "4",
+        "--receipts",
+    ];
+    let words = words_of(rt.alloc(), &words)?;
+    let mut lines = LINE.to_vec(rt.alloc())?;
+    lines.extend_from_slice(LINE)?;
+    let mut source = MemSource::new(lines, 7, Vec::new(rt.alloc()));
+    let mut sink = MemSink::new(rt.alloc(), Vec::new(rt.alloc()));
+    let gate = HoldGate::new();
+    let (status, _disk) = run(
+        &rt,
+        rt.alloc(),
+        &words,
+        &mut source,
+        &mut sink,
+        MemDisk::new(rt.alloc()),
+        &FixedClock::new(1000),
+        &gate,
+    );
+    assert_eq!(rt; status.number(), 0);
+    assert_eq!(rt; sink.as_slice(), RECEIPTS);
+    assert!(rt; gate.met());
+    Ok(())
+}
+
+// Writer 0 waits behind its deposit until the commit of writer 1 has returned, so the sync that
+// this one has waited for covers both lines, and one marker stands in front of both.
+#[test]
+fn two_commits_in_batch_mode_share_a_sync(rt: HostRuntime) -> Result<(), Fail> {
+    let words = ["apply", "--writers", "2", "--sync", "batch", "--receipts"];
+    let words = words_of(rt.alloc(), &words)?;
+    let mut lines = LINE.to_vec(rt.alloc())?;
+    lines.extend_from_slice(LINE)?;
+    let mut source = MemSource::new(lines, 7, Vec::new(rt.alloc()));
+    let mut sink = MemSink::new(rt.alloc(), Vec::new(rt.alloc()));
+    let gate = HoldGate::new();
+    let (status, disk) = run(
+        &rt,
+        rt.alloc(),
+        &words,
+        &mut source,
+        &mut sink,
+        MemDisk::new(rt.alloc()),
+        &FixedClock::new(1000),
+        &gate,
+    );
+    assert_eq!(rt; status.number(), 0);
+    assert_eq!(rt; sink.as_slice(), RECEIPTS);
+    let file = disk.bytes(&segment_name(1000)).unwrap_or(&[]);
+    assert_eq!(rt; file.len(), 92);
+    assert!(rt; gate.met());
+    Ok(())
+}
+
 // No run can be made to want memory.
 #[test]
 fn want_of_memory_has_its_number_and_its_line(rt: HostRuntime) {
@@ -96,5 +162,16 @@ fn want_of_memory_has_its_number_and_its_line(rt: HostRuntime) {
     assert_eq!(rt;
         FaultLine::new(&status).as_bytes(),
         b"error 9: out of memory\n".as_slice()
+    );
+}
+
+// A run that wants so many groups takes as many syncs.
+#[test]
+fn want_of_groups_has_its_number_and_its_line(rt: HostRuntime) {
+    let status = Status::Groups(65_536);
+    assert_eq!(rt; status.number(), 10);
+    assert_eq!(rt;
+        FaultLine::new(&status).as_bytes(),
+        b"error 10: limit groups 65536\n".as_slice()
     );
 }

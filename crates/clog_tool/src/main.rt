@@ -1,7 +1,7 @@
-//! The program: applies a mutation file from standard input to the folder `commitlog` below the
-//! current folder, replays that folder, or scans a segment there, and tells on standard output what
-//! came of it. It makes the real objects and calls `run`. What the system said where it refused a
-//! call goes to standard error.
+//! The program: applies a mutation file from standard input, or lines that it makes, to the folder
+//! `commitlog` below the current folder, replays that folder, or scans a segment there, and tells
+//! on standard output what came of it. It makes the real objects and calls `run`. What the system
+//! said where it refused a call goes to standard error.
 #![tactic(auto)]
 
 use anyhow::Result;

@@ -1,20 +1,26 @@
 -- What of the requests the program does today.
 use Rattle.std.specs.Prelude.{◌≡◌, ℕ, List, None}
 use Rattle.clog_spec.specs.Names.{IsSegmentName}
-use Rattle.sync_core.specs.declared.SyncCore.TheVariants.{Periodic}
+use Rattle.sync_core.specs.declared.SyncCore.{SyncCore}
+use Rattle.sync_core.specs.declared.SyncCore.TheVariants.{Batch, Periodic}
 use Rattle.clog_words.specs.Asks.{Asks}
 use Rattle.clog_words.specs.declared.built.Built.{Built}
 use Rattle.clog_words.specs.declared.built.Built.TheVariants as built
 use Rattle.clog_words.specs.declared.request.ApplyOptions.{ApplyOptions}
 use Rattle.clog_words.specs.declared.request.Request.{Request}
-use Rattle.clog_words.specs.declared.request.Request.TheVariants.{Apply, Replay, Scan}
+use Rattle.clog_words.specs.declared.request.Request.TheVariants.{Apply, Replay, Scan, Drill}
 
--- `--sync` with `--period`, and `--flush-at` as they are where they are not given, and each other
--- option of `apply` as it is
+-- the mode of syncing that is asked for, with the period that there is where none is given
+abbrev pub plain_sync : SyncCore → SyncCore
+plain_sync Batch = Batch
+plain_sync (Periodic period) = Periodic 10000
+
+-- `--period` and `--flush-at` as they are where they are not given, and each other option of
+-- `apply` as it is
 abbrev pub plain_options : ApplyOptions → ApplyOptions
 plain_options asked = record {
   writers = asked.writers;
-  sync = Periodic 10000;
+  sync = plain_sync asked.sync;
   segment_kib = asked.segment_kib;
   flush_at = None;
   archive = asked.archive;
@@ -30,6 +36,7 @@ IsBuilt request (built.Apply options) =
 IsBuilt request (built.Replay options) = request ≡ Replay options
 IsBuilt request (built.Scan id) =
     (name : List ℕ) × (request ≡ Scan name) × IsSegmentName name 6 id
+IsBuilt request (built.Drill seed count) = request ≡ Drill seed count
 
 -- The words ask for this, which the program does.
 pub record AsksBuilt (words : List (List ℕ)) (asked : Built) : Type 0 where

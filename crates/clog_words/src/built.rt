@@ -1,7 +1,7 @@
 //! What the program does today of what words can ask for.
 ghost use Rattle.std.specs.Prelude.{◌≡◌, MatchOption, MatchResult};
 ghost use Rattle.clog_words.specs.Asks.{OnUsage};
-ghost use Rattle.clog_words.specs.Built.{AsksBuilt, IsBuilt, plain_options};
+ghost use Rattle.clog_words.specs.Built.{AsksBuilt, IsBuilt, plain_options, plain_sync};
 ghost use Rattle.clog_words.specs.Given.{texts};
 ghost use Rattle.clog_words.specs.declared.built.Built.{Built as AskedBuilt};
 
@@ -11,8 +11,8 @@ use clog_base::Name;
 use std::alloc::Global;
 use sync_core::SyncCore;
 
-/// One thing that the program does. Of `apply` it does what `--sync`, `--period` and `--flush-at`
-/// ask for by their defaults, given or not, and what each other option asks for; of `drill` nothing.
+/// One thing that the program does. Of `apply` it does what `--period`, in periodic mode, and
+/// `--flush-at` ask for by their defaults, given or not, and what each other option asks for.
 #[derive(Clone, Copy, Debug, PartialEq, Eq)]
 pub enum Built {
     /// `apply`: apply the mutation file on standard input.
@@ -24,6 +24,23 @@ pub enum Built {
         /// The segment's id, by its name.
         id: u64,
     },
+    /// `drill`: apply made lines and tell what the folder holds then, in numbers.
+    Drill {
+        /// Where the generator of lines begins.
+        seed: u32,
+        /// How many lines, 0 to 1000000.
+        count: u32,
+    },
+}
+
+// This mode of syncing, with the default of its period, of which the program does nothing else.
+fn plain_sync(asked: SyncCore) -> SyncCore
+    ensures { result ≡ plain_sync asked }
+{
+    match asked {
+        SyncCore::Batch => SyncCore::Batch,
+        SyncCore::Periodic { .. } => SyncCore::Periodic { period_ms: 10_000 },
+    }
 }
 
 // These options, with the defaults of those of which the program does nothing else.
@@ -32,7 +49,7 @@ fn plain(asked: ApplyOptions) -> ApplyOptions
 {
     ApplyOptions {
         writers: asked.writers,
-        sync: SyncCore::Periodic { period_ms: 10_000 },
+        sync: plain_sync(asked.sync),
         segment_kib: asked.segment_kib,
         flush_at: None,
         archive: asked.archive,
@@ -71,7 +88,7 @@ fn built_of(request: Request) -> Option<Built>
         Request::Apply(options) => apply(options),
         Request::Replay(options) => Some(Built::Replay(options)),
         Request::Scan(name) => scan(name),
-        Request::Drill { .. } => None,
+        Request::Drill { seed, count } => Some(Built::Drill { seed, count }),
     }
 }
 

@@ -212,11 +212,20 @@ fn what_is_built_is_asked_for(rt: HostRuntime) -> Result<(), Fail> {
                 ..PLAIN
             }),
         ),
+        (
+            "apply --writers 2 --sync batch --period 1",
+            Built::Apply(ApplyOptions {
+                writers: 2,
+                sync: SyncCore::batch(),
+                ..PLAIN
+            }),
+        ),
         ("scan CommitLog-6-1000.log", Built::Scan { id: 1000 }),
         (
             "replay --ignore-errors --workers=64",
             Built::Replay(options),
         ),
+        ("drill 7 2", Built::Drill { seed: 7, count: 2 }),
     ] {
         assert!(rt; parse_built(alloc, &words_of(alloc, line)?) == Ok(built));
     }
@@ -227,9 +236,10 @@ fn what_is_built_is_asked_for(rt: HostRuntime) -> Result<(), Fail> {
 fn what_is_planned_alone_is_refused(rt: HostRuntime) -> Result<(), Fail> {
     let alloc = rt.alloc();
     for line in [
-        "apply --writers 2 --sync batch",
-        "apply --drain --flush-at 1",
-        "drill 7 2",
+        "apply --writers 2 --period 5",
+        "apply --sync batch --flush-at 1",
+        "drill 7 1000001",
+        "drill 7",
         "help",
     ] {
         assert!(rt; parse_built(alloc, &words_of(alloc, line)?) == Err(WordsFault::Usage));

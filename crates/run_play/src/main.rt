@@ -11,6 +11,7 @@
 //! | `clock FIRST NEXT` | the clock tells the first moment, and then the next, in milliseconds |
 //! | `disk N ..` | an empty folder whose calls of these numbers fail, from 1, ascending |
 //! | `source N ..`, `sink N ..` | the calls of the next run's source, or sink, that fail |
+//! | `gate hold` | two writers of the next run meet: 1 starts when 0 has deposited, and 0 waits |
 //! | `put NAME HEX` | bytes come at the end of a file, in hexadecimal digits, by one call |
 //! | `fill NAME N HEX` | the same so many times, by one call |
 //! | `line TEXT` | the input has this text and a newline more |
@@ -26,7 +27,7 @@
 //! A run tells its words, its status, what it printed, each file with its length, and the moment
 //! that the clock tells next, which says whether it was asked. What it printed is told to the byte:
 //! each line behind `|`, a blank one as `|` alone, and `no newline at the end` behind a last line
-//! that has none.
+//! that has none. Behind a run whose writers were held it tells whether they have met.
 #![tactic(auto)]
 
 mod images;

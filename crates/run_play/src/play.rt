@@ -6,14 +6,15 @@ use anyhow::Result;
 use clog_base::Name;
 use clog_disk::{Disk, DiskFault, MemDisk};
 use clog_engine::run;
-use clog_io::{Clock, ListClock, MemSink, MemSource, OpenGate};
+use clog_io::{Clock, Gate, HoldGate, ListClock, MemSink, MemSource, OpenGate};
 use std::alloc::Global;
 use std::io::Write;
 use std::sync::Wait;
 use std::thread::Threads;
 
 /// The folder, and its moment when the last run began; the moments that the clock tells; and what
-/// the next run takes: the input, and the calls of its source and its sink that fail.
+/// the next run takes: the input, the calls of its source and its sink that fail, and whether its
+/// writers are held until they have met.
 #[derive(Drop)]
 pub struct Play {
     disk: MemDisk,
@@ -23,6 +24,7 @@ pub struct Play {
     input: Vec<u8>,
     source: Vec<u64>,
     sink: Vec<u64>,
+    is_held: bool,
 }
 
 /// The words between single spaces; none where there is nothing.
@@ -60,6 +62,7 @@ impl Play {
             input: Vec::new(alloc),
             source: Vec::new(alloc),
             sink: Vec::new(alloc),
+            is_held: false,
         })
     }
 
@@ -85,6 +88,7 @@ impl Play {
             Step::Disk(calls) => play.disk = MemDisk::failing(alloc, calls),
             Step::Source(calls) => play.source = calls,
             Step::Sink(calls) => play.sink = calls,
+            Step::Hold => play.is_held = true,
             Step::Put(name, bytes) => {
                 if put(&mut play.disk, &name, &bytes).is_err() {
                     writeln!(out, "not put")?;
@@ -100,7 +104,7 @@ impl Play {
         Ok((play, out))
     }
 
-    // A run, and what came of it.
+    // A run, and what came of it; and whether its writers have met, where they were held.
     fn run<T: Threads + Wait + Sync>(
         self,
         rt: &T,
@@ -108,11 +112,28 @@ impl Play {
         words: &str,
         out: &mut Vec<u8>,
     ) -> Result<Play> {
+        if !self.is_held {
+            return self.run_through(rt, alloc, words, &OpenGate::new(), out);
+        }
+        let gate = HoldGate::new();
+        let play = self.run_through(rt, alloc, words, &gate, out)?;
+        writeln!(out, "met {}", gate.met())?;
+        Ok(play)
+    }
+
+    // A run through a gate, and what came of it.
+    fn run_through<T: Threads + Wait + Sync, G: Gate + Sync>(
+        self,
+        rt: &T,
+        alloc: Global,
+        words: &str,
+        gate: &G,
+        out: &mut Vec<u8>,
+    ) -> Result<Play> {
         let mut source = MemSource::new(self.input, 65536, self.source);
         let mut sink = MemSink::new(alloc, self.sink);
         let clock = clock_of(alloc, self.first, self.next)?;
         let list = words_of(alloc, words)?;
-        let gate = OpenGate::new();
         let begun = self.disk.moment_count();
         let (status, disk) = run(
             rt,
@@ -122,7 +143,7 @@ impl Play {
             &mut sink,
             self.disk,
             &clock,
-            &gate,
+            gate,
         );
         let mut play = Play {
             disk,

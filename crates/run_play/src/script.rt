@@ -53,6 +53,8 @@ pub enum Step<'a> {
     Source(Vec<u64>),
     /// The calls of the next sink that fail.
     Sink(Vec<u64>),
+    /// Two writers of the next run hold one another up until they have met.
+    Hold,
     /// Bytes at the end of a file.
     Put(Name, Vec<u8>),
     /// Bytes more of the input.
@@ -149,6 +151,13 @@ fn with_newline(alloc: Global, text: &str) -> Result<Step, Cause> {
     Ok(Step::Input(line))
 }
 
+fn gate(rest: &str) -> Result<Step, Cause> {
+    match rest {
+        "hold" => Ok(Step::Hold),
+        _ => Err(Cause::Word),
+    }
+}
+
 fn clock(rest: &str) -> Result<Step, Cause> {
     let (first, next) = cut(rest);
     Ok(Step::Clock(number_of(first)?, number_of(next)?))
@@ -168,6 +177,7 @@ impl<'a> Step<'a> {
             "disk" => Ok(Step::Disk(numbers_of(alloc, rest)?)),
             "source" => Ok(Step::Source(numbers_of(alloc, rest)?)),
             "sink" => Ok(Step::Sink(numbers_of(alloc, rest)?)),
+            "gate" => gate(rest),
             "put" => put(alloc, rest),
             "fill" => filled(alloc, rest),
             "line" => with_newline(alloc, rest),

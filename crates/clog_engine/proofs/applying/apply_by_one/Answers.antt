@@ -1,10 +1,12 @@
 use Rattle.std.proofs.Common.{ℕ, subst}
 use Rattle.clog_engine.specs.Input.{IsSized}
+use Rattle.clog_engine.proofs.Applied.{file_applies}
 use Rattle.clog_engine.proofs.applying.apply_by_one.Goals as goal
 
 pub returns-in-Ok-clause-applies : goal.returns-in-Ok-clause-applies
 returns-in-Ok-clause-applies g c =
     let read = c.in-Ok.ensures in
-    c.apply_lines.ensures.applies _ _ _ _ read.bytes read.taken
+    file_applies c.args.options _ read.bytes c.in-Ok.lines.mutations read.taken
     (subst (λ (capacity : ℕ). IsSized capacity read.bytes c.in-Ok.lines.mutations)
-    c.sizes_of-sizes.ensures.capacity read.sized)
+    c.sizes_of-sizes.ensures.capacity read.sized) c.apply_lines.result.1
+    (c.apply_lines.ensures.applies _ _ _ _)

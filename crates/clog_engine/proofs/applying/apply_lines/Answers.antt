@@ -1,21 +1,19 @@
 use Rattle.std.proofs.Common.{◌≡◌, ℕ, Bool, List, Option, arith, inl, inr, sym, subst, ap, ◌∙◌}
 use Rattle.clog_base.specs.declared.sizes.Sizes.{Sizes}
 use Rattle.clog_disk.specs.Files.{Files, SameTold, bytes_at}
-use Rattle.clog_crash.specs.Log.{Write}
 use Rattle.path_core.specs.declared.note.EntryNote.{EntryNote}
 use Rattle.path_core.specs.Keys.{first_offset}
 use Rattle.clog_lines.specs.Written.{
   AreLaidFor,
-  BringsOnly,
-  HasBrought,
   HasWriteCause,
   LeavesLines,
+  WritesLines,
   least_of,
 }
-use Rattle.clog_writers.specs.Left.{LeavesShares}
-use Rattle.clog_writers.proofs.OneWriter.{shares_of_lines}
+use Rattle.clog_writers.specs.Left.{LeavesShares, WritesShares}
+use Rattle.clog_writers.proofs.OneWriter.{shares_of_lines, shares_written}
 use Rattle.clog_engine.specs.declared.status.Status.{Status}
-use Rattle.clog_engine.specs.Apply.{Applies, ApplyRefuses, KeepsAll}
+use Rattle.clog_engine.specs.Logged.{AppliesLines, KeepsAll, LinesRefuse}
 use Rattle.clog_engine.specs.Outside.{outside_with}
 use Rattle.clog_engine.specs.Refusal.{folder_status}
 use Rattle.clog_engine.specs.Request.{AreSizesOf}
@@ -36,7 +34,7 @@ use Rattle.clog_engine.proofs.Opened.{
 use Rattle.clog_engine.proofs.applying.apply_lines.Goals as goal
 
 pub returns-in-Err-open-clause-applies : goal.returns-in-Err-open-clause-applies
-returns-in-Err-open-clause-applies g c left left_now f h bytes taken sized =
+returns-in-Err-open-clause-applies g c left left_now f h =
     let start = c.args.disk in
     let looked = c.cells_before.new.disk in
     let now = c.in-Err-open.disk in
@@ -47,18 +45,18 @@ returns-in-Err-open-clause-applies g c left left_now f h bytes taken sized =
     let kept = keeps_all g.D.Disk g.C.Clock left left_now f h start looked c.args.clock.now
     (g.met.D.Disk.only_now start) still now c.in-Err-open.ensures.told c.in-Err-open.ensures.keeps
     c.in-Err-open.ensures.others c.in-Err-open.ensures.any_moment c.in-Err-open.ensures.changes in
-    subst (λ (s : Status). ApplyRefuses options s o) (sym c.folder_status.ensures)
-    (folder_refuses options (folder_status refusal) o
-    (bytes, taken, record { mutations = c.args.lines.mutations; sized = sized })
+    let ms = c.args.lines.mutations in
+    subst (λ (s : Status). LinesRefuse options ms s o) (sym c.folder_status.ensures)
+    (folder_refuses options ms (folder_status refusal) o
     (not_opened (g.D.Disk.files start) (g.D.Disk.files looked) (g.D.Disk.faults start)
     (g.D.Disk.faults looked) (g.D.Disk.faults now) refusal still.same.files still.later
     c.in-Err-open.ensures.refused)
-    (left_closed options refusal o _ c.in-Err-open.ensures.alone
+    (left_closed options ms refusal o _ c.in-Err-open.ensures.alone
     (left_alone g.D.Disk g.C.Clock left left_now f h start looked c.args.clock.now
     (g.met.D.Disk.only_now start) still now) kept))
 
 pub returns-in-Ok-report_of-clause-applies : goal.returns-in-Ok-report_of-clause-applies
-returns-in-Ok-report_of-clause-applies g c left left_now f h bytes taken sized =
+returns-in-Ok-report_of-clause-applies g c left left_now f h =
     let start = c.args.disk in
     let looked = c.cells_before.new.disk in
     let store = c.in-Ok-open.store in
@@ -78,7 +76,7 @@ returns-in-Ok-report_of-clause-applies g c left left_now f h bytes taken sized =
     let sizes_are = ap (λ s. s.notes.sizes) opening.over in
     let one = c.requires.one in
     let asked = is_asked options store.notes.sizes store.archives c.requires.doable one
-    (subst (AreSizesOf options) (sym sizes_are) c.requires.sizes)
+    c.requires.periodic (subst (AreSizesOf options) (sym sizes_are) c.requires.sizes)
     (ap (λ s. s.archives) opening.over) in
     let laid_there : AreLaidFor store.notes.sizes ms notes =
     subst (λ (s : Sizes). AreLaidFor s ms notes) (sym sizes_are) laid in
@@ -91,8 +89,8 @@ returns-in-Ok-report_of-clause-applies g c left left_now f h bytes taken sized =
     c.base-base.ensures.base c.in-Ok-report_of.ensures) in
     let run = turns_run g.D.Disk g.C.Clock left left_now f h start looked at only still opened
     c.now_ms.result store.notes.base opening.opens opening.any_moment opening.recovers outcome now
-    options c.args.sizes ms notes c.in-Ok.cells report c.requires.doable c.now_ms.ensures.told laid
-    (laid_many c.args.sizes first_offset 1 laid.raw notes laid.laid
+    options c.args.sizes ms notes c.in-Ok.cells report c.requires.periodic c.now_ms.ensures.told
+    laid (laid_many c.args.sizes first_offset 1 laid.raw notes laid.laid
     ∙ as_many ms laid.raw laid.entries)
     c.in-Ok.ensures.gives.restored is (λ then made files_are changes_are.
     c.write_lines-disk.ensures.written options ms then made asked laid_there files_are
@@ -103,29 +101,30 @@ returns-in-Ok-report_of-clause-applies g c left left_now f h bytes taken sized =
     options ms (least_of outcome ms)
     (λ then files_are first is_first lasting.
     subst (λ (n : ℕ). LeavesShares g.D.Disk.changes g.D.Disk.moment g.D.Disk.since
-    g.D.Disk.leaves opened now (bytes_at then) options.archive options.drain n ms
+    g.D.Disk.leaves opened now (bytes_at then) store.notes.base options.archive options.drain n ms
     (least_of outcome ms)) (sym one)
     (shares_of_lines g.D.Disk.changes g.D.Disk.moment g.D.Disk.since g.D.Disk.leaves opened now
-    (bytes_at then) options.archive options.drain ms (least_of outcome ms)
+    (bytes_at then) store.notes.base options.archive options.drain ms (least_of outcome ms)
     (subst (λ (x : Bool). LeavesLines g.D.Disk.changes g.D.Disk.moment g.D.Disk.since
-    g.D.Disk.leaves opened now (bytes_at then) x options.drain ms (least_of outcome ms)) archives
+    g.D.Disk.leaves opened now (bytes_at then) store.notes.base x options.drain ms
+    (least_of outcome ms)) archives
     (c.write_lines-disk.ensures.shown ms then laid_there files_are
     (opening.lasted first is_first lasting))))) in
     let has_written = wrote g.D.Disk g.C.Clock left left_now f h start looked at only still opened
     c.now_ms.result store.notes.base opening.opens opening.any_moment opening.recovers now
-    options ms (subst (λ (n : ℕ). (log : List Write)
-    × HasBrought g.D.Disk.changes opened now options.archive options.drain n ms log
-    × BringsOnly g.D.Disk.files opened now log) (sym one)
-    (subst (λ (x : Bool). (log : List Write)
-    × HasBrought g.D.Disk.changes opened now x options.drain 1 ms log
-    × BringsOnly g.D.Disk.files opened now log) archives
-    (c.write_lines-disk.ensures.wrote ms laid_there))) c.write_lines-disk.ensures.told in
+    options ms (subst (λ (n : ℕ). WritesShares g.D.Disk.files g.D.Disk.changes opened now
+    store.notes.base options.archive options.drain n ms) (sym one)
+    (shares_written g.D.Disk.files g.D.Disk.changes opened now store.notes.base options.archive
+    options.drain ms
+    (subst (λ (x : Bool). WritesLines g.D.Disk.files g.D.Disk.changes opened now store.notes.base x
+    options.drain ms) archives (c.write_lines-disk.ensures.wrote ms laid_there))))
+    c.write_lines-disk.ensures.told in
     let stays = others g.D.Disk g.C.Clock left left_now f h start looked at only still opened
     c.now_ms.result store.notes.base opening.opens opening.any_moment opening.recovers now
     c.write_lines-disk.ensures.told c.write_lines-disk.ensures.stay in
-    subst (Applies options o) (sym c.ended.ensures)
-    (ended_applies outcome options o report bytes ms taken sized (record {
-      by_one = λ alone. record {
+    subst (AppliesLines options ms o) (sym c.ended.ensures)
+    (ended_applies outcome options o report ms (record {
+      by_one = λ alone periodic. record {
         sizes = c.args.sizes;
         sizes_are = c.requires.sizes;
         notes = notes;
@@ -134,7 +133,10 @@ returns-in-Ok-report_of-clause-applies g c left left_now f h bytes taken sized =
         cells = c.in-Ok.cells;
         text = is;
       };
-      by_several = λ several. absurd (omega (arith, one, several));
+      by_several = λ writers. elim writers [
+        | inl several ↦ absurd (omega (arith, one, several))
+        | inr batch ↦ absurd (c.requires.periodic batch)
+      ];
     }) run has_written stays lasts
     (subst (λ (n : ℕ). HasWriteCause n (g.D.Disk.faults now) outcome)
     (opening.quiet ∙ c.in-Ok.ensures.quiet) c.write_lines-disk.ensures.cause)
@@ -143,7 +145,7 @@ returns-in-Ok-report_of-clause-applies g c left left_now f h bytes taken sized =
     opening.told) c.write_lines-disk.ensures.told))
 
 pub returns-in-Err-report_of-clause-applies : goal.returns-in-Err-report_of-clause-applies
-returns-in-Err-report_of-clause-applies g c left left_now f h bytes taken sized =
+returns-in-Err-report_of-clause-applies g c left left_now f h =
     let start = c.args.disk in
     let looked = c.cells_before.new.disk in
     let at = c.args.clock.now in

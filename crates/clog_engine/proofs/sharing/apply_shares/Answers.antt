@@ -1,13 +1,25 @@
-use Rattle.std.proofs.Common.{◌≡◌, ℕ, Bool, List, Option, arith, inl, sym, subst, ap, ◌∙◌}
+use Rattle.std.proofs.Common.{
+  ◌≡◌,
+  ℕ,
+  Bool,
+  Option,
+  arith,
+  inl,
+  inr,
+  length,
+  sym,
+  subst,
+  ap,
+  ◌∙◌,
+}
 use Rattle.clog_disk.specs.Files.{Files, SameTold, bytes_at}
-use Rattle.clog_crash.specs.Log.{Write}
-use Rattle.clog_lines.specs.Written.{BringsOnly, HasBrought}
-use Rattle.clog_writers.specs.Left.{LeavesShares, least_of}
+use Rattle.clog_writers.specs.Left.{LeavesShares, WritesShares, least_of}
 use Rattle.clog_writers.specs.Written.{HasShareCause}
+use Rattle.clog_writers.proofs.Told.{at_ok}
 use Rattle.clog_engine.specs.declared.status.Status.{Status}
-use Rattle.clog_engine.specs.Apply.{ApplyRefuses}
+use Rattle.clog_engine.specs.Logged.{LinesRefuse}
 use Rattle.clog_engine.specs.Outside.{outside_with}
-use Rattle.clog_engine.specs.Refusal.{folder_status}
+use Rattle.clog_engine.specs.Refusal.{HasRoomFor, folder_status}
 use Rattle.clog_engine.specs.Report.{IsReport, head_with}
 use Rattle.clog_engine.specs.Request.{AreSizesOf}
 use Rattle.clog_engine.proofs.Applied.{folder_refuses, left_closed, not_opened}
@@ -31,12 +43,12 @@ use Rattle.clog_engine.proofs.SharesApplied.{
 use Rattle.clog_engine.proofs.sharing.apply_shares.Goals as goal
 
 pub returns-in-Err-pending-clause-applies : goal.returns-in-Err-pending-clause-applies
-returns-in-Err-pending-clause-applies g c left left_now f h bytes ms taken sized planned =
+returns-in-Err-pending-clause-applies g c left left_now f h ms planned =
     inl (looked_alone g.D.Disk g.C.Clock left left_now f h c.args.disk c.cells_before.new.disk
     c.args.clock.now (c.disks_leave_now.ensures c.args.disk) c.in-Ok.ensures.keeps)
 
 pub returns-in-Err-open-clause-applies : goal.returns-in-Err-open-clause-applies
-returns-in-Err-open-clause-applies g c left left_now f h bytes ms taken sized planned =
+returns-in-Err-open-clause-applies g c left left_now f h ms planned =
     let start = c.args.disk in
     let looked = c.cells_before.new.disk in
     let now = c.in-Err-open.disk in
@@ -47,18 +59,17 @@ returns-in-Err-open-clause-applies g c left left_now f h bytes ms taken sized pl
     let kept = keeps_all g.D.Disk g.C.Clock left left_now f h start looked c.args.clock.now
     (c.disks_leave_now.ensures start) still now c.in-Err-open.ensures.told c.in-Err-open.ensures.keeps
     c.in-Err-open.ensures.others c.in-Err-open.ensures.any_moment c.in-Err-open.ensures.changes in
-    subst (λ (s : Status). ApplyRefuses options s o) (sym c.folder_status.ensures)
-    (folder_refuses options (folder_status refusal) o
-    (bytes, taken, record { mutations = ms; sized = sized })
+    subst (λ (s : Status). LinesRefuse options ms s o) (sym c.folder_status.ensures)
+    (folder_refuses options ms (folder_status refusal) o
     (not_opened (g.D.Disk.files start) (g.D.Disk.files looked) (g.D.Disk.faults start)
     (g.D.Disk.faults looked) (g.D.Disk.faults now) refusal still.same.files still.later
     c.in-Err-open.ensures.refused)
-    (left_closed options refusal o _ c.in-Err-open.ensures.alone
+    (left_closed options ms refusal o _ c.in-Err-open.ensures.alone
     (left_alone g.D.Disk g.C.Clock left left_now f h start looked c.args.clock.now
     (c.disks_leave_now.ensures start) still now) kept))
 
 pub returns-clause-applies : goal.returns-clause-applies
-returns-clause-applies g c left left_now f h bytes ms taken sized planned =
+returns-clause-applies g c left left_now f h ms planned =
     let start = c.args.disk in
     let looked = c.cells_before.new.disk in
     let store = c.in-Ok-open.store in
@@ -86,26 +97,24 @@ returns-clause-applies g c left left_now f h bytes ms taken sized planned =
     (least_of outcome ms)
     (λ then files_are first is_first lasting.
     subst (λ (x : Bool). LeavesShares g.D.Disk.changes g.D.Disk.moment g.D.Disk.since
-    g.D.Disk.leaves opened now (bytes_at then) x options.drain options.writers ms
+    g.D.Disk.leaves opened now (bytes_at then) base x options.drain options.writers ms
     (least_of outcome ms)) archives
     (subst (λ (n : ℕ). LeavesShares g.D.Disk.changes g.D.Disk.moment g.D.Disk.since
-    g.D.Disk.leaves opened now (bytes_at then) store.archives options.drain n ms
+    g.D.Disk.leaves opened now (bytes_at then) base store.archives options.drain n ms
     (least_of outcome ms)) writers
     (done.shown ms then planned.plan files_are
     (subst (g.D.Disk.lasted_at opened) opening.began (opening.lasted first is_first lasting))))) in
     let has_written = wrote g.D.Disk g.C.Clock left left_now f h start looked at only still opened
     c.now_ms.result base opening.opens opening.any_moment opening.recovers now options ms
-    (subst (λ (x : Bool). (log : List Write)
-    × HasBrought g.D.Disk.changes opened now x options.drain options.writers ms log
-    × BringsOnly g.D.Disk.files opened now log) archives
-    (subst (λ (n : ℕ). (log : List Write)
-    × HasBrought g.D.Disk.changes opened now store.archives options.drain n ms log
-    × BringsOnly g.D.Disk.files opened now log) writers (done.wrote ms planned.plan)))
+    (subst (λ (x : Bool). WritesShares g.D.Disk.files g.D.Disk.changes opened now base x
+    options.drain options.writers ms) archives
+    (subst (λ (n : ℕ). WritesShares g.D.Disk.files g.D.Disk.changes opened now base store.archives
+    options.drain n ms) writers (done.wrote ms planned.plan)))
     done.told in
     let stays = others g.D.Disk g.C.Clock left left_now f h start looked at only still opened
     c.now_ms.result base opening.opens opening.any_moment opening.recovers now done.told done.stay
     in
-    shares_applied options o bytes ms taken sized
+    shares_applied options o ms
     (told_then (g.D.Disk.files start) (g.D.Disk.files opened) (g.D.Disk.files now)
     (subst (λ (files : Option Files). SameTold files (g.D.Disk.files opened)) still.same.files
     opening.told) done.told) has_written stays pending outcome c.told.result
@@ -119,8 +128,11 @@ returns-clause-applies g c left left_now f h bytes ms taken sized planned =
     before c.args.lines.cells ms c.in-Ok.ensures.gives.ordered planned.cells
     c.in-Ok-pending.ensures.rows text in (
       record {
-        by_one = λ one. let several = c.requires.several in absurd (omega (arith, one, several));
-        by_several = λ several. record {
+        by_one = λ one periodic. elim c.requires.writers [
+          | inl several ↦ absurd (omega (arith, one, several))
+          | inr batch ↦ absurd (periodic batch)
+        ];
+        by_several = λ writers_are. record {
           sizes = sizes;
           sizes_are = c.requires.sizes;
           base = base;
@@ -132,12 +144,23 @@ returns-clause-applies g c left left_now f h bytes ms taken sized planned =
       },
       turns_shares g.D.Disk g.C.Clock left left_now f h start looked at only still opened
           c.now_ms.result base opening.opens opening.any_moment opening.recovers now options ms
-          receipts.items before report c.requires.doable c.requires.several c.now_ms.ensures.told
+          receipts.items before report c.now_ms.ensures.told
           logged.long c.in-Ok.ensures.gives.restored is
           (λ then made files_are changes_are.
           ok_at outcome receipts _ is_ok
           (done.written ms options then made planned.plan asked files_are changes_are)),
     ))
+
+pub told-requires-clause-room : goal.told-requires-clause-room
+told-requires-clause-room g c =
+    let pending = c.in-Ok-pending.pending in
+    let planned = c.requires.planned in
+    at_ok c.write_plan-disk.result.1 _ (λ told. HasRoomFor (length told.items) pending)
+    (c.write_plan-disk.ensures.receipts planned.0 planned.1.plan) (λ told so.
+    let long = so.long in
+    let many = planned.1.plan.receipts in
+    let room = c.in-Ok-pending.ensures.room in
+    omega (arith, long, many, room, c.args.lines.plan.receipts.ok, c.len.ensures))
 
 pub returns-clause-called : goal.returns-clause-called
 returns-clause-called g c =

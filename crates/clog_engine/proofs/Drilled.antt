@@ -1,0 +1,170 @@
+-- What a drill answers, from what its steps answered.
+use Rattle.std.proofs.Common.{
+  ◌≡◌,
+  ℕ,
+  List,
+  length,
+  Option,
+  Result,
+  Ok as ok,
+  Err as err,
+  inl,
+  inr,
+  false,
+  refl,
+  sym,
+  subst,
+}
+use Rattle.clog_base.specs.declared.fault.Quantity.TheVariants.{
+  FileBytes,
+  Lines,
+  SegmentBytes,
+  Ids,
+  TableFiles,
+}
+use Rattle.clog_disk.specs.Files.{Files}
+use Rattle.std.specs.List.{AllByRecursion}
+use Rattle.clog_mutation.specs.declared.mutation.Mutation.{Mutation}
+use Rattle.clog_words.specs.declared.request.ApplyOptions.{ApplyOptions}
+use Rattle.clog_lines.specs.Fitting.{HasFittingEntry}
+use Rattle.clog_engine.specs.declared.status.Status.{Status}
+use Rattle.clog_engine.specs.declared.status.Status.TheVariants.{
+  Ok,
+  Usage,
+  BadLine,
+  TooLarge,
+  ReadFault,
+  WriteFault,
+  DiskFault,
+  Damaged,
+  BadTable,
+  OutOfMemory,
+  Limit,
+  Groups,
+  Absent,
+}
+use Rattle.clog_engine.specs.Drill.{DrillRefuses, DrillsLines, TellsFolder, drill_options}
+use Rattle.clog_engine.specs.Laying.{LinesRefused}
+use Rattle.clog_engine.specs.Logged.{AppliesLines, AreApplied, LeavesSome, LinesRefuse}
+use Rattle.clog_engine.specs.Outside.{Outside}
+use Rattle.clog_engine.specs.Quiet.{IsRefusedBefore, TellsEach}
+use Rattle.clog_engine.specs.Replaying.{ReplayRefused}
+use Rattle.clog_engine.proofs.GoodInput.{none_is_large}
+use Rattle.clog_engine.proofs.Onward.{logged_less}
+use Rattle.clog_engine.proofs.Quiet.{replayed_at}
+
+-- ---- the lines are refused
+
+pub refuses_drill : (ms : List Mutation) (status : Status) (o : Outside)
+    → LinesRefuse drill_options ms status o → DrillRefuses ms status o
+refuses_drill ms Ok o refused = absurd refused
+refuses_drill ms Usage o refused = absurd refused
+refuses_drill ms (BadLine number cause) o refused = absurd refused
+refuses_drill ms (TooLarge number size most) o refused = absurd refused
+refuses_drill ms ReadFault o refused = absurd refused
+refuses_drill ms WriteFault o refused = absurd refused
+refuses_drill ms DiskFault o refused = refused
+refuses_drill ms (Damaged name at cause) o refused = inl refused
+refuses_drill ms (BadTable name fault) o refused = inl refused
+refuses_drill ms OutOfMemory o refused = refused
+refuses_drill ms (Limit FileBytes most) o refused = absurd refused
+refuses_drill ms (Limit Lines most) o refused = absurd refused
+refuses_drill ms (Limit SegmentBytes most) o refused = (refused.0, inl (refused.1, refused.2))
+refuses_drill ms (Limit Ids most) o refused = refused
+refuses_drill ms (Limit TableFiles most) o refused = refused
+refuses_drill ms (Groups most) o refused = refused
+refuses_drill ms (Absent name) o refused = absurd refused
+
+-- ---- the folder is refused behind them
+
+module _ (ms : List Mutation) (o : Outside) (text : List ℕ)
+    (applied : AreApplied o drill_options ms text) where
+  some_left : LeavesSome drill_options ms o
+  some_left = inr (inr (logged_less o drill_options ms (length ms) applied.logged))
+
+  refused_behind : (status : Status)
+      → ReplayRefused false o.files_now o.disk_faults o.disk_faults_now status
+      → DrillRefuses ms status o
+  refused_behind Ok refused = absurd refused
+  refused_behind Usage refused = absurd refused
+  refused_behind (BadLine number cause) refused = absurd refused
+  refused_behind (TooLarge number size most) refused = absurd refused
+  refused_behind ReadFault refused = absurd refused
+  refused_behind WriteFault refused = absurd refused
+  refused_behind DiskFault refused = (refused, some_left)
+  refused_behind (Damaged name at cause) refused =
+      inr (record { text = text; applied = applied; refused = refused.1 })
+  refused_behind (BadTable name fault) refused =
+      inr (record { text = text; applied = applied; refused = refused })
+  refused_behind OutOfMemory refused = some_left
+  refused_behind (Limit FileBytes most) refused = absurd refused
+  refused_behind (Limit Lines most) refused = absurd refused
+  refused_behind (Limit SegmentBytes most) refused =
+      (refused.0, inr (record { text = text; applied = applied; refused = refused.1 }))
+  refused_behind (Limit Ids most) refused = absurd refused
+  refused_behind (Limit TableFiles most) refused = absurd refused
+  refused_behind (Groups most) refused = absurd refused
+  refused_behind (Absent name) refused = absurd refused
+
+  told_drill : (result : Result (List ℕ) Status)
+      → TellsFolder ms o.files_now o.disk_faults o.disk_faults_now result
+      → DrillsLines ms o result
+  told_drill (ok report) told = record { text = text; applied = applied; told = told }
+  told_drill (err status) refused = refused_behind status refused
+
+-- at the end of a drill, whose lines were applied on a disk that told these files and faults
+pub drilled : (ms : List Mutation) (o : Outside) (text : List ℕ) (files : Option Files) (f : ℕ)
+    (result : Result (List ℕ) Status) → AreApplied o drill_options ms text
+    → o.files_now ≡ files → f ≡ o.disk_faults
+    → TellsFolder ms files f o.disk_faults_now result → DrillsLines ms o result
+drilled ms o text files f result applied same quiet told =
+    told_drill ms o text applied result
+    (subst (λ (x : Option Files). TellsFolder ms x o.disk_faults o.disk_faults_now result)
+    (sym same) (subst (λ (n : ℕ). TellsFolder ms files n o.disk_faults_now result) quiet told))
+
+-- ---- by what the steps answered
+
+pub lines_refused : (ms : List Mutation) (o : Outside) (options : ApplyOptions)
+    (outcome : Result (List ℕ) Status) (status : Status) → options ≡ drill_options
+    → outcome ≡ err status → AppliesLines options ms o outcome → DrillRefuses ms status o
+lines_refused ms o options outcome status same is applies =
+    refuses_drill ms status o
+    (subst (λ (a : ApplyOptions). AppliesLines a ms o (err status)) same
+    (subst (AppliesLines options ms o) is applies))
+
+pub applied_at : (ms : List Mutation) (o : Outside) (options : ApplyOptions)
+    (outcome : Result (List ℕ) Status) (text : List ℕ) → options ≡ drill_options
+    → outcome ≡ ok text → AppliesLines options ms o outcome → AreApplied o drill_options ms text
+applied_at ms o options outcome text same is applies =
+    subst (λ (a : ApplyOptions). AppliesLines a ms o (ok text)) same
+    (subst (AppliesLines options ms o) is applies)
+
+pub quiet_at : (outcome : Result (List ℕ) Status) (text : List ℕ) (f g : ℕ) → outcome ≡ ok text
+    → TellsEach f g outcome → g ≡ f
+quiet_at outcome text f g is quiet = subst (TellsEach f g) is quiet
+
+-- lines that fit are planned, or memory is missing
+pub memory_alone : (ms : List Mutation) (capacity : ℕ) (status : Status)
+    → AllByRecursion (HasFittingEntry capacity) ms → LinesRefused capacity ms status
+    → status ≡ OutOfMemory
+memory_alone ms capacity Ok fit refused = absurd refused
+memory_alone ms capacity Usage fit refused = absurd refused
+memory_alone ms capacity (BadLine number cause) fit refused = absurd refused
+memory_alone ms capacity (TooLarge number size most) fit refused =
+    absurd (none_is_large capacity ms number size most fit refused)
+memory_alone ms capacity ReadFault fit refused = absurd refused
+memory_alone ms capacity WriteFault fit refused = absurd refused
+memory_alone ms capacity DiskFault fit refused = absurd refused
+memory_alone ms capacity (Damaged name at cause) fit refused = absurd refused
+memory_alone ms capacity (BadTable name fault) fit refused = absurd refused
+memory_alone ms capacity OutOfMemory fit refused = refl
+memory_alone ms capacity (Limit what most) fit refused = absurd refused
+memory_alone ms capacity (Groups most) fit refused = absurd refused
+memory_alone ms capacity (Absent name) fit refused = absurd refused
+
+-- a folder that is not told was called
+pub told_calls : (ms : List Mutation) (files : Option Files) (f g : ℕ)
+    (result : Result (List ℕ) Status) → TellsFolder ms files f g result → IsRefusedBefore result
+    → ⊥
+told_calls ms files f g (ok report) told before = before
+told_calls ms files f g (err status) told before = replayed_at false files f g status told before
