@@ -1,0 +1,34 @@
+#!/bin/sh
+# Time a line and peak memory of `apply` by 1, 4, 8 and 64 writers for 100,000 lines with distinct
+# keys, and by 8 writers for 10,000 and 700,000, nearly the largest file: the least of three runs
+# each. Needs GNU time and a built program. No part of the gate.
+set -e
+top=$(cd "$(dirname "$0")/.." && pwd)
+. "$top/bench/setup.sh"
+
+# So many writers over the lines at hand.
+measure() {
+    best=$(for again in 1 2 3; do
+        rm -rf "$work/run"
+        mkdir "$work/run"
+        (cd "$work/run" && /usr/bin/time -f '%e %U %S %M' "$program" apply --writers "$1" \
+            <"$work/lines" 2>&1 >/dev/null)
+    done | sort -n | head -n 1)
+    echo "$best" | awk -v n="$count" -v w="$1" '{
+        printf "%2d writers %8d lines %6.2f us a line, %5.2f of processors, %5.0f MiB\n", w, n,
+            1e6 * $1 / n, 1e6 * ($2 + $3) / n, $4 / 1024 }'
+}
+
+# So many lines, by each of these numbers of writers.
+over() {
+    count=$1
+    shift
+    lines "$count" >"$work/lines"
+    for writers in "$@"; do
+        measure "$writers"
+    done
+}
+
+over 10000 8
+over 100000 1 4 8 64
+over 700000 8
