@@ -28,7 +28,7 @@ done
 rm -rf commitlog
 for words in 'apply --drain --drain' 'apply --segment-kib 3' 'apply --segment-kib=32769' \
     'apply --segment-kib=+4' 'apply --segment-kib' 'apply --segment 4' 'apply --dump=' \
-    'apply -d' 'apply --' 'apply --writers 65' 'apply --flush-at 1000' 'apply --period 5' \
+    'apply -d' 'apply --' 'apply --writers 65' 'apply --flush-at 1000' 'apply --period 0' \
     '--dump apply' 'replay --workers 0' 'replay --workers 65' 'replay --workers= 4' \
     'replay --workers --ignore-errors' 'replay --dump' 'scan' 'scan CommitLog-7-5.log' \
     'scan CommitLog-6-05.log' 'scan Archive-CommitLog-6-5.log' \

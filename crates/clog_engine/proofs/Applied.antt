@@ -2,8 +2,10 @@
 use Rattle.std.proofs.Common.{
   ◌≡◌,
   ℕ,
+  ◌+◌,
   ◌≤◌,
   List,
+  length,
   Option,
   Result,
   Ok as ok,
@@ -49,8 +51,9 @@ use Rattle.clog_engine.specs.declared.status.Status.TheVariants.{
 }
 use Rattle.clog_engine.specs.Apply.{Applies, ApplyRefuses, LeavesPart, ReadsGood}
 use Rattle.clog_engine.specs.Before.{FolderRefuses}
-use Rattle.clog_engine.specs.Input.{IsSized}
+use Rattle.clog_engine.specs.Input.{IsSized, MayWantGroups}
 use Rattle.clog_engine.specs.Laying.{FileRefused}
+use Rattle.clog_engine.specs.Limits.{group_limit}
 use Rattle.clog_engine.specs.Logged.{AppliesLines, KeepsAll, LeavesSome, LinesRefuse}
 use Rattle.clog_engine.specs.Outside.{IsLeftAlone, Outside}
 use Rattle.clog_engine.specs.Refusal.{folder_status}
@@ -132,6 +135,9 @@ module _ (options : ApplyOptions) (o : Outside) (bytes : List ℕ) (ms : List Mu
     good : ReadsGood options o
     good = (bytes, taken, record { mutations = ms; sized = sized })
 
+    many : group_limit ≤ 1 + length ms → MayWantGroups (capacity_of options) bytes
+    many all = record { mutations = ms; sized = sized; many = all }
+
     part_of_file : LeavesSome options ms o → LeavesPart options o
     part_of_file (inl still) = inl still
     part_of_file (inr (inl kept)) = inr (inl kept)
@@ -160,7 +166,8 @@ module _ (options : ApplyOptions) (o : Outside) (bytes : List ℕ) (ms : List Mu
     refuses_file (Limit SegmentBytes most) refused = (refused.0, good, refused.1, refused.2)
     refuses_file (Limit Ids most) refused = (refused.0, good, refused.1, refused.2)
     refuses_file (Limit TableFiles most) refused = (refused.0, good, refused.1, refused.2)
-    refuses_file (Groups most) refused = (refused.0, good, part_of_file refused.1)
+    refuses_file (Groups most) refused =
+        (refused.0, (bytes, taken, many refused.1), part_of_file refused.2)
     refuses_file (Absent name) refused = absurd refused
 
     -- what comes of the lines comes of their file

@@ -24,7 +24,6 @@ use Rattle.std.specs.Prelude.{Contains}
 use Rattle.std.specs.List.{flat_map}
 use Rattle.std.proofs.lemmas.Bool.{lt-ltb}
 use Rattle.std.proofs.lemmas.List.{append-nil}
-use Rattle.sync_core.specs.declared.SyncCore.{SyncCore}
 use Rattle.sync_core.specs.declared.SyncCore.TheVariants.{Batch, Periodic}
 use Rattle.clog_base.specs.declared.cell.Cell.{Cell}
 use Rattle.clog_base.specs.declared.cell.CellKey.{CellKey}
@@ -38,7 +37,6 @@ use Rattle.clog_mutation.specs.Payload.{cells_of}
 use Rattle.clog_table.specs.declared.table_file.TableFile.{TableFile}
 use Rattle.clog_text.specs.CellTexts.{row_line}
 use Rattle.clog_words.specs.declared.request.ApplyOptions.{ApplyOptions}
-use Rattle.clog_words.specs.Built.{plain_sync}
 use Rattle.clog_crash.specs.Readings.{RestoresIn}
 use Rattle.clog_crash.specs.Restore.{IsRestored}
 use Rattle.clog_crash.proofs.changes.BothWays.{rows_are}
@@ -69,7 +67,7 @@ use Rattle.clog_writers.specs.Written.{BeginsIn}
 use Rattle.clog_engine.specs.Logged.{IsRun}
 use Rattle.clog_engine.specs.Outside.{Outside}
 use Rattle.clog_engine.specs.Report.{IsReport, head_of, receipts_of}
-use Rattle.clog_engine.specs.Request.{AreSizesOf, IsDoable}
+use Rattle.clog_engine.specs.Request.{AreSizesOf, IsDoable, IsForOne}
 use Rattle.clog_engine.proofs.ReceiptLines.{receipts_are}
 
 -- ---- the report
@@ -143,19 +141,17 @@ is_printed options base notes history cells ms report before after many are by_l
 
 -- ---- the run
 
--- what is not batch mode is periodic mode, with the period that there is
-periodic_else : (sync : SyncCore) → sync ≡ plain_sync sync → (sync ≡ Batch → ⊥)
-    → sync ≡ Periodic 10000
-periodic_else Batch plain not_batch = absurd (not_batch refl)
-periodic_else (Periodic period) plain not_batch = plain
+-- what one writer logs by itself is not in batch mode
+pub one_is_not_batch : (options : ApplyOptions) → IsForOne options → IsBatch options → ⊥
+one_is_not_batch options one batch =
+    let clash : Periodic 10000 ≡ Batch = sym one.periodic ∙ batch in cc
 
 pub is_asked : (options : ApplyOptions) (sizes : Sizes) (archives : Bool) → IsDoable options
-    → options.writers ≡ 1 → (IsBatch options → ⊥) → AreSizesOf options sizes
-    → archives ≡ options.archive
+    → IsForOne options → AreSizesOf options sizes → archives ≡ options.archive
     → IsAskedBy options sizes archives options.drain
-is_asked options sizes archives doable one not_batch sizes_are archive = record {
-  one_writer = one;
-  periodic = periodic_else options.sync (ap (λ (o : ApplyOptions). o.sync) doable.plain) not_batch;
+is_asked options sizes archives doable one sizes_are archive = record {
+  one_writer = one.one_writer;
+  periodic = one.periodic;
   no_flush = ap (λ (o : ApplyOptions). o.flush_at) doable.plain;
   capacity = sym sizes_are.capacity;
   drain_is = refl;

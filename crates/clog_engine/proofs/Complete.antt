@@ -79,6 +79,7 @@ use Rattle.clog_folder.specs.Segments.{IsTooLong}
 use Rattle.clog_engine.specs.Drill.{DrillRefuses, IsRefusedFor}
 use Rattle.clog_engine.specs.Replaying.{ReplayRefused}
 use Rattle.clog_engine.specs.Scanning.{ReadRefused}
+use Rattle.clog_engine.proofs.Readable.{no_bad_table, no_damage, no_long_segment}
 use Rattle.clog_engine.proofs.WordsAsked.{one_asked}
 use Rattle.clog_engine.proofs.GoodInput.{
   taken_good,
@@ -181,26 +182,6 @@ scan_completes (Absent other) o s name there quiet refused =
 
 -- ---- a folder that can be read is not refused
 
-no_damage : (ignore : Bool) (files : Option Files) (name : List ℕ) (at : ℕ) (cause : Cause)
-    → Told files (IsReplayable ignore) → ignore ≡ false
-    → IfSome files (λ held. HasDamage held name at cause) → ⊥
-no_damage ignore None name at cause fit strict damage = fit
-no_damage ignore (Some files) name at cause fit strict damage =
-    undamaged_has_none files name at cause fit.segments (fit.readable.undamaged strict)
-    damage.first.damage
-
-no_long_segment : (ignore : Bool) (files : Option Files) → Told files (IsReplayable ignore)
-    → IfSome files (λ held. HasLongSegment ignore held) → ⊥
-no_long_segment ignore None fit long = fit
-no_long_segment ignore (Some files) fit long =
-    fit.readable.short long.first.name long.first.id long.first.named long.first.long
-
-no_bad_table : (ignore : Bool) (files : Option Files) (name : List ℕ) (fault : TableFault)
-    → Told files (IsReplayable ignore) → IfSome files (λ held. IsFirstBad held name fault) → ⊥
-no_bad_table ignore None name fault fit bad = fit
-no_bad_table ignore (Some files) name fault fit bad =
-    good_has_none files name fault fit.readable.tables bad
-
 replay_completes : (ignore : Bool) (status : Status) (o : Outside) (s : Sinks)
     → Told o.files (IsReplayable ignore) → IsQuiet o s
     → ReplayRefused ignore o.files o.disk_faults o.disk_faults_now status → EndsWell status
@@ -228,29 +209,28 @@ replay_completes ignore (Absent name) o s fit quiet refused = absurd refused
 -- ---- nor is one that is drilled
 
 module _ (lines : List Mutation) (o : Outside) (s : Sinks) (opens : Told o.files IsOpenable)
-    (reads : Told o.files_now (IsReplayable false)) (quiet : IsQuiet o s) where
+    (quiet : IsQuiet o s) where
+  -- a disk that tells a folder that can be opened is not refused
+  not_refused : (P : Files → Type 0) → ((held : Files) → IsOpenable held → P held → ⊥)
+      → IsRefusedFor o lines P → ⊥
+  not_refused P clash (inl now) = told_openable o.files P opens now.0 clash
+  not_refused P clash (inr behind) =
+      subst (λ (files : Option Files). Told files IsOpenable) behind.0 opens
+
   not_damaged : (name : List ℕ) (at : ℕ) (cause : Cause)
       → IsRefusedFor o lines (λ files. HasDamage files name at cause) → ⊥
-  not_damaged name at cause (inl (damage, still)) =
-      told_openable o.files _ opens damage (λ files can is.
+  not_damaged name at cause = not_refused _ (λ files can is.
       undamaged_has_none files name at cause can.segments (can.within.readable.undamaged refl)
       is.first.damage)
-  not_damaged name at cause (inr behind) =
-      no_damage false o.files_now name at cause reads refl behind.refused
 
   not_long : IsRefusedFor o lines (HasLongSegment false) → ⊥
-  not_long (inl (long, still)) =
-      told_openable o.files _ opens long (λ files can is.
+  not_long = not_refused _ (λ files can is.
       can.within.readable.short is.first.name is.first.id is.first.named is.first.long)
-  not_long (inr behind) = no_long_segment false o.files_now reads behind.refused
 
   no_bad : (name : List ℕ) (fault : TableFault)
       → IsRefusedFor o lines (λ files. IsFirstBad files name fault) → ⊥
-  no_bad name fault (inl (bad, still)) =
-      told_openable o.files _ opens bad (λ files can is.
+  no_bad name fault = not_refused _ (λ files can is.
       good_has_none files name fault can.within.readable.tables is)
-  no_bad name fault (inr behind) =
-      no_bad_table false o.files_now name fault reads behind.refused
 
   drill_completes : (status : Status) → DrillRefuses lines status o → EndsWell status
   drill_completes Ok refused = absurd refused
@@ -283,7 +263,7 @@ does_complete (Replay options) o s status fit quiet done =
 does_complete (Scan id) o s status fit quiet done =
     scan_completes status o s (segment_name_of 6 id) fit quiet done.0
 does_complete (Drill seed count) o s status fit quiet done =
-    drill_completes (made_lines seed count) o s fit.0 fit.1 quiet status done.0
+    drill_completes (made_lines seed count) o s fit quiet status done.0
 
 -- a report goes out, where the sink does not fail
 reports_complete : (report : List ℕ) (status : Status) (o : Outside) (s : Sinks) → IsQuiet o s

@@ -3,8 +3,9 @@ use Rattle.std.proofs.Common.{
   ◌≡◌,
   ℕ,
   List,
-  length,
   Option,
+  Some,
+  None,
   Result,
   Ok as ok,
   Err as err,
@@ -14,7 +15,9 @@ use Rattle.std.proofs.Common.{
   refl,
   sym,
   subst,
+  arith,
 }
+use Rattle.std.specs.Prelude.{is_some}
 use Rattle.clog_base.specs.declared.fault.Quantity.TheVariants.{
   FileBytes,
   Lines,
@@ -22,11 +25,14 @@ use Rattle.clog_base.specs.declared.fault.Quantity.TheVariants.{
   Ids,
   TableFiles,
 }
-use Rattle.clog_disk.specs.Files.{Files}
+use Rattle.clog_disk.specs.Files.{Files, Told}
 use Rattle.std.specs.List.{AllByRecursion}
 use Rattle.clog_mutation.specs.declared.mutation.Mutation.{Mutation}
 use Rattle.clog_words.specs.declared.request.ApplyOptions.{ApplyOptions}
+use Rattle.clog_crash.specs.Folder.{IsFirstBad}
+use Rattle.clog_folder.specs.Folder.{HasDamage, HasLongSegment}
 use Rattle.clog_lines.specs.Fitting.{HasFittingEntry}
+use Rattle.clog_engine.specs.Completes.{IsReplayable}
 use Rattle.clog_engine.specs.declared.status.Status.{Status}
 use Rattle.clog_engine.specs.declared.status.Status.TheVariants.{
   Ok,
@@ -43,15 +49,26 @@ use Rattle.clog_engine.specs.declared.status.Status.TheVariants.{
   Groups,
   Absent,
 }
-use Rattle.clog_engine.specs.Drill.{DrillRefuses, DrillsLines, TellsFolder, drill_options}
+use Rattle.clog_engine.specs.Drill.{
+  DrillRefuses,
+  DrillsLines,
+  IsRefusedFor,
+  TellsFolder,
+  drill_options,
+}
 use Rattle.clog_engine.specs.Laying.{LinesRefused}
-use Rattle.clog_engine.specs.Logged.{AppliesLines, AreApplied, LeavesSome, LinesRefuse}
+use Rattle.clog_engine.specs.Logged.{AppliesLines, AreApplied, LinesRefuse}
 use Rattle.clog_engine.specs.Outside.{Outside}
 use Rattle.clog_engine.specs.Quiet.{IsRefusedBefore, TellsEach}
 use Rattle.clog_engine.specs.Replaying.{ReplayRefused}
 use Rattle.clog_engine.proofs.GoodInput.{none_is_large}
-use Rattle.clog_engine.proofs.Onward.{logged_less}
 use Rattle.clog_engine.proofs.Quiet.{replayed_at}
+use Rattle.clog_engine.proofs.Readable.{
+  no_bad_table,
+  no_damage,
+  no_long_segment,
+  reads_behind,
+}
 
 -- ---- the lines are refused
 
@@ -63,10 +80,10 @@ refuses_drill ms (BadLine number cause) o refused = absurd refused
 refuses_drill ms (TooLarge number size most) o refused = absurd refused
 refuses_drill ms ReadFault o refused = absurd refused
 refuses_drill ms WriteFault o refused = absurd refused
-refuses_drill ms DiskFault o refused = refused
+refuses_drill ms DiskFault o refused = (refused.0, inl refused.1)
 refuses_drill ms (Damaged name at cause) o refused = inl refused
 refuses_drill ms (BadTable name fault) o refused = inl refused
-refuses_drill ms OutOfMemory o refused = refused
+refuses_drill ms OutOfMemory o refused = inl refused
 refuses_drill ms (Limit FileBytes most) o refused = absurd refused
 refuses_drill ms (Limit Lines most) o refused = absurd refused
 refuses_drill ms (Limit SegmentBytes most) o refused = (refused.0, inl (refused.1, refused.2))
@@ -75,12 +92,22 @@ refuses_drill ms (Limit TableFiles most) o refused = refused
 refuses_drill ms (Groups most) o refused = refused
 refuses_drill ms (Absent name) o refused = absurd refused
 
--- ---- the folder is refused behind them
+-- ---- the folder is not read behind them
 
 module _ (ms : List Mutation) (o : Outside) (text : List ℕ)
-    (applied : AreApplied o drill_options ms text) where
-  some_left : LeavesSome drill_options ms o
-  some_left = inr (inr (logged_less o drill_options ms (length ms) applied.logged))
+    (applied : AreApplied o drill_options ms text)
+    (both : is_some o.changes ≡ is_some o.files) where
+  reads : (before : Files) → o.files ≡ Some before → Told o.files_now (IsReplayable false)
+  reads = reads_behind o drill_options ms text (omega arith) both applied.run
+
+  -- it is refused there by a disk alone that does not tell its files
+  behind : (P : Files → Type 0) → (Told o.files_now (IsReplayable false) → ⊥)
+      → IsRefusedFor o ms P
+  behind P clash = by o.files refl
+    where
+      by : (files : Option Files) → o.files ≡ files → IsRefusedFor o ms P
+      by None is = inr (is, (text, applied))
+      by (Some before) is = absurd (clash (reads before is))
 
   refused_behind : (status : Status)
       → ReplayRefused false o.files_now o.disk_faults o.disk_faults_now status
@@ -91,16 +118,21 @@ module _ (ms : List Mutation) (o : Outside) (text : List ℕ)
   refused_behind (TooLarge number size most) refused = absurd refused
   refused_behind ReadFault refused = absurd refused
   refused_behind WriteFault refused = absurd refused
-  refused_behind DiskFault refused = (refused, some_left)
+  refused_behind DiskFault refused = (refused, inr (text, applied))
   refused_behind (Damaged name at cause) refused =
-      inr (record { text = text; applied = applied; refused = refused.1 })
+      behind (λ files. HasDamage files name at cause)
+      (λ fit. no_damage false o.files_now name at cause fit refl refused.1)
   refused_behind (BadTable name fault) refused =
-      inr (record { text = text; applied = applied; refused = refused })
-  refused_behind OutOfMemory refused = some_left
+      behind (λ files. IsFirstBad files name fault)
+      (λ fit. no_bad_table false o.files_now name fault fit refused)
+  refused_behind OutOfMemory refused = inr (text, applied)
   refused_behind (Limit FileBytes most) refused = absurd refused
   refused_behind (Limit Lines most) refused = absurd refused
-  refused_behind (Limit SegmentBytes most) refused =
-      (refused.0, inr (record { text = text; applied = applied; refused = refused.1 }))
+  refused_behind (Limit SegmentBytes most) refused = (
+    refused.0,
+    behind (HasLongSegment false)
+        (λ fit. no_long_segment false o.files_now fit refused.1),
+  )
   refused_behind (Limit Ids most) refused = absurd refused
   refused_behind (Limit TableFiles most) refused = absurd refused
   refused_behind (Groups most) refused = absurd refused
@@ -115,10 +147,10 @@ module _ (ms : List Mutation) (o : Outside) (text : List ℕ)
 -- at the end of a drill, whose lines were applied on a disk that told these files and faults
 pub drilled : (ms : List Mutation) (o : Outside) (text : List ℕ) (files : Option Files) (f : ℕ)
     (result : Result (List ℕ) Status) → AreApplied o drill_options ms text
-    → o.files_now ≡ files → f ≡ o.disk_faults
+    → is_some o.changes ≡ is_some o.files → o.files_now ≡ files → f ≡ o.disk_faults
     → TellsFolder ms files f o.disk_faults_now result → DrillsLines ms o result
-drilled ms o text files f result applied same quiet told =
-    told_drill ms o text applied result
+drilled ms o text files f result applied both same quiet told =
+    told_drill ms o text applied both result
     (subst (λ (x : Option Files). TellsFolder ms x o.disk_faults o.disk_faults_now result)
     (sym same) (subst (λ (n : ℕ). TellsFolder ms files n o.disk_faults_now result) quiet told))
 

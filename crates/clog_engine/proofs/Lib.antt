@@ -12,6 +12,7 @@ pub mod Merged
 pub mod Onward
 pub mod Opened
 pub mod Quiet
+pub mod Readable
 pub mod ReceiptLines
 mod Replays
 pub mod ScanReports

@@ -2,6 +2,8 @@
 use Rattle.std.proofs.Common.{
   ◌≡◌,
   ℕ,
+  ◌+◌,
+  ◌≤◌,
   List,
   [],
   ◌∷◌,
@@ -56,6 +58,7 @@ use Rattle.clog_writers.specs.Written.{
 use Rattle.clog_engine.specs.declared.report.PendingReport.{PendingReport}
 use Rattle.clog_engine.specs.declared.status.Status.{Status}
 use Rattle.clog_engine.specs.declared.status.Status.TheVariants.{OutOfMemory}
+use Rattle.clog_engine.specs.Limits.{group_limit}
 use Rattle.clog_engine.specs.Logged.{
   AppliesLines,
   IsReported,
@@ -179,11 +182,12 @@ module _ (options : ApplyOptions) (o : Outside) (ms : List Mutation)
       → IsToldAs options.receipts pending outcome result
       → LastsFirst o options ms (least_of outcome ms)
       → HasShareCause o.disk_faults o.disk_faults_now outcome
+      → ((groups : ℕ) → outcome ≡ err (fault.Rows groups) → group_limit ≤ 1 + length ms)
       → ((receipts : Vec Receipt) (report : List ℕ) → outcome ≡ ok receipts
       → report ≡ head_with options.receipts receipts.items ++ pending.rows.items
       → IsReported options ms report × Turns o (IsRun o options ms report))
       → AppliesLines options ms o result
-  shares_applied pending (ok receipts) result told_as lasts cause so =
+  shares_applied pending (ok receipts) result told_as lasts cause many so =
       let report = head_with options.receipts receipts.items ++ pending.rows.items in
       let is = so receipts report refl refl in
       subst (AppliesLines options ms o) (sym told_as) (record {
@@ -191,14 +195,14 @@ module _ (options : ApplyOptions) (o : Outside) (ms : List Mutation)
         logged = record { told = told; wrote = wrote; others = others; lasts = lasts };
         run = is.1;
       })
-  shares_applied pending (err (fault.Stopped at_open now)) result told_as lasts cause so =
+  shares_applied pending (err (fault.Stopped at_open now)) result told_as lasts cause many so =
       subst (AppliesLines options ms o) (sym told_as) (cause.1, partly lasts)
-  shares_applied pending (err fault.OutOfMemory) result told_as lasts cause so =
+  shares_applied pending (err fault.OutOfMemory) result told_as lasts cause many so =
       failed result told_as lasts
-  shares_applied pending (err fault.Spent) result told_as lasts cause so =
+  shares_applied pending (err fault.Spent) result told_as lasts cause many so =
       failed result told_as lasts
-  shares_applied pending (err (fault.Rows n)) result told_as lasts cause so =
-      subst (AppliesLines options ms o) (sym told_as) (refl, partly lasts)
+  shares_applied pending (err (fault.Rows n)) result told_as lasts cause many so =
+      subst (AppliesLines options ms o) (sym told_as) (refl, many n refl, partly lasts)
 
 -- a run that comes so far has called the disk
 pub shares_call : (receipts : Bool) (pending : PendingReport)

@@ -37,6 +37,7 @@ use Rattle.clog_engine.specs.Input.{
   HasLargeLine,
   IsGood,
   IsSized,
+  MayWantGroups,
   Takes,
 }
 use Rattle.clog_engine.specs.Limits.{group_limit}
@@ -100,9 +101,11 @@ ApplyRefuses options (Limit TableFiles most) o =
     × IsLeftAlone o
 ApplyRefuses options (Limit Ids most) o =
     (most ≡ id_limit) × ReadsGood options o × IfSome o.files HasGreatId × IsLeftAlone o
--- a group was wanted behind the last: all was good, and the lines are not all written or synced
+-- a group was wanted behind the last: all was good, the lines are many, and not all of them are
+-- written or synced
 ApplyRefuses options (Groups most) o =
-    (most ≡ group_limit) × ReadsGood options o × LeavesPart options o
+    (most ≡ group_limit) × ReadsToEnd o (MayWantGroups (capacity_of options))
+    × LeavesPart options o
 ApplyRefuses options other o = ⊥
 
 -- a report, or why there is none

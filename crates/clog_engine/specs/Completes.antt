@@ -7,7 +7,6 @@ use Rattle.std.specs.Prelude.{
   List,
   length,
   Bool,
-  false,
   Option,
   Some,
   None,
@@ -56,14 +55,12 @@ pub record IsReplayable (ignore : Bool) (files : Files) : Type 0 where
   pub segments : AreSegmentFiles files
 
 -- What is asked for can be done: `apply` has a good mutation file and a folder that can be opened,
--- `replay` a folder that can be read, `scan` its file, `drill` a folder that can be opened, and
--- read behind its lines.
+-- `replay` a folder that can be read, `scan` its file, `drill` a folder that can be opened.
 abbrev pub IsFit : Built → Outside → Type 0
 IsFit (Apply options) o = Tells o.left (IsGood (capacity_of options)) × Told o.files IsOpenable
 IsFit (Replay options) o = Told o.files (IsReplayable options.ignore_errors)
 IsFit (Scan id) o = Told o.files (λ files. IsScannable files (segment_name_of 6 id))
-IsFit (Drill seed count) o =
-    Told o.files IsOpenable × Told o.files_now (IsReplayable false)
+IsFit (Drill seed count) o = Told o.files IsOpenable
 
 -- No fault was counted, and no count stands at its type's end.
 pub record IsQuiet (o : Outside) (s : Sinks) : Type 0 where

@@ -3,6 +3,8 @@
 use Rattle.std.specs.Prelude.{
   ◌≡◌,
   ◌⊎◌,
+  ◌+◌,
+  ◌≤◌,
   ℕ,
   ℤ,
   pos,
@@ -127,33 +129,38 @@ pub record IsDrilled (o : Outside) (lines : List Mutation) (report : List ℕ) :
   pub applied : AreApplied o drill_options lines text
   pub told : IsFolderTold lines o.files_now report
 
--- All lines are applied, and the folder is refused behind them.
-pub record IsRefusedBehind (o : Outside) (lines : List Mutation) (P : Files → Type 0) : Type 0
-  where
-    pub text : List ℕ
-    pub applied : AreApplied o drill_options lines text
-    pub refused : IfSome o.files_now P
+-- All lines are applied, whatever the disk tells.
+abbrev pub AppliesAll : Outside → List Mutation → Type 0
+AppliesAll o lines = (text : List ℕ) × AreApplied o drill_options lines text
 
--- The folder is refused as it was, and left alone, or behind the lines.
+-- The folder is refused as it was, and left alone. Of a disk that does not tell its files it may be
+-- refused behind the lines: one that tells them can be read there.
 abbrev pub IsRefusedFor : Outside → List Mutation → (Files → Type 0) → Type 0
-IsRefusedFor o lines P = (IfSome o.files P × IsLeftAlone o) ⊎ IsRefusedBehind o lines P
+IsRefusedFor o lines P =
+    (IfSome o.files P × IsLeftAlone o) ⊎ ((o.files ≡ None) × AppliesAll o lines)
+
+-- The disk was left alone, or the folder restores the same, or the first of the lines came; or all
+-- of them are applied, and the folder was not read behind them.
+abbrev pub LeavesDrill : List Mutation → Outside → Type 0
+LeavesDrill lines o = LeavesSome drill_options lines o ⊎ AppliesAll o lines
 
 -- Why nothing is reported, and what is left of the disk.
 abbrev pub DrillRefuses : List Mutation → Status → Outside → Type 0
 DrillRefuses lines DiskFault o =
-    Rose o.disk_faults o.disk_faults_now × LeavesSome drill_options lines o
+    Rose o.disk_faults o.disk_faults_now × LeavesDrill lines o
 DrillRefuses lines (Damaged name at cause) o =
     IsRefusedFor o lines (λ files. HasDamage files name at cause)
 DrillRefuses lines (BadTable name fault) o =
     IsRefusedFor o lines (λ files. IsFirstBad files name fault)
-DrillRefuses lines OutOfMemory o = LeavesSome drill_options lines o
+DrillRefuses lines OutOfMemory o = LeavesDrill lines o
 DrillRefuses lines (Limit SegmentBytes most) o =
     (most ≡ file_limit) × IsRefusedFor o lines (HasLongSegment false)
 DrillRefuses lines (Limit TableFiles most) o =
     (most ≡ sequence_limit) × IfSome o.files HasManyTables × IsLeftAlone o
 DrillRefuses lines (Limit Ids most) o =
     (most ≡ id_limit) × IfSome o.files HasGreatId × IsLeftAlone o
-DrillRefuses lines (Groups most) o = (most ≡ group_limit) × LeavesSome drill_options lines o
+DrillRefuses lines (Groups most) o =
+    (most ≡ group_limit) × (group_limit ≤ 1 + length lines) × LeavesSome drill_options lines o
 DrillRefuses lines other o = ⊥
 
 -- a report of lines, or why there is none

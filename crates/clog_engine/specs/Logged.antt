@@ -4,8 +4,10 @@ use Rattle.std.specs.Prelude.{
   ◌≡◌,
   ◌⊎◌,
   ℕ,
+  ◌+◌,
   ◌<◌,
   ◌≤◌,
+  ◌^◌,
   List,
   ◌++◌,
   length,
@@ -51,7 +53,6 @@ use Rattle.clog_store.specs.Opened.{
   RecoversFirst,
 }
 use Rattle.clog_applied.specs.Applied.{IsAppliedRun}
-use Rattle.clog_applied.specs.Asked.{IsBatch}
 use Rattle.clog_applied.specs.Closed.{ClosedRun}
 use Rattle.clog_applied.specs.Filed.{BringsNoOther, IsAbove, KeepsOthers}
 use Rattle.clog_applied.specs.History.{LoggedLine}
@@ -75,7 +76,7 @@ use Rattle.clog_engine.specs.declared.status.Status.TheVariants.{
 use Rattle.clog_engine.specs.Limits.{group_limit}
 use Rattle.clog_engine.specs.Outside.{Outside, IsLeftAlone}
 use Rattle.clog_engine.specs.Report.{IsReport, head_of, head_with}
-use Rattle.clog_engine.specs.Request.{AreSizesOf, IsForWriters}
+use Rattle.clog_engine.specs.Request.{AreSizesOf, IsForOne, IsForWriters}
 
 -- ---- what a crash leaves
 
@@ -180,6 +181,7 @@ pub record IsLaidReport (options : ApplyOptions) (mutations : List Mutation) (re
   pub notes : List EntryNote
   pub laid : AreLaidFor sizes mutations notes
   pub base : ℕ
+  pub low : base < 2 ^ 62
   pub cells : List (CellKey × Cell)
   pub text : IsReport options.dump (head_of options.receipts base notes) cells mutations report
 
@@ -198,8 +200,7 @@ pub record IsSharesReport (options : ApplyOptions) (mutations : List Mutation) (
 -- what the report says, by who logs the lines
 pub record IsReported (options : ApplyOptions) (mutations : List Mutation) (report : List ℕ)
     : Type 0 where
-  pub by_one : options.writers ≡ 1 → (IsBatch options → ⊥)
-      → IsLaidReport options mutations report
+  pub by_one : IsForOne options → IsLaidReport options mutations report
   pub by_several : IsForWriters options → IsSharesReport options mutations report
 
 -- The lines of each writer's share came up to some place, of which a crash leaves at least so many.
@@ -253,8 +254,9 @@ LinesRefuse options mutations (Limit TableFiles most) o =
     (most ≡ sequence_limit) × IfSome o.files HasManyTables × IsLeftAlone o
 LinesRefuse options mutations (Limit Ids most) o =
     (most ≡ id_limit) × IfSome o.files HasGreatId × IsLeftAlone o
+-- a group was wanted behind the last, as it may be for so many lines
 LinesRefuse options mutations (Groups most) o =
-    (most ≡ group_limit) × LeavesSome options mutations o
+    (most ≡ group_limit) × (group_limit ≤ 1 + length mutations) × LeavesSome options mutations o
 LinesRefuse options mutations other o = ⊥
 
 -- a report of lines that are applied, or why there is none

@@ -5,7 +5,6 @@
 ghost use Rattle.std.specs.Prelude.{◌≡◌, ◌<◌, ◌^◌, ℕ, List, Option, IfOk, false, true};
 ghost use Rattle.clog_cells.specs.Merge.{AreInOrder};
 ghost use Rattle.clog_spec.specs.Sizes.{most_segments};
-ghost use Rattle.clog_applied.specs.Asked.{IsBatch};
 ghost use Rattle.clog_engine.specs.Apply.{Applies};
 ghost use Rattle.clog_engine.specs.Logged.{AppliesLines};
 ghost use Rattle.clog_engine.specs.Laying.{AreLaidLines, ReadsLines};
@@ -13,7 +12,7 @@ ghost use Rattle.clog_engine.specs.Outside.{outside_of, outside_with};
 ghost use Rattle.clog_engine.specs.Quiet.{TellsEach, IsRefusedBefore};
 ghost use Rattle.clog_engine.specs.Refusal.{ended_as};
 ghost use Rattle.clog_engine.specs.Report.{IsReport, head_of};
-ghost use Rattle.clog_engine.specs.Request.{AreSizesOf, IsDoable, IsForWriters};
+ghost use Rattle.clog_engine.specs.Request.{AreSizesOf, IsDoable, IsForOne, IsForWriters};
 
 use crate::before::cells_before;
 use crate::input::{bytes_of, mutations_of};
@@ -106,8 +105,7 @@ fn apply_lines<T: Threads + Sync, D: Disk, C: Clock, G: Gate + Sync>(
     gate: &G,
 ) -> (D, Result<Bytes, Status>)
     requires doable { IsDoable options }
-    requires one { options.writers ≡ 1 }
-    requires periodic { IsBatch options → ⊥ }
+    requires one { IsForOne options }
     requires sizes { AreSizesOf options sizes }
     requires laid { AreLaidLines sizes lines }
     ensures applies { (left left_now : Option (List ℕ)) (f g : ℕ)
@@ -140,7 +138,7 @@ fn apply_lines<T: Threads + Sync, D: Disk, C: Clock, G: Gate + Sync>(
     }
 }
 
-// Applies the source's lines by one writer in periodic mode.
+// Applies the source's lines by one writer, with one sync behind all of them.
 fn apply_by_one<T: Threads + Sync, S: Source, D: Disk, C: Clock, G: Gate + Sync>(
     rt: &T,
     alloc: Global,
@@ -151,8 +149,7 @@ fn apply_by_one<T: Threads + Sync, S: Source, D: Disk, C: Clock, G: Gate + Sync>
     gate: &G,
 ) -> (D, Result<Bytes, Status>)
     requires doable { IsDoable options }
-    requires one { options.writers ≡ 1 }
-    requires periodic { IsBatch options → ⊥ }
+    requires one { IsForOne options }
     ensures applies { Applies options (outside_of S.Source D.Disk C.Clock source.old source.new
         disk result.0 clock.now) result.1 }
     ensures quiet { TellsEach (D.faults disk) (D.faults result.0) result.1 }
@@ -165,25 +162,26 @@ fn apply_by_one<T: Threads + Sync, S: Source, D: Disk, C: Clock, G: Gate + Sync>
     }
 }
 
-// Whether one writer logs the lines by itself, with one sync behind all of them.
+// Whether one writer logs the lines by itself, with one sync behind all of them: in periodic mode
+// with the period that there is where none is given.
 fn is_for_one(options: ApplyOptions) -> bool
     requires { IsDoable options }
-    ensures one { result ≡ true → (options.writers ≡ 1) × (IsBatch options → ⊥) }
+    ensures one { result ≡ true → IsForOne options }
     ensures several { result ≡ false → IsForWriters options }
 {
-    match options.sync {
-        SyncCore::Batch => false,
-        SyncCore::Periodic { .. } => options.writers == 1,
+    if options.sync != SyncCore::periodic(10_000) {
+        return false;
     }
+    options.writers == 1
 }
 
-/// Applies the source's lines to the disk, and gives the report. The clock is asked once, where the
-/// folder is not refused before.
+/// Applies the source's lines to the disk, and gives the report. Where the folder is not refused
+/// before, the clock is asked once, and by writers of a path in periodic mode behind each line too.
 pub(crate) fn apply<
     T: Threads + Wait + Sync,
     S: Source,
     D: Disk + Send + Drop,
-    C: Clock,
+    C: Clock + Sync,
     G: Gate + Sync,
 >(
     rt: &T,

@@ -1,7 +1,7 @@
 //! The command `drill`: made lines are applied by four writers, in segments of 1024 KiB, and then
 //! the folder is replayed by four workers and told in numbers. The lines go the way of those of a
 //! mutation file. No table is flushed while they are written; no number that is told depends on it.
-ghost use Rattle.std.specs.Prelude.{◌≡◌, ◌≤◌, ℕ, List, length, Option};
+ghost use Rattle.std.specs.Prelude.{◌≡◌, ◌≤◌, ℕ, List, length, Option, is_some};
 ghost use Rattle.clog_spec.specs.Sizes.{most_tables};
 ghost use Rattle.clog_folder.specs.Passing.{IsUntouched};
 ghost use Rattle.clog_mutation.specs.declared.mutation.Mutation.{Mutation as Line};
@@ -94,9 +94,19 @@ fn tell_folder<T: Threads + Sync, D: Disk, G: Gate + Sync>(
     Ok(summary_of(alloc, lines, updates, &restored.cells)?)
 }
 
-/// Applies made lines to the disk, and tells them and what the folder restores to in numbers. The
-/// clock is asked once, where the folder is not refused before.
-pub(crate) fn drill<T: Threads + Wait + Sync, D: Disk + Send + Drop, C: Clock, G: Gate + Sync>(
+// A disk tells its changes where it tells its files. The law is for contracts alone.
+fn disks_tell_both<D: Disk>(_disk: &D)
+    ensures { (d : D) → is_some (D.changes d) ≡ is_some (D.files d) }
+{}
+
+/// Applies made lines to the disk, and tells them and what the folder restores to in numbers. Where
+/// the folder is not refused before, the clock is asked at its opening and behind each line.
+pub(crate) fn drill<
+    T: Threads + Wait + Sync,
+    D: Disk + Send + Drop,
+    C: Clock + Sync,
+    G: Gate + Sync,
+>(
     rt: &T,
     alloc: Global,
     seed: u32,
@@ -112,6 +122,7 @@ pub(crate) fn drill<T: Threads + Wait + Sync, D: Disk + Send + Drop, C: Clock, G
     ensures called { IsRefusedBefore result.1 → ⊥ }
 {
     disks_leave_now(&disk);
+    disks_tell_both(&disk);
     let options = drill_options();
     let sizes = sizes_of(&options);
     let (lines, updates) = match plan_made(alloc, sizes, seed, count) {

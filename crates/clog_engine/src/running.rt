@@ -38,7 +38,13 @@ fn print<K: Sink>(sink: &mut K, outcome: Result<Bytes, Status>) -> Status
 }
 
 // Does what the words ask for.
-fn outcome_of<T: Threads + Wait + Sync, R: Source, D: Disk + Send + Drop, C: Clock, G: Gate + Sync>(
+fn outcome_of<
+    T: Threads + Wait + Sync,
+    R: Source,
+    D: Disk + Send + Drop,
+    C: Clock + Sync,
+    G: Gate + Sync,
+>(
     rt: &T,
     alloc: Global,
     words: &[String],
@@ -88,6 +94,9 @@ fn outcome_of<T: Threads + Wait + Sync, R: Source, D: Disk + Send + Drop, C: Clo
 ///
 /// With `--sync batch` a writer waits for the sync of each line before it logs its next one, so no
 /// section of a segment holds two lines of one writer, and where a sync is refused it logs no more.
+/// In periodic mode a writer has the log synced behind a line at which the clock tells that the
+/// period has passed since it last had; with `--writers 1` and no other period than the default
+/// there is one sync, behind all lines.
 ///
 /// Of `replay` it means that the report has the counts of the folder and what it restores to, and
 /// that without `--ignore-errors` nothing of the folder is damaged; of `scan` that the report tells

@@ -1,5 +1,5 @@
-//! Planned lines are applied by writers of a path, several or in batch mode: the folder is opened,
-//! the writers log the lines, and the report tells where each stands.
+//! Planned lines are applied by writers of a path, several, in batch mode or with a period: the
+//! folder is opened, the writers log the lines, and the report tells where each stands.
 //!
 //! The rows of the report, and room for all of it, are there before the folder is opened; its head
 //! is put into that room behind the lines, since where they stand is known then.
@@ -26,7 +26,7 @@ use clog_disk::Disk;
 use clog_io::{Clock, Gate, Source};
 use clog_store::Store;
 use clog_words::ApplyOptions;
-use clog_writers::{WriteFault, write_plan};
+use clog_writers::{Syncing, WriteFault, write_plan};
 use std::alloc::Global;
 use std::sync::Wait;
 use std::thread::Threads;
@@ -66,7 +66,7 @@ pub(crate) fn disks_leave_now<D: Disk>(_disk: &D)
 pub(crate) fn apply_shares<
     T: Threads + Wait + Sync,
     D: Disk + Send + Drop,
-    C: Clock,
+    C: Clock + Sync,
     G: Gate + Sync,
 >(
     rt: &T,
@@ -102,17 +102,23 @@ pub(crate) fn apply_shares<
         Ok(pending) => pending,
         Err(OutOfMemory) => return (disk, Err(Status::OutOfMemory)),
     };
-    let store = match Store::open(alloc, disk, clock.now_ms(), sizes, options.archive) {
+    let opened_ms = clock.now_ms();
+    let store = match Store::open(alloc, disk, opened_ms, sizes, options.archive) {
         Ok(store) => store,
         Err((disk, refusal)) => return (disk, Err(folder_status(refusal))),
+    };
+    let syncing = Syncing {
+        mode: options.sync,
+        since_ms: opened_ms,
     };
     let (disk, outcome) = write_plan(
         rt,
         alloc,
         store,
         sizes,
-        options.sync,
+        syncing,
         gate,
+        clock,
         plan,
         options.drain,
     );
@@ -120,12 +126,13 @@ pub(crate) fn apply_shares<
 }
 
 /// Applies the source's lines by writers of a path, each in a thread of its own where one can be
-/// started. The clock is asked once, where the folder is not refused before.
+/// started. Where the folder is not refused before, the clock is asked at its opening, and in
+/// periodic mode behind each line.
 pub(crate) fn apply_by_several<
     T: Threads + Wait + Sync,
     S: Source,
     D: Disk + Send + Drop,
-    C: Clock,
+    C: Clock + Sync,
     G: Gate + Sync,
 >(
     rt: &T,

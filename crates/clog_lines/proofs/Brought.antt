@@ -1,24 +1,5 @@
--- What was appended are the segments of a log, but perhaps for the end of the last section.
-use Rattle.std.proofs.Common.{
-  ◌≡◌,
-  ℕ,
-  ◌<◌,
-  inl,
-  inr,
-  List,
-  [],
-  ◌∷◌,
-  ◌++◌,
-  length,
-  refl,
-  sym,
-  ◌∙◌,
-  ap,
-  subst,
-  arith,
-  append-nil,
-  length-append,
-}
+-- What was appended are the segments of a log, but perhaps for the last section of the last one.
+use Rattle.std.proofs.Common.{◌≡◌, ◌⊎◌, ℕ, ◌<◌, ◌≤◌, inl, inr, List, [], ◌∷◌, length, refl, sym, ◌∙◌, ap, subst, arith, length-append}
 use Rattle.std.specs.List.{Contains}
 use Rattle.std.proofs.lemmas.List.Elements.{
   Contains-append_cases,
@@ -31,10 +12,9 @@ use Rattle.clog_scan.specs.Cut.{Section}
 use Rattle.clog_crash.specs.Grown.{Append, grown}
 use Rattle.clog_crash.specs.Log.{Write}
 use Rattle.clog_crash.specs.Sections.{segment_bytes}
-use Rattle.clog_crash.proofs.rest.Sectioned.{begins_with}
 use Rattle.clog_store.specs.Grows.{AreBrought, IsGrown, segments_with}
 use Rattle.clog_store.specs.Life.{State}
-use Rattle.clog_lines.specs.Written.{IsWrittenBy}
+use Rattle.clog_lines.specs.Written.{IsWrittenBy, LacksLast}
 
 module _ {D : Type 0} (log : State D) (part : List Section) (appends : List Append)
     (brought : AreBrought log part) (grows : IsGrown appends log.past log.id part) where
@@ -46,23 +26,35 @@ module _ {D : Type 0} (log : State D) (part : List Section) (appends : List Appe
   in_hand sections =
       Contains-append_right log.past (hand sections ∷ []) (hand sections) (0, omega arith, refl)
 
-  -- the segment at hand begins with what was appended to it
-  front : (rest : List ℕ) × (segment_bytes log.id log.sections
-      ≡ grown appends (segment_name_of 6 log.id) ++ rest)
-  front =
+  -- it is the last one
+  is_last : (other : Write)
+      → Contains (segments_with log.past log.id log.sections) other → other.id ≤ log.id
+  is_last other listed =
+      elim (Contains-append_cases log.past (hand log.sections ∷ []) other listed) [
+        | inl past ↦ let below = grows.below other past in omega (arith, below)
+        | inr last ↦
+            let same : log.id ≡ other.id =
+            ap (λ (v : Write). v.id) (only_one (hand log.sections) other last) in
+            omega (arith, same)
+      ]
+
+  abbrev its_bytes : List ℕ
+  its_bytes = grown appends (segment_name_of 6 log.id)
+
+  -- all that it holds was appended, or all but its last section
+  in_part : (its_bytes ≡ segment_bytes log.id log.sections)
+      ⊎ LacksLast (segments_with log.past log.id log.sections) (hand log.sections) its_bytes
+  in_part =
       let has = grows.each (hand part) (in_hand part) in
       elim brought [
-        | inl same ↦ (
-          [],
-          ap (segment_bytes log.id) same ∙ sym has
-              ∙ sym (append-nil (grown appends (segment_name_of 6 log.id))),
-        )
-        | inr torn ↦
-            let more = begins_with log.id part (torn.0 ∷ []) in (
-              more.0,
-              ap (segment_bytes log.id) torn.1 ∙ more.1
-                  ∙ ap (λ (bytes : List ℕ). bytes ++ more.0) (sym has),
-            )
+        | inl same ↦ inl (has ∙ ap (segment_bytes log.id) (sym same))
+        | inr torn ↦ inr (record {
+          front = part;
+          torn = torn.0;
+          sections_are = torn.1;
+          bytes_are = has;
+          last = is_last;
+        })
       ]
 
   some : 0 < length part → 0 < length log.sections
@@ -78,15 +70,14 @@ module _ {D : Type 0} (log : State D) (part : List Section) (appends : List Appe
   written_by = record {
     each = λ w listed.
         elim (Contains-append_cases log.past (hand log.sections ∷ []) w listed) [
-          | inl past ↦ (
-            [],
-            sym (grows.each w (Contains-append_left log.past (hand part ∷ []) w past))
-                ∙ sym (append-nil (grown appends (segment_name_of 6 w.id))),
-          )
+          | inl past ↦
+              inl (grows.each w (Contains-append_left log.past (hand part ∷ []) w past))
           | inr last ↦
-              subst (λ (v : Write). (rest : List ℕ) × (segment_bytes v.id v.sections
-              ≡ grown appends (segment_name_of 6 v.id) ++ rest))
-              (only_one (hand log.sections) w last) front
+              subst (λ (v : Write). (grown appends (segment_name_of 6 v.id)
+              ≡ segment_bytes v.id v.sections)
+              ⊎ LacksLast (segments_with log.past log.id log.sections) v
+              (grown appends (segment_name_of 6 v.id)))
+              (only_one (hand log.sections) w last) in_part
         ];
     only = λ a listed.
         let o = grows.only a listed in

@@ -1,3 +1,4 @@
 pub mod Drained
 pub mod Fitting
+pub mod Worked
 pub mod Written

@@ -8,6 +8,7 @@ use Rattle.std.specs.Prelude.{
   ◌++◌,
   List,
   [],
+  ◌∷◌,
   length,
   map,
   take,
@@ -33,6 +34,7 @@ use Rattle.clog_disk.specs.Files.{Files, bytes_at}
 use Rattle.clog_disk.specs.Images.{IsImage, LeavesOnly}
 use Rattle.clog_mutation.specs.declared.mutation.Mutation.{Mutation}
 use Rattle.clog_mutation.specs.Payload.{cells_of, payload_of}
+use Rattle.clog_scan.specs.Cut.{Section}
 use Rattle.clog_scan.specs.Segment.{Entry}
 use Rattle.clog_table.specs.declared.table_file.TableFile.{TableFile}
 use Rattle.clog_words.specs.declared.request.ApplyOptions.{ApplyOptions}
@@ -79,11 +81,21 @@ pub record RestoresLines (r : Reading) (mutations : List Mutation) (least : ℕ)
       (Either (RestoresIn r) (Contains (flat_map cells_of (take n mutations))))
   pub undamaged : IsUndamaged image
 
--- The appends have brought these segments, but perhaps for an end of each, and nothing else.
+-- These bytes are those of a segment of a log but for its last section, and no other segment of the
+-- log has a greater id.
+pub record LacksLast (log : List Write) (w : Write) (bytes : List ℕ) : Type 0 where
+  pub front : List Section
+  pub torn : Section
+  pub sections_are : w.sections ≡ front ++ torn ∷ []
+  pub bytes_are : bytes ≡ segment_bytes w.id front
+  pub last : (other : Write) → Contains log other → other.id ≤ w.id
+
+-- The appends have brought these segments, the last of them perhaps but for its last section, and
+-- nothing else.
 pub record IsWrittenBy (appends : List Append) (log : List Write) : Type 0 where
   pub each : (w : Write) → Contains log w
-      → (rest : List ℕ) × (segment_bytes w.id w.sections
-      ≡ grown appends (segment_name_of 6 w.id) ++ rest)
+      → (grown appends (segment_name_of 6 w.id) ≡ segment_bytes w.id w.sections)
+      ⊎ LacksLast log w (grown appends (segment_name_of 6 w.id))
   pub only : (a : Append) → Contains appends a
       → (w : Write) × Contains log w × (0 < length w.sections) × (a.0 ≡ segment_name_of 6 w.id)
 

@@ -7,10 +7,12 @@
 mod draining;
 mod logging;
 mod notes;
+mod rows;
 #[cfg(test)]
 mod tests;
 mod writing;
 
 pub use draining::drain;
 pub use notes::{NotesFault, notes_of};
+pub use rows::the_last_segment_alone_is_torn;
 pub use writing::write_lines;

@@ -1,8 +1,6 @@
 -- What of the requests the program does today.
 use Rattle.std.specs.Prelude.{◌≡◌, ℕ, List, None}
 use Rattle.clog_spec.specs.Names.{IsSegmentName}
-use Rattle.sync_core.specs.declared.SyncCore.{SyncCore}
-use Rattle.sync_core.specs.declared.SyncCore.TheVariants.{Batch, Periodic}
 use Rattle.clog_words.specs.Asks.{Asks}
 use Rattle.clog_words.specs.declared.built.Built.{Built}
 use Rattle.clog_words.specs.declared.built.Built.TheVariants as built
@@ -10,17 +8,11 @@ use Rattle.clog_words.specs.declared.request.ApplyOptions.{ApplyOptions}
 use Rattle.clog_words.specs.declared.request.Request.{Request}
 use Rattle.clog_words.specs.declared.request.Request.TheVariants.{Apply, Replay, Scan, Drill}
 
--- the mode of syncing that is asked for, with the period that there is where none is given
-abbrev pub plain_sync : SyncCore → SyncCore
-plain_sync Batch = Batch
-plain_sync (Periodic period) = Periodic 10000
-
--- `--period` and `--flush-at` as they are where they are not given, and each other option of
--- `apply` as it is
+-- `--flush-at` as it is where it is not given, and each other option of `apply` as it is
 abbrev pub plain_options : ApplyOptions → ApplyOptions
 plain_options asked = record {
   writers = asked.writers;
-  sync = plain_sync asked.sync;
+  sync = asked.sync;
   segment_kib = asked.segment_kib;
   flush_at = None;
   archive = asked.archive;

@@ -1,7 +1,7 @@
 //! What the program does today of what words can ask for.
 ghost use Rattle.std.specs.Prelude.{◌≡◌, MatchOption, MatchResult};
 ghost use Rattle.clog_words.specs.Asks.{OnUsage};
-ghost use Rattle.clog_words.specs.Built.{AsksBuilt, IsBuilt, plain_options, plain_sync};
+ghost use Rattle.clog_words.specs.Built.{AsksBuilt, IsBuilt, plain_options};
 ghost use Rattle.clog_words.specs.Given.{texts};
 ghost use Rattle.clog_words.specs.declared.built.Built.{Built as AskedBuilt};
 
@@ -9,10 +9,8 @@ use crate::commands::{parse, segment_id};
 use crate::request::{ApplyOptions, ReplayOptions, Request, WordsFault};
 use clog_base::Name;
 use std::alloc::Global;
-use sync_core::SyncCore;
 
-/// One thing that the program does. Of `apply` it does what `--period`, in periodic mode, and
-/// `--flush-at` ask for by their defaults, given or not, and what each other option asks for.
+/// One thing that the program does. Of `apply` it does what each option but `--flush-at` asks for.
 #[derive(Clone, Copy, Debug, PartialEq, Eq)]
 pub enum Built {
     /// `apply`: apply the mutation file on standard input.
@@ -33,23 +31,13 @@ pub enum Built {
     },
 }
 
-// This mode of syncing, with the default of its period, of which the program does nothing else.
-fn plain_sync(asked: SyncCore) -> SyncCore
-    ensures { result ≡ plain_sync asked }
-{
-    match asked {
-        SyncCore::Batch => SyncCore::Batch,
-        SyncCore::Periodic { .. } => SyncCore::Periodic { period_ms: 10_000 },
-    }
-}
-
-// These options, with the defaults of those of which the program does nothing else.
+// These options without a flush limit, of which the program does nothing else.
 fn plain(asked: ApplyOptions) -> ApplyOptions
     ensures { result ≡ plain_options asked }
 {
     ApplyOptions {
         writers: asked.writers,
-        sync: plain_sync(asked.sync),
+        sync: asked.sync,
         segment_kib: asked.segment_kib,
         flush_at: None,
         archive: asked.archive,

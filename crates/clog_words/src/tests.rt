@@ -220,6 +220,14 @@ fn what_is_built_is_asked_for(rt: HostRuntime) -> Result<(), Fail> {
                 ..PLAIN
             }),
         ),
+        (
+            "apply --period 10 --writers 2",
+            Built::Apply(ApplyOptions {
+                writers: 2,
+                sync: SyncCore::periodic(10),
+                ..PLAIN
+            }),
+        ),
         ("scan CommitLog-6-1000.log", Built::Scan { id: 1000 }),
         (
             "replay --ignore-errors --workers=64",
@@ -236,7 +244,8 @@ fn what_is_built_is_asked_for(rt: HostRuntime) -> Result<(), Fail> {
 fn what_is_planned_alone_is_refused(rt: HostRuntime) -> Result<(), Fail> {
     let alloc = rt.alloc();
     for line in [
-        "apply --writers 2 --period 5",
+        "apply --writers 2 --period 0",
+        "apply --period 5 --flush-at 1",
         "apply --sync batch --flush-at 1",
         "drill 7 1000001",
         "drill 7",

@@ -1,33 +1,8 @@
 -- A writer commits the writes of its lines one after another.
-use Rattle.std.proofs.Common.{
-  ◌≡◌,
-  ◌⊎◌,
-  ℕ,
-  ◌<◌,
-  ◌≤◌,
-  inl,
-  inr,
-  List,
-  [],
-  ◌∷◌,
-  ◌++◌,
-  get_or,
-  reverse,
-  Option,
-  Some,
-  None,
-  refl,
-  sym,
-  ap,
-  ◌∙◌,
-  subst,
-  arith,
-  append_assoc,
-  length,
-}
+use Rattle.std.proofs.Common.{◌≡◌, ℕ, ◌/◌, ◌<◌, ◌≤◌, inl, inr, List, [], ◌∷◌, ◌++◌, drop, get_or, reverse, Option, Some, None, refl, sym, ap, ◌∙◌, subst, arith, append_assoc, length}
 use Rattle.std.specs.Prelude.{Contains}
 use Rattle.std.proofs.lemmas.List.{reverse-append}
-use Rattle.std.proofs.lemmas.Option.{none-some, same_Some}
+use Rattle.std.proofs.lemmas.Option.{none-some}
 use Rattle.std.proofs.lemmas.List.Elements.{Contains-get_or}
 use Rattle.std.proofs.lemmas.List.Quantifiers.{all_pairs_push}
 use Rattle.std.proofs.lemmas.List.Sorted.{
@@ -37,16 +12,17 @@ use Rattle.std.proofs.lemmas.List.Sorted.{
 }
 use Rattle.clog_base.specs.declared.position.Key.{Key}
 use Rattle.clog_base.specs.declared.sizes.Sizes.{Sizes}
-use Rattle.clog_base.proofs.Members.{first_or_further}
+use Rattle.clog_base.proofs.Members.{first_or_further, further}
 use Rattle.clog_mutation.specs.declared.mutation.Mutation.{Mutation}
 use Rattle.clog_applied.specs.History.{Line}
+use Rattle.op_core.specs.declared.count.Order.TheVariants.{Append}
 use Rattle.path_core.specs.declared.event.Cursor.TheVariants.{Stopped as StoppedCursor}
 use Rattle.path_core.specs.declared.event.Place.{Place}
-use Rattle.path_core.specs.declared.event.Place.TheVariants.{CursorWord}
+use Rattle.path_core.specs.declared.event.Place.TheVariants.{Current, CursorWord}
 use Rattle.path_core.specs.declared.note.EntryNote.{EntryNote}
 use Rattle.path_core.specs.Keeper.{HasRisen}
 use Rattle.path_rule.specs.declared.answer.SyncAnswer.{SyncAnswer}
-use Rattle.path_rule.specs.declared.answer.SyncAnswer.TheVariants.{Stopped as SyncStopped}
+use Rattle.path_rule.specs.declared.answer.SyncAnswer.TheVariants as sync
 use Rattle.path_rule.specs.declared.trying.PathSeat.{PathSeat}
 use Rattle.path_rule.specs.declared.view.OwnStep.{OwnStep}
 use Rattle.clog_layout.proofs.Standing.{pairs_none}
@@ -66,7 +42,6 @@ use Rattle.write_path.specs.declared.commit.Commit.TheVariants.{
   Spent as NoRoom,
 }
 use Rattle.write_path.specs.declared.commit.Receipt.{Receipt}
-use Rattle.write_path.specs.declared.commit.SyncFault.{SyncFault}
 use Rattle.write_path.specs.declared.commit.SyncFault.TheVariants.{
   Stopped as LogStopped,
   OutOfMemory as NoMemory,
@@ -76,7 +51,6 @@ use Rattle.write_path.specs.declared.prepared.Prepared.{Prepared}
 use Rattle.write_path.specs.Commits.{HasNoRoom, IsLogged}
 use Rattle.write_path.specs.Ends.{writes_of}
 use Rattle.write_path.specs.Grown.{HasGrown}
-use Rattle.write_path.specs.Promised.{WasSpent}
 use Rattle.write_path.specs.Receipts.{HasReceipt, IsCommitted}
 use Rattle.write_path.specs.Sealed.{FoundWhileLast, IsSealed}
 use Rattle.write_path.specs.Writes.{IsNoteOf, IsPrepared}
@@ -89,16 +63,19 @@ use Rattle.clog_writers.specs.declared.fault.WriteFault.TheVariants.{
 }
 use Rattle.write_path.proofs.Growing.{both}
 use Rattle.write_path.proofs.Sealing.{still_sealed}
-use Rattle.clog_writers.specs.Crews.{KnowsSpent, KnowsStopped}
-use Rattle.clog_writers.specs.Sealing.{IsAllSealed}
+use Rattle.clog_writers.specs.Crews.{KnowsSpent, KnowsWhy}
+use Rattle.clog_writers.specs.Sealing.{AreEarlierSealed, IsAllSealed}
 use Rattle.clog_writers.specs.Shares.{
+  AddsWrite,
   ArePrepared,
   AreWritesOf,
   IsWriteOf,
   LogsShare,
+  MayAddWrite,
   Rise,
   fault_of,
   refusal_in,
+  refusal_of,
 }
 
 one_write : (w : ℕ) (ls : List Line) (ns : List EntryNote) (l : Line) (n : EntryNote)
@@ -181,33 +158,56 @@ module _ (sizes : Sizes) (w : ℕ) (lines : List Line) where
 
   -- ---- by the seat's own list, which has the newest first
 
-  -- a commit that was logged
+  -- one write more
   pub logged : (p : Prepared) (rest : List Prepared) (before after : List OwnStep)
-      (start end : ℕ) → IsLogged before w start end p after
-      → GoesOn (p ∷ rest) (reverse (writes_of before))
+      → AddsWrite w p before after → GoesOn (p ∷ rest) (reverse (writes_of before))
       → GoesOn rest (reverse (writes_of after))
-  logged p rest before after start end is g =
-      let n = is.listed.note in
-      let list : reverse (writes_of before) ++ n ∷ [] ≡ reverse (writes_of after) =
-      sym (reverse-append (n ∷ []) (writes_of before))
-      ∙ ap (λ (l : List EntryNote). reverse l) (sym is.listed.list) in
+  logged p rest before after a g =
+      let list : reverse (writes_of before) ++ a.note ∷ [] ≡ reverse (writes_of after) =
+      sym (reverse-append (a.note ∷ []) (writes_of before))
+      ∙ ap (λ (l : List EntryNote). reverse l) (sym a.list) in
       subst (GoesOn rest) list
-      (one_more p rest (reverse (writes_of before)) n g is.listed.writer is.listed.of
-      (λ o among.
-      let low = is.behind o
+      (one_more p rest (reverse (writes_of before)) a.note g a.by a.of (λ o among.
+      a.behind o
       (Contains-permutation (reverse (writes_of before)) (writes_of before) o
       (IsPermutation-sym (writes_of before) (reverse (writes_of before))
-      (IsPermutation-reverse (writes_of before))) among) in
-      let starts = is.listed.starts in
-      omega (arith, low, starts)))
+      (IsPermutation-reverse (writes_of before))) among)))
 
-  -- one that was not
-  pub spent : (p : Prepared) (rest : List Prepared) (before after : List OwnStep)
-      → writes_of after ≡ writes_of before
+  -- or none
+  pub none_more : (rest : List Prepared) (before after : List OwnStep)
+      → writes_of after ≡ writes_of before → GoesOn rest (reverse (writes_of before))
+      → GoesOn rest (reverse (writes_of after))
+  none_more rest before after same g =
+      subst (GoesOn rest) (ap (λ (l : List EntryNote). reverse l) (sym same)) g
+
+  -- a refused one is logged or not
+  pub stopped_with : (p : Prepared) (rest : List Prepared) (before after : List OwnStep)
+      (f : WriteFault) → MayAddWrite w p before after
       → GoesOn (p ∷ rest) (reverse (writes_of before))
-      → GoesOn (p ∷ rest) (reverse (writes_of after))
-  spent p rest before after same g =
-      subst (GoesOn (p ∷ rest)) (ap (λ (l : List EntryNote). reverse l) (sym same)) g
+      → LogsShare w lines (reverse (writes_of after)) (Some f)
+  stopped_with p rest before after f (inl more) g =
+      ends rest (reverse (writes_of after)) (Some f) (logged p rest before after more g)
+      (λ none. absurd (none-some f (sym none)))
+  stopped_with p rest before after f (inr same) g =
+      ends (p ∷ rest) (reverse (writes_of after)) (Some f)
+      (none_more (p ∷ rest) before after same g) (λ none. absurd (none-some f (sym none)))
+
+-- what a write adds is there behind what adds nothing
+pub adds_on : (w : ℕ) (p : Prepared) (before then after : List OwnStep)
+    → writes_of after ≡ writes_of then → AddsWrite w p before then → AddsWrite w p before after
+adds_on w p before then after same a = record {
+  note = a.note;
+  list = same ∙ a.list;
+  by = a.by;
+  behind = a.behind;
+  of = a.of;
+}
+
+pub may_on : (w : ℕ) (p : Prepared) (before then after : List OwnStep)
+    → writes_of after ≡ writes_of then → MayAddWrite w p before then
+    → MayAddWrite w p before after
+may_on w p before then after same (inl more) = inl (adds_on w p before then after same more)
+may_on w p before then after same (inr none) = inr (same ∙ none)
 
 -- ---- what a commit answers
 
@@ -223,10 +223,16 @@ risen before now rose = elim rose [
   | inr most ↦ omega (arith, most)
 ]
 
--- the count of faults that is told
-abbrev count_in : WriteFault → ℕ
-count_in (Stopped at_open now) = now
-count_in other = 0
+-- where each write is sealed, each one but the newest is
+pub all_earlier : (trail : List OwnStep) → IsAllSealed trail → AreEarlierSealed trail
+all_earlier trail all newest earlier is n among =
+    all n (subst (λ (l : List EntryNote). Contains l n) (sym is) (further newest earlier n among))
+
+-- what stands behind a new write of the list is what was there
+earlier_is : (x newest : EntryNote) (before now earlier : List EntryNote) → now ≡ x ∷ before
+    → now ≡ newest ∷ earlier → earlier ≡ before
+earlier_is x newest before now earlier is other =
+    ap (λ (l : List EntryNote). drop 1 l) (sym other ∙ is)
 
 -- what was found while a write was the last of a trail was found in it
 found_in : (n : EntryNote) (at : Place) (value : ℕ) (trail : List OwnStep)
@@ -236,102 +242,61 @@ found_in n at value trail F =
     (found_before at value F.later (F.step ∷ F.before) (inl F.found))
 
 module _ (size : PathSize) (w : ℕ) (before : List OwnStep) (p : Prepared) (v : View) where
-  -- it is logged
-  pub record IsLoggedThere : Type 0 where
-    pub start : ℕ
-    pub end : ℕ
-    pub is : IsLogged before w start end p v.trail
-
-  abbrev there_by : (r : Receipt) → HasReceipt size.base w before p r v.trail → IsLoggedThere
-  there_by r is = record { start = is.start; end = is.end; is = is.logged }
+  adds_by : (r : Receipt) → HasReceipt size.base w before p r v.trail
+      → AddsWrite w p before v.trail
+  adds_by r is =
+      let L = is.logged in
+      record {
+        note = L.listed.note;
+        list = L.listed.list;
+        by = L.listed.writer;
+        behind = λ o among.
+            let low = L.behind o among in
+            let starts = L.listed.starts in omega (arith, low, starts);
+        of = L.listed.of;
+      }
 
   -- where nothing is refused
   pub where_logged : (mode : SyncCore) (c : Commit) → IsCommitted mode size w before p c v
-      → refusal_in c ≡ None → IsLoggedThere
-  where_logged (Periodic k) (Logged r) is none = there_by r is
+      → refusal_in c ≡ None → AddsWrite w p before v.trail
+  where_logged (Periodic k) (Logged r) is none = adds_by r is
   where_logged (Periodic k) (Durable r) is none = absurd is
   where_logged (Periodic k) (Unsynced r fault) is none = absurd is
   where_logged (Periodic k) (NoRoom back key) is none = absurd (none-some Spent (sym none))
   where_logged Batch (Logged r) is none = absurd is
-  where_logged Batch (Durable r) is none = there_by r is.0
+  where_logged Batch (Durable r) is none = adds_by r is.0
   where_logged Batch (Unsynced r fault) is none = absurd (none-some (fault_of fault) (sym none))
   where_logged Batch (NoRoom back key) is none = absurd (none-some Spent (sym none))
 
   -- a refused one is logged, and waited in vain; or it is not, and the list is as it was
-  pub where_refused : (mode : SyncCore) (c : Commit) (f : WriteFault)
-      → IsCommitted mode size w before p c v → refusal_in c ≡ Some f
-      → IsLoggedThere ⊎ (writes_of v.trail ≡ writes_of before)
-  where_refused (Periodic k) (Logged r) f is some = absurd (none-some f some)
-  where_refused (Periodic k) (Durable r) f is some = absurd is
-  where_refused (Periodic k) (Unsynced r fault) f is some = absurd is
-  where_refused (Periodic k) (NoRoom back key) f is some = inr is.1
-  where_refused Batch (Logged r) f is some = absurd is
-  where_refused Batch (Durable r) f is some = absurd (none-some f some)
-  where_refused Batch (Unsynced r fault) f is some = inl (there_by r is.0)
-  where_refused Batch (NoRoom back key) f is some = inr is.1
+  pub may_add : (mode : SyncCore) (c : Commit) → IsCommitted mode size w before p c v
+      → MayAddWrite w p before v.trail
+  may_add (Periodic k) (Logged r) is = inl (adds_by r is)
+  may_add (Periodic k) (Durable r) is = absurd is
+  may_add (Periodic k) (Unsynced r fault) is = absurd is
+  may_add (Periodic k) (NoRoom back key) is = inr is.1
+  may_add Batch (Logged r) is = absurd is
+  may_add Batch (Durable r) is = inl (adds_by r is.0)
+  may_add Batch (Unsynced r fault) is = inl (adds_by r is.0)
+  may_add Batch (NoRoom back key) is = inr is.1
 
-  -- in periodic mode it waits for nothing
-  pub in_periodic : (k : ℕ) (c : Commit) (f : WriteFault)
-      → IsCommitted (Periodic k) size w before p c v → refusal_in c ≡ Some f → f ≡ Spent
-  in_periodic k (Logged r) f is some = absurd (none-some f some)
-  in_periodic k (Durable r) f is some = absurd is
-  in_periodic k (Unsynced r fault) f is some = absurd is
-  in_periodic k (NoRoom back key) f is some = sym (same_Some Spent f some)
+  one_more_waits : (start end : ℕ) → IsLogged before w start end p v.trail → IsAllSealed before
+      → AreEarlierSealed v.trail
+  one_more_waits start end L all newest earlier is n among =
+      sealed_still n before v.trail L.grown
+      (all n (subst (λ (l : List EntryNote). Contains l n)
+      (earlier_is L.listed.note newest (writes_of before) (writes_of v.trail) earlier
+      L.listed.list is) among))
 
-  no_room : (back : Prepared) (key : Key) → (back ≡ p) × (writes_of v.trail ≡ writes_of before)
-      × HasNoRoom size p.size (length before) key.0 v × HasGrown before v.trail
-      → (at : ℕ) × WasSpent size p.size at v.trail
-  no_room back key is = (
-    key.0,
-    record {
-      since = length before;
-      after = v;
-      spent = is.2;
-      grown = record { newer = []; is = refl };
-    },
-  )
-
-  -- the key without room was found in this commit
-  pub where_spent : (mode : SyncCore) (c : Commit) → IsCommitted mode size w before p c v
-      → refusal_in c ≡ Some Spent → (at : ℕ) × WasSpent size p.size at v.trail
-  where_spent (Periodic k) (Logged r) is some = absurd (none-some Spent some)
-  where_spent (Periodic k) (Durable r) is some = absurd is
-  where_spent (Periodic k) (Unsynced r fault) is some = absurd is
-  where_spent (Periodic k) (NoRoom back key) is some = no_room back key is
-  where_spent Batch (Logged r) is some = absurd is
-  where_spent Batch (Durable r) is some = absurd (none-some Spent some)
-  where_spent Batch (Unsynced r fault) is some =
-      absurd (not_spent fault (same_Some (fault_of fault) Spent some))
-    where
-      not_spent : (f : SyncFault) → fault_of f ≡ Spent → ⊥
-      not_spent (LogStopped at_open now) same = cc
-      not_spent NoMemory same = cc
-      not_spent (NoRows groups) same = cc
-  where_spent Batch (NoRoom back key) is some = no_room back key is
-
-  -- the count of faults was found behind the write
-  pub where_stopped : (mode : SyncCore) (c : Commit) (at_open now : ℕ)
-      → IsCommitted mode size w before p c v → refusal_in c ≡ Some (Stopped at_open now)
-      → Finds (CursorWord StoppedCursor) now v.trail × (0 < now)
-  where_stopped (Periodic k) (Logged r) a n is some = absurd (none-some (Stopped a n) some)
-  where_stopped (Periodic k) (Durable r) a n is some = absurd is
-  where_stopped (Periodic k) (Unsynced r fault) a n is some = absurd is
-  where_stopped (Periodic k) (NoRoom back key) a n is some = absurd
-      (let no : Spent ≡ Stopped a n = same_Some Spent (Stopped a n) some in cc)
-  where_stopped Batch (Logged r) a n is some = absurd is
-  where_stopped Batch (Durable r) a n is some = absurd (none-some (Stopped a n) some)
-  where_stopped Batch (Unsynced r (LogStopped x y)) a n is some =
-      subst (λ (z : ℕ). Finds (CursorWord StoppedCursor) z v.trail × (0 < z))
-      (ap count_in (same_Some (Stopped x y) (Stopped a n) some)) (
-        found_in is.0.logged.listed.note (CursorWord StoppedCursor) y v.trail is.2,
-        risen x y is.1.1,
-      )
-  where_stopped Batch (Unsynced r NoMemory) a n is some = absurd
-      (let no : OutOfMemory ≡ Stopped a n = same_Some OutOfMemory (Stopped a n) some in cc)
-  where_stopped Batch (Unsynced r (NoRows g)) a n is some = absurd
-      (let no : Rows g ≡ Stopped a n = same_Some (Rows g) (Stopped a n) some in cc)
-  where_stopped Batch (NoRoom back key) a n is some = absurd
-      (let no : Spent ≡ Stopped a n = same_Some Spent (Stopped a n) some in cc)
+  -- in batch mode those before it are sealed, whatever is answered
+  pub one_waits : (c : Commit) → IsCommitted Batch size w before p c v → IsAllSealed before
+      → AreEarlierSealed v.trail
+  one_waits (Logged r) is all = absurd is
+  one_waits (Durable r) is all = one_more_waits is.0.start is.0.end is.0.logged all
+  one_waits (Unsynced r fault) is all = one_more_waits is.0.start is.0.end is.0.logged all
+  one_waits (NoRoom back key) is all =
+      all_earlier v.trail (λ n among. sealed_still n before v.trail is.3
+      (all n (subst (λ (l : List EntryNote). Contains l n) is.1 among)))
 
   -- in batch mode the write is sealed, and so are those before it
   pub one_sealed : (c : Commit) → IsCommitted Batch size w before p c v → refusal_in c ≡ None
@@ -347,13 +312,83 @@ module _ (size : PathSize) (w : ℕ) (before : List OwnStep) (p : Prepared) (v :
   one_sealed (Unsynced r fault) is none all = absurd (none-some (fault_of fault) (sym none))
   one_sealed (NoRoom back key) is none all = absurd (none-some Spent (sym none))
 
--- ---- behind a sync
+-- ---- why
 
--- a seat that has found no room tells it also behind a sync
-pub spent_still : {K : Type 0} (size : PathSize) (s t : PathSeat K)
-    → HasGrown (view_of s.member).trail (view_of t.member).trail → KnowsSpent size s
-    → KnowsSpent size t
-spent_still size s t grown (bytes, key, small, S) = (
+found_no_room : {K : Type 0} (size : PathSize) (before : List OwnStep) (p back : Prepared)
+    (key : Key) (s : PathSeat K) → p.size ≤ size.capacity / 2
+    → (back ≡ p) × (writes_of (view_of s.member).trail ≡ writes_of before)
+    × HasNoRoom size p.size (length before) key.0 (view_of s.member)
+    × HasGrown before (view_of s.member).trail
+    → KnowsSpent size s
+found_no_room size before p back key s small is = (
+  p.size,
+  key.0,
+  small,
+  record {
+    since = length before;
+    after = view_of s.member;
+    spent = is.2;
+    grown = record { newer = []; is = refl };
+  },
+)
+
+-- what a commit tells its seat has found
+pub commit_why : {K : Type 0} (size : PathSize) (w : ℕ) (before : List OwnStep) (p : Prepared)
+    (s : PathSeat K) → p.size ≤ size.capacity / 2 → (mode : SyncCore) (c : Commit)
+    → IsCommitted mode size w before p c (view_of s.member) → KnowsWhy size (refusal_in c) s
+commit_why size w before p s small (Periodic k) (Logged r) is = tt
+commit_why size w before p s small (Periodic k) (Durable r) is = absurd is
+commit_why size w before p s small (Periodic k) (Unsynced r fault) is = absurd is
+commit_why size w before p s small (Periodic k) (NoRoom back key) is =
+    found_no_room size before p back key s small is
+commit_why size w before p s small Batch (Logged r) is = absurd is
+commit_why size w before p s small Batch (Durable r) is = tt
+commit_why size w before p s small Batch (Unsynced r (LogStopped at_open now)) is = (
+  found_in is.0.logged.listed.note (CursorWord StoppedCursor) now (view_of s.member).trail is.2,
+  risen at_open now is.1.1,
+)
+commit_why size w before p s small Batch (Unsynced r NoMemory) is = tt
+commit_why size w before p s small Batch (Unsynced r (NoRows n)) is =
+    let told = is.2 in (
+      told.0,
+      told.1 ∙ is.1.all,
+      found_in is.0.logged.listed.note (Current Append) told.0 (view_of s.member).trail told.2,
+    )
+commit_why size w before p s small Batch (NoRoom back key) is =
+    found_no_room size before p back key s small is
+
+-- a sync too
+pub sync_why : {K : Type 0} (size : PathSize) (w opened : ℕ) (v : View) (s : PathSeat K)
+    (answer : SyncAnswer) → Answers w opened v answer (view_of s.member)
+    → KnowsWhy size (refusal_of answer) s
+sync_why size w opened v s (sync.Done key) A = tt
+sync_why size w opened v s (sync.Stopped at_open now) A = (
+  subst (λ (l : List OwnStep). Finds (CursorWord StoppedCursor) now l) (sym A.steps.trail)
+      (found_after (CursorWord StoppedCursor) now A.steps.steps v.trail A.now),
+  risen at_open now A.is.1,
+)
+sync_why size w opened v s sync.OutOfMemory A = tt
+sync_why size w opened v s (sync.Rows groups) A =
+    let F = A.now in (
+      F.0,
+      F.1 ∙ A.is.0.all,
+      subst (λ (l : List OwnStep). Finds (Current Append) F.0 l) (sym A.steps.trail)
+          (found_after (Current Append) F.0 A.steps.steps v.trail F.2),
+    )
+
+-- and what a seat has found it tells also behind a sync
+still_found : (at : Place) (value : ℕ) (before after : List OwnStep) → HasGrown before after
+    → Finds at value before → Finds at value after
+still_found at value before after G found =
+    subst (λ (l : List OwnStep). Finds at value l) (sym G.is)
+    (found_before at value G.newer before found)
+
+pub still_why : {K : Type 0} (size : PathSize) (fault : Option WriteFault) (s t : PathSeat K)
+    → HasGrown (view_of s.member).trail (view_of t.member).trail → KnowsWhy size fault s
+    → KnowsWhy size fault t
+still_why size None s t G why = tt
+still_why size (Some OutOfMemory) s t G why = tt
+still_why size (Some Spent) s t G (bytes, key, small, S) = (
   bytes,
   key,
   small,
@@ -361,33 +396,30 @@ spent_still size s t grown (bytes, key, small, S) = (
     since = S.since;
     after = S.after;
     spent = S.spent;
-    grown = both S.after.trail (view_of s.member).trail (view_of t.member).trail S.grown grown;
+    grown = both S.after.trail (view_of s.member).trail (view_of t.member).trail S.grown G;
   },
 )
+still_why size (Some (Stopped at_open now)) s t G why = (
+  still_found (CursorWord StoppedCursor) now (view_of s.member).trail (view_of t.member).trail G
+      why.0,
+  why.1,
+)
+still_why size (Some (Rows groups)) s t G (last, next, found) = (
+  last,
+  next,
+  still_found (Current Append) last (view_of s.member).trail (view_of t.member).trail G found,
+)
 
--- what a seat has sealed, and that it has found the log stopped, stays so
+-- ---- behind a sync
+
+-- what a seat has sealed stays so
 pub sealed_on : (before after : List OwnStep) → writes_of after ≡ writes_of before
     → HasGrown before after → IsAllSealed before → IsAllSealed after
 sealed_on before after list G all = λ n among.
     sealed_still n before after G
     (all n (subst (λ (l : List EntryNote). Contains l n) list among))
 
-pub stopped_still : {K : Type 0} (n : ℕ) (s t : PathSeat K)
-    → HasGrown (view_of s.member).trail (view_of t.member).trail → KnowsStopped n s
-    → KnowsStopped n t
-stopped_still n s t G knows = (
-  subst (λ (l : List OwnStep). Finds (CursorWord StoppedCursor) n l) (sym G.is)
-      (found_before (CursorWord StoppedCursor) n G.newer (view_of s.member).trail knows.0),
-  knows.1,
-)
-
--- a sync that is answered so has found it
-pub stopped_by : (w opened at_open now : ℕ) (v after : View) (answer : SyncAnswer)
-    → Answers w opened v answer after → answer ≡ SyncStopped at_open now
-    → Finds (CursorWord StoppedCursor) now after.trail × (0 < now)
-stopped_by w opened at_open now v after answer given is =
-    let A = subst (λ (x : SyncAnswer). Answers w opened v x after) is given in (
-      subst (λ (l : List OwnStep). Finds (CursorWord StoppedCursor) now l) (sym A.steps.trail)
-          (found_after (CursorWord StoppedCursor) now A.steps.steps v.trail A.now),
-      risen at_open now A.is.1,
-    )
+pub earlier_on : (before after : List OwnStep) → writes_of after ≡ writes_of before
+    → HasGrown before after → AreEarlierSealed before → AreEarlierSealed after
+earlier_on before after list G all newest earlier is n among =
+    sealed_still n before after G (all newest earlier (sym list ∙ is) n among)

@@ -14,6 +14,7 @@ use Rattle.std.proofs.Common.{
   [],
   ◌∷◌,
   ◌++◌,
+  length,
   refl,
   sym,
   ap,
@@ -24,6 +25,7 @@ use Rattle.std.proofs.Common.{
 use Rattle.std.specs.Prelude.{Contains}
 use Rattle.std.specs.List.{filter}
 use Rattle.std.proofs.lemmas.Bool.{leb-false, lt-leb, ltb-true}
+use Rattle.std.proofs.lemmas.List.{length-append, nil_from_length}
 use Rattle.clog_base.proofs.Members.{further, here}
 use Rattle.clog_applied.specs.History.{Line}
 use Rattle.clog_applied.proofs.Lists.{kept_one, left_one}
@@ -47,6 +49,10 @@ pub none_pass : {A : Type 0} (p : A → Bool) (xs : List A)
 none_pass p [] none = refl
 none_pass p (x ∷ xs) none = left_one p x xs (none x (here x xs))
     ∙ none_pass p xs (λ y h. none y (further x xs y h))
+
+pub first_none : {A : Type 0} (xs ys : List A) → xs ++ ys ≡ [] → xs ≡ []
+first_none xs ys none =
+    nil_from_length xs (omega (arith, length-append xs ys, ap length none))
 
 -- ---- up to a key
 

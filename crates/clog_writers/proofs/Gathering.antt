@@ -35,15 +35,17 @@ use Rattle.clog_applied.specs.History.{Line, share_of}
 use Rattle.path_rule.specs.declared.trying.PathSeat.{PathSeat}
 use Rattle.path_rule.specs.declared.view.PathSize.{PathSize}
 use Rattle.clog_writers.specs.declared.fault.WriteFault.{WriteFault}
-use Rattle.clog_writers.specs.declared.fault.WriteFault.TheVariants.{Spent, Stopped}
+use Rattle.clog_writers.specs.declared.fault.WriteFault.TheVariants.{Rows, Spent, Stopped}
 use Rattle.clog_writers.specs.declared.worker.Worker.{Worker}
 use Rattle.clog_writers.specs.Crews.{
   HasEnded,
   HasLogged,
   HaveEnded,
   HaveLogged,
+  KnowsRows,
   KnowsSpent,
   KnowsStopped,
+  KnowsWhy,
 }
 
 -- the share of a number
@@ -62,6 +64,8 @@ module _ {K : Type 0} (id : TableId) (size : PathSize) where
     pub stops : (at_open now : ℕ) → first ≡ Some (Stopped at_open now)
         → (s : PathSeat K) × Contains seats s × KnowsStopped now s
     pub spent : first ≡ Some Spent → (s : PathSeat K) × Contains seats s × KnowsSpent size s
+    pub rows : (groups : ℕ) → first ≡ Some (Rows groups)
+        → (s : PathSeat K) × Contains seats s × KnowsRows s
 
   pub none_gathered : (ms : List Mutation) (ws : List (Worker K)) → HaveLogged id size ms ws
       → Gathers ms ws [] None
@@ -74,6 +78,7 @@ module _ {K : Type 0} (id : TableId) (size : PathSize) where
     done = λ i d inside. absurd (omega (arith, inside));
     stops = λ at_open now is. absurd (none-some (Stopped at_open now) is);
     spent = λ is. absurd (none-some Spent is);
+    rows = λ groups is. absurd (none-some (Rows groups) is);
   }
 
   -- the next one
@@ -106,13 +111,14 @@ module _ {K : Type 0} (id : TableId) (size : PathSize) where
       (seats : List (PathSeat K)) (first fault now : Option WriteFault) (s : PathSeat K)
       → Gathers ms (w ∷ rest) seats first
       → HasEnded id size (length seats) (its size ms (length seats)) fault s
-      → ((at_open n : ℕ) → fault ≡ Some (Stopped at_open n) → KnowsStopped n s)
-      → (fault ≡ Some Spent → KnowsSpent size s)
+      → KnowsWhy size fault s
       → (now ≡ None → (first ≡ None) × (fault ≡ None)) → (now ≡ first) ⊎ (now ≡ fault)
       → Gathers ms rest (seats ++ s ∷ []) now
-  one_gathered ms w rest seats first fault now s g ends knows knows_spent none one =
+  one_gathered ms w rest seats first fault now s g ends why none one =
       let long = length_push seats s in
       let count = g.count in
+      let why_is = λ (f : Option WriteFault) (is : fault ≡ f).
+      subst (λ (x : Option WriteFault). KnowsWhy size x s) is why in
       record {
         count = omega (arith, long, count);
         left = λ i d inside.
@@ -137,13 +143,19 @@ module _ {K : Type 0} (id : TableId) (size : PathSize) where
           | inl same ↦
               let old = g.stops at_open n (sym same ∙ is) in
               (old.0, Contains-append_left seats (s ∷ []) old.0 old.1, old.2)
-          | inr same ↦ (s, Contains-push seats s, knows at_open n (sym same ∙ is))
+          | inr same ↦ (s, Contains-push seats s, why_is (Some (Stopped at_open n)) (sym same ∙ is))
         ];
         spent = λ is. elim one [
           | inl same ↦
               let old = g.spent (sym same ∙ is) in
               (old.0, Contains-append_left seats (s ∷ []) old.0 old.1, old.2)
-          | inr same ↦ (s, Contains-push seats s, knows_spent (sym same ∙ is))
+          | inr same ↦ (s, Contains-push seats s, why_is (Some Spent) (sym same ∙ is))
+        ];
+        rows = λ groups is. elim one [
+          | inl same ↦
+              let old = g.rows groups (sym same ∙ is) in
+              (old.0, Contains-append_left seats (s ∷ []) old.0 old.1, old.2)
+          | inr same ↦ (s, Contains-push seats s, why_is (Some (Rows groups)) (sym same ∙ is))
         ];
       }
 
@@ -154,4 +166,5 @@ module _ {K : Type 0} (id : TableId) (size : PathSize) where
     each = g.done;
     stops = g.stops;
     spent = g.spent;
+    rows = g.rows;
   }

@@ -1,23 +1,11 @@
 -- Two lists that rise by one key, and have the same members, are one list.
-use Rattle.std.proofs.Common.{
-  ◌≡◌,
-  ℕ,
-  ◌<◌,
-  inl,
-  inr,
-  List,
-  [],
-  ◌∷◌,
-  get_or,
-  refl,
-  sym,
-  ap,
-  ◌∙◌,
-  arith,
-}
+use Rattle.std.proofs.Common.{◌≡◌, ℕ, ◌<◌, ◌≤◌, inl, inr, List, [], ◌∷◌, get_or, length, refl, reverse, subst, sym, ap, ◌∙◌, arith}
 use Rattle.std.specs.Prelude.{Contains}
 use Rattle.std.specs.List.{AllPairs}
+use Rattle.std.proofs.Math.Seq.{get_or-append_seam}
+use Rattle.std.proofs.lemmas.List.{get_or_append_left, length_push, reverse-append}
 use Rattle.std.proofs.lemmas.List.Elements.{Contains-get_or}
+use Rattle.std.proofs.lemmas.List.Sorted.{Contains-permutation, IsPermutation-reverse}
 use Rattle.clog_base.proofs.Members.{first_or_further, further, here, nothing_there}
 use Rattle.path_core.specs.declared.note.EntryNote.{EntryNote}
 use Rattle.path_core.proofs.lists.Heads.{ahead, behind}
@@ -76,3 +64,17 @@ by_start notes rise some = λ i j d l h.
     let up = rise i j d l h in
     let long = some (get_or notes i d) (Contains-get_or notes i d (omega (arith, l, h))) in
     omega (arith, up, long)
+
+-- of entries with the newest first, the older ones lie below it
+pub newest_last : (x : EntryNote) (xs : List EntryNote) → Rise (reverse (x ∷ xs))
+    → (m : EntryNote) → Contains xs m → m.end.0 ≤ x.start.0
+newest_last x xs rise m among =
+    let ys = reverse xs in
+    let there = Contains-permutation xs ys m (IsPermutation-reverse xs) among in
+    let up = subst (λ (l : List EntryNote). Rise l) (reverse-append (x ∷ []) xs) rise in
+    let long = length_push ys x in
+    let pair = up there.0 (length ys) m there.1 (omega (arith, long)) in
+    let first = ap (λ (n : EntryNote). n.end.0)
+    (get_or_append_left ys (x ∷ []) m there.0 there.1 ∙ there.2) in
+    let last = ap (λ (n : EntryNote). n.start.0) (get_or-append_seam ys x [] m) in
+    omega (arith, pair, first, last)

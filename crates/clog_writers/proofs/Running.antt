@@ -24,7 +24,7 @@ use Rattle.std.proofs.Common.{
 use Rattle.std.specs.List.{range_with_len}
 use Rattle.std.specs.List.Sorted.{IsPermutation}
 use Rattle.std.proofs.lemmas.List.Elements.{All-contains}
-use Rattle.std.proofs.lemmas.List.Sorted.{IsPermutation-refl}
+use Rattle.std.proofs.lemmas.List.Sorted.{IsPermutation-refl, length_permutation}
 use Rattle.std.proofs.lemmas.Option.{none-some, same_Some}
 use Rattle.atomic_table.specs.Seated.{TableId}
 use Rattle.clog_base.specs.declared.sizes.Sizes.{Sizes}
@@ -34,17 +34,28 @@ use Rattle.path_core.specs.Keeper.{Holding, IsFresh}
 use Rattle.path_rule.specs.declared.lasting.Lasting.{Lasting}
 use Rattle.path_rule.specs.declared.trying.PathSeat.{PathSeat}
 use Rattle.path_rule.specs.declared.view.PathSize.{PathSize}
-use Rattle.write_path.specs.Closed.{AreStoppedFor, IsOutcome, StaysBeside}
+use Rattle.write_path.specs.Closed.{
+  AreStoppedFor,
+  FindsGroupsTo,
+  IsOutcome,
+  StaysBeside,
+  all_writes,
+}
 use Rattle.write_path.specs.Opened.{ShowsAsBefore, numbers_of, size_of}
 use Rattle.write_path.proofs.NonePassed.{logged_passes_none}
 use Rattle.write_path.proofs.Outcomes.{stays_beside}
 use Rattle.write_path.proofs.Spending.{segments_spent}
 use Rattle.clog_writers.specs.declared.fault.WriteFault.{WriteFault}
-use Rattle.clog_writers.specs.declared.fault.WriteFault.TheVariants.{OutOfMemory, Spent, Stopped}
+use Rattle.clog_writers.specs.declared.fault.WriteFault.TheVariants.{
+  OutOfMemory,
+  Rows,
+  Spent,
+  Stopped,
+}
 use Rattle.clog_writers.specs.declared.worker.Worker.{Worker}
 use Rattle.clog_writers.specs.Crews.{AreDealt, AreReady, HaveEnded, HaveLogged, IsSizedAs}
 use Rattle.clog_writers.specs.Logged.{EndsShares, GoesOnAlone, HoldFirsts, HoldShares}
-use Rattle.clog_writers.specs.Sealing.{SealShares}
+use Rattle.clog_writers.specs.Sealing.{WaitShares}
 use Rattle.clog_writers.proofs.Ending.{hold_shares, none_kept}
 use Rattle.clog_writers.proofs.FirstLogged.{hold_firsts, none_held, none_written}
 use Rattle.clog_writers.proofs.Totals.{few_writes}
@@ -88,15 +99,15 @@ module _ {K : Type 0} (id : TableId) (size : PathSize) (sizes : Sizes)
       subst (HaveLogged id size ms)
       (sym (written_back n now rest (omega (arith, long, a, b, same)))) logged
 
-  pub back_sealed : (n : ℕ) (ws now rest : List (Worker K)) → AreDealt sizes ms ws
-      → n ≡ length ws → HaveLogged id size ms now → SealShares now
-      → SealShares (take n (now ++ rest))
-  back_sealed n ws now rest dealt long logged seals =
+  pub back_waited : (n : ℕ) (ws now rest : List (Worker K)) → AreDealt sizes ms ws
+      → n ≡ length ws → HaveLogged id size ms now → WaitShares now
+      → WaitShares (take n (now ++ rest))
+  back_waited n ws now rest dealt long logged waits =
       let a = dealt.count in
       let b = logged.count in
       let same = sized.writers in
-      subst (λ (l : List (Worker K)). SealShares l)
-      (sym (written_back n now rest (omega (arith, long, a, b, same)))) seals
+      subst (λ (l : List (Worker K)). WaitShares l)
+      (sym (written_back n now rest (omega (arith, long, a, b, same)))) waits
 
 -- ---- seats
 
@@ -156,6 +167,8 @@ module _ {K : Type 0} (sizes : Sizes) (base : ℕ) (before now : Holding)
     stops = λ at_open n is. absurd (not_stopped at_open n is);
     spent = λ ms dealt no. absurd (let q : OutOfMemory ≡ Spent =
         same_Some OutOfMemory Spent no in cc);
+    rows = λ ms dealt groups no. absurd (let q : OutOfMemory ≡ Rows groups =
+        same_Some OutOfMemory (Rows groups) no in cc);
   }
 
   pub unopened : (workers : List (Worker K)) → ShowsAsBefore before now
@@ -210,4 +223,12 @@ module _ {K : Type 0} (sizes : Sizes) (base : ℕ) (before now : Holding)
           let most = segments_spent size seats end now o k.0 k.1 k.2.0 k.2.1 k.2.2 k.2.3 in
           let few = few_writes id size ms fault seats e in
           let same = ap (λ (z : PathSize). z.ordinals) is in omega (arith, most, few, same);
+      rows = λ ms given groups no_group.
+          let e = ended ms given in
+          let k = e.rows groups no_group in
+          let most = All-contains (FindsGroupsTo (length o.core.notes)) seats k.0 o.few_groups k.1
+          k.2.0 k.2.2 in
+          let long = length_permutation (all_writes seats) o.core.notes o.of_writes in
+          let few = few_writes id size ms fault seats e in
+          let next = k.2.1 in omega (arith, next, most, long, few);
     }

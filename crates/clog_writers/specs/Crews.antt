@@ -2,6 +2,7 @@
 use Rattle.std.specs.Prelude.{
   ◌≡◌,
   ℕ,
+  suc,
   ◌/◌,
   ◌<◌,
   ◌≤◌,
@@ -12,24 +13,32 @@ use Rattle.std.specs.Prelude.{
   Option,
   Some,
   None,
+  ⊤,
 }
 use Rattle.std.specs.List.{Contains}
 use Rattle.atomic_table.specs.Seated.{TableId}
 use Rattle.clog_base.specs.declared.sizes.Sizes.{Sizes}
 use Rattle.clog_mutation.specs.declared.mutation.Mutation.{Mutation}
 use Rattle.clog_applied.specs.History.{Line, share_of}
+use Rattle.op_core.specs.declared.count.Order.TheVariants.{Append}
 use Rattle.path_core.specs.declared.event.Cursor.TheVariants.{Stopped as StoppedCursor}
-use Rattle.path_core.specs.declared.event.Place.TheVariants.{CursorWord}
+use Rattle.path_core.specs.declared.event.Place.TheVariants.{Current, CursorWord}
 use Rattle.path_rule.specs.declared.trying.PathSeat.{PathSeat}
 use Rattle.path_rule.specs.declared.view.PathSize.{PathSize}
 use Rattle.path_rule.specs.Finds.{Finds}
+use Rattle.path_rule.specs.Layout.{group_rows}
 use Rattle.path_rule.specs.Members.{IsOf, part_of, view_of}
 use Rattle.write_path.specs.Commits.{WritesEndBelow}
 use Rattle.write_path.specs.Opened.{size_of}
 use Rattle.write_path.specs.Ends.{writes_of}
 use Rattle.write_path.specs.Promised.{WasSpent}
 use Rattle.clog_writers.specs.declared.fault.WriteFault.{WriteFault}
-use Rattle.clog_writers.specs.declared.fault.WriteFault.TheVariants.{Spent, Stopped}
+use Rattle.clog_writers.specs.declared.fault.WriteFault.TheVariants.{
+  OutOfMemory,
+  Rows,
+  Spent,
+  Stopped,
+}
 use Rattle.clog_writers.specs.declared.worker.Worker.{Worker}
 use Rattle.clog_writers.specs.Shares.{ArePrepared, LogsShare, logged_by}
 
@@ -76,7 +85,20 @@ module _ {K : Type 0} where
   KnowsSpent size s = (bytes key : ℕ) × (bytes ≤ size.capacity / 2)
       × WasSpent size bytes key (view_of s.member).trail
 
-  -- The worker has logged its lines, or the first of them.
+  -- the seat found that group of the append order current which is the last to have a word
+  abbrev pub KnowsRows : PathSeat K → Type 0
+  KnowsRows s = (last : ℕ) × (suc last ≡ group_rows)
+      × Finds (Current Append) last (view_of s.member).trail
+
+  -- the seat found why its lines were not all logged; of want of memory there is nothing to find
+  abbrev pub KnowsWhy : PathSize → Option WriteFault → PathSeat K → Type 0
+  KnowsWhy size None s = ⊤
+  KnowsWhy size (Some OutOfMemory) s = ⊤
+  KnowsWhy size (Some Spent) s = KnowsSpent size s
+  KnowsWhy size (Some (Stopped at_open now)) s = KnowsStopped now s
+  KnowsWhy size (Some (Rows groups)) s = KnowsRows s
+
+  -- The worker has logged its lines, or the first of them, and its seat knows why no more.
   pub record HasLogged (id : TableId) (size : PathSize) (number : ℕ) (lines : List Line)
       (w : Worker K) : Type 0 where
     pub seat : PathSeat K
@@ -84,9 +106,7 @@ module _ {K : Type 0} where
     pub of_path : IsOf id size seat.member
     pub number_is : seat.member.number ≡ number
     pub logs : LogsShare number lines (logged_by seat.member) w.fault
-    -- where the log has stopped, or has no room, its seat has found that
-    pub stops : (at_open now : ℕ) → w.fault ≡ Some (Stopped at_open now) → KnowsStopped now seat
-    pub spent : w.fault ≡ Some Spent → KnowsSpent size seat
+    pub why : KnowsWhy size w.fault seat
 
   -- each worker is ready to log its share
   pub record AreReady (id : TableId) (size : PathSize) (sizes : Sizes) (mutations : List Mutation)
@@ -111,7 +131,8 @@ module _ {K : Type 0} where
     pub synced : fault ≡ None → (key : ℕ) × ((part_of s.member).found.synced ≡ Some key)
         × WritesEndBelow key (view_of s.member).trail
 
-  -- So has each of these seats. Where the log has stopped, or has no room, one of them knows that.
+  -- So has each of these seats. Where the log has stopped, or has no room or no group, one of them
+  -- knows that.
   pub record HaveEnded (id : TableId) (size : PathSize) (mutations : List Mutation)
       (fault : Option WriteFault) (seats : List (PathSeat K)) : Type 0 where
     pub count : length seats ≡ size.seats
@@ -120,6 +141,8 @@ module _ {K : Type 0} where
     pub stops : (at_open now : ℕ) → fault ≡ Some (Stopped at_open now)
         → (s : PathSeat K) × Contains seats s × KnowsStopped now s
     pub spent : fault ≡ Some Spent → (s : PathSeat K) × Contains seats s × KnowsSpent size s
+    pub rows : (groups : ℕ) → fault ≡ Some (Rows groups)
+        → (s : PathSeat K) × Contains seats s × KnowsRows s
 
 -- The path was opened with these sizes over a keeper of this base.
 pub record IsOpenFor (sizes : Sizes) (base : ℕ) (size : PathSize) : Type 0 where

@@ -26,9 +26,10 @@ use Rattle.path_core.specs.declared.note.EntryNote.{EntryNote}
 use Rattle.path_core.specs.History.{IsHistory}
 use Rattle.path_core.specs.Keeper.{Holding}
 use Rattle.path_core.specs.Whole.{IsWhole}
+use Rattle.path_rule.specs.Layout.{group_rows}
 use Rattle.write_path.specs.Closed.{PassesNoSegment}
 use Rattle.clog_writers.specs.declared.fault.WriteFault.{WriteFault}
-use Rattle.clog_writers.specs.declared.fault.WriteFault.TheVariants.{Spent, Stopped}
+use Rattle.clog_writers.specs.declared.fault.WriteFault.TheVariants.{Rows, Spent, Stopped}
 use Rattle.clog_writers.specs.declared.worker.Worker.{Worker}
 use Rattle.clog_writers.specs.Crews.{AreDealt}
 use Rattle.clog_writers.specs.Shares.{AreFirstWrites, AreWritesOf}
@@ -87,3 +88,6 @@ pub record EndsShares {K : Type 0} (sizes : Sizes) (base : ℕ) (before now : Ho
   -- it has no room only for many lines
   pub spent : (mutations : List Mutation) → AreDealt sizes mutations workers → fault ≡ Some Spent
       → sizes.ordinals ≤ 1 + (2 * length mutations - 1)
+  -- and it has no group only for as many lines as there are groups, but for the first
+  pub rows : (mutations : List Mutation) → AreDealt sizes mutations workers → (groups : ℕ)
+      → fault ≡ Some (Rows groups) → group_rows ≤ 1 + length mutations

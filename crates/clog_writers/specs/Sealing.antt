@@ -1,5 +1,5 @@
 -- Writers in batch mode: behind each of a seat's entries stands a marker, before its next one.
-use Rattle.std.specs.Prelude.{◌≡◌, List, None, Some}
+use Rattle.std.specs.Prelude.{◌≡◌, List, ◌∷◌, Some}
 use Rattle.std.specs.List.{Contains}
 use Rattle.path_core.specs.declared.note.EntryNote.{EntryNote}
 use Rattle.path_rule.specs.declared.trying.PathSeat.{PathSeat}
@@ -13,16 +13,25 @@ use Rattle.clog_writers.specs.declared.worker.Worker.{Worker}
 abbrev pub IsAllSealed : List OwnStep → Type 0
 IsAllSealed trail = (n : EntryNote) → Contains (writes_of trail) n → IsSealed n trail
 
+-- each write of a seat with this trail but its newest is sealed
+abbrev pub AreEarlierSealed : List OwnStep → Type 0
+AreEarlierSealed trail = (newest : EntryNote) (earlier : List EntryNote)
+    → writes_of trail ≡ newest ∷ earlier → (n : EntryNote) → Contains earlier n → IsSealed n trail
+
 module _ {K : Type 0} where
   abbrev pub HasSealed : PathSeat K → Type 0
   HasSealed s = IsAllSealed (view_of s.member).trail
 
-  abbrev pub HaveSealed : List (PathSeat K) → Type 0
-  HaveSealed seats = (s : PathSeat K) → Contains seats s → HasSealed s
+  -- a seat logged nothing behind a write that is not sealed
+  abbrev pub HasWaited : PathSeat K → Type 0
+  HasWaited s = AreEarlierSealed (view_of s.member).trail
 
-  -- so is each of a worker's, where nothing was refused
-  abbrev pub SealsShare : Worker K → Type 0
-  SealsShare w = w.fault ≡ None → (s : PathSeat K) → w.seat ≡ Some s → HasSealed s
+  abbrev pub HaveWaited : List (PathSeat K) → Type 0
+  HaveWaited seats = (s : PathSeat K) → Contains seats s → HasWaited s
 
-  abbrev pub SealShares : List (Worker K) → Type 0
-  SealShares workers = (w : Worker K) → Contains workers w → SealsShare w
+  -- nor did a worker's, whatever was refused
+  abbrev pub WaitsShare : Worker K → Type 0
+  WaitsShare w = (s : PathSeat K) → w.seat ≡ Some s → HasWaited s
+
+  abbrev pub WaitShares : List (Worker K) → Type 0
+  WaitShares workers = (w : Worker K) → Contains workers w → WaitsShare w

@@ -1,6 +1,7 @@
 -- A writer's share of lines: its writes when they are prepared, and what it has logged of them.
 use Rattle.std.specs.Prelude.{
   ◌≡◌,
+  ◌⊎◌,
   ℕ,
   ◌≤◌,
   List,
@@ -15,9 +16,13 @@ use Rattle.std.specs.Prelude.{
 }
 use Rattle.std.specs.List.{AllPairs}
 use Rattle.clog_base.specs.declared.sizes.Sizes.{Sizes}
+use Rattle.clog_mutation.specs.declared.mutation.Mutation.{Mutation}
 use Rattle.clog_applied.specs.History.{Line}
 use Rattle.path_core.specs.declared.note.EntryNote.{EntryNote}
+use Rattle.path_rule.specs.declared.answer.SyncAnswer.{SyncAnswer}
+use Rattle.path_rule.specs.declared.answer.SyncAnswer.TheVariants as sync
 use Rattle.path_rule.specs.declared.table.Member.{Member}
+use Rattle.path_rule.specs.declared.view.OwnStep.{OwnStep}
 use Rattle.path_rule.specs.Members.{view_of}
 use Rattle.write_path.specs.declared.commit.Commit.{Commit}
 use Rattle.write_path.specs.declared.commit.Commit.TheVariants.{
@@ -33,6 +38,7 @@ use Rattle.write_path.specs.declared.commit.SyncFault.TheVariants.{
   Rows as NoRows,
 }
 use Rattle.write_path.specs.declared.prepared.Prepared.{Prepared}
+use Rattle.write_path.specs.Commits.{WritesEndBelow}
 use Rattle.write_path.specs.Ends.{writes_of}
 use Rattle.write_path.specs.Writes.{IsNoteOf, IsPrepared}
 use Rattle.clog_writers.specs.declared.fault.WriteFault.{WriteFault}
@@ -78,6 +84,20 @@ Rise notes = AllPairs (λ (a b : EntryNote). a.end.0 ≤ b.start.0) notes
 abbrev pub logged_by : {K : Type 0} → Member K → List EntryNote
 logged_by m = reverse (writes_of (view_of m).trail)
 
+-- A writer's list is what it was and one more write of what was prepared, behind all of it.
+pub record AddsWrite (writer : ℕ) (p : Prepared) (before after : List OwnStep) : Type 0 where
+  pub note : EntryNote
+  pub list : writes_of after ≡ note ∷ writes_of before
+  pub by : note.writer.0 ≡ writer
+  pub behind : WritesEndBelow note.start.0 before
+  pub of : (sizes : Sizes) (line : ℕ) (m : Mutation) → IsPrepared sizes line m p
+      → IsNoteOf line m note
+
+-- or it is what it was
+abbrev pub MayAddWrite : ℕ → Prepared → List OwnStep → List OwnStep → Type 0
+MayAddWrite writer p before after =
+    AddsWrite writer p before after ⊎ (writes_of after ≡ writes_of before)
+
 -- A writer logged the first of its lines, in order; and all of them, where nothing was refused.
 pub record LogsShare (writer : ℕ) (lines : List Line) (notes : List EntryNote)
     (fault : Option WriteFault) : Type 0 where
@@ -100,3 +120,10 @@ refusal_in (Logged r) = None
 refusal_in (Durable r) = None
 refusal_in (Unsynced r fault) = Some (fault_of fault)
 refusal_in (NoRoom back key) = Some Spent
+
+-- why a sync was refused, if it was
+abbrev pub refusal_of : SyncAnswer → Option WriteFault
+refusal_of (sync.Done key) = None
+refusal_of (sync.Stopped at_open now) = Some (Stopped at_open now)
+refusal_of sync.OutOfMemory = Some OutOfMemory
+refusal_of (sync.Rows groups) = Some (Rows groups)

@@ -2,7 +2,9 @@
 use Rattle.std.specs.Prelude.{
   ◌≡◌,
   ℕ,
+  ◌<◌,
   ◌≤◌,
+  ◌^◌,
   false,
   List,
   [],
@@ -85,10 +87,11 @@ pub record HasWrittenShares (options : ApplyOptions) (base : ℕ) (opened after 
   pub by_line : AreByLine history (length mutations) logged
   pub receipts_are : receipts ≡ map line_receipt logged
 
--- All lines were logged, and these are their receipts, in the order of the lines, whether or not
--- the disk tells anything.
+-- All lines were logged in segments from the id of a base on, and these are their receipts, in the
+-- order of the lines, whether or not the disk tells anything.
 pub record HasReceipts (sizes : Sizes) (base : ℕ) (mutations : List Mutation)
     (receipts : List Receipt) : Type 0 where
+  pub low : base < 2 ^ 62
   pub notes : List EntryNote
   pub holds : HoldShares sizes.capacity sizes.writers mutations notes
   pub placed : AreAtTheirLines base notes receipts

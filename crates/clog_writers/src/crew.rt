@@ -1,6 +1,6 @@
 //! The seats of a path are given to workers, all workers commit their shares in threads, and the
 //! seats come back.
-ghost use Rattle.std.specs.Prelude.{◌≡◌, ◌≤◌, ℕ, List, [], length, None, Some, vec_capacity};
+ghost use Rattle.std.specs.Prelude.{◌≡◌, ◌≤◌, ℕ, List, [], length, Some, vec_capacity};
 ghost use Rattle.clog_mutation.specs.declared.mutation.Mutation.{Mutation};
 ghost use Rattle.clog_applied.specs.History.{Line};
 ghost use Rattle.clog_writers.specs.Crews.{
@@ -12,18 +12,17 @@ ghost use Rattle.clog_writers.specs.Crews.{
   HaveLogged,
   IsReady,
   IsSizedAs,
-  KnowsSpent,
-  KnowsStopped,
+  KnowsWhy,
 };
-ghost use Rattle.clog_writers.specs.declared.fault.WriteFault.TheVariants.{Spent, Stopped};
-ghost use Rattle.clog_writers.specs.Sealing.{HasSealed, HaveSealed, SealShares, SealsShare};
+ghost use Rattle.clog_writers.specs.Sealing.{HasWaited, HaveWaited, WaitShares, WaitsShare};
 ghost use Rattle.sync_core.specs.declared.SyncCore.TheVariants.{Batch};
 ghost use Rattle.write_path.specs.Opened.{AreNew};
 
 use crate::fault::{WriteFault, first_of, refusal_of};
+use crate::syncing::Syncing;
 use crate::worker::{Worker, commit_share};
 use clog_base::Sizes;
-use clog_io::Gate;
+use clog_io::{Clock, Gate};
 use path_core::Keeper;
 use std::alloc::Global;
 use std::sync::Wait;
@@ -62,12 +61,14 @@ pub fn seat_all<K: Keeper + Drop>(
 }
 
 /// Each worker commits its share in a thread of its own, where one can be started.
-pub fn commit_all<R: Threads + Wait + Sync, K: Keeper + Send, G: Gate + Sync>(
+pub fn commit_all<R: Threads + Wait + Sync, K: Keeper + Send, G: Gate + Sync, C: Clock + Sync>(
     rt: &R,
     alloc: Global,
     path: &WritePath<K, Global>,
     sizes: Sizes,
+    syncing: Syncing,
     gate: &G,
+    clock: &C,
     workers: &mut [Worker<K>],
 )
     requires sized { IsSizedAs path.now.table.size sizes }
@@ -79,7 +80,7 @@ pub fn commit_all<R: Threads + Wait + Sync, K: Keeper + Send, G: Gate + Sync>(
         workers.old
         → HaveLogged path.now.table.table.shared.table_id path.now.table.size mutations
         workers.new }
-    ensures sealed { path.now.mode ≡ Batch → SealShares workers.new }
+    ensures waited { path.now.mode ≡ Batch → WaitShares workers.new }
 {
     thread::for_each_mut(
         rt,
@@ -95,8 +96,8 @@ pub fn commit_all<R: Threads + Wait + Sync, K: Keeper + Send, G: Gate + Sync>(
                 sizes number lines worker.old
                 → HasLogged path.entry.now.table.table.shared.table_id path.entry.now.table.size
                 number lines worker.new)
-                × (path.entry.now.mode ≡ Batch → SealsShare worker.new) }
-        { commit_share(rt, alloc, path, sizes, gate, worker) },
+                × (path.entry.now.mode ≡ Batch → WaitsShare worker.new) }
+        { commit_share(rt, alloc, path, sizes, syncing, gate, clock, worker) },
     );
 }
 
@@ -113,13 +114,10 @@ fn end_share<R: Wait, K: Keeper + Drop>(
         → HasLogged path.now.table.table.shared.table_id path.now.table.size number lines worker
         → HasEnded path.now.table.table.shared.table_id path.now.table.size number lines result.1
         result.0 }
-    ensures stops { (number : ℕ) (lines : List Line)
+    ensures why { (number : ℕ) (lines : List Line)
         → HasLogged path.now.table.table.shared.table_id path.now.table.size number lines worker
-        → (at_open now : ℕ) → result.1 ≡ Some (Stopped at_open now) → KnowsStopped now result.0 }
-    ensures sealed { SealsShare worker → result.1 ≡ None → HasSealed result.0 }
-    ensures spent { (number : ℕ) (lines : List Line)
-        → HasLogged path.now.table.table.shared.table_id path.now.table.size number lines worker
-        → result.1 ≡ Some Spent → KnowsSpent path.now.table.size result.0 }
+        → KnowsWhy path.now.table.size result.1 result.0 }
+    ensures waited { WaitsShare worker → HasWaited result.0 }
 {
     let Worker {
         seat,
@@ -153,7 +151,7 @@ pub fn end_all<R: Wait, K: Keeper + Drop>(
         workers.items
         → HaveEnded path.now.table.table.shared.table_id path.now.table.size mutations result
         seats.new.items }
-    ensures sealed { SealShares workers.items → result ≡ None → HaveSealed seats.new.items }
+    ensures waited { WaitShares workers.items → HaveWaited seats.new.items }
 {
     let mut first = None;
     for worker in workers {

@@ -14,7 +14,11 @@ ghost use Rattle.clog_lines.specs.Drained.{
 };
 ghost use Rattle.clog_spec.specs.Sizes.{most_tables};
 ghost use Rattle.clog_store.specs.StoreState.{holding_of};
-ghost use Rattle.clog_writers.specs.declared.fault.WriteFault.TheVariants.{Spent, Stopped};
+ghost use Rattle.clog_writers.specs.declared.fault.WriteFault.TheVariants.{
+  Rows,
+  Spent,
+  Stopped,
+};
 ghost use Rattle.clog_writers.specs.Written.{refused_as};
 
 use crate::fault::WriteFault;
@@ -94,6 +98,7 @@ pub(crate) fn drain_asked<D: Disk>(
         (holding_of D.files D.changes D.moment D.faults D.row.coded.code store.new)
         store.new.notes.logged }
     ensures spent { result ≡ Some Spent → fault ≡ Some Spent }
+    ensures rows { (groups : ℕ) → result ≡ Some (Rows groups) → fault ≡ Some (Rows groups) }
     ensures begun { HasNoDeeds
         (holding_of D.files D.changes D.moment D.faults D.row.coded.code store.new)
         ⊎ ((drain ≡ true) × (fault ≡ None) × HasBegun

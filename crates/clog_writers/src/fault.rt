@@ -1,10 +1,7 @@
 //! Why lines were not all logged by their writers.
-ghost use Rattle.std.specs.Prelude.{◌≡◌, ◌⊎◌, ℕ, None, Some};
-ghost use Rattle.clog_writers.specs.declared.fault.WriteFault.TheVariants.{Spent, Stopped};
-ghost use Rattle.path_rule.specs.declared.answer.SyncAnswer.TheVariants.{
-  Done,
-  Stopped as LogStopped,
-};
+ghost use Rattle.std.specs.Prelude.{◌≡◌, ◌⊎◌, ℕ, None};
+ghost use Rattle.clog_writers.specs.Shares.{refusal_of};
+ghost use Rattle.path_rule.specs.declared.answer.SyncAnswer.TheVariants.{Done};
 
 use std::alloc::{AllocError, AllocFailed};
 use write_path::SyncAnswer;
@@ -69,10 +66,8 @@ impl<T: Drop> From<AllocFailed<T>> for PlanFault {
 
 /// Why a sync was refused, if it was.
 pub(crate) fn refusal_of(answer: SyncAnswer) -> Option<WriteFault>
+    ensures is { result ≡ refusal_of answer }
     ensures done { result ≡ None → (key : ℕ) × (answer ≡ Done key) }
-    ensures stopped { (at_open now : ℕ) → result ≡ Some (Stopped at_open now)
-        → answer ≡ LogStopped at_open now }
-    ensures not_spent { result ≡ Some Spent → ⊥ }
 {
     match answer {
         SyncAnswer::Done(_) => None,

@@ -13,6 +13,7 @@ mod logging;
 mod placing;
 mod planning;
 mod rows;
+mod syncing;
 #[cfg(test)]
 mod tests;
 mod worker;
@@ -27,5 +28,6 @@ pub use laws::{
 pub use logging::log_shares;
 pub use planning::{Plan, make_plan};
 pub use rows::a_line_comes_behind_the_earlier_ones_of_its_writer;
+pub use syncing::Syncing;
 pub use worker::Worker;
 pub use writing::write_plan;

@@ -1,6 +1,7 @@
 //! Workers log their shares over a keeper: a path is opened, its seats are given to them, they
 //! commit in threads, each seat has the log synced at the end, and the path is closed. In batch
-//! mode a marker stands then between each two entries of one writer.
+//! mode a marker stands between each two entries of one writer that are lasting, whatever was
+//! refused.
 ghost use Rattle.std.specs.Prelude.{◌≡◌, ◌<◌, ◌≤◌, ◌^◌, ℕ, List, [], None, vec_capacity};
 ghost use Rattle.clog_mutation.specs.declared.mutation.Mutation.{Mutation};
 ghost use Rattle.clog_writers.specs.Crews.{AreDealt, IsOpenFor};
@@ -12,23 +13,25 @@ ghost use Rattle.write_path.specs.Opened.{AreNew};
 
 use crate::crew::{commit_all, end_all, seat_all};
 use crate::fault::WriteFault;
+use crate::syncing::Syncing;
 use crate::worker::Worker;
 use clog_base::{OutOfMemory, Sizes};
-use clog_io::Gate;
+use clog_io::{Clock, Gate};
 use path_core::Keeper;
 use std::alloc::Global;
 use std::sync::Wait;
 use std::thread::Threads;
-use sync_core::SyncCore;
 use write_path::{PathSeat, WritePath};
 
 // Workers log their shares over an open path, whose seats are handed out; then it is closed.
-fn run_crew<R: Threads + Wait + Sync, K: Keeper + Send + Drop, G: Gate + Sync>(
+fn run_crew<R: Threads + Wait + Sync, K: Keeper + Send + Drop, G: Gate + Sync, C: Clock + Sync>(
     rt: &R,
     alloc: Global,
     path: WritePath<K, Global>,
     sizes: Sizes,
+    syncing: Syncing,
     gate: &G,
+    clock: &C,
     workers: Vec<Worker<K>>,
     handed: Vec<PathSeat<K>>,
     room: Vec<PathSeat<K>>,
@@ -43,13 +46,21 @@ fn run_crew<R: Threads + Wait + Sync, K: Keeper + Send + Drop, G: Gate + Sync>(
     ensures ends { (base : ℕ) (before : Holding) → IsOpenFor sizes base path.table.size
         → K.holds path.table.table.shared.key.first.value ≡ before → IsFresh base sizes before
         → EndsShares sizes base before (K.holds result.0) workers.items result.1 }
-    ensures apart { path.mode ≡ Batch → result.1 ≡ None
-        → StandApart sizes.capacity (K.holds result.0).logged }
+    ensures apart { path.mode ≡ Batch → StandApart sizes.capacity (K.holds result.0).logged }
 {
     let mut workers = workers;
     let mut seats = room;
     seat_all(&path, sizes, workers.as_mut_slice(), handed);
-    commit_all(rt, alloc, &path, sizes, gate, workers.as_mut_slice());
+    commit_all(
+        rt,
+        alloc,
+        &path,
+        sizes,
+        syncing,
+        gate,
+        clock,
+        workers.as_mut_slice(),
+    );
     let fault = end_all(rt, alloc, &path, workers, &mut seats);
     let (keeper, _end) = path.close(seats);
     (keeper, fault)
@@ -57,14 +68,20 @@ fn run_crew<R: Threads + Wait + Sync, K: Keeper + Send + Drop, G: Gate + Sync>(
 
 /// Logs the lines that were dealt out to workers, over a keeper that was just opened. There is room
 /// for a seat of each. Whatever is refused, the keeper does nothing beside its log. The gate is
-/// told how far each commit is.
-pub fn log_shares<R: Threads + Wait + Sync, K: Keeper + Send + Drop, G: Gate + Sync>(
+/// told how far each commit is; in periodic mode the clock is asked behind each one.
+pub fn log_shares<
+    R: Threads + Wait + Sync,
+    K: Keeper + Send + Drop,
+    G: Gate + Sync,
+    C: Clock + Sync,
+>(
     rt: &R,
     alloc: Global,
     keeper: K,
     sizes: Sizes,
-    mode: SyncCore,
+    syncing: Syncing,
     gate: &G,
+    clock: &C,
     base: u64,
     workers: Vec<Worker<K>>,
     room: Vec<PathSeat<K>>,
@@ -76,15 +93,16 @@ pub fn log_shares<R: Threads + Wait + Sync, K: Keeper + Send + Drop, G: Gate + S
     requires void { room.items ≡ [] }
     ensures ends { EndsShares sizes base (K.holds keeper) (K.holds result.0) workers.items
         result.1 }
-    ensures apart { mode ≡ Batch → result.1 ≡ None
-        → StandApart sizes.capacity (K.holds result.0).logged }
+    ensures apart { syncing.mode ≡ Batch → StandApart sizes.capacity (K.holds result.0).logged }
 {
-    let mut path = match WritePath::open(alloc, keeper, sizes, base, mode) {
+    let mut path = match WritePath::open(alloc, keeper, sizes, base, syncing.mode) {
         Ok(path) => path,
         Err((keeper, OutOfMemory)) => return (keeper, Some(WriteFault::OutOfMemory)),
     };
     match path.seats(alloc) {
-        Ok(handed) => run_crew(rt, alloc, path, sizes, gate, workers, handed, room),
+        Ok(handed) => run_crew(
+            rt, alloc, path, sizes, syncing, gate, clock, workers, handed, room,
+        ),
         Err(_) => {
             let (keeper, _end) = path.close(room);
             (keeper, Some(WriteFault::OutOfMemory))

@@ -4,10 +4,10 @@ ghost use Rattle.std.specs.Prelude.{IfOk};
 ghost use Rattle.std.specs.List.{AllByRecursion};
 ghost use Rattle.clog_mutation.specs.Limits.{IsWithinLimits};
 
-use crate::{make_plan, write_plan};
+use crate::{Syncing, make_plan, write_plan};
 use clog_base::{Sizes, Table, segment_name, table_name};
 use clog_disk::{Disk, MemDisk};
-use clog_io::OpenGate;
+use clog_io::{FixedClock, OpenGate};
 use clog_mutation::{Mutation, decode};
 use clog_store::Store;
 use std::alloc::Global;
@@ -56,7 +56,8 @@ fn lines_of(alloc: Global, payloads: &[&[u8]]) -> Result<Vec<Mutation>, Fail>
     Ok(lines)
 }
 
-// So many writers log three deletions to an empty disk in a mode, at 1000 ms, and drain it or not.
+// So many writers log three deletions to an empty disk in a mode, and drain it or not. It is opened
+// at 1000 ms, and the clock stands at 1010 ms.
 fn three_by<R: Threads + Wait + Sync>(
     rt: &R,
     alloc: Global,
@@ -77,7 +78,13 @@ fn three_by<R: Threads + Wait + Sync>(
     let Ok(plan) = make_plan(alloc, sizes, lines) else {
         return Err(Fail::new("no plan"));
     };
-    match write_plan(rt, alloc, store, sizes, mode, &OpenGate::new(), plan, drain) {
+    let syncing = Syncing {
+        mode,
+        since_ms: 1000,
+    };
+    let gate = OpenGate::new();
+    let clock = FixedClock::new(1010);
+    match write_plan(rt, alloc, store, sizes, syncing, &gate, &clock, plan, drain) {
         (disk, Ok(receipts)) => Ok((disk, receipts)),
         (_, Err(_)) => Err(Fail::new("not written")),
     }

@@ -1,36 +1,36 @@
 //! A writer in its thread: it commits the writes of its share, one after another. In batch mode
-//! each commit waits for the sync of its entry.
-ghost use Rattle.std.specs.Prelude.{◌≡◌, ℕ, List, [], None, Some};
+//! each commit waits for the sync of its entry; in periodic mode it has the log synced where the
+//! period has passed.
+ghost use Rattle.std.specs.Prelude.{◌≡◌, ℕ, List, [], None};
+ghost use Rattle.clog_base.specs.declared.sizes.Sizes.{Sizes};
+ghost use Rattle.clog_mutation.specs.declared.mutation.Mutation.{Mutation};
 ghost use Rattle.clog_applied.specs.History.{Line};
-ghost use Rattle.clog_writers.specs.Crews.{
-  HasLogged,
-  IsReady,
-  IsSizedAs,
-  KnowsSpent,
-  KnowsStopped,
-};
-ghost use Rattle.clog_writers.specs.Sealing.{HasSealed, SealsShare};
+ghost use Rattle.clog_writers.specs.Crews.{HasLogged, IsReady, IsSizedAs, KnowsWhy};
+ghost use Rattle.clog_writers.specs.Sealing.{HasSealed, HasWaited, WaitsShare};
 ghost use Rattle.clog_writers.specs.Shares.{
+  AddsWrite,
   ArePrepared,
   LogsShare,
+  MayAddWrite,
   fault_of,
   logged_by,
   refusal_in,
 };
-ghost use Rattle.clog_writers.specs.declared.fault.WriteFault.{WriteFault as WriteFaultOf};
-ghost use Rattle.clog_writers.specs.declared.fault.WriteFault.TheVariants.{Spent, Stopped};
 ghost use Rattle.path_rule.specs.Members.{IsOf, view_of};
-ghost use Rattle.sync_core.specs.declared.SyncCore.TheVariants.{Batch, Periodic};
+ghost use Rattle.sync_core.specs.declared.SyncCore.TheVariants.{Batch};
 ghost use Rattle.write_path.specs.Ends.{writes_of};
 ghost use Rattle.write_path.specs.Tries.{Stays};
+ghost use Rattle.write_path.specs.Writes.{IsPrepared};
 
 use crate::fault::WriteFault;
+use crate::syncing::{Syncing, sync_when_due};
 use clog_base::Sizes;
-use clog_io::Gate;
+use clog_io::{Clock, Gate};
 use path_core::Keeper;
 use std::alloc::Global;
 use std::mem;
 use std::sync::Wait;
+use sync_core::SyncCore;
 use write_path::{Commit, PathSeat, Prepared, SyncFault, WritePath};
 
 /// A writer: its seat of the path, and the writes of its share.
@@ -66,13 +66,51 @@ fn refusal_in(commit: Commit) -> Option<WriteFault>
     }
 }
 
-// Commits writes one after another, by a seat that has written nothing, until one is refused.
-fn commit_writes<R: Wait, K: Keeper, G: Gate>(
+// Commits a write, and behind it has the log synced where that is due. It tells when the seat last
+// had the log synced, and why the write was not logged, or a sync was refused.
+fn commit_one<R: Wait, K: Keeper, G: Gate, C: Clock>(
+    rt: &R,
+    alloc: Global,
+    path: &WritePath<K, Global>,
+    mode: SyncCore,
+    gate: &G,
+    clock: &C,
+    last_ms: u64,
+    seat: PathSeat<K>,
+    prepared: Prepared,
+) -> (PathSeat<K>, u64, Option<WriteFault>)
+    requires table { IsOf path.now.table.table.shared.table_id path.now.table.size seat.member }
+    requires prepared { (sizes : Sizes) × (line : ℕ) × (m : Mutation)
+        × IsPrepared sizes line m prepared × (sizes.tables ≡ path.now.table.size.tables)
+        × (sizes.capacity ≡ path.now.table.size.capacity) }
+    ensures same { Stays path.now.table.table.shared.table_id path.now.table.size seat.member
+        result.0.member }
+    ensures logged { result.2 ≡ None → AddsWrite seat.member.number prepared
+        (view_of seat.member).trail (view_of result.0.member).trail }
+    ensures may { MayAddWrite seat.member.number prepared (view_of seat.member).trail
+        (view_of result.0.member).trail }
+    ensures why { KnowsWhy path.now.table.size result.2 result.0 }
+    ensures sealed { path.now.mode ≡ Batch → HasSealed seat → result.2 ≡ None
+        → HasSealed result.0 }
+    ensures waited { path.now.mode ≡ Batch → HasSealed seat → HasWaited result.0 }
+{
+    let (seat, commit) = path.commit(rt, alloc, seat, prepared, gate);
+    match refusal_in(commit) {
+        None => sync_when_due(rt, alloc, path, mode, clock, last_ms, seat),
+        Some(fault) => (seat, last_ms, Some(fault)),
+    }
+}
+
+// Commits writes one after another, by a seat that has written nothing, until one is refused, or a
+// sync behind it.
+fn commit_writes<R: Wait, K: Keeper, G: Gate, C: Clock>(
     rt: &R,
     alloc: Global,
     path: &WritePath<K, Global>,
     sizes: Sizes,
+    syncing: Syncing,
     gate: &G,
+    clock: &C,
     seat: PathSeat<K>,
     writes: Vec<Prepared>,
 ) -> (PathSeat<K>, Option<WriteFault>)
@@ -84,18 +122,27 @@ fn commit_writes<R: Wait, K: Keeper, G: Gate>(
         result.0.member }
     ensures logs { (lines : List Line) → ArePrepared sizes lines writes.items
         → LogsShare seat.member.number lines (logged_by result.0.member) result.1 }
-    ensures periodic { (period : ℕ) → path.now.mode ≡ Periodic period → (f : WriteFaultOf)
-        → result.1 ≡ Some f → f ≡ Spent }
-    ensures stops { (at_open now : ℕ) → result.1 ≡ Some (Stopped at_open now)
-        → KnowsStopped now result.0 }
-    ensures spent { result.1 ≡ Some Spent → KnowsSpent path.now.table.size result.0 }
+    ensures why { KnowsWhy path.now.table.size result.1 result.0 }
     ensures sealed { path.now.mode ≡ Batch → result.1 ≡ None → HasSealed result.0 }
+    ensures waited { path.now.mode ≡ Batch → HasWaited result.0 }
 {
     let mut seat = seat;
+    let mut last_ms = syncing.since_ms;
     for prepared in writes {
-        let (next, commit) = path.commit(rt, alloc, seat, prepared, gate);
+        let (next, synced_ms, fault) = commit_one(
+            rt,
+            alloc,
+            path,
+            syncing.mode,
+            gate,
+            clock,
+            last_ms,
+            seat,
+            prepared,
+        );
         seat = next;
-        match refusal_in(commit) {
+        last_ms = synced_ms;
+        match fault {
             None => {}
             Some(fault) => return (seat, Some(fault)),
         }
@@ -104,12 +151,14 @@ fn commit_writes<R: Wait, K: Keeper, G: Gate>(
 }
 
 /// Commits the writes of a worker's share, until one is refused.
-pub fn commit_share<R: Wait, K: Keeper, G: Gate>(
+pub fn commit_share<R: Wait, K: Keeper, G: Gate, C: Clock>(
     rt: &R,
     alloc: Global,
     path: &WritePath<K, Global>,
     sizes: Sizes,
+    syncing: Syncing,
     gate: &G,
+    clock: &C,
     worker: &mut Worker<K>,
 )
     requires sized { IsSizedAs path.now.table.size sizes }
@@ -121,12 +170,14 @@ pub fn commit_share<R: Wait, K: Keeper, G: Gate>(
         worker.old
         → HasLogged path.now.table.table.shared.table_id path.now.table.size number lines
         worker.new }
-    ensures sealed { path.now.mode ≡ Batch → SealsShare worker.new }
+    ensures waited { path.now.mode ≡ Batch → WaitsShare worker.new }
 {
     let writes = mem::replace(&mut worker.writes, Vec::new(alloc));
     match worker.seat.take() {
         Some(seat) => {
-            let (seat, fault) = commit_writes(rt, alloc, path, sizes, gate, seat, writes);
+            let (seat, fault) = commit_writes(
+                rt, alloc, path, sizes, syncing, gate, clock, seat, writes,
+            );
             worker.seat = Some(seat);
             worker.fault = fault;
         }

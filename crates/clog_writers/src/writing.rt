@@ -5,7 +5,9 @@ ghost use Rattle.std.specs.Prelude.{
   ◌+◌,
   ◌-◌,
   ◌*◌,
+  ◌<◌,
   ◌≤◌,
+  ◌^◌,
   ℕ,
   List,
   None,
@@ -14,6 +16,7 @@ ghost use Rattle.std.specs.Prelude.{
   is_some,
   length,
   Err,
+  Ok,
   option_map,
   IfOk,
 };
@@ -26,7 +29,12 @@ ghost use Rattle.clog_mutation.specs.declared.mutation.Mutation.{Mutation as Mut
 ghost use Rattle.clog_words.specs.declared.request.ApplyOptions.{ApplyOptions};
 ghost use Rattle.clog_store.specs.StoreFailed.{AllStay};
 ghost use Rattle.clog_store.specs.StoreState.{store_over};
-ghost use Rattle.clog_writers.specs.declared.fault.WriteFault.TheVariants.{Spent, Stopped};
+ghost use Rattle.path_rule.specs.Layout.{group_rows};
+ghost use Rattle.clog_writers.specs.declared.fault.WriteFault.TheVariants.{
+  Rows,
+  Spent,
+  Stopped,
+};
 ghost use Rattle.clog_writers.specs.Left.{LeavesShares, WritesShares, least_of};
 ghost use Rattle.clog_writers.specs.Planned.{IsPlanFor};
 ghost use Rattle.clog_writers.specs.Written.{
@@ -41,15 +49,15 @@ use crate::fault::WriteFault;
 use crate::logging::log_shares;
 use crate::placing::place_receipts;
 use crate::planning::Plan;
+use crate::syncing::Syncing;
 use clog_base::Sizes;
 use clog_closing::stores_are_left;
 use clog_disk::Disk;
-use clog_io::Gate;
+use clog_io::{Clock, Gate};
 use clog_store::Store;
 use std::alloc::Global;
 use std::sync::Wait;
 use std::thread::Threads;
-use sync_core::SyncCore;
 use write_path::Receipt;
 
 // How lines were written, by the disk's counts of faults before and now: with their receipts, where
@@ -65,6 +73,8 @@ fn ended(
     ensures ok { IfOk result (λ r. (r ≡ receipts) × (fault ≡ None) × (Rose at_open now → ⊥)) }
     ensures cause { HasShareCause at_open now result }
     ensures spent { result ≡ Err Spent → fault ≡ Some Spent }
+    ensures rows { (groups : ℕ) → result ≡ Err (Rows groups) → fault ≡ Some (Rows groups) }
+    ensures done { fault ≡ None → now ≡ at_open → now < 2 ^ 64 - 1 → result ≡ Ok receipts }
 {
     if now != at_open || now == u64::MAX {
         return Err(WriteFault::Stopped { at_open, now });
@@ -89,7 +99,8 @@ fn disks_read_now<D: Disk>(_store: &Store<D>)
 /// sizes say, each in a thread of its own where one can be started, and gives the disk back. Line
 /// `n`, from 1, is written by the writer of number `n` modulo their count, each writer's lines in
 /// order, and each writer has the log synced at the end; in batch mode behind each of its lines,
-/// before its next one. With `drain` a table file is put then for each table that one of them
+/// before its next one, and in periodic mode behind each one at which the clock tells that the
+/// period has passed since its last sync. With `drain` a table file is put then for each table that one of them
 /// touches, and all segments go, each with its archive name first where the store archives. The
 /// receipts are in the order of the lines. The gate is told how far each commit is.
 ///
@@ -102,14 +113,16 @@ fn disks_read_now<D: Disk>(_store: &Store<D>)
 ///
 /// `OutOfMemory`: memory was refused for the path, by a sync or for the drain's table files;
 /// `Spent`: the log has no further segment, so it may have at most two segments for each line;
-/// `Rows`: no further group for a barrier; `Stopped`: the disk has failed, with its fault counts.
-pub fn write_plan<R: Threads + Wait + Sync, D: Disk + Send + Drop, G: Gate + Sync>(
+/// `Rows`: no further group for a barrier, so there are at least 65,535 lines; `Stopped`: the disk
+/// has failed, with its fault counts.
+pub fn write_plan<R: Threads + Wait + Sync, D: Disk + Send + Drop, G: Gate + Sync, C: Clock + Sync>(
     rt: &R,
     alloc: Global,
     store: Store<D>,
     sizes: Sizes,
-    mode: SyncCore,
+    syncing: Syncing,
     gate: &G,
+    clock: &C,
     plan: Plan<Store<D>>,
     drain: bool,
 ) -> (D, Result<Vec<Receipt>, WriteFault>)
@@ -120,7 +133,7 @@ pub fn write_plan<R: Threads + Wait + Sync, D: Disk + Send + Drop, G: Gate + Syn
     requires plan { (mutations : List MutationOf) × IsPlanFor sizes mutations plan }
     ensures written { (mutations : List MutationOf) (options : ApplyOptions) (opened : Files)
         (made : List Change) → IsPlanFor sizes mutations plan
-        → IsAskedBy options store.notes.sizes mode store.archives drain
+        → IsAskedBy options store.notes.sizes syncing.mode store.archives drain
         → D.files store.notes.log.disk ≡ Some opened → D.changes store.notes.log.disk ≡ Some made
         → IfOk result.1 (λ receipts. TellsWrittenShares options store.notes.base opened made
         (D.files result.0) (D.changes result.0) mutations receipts.items) }
@@ -134,6 +147,8 @@ pub fn write_plan<R: Threads + Wait + Sync, D: Disk + Send + Drop, G: Gate + Syn
         (least_of result.1 mutations) }
     ensures spent { (mutations : List MutationOf) → IsPlanFor sizes mutations plan
         → result.1 ≡ Err Spent → sizes.ordinals ≤ 1 + (2 * length mutations - 1) }
+    ensures rows { (mutations : List MutationOf) → IsPlanFor sizes mutations plan → (groups : ℕ)
+        → result.1 ≡ Err (Rows groups) → group_rows ≤ 1 + length mutations }
     ensures wrote { (mutations : List MutationOf) → IsPlanFor sizes mutations plan
         → WritesShares D.files D.changes store.notes.log.disk result.0 store.notes.base
         store.archives drain sizes.writers mutations }
@@ -155,7 +170,9 @@ pub fn write_plan<R: Threads + Wait + Sync, D: Disk + Send + Drop, G: Gate + Syn
         receipts,
     } = plan;
     let mut receipts = receipts;
-    let (store, fault) = log_shares(rt, alloc, store, sizes, mode, gate, base, workers, room);
+    let (store, fault) = log_shares(
+        rt, alloc, store, sizes, syncing, gate, clock, base, workers, room,
+    );
     let mut store = store;
     place_receipts(base, store.logged(), receipts.as_mut_slice());
     let fault = drain_asked(alloc, &mut store, at_open, drain, fault);

@@ -12,3 +12,12 @@ pub mod SameBoxes
 pub mod PutAt
 pub mod FewNotes
 pub mod DeskLent
+pub mod MemtablesStay
+pub mod MemtablePut
+pub mod OtherBoxes
+pub mod InItsBox
+pub mod Switching
+pub mod ReadsStay
+pub mod MemtableReads
+pub mod SeenInterval
+pub mod OneInHand

@@ -7,3 +7,4 @@ pub mod TrailsTell
 pub mod KeptStays
 pub mod OwnWrites
 pub mod StoppedTakes
+pub mod Deposits

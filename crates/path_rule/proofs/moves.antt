@@ -1,4 +1,5 @@
 -- Steps: that one which the machine allows keeps the rule, and what each kind owes for it.
+pub mod LeavesWrites
 pub mod Moving
 pub mod StepFacts
 pub mod Looks
@@ -23,3 +24,6 @@ pub mod RefusedSyncs
 pub mod DepositSteps
 pub mod AppendMoved
 pub mod FinishSteps
+pub mod MemtableSteps
+pub mod ReadSteps
+pub mod RetireSteps

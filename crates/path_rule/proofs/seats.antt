@@ -24,3 +24,5 @@ pub mod SwitchStages
 pub mod OldestBelow
 pub mod OldestMoves
 pub mod BarrierIssues
+pub mod Applying
+pub mod PlaceStays

@@ -1,7 +1,9 @@
 -- What boxes hold, and what seats know of those that they have.
 --
 -- Box 0 is the desk of the Sync turn. Behind it each seat has two boxes for the entries that it
--- deposits: one for the even and one for the odd groups of the append order.
+-- deposits: one for the even and one for the odd groups of the append order. Behind these each seat
+-- has two boxes for each of sixteen tables, for what it put into the table's memtables: one for the
+-- even and one for the odd ones.
 use Rattle.std.specs.Prelude.{
   ◌≡◌,
   ℕ,
@@ -38,9 +40,17 @@ desk_box = 0
 abbrev pub box_of : ℕ → ℕ → ℕ
 box_of w g = 1 + 2 * w + g % 2
 
--- how many boxes there are
+-- how many of these boxes there are, the desk among them
 abbrev pub boxes : ℕ → ℕ
 boxes seats = 1 + 2 * seats
+
+-- the box of a seat for a table and a memtable's parity
+abbrev pub memtable_box : ℕ → ℕ → ℕ → ℕ → ℕ
+memtable_box seats w t m = 1 + 2 * seats + 32 * w + 2 * t + m % 2
+
+-- how many boxes there are in all
+abbrev pub all_boxes : ℕ → ℕ
+all_boxes seats = 1 + 34 * seats
 
 -- Which boxes a seat has is told by its view: its own one while it is in a group of the append
 -- order, the desk while it holds the Sync turn, and the one of another seat that it took.

@@ -1,10 +1,25 @@
 -- What a seat knows of its boxes after a step that moves one, or that changes what stands on the
 -- desk of the Sync turn.
-use Rattle.std.specs.Prelude.{ℕ, suc, ◌==◌, ◌||◌, false, List, [], ◌++◌, Option, Some, None}
+use Rattle.std.specs.Prelude.{
+  ℕ,
+  suc,
+  ◌==◌,
+  ◌||◌,
+  false,
+  List,
+  [],
+  ◌∷◌,
+  ◌++◌,
+  Option,
+  Some,
+  None,
+}
 use Rattle.std.specs.Option.{option_map}
 use Rattle.path_core.specs.declared.note.EntryNote.{EntryNote}
 use Rattle.path_core.specs.declared.seat.LastMarker.{LastMarker}
+use Rattle.path_core.specs.declared.state.Placed.{Placed}
 use Rattle.path_rule.specs.declared.lasting.Lasting.{Lasting}
+use Rattle.path_rule.specs.declared.view.FlushRead.{FlushRead}
 use Rattle.path_rule.specs.declared.view.Hands.{Hands}
 use Rattle.path_rule.specs.declared.view.Progress.{Progress}
 
@@ -59,3 +74,39 @@ with_marker w key h = record h {
 -- The desk tells that the barrier of the last marker is issued.
 abbrev pub issued_hands : ℕ → Hands → Hands
 issued_hands group h = with_desk h.lasting h.pending (barred group h.progress) h
+
+-- its box of a memtable was taken, with these notes in it
+abbrev pub with_held : ℕ → List EntryNote → Hands → Hands
+with_held b held h = record h { memtable_box = Some b; held = held }
+
+-- that box is at home again, with an entry that the seat put into it
+abbrev pub with_applied : Placed → Hands → Hands
+with_applied a h = record h { memtable_box = None; held = []; applied = a ∷ h.applied }
+
+-- as the holder of a Flush turn it has read this of a memtable, or reads none
+abbrev pub with_reading : Option FlushRead → Hands → Hands
+with_reading q h = record h { reading = q }
+
+-- nothing of the memtable is read yet
+abbrev pub first_read : ℕ → ℕ → FlushRead
+first_read t m = record {
+  table = t;
+  memtable = m;
+  seen = [];
+  seen_to = 0;
+  taken = None;
+  held = [];
+}
+
+-- the box of the next seat was taken, with these notes in it
+abbrev pub box_read : ℕ → List EntryNote → FlushRead → FlushRead
+box_read b held q = record q { taken = Some b; held = held }
+
+-- it is at home again, and what it held was seen
+abbrev pub box_seen : FlushRead → FlushRead
+box_seen q = record q {
+  seen = q.seen ++ q.held;
+  seen_to = suc q.seen_to;
+  taken = None;
+  held = [];
+}

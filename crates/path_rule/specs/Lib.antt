@@ -4,6 +4,10 @@ pub mod Lasts
 pub mod Kept
 pub mod Boxes
 pub mod Boxed
+pub mod Memtables
+pub mod Reads
+pub mod Flushes
+pub mod Seen
 pub mod Finds
 pub mod Trails
 pub mod Rule
@@ -18,6 +22,7 @@ pub mod Calls
 pub mod Switches
 pub mod SyncEnd
 pub mod Members
+pub mod Applying
 pub mod Passes
 pub mod Rounds
 pub mod Sweeps
@@ -28,3 +33,4 @@ pub mod Switched
 pub mod Sharing
 pub mod FirstBoxes
 pub mod Stopped
+pub mod InBoxes

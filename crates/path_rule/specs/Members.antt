@@ -3,6 +3,7 @@ use Rattle.std.specs.Prelude.{◌≡◌, ℕ, List, [], ◌∷◌, ◌++◌, Opt
 use Rattle.std.specs.List.Sorted.{IsPermutation}
 use Rattle.atomic_table.specs.Seated.{TableId}
 use Rattle.atomic_table.specs.Table.{rest}
+use Rattle.clog_base.specs.declared.cell.Table.{Table}
 use Rattle.path_core.specs.declared.event.Event.{Event}
 use Rattle.path_core.specs.declared.note.EntryNote.{EntryNote}
 use Rattle.path_core.specs.declared.seat.Seat.{Seat}
@@ -13,7 +14,7 @@ use Rattle.path_rule.specs.declared.view.Hands.{Hands}
 use Rattle.path_rule.specs.declared.view.PathSize.{PathSize}
 use Rattle.path_rule.specs.declared.view.Returned.{Returned}
 use Rattle.path_rule.specs.declared.view.View.{View}
-use Rattle.path_rule.specs.Boxes.{box_of}
+use Rattle.path_rule.specs.Boxes.{box_of, memtable_box}
 use Rattle.path_rule.specs.Calls.{Did, DidAs}
 use Rattle.path_rule.specs.HandsAfter.{with_desk}
 use Rattle.path_rule.specs.Lasts.{refused_lasting}
@@ -77,6 +78,14 @@ module _ {K : Type 0} where
   abbrev pub HasDeposit : Member K → ℕ → EntryNote → Type 0
   HasDeposit m group note = m.seat.me.1
       ≡ (box_of m.number group, Notes (m.seat.me.0.hands.notes ++ note ∷ [])) ∷ rest m.seat.me.1
+
+  -- its box of the memtable of a table, which it took last, holds this note behind what was there
+  abbrev pub HoldsNote : ℕ → Member K → Table → ℕ → EntryNote → Type 0
+  HoldsNote seats m table memtable note = m.seat.me.1
+      ≡ (
+        memtable_box seats m.number table.0 memtable,
+        Notes (m.seat.me.0.hands.held ++ note ∷ []),
+      ) ∷ rest m.seat.me.1
 
   -- what it knows, for the seat that takes it in
   abbrev pub returned_of : Member K → Returned

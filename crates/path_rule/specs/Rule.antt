@@ -17,6 +17,7 @@ use Rattle.std.specs.Prelude.{
   length,
   slice_index,
   None,
+  IsTrue,
 }
 use mathlib.Core.Option.{some}
 use lib.ListN.{get_elem?}
@@ -35,7 +36,13 @@ use Rattle.path_core.specs.declared.state.PathState.{PathState}
 use Rattle.path_core.specs.Allowed.{IsStep, WantsBarrier}
 use Rattle.path_core.specs.Keeper.{HasRisen}
 use Rattle.path_core.specs.Lawful.{IsLawfulPath}
-use Rattle.path_core.specs.Parts.{fresh_seat, seat_of, groups_of, table_of}
+use Rattle.path_core.specs.Parts.{
+  fresh_seat,
+  seat_of,
+  groups_of,
+  table_of,
+  is_empty,
+}
 use Rattle.path_core.specs.Runs.{opening, Past}
 use Rattle.path_core.specs.SeatAfter.{Told, seat_after}
 use Rattle.path_core.specs.Whole.{CarriesWhole}
@@ -51,9 +58,11 @@ use Rattle.path_rule.specs.declared.view.Role.{Role}
 use Rattle.path_rule.specs.declared.view.Role.TheVariants.{Opener, Steps, Spent}
 use Rattle.path_rule.specs.declared.view.View.{View}
 use Rattle.path_rule.specs.Boxed.{Boxed}
-use Rattle.path_rule.specs.Boxes.{boxes}
+use Rattle.path_rule.specs.Boxes.{all_boxes}
 use Rattle.path_rule.specs.Kept.{MayBeKept}
 use Rattle.path_rule.specs.Lasts.{shown, none_lasting}
+use Rattle.path_rule.specs.Memtables.{HasMemtables}
+use Rattle.path_rule.specs.Reads.{ReadsAs}
 use Rattle.path_rule.specs.Trails.{TrailTells, ViewTells}
 use Rattle.path_rule.specs.Layout.{
   word_at,
@@ -112,6 +121,10 @@ no_hands = record {
   });
   swept = 0;
   progress = record { gathered = false; marker = None };
+  memtable_box = None;
+  held = [];
+  applied = [];
+  reading = None;
 }
 
 -- before the first step
@@ -171,11 +184,12 @@ SizedAs size (Opener k) z = z ≡ size
 abbrev pub IsSized : PathSize → View → Type 0
 IsSized size v = SizedAs size v.role v.size
 
--- A step of a kind that is built: none retires a memtable, the log is stopped only with a count of
--- faults that has risen, a marker is claimed only while the log runs, and so is a group of the
--- append order made, where a marker of the seat wants a barrier.
+-- A step of a kind that is built: a memtable that is retired is empty, the log is stopped only with
+-- a count of faults that has risen, a marker is claimed only while the log runs, and so is a group
+-- of the append order made, where a marker of the seat wants a barrier.
 abbrev pub IsBuilt : ℕ → PathState → Event → Type 0
-IsBuilt opened x (Put by (OldestLive t) value) = ⊥
+IsBuilt opened x (Put by (OldestLive t) value) =
+    IsTrue (is_empty x t.0 (table_of x t.0).oldest_live)
 IsBuilt opened x (Put by Synced value) = Unit {0}
 IsBuilt opened x (Put by Stopped value) = HasRisen opened value
 IsBuilt opened x (OpenGroup by Append group) = WantsBarrier Append x by × (x.stopped ≡ 0)
@@ -218,7 +232,7 @@ pub record Ruled {K : Type 0} (shows : K → Lasting) (o : Beside) (size : PathS
       → slice_index s.words (word_at at) ≡ word_of (reading core at)
   -- seats that were not handed out have made no step
   pub fresh : (w : ℕ) → made ≤ w → (steps_by w events ≡ []) × (seat_of core w ≡ fresh_seat)
-  pub deep : length s.homes ≡ boxes size.seats
+  pub deep : length s.homes ≡ all_boxes size.seats
   -- up to which key a refused sync may have kept entries
   pub kept_to : ℕ
   pub may_be_kept : MayBeKept core kept_to
@@ -226,9 +240,14 @@ pub record Ruled {K : Type 0} (shows : K → Lasting) (o : Beside) (size : PathS
   pub boxed : Boxed shows size.seats core.notes (shown o size.at_open kept_to core) core.claims
       core.append s.homes
       s.views
+  -- those of memtables hold what was placed
+  pub memtables : HasMemtables size.seats core.notes core.placed core.tables s.homes s.views
+  -- what holders of Flush turns have read of them was placed there
+  pub reads : (j : ℕ) (v : View) → get_elem? s.views j ≡ some v
+      → ReadsAs size.seats core v.part v.hands v.role
   -- a stopped log tells a count of faults that has risen since the keeper was opened
   pub risen : 0 < core.stopped → HasRisen size.at_open core.stopped
-  -- no memtable was retired, so there is no table file
+  -- only empty memtables were retired, so there is no table file
   pub unfiled : core.files ≡ []
   -- each view shows its seat's part and steps
   pub each_seat : (j : ℕ) (v : View) → get_elem? s.views j ≡ some v

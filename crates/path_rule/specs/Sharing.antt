@@ -90,7 +90,7 @@ pub record Ended (o : Beside) (size : PathSize) (returned : List Returned) (log 
   -- each step was of a kind that is built
   pub built : AreBuilt size.at_open (start_of size) events core run
   pub lawful : IsLawfulPath core
-  -- no memtable was switched
+  -- no memtable has a table file
   pub unfiled : core.files ≡ []
   pub log_is : log ≡ core.log
   pub kept_to : ℕ

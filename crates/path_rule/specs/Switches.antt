@@ -1,20 +1,30 @@
 -- What the holder of a table's Flush turn found of its memtables, or put there, while it held it.
-use Rattle.std.specs.Prelude.{◌≡◌, ◌⊎◌, ℕ, ◌≤◌, Some}
+use Rattle.std.specs.Prelude.{◌≡◌, ◌≢◌, ◌⊎◌, ℕ, ◌≤◌, Some}
 use Rattle.op_core.specs.declared.count.Order.TheVariants.{Write}
 use Rattle.path_core.specs.declared.seat.FlushTurn.{FlushTurn}
 use Rattle.path_core.specs.declared.seat.Seat.{Seat}
-use Rattle.path_core.specs.declared.seat.Switching.TheVariants.{WithBarrier}
+use Rattle.path_core.specs.declared.seat.Switching.TheVariants.{Settled, WithBarrier}
 use Rattle.path_core.specs.declared.state.Bound.TheVariants.{Raising}
 use Rattle.path_core.specs.Parts.{seat_table, stage_of}
+use Rattle.path_rule.specs.declared.view.FlushRead.{FlushRead}
+use Rattle.path_rule.specs.declared.view.Hands.{Hands}
 use Rattle.path_rule.specs.declared.view.View.{View}
 use Rattle.path_rule.specs.Calls.{IsPast}
-use Rattle.path_rule.specs.Turns.{IsSwitchThrough}
+use Rattle.path_rule.specs.Turns.{FoundPast}
+
+-- it reads no memtable of the table
+abbrev pub ReadsNone : ℕ → Hands → Type 0
+ReadsNone t h = (q : FlushRead) → h.reading ≡ Some q → q.table ≢ t
 
 -- The newest switch of a table is through, so that its turn may be given back: the seat began none,
--- or the barrier of the last one is passed, as the seat found with the Sync turn or without it.
+-- or the barrier of the last one is passed, as the seat found with the Sync turn or without it, and
+-- it reads no memtable of the table.
 abbrev pub MayGiveFlush : ℕ → View → Type 0
-MayGiveFlush t v = IsSwitchThrough t v.part
-    ⊎ ((m g : ℕ) × (stage_of v.part t ≡ Some (WithBarrier m g)) × IsPast Write v g)
+MayGiveFlush t v = ((stage_of v.part t ≡ Some Settled)
+    ⊎ ((m g : ℕ) × (stage_of v.part t ≡ Some (WithBarrier m g)) × FoundPast v.part g
+    × ReadsNone t v.hands))
+    ⊎ ((m g : ℕ) × (stage_of v.part t ≡ Some (WithBarrier m g)) × IsPast Write v g
+    × ReadsNone t v.hands)
 
 -- the newest memtable
 abbrev pub FlushNewest : ℕ → Seat → ℕ → Type 0

@@ -14,7 +14,9 @@ use Rattle.std.specs.Prelude.{
   ◌∷◌,
   ◌++◌,
   length,
+  None,
 }
+use Rattle.std.specs.List.{Contains}
 use Rattle.atomic_table.specs.Table.{Me, Step, rest}
 use Rattle.op_core.specs.declared.count.Order.TheVariants.{Write, Append}
 use Rattle.path_core.specs.declared.event.Carried.TheVariants.{Nothing, Deposit, Applied}
@@ -24,6 +26,7 @@ use Rattle.path_core.specs.declared.event.Event.TheVariants.{Look, Register, Clo
 use Rattle.path_core.specs.declared.event.Place.{Place}
 use Rattle.path_core.specs.declared.event.Place.TheVariants.{Count, Log}
 use Rattle.path_core.specs.declared.note.EntryNote.{EntryNote}
+use Rattle.path_core.specs.declared.state.Placed.{Placed}
 use Rattle.path_core.specs.Words.{reading}
 use Rattle.path_rule.specs.declared.slot.Slot.{Slot}
 use Rattle.path_rule.specs.declared.slot.Slot.TheVariants.{Notes}
@@ -88,12 +91,15 @@ module _ {K : Type 0} where
   Withdrew st m n m' = (w g : ℕ) → m.0.role ≡ Steps w → g < 65536 → st.word ≡ 73 + 2 * g
       → MadeAs w (Close w Append g Nothing) n m.0.hands m.0 m'.0 × (m'.1 ≡ rest m.1)
 
-  -- it left the append order, with the note that it had put into its box
+  -- It left the append order, with the note that it had put into its box. It has no box of a
+  -- memtable in hand, and put no entry into one that ends where this one does.
   abbrev pub Deposited : Step (Slot K) → Me (Slot K) View → ℕ → Me (Slot K) View → Type 0
   Deposited st m n m' = (w g : ℕ) (note : EntryNote) → m.0.role ≡ Steps w → g < 65536
       → st.word ≡ 73 + 2 * g
       → m.1 ≡ (box_of w g, Notes (m.0.hands.notes ++ note ∷ [])) ∷ rest m.1
       → MadeAs w (Close w Append g (Deposit note)) n m.0.hands m.0 m'.0 × (m'.1 ≡ rest m.1)
+      × (m.0.hands.memtable_box ≡ None)
+      × ((a : Placed) → Contains m.0.hands.applied a → a.entry ≢ note.end.0)
 
   -- the log moved from the first key to the second; or it stood elsewhere, and this was a look
   abbrev pub Claimed : Step (Slot K) → Me (Slot K) View → ℕ → Me (Slot K) View → Type 0

@@ -15,8 +15,9 @@ ghost use Rattle.path_core.specs.LawfulSeats.{BoundStays};
 ghost use Rattle.path_core.specs.Parts.{seat_table};
 ghost use Rattle.path_core.specs.SeatParts.{deposited_end, has_note_of};
 ghost use Rattle.path_rule.specs.Accepted.{places_of, IsPlaced, RaisesBound, TriesBound};
+ghost use Rattle.path_rule.specs.Applying.{AreApplied};
 ghost use Rattle.path_rule.specs.Layout.{bound_in, bound_word};
-ghost use Rattle.path_rule.specs.Members.{part_of, IsOf, KeepsBoxes, Stepped};
+ghost use Rattle.path_rule.specs.Members.{part_of, hands_of, IsOf, KeepsBoxes, Stepped};
 ghost use Rattle.path_rule.specs.Switches.{FlushOldest};
 ghost use Rattle.path_rule.specs.Turns.{KnowsMemtable};
 
@@ -123,13 +124,15 @@ impl<K: Keeper, A: Allocator> PathTable<K, A> {
         bound_of(word)
     }
 
-    /// Leaves the write order once the write has its place at each of its tables
-    /// (`OpOrder.Group.close`). Returns the count that it found.
+    /// Leaves the write order once the write has its place at each of its tables, and lies in its
+    /// box there (`OpOrder.Group.close`). Returns the count that it found.
     pub fn leave_placed(&self, member: &mut Member<K>, group: u64) -> u64
         requires table { IsOf self.now.table.shared.table_id self.now.size member.old }
         requires group { (group < 65536) × ((part_of member.old).write ≡ Some group) }
         requires deposited { (part_of member.old).append ≡ None }
         requires placed { IsPlaced (part_of member.old) }
+        requires applied { AreApplied (part_of member.old) (hands_of member.old) }
+        requires rests { (hands_of member.old).memtable_box ≡ None }
         ensures same { KeepsBoxes member.old member.new }
         ensures step { Stepped member.old (Close member.old.number Write group
             (Applied (places_of (part_of member.old)))) result member.new }

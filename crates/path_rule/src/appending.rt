@@ -15,12 +15,14 @@ ghost use Rattle.std.specs.Prelude.{
   IsSome,
   length,
 };
+ghost use Rattle.std.specs.List.{Contains};
 ghost use Rattle.atomic_table.specs.Table.{rest};
 ghost use Rattle.op_core.specs.declared.count.Order.TheVariants.{Append};
 ghost use Rattle.path_core.specs.declared.event.Carried.TheVariants.{Nothing, Deposit};
 ghost use Rattle.path_core.specs.declared.event.Event.TheVariants.{Look, Register, Close};
 ghost use Rattle.path_core.specs.declared.event.Place.TheVariants.{Count, Current};
 ghost use Rattle.path_core.specs.declared.note.EntryNote.{EntryNote};
+ghost use Rattle.path_core.specs.declared.state.Placed.{Placed};
 ghost use Rattle.path_core.specs.Parts.{HoldsNoTurn, found_of, seat_table};
 ghost use Rattle.path_core.specs.Whole.{IsWhole};
 ghost use Rattle.path_rule.specs.declared.slot.Slot.TheVariants.{Notes};
@@ -165,6 +167,10 @@ impl<K: Keeper, A: Allocator> PathTable<K, A> {
             → Stepped member.old (Close member.old.number Append group (Deposit note)) result
             member.new }
         ensures untried { (t : ℕ) → (seat_table (part_of member.new) t).trying ≡ None }
+        ensures rests { (hands_of member.new).memtable_box ≡ None }
+        ensures unapplied { (note : EntryNote) → HasDeposit member.old group note
+            → (a : Placed) → Contains (hands_of member.new).applied a
+            → a.entry ≢ note.end.0 }
     {
         self.table
             .shared

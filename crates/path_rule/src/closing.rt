@@ -3,6 +3,7 @@ ghost use Rattle.std.specs.Prelude.{◌≡◌, ◌<◌, None, [], ◌∷◌, ◌
 ghost use Rattle.std.specs.Slots.{slots_items, slots_len, IsFull};
 ghost use mathlib.Core.Option.{some};
 ghost use lib.ListN.{get_elem?};
+ghost use Rattle.path_core.specs.Parts.{HoldsNoTurn};
 ghost use Rattle.path_rule.specs.FirstBoxes.{HasInFront};
 ghost use Rattle.path_rule.specs.Lasts.{beside_of};
 ghost use Rattle.path_rule.specs.Members.{
@@ -23,12 +24,15 @@ use path_core::Keeper;
 use std::alloc::{Allocator, Global};
 
 impl<K: Keeper, A: Allocator> PathTable<K, A> {
-    /// A seat takes in another, which has no box: it knows all that the other one did.
+    /// A seat takes in another, which runs no write, holds no turn and has no box: it knows all
+    /// that the other one did.
     pub fn merge(&self, first: &mut Member<K>, other: Member<K>)
         requires first { first.old.seat.table_id ≡ self.now.table.shared.table_id }
         requires other { (other.seat.table_id ≡ self.now.table.shared.table_id)
             × (boxes_of other ≡ []) }
         requires idle { ((part_of other).append ≡ None) × ((part_of other).sync ≡ None) }
+        requires ended { (part_of other).write ≡ None }
+        requires free { HoldsNoTurn (part_of other) }
         ensures same { (first.new.seat.table_id ≡ first.old.seat.table_id)
             × (first.new.number ≡ first.old.number)
             × ((view_of first.new).trail ≡ (view_of first.old).trail)

@@ -10,17 +10,23 @@ ghost use Rattle.path_core.specs.declared.event.Turn.{Turn};
 ghost use Rattle.path_core.specs.declared.note.EntryNote.{EntryNote};
 ghost use Rattle.path_core.specs.declared.state.Claim.{Claim};
 ghost use Rattle.path_core.specs.declared.state.PathState.{PathState};
+ghost use Rattle.path_core.specs.declared.state.Placed.{Placed};
 ghost use Rattle.path_core.specs.Keeper.{HasRisen};
 ghost use Rattle.path_core.specs.Lawful.{IsLawfulPath};
-ghost use Rattle.path_core.specs.Parts.{holds_turn, last_marker, seat_of};
+ghost use Rattle.path_core.specs.Parts.{holds_turn, last_marker, seat_of, table_of};
 ghost use Rattle.path_core.specs.Runs.{Past};
 ghost use Rattle.path_rule.specs.declared.lasting.Beside.{Beside};
 ghost use Rattle.path_rule.specs.declared.slot.Slot.{Slot};
+ghost use Rattle.path_rule.specs.declared.view.FlushRead.{FlushRead};
 ghost use Rattle.path_rule.specs.declared.view.PathSize.{PathSize};
+ghost use Rattle.path_rule.specs.declared.view.Role.TheVariants.{Steps};
 ghost use Rattle.path_rule.specs.declared.view.View.{View};
-ghost use Rattle.path_rule.specs.Boxes.{desk_box, DeskIs, HoldsBox};
+ghost use Rattle.path_rule.specs.Boxes.{desk_box, memtable_box, DeskIs, HoldsBox, NotesAre};
+ghost use Rattle.path_rule.specs.InBoxes.{BelongsThere, LiesInItsBox};
 ghost use Rattle.path_rule.specs.Lasts.{shown, shows_of};
+ghost use Rattle.path_rule.specs.Memtables.{HasInHand, IsHome};
 ghost use Rattle.path_rule.specs.Rule.{AreBuilt, Ruled};
+ghost use Rattle.path_rule.specs.Seen.{SeesItsInterval};
 ghost use Rattle.path_rule.specs.Stopped.{TakesNothing};
 
 use path_core::Keeper;
@@ -58,12 +64,20 @@ pub fn a_stopped_log_takes_nothing()
         → AreBuilt opened x steps y run → 0 < x.stopped → TakesNothing x y }
 {}
 
-/// No two seats have one box.
+/// No two seats have the desk, or one box of the log.
 pub fn each_box_has_one_holder<K: Keeper>()
     ensures { (o : Beside) (size : PathSize) (s : State (Slot K) View)
         → Ruled (shows_of K.holds) o size s
         → (j i b : ℕ) (u v : View) → get_elem? s.views j ≡ some u → get_elem? s.views i ≡ some v
         → HoldsBox u b → HoldsBox v b → j ≡ i }
+{}
+
+/// No two seats have one box of a memtable, as their own or to read it.
+pub fn each_memtable_box_has_one_holder<K: Keeper>()
+    ensures { (o : Beside) (size : PathSize) (s : State (Slot K) View)
+        → Ruled (shows_of K.holds) o size s
+        → (j i b : ℕ) (u v : View) → get_elem? s.views j ≡ some u → get_elem? s.views i ≡ some v
+        → HasInHand u.hands b → HasInHand v.hands b → j ≡ i }
 {}
 
 /// Once all boxes behind the barrier of the last marker are gathered, each note up to that marker
@@ -74,4 +88,36 @@ pub fn gathering_reaches_the_last_marker<K: Keeper>()
         → r.boxed.progress.gathered ≡ true → (c : Claim) (g : ℕ) → last_marker r.core ≡ Some c
         → c.barrier ≡ Some g → (n : EntryNote) → Contains r.core.notes n → n.end.0 ≤ c.start
         → Contains r.core.logged n.end.0 ⊎ Contains r.boxed.pending n }
+{}
+
+/// What a closed write placed in a memtable that is not retired lies in its writer's box of that
+/// table, for memtables of this parity: at home, or, when it was taken last, in the hand of the seat
+/// that has the box.
+pub fn what_was_placed_lies_in_memtables<K: Keeper>()
+    ensures { (o : Beside) (size : PathSize) (s : State (Slot K) View)
+        (r : Ruled (shows_of K.holds) o size s) (p : Placed)
+        → Contains r.core.placed p → (table_of r.core p.table).oldest_live ≤ p.memtable
+        → LiesInItsBox size.seats r.core.notes s p }
+{}
+
+/// Once the holder of a table's Flush turn has seen the boxes of all seats behind the barrier of a
+/// memtable, what it has seen are exactly the entries of the memtable's log interval that touch its
+/// table.
+pub fn what_was_seen_is_the_memtables_interval<K: Keeper>()
+    ensures { (o : Beside) (size : PathSize) (s : State (Slot K) View)
+        (r : Ruled (shows_of K.holds) o size s) (j w : ℕ) (v : View) (q : FlushRead)
+        → get_elem? s.views j ≡ some v → v.role ≡ Steps w → v.hands.reading ≡ Some q
+        → q.seen_to ≡ size.seats → SeesItsInterval r.core q }
+{}
+
+/// What lies in a box of a memtable at home is a note of the box's seat that touches the table. It
+/// was placed there in a memtable of this parity that is not retired, or its write runs still and
+/// has its place in one of this parity.
+pub fn what_lies_in_memtables_was_placed<K: Keeper>()
+    ensures { (o : Beside) (size : PathSize) (s : State (Slot K) View)
+        (r : Ruled (shows_of K.holds) o size s) (w t m : ℕ) (y : Slot K)
+        (notes : List EntryNote) (n : EntryNote) → w < size.seats → t < 16
+        → IsHome s.views (memtable_box size.seats w t m)
+        → get_elem? s.homes (memtable_box size.seats w t m) ≡ some (some y)
+        → NotesAre y notes → Contains notes n → BelongsThere r.core w t m n }
 {}

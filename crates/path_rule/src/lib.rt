@@ -11,10 +11,13 @@ mod advancing;
 mod answer;
 mod append_barrier;
 mod appending;
+mod applying;
 mod claiming;
 mod closing;
 mod desk;
 mod ending;
+mod flush_plays;
+mod flush_reading;
 mod gathering;
 mod lasting;
 mod laws;
@@ -51,8 +54,10 @@ pub use answer::SyncAnswer;
 pub use lasting::{Beside, Lasting};
 pub use laws::{
     a_stopped_log_takes_nothing, a_stopped_log_tells_a_count_that_has_risen,
-    each_box_has_one_holder, gathering_reaches_the_last_marker,
+    each_box_has_one_holder, each_memtable_box_has_one_holder, gathering_reaches_the_last_marker,
     the_keeper_at_home_shows_what_is_lasting, the_table_shows_a_lawful_state,
+    what_lies_in_memtables_was_placed, what_was_placed_lies_in_memtables,
+    what_was_seen_is_the_memtables_interval,
 };
 pub use opening::open;
 pub use rule::PathRule;
@@ -60,7 +65,7 @@ pub use slot::{Desk, Slot};
 pub use switches::Switched;
 pub use table::{Member, Opener, PathTable};
 pub use trying::{Begun, PathSeat, Seen};
-pub use view::{Hands, OwnStep, PathKey, PathSize, Progress, Returned, Role, View};
+pub use view::{FlushRead, Hands, OwnStep, PathKey, PathSize, Progress, Returned, Role, View};
 pub use waiting::{Holder, Passed};
 
 #[cfg(test)]

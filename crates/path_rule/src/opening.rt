@@ -1,7 +1,7 @@
 //! A table is opened, and its seats are handed out.
 ghost use Rattle.std.specs.Prelude.{◌≡◌, ◌+◌, ◌<◌, ◌≤◌, [], length, IfOk, IfErr};
 ghost use Rattle.path_rule.specs.Boxed.{AreFirst};
-ghost use Rattle.path_rule.specs.Boxes.{boxes, first_progress};
+ghost use Rattle.path_rule.specs.Boxes.{all_boxes, first_progress};
 ghost use Rattle.path_rule.specs.FirstBoxes.{AreEmpty, HasInFront};
 ghost use Rattle.path_rule.specs.Lasts.{beside_of, shows_of, IsNew};
 ghost use Rattle.path_rule.specs.Layout.{first_words};
@@ -23,10 +23,10 @@ use std::snapshot::Snapshot;
 // The boxes of a new table, without the keeper's desk: each holds no note.
 fn empty_boxes<K: Keeper + Drop>(alloc: Global, size: &PathSize) -> Result<Vec<Slot<K>>, AllocError>
     requires few { size.now.seats ≤ 64 }
-    ensures { IfOk result (λ v. (length v.items ≡ boxes size.now.seats) × AreEmpty v.items) }
+    ensures { IfOk result (λ v. (length v.items ≡ all_boxes size.now.seats) × AreEmpty v.items) }
 {
     let mut boxes = Vec::new(alloc);
-    for _ in 0..1 + 2 * size.seats {
+    for _ in 0..1 + 34 * size.seats {
         boxes.push(Slot::Notes(LinkedList::new(alloc)))?;
     }
     Ok(boxes)
@@ -49,7 +49,8 @@ fn first_desk<K>(alloc: Global, keeper: K) -> Desk<K>
     }
 }
 
-// The boxes of a new table: the keeper's desk, and two for each seat.
+// The boxes of a new table: the keeper's desk, and for each seat two for the log and two for each
+// of sixteen tables.
 fn first_boxes<K: Keeper + Drop>(
     alloc: Global,
     keeper: K,
@@ -57,7 +58,7 @@ fn first_boxes<K: Keeper + Drop>(
 ) -> Result<Vec<Slot<K>>, K>
     requires few { size.now.seats ≤ 64 }
     requires keeper { IsNew size.now (K.holds keeper) }
-    ensures boxes { IfOk result (λ v. (length v.items ≡ boxes size.now.seats)
+    ensures boxes { IfOk result (λ v. (length v.items ≡ all_boxes size.now.seats)
         × AreFirst (shows_of K.holds) (beside_of (K.holds keeper)) size.now v.items) }
     ensures front { IfOk result (λ v. HasInFront keeper v.items) }
     ensures back { IfErr result (λ k. k ≡ keeper) }

@@ -94,6 +94,28 @@ impl<K> Play<Slot<K>, View> for ClaimAt<K> {
     ghost then = { Claimed };
 }
 
+/// It takes its box of a memtable.
+pub(crate) struct TakeMemtable<K> {
+    keeper: PhantomData<K>,
+}
+
+impl<K> Play<Slot<K>, View> for TakeMemtable<K> {
+    ghost use Rattle.path_rule.specs.Applying.{MemtableTaken};
+
+    ghost then = { MemtableTaken };
+}
+
+/// It gives that box back, with its entry.
+pub(crate) struct GiveMemtable<K> {
+    keeper: PhantomData<K>,
+}
+
+impl<K> Play<Slot<K>, View> for GiveMemtable<K> {
+    ghost use Rattle.path_rule.specs.Applying.{MemtableGiven};
+
+    ghost then = { MemtableGiven };
+}
+
 /// A seat is handed out.
 pub(crate) struct Deal;
 

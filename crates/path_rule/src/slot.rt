@@ -21,7 +21,7 @@ pub struct Desk<K> {
 /// A box of the table.
 #[derive(Drop)]
 pub enum Slot<K> {
-    /// What a seat deposited and nobody has gathered.
+    /// What a seat deposited and nobody has gathered, or what it put into a table's memtable.
     Notes(LinkedList<EntryNote>),
     /// The desk of the Sync turn.
     Turn(Desk<K>),

@@ -1,7 +1,7 @@
 //! The table, and the seats that step on it.
 ghost use Rattle.std.specs.Prelude.{◌≡◌, []};
 ghost use Rattle.path_rule.specs.declared.view.Role.TheVariants as roles;
-ghost use Rattle.path_rule.specs.Boxes.{boxes};
+ghost use Rattle.path_rule.specs.Boxes.{all_boxes};
 ghost use Rattle.path_rule.specs.Rule.{IsFit};
 
 use crate::rule::PathRule;
@@ -18,7 +18,7 @@ pub struct PathTable<K: Keeper, A: Allocator> {
     pub(crate) size: PathSize,
     pub ghost keyed: { table.shared.key.size ≡ size },
     pub ghost wide: { table.shared.table_id.words ≡ 135240 },
-    pub ghost deep: { table.shared.table_id.slots ≡ boxes size.seats },
+    pub ghost deep: { table.shared.table_id.slots ≡ all_boxes size.seats },
     pub ghost fits: { IsFit size },
 }
 

@@ -1,7 +1,7 @@
 //! What a seat of the table knows. It is a ghost of the seat: no value of it is made, and its part
 //! is exactly what the machine's seat of its number has.
 use crate::lasting::Lasting;
-use path_core::{EntryNote, Event, LastMarker, Seat};
+use path_core::{EntryNote, Event, LastMarker, Placed, Seat};
 use std::collections::LinkedList;
 use std::snapshot::Snapshot;
 
@@ -71,6 +71,22 @@ pub struct Progress {
     pub marker: Option<LastMarker>,
 }
 
+/// What the holder of a table's Flush turn has read of a memtable, behind its barrier.
+pub struct FlushRead {
+    /// The table.
+    pub table: u64,
+    /// The memtable, which is the least of the table that is not retired.
+    pub memtable: u64,
+    /// The notes that were placed there, of the seats below `seen_to`.
+    pub seen: LinkedList<EntryNote>,
+    /// From the boxes of how many seats, from the first one on.
+    pub seen_to: u64,
+    /// The box in hand, which is that of the next seat.
+    pub taken: Option<u64>,
+    /// What that one held when it was taken.
+    pub held: LinkedList<EntryNote>,
+}
+
 /// What a seat knows of the boxes that it has.
 pub struct Hands {
     /// What its own box of the append order held when it was taken.
@@ -87,6 +103,15 @@ pub struct Hands {
     pub swept: u64,
     /// What the desk tells of the last barrier.
     pub progress: Progress,
+    /// The own box of a memtable that the seat took.
+    pub memtable_box: Option<u64>,
+    /// What that one held.
+    pub held: LinkedList<EntryNote>,
+    /// The entries that the seat put into such boxes, the newest first: where each ends, and the
+    /// table and the memtable of its place.
+    pub applied: LinkedList<Placed>,
+    /// What it has read of a memtable as the holder of a table's Flush turn.
+    pub reading: Option<FlushRead>,
 }
 
 /// What a seat of the table knows.

@@ -48,9 +48,9 @@ use two_commits::print_commits;
 const LINES: u32 = 10_000;
 
 /// How often other threads are let run before a sync in batch mode. The 640,000 commits of 64
-/// writers took 20,000 to 35,000 syncs so, of 65,535 that a path has groups for. More turns take
-/// more time.
-const TURNS: u8 = 8;
+/// writers took some 42,000 syncs so beside other load, of 65,535 that a path has groups for. With
+/// fewer turns few writers have come to wait for the next sync.
+const TURNS: u8 = 32;
 
 /// The bytes of a segment in memory.
 const SMALL: u32 = 4096;

@@ -21,7 +21,7 @@ fn run_over<T: Threads + Wait + Sync>(
 ) -> Result<(u8, MemSink, MemDisk)> {
     let mut source = MemSource::new(Vec::new(alloc), 65536, Vec::new(alloc));
     let mut sink = MemSink::new(alloc, Vec::new(alloc));
-    let clock = clock_of(alloc, 1000, 1000)?;
+    let clock = clock_of(alloc, &[1000])?;
     let words = words_of(alloc, words)?;
     let gate = OpenGate::new();
     let (status, left) = run(

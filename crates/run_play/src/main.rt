@@ -8,7 +8,7 @@
 //! | line | meaning |
 //! |---|---|
 //! | `case TITLE` | an empty folder, no input, a clock at 1000, and no failing call |
-//! | `clock FIRST NEXT` | the clock tells the first moment, and then the next, in milliseconds |
+//! | `clock N ..` | the clock tells these moments, four at most, and the last again, in ms |
 //! | `disk N ..` | an empty folder whose calls of these numbers fail, from 1, ascending |
 //! | `source N ..`, `sink N ..` | the calls of the next run's source, or sink, that fail |
 //! | `gate hold` | two writers of the next run meet: 1 starts when 0 has deposited, and 0 waits |
@@ -22,6 +22,7 @@
 //! | `show NAME` | tells a file's bytes in hexadecimal digits |
 //! | `changes` | tells each change of the folder since the case began, in order |
 //! | `images` | recovers what a crash may leave of the last run at each moment, each answer once |
+//! | `images last` | the same of the last moment alone, as a crash after the run leaves it |
 //! | `output HEX` | these bytes are told as if a run had printed them |
 //!
 //! A run tells its words, its status, what it printed, each file with its length, and the moment

@@ -1,4 +1,6 @@
 //! The cases are played: what stands between two lines, and what a line does to it.
+ghost use Rattle.std.specs.Prelude.{◌<◌, ◌^◌};
+
 use crate::images::put_images;
 use crate::outcome::{put_bytes, put_changes, put_files, put_printed};
 use crate::script::{END, Step};
@@ -12,15 +14,14 @@ use std::io::Write;
 use std::sync::Wait;
 use std::thread::Threads;
 
-/// The folder, and its moment when the last run began; the moments that the clock tells; and what
+/// The folder, and its moment when the last run began; the moments that each clock tells; and what
 /// the next run takes: the input, the calls of its source and its sink that fail, and whether its
 /// writers are held until they have met.
 #[derive(Drop)]
 pub struct Play {
     disk: MemDisk,
     begun: u64,
-    first: u64,
-    next: u64,
+    moments: Vec<u64>,
     input: Vec<u8>,
     source: Vec<u64>,
     sink: Vec<u64>,
@@ -44,11 +45,24 @@ fn put(disk: &mut MemDisk, name: &Name, bytes: &[u8]) -> Result<(), DiskFault> {
     disk.append_at(name, at, bytes)
 }
 
-/// A clock that tells these moments.
-pub fn clock_of(alloc: Global, first: u64, next: u64) -> Result<ListClock> {
-    let first = first.min(END - 1);
-    let next = next.min(END - 1);
-    Ok(ListClock::new([first, next].to_vec(alloc)?))
+// The moment of a place in a list, of which the last one stands for all behind it; 0 where there is
+// none.
+fn moment_at(moments: &[u64], place: usize) -> u64
+    ensures { result < 2 ^ 62 }
+{
+    if moments.is_empty() {
+        return 0;
+    }
+    moments[place.min(moments.len() - 1)].min(END - 1)
+}
+
+/// A clock that tells the first four of these moments, and the last of them again.
+pub fn clock_of(alloc: Global, moments: &[u64]) -> Result<ListClock> {
+    let first = moment_at(moments, 0);
+    let second = moment_at(moments, 1);
+    let third = moment_at(moments, 2);
+    let fourth = moment_at(moments, 3);
+    Ok(ListClock::new([first, second, third, fourth].to_vec(alloc)?))
 }
 
 impl Play {
@@ -57,8 +71,7 @@ impl Play {
         Ok(Play {
             disk: MemDisk::new(alloc),
             begun: 0,
-            first: 1000,
-            next: 2000,
+            moments: [1000, 2000].to_vec(alloc)?,
             input: Vec::new(alloc),
             source: Vec::new(alloc),
             sink: Vec::new(alloc),
@@ -81,10 +94,7 @@ impl Play {
                 writeln!(out, "case {title}")?;
                 play = Play::new(alloc)?;
             }
-            Step::Clock(first, next) => {
-                play.first = first;
-                play.next = next;
-            }
+            Step::Clock(moments) => play.moments = moments,
             Step::Disk(calls) => play.disk = MemDisk::failing(alloc, calls),
             Step::Source(calls) => play.source = calls,
             Step::Sink(calls) => play.sink = calls,
@@ -99,6 +109,10 @@ impl Play {
             Step::Show(name) => put_bytes(&mut out, &play.disk, &name)?,
             Step::Changes => put_changes(&mut out, &play.disk)?,
             Step::Images => put_images(rt, alloc, &mut out, &play.disk, play.begun)?,
+            Step::LastImages => {
+                let last = play.disk.moment_count();
+                put_images(rt, alloc, &mut out, &play.disk, last)?;
+            }
             Step::Output(bytes) => put_printed(&mut out, &bytes)?,
         }
         Ok((play, out))
@@ -132,7 +146,7 @@ impl Play {
     ) -> Result<Play> {
         let mut source = MemSource::new(self.input, 65536, self.source);
         let mut sink = MemSink::new(alloc, self.sink);
-        let clock = clock_of(alloc, self.first, self.next)?;
+        let clock = clock_of(alloc, &self.moments)?;
         let list = words_of(alloc, words)?;
         let begun = self.disk.moment_count();
         let (status, disk) = run(
@@ -148,8 +162,7 @@ impl Play {
         let mut play = Play {
             disk,
             begun,
-            first: self.first,
-            next: self.next,
+            moments: self.moments,
             ..Play::new(alloc)?
         };
         writeln!(out, "run {words}")?;

@@ -45,8 +45,8 @@ pub enum Step<'a> {
     Pass,
     /// A new case of this title.
     Case(&'a str),
-    /// These moments of the clock.
-    Clock(u64, u64),
+    /// These moments of the clock, in order.
+    Clock(Vec<u64>),
     /// An empty folder, of whose calls these fail.
     Disk(Vec<u64>),
     /// The calls of the next source that fail.
@@ -65,8 +65,10 @@ pub enum Step<'a> {
     Show(Name),
     /// The changes of the folder are told.
     Changes,
-    /// What comes of what a crash might have left of the folder is told.
+    /// What comes of what a crash at any moment of the last run might have left is told.
     Images,
+    /// The same of the last moment alone.
+    LastImages,
     /// These bytes are told as if a run had printed them.
     Output(Vec<u8>),
 }
@@ -158,9 +160,12 @@ fn gate(rest: &str) -> Result<Step, Cause> {
     }
 }
 
-fn clock(rest: &str) -> Result<Step, Cause> {
-    let (first, next) = cut(rest);
-    Ok(Step::Clock(number_of(first)?, number_of(next)?))
+fn images(rest: &str) -> Result<Step, Cause> {
+    match rest {
+        "" => Ok(Step::Images),
+        "last" => Ok(Step::LastImages),
+        _ => Err(Cause::Word),
+    }
 }
 
 impl<'a> Step<'a> {
@@ -173,7 +178,7 @@ impl<'a> Step<'a> {
         match word {
             "" => Ok(Step::Pass),
             "case" => Ok(Step::Case(rest)),
-            "clock" => clock(rest),
+            "clock" => Ok(Step::Clock(numbers_of(alloc, rest)?)),
             "disk" => Ok(Step::Disk(numbers_of(alloc, rest)?)),
             "source" => Ok(Step::Source(numbers_of(alloc, rest)?)),
             "sink" => Ok(Step::Sink(numbers_of(alloc, rest)?)),
@@ -187,7 +192,7 @@ impl<'a> Step<'a> {
             "run" => Ok(Step::Run(rest)),
             "show" => Ok(Step::Show(name_of(rest)?)),
             "changes" => Ok(Step::Changes),
-            "images" => Ok(Step::Images),
+            "images" => images(rest),
             "output" => Ok(Step::Output(bytes_of(alloc, rest)?)),
             _ => Err(Cause::Word),
         }

@@ -1,10 +1,13 @@
 pub mod SmallSets
 pub mod NoteLaws
+pub mod NoteCopies
 pub mod LeastEntry
 pub mod BoxKept
 pub mod Answered
 pub mod LogAfter
 pub mod PlacedAt
+pub mod UpdatesPut
+pub mod AppliedAt
 pub mod Handing
 pub mod Histories
 pub mod Accounted

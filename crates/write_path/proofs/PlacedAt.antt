@@ -1,4 +1,4 @@
--- A write that is accepted at one table after another.
+-- A write that asks the memtables of one table after another.
 use Rattle.std.proofs.Common.{
   ◌≡◌,
   ◌≢◌,
@@ -8,46 +8,28 @@ use Rattle.std.proofs.Common.{
   [],
   ◌∷◌,
   ◌++◌,
-  false,
-  Some,
-  IsTrue,
-  refl,
   sym,
   ap,
   ◌∙◌,
   subst,
   arith,
 }
-use Rattle.std.proofs.lemmas.Bool.{false≢true}
 use Rattle.std.proofs.lemmas.List.{append_assoc}
-use mathlib.Core.Logic.{dite}
-use native.Mathlib.Decide.{ℕ_discrete}
 use Rattle.atomic_table.specs.Seated.{TableId}
 use Rattle.path_core.specs.declared.seat.SeatTable.{SeatTable}
-use Rattle.path_core.specs.Parts.{seat_table, touches}
+use Rattle.path_core.specs.Parts.{seat_table}
 use Rattle.path_rule.specs.declared.view.OwnStep.{OwnStep}
 use Rattle.path_rule.specs.declared.view.PathSize.{PathSize}
-use Rattle.path_rule.specs.Members.{part_of, IsOf}
+use Rattle.path_rule.specs.Members.{part_of}
 use Rattle.write_path.specs.declared.deposited.Deposited.{Deposited}
-use Rattle.write_path.specs.Ends.{AreTries, IsPlacedBelow, IsSameWrite, IsUntriedFrom}
+use Rattle.write_path.specs.Ends.{AreTries, IsSameWrite, IsUntriedFrom}
 
-are_both : (w : ℕ) (ts us : List OwnStep) → AreTries w ts → AreTries w us
+pub are_both : (w : ℕ) (ts us : List OwnStep) → AreTries w ts → AreTries w us
     → AreTries w (ts ++ us)
 are_both w [] us A B = B
 are_both w (t ∷ ts) us A B = (A.0, are_both w ts us A.1 B)
 
 module _ {K : Type 0} (id : TableId) (size : PathSize) where
-  pub same_itself : (s : Deposited K) → IsOf id size s.member → IsSameWrite id size s s
-  same_itself s of = record {
-    member = (of, refl);
-    writing = refl;
-    start = refl;
-    end = refl;
-    tables = refl;
-    list = refl;
-    tried = record { tries = []; are = tt; trail = refl; hands = refl; returned = refl };
-  }
-
   pub same_then : (s t u : Deposited K) → IsSameWrite id size s t → IsSameWrite id size t u
       → IsSameWrite id size s u
   same_then s t u A B = record {
@@ -69,13 +51,6 @@ module _ {K : Type 0} (id : TableId) (size : PathSize) where
   }
 
 module _ {K : Type 0} (k : ℕ) (s : Deposited K) where
-  -- a table that the write does not touch
-  pub placed_past : touches s.tables k ≡ false → IsPlacedBelow k s → IsPlacedBelow (suc k) s
-  placed_past untouched placed t low touched = dite (ℕ_discrete t k)
-      (λ same. absurd (false≢true (sym (ap (λ (n : ℕ). touches s.tables n) same ∙ untouched)
-      ∙ touched)))
-      (λ apart. placed t (omega arith) touched)
-
   -- what it does at other tables stays
   pub untried_past : (u : Deposited K)
       → ((t : ℕ) → t ≢ k → seat_table (part_of u.member) t ≡ seat_table (part_of s.member) t)
@@ -83,14 +58,3 @@ module _ {K : Type 0} (k : ℕ) (s : Deposited K) where
   untried_past u others untried t low =
       ap (λ (st : SeatTable). st.trying) (others t (λ same. absurd (omega arith)))
       ∙ untried t (omega arith)
-
-  -- one at which it was accepted
-  pub placed_here : (u : Deposited K) (m : ℕ) → u.tables ≡ s.tables
-      → ((t : ℕ) → t ≢ k → seat_table (part_of u.member) t ≡ seat_table (part_of s.member) t)
-      → (seat_table (part_of u.member) k).place ≡ Some m
-      → IsPlacedBelow k s → IsPlacedBelow (suc k) u
-  placed_here u m tables others here placed t low touched = dite (ℕ_discrete t k)
-      (λ same. (m, ap (λ (n : ℕ). (seat_table (part_of u.member) n).place) same ∙ here))
-      (λ apart. let p = placed t (omega arith)
-      (subst (λ (n : ℕ). IsTrue (touches n t)) tables touched) in
-      (p.0, ap (λ (st : SeatTable). st.place) (others t apart) ∙ p.1))

@@ -12,7 +12,6 @@ use Rattle.std.specs.Prelude.{
   ◌∷◌,
   ◌++◌,
   map,
-  IsTrue,
   Some,
   None,
 }
@@ -26,17 +25,20 @@ use Rattle.path_core.specs.declared.event.Event.{Event}
 use Rattle.path_core.specs.declared.event.Cursor.TheVariants.{OldestLive}
 use Rattle.path_core.specs.declared.event.ClaimKind.TheVariants.{Entry}
 use Rattle.path_core.specs.declared.event.Event.TheVariants.{Look, Claim, Close, Raise}
-use Rattle.path_core.specs.declared.event.Place.TheVariants.{Bound, CursorWord}
+use Rattle.path_core.specs.declared.event.Place.TheVariants.{Bound, CursorWord, Newest}
 use Rattle.path_core.specs.declared.note.EntryNote.{EntryNote}
 use Rattle.path_core.specs.declared.seat.SeatTable.{SeatTable}
+use Rattle.path_core.specs.declared.state.Placed.{Placed}
 use Rattle.path_core.specs.declared.state.Bound.{Bound as BoundOf}
 use Rattle.path_core.specs.declared.state.Bound.TheVariants.{Live, Raising, Final}
 use Rattle.path_core.specs.Allowed.{IsItsPlaces}
-use Rattle.path_core.specs.Parts.{seat_table, touches}
+use Rattle.path_core.specs.Parts.{seat_table}
 use Rattle.path_rule.specs.declared.table.Member.{Member}
+use Rattle.path_rule.specs.declared.view.Hands.{Hands}
 use Rattle.path_rule.specs.declared.view.OwnStep.{OwnStep}
 use Rattle.path_rule.specs.declared.view.PathSize.{PathSize}
 use Rattle.path_rule.specs.declared.view.View.{View}
+use Rattle.path_rule.specs.Applying.{AreApplied}
 use Rattle.path_rule.specs.Calls.{Did}
 use Rattle.path_rule.specs.Members.{part_of}
 use Rattle.path_rule.specs.Rule.{event_of}
@@ -81,10 +83,11 @@ pub record IsListed (before after : List OwnStep) (by start end tables : ℕ)
   pub of : (sizes : Sizes) (line : ℕ) (m : Mutation) → IsPrepared sizes line m prepared
       → IsNoteOf line m note
 
--- A try of seat w at a memtable: a look at the oldest live one of a table or at the bound of one,
--- or a raise of a bound.
+-- A try of seat w at a memtable: a look at the oldest live or the newest one of a table, or at the
+-- bound of one, or a raise of a bound.
 abbrev pub IsTry : ℕ → Event → Type 0
 IsTry w (Look by (CursorWord (OldestLive t))) = by ≡ w
+IsTry w (Look by (Newest t)) = by ≡ w
 IsTry w (Look by (Bound t m)) = by ≡ w
 IsTry w (Raise by t m to) = by ≡ w
 IsTry w _ = ⊥
@@ -99,6 +102,24 @@ pub record OnlyTried (w : ℕ) (v after : View) : Type 0 where
   pub are : AreTries w tries
   pub trail : after.trail ≡ tries ++ v.trail
   pub hands : after.hands ≡ v.hands
+  pub returned : after.returned ≡ v.returned
+
+-- what a seat knows of its boxes, with those of memtables as it knows them later
+abbrev pub put_since : Hands → Hands → Hands
+put_since h later = record h {
+  memtable_box = later.memtable_box;
+  held = later.held;
+  applied = later.applied;
+}
+
+-- Seat w made such tries alone, and may have put its entry into memtables.
+pub record OnlyPlaced (w : ℕ) (v after : View) : Type 0 where
+  pub tries : List OwnStep
+  pub are : AreTries w tries
+  pub trail : after.trail ≡ tries ++ v.trail
+  pub hands : after.hands ≡ put_since v.hands after.hands
+  pub put : List Placed
+  pub applied : after.hands.applied ≡ put ++ v.hands.applied
   pub returned : after.returned ≡ v.returned
 
 -- What a memtable answers to a write with this end that tries it: it took it, and is its place; or
@@ -126,24 +147,31 @@ module _ {K : Type 0} where
     pub list : writes_of s'.member.seat.me.0.trail ≡ writes_of s.member.seat.me.0.trail
     pub tried : OnlyTried s.member.number s.member.seat.me.0 s'.member.seat.me.0
 
-  -- The write has its place at each of its tables below a number.
-  abbrev pub IsPlacedBelow : ℕ → Deposited K → Type 0
-  IsPlacedBelow k s = (t : ℕ) → t < k → IsTrue (touches s.tables t)
-      → (m : ℕ) × ((seat_table (part_of s.member) t).place ≡ Some m)
+  -- The same where the seat may have put its entry into memtables.
+  pub record IsWriteStill (id : TableId) (size : PathSize) (s s' : Deposited K) : Type 0 where
+    pub member : Stays id size s.member s'.member
+    pub writing : s'.writing ≡ s.writing
+    pub start : s'.start ≡ s.start
+    pub end : s'.end ≡ s.end
+    pub tables : s'.tables ≡ s.tables
+    pub list : writes_of s'.member.seat.me.0.trail ≡ writes_of s.member.seat.me.0.trail
+    pub tried : OnlyPlaced s.member.number s.member.seat.me.0 s'.member.seat.me.0
 
   -- It tries no memtable of the tables from a number on.
   abbrev pub IsUntriedFrom : ℕ → Deposited K → Type 0
   IsUntriedFrom k s = (t : ℕ) → k ≤ t → (seat_table (part_of s.member) t).trying ≡ None
 
-  -- The write is closed with one place for each of its tables, and the seat's list is as it was.
+  -- The write is closed with one place for each of its tables, into which its entry was put, and
+  -- the seat's list is as it was.
   pub record EndsWrite (s : Deposited K) (after : Member K) : Type 0 where
     -- what the seat knew before its last step, behind its tries at the memtables
     pub before : View
-    pub tried : OnlyTried s.member.number s.member.seat.me.0 before
+    pub tried : OnlyPlaced s.member.number s.member.seat.me.0 before
     pub tables : before.part.note ≡ Some s.tables
     pub claim : before.part.claim ≡ Some (record { start = s.start.0; end = s.end.0 })
     pub places : List (Table × ℕ)
     pub are : IsItsPlaces before.part places
+    pub applied : AreApplied before.part before.hands
     pub found : ℕ
     pub did : Did before s.member.number (Close s.member.number Write s.writing (Applied places))
         found after.seat.me.0

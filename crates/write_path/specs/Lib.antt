@@ -1,6 +1,7 @@
 pub mod Claims
 pub mod Tries
 pub mod Writes
+pub mod Applies
 pub mod Ends
 pub mod Grown
 pub mod Sealed

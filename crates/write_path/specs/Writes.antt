@@ -6,16 +6,23 @@ use Rattle.std.specs.Prelude.{
   ◌<◌,
   ◌≤◌,
   ◌^◌,
+  List,
   [],
   ◌∷◌,
+  map,
   Result,
   Ok,
   Err,
 }
+use Rattle.std.specs.List.{filter, range_with_len}
+use Rattle.clog_base.specs.declared.cell.Writer.{Writer}
+use Rattle.clog_base.specs.declared.position.Key.{Key}
 use Rattle.clog_base.specs.declared.sizes.Sizes.{Sizes}
 use Rattle.clog_mutation.specs.declared.mutation.Mutation.{Mutation}
 use Rattle.clog_mutation.specs.Limits.{IsWithinLimits}
+use Rattle.clog_spec.specs.Sizes.{most_tables}
 use Rattle.path_core.specs.declared.note.EntryNote.{EntryNote}
+use Rattle.path_core.specs.Parts.{touches}
 use Rattle.path_core.specs.Whole.{IsWhole, Updates}
 pub use Rattle.clog_notes.specs.Entries.{
   HoldsTables,
@@ -32,19 +39,31 @@ use Rattle.write_path.specs.declared.prepared.Prepared.{Prepared}
 abbrev pub TablesBelow : Mutation → ℕ → Type 0
 TablesBelow m n = (t : ℕ) → Updates m t → t < n
 
--- All of the memory of a write is taken, for a path of these sizes: it holds the mutation, and the
--- node of its one note.
+-- the tables of a set, bit t for table t, in ascending order
+abbrev pub tables_in : ℕ → List ℕ
+tables_in tables = filter (λ t. touches tables t) (range_with_len 0 most_tables)
+
+-- a copy of a note for each of its tables, in their order
+abbrev pub copies_of : EntryNote → List EntryNote
+copies_of n = map (λ (t : ℕ). n) (tables_in n.tables)
+
+-- the note says that a writer claimed it from one key to another
+abbrev pub said : Key → Key → Writer → EntryNote → EntryNote
+said start end writer n = record n { start = start; end = end; writer = writer }
+
+-- All of the memory of a write is taken, for a path of these sizes: it holds the node of its one
+-- note, and those of a copy for each of the tables that the mutation updates.
 pub record IsPrepared (sizes : Sizes) (line : ℕ) (m : Mutation) (p : Prepared) : Type 0 where
   pub note : EntryNote
   pub one : p.notes ≡ note ∷ []
   pub of : IsNoteOf line m note
-  pub mutation : p.mutation ≡ m
+  pub copies : p.updates ≡ copies_of note
   pub size : p.size ≡ entry_size m
   pub limits : IsWithinLimits m
   pub fits : entry_size m ≤ entry_limit sizes.capacity
   pub below : TablesBelow m sizes.tables
 
--- Its note says that a writer claimed it from a key on.
+-- Its note says that a writer claimed it from a key on, and so do the copies.
 pub record IsClaimed (sizes : Sizes) (line : ℕ) (m : Mutation) (start writer : ℕ)
     (p : Prepared) : Type 0 where
   pub prepared : IsPrepared sizes line m p

@@ -1,5 +1,5 @@
 //! What a commit answers: how far a write has got, and by what it is known. A write is placed when
-//! it has its memtable at each of its tables; its updates are put into none yet.
+//! it has its memtable at each of its tables, and its updates are put there.
 use crate::prepared::Prepared;
 use clog_base::{Key, Position};
 

@@ -21,8 +21,9 @@ use sync_core::SyncCore;
 pub(crate) const DELETION: &[u8] =
     b"\x00\x02ab\x00\x01\x00\x00\x02cd\x00\x00\x00\x00\x00\x00\x00\x05\x00";
 
-/// The same for tables 0 and 3: 33 bytes.
-const TWO_TABLES: &[u8] = b"\x00\x02ab\x00\x02\x00\x00\x02cd\x00\x00\x00\x00\x00\x00\x00\x05\x00\
+/// The same for tables 0 and 3: 34 bytes, an entry of 46.
+pub(crate) const TWO_TABLES: &[u8] =
+    b"\x00\x02ab\x00\x02\x00\x00\x02cd\x00\x00\x00\x00\x00\x00\x00\x05\x00\
 \x03\x00\x02cd\x00\x00\x00\x00\x00\x00\x00\x05\x00";
 
 /// Before a value of 2014 bytes: key `k`, table 0, column `c`, timestamp 1.
@@ -96,7 +97,7 @@ fn commit_twice<R: Wait>(
 pub(crate) fn receipt(line: u32, offset: u32) -> Option<Receipt> {
     Some(Receipt {
         line,
-        position: Position { id: 7, offset },
+        position: place(offset),
     })
 }
 
@@ -114,19 +115,30 @@ pub(crate) fn durable(commit: &Commit) -> Option<Receipt> {
     }
 }
 
-// The bytes of the write that came back, and the key that was found.
-fn spent(commit: &Commit) -> Option<(u32, Key)> {
+// Where a key is in the log.
+pub(crate) fn place_of(key: Key) -> Position {
+    key.position(7)
+}
+
+// The bytes of the write that came back, and the place that was found.
+fn spent(commit: &Commit) -> Option<(u32, Position)> {
     match commit {
-        Commit::Spent(back, key) => Some((back.size(), *key)),
+        Commit::Spent(back, key) => Some((back.size(), place_of(*key))),
         _ => None,
     }
 }
 
-pub(crate) fn done(answer: SyncAnswer) -> Option<u64> {
+// Up to where the log is lasting.
+pub(crate) fn done(answer: SyncAnswer) -> Option<Position> {
     match answer {
-        SyncAnswer::Done(key) => Some(key),
+        SyncAnswer::Done(key) => Some(place_of(Key(key))),
         _ => None,
     }
+}
+
+// An offset in the first segment.
+pub(crate) fn place(offset: u32) -> Position {
+    Position { id: 7, offset }
 }
 
 #[test]
@@ -135,7 +147,7 @@ fn periodic_commits_follow_one_another(rt: HostRuntime) -> Result<(), Fail> {
     let (first, second, answer) = commit_twice(&rt, rt.alloc(), 4, mode, DELETION)?;
     assert_eq!(&rt; logged(&first), receipt(1, 60));
     assert_eq!(&rt; logged(&second), receipt(2, 92));
-    assert_eq!(&rt; done(answer), Some(92));
+    assert_eq!(&rt; done(answer), Some(place(92)));
     Ok(())
 }
 
@@ -145,7 +157,7 @@ fn a_marker_stands_between_batch_commits(rt: HostRuntime) -> Result<(), Fail> {
     let (first, second, answer) = commit_twice(&rt, rt.alloc(), 4, mode, DELETION)?;
     assert_eq!(&rt; durable(&first), receipt(1, 60));
     assert_eq!(&rt; durable(&second), receipt(2, 100));
-    assert_eq!(&rt; done(answer), Some(100));
+    assert_eq!(&rt; done(answer), Some(place(100)));
     Ok(())
 }
 
@@ -156,8 +168,8 @@ fn a_spent_log_hands_the_write_back(rt: HostRuntime) -> Result<(), Fail> {
     let payload = payload.as_slice();
     let (first, second, answer) = commit_twice(&rt, rt.alloc(), 1, mode, payload)?;
     assert_eq!(&rt; logged(&first), receipt(1, 2076));
-    assert_eq!(&rt; spent(&second), Some((2048, Key(2076))));
-    assert_eq!(&rt; done(answer), Some(2076));
+    assert_eq!(&rt; spent(&second), Some((2048, place(2076))));
+    assert_eq!(&rt; done(answer), Some(place(2076)));
     Ok(())
 }
 

@@ -1,4 +1,5 @@
-//! A seat whose entry is deposited: what is left of its write is to place it at its tables.
+//! A seat whose entry is deposited: what is left of its write is to place it at its
+//! tables, and to put its updates there.
 ghost use Rattle.std.specs.Prelude.{◌≡◌, ◌^◌, ◌<◌, [], Some, None};
 ghost use Rattle.path_core.specs.Parts.{HoldsNoTurn};
 
@@ -27,4 +28,5 @@ pub struct Deposited<K> {
     pub ghost few: { tables < 2 ^ member.seat.me.0.size.tables },
     pub ghost free: { HoldsNoTurn member.seat.me.0.part },
     pub ghost bare: { member.seat.me.1 ≡ [] },
+    pub ghost rests: { member.seat.me.0.hands.memtable_box ≡ None },
 }

@@ -7,6 +7,7 @@ ghost use Rattle.path_core.specs.declared.event.Carried.TheVariants.{Deposit};
 ghost use Rattle.path_core.specs.declared.event.Event.TheVariants.{Close};
 ghost use Rattle.path_core.specs.declared.note.EntryNote.{EntryNote};
 ghost use Rattle.path_rule.specs.Members.{view_of, IsOf, Stepped};
+ghost use Rattle.write_path.specs.Applies.{HoldsUpdates, IsUnappliedFrom};
 ghost use Rattle.write_path.specs.Ends.{IsListed, IsUntriedFrom};
 ghost use Rattle.write_path.specs.Tries.{Stays};
 ghost use Rattle.write_path.specs.Writes.{entry_size, IsPrepared, IsNoteOf};
@@ -22,7 +23,7 @@ use std::alloc::Allocator;
 impl<K: Keeper, A: Allocator> WritePath<K, A> {
     /// Puts the entry of a write into the seat's box, at the range that it claimed, and leaves the
     /// append order with it: the seat's list is the old one and this write. The prepared write that
-    /// comes back has its updates still.
+    /// comes back has its updates still, which say the range too.
     pub fn deposit(&self, seat: Claimed<K>, prepared: Prepared) -> (Deposited<K>, Prepared)
         requires table { IsOf self.now.table.table.shared.table_id self.now.table.size seat.member }
         requires group { seat.group < 65536 }
@@ -32,7 +33,6 @@ impl<K: Keeper, A: Allocator> WritePath<K, A> {
         ensures same { Stays self.now.table.table.shared.table_id self.now.table.size seat.member
             result.0.member × (result.0.writing ≡ seat.writing) × (result.0.start ≡ seat.start)
             × (result.0.end ≡ seat.end) }
-        ensures mutation { result.1.mutation ≡ prepared.mutation }
         ensures step { (note : EntryNote) × (n : ℕ) × Stepped seat.member
             (Close seat.member.number Append seat.group (Deposit note)) n result.0.member
             × ((sizes : Sizes) (line : ℕ) (m : Mutation) → IsPrepared sizes line m prepared
@@ -40,6 +40,8 @@ impl<K: Keeper, A: Allocator> WritePath<K, A> {
         ensures listed { IsListed (view_of seat.member).trail (view_of result.0.member).trail
             seat.member.number seat.start.0 seat.end.0 result.0.tables prepared }
         ensures untried { IsUntriedFrom 0 result.0 }
+        ensures holds { HoldsUpdates result.0 result.1 }
+        ensures unapplied { IsUnappliedFrom 0 result.0 }
     {
         let Claimed {
             member,

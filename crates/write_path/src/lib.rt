@@ -6,11 +6,13 @@
 mod accepting;
 mod acknowledging;
 mod allocating;
+mod applying;
 mod claimed;
 mod claiming;
 mod closing;
 mod commit;
 mod committing;
+mod copies;
 mod deposited;
 mod depositing;
 mod fault;
@@ -41,6 +43,8 @@ pub use seats::{Appending, WritePath};
 pub use turning::TurnSeat;
 pub use writing::Written;
 
+#[cfg(test)]
+mod applying_tests;
 #[cfg(test)]
 mod commit_tests;
 #[cfg(test)]

@@ -7,6 +7,7 @@ ghost use Rattle.path_core.specs.declared.note.EntryNote.{EntryNote};
 ghost use Rattle.write_path.specs.Receipts.{IsLineOf};
 ghost use Rattle.write_path.specs.Writes.{Prepares, TablesBelow, IsPrepared, IsClaimed};
 
+use crate::copies::{copies_of, say_in_each};
 use crate::fault::PrepareFault;
 use clog_base::{Key, Sizes, Writer};
 use clog_mutation::Mutation;
@@ -16,11 +17,12 @@ use std::alloc::Global;
 use std::collections::LinkedList;
 
 /// A write that takes no more memory: it holds the node of its note with the entry's bytes, which
-/// goes into its writer's box, and its mutation.
+/// goes into its writer's box, and a copy of the note for each of its tables, which go into
+/// memtables.
 #[derive(Drop)]
 pub struct Prepared {
     pub(crate) notes: LinkedList<EntryNote>,
-    pub(crate) mutation: Mutation,
+    pub(crate) updates: LinkedList<EntryNote>,
     pub(crate) size: u32,
 }
 
@@ -38,27 +40,27 @@ impl Prepared {
         ensures { Prepares sizes line mutation result }
     {
         let size = entry_size(&mutation, sizes.capacity)?;
+        let note = note_of(alloc, line, &mutation, size)?;
+        let updates = copies_of(alloc, &note)?;
         let mut notes = LinkedList::new(alloc);
-        notes.push_back(note_of(alloc, line, &mutation, size)?)?;
+        notes.push_back(note)?;
         Ok(Prepared {
             notes,
-            mutation,
+            updates,
             size,
         })
     }
 
     /// Says in its note where the claim of its entry begins, and who made it: what is deposited.
+    /// The copies say the same.
     pub fn claimed(&mut self, start: Key, writer: Writer)
         requires { start.0 + self.old.size < 2 ^ 64 }
         ensures { (sizes : Sizes) (line : ℕ) (m : Mutation) → IsPrepared sizes line m self.old
             → IsClaimed sizes line m start.0 writer.0 self.new }
     {
         let end = Key(start.0 + u64::from(self.size));
-        if let Some(note) = self.notes.front_mut() {
-            note.start = start;
-            note.end = end;
-            note.writer = writer;
-        }
+        say_in_each(&mut self.notes, start, end, writer);
+        say_in_each(&mut self.updates, start, end, writer);
     }
 
     // The tables of its note.

@@ -4,7 +4,7 @@ ghost use Rattle.std.specs.Prelude.{◌≡◌, IfOk};
 ghost use Rattle.path_core.specs.Keeper.{IsFresh};
 ghost use Rattle.path_rule.specs.Members.{IsOf};
 
-use crate::commit_tests::{DELETION, done, durable, prepared, receipt};
+use crate::commit_tests::{DELETION, done, durable, place, prepared, receipt};
 use crate::{Commit, PathSeat, Receipt, SyncAnswer, SyncFault, WritePath};
 use clog_base::{Key, Sizes, Table};
 use clog_cells::CellMap;
@@ -107,7 +107,7 @@ fn a_refused_sync_is_made_again_at_the_same_marker(rt: HostRuntime) -> Result<()
     };
     assert_eq!(&rt; Some(logged), receipt(1, 60));
     assert_eq!(&rt; fault, SyncFault::OutOfMemory);
-    assert_eq!(&rt; done(answer), Some(60));
+    assert_eq!(&rt; done(answer), Some(place(60)));
     assert_eq!(&rt; durable(&second), receipt(2, 100));
     Ok(())
 }

@@ -3,7 +3,7 @@ ghost use Rattle.std.specs.Prelude.{◌≡◌, ℕ, IfOk};
 ghost use Rattle.clog_mutation.specs.declared.mutation.Mutation.{Mutation};
 ghost use Rattle.write_path.specs.Writes.{IsPrepared};
 
-use crate::commit_tests::{done, logged, one_seat, prepared};
+use crate::commit_tests::{done, logged, one_seat, place, prepared};
 use crate::{Commit, Prepared, Receipt, SyncAnswer};
 use clog_base::{Position, Sizes};
 use clog_io::OpenGate;
@@ -73,7 +73,7 @@ fn at(line: u32, id: u64, offset: u32) -> Option<Receipt> {
 fn an_entry_that_leaves_a_byte_free_stays(rt: HostRuntime) -> Result<(), Fail> {
     let (second, answer, third) = commit_sync_commit(&rt, rt.alloc(), 2000, 1964, 95)?;
     assert_eq!(&rt; logged(&second), at(2, 7, 3992));
-    assert_eq!(&rt; done(answer), Some(3992));
+    assert_eq!(&rt; done(answer), Some(place(3992)));
     assert_eq!(&rt; logged(&third), at(3, 7, 4095));
     Ok(())
 }
@@ -82,7 +82,7 @@ fn an_entry_that_leaves_a_byte_free_stays(rt: HostRuntime) -> Result<(), Fail> {
 fn an_entry_that_fills_the_segment_goes_to_the_next(rt: HostRuntime) -> Result<(), Fail> {
     let (second, answer, third) = commit_sync_commit(&rt, rt.alloc(), 2000, 1964, 96)?;
     assert_eq!(&rt; logged(&second), at(2, 7, 3992));
-    assert_eq!(&rt; done(answer), Some(3992));
+    assert_eq!(&rt; done(answer), Some(place(3992)));
     assert_eq!(&rt; logged(&third), at(3, 8, 124));
     Ok(())
 }
@@ -91,7 +91,7 @@ fn an_entry_that_fills_the_segment_goes_to_the_next(rt: HostRuntime) -> Result<(
 fn a_marker_takes_the_last_bytes(rt: HostRuntime) -> Result<(), Fail> {
     let (second, answer, third) = commit_sync_commit(&rt, rt.alloc(), 2030, 2029, 35)?;
     assert_eq!(&rt; logged(&second), at(2, 7, 4087));
-    assert_eq!(&rt; done(answer), Some(4087));
+    assert_eq!(&rt; done(answer), Some(place(4087)));
     assert_eq!(&rt; logged(&third), at(3, 8, 63));
     Ok(())
 }
@@ -100,7 +100,7 @@ fn a_marker_takes_the_last_bytes(rt: HostRuntime) -> Result<(), Fail> {
 fn a_marker_that_does_not_fit_moves_the_log_on(rt: HostRuntime) -> Result<(), Fail> {
     let (second, answer, third) = commit_sync_commit(&rt, rt.alloc(), 2030, 2030, 35)?;
     assert_eq!(&rt; logged(&second), at(2, 7, 4088));
-    assert_eq!(&rt; done(answer), Some(4088));
+    assert_eq!(&rt; done(answer), Some(place(4088)));
     assert_eq!(&rt; logged(&third), at(3, 8, 63));
     Ok(())
 }

@@ -1,6 +1,6 @@
 //! Syncs of a path on which nothing was written.
 use crate::SyncAnswer;
-use crate::commit_tests::{done, one_seat};
+use crate::commit_tests::{done, one_seat, place};
 use clog_base::Sizes;
 use std::alloc::Global;
 use std::sync::Wait;
@@ -25,10 +25,10 @@ fn sync_twice<R: Wait>(
 #[test]
 fn a_fresh_path_is_synced_to_its_start(rt: HostRuntime) -> Result<(), Fail> {
     let (first, second) = sync_twice(&rt, rt.alloc(), SyncCore::batch())?;
-    assert_eq!(&rt; done(first), Some(0));
-    assert_eq!(&rt; done(second), Some(0));
+    assert_eq!(&rt; done(first), Some(place(0)));
+    assert_eq!(&rt; done(second), Some(place(0)));
     let (first, second) = sync_twice(&rt, rt.alloc(), SyncCore::periodic(10))?;
-    assert_eq!(&rt; done(first), Some(0));
-    assert_eq!(&rt; done(second), Some(0));
+    assert_eq!(&rt; done(first), Some(place(0)));
+    assert_eq!(&rt; done(second), Some(place(0)));
     Ok(())
 }

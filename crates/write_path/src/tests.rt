@@ -59,13 +59,16 @@ fn write_once<K: Keeper>(
         TryClaim::Again(seat, _) => return (path.stop(path.stop_append(seat)), None),
         TryClaim::Spent(seat, _) => return (path.stop(path.stop_append(seat)), None),
     };
-    let (deposited, _prepared) = path.deposit(claimed, prepared);
+    let (deposited, rest) = path.deposit(claimed, prepared);
     let written = Written {
         start: deposited.start,
         end: deposited.end,
         tables: deposited.tables,
     };
-    (path.end_write(deposited, &OpenGate::new()), Some(written))
+    (
+        path.end_write(deposited, rest, &OpenGate::new()),
+        Some(written),
+    )
 }
 
 #[test]

@@ -53,9 +53,9 @@ impl<K: Keeper, A: Allocator> WritePath<K, A> {
             seat.end.0 prepared (view_of result.member).trail }
     {
         let writer = Writer(seat.member.number());
-        let (deposited, _rest) = self.deposit(seat, prepared);
+        let (deposited, rest) = self.deposit(seat, prepared);
         gate.reached(writer, Point::Deposited);
-        let seat = self.end_write(deposited, gate);
+        let seat = self.end_write(deposited, rest, gate);
         gate.reached(writer, Point::Finished);
         seat
     }

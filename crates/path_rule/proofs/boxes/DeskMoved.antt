@@ -3,6 +3,7 @@ use Rattle.std.proofs.Common.{
   ◌≡◌,
   ◌≢◌,
   ℕ,
+  ◌≤◌,
   false,
   true,
   List,
@@ -106,7 +107,7 @@ module _ {K : Type 0} (shows : K → Lasting) (seats : ℕ) (notes : List EntryN
           (sym (role ∙ mine)) (inr (inl (holds, is)))
 
   pub boxed_desk_give : (y : Slot K) → is_some v'.part.sync ≡ false → IsTrue (is_some v.part.sync)
-      → DeskIs shows y v.hands.lasting v.hands.pending v.hands.progress → length homes ≡ boxes seats
+      → DeskIs shows y v.hands.lasting v.hands.pending v.hands.progress → boxes seats ≤ length homes
       → Boxed shows seats notes lasting claims append (set homes desk_box (some y))
       (set views id v')
   boxed_desk_give y free held fits deep = let k =

@@ -76,7 +76,7 @@ distinct (n ∷ ns) once = (none_at n.end.0 ns none_more, distinct ns fewer)
     fewer k = let c = sum_by-cons (λ (a : EntryNote). cond {A = ℕ} (is_note_at k a) 1 0) n ns in
         let o = once k in omega arith
 
-few : (bound : ℕ) (l : List EntryNote) → ((k : ℕ) → ends_at k l ≤ 1)
+pub few : (bound : ℕ) (l : List EntryNote) → ((k : ℕ) → ends_at k l ≤ 1)
     → ((n : EntryNote) → Contains l n → n.end.0 < bound) → length l ≤ bound
 few bound l once low =
     let d = length-le_from_distinct_below (ends l) bound (distinct l once) (λ q h.

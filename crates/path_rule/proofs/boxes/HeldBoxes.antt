@@ -6,6 +6,7 @@ use Rattle.std.proofs.Common.{
   suc,
   ◌%◌,
   ◌<◌,
+  ◌≤◌,
   Bool,
   List,
   [],
@@ -207,7 +208,7 @@ module _ {K : Type 0} (shows : K → Lasting) (seats : ℕ) (notes : List EntryN
 
     -- It gives its own box back as it was.
     pub boxed_give : (g : ℕ) (y : Slot K) → v.part.append ≡ Some g → v'.part.append ≡ None
-        → v'.hands ≡ v.hands → NotesAre y v.hands.notes → length homes ≡ boxes seats → w < seats
+        → v'.hands ≡ v.hands → NotesAre y v.hands.notes → boxes seats ≤ length homes → w < seats
         → Boxed shows seats notes lasting after groups (set homes (box_of w g) (some y))
         (set views id v')
     boxed_give g y was is hands fits deep low = record {

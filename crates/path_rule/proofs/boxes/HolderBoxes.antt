@@ -237,7 +237,7 @@ module _ {K : Type 0} (shows : K → Lasting) (seats : ℕ) (notes : List EntryN
   -- It gives that box back, empty: what was in it is pending.
   pub boxed_give_back : (y : Slot K) → after ≡ claims → groups ≡ append → NotesAre y []
       → v.hands.box_taken ≡ Some (box_of v.hands.swept (suc append.current))
-      → v'.hands ≡ with_swept seats v.hands → length homes ≡ boxes seats
+      → v'.hands ≡ with_swept seats v.hands → boxes seats ≤ length homes
       → Boxed shows seats notes lasting claims append
       (set homes (box_of v.hands.swept (suc append.current)) (some y)) (set views id v')
   boxed_give_back y same_claims same_groups void taken hands deep = let inside = G.inside in

@@ -83,7 +83,7 @@ module _ {K : Type 0} (shows : K → Lasting) (seats : ℕ) (notes more_notes : 
     (oldest : groups.oldest ≡ append.oldest) (g : ℕ) (note : EntryNote)
     (was : v.part.append ≡ Some g) (is : v'.part.append ≡ None)
     (issue : issue_held v'.part ≡ issue_held v.part) (hands : v'.hands ≡ v.hands)
-    (bare : is_some v.part.sync ≡ false) (deep : length homes ≡ boxes seats) (low : w < seats)
+    (bare : is_some v.part.sync ≡ false) (deep : boxes seats ≤ length homes) (low : w < seats)
     (writer : note.writer.0 ≡ w) (not_above : g ≤ append.current)
     (not_below : append.oldest ≤ g)
     (above : (i h : ℕ) → i < length claims → IsTrue (is_marker (claim_in claims i))

@@ -118,7 +118,8 @@ module _ {K : Type 0} (shows : K → Lasting) (o : Beside) (size : PathSize) (sl
             (others_near shows o size slots id m w mine s r there held)
             r.boxed.progress empty empty (H.desk held) r.boxed.near r.boxed.all r.boxed.marked
             r.boxed.stamped (λ l. let S = H.swept l in
-            record { holds = still_held m.0.part held; passed = S.passed; empty = S.empty })),
+            record { holds = still_held m.0.part held; passed = S.passed; empty = S.empty }))
+            tt (refl, refl, refl, refl) tt tt,
         (λ z q role _ word. each_name shows o size slots id m w mine 73 g
             (λ z q. Made z (Expire z Append q) n m (v', m.1))
             ((refl, was shows o size s r id w m.0 there mine e may tt), refl) z q role word),
@@ -184,7 +185,8 @@ module _ {K : Type 0} (shows : K → Lasting) (o : Beside) (size : PathSize) (sl
             (others_near shows o size slots id m w mine s r there held)
             r.boxed.progress empty empty (H.desk held) (let b = r.boxed.near in omega arith)
             (λ all. absurd (let p = r.boxed.all all in omega arith)) r.boxed.marked
-            r.boxed.stamped (λ l. absurd (let p = (H.swept l).passed in omega arith))),
+            r.boxed.stamped (λ l. absurd (let p = (H.swept l).passed in omega arith)))
+            tt (refl, refl, refl, refl) tt tt,
         each_seat_name shows o size slots id m w mine (λ z. Made z (Advance z Append g) g m
             (v', m.1))
             ((refl, was shows o size s r id w m.0 there mine e may tt), refl),

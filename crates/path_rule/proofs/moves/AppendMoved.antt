@@ -178,7 +178,8 @@ module _ {K : Type 0} (shows : K → Lasting) (o : Beside) (size : PathSize) (sl
             (others_near shows o size slots id m w mine s r there held)
             (barred c m.0.hands.progress) empty empty (D.0, D.1, refl)
             (let p = r.boxed.all whole in omega arith) (λ no. absurd (false≢true no)) marked
-            (λ b n q. moved s r g b n (up ∙ ap suc now) whole q) (λ l. absurd (omega arith))),
+            (λ b n q. moved s r g b n (up ∙ ap suc now) whole q) (λ l. absurd (omega arith)))
+            tt (refl, refl, refl, refl) tt tt,
         (λ z c' role saw'. let same : c ≡ c' = now
             ∙ sym (current_is shows o size slots id m w mine s r there held c' saw') in
             each_seat_name shows o size slots id m w mine

@@ -93,7 +93,7 @@ module _ {K : Type 0} (shows : K → Lasting) (o : Beside) (size : PathSize) (sl
             keeps
             (unseen shows o size slots id m w mine s r there held
             (next_of x e).append v' refl refl refl out
-            (still _ m.0.part.sync held) refl empty),
+            (still _ m.0.part.sync held) refl empty) tt (refl, refl, refl, refl) tt tt,
         (λ z q role _ word. each_name shows o size slots id m w mine 73 g
             (λ z q. Made z (OpenGroup z Append q) 0 m (v', m.1)
             × ((was : Was m.0 z (OpenGroup z Append q))

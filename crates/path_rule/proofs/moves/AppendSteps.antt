@@ -64,6 +64,7 @@ use Rattle.path_rule.specs.Rule.{Knows, Ruled, view_after, with_hands}
 use Rattle.path_rule.specs.Told.{Took, Joined, Withdrew, MadeAs, Made}
 use Rattle.path_rule.proofs.boxes.FewNotes.{few_kept}
 use Rattle.path_rule.proofs.boxes.HeldBoxes.{boxed_take, boxed_give}
+use Rattle.path_rule.proofs.moves.LeavesWrites.{FirstBelow}
 use Rattle.path_rule.proofs.moves.Looks.{
   Owes,
   as_part,
@@ -73,7 +74,7 @@ use Rattle.path_rule.proofs.moves.Looks.{
   each_name,
   own_part,
 }
-use Rattle.path_rule.proofs.moves.Moving.{core_lawful, was, plays, columns_now}
+use Rattle.path_rule.proofs.moves.Moving.{core_lawful, enough_boxes, was, plays, columns_now}
 use Rattle.path_rule.proofs.moves.StepFacts.{more_word, less_word, known_groups}
 use Rattle.path_rule.proofs.places.ReadBack.{rows_stay}
 
@@ -183,7 +184,8 @@ module _ {K : Type 0} (shows : K → Lasting) (o : Beside) (size : PathSize) (sl
             x.claims
             x.append
             (next_of x e).append s.homes s.views r.boxed id w m.0 v' there mine refl refl refl
-            (λ i g l _ _. (l, refl)) refl C.issue g outside C.append refl),
+            (λ i g l _ _. (l, refl)) refl C.issue g outside C.append refl) tt
+            (refl, refl, refl, refl) (own_low s r there g) tt,
         (λ z q role _ word. each_name shows o size slots id m w mine 73 g
             (λ z q. (n ≡ k → ((notes : List EntryNote)
             × MadeAs z (Register z Append q) (k + 1) (with_notes notes m.0.hands) m.0 v')
@@ -246,8 +248,10 @@ module _ {K : Type 0} (shows : K → Lasting) (o : Beside) (size : PathSize) (sl
             x.claims
             x.append
             (next_of x e).append s.homes s.views r.boxed id w m.0 v' there mine refl refl refl
-            (λ i g l _ _. (l, refl)) refl C.issue g y append C.append refl kept r.deep
-            (low_seat s r there))),
+            (λ i g l _ _. (l, refl)) refl C.issue g y append C.append refl kept
+            (enough_boxes shows o size s r) (low_seat s r there))) tt
+            (refl, refl, refl, refl)
+            (subst (λ l. FirstBelow (boxes size.seats) l) (sym holds) (own_low s r there g)) tt,
         (λ z q role _ word. each_name shows o size slots id m w mine 73 g
             (λ z q. MadeAs z (Close z Append q Nothing) n m.0.hands m.0 v' × (rest m.1 ≡ rest m.1))
             ((refl, was shows o size s r id w m.0 there mine e may tt), refl) z q role word),

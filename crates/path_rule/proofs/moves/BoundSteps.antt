@@ -126,7 +126,7 @@ module _ {K : Type 0} (shows : K → Lasting) (o : Beside) (size : PathSize) (sl
       (λ C. boxed_stay shows size.seats x.notes
       (shown o size.at_open r.kept_to x) x.claims x.claims x.append x.append s.homes s.views r.boxed
       id w m.0 v' there mine refl refl refl (λ i g l _ _. (l, refl)) refl C.append C.issue refl)
-      (BoundRaised (step slots i (to + 2 ^ 62) 0 none) m n)
+      tt tt (BoundRaised (step slots i (to + 2 ^ 62) 0 none) m n)
       (λ u z h key q role high word first. each_bound_name t f to
       (λ z q h key. Made z (Raise z q h (record { 0 = key })) n m (v', m.1)
       × ((was : Was m.0 z (Raise z q h (record { 0 = key })))

@@ -1,7 +1,24 @@
 -- A writer claims the range of an entry.
-use Rattle.std.proofs.Common.{◌≡◌, ◌≢◌, ℕ, eqb, false, None, refl, sym, ap, ◌∙◌, subst}
+use Rattle.std.proofs.Common.{
+  ◌≡◌,
+  ◌≢◌,
+  ℕ,
+  ◌<◌,
+  eqb,
+  false,
+  Some,
+  None,
+  refl,
+  sym,
+  ap,
+  ◌∙◌,
+  subst,
+  arith,
+}
 use Rattle.std.specs.Prelude.{slice_index, IsSome}
 use Rattle.std.specs.Option.{option_map}
+use Rattle.std.proofs.lemmas.Option.{same_Some}
+use mathlib.Core.Logic.{inr}
 use mathlib.Core.Option.{none, some}
 use lib.ListN.{get_elem?}
 use prog.Atomic.{either}
@@ -10,11 +27,13 @@ use Rattle.atomic_table.specs.Table.{State, Me, step, Allows}
 use Rattle.path_core.specs.declared.event.ClaimKind.TheVariants.{Entry}
 use Rattle.path_core.specs.declared.event.Event.TheVariants.{Look, Claim}
 use Rattle.path_core.specs.declared.event.Place.TheVariants.{Log}
+use Rattle.path_core.specs.declared.seat.Range.{Range}
 use Rattle.path_core.specs.declared.seat.Seat.{Seat as SeatOf}
 use Rattle.path_core.specs.Allowed.{IsStep}
-use Rattle.path_core.specs.Keys.{MovesLog}
+use Rattle.path_core.specs.Keys.{MovesLog, claim_start}
 use Rattle.path_core.specs.Next.{next_of, claim_of}
 use Rattle.path_core.proofs.frame.Runs.{past_sizes}
+use Rattle.path_core.proofs.log.LogGrows.{claimed_above}
 use Rattle.path_core.proofs.log.MarkerSteps.{last_marker_stays}
 use Rattle.path_rule.specs.declared.lasting.Beside.{Beside}
 use Rattle.path_rule.specs.declared.lasting.Lasting.{Lasting}
@@ -23,20 +42,25 @@ use Rattle.path_rule.specs.declared.view.PathSize.{PathSize}
 use Rattle.path_rule.specs.declared.view.Role.TheVariants.{Steps}
 use Rattle.path_rule.specs.declared.view.View.{View}
 use Rattle.path_core.specs.Parts.{kept_of}
+use Rattle.path_rule.specs.Boxes.{memtable_box}
 use Rattle.path_rule.specs.Lasts.{shown}
-use Rattle.path_rule.specs.Rule.{start_of, Ruled, view_after}
+use Rattle.path_rule.specs.Layout.{reading_at}
+use Rattle.path_rule.specs.Memtables.{LiesAmong}
+use Rattle.path_rule.specs.Rule.{start_of, told_by, view_after, Ruled}
 use Rattle.path_rule.specs.Told.{Claimed, Made}
 use Rattle.path_rule.proofs.boxes.HeldBoxes.{boxed_stay}
+use Rattle.path_rule.proofs.boxes.MemtablesStay.{claimed_puts, runs_else}
+use Rattle.path_rule.proofs.log.OwnWrites.{below_log}
 use Rattle.path_rule.proofs.moves.Looks.{
   Owes,
   as_part,
   within,
-  acts,
+  acts_with,
   look_owes,
   each_seat_name,
   own_part,
 }
-use Rattle.path_rule.proofs.moves.Moving.{known}
+use Rattle.path_rule.proofs.moves.Moving.{core_lawful, known, place_still, puts_now, still_kept}
 use Rattle.path_rule.proofs.moves.StepFacts.{claim_bars}
 use Rattle.path_rule.proofs.places.ReadBack.{rows_stay}
 
@@ -64,12 +88,18 @@ module _ {K : Type 0} (shows : K → Lasting) (o : Beside) (size : PathSize) (sl
           sized_moves s r there,
         );
       } in
-      acts shows o size slots id m w mine s r there e refl may tt tt tt
+      acts_with shows o size slots id m w mine s r there e refl may tt tt tt
       (rows_stay x e may (λ q. q) r.rows) to to refl refl
       (λ C. boxed_stay shows size.seats x.notes (shown o size.at_open r.kept_to x) x.claims
       (next_of x e).claims x.append x.append s.homes s.views r.boxed id w m.0 v' there mine refl
       refl refl (claim_bars x.claims (claim_of x.capacity w from to Entry) refl)
       (ap (option_map kept_of) (last_marker_stays x e (λ b. b))) C.append C.issue refl)
+      (λ C. claimed_puts r.memtables.contents size.seats w m.0.part v'.part m.0.hands C.note
+      (place_still shows o size s r id w m.0 there mine e (reading_at Log to)
+      (told_by false m.0.hands) tt)
+      (λ q t k c few. none_there s r t k few may q (sym C.claim ∙ c))
+      (puts_now shows o size s r id w m.0 there mine)) (still_kept shows o size s r e may tt refl)
+      (λ C z t k q few h R. inr (runs_else s.views id m.0 v' there claim z q.end.0 R)) tt
       then (λ u. each_seat_name shows o size slots id m w mine (λ z. (n ≡ from
       → Made z (Claim z (record { 0 = from }) (record { 0 = to }) Entry) to m (v', m.1))
       × (n ≢ from → Made z (Look z Log) n m (v', m.1)))
@@ -81,6 +111,20 @@ module _ {K : Type 0} (shows : K → Lasting) (o : Beside) (size : PathSize) (sl
       × (n ≢ from → Made z (Look z Log) n m (v', m.1)))
       ((λ hit. absurd (miss hit)), (λ _. made))))
     where
+      -- all that lies in a box ends at or below the log key, so below what is claimed now
+      none_there : (s : State (Slot K) View) (r : Ruled shows o size s) (t k : ℕ) → t < 16
+          → IsStep r.core (Claim w (record { 0 = from }) (record { 0 = to }) Entry) → (q : Range)
+          → Some (record { start = claim_start Entry from to; end = to }) ≡ Some q
+          → ¬ LiesAmong (r.memtables.contents (memtable_box size.seats w t k)) q.end
+      none_there s r t k few may q is h = let x = r.core in
+          let law = core_lawful shows o size s r in
+          let low = below_log x law h.0 (r.memtables.sound w t k h.0 few h.1).among in
+          let high = claimed_above x law.sized law.claims_tile_the_log w (record { 0 = from })
+          (record { 0 = to }) may in let end = h.2 in
+          let same : to ≡ q.end = ap (λ (z : Range). z.end)
+          (same_Some (record { start = claim_start Entry from to; end = to }) q is) in
+          absurd (omega arith)
+
       sized_moves : (s : State (Slot K) View) (r : Ruled shows o size s)
           → get_elem? s.views id ≡ some m.0 → MovesLog Entry r.core.capacity r.core.ordinals from to
       sized_moves s r there = let z = past_sizes r.events (start_of size) r.core r.run in

@@ -1,6 +1,7 @@
 -- A writer leaves the append order with the note that it put into its box.
 use Rattle.std.proofs.Common.{
   ◌≡◌,
+  ◌≢◌,
   ℕ,
   ◌+◌,
   ◌-◌,
@@ -45,6 +46,7 @@ use Rattle.path_core.specs.declared.event.Turn.TheVariants.{Sync}
 use Rattle.path_core.specs.declared.note.EntryNote.{EntryNote}
 use Rattle.path_core.specs.declared.seat.Range.{Range}
 use Rattle.path_core.specs.declared.seat.Seat.{Seat as SeatOf}
+use Rattle.path_core.specs.declared.state.Placed.{Placed}
 use Rattle.path_core.specs.Allowed.{IsStep}
 use Rattle.path_core.specs.LawfulLog.{entry_claim, is_undeposited, is_note_at}
 use Rattle.path_core.specs.Next.{next_of}
@@ -54,6 +56,7 @@ use Rattle.path_core.proofs.frame.Runs.{past_sizes}
 use Rattle.path_core.proofs.frame.Seats.{some_left, group_made}
 use Rattle.path_core.proofs.lists.Inserted.{insert_cases, insert_old, insert_new}
 use Rattle.path_core.proofs.lists.Replaced.{counted_in, counted_some}
+use Rattle.path_core.proofs.log.OwnNotes.{not_yet}
 use Rattle.path_rule.specs.declared.lasting.Beside.{Beside}
 use Rattle.path_rule.specs.declared.lasting.Lasting.{Lasting}
 use Rattle.path_rule.specs.declared.slot.Slot.{Slot}
@@ -62,17 +65,31 @@ use Rattle.path_rule.specs.declared.view.PathSize.{PathSize}
 use Rattle.path_rule.specs.declared.view.Role.TheVariants.{Steps}
 use Rattle.path_rule.specs.declared.view.View.{View}
 use Rattle.path_rule.specs.Boxed.{ends_at, Boxed}
-use Rattle.path_rule.specs.Boxes.{box_of}
+use Rattle.path_rule.specs.Boxes.{box_of, boxes}
 use Rattle.path_rule.specs.Lasts.{shown}
-use Rattle.path_rule.specs.Layout.{tally_word}
-use Rattle.path_rule.specs.Rule.{Knows, start_of, Ruled, view_after}
+use Rattle.path_rule.specs.Layout.{reading_at, tally_word}
+use Rattle.path_rule.specs.Rule.{told_by, view_after, start_of, Knows, Ruled}
 use Rattle.path_rule.specs.Told.{Deposited, MadeAs}
+use Rattle.path_rule.proofs.boxes.MemtablesStay.{noted_puts, runs_still}
 use Rattle.path_rule.proofs.boxes.NotePut.{boxed_put}
 use Rattle.path_rule.proofs.log.KeptStays.{kept_same}
 use Rattle.path_rule.proofs.log.Lending.{lasting_ends}
-use Rattle.path_rule.proofs.moves.AppendSteps.{low_seat}
-use Rattle.path_rule.proofs.moves.Looks.{within, each_name, own_part}
-use Rattle.path_rule.proofs.moves.Moving.{core_lawful, known, was, plays, columns_now}
+use Rattle.path_rule.proofs.moves.AppendSteps.{low_seat, own_low}
+use Rattle.path_rule.proofs.moves.LeavesWrites.{FirstBelow}
+use Rattle.path_rule.proofs.moves.Looks.{as_part, within, each_name, own_part}
+use Rattle.path_rule.proofs.moves.Moving.{
+  core_lawful,
+  enough_boxes,
+  known,
+  was,
+  plays_with,
+  columns_now,
+  memtables_then,
+  place_still,
+  puts_now,
+  still_kept,
+  reads_still,
+}
 use Rattle.path_rule.proofs.moves.StepFacts.{
   less_word,
   group_low,
@@ -116,11 +133,16 @@ module _ {K : Type 0} (shows : K → Lasting) (o : Beside) (size : PathSize) (sl
       ∙ less_word c (some_left x law Append w g here) (subst (λ z. z < 2 ^ 64) found low) in
       let rows = rows_stay x e may (λ q. q) r.rows in
       let C = columns_now shows o size s r id w m.0 there mine e refl may whole tt fits rows
-      ((n + (2 ^ 64 - 1)) % 2 ^ 64) n false m.0.hands now refl in (
+      ((n + (2 ^ 64 - 1)) % 2 ^ 64) n false m.0.hands now refl in
+      let P = puts_now shows o size s r id w m.0 there mine in
+      let is = as_part shows o size slots id m w mine s r there in
+      let rests = P.rests (ap (λ (p : SeatOf). p.note) is ∙ not_yet x law.orders w g here) in
+      let below = subst (λ l. FirstBelow (boxes size.seats) l) (sym holds)
+      (own_low shows o size slots id m w mine s r there g) in (
         v',
         gives,
         tt,
-        plays shows o size s r id w m.0 there mine e refl may whole tt fits rows
+        plays_with shows o size s r id w m.0 there mine e refl may whole tt fits rows
             ((n + (2 ^ 64 - 1)) % 2 ^ 64) n false m.0.hands now refl m.1 gives
             (subst (λ (q : Lasting × List (ℕ × Slot K)). Boxed shows size.seats (next_of x e).notes
             q.0 x.claims (next_of x e).append (put_back s.homes q.1) (set s.views id v'))
@@ -135,7 +157,7 @@ module _ {K : Type 0} (shows : K → Lasting) (o : Beside) (size : PathSize) (sl
             x.append
             (next_of x e).append s.homes s.views r.boxed id w m.0 v' there mine refl refl refl g
             note append C.append C.issue refl
-            (no_turn s r there g append) r.deep
+            (no_turn s r there g append) (enough_boxes shows o size s r)
             (low_seat shows o size slots id m w mine s r there) writer
             (group_low x law Append w g here)
             ((law.orders.counts_stand_for_seats Append).nobody_below w g here)
@@ -148,20 +170,33 @@ module _ {K : Type 0} (shows : K → Lasting) (o : Beside) (size : PathSize) (sl
             (λ j z u apart at is same. apart
             (sym (subst (λ ρ. Knows x r.events r.owner r.made r.boss j ρ u.part u.trail
             u.returned) is (r.each_seat j u at).1).0.1
-            ∙ (ap r.owner same ∙ (known shows o size s r id w m.0 there mine).1.1))))),
+            ∙ (ap r.owner same ∙ (known shows o size s r id w m.0 there mine).1.1)))))
+            (memtables_then shows o size s r id w m.0 there mine e refl may whole tt fits rows
+            ((n + (2 ^ 64 - 1)) % 2 ^ 64) n false m.0.hands now refl m.1 gives below refl refl
+            (noted_puts r.memtables.contents size.seats w m.0.part v'.part m.0.hands rests C.claim
+            (place_still shows o size s r id w m.0 there mine e (reading_at (Count Append g) n)
+            (told_by false m.0.hands) tt) P)
+            (still_kept shows o size s r e may tt refl)
+            (λ z t k q few h R. inr (runs_still s.views id m.0 v' there refl C.claim z q.end.0 R)))
+            (reads_still shows o size s r id w m.0 there mine e refl may whole tt fits rows
+            ((n + (2 ^ 64 - 1)) % 2 ^ 64) n false m.0.hands now refl tt refl),
         (λ z q other role _ word has. let same : note
             ≡ other = last_same m.0.hands.notes note other (ap notes_first (sym holds ∙ has)) in
             subst (λ p. MadeAs z (Close z Append q (Deposit p)) n m.0.hands m.0 v'
-            × (rest m.1 ≡ rest m.1)) same
+            × (rest m.1 ≡ rest m.1) × (m.0.hands.memtable_box ≡ None)
+            × ((a : Placed) → Contains m.0.hands.applied a → a.entry ≢ p.end.0)) same
             (each_name shows o size slots id m w mine 73 g
             (λ z q. MadeAs z (Close z Append q (Deposit note)) n m.0.hands m.0 v'
-            × (rest m.1 ≡ rest m.1)) (
+            × (rest m.1 ≡ rest m.1) × (m.0.hands.memtable_box ≡ None)
+            × ((a : Placed) → Contains m.0.hands.applied a → a.entry ≢ note.end.0)) (
               (
                 refl,
                 was shows o size s r id w m.0 there mine e may
                     whole,
               ),
               refl,
+              rests,
+              λ a put ends. unput s r there note append claim a put ends,
             ) z q role word)),
       )
     where
@@ -211,6 +246,18 @@ module _ {K : Type 0} (shows : K → Lasting) (o : Beside) (size : PathSize) (sl
           absurd (let c = counted_in (is_note_at note.end.0) r.core.notes t.0 t.1
           (eq-eqb t.0.end.0 note.end.0 t.2) in let z = unnoted s r there note append claim in
           omega arith)
+
+      -- so the seat has put it nowhere
+      unput : (s : State (Slot K) View) (r : Ruled shows o size s)
+          → get_elem? s.views id ≡ some m.0 → (note : EntryNote) → m.0.part.append ≡ Some g
+          → m.0.part.claim ≡ Some (record { start = note.start.0; end = note.end.0 })
+          → (a : Placed) → Contains m.0.hands.applied a → a.entry ≡ note.end.0 → ⊥
+      unput s r there note append claim a put ends =
+          let P = puts_now shows o size s r id w m.0 there mine in let L = P.applied a put in
+          let I = r.memtables.sound w a.table a.memtable L.0 (P.tables a put) L.1 in
+          absurd (let c = counted_in (is_note_at note.end.0) r.core.notes L.0 I.among
+          (eq-eqb L.0.end.0 note.end.0 (L.2 ∙ ends)) in let z = unnoted s r there note append claim
+          in omega arith)
 
       no_turn : (s : State (Slot K) View) (r : Ruled shows o size s)
           → get_elem? s.views id ≡ some m.0

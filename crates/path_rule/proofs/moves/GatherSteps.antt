@@ -69,7 +69,7 @@ use Rattle.path_rule.specs.declared.view.Role.{Role}
 use Rattle.path_rule.specs.declared.view.Role.TheVariants.{Opener, Steps, Spent}
 use Rattle.path_rule.specs.declared.view.View.{View}
 use Rattle.path_rule.specs.Boxed.{HandsAs, Boxed}
-use Rattle.path_rule.specs.Boxes.{box_of, HasOwn, HoldsAs, IsFree, NotesAre}
+use Rattle.path_rule.specs.Boxes.{box_of, boxes, HasOwn, HoldsAs, IsFree, NotesAre}
 use Rattle.path_rule.specs.HandsAfter.{with_taken, with_swept}
 use Rattle.path_rule.specs.Lasts.{shown}
 use Rattle.path_rule.specs.Rule.{Ruled, told_by, view_after, with_hands, Was}
@@ -87,8 +87,10 @@ use Rattle.path_rule.proofs.moves.HolderFacts.{
   current_is,
   hands_now,
 }
+use Rattle.path_rule.proofs.boxes.MemtablesStay.{SameHeld}
+use Rattle.path_rule.proofs.moves.LeavesWrites.{FirstBelow, MovesBelow}
 use Rattle.path_rule.proofs.moves.Looks.{within, look_owes, each_seat_name}
-use Rattle.path_rule.proofs.moves.Moving.{core_lawful, known, was, plays, columns_now}
+use Rattle.path_rule.proofs.moves.Moving.{core_lawful, enough_boxes, known, was, plays, columns_now}
 use Rattle.path_rule.proofs.moves.StepFacts.{same_seat}
 use Rattle.path_rule.proofs.places.ReadBack.{rows_stay, is_some_held}
 
@@ -150,8 +152,9 @@ module _ {K : Type 0} (shows : K → Lasting) (o : Beside) (size : PathSize) (sl
         (shown o size.at_open r.kept_to r.core) r.core.claims r.core.append (homes_after s.homes m.1
         a)
         (set s.views id v'))
+        → SameHeld m.0.hands h → MovesBelow (boxes size.seats) m.1 a
         → Ruled shows o size (stepped s 3 n id m.1 v' a) × Was m.0 w e
-    looked n found h a boxed = let x = r.core in let e = Look w (Oldest Append) in
+    looked n found h a boxed same below = let x = r.core in let e = Look w (Oldest Append) in
         let law = core_lawful shows o size s r in
         let may : IsStep x e = record {
           seat = within shows o size slots id m w mine s r there;
@@ -162,7 +165,8 @@ module _ {K : Type 0} (shows : K → Lasting) (o : Beside) (size : PathSize) (sl
               (ap (λ k. seat_after m.0.part e (Number k) (told_by false h)) found) m.1 a
               (boxed (columns_now shows o size s r id w m.0 there mine e refl may tt tt tt rows n n
               false
-              h found (ap (λ k. seat_after m.0.part e (Number k) (told_by false h)) found))),
+              h found (ap (λ k. seat_after m.0.part e (Number k) (told_by false h)) found))) tt
+              same below tt,
           was shows o size s r id w m.0 there mine e may tt,
         )
 
@@ -196,7 +200,8 @@ module _ {K : Type 0} (shows : K → Lasting) (o : Beside) (size : PathSize) (sl
       (sym (is_some_held v'.part) ∙ (ap (λ (o : Option Issue). is_some o) C.issue
       ∙ (is_some_held m.0.part ∙ held))) (others_free shows o size slots id m w mine s r there held)
       (others_near shows o size slots id m w mine s r there held) k refl refl more empty
-      (issue_known m.0.part v'.part C.issue ∙ rest_now) passed refl) in (
+      (issue_known m.0.part v'.part C.issue ∙ rest_now) passed refl) (refl, refl, refl, refl)
+      (omega arith) in (
         v',
         takes box home.0,
         home.1,
@@ -275,7 +280,10 @@ module _ {K : Type 0} (shows : K → Lasting) (o : Beside) (size : PathSize) (sl
       ∙ (is_some_held m.0.part ∙ held))) (others_free shows o size slots id m w mine s r there held)
       (others_near shows o size slots id m w mine s r there held) y refl refl void
       (taken ∙ ap (λ d. Some (box d)) now)
-      (ap (λ (z : PathSize). with_swept z.seats m.0.hands) sized) r.deep)) in (
+      (ap (λ (z : PathSize). with_swept z.seats m.0.hands) sized)
+      (enough_boxes shows o size s r))) (refl, refl, refl, refl)
+      (subst (λ l. FirstBelow (boxes size.seats) l) (sym holds)
+      ((hands_now shows o size slots id m w mine s r there).other (box c) taken).inside) in (
         v',
         gives,
         tt,

@@ -19,7 +19,9 @@ use Rattle.std.proofs.Common.{
   arith,
 }
 use Rattle.std.specs.Prelude.{slice_index}
+use Rattle.std.specs.List.{Contains}
 use Rattle.std.proofs.lemmas.List.{length-replicate}
+use mathlib.Core.Logic.{inr}
 use mathlib.Core.Option.{none, some}
 use lib.ListN.{get_elem?}
 use Rattle.atomic_table.specs.Table.{
@@ -53,6 +55,7 @@ use Rattle.path_core.specs.declared.event.Turn.TheVariants.{Sync, Flush}
 use Rattle.path_core.specs.declared.seat.Seat.{Seat as SeatOf}
 use Rattle.path_core.specs.declared.seat.SyncTurn.{SyncTurn}
 use Rattle.path_core.specs.declared.state.PathState.{PathState}
+use Rattle.path_core.specs.declared.state.Placed.{Placed}
 use Rattle.path_core.specs.Allowed.{IsStep}
 use Rattle.path_core.specs.Frame.{left_by}
 use Rattle.path_core.specs.Lawful.{IsLawfulPath}
@@ -74,18 +77,35 @@ use Rattle.path_rule.specs.declared.view.View.{View}
 use Rattle.path_rule.specs.Boxed.{Boxed}
 use Rattle.path_rule.specs.Lasts.{shown}
 use Rattle.path_rule.specs.Layout.{word_at, IsWord, word_of, reading_at}
+use Rattle.path_rule.specs.Memtables.{IsKeptAt, PutsAre}
 use Rattle.path_rule.specs.Rule.{start_of, IsBuilt, Ruled, HasRows, told_by, view_after, Was}
 use Rattle.path_rule.specs.Told.{Made, Looked}
 use Rattle.path_rule.specs.Turns.{TurnOld, turn_groups, KnowsMemtable, Sighted}
 use Rattle.path_rule.proofs.boxes.HeldBoxes.{boxed_stay}
+use Rattle.path_rule.proofs.boxes.MemtablesStay.{puts_stay, runs_still}
+use Rattle.path_rule.proofs.moves.LeavesWrites.{
+  LeavesReading,
+  LeavesWrite,
+  claim_left,
+  leaves_places,
+  note_left,
+  placed_left,
+}
 use Rattle.path_rule.proofs.moves.Moving.{
   core_lawful,
   known,
   part_is,
   inside,
   was,
-  plays,
+  plays_with,
   columns_now,
+  memtables_then,
+  place_still,
+  puts_now,
+  still_kept,
+  LiesPlaced,
+  RunsOn,
+  reads_still,
 }
 use Rattle.path_rule.proofs.moves.StepFacts.{same_seat, known_groups}
 use Rattle.path_rule.proofs.places.ReadBack.{rows_stay, read_back}
@@ -158,6 +178,42 @@ module _ {K : Type 0} (shows : K → Lasting) (o : Beside) (size : PathSize) (sl
     below (CursorWord (OldestLive t)) h = few_tables t.0 h
 
     -- a step at which no box moves
+    pub acts_with : (e : Event) → by_of e ≡ w → IsStep x e → CarriesWhole e
+        → IsBuilt size.at_open x e → IsWord (place_of e)
+        → HasRows (next_of x e) → (n found : ℕ)
+        → n ≡ word_of (left_by e (reading x (place_of e)))
+        → seat_after m.0.part e (reading_at (place_of e) found) (told_by false m.0.hands)
+        ≡ seat_after m.0.part e (reading x (place_of e)) (told_of x e)
+        → (Columns e m.0.part (view_after m.0 e found false).part
+        → Boxed shows size.seats (next_of x e).notes (shown o size.at_open r.kept_to (next_of x e))
+        (next_of x
+        e).claims
+        (next_of x e).append s.homes (set s.views id (view_after m.0 e found false)))
+        → (Columns e m.0.part (view_after m.0 e found false).part
+        → PutsAre r.memtables.contents size.seats w (view_after m.0 e found false).part m.0.hands)
+        → ((p : Placed) → Contains (next_of x e).placed p → IsKeptAt (next_of x e).tables p
+        → LiesPlaced shows o size s r p)
+        → (Columns e m.0.part (view_after m.0 e found false).part
+        → RunsOn shows o size s r id w m.0 there mine e (view_after m.0 e found false))
+        → LeavesReading m.0.hands e → (then : Me (Slot K) View → Type 0)
+        → (Was m.0 w e → then (view_after m.0 e found false, m.1))
+        → Owes s (word_at (place_of e)) n then
+    acts_with e by may whole built spot rows n found now told boxed puts kept runs quiet then ok =
+        let C = columns_now shows o size s r id w m.0 there mine e by may whole
+        built spot rows n found false m.0.hands now told in (
+          view_after m.0 e found false,
+          keeps,
+          tt,
+          plays_with shows o size s r id w m.0 there mine e by may whole built spot rows n found
+              false m.0.hands now told m.1 keeps (boxed C)
+              (memtables_then shows o size s r id w m.0 there mine e by may whole built spot rows n
+              found false m.0.hands now told m.1 keeps tt refl refl (puts C) kept (runs C))
+              (reads_still shows o size s r id w m.0 there mine e by may whole built spot rows n
+              found false m.0.hands now told quiet refl),
+          ok (was shows o size s r id w m.0 there mine e may whole),
+        )
+
+    -- and where the seat's write stays
     pub acts : (e : Event) → by_of e ≡ w → IsStep x e → CarriesWhole e
         → IsBuilt size.at_open x e → IsWord (place_of e)
         → HasRows (next_of x e) → (n found : ℕ)
@@ -169,19 +225,21 @@ module _ {K : Type 0} (shows : K → Lasting) (o : Beside) (size : PathSize) (sl
         (next_of x
         e).claims
         (next_of x e).append s.homes (set s.views id (view_after m.0 e found false)))
-        → (then : Me (Slot K) View → Type 0)
+        → LeavesWrite e → LeavesReading m.0.hands e → (then : Me (Slot K) View → Type 0)
         → (Was m.0 w e → then (view_after m.0 e found false, m.1))
         → Owes s (word_at (place_of e)) n then
-    acts e by may whole built spot rows n found now told boxed then ok = (
-      view_after m.0 e found false,
-      keeps,
-      tt,
-      plays shows o size s r id w m.0 there mine e by may whole built spot rows n found false
-          m.0.hands now
-          told m.1 keeps (boxed (columns_now shows o size s r id w m.0 there mine e by may whole
-          built spot rows n found false m.0.hands now told)),
-      ok (was shows o size s r id w m.0 there mine e may whole),
-    )
+    acts e by may whole built spot rows n found now told boxed leaves quiet then ok =
+        acts_with e by may whole built spot rows n found now told boxed
+        (λ C. puts_stay r.memtables.contents size.seats w m.0.part
+        (view_after m.0 e found false).part m.0.hands m.0.hands
+        (C.note ∙ note_left m.0.part.note e leaves)
+        (C.claim ∙ claim_left m.0.part.claim e leaves)
+        (place_still shows o size s r id w m.0 there mine e (reading_at (place_of e) found)
+        (told_by false m.0.hands) (leaves_places e leaves)) (refl, refl, refl, refl)
+        (puts_now shows o size s r id w m.0 there mine))
+        (still_kept shows o size s r e may built (placed_left x e leaves))
+        (λ C z t k n few q R. inr (runs_still s.views id m.0 (view_after m.0 e found false) there
+        refl (C.claim ∙ claim_left m.0.part.claim e leaves) z n.end.0 R)) quiet then ok
 
     pub look_owes : (at : Place) → IsWord at → Sighted m.0 at → (then : Me (Slot K) View → Type 0)
         → (Made w (Look w at) (slice_index s.words (word_at at)) m
@@ -206,7 +264,7 @@ module _ {K : Type 0} (shows : K → Lasting) (o : Beside) (size : PathSize) (sl
         id w m.0
         (view_after m.0 (Look w at) n false) there mine refl refl refl
         (λ i g l _ _. (l, refl)) refl C.append C.issue refl)
-        then (λ u. give ((refl, u), refl)
+        tt tt then (λ u. give ((refl, u), refl)
         (was shows o size s r id w m.0 there mine (Look w at) may tt, sym found))
 
   pub looks : (at : Place) → IsWord at → Sighted m.0 at

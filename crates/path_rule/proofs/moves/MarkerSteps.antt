@@ -132,7 +132,7 @@ module _ {K : Type 0} (shows : K → Lasting) (o : Beside) (size : PathSize) (sl
               holds = still _ m.0.part.sync held;
               passed = S.passed;
               empty = S.empty;
-            })),
+            })) tt (refl, refl, refl, refl) tt tt,
         each_seat_name shows o size slots id m w mine
             (λ z. (n ≡ from → MadeAs z (Claim z (record { 0 = from }) (record { 0 = to }) Marker) to
             (with_marker z from m.0.hands) m.0 v' × (m.1 ≡ m.1))

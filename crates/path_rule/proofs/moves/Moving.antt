@@ -5,6 +5,7 @@ use Rattle.std.proofs.Common.{
   ℕ,
   ◌<◌,
   Bool,
+  true,
   cond,
   List,
   [],
@@ -12,6 +13,8 @@ use Rattle.std.proofs.Common.{
   map,
   length,
   set,
+  Some,
+  is_some,
   refl,
   sym,
   ap,
@@ -25,8 +28,9 @@ use Rattle.std.proofs.Common.{
   get_or-set_same,
   get_or-set_other,
 }
-use Rattle.std.specs.Prelude.{slice_index}
-use mathlib.Core.Logic.{dite}
+use Rattle.std.specs.Prelude.{slice_index, ◌≤◌, ◌⊎◌}
+use Rattle.std.specs.List.{Contains}
+use mathlib.Core.Logic.{dite, inl, inr}
 use mathlib.Core.Option.{some, none, some-injective, some-ne-none}
 use mathlib.Core.Option as maybe
 use native.Mathlib.Decide.{ℕ_discrete}
@@ -44,26 +48,34 @@ use Rattle.atomic_table.specs.Table.{
   stepped,
 }
 use Rattle.path_core.specs.declared.event.Event.{Event}
+use Rattle.path_core.specs.declared.event.Cursor.TheVariants.{OldestLive, Stopped, Synced}
+use Rattle.path_core.specs.declared.event.Event.TheVariants.{GiveTurn, Put, TakeTurn}
+use Rattle.path_core.specs.declared.event.Reading.{Reading}
+use Rattle.path_core.specs.declared.event.Turn.TheVariants.{Sync, Flush}
+use Rattle.path_core.specs.declared.note.EntryNote.{EntryNote}
 use Rattle.path_core.specs.declared.seat.Seat.{Seat}
 use Rattle.path_core.specs.declared.state.PathState.{PathState}
+use Rattle.path_core.specs.declared.state.Placed.{Placed}
 use Rattle.path_core.specs.Allowed.{IsStep}
 use Rattle.path_core.specs.Frame.{left_by}
 use Rattle.path_core.specs.Keeper.{HasRisen}
 use Rattle.path_core.specs.Lawful.{IsLawfulPath}
-use Rattle.path_core.specs.Next.{next_of, told_of}
-use Rattle.path_core.specs.Parts.{fresh_seat, seat_of}
+use Rattle.path_core.specs.Next.{next_of, placed_after, told_of}
+use Rattle.path_core.specs.Parts.{fresh_seat, is_empty, seat_of, seat_table, table_of}
 use Rattle.path_core.specs.Runs.{Past}
-use Rattle.path_core.specs.SeatAfter.{seat_after}
+use Rattle.path_core.specs.SeatAfter.{Told, seat_after}
 use Rattle.path_core.specs.Whole.{CarriesWhole}
 use Rattle.path_core.specs.Words.{reading, by_of, place_of}
 use Rattle.path_core.proofs.frame.Words.{other_seat, columns, same_elsewhere, left_here}
 use Rattle.path_core.proofs.frame.Runs.{past_sizes}
+use Rattle.path_core.proofs.log.OwnNotes.{notes_stay}
 use Rattle.path_core.proofs.runs.EveryRun.{keeps_lawful, past_lawful, opening_lawful}
 use Rattle.path_core.proofs.runs.Sizes.{as_many_seats}
 use Rattle.path_core.proofs.seats.Columns.{own_after, Columns}
 use Rattle.path_rule.specs.declared.lasting.Beside.{Beside}
 use Rattle.path_rule.specs.declared.lasting.Lasting.{Lasting}
 use Rattle.path_rule.specs.declared.slot.Slot.{Slot}
+use Rattle.path_rule.specs.declared.view.FlushRead.{FlushRead}
 use Rattle.path_rule.specs.declared.view.Hands.{Hands}
 use Rattle.path_rule.specs.declared.view.OwnStep.{OwnStep}
 use Rattle.path_rule.specs.declared.view.PathSize.{PathSize}
@@ -72,9 +84,20 @@ use Rattle.path_rule.specs.declared.view.Role.{Role}
 use Rattle.path_rule.specs.declared.view.Role.TheVariants.{Opener, Steps, Spent}
 use Rattle.path_rule.specs.declared.view.View.{View}
 use Rattle.path_rule.specs.Boxed.{Boxed}
+use Rattle.path_rule.specs.Boxes.{boxes, memtable_box}
 use Rattle.path_rule.specs.Kept.{MayBeKept}
 use Rattle.path_rule.specs.Lasts.{shown}
 use Rattle.path_rule.specs.Layout.{word_at, IsWord, word_of, reading_at}
+use Rattle.path_rule.specs.Memtables.{
+  HasMemtables,
+  IsKeptAt,
+  IsPlacedIn,
+  IsPut,
+  IsRunning,
+  PutsAre,
+  PutsAs,
+}
+use Rattle.path_rule.specs.Reads.{ReadsAre, ReadsAs}
 use Rattle.path_rule.specs.Rule.{
   start_of,
   IsFit,
@@ -92,10 +115,35 @@ use Rattle.path_rule.specs.Rule.{
   with_hands,
   Was,
 }
+use Rattle.path_rule.proofs.boxes.MemtablesStay.{
+  memtables_stay,
+  puts_stay,
+  runs_still,
+  PlacesStay,
+  SameHeld,
+}
+use Rattle.path_rule.proofs.boxes.ReadsStay.{reads_on}
+use Rattle.path_rule.proofs.boxes.Switching.{LeavesSwitch, switch_stays, switched_held}
 use Rattle.path_rule.proofs.log.BuiltSteps.{still_risen, still_unfiled}
 use Rattle.path_rule.specs.Trails.{TrailTells, ViewTells}
 use Rattle.path_rule.proofs.log.KeptStays.{kept_stays}
 use Rattle.path_rule.proofs.log.TrailsTell.{tells_more, view_still}
+use Rattle.path_rule.proofs.moves.LeavesWrites.{
+  LeavesLive,
+  LeavesReading,
+  LeavesWrite,
+  MovesBelow,
+  claim_left,
+  leaves_places,
+  live_moves,
+  live_still,
+  not_empty,
+  note_left,
+  placed_left,
+  placed_stays,
+  same_above,
+}
+use Rattle.path_rule.proofs.seats.PlaceStays.{LeavesPlaces, place_stays}
 use Rattle.path_rule.proofs.places.SamePlace.{same_place, in_rows}
 
 pub steps_own : (w : ℕ) (es : List Event) (e : Event) → by_of e ≡ w
@@ -121,11 +169,56 @@ module _ {K : Type 0} (shows : K → Lasting) (o : Beside) (size : PathSize) (s 
   core_lawful = past_lawful r.events (start_of size) r.core
       (opening_lawful size.tables size.seats size.capacity size.ordinals size.base r.fit) r.run
 
+  pub enough_boxes : boxes size.seats ≤ length s.homes
+  enough_boxes = let d = r.deep in omega arith
+
   pub capacity_is : r.core.capacity ≡ size.capacity
   capacity_is = (past_sizes r.events (start_of size) r.core r.run).capacity
 
+  -- what is placed lies in a box
+  abbrev pub LiesPlaced : Placed → Type 0
+  LiesPlaced p = IsPut r.memtables.contents size.seats p
+
+  module _ (e : Event) (may : IsStep r.core e) (built : IsBuilt size.at_open r.core e) where
+    -- what is not retired was not retired
+    pub kept_before : (p : Placed) → IsKeptAt (next_of r.core e).tables p
+        → IsKeptAt r.core.tables p
+    kept_before p live = ⊎_elim (λ same. subst (λ (k : ℕ). k ≤ p.memtable) same live)
+        (λ up. let more = up.0 in omega arith) (live_moves size.at_open r.core e may built p.table)
+
+    -- so what was placed lies there still
+    pub still_kept : placed_after r.core e ≡ r.core.placed → (p : Placed)
+        → Contains (next_of r.core e).placed p → IsKeptAt (next_of r.core e).tables p
+        → LiesPlaced p
+    still_kept same p h live = r.memtables.kept p (subst (λ l. Contains l p) same h)
+        (kept_before p live)
+
+    -- and is where it was
+    pub placed_still : (t k entry : ℕ) → IsPlacedIn r.core.placed r.core.tables t k entry
+        → IsPlacedIn (next_of r.core e).placed (next_of r.core e).tables t k entry
+    placed_still t k entry P = record {
+      memtable = P.memtable;
+      parity = P.parity;
+      live = ⊎_elim (λ same. subst (λ (n : ℕ). n ≤ P.memtable) (sym same) P.live)
+          (λ up. let more = up.0 in let low = P.live in
+          dite (ℕ_discrete (table_of r.core t).oldest_live P.memtable)
+          (λ is. absurd (not_empty r.core t P.memtable entry P.among
+          (subst (λ (n : ℕ). is_empty r.core t n ≡ true) is up.1)))
+          (λ apart. omega arith)) (live_moves size.at_open r.core e may built t);
+      among = placed_stays r.core e (record { table = t; entry = entry; memtable = P.memtable })
+          P.among;
+    }
+
   module _ (id w : ℕ) (v : View) (at : get_elem? s.views id ≡ some v)
       (mine : v.role ≡ Steps w) where
+    -- what lies in a box of a running write is placed by the step, or its write runs still
+    abbrev pub RunsOn : Event → View → Type 0
+    RunsOn e v' = (z t k : ℕ) (n : EntryNote) → t < 16
+        → Contains (r.memtables.contents (memtable_box size.seats z t k)) n
+        → IsRunning s.views z n.end.0
+        → IsPlacedIn (next_of r.core e).placed (next_of r.core e).tables t k n.end.0
+        ⊎ IsRunning (set s.views id v') z n.end.0
+
     pub known : (v.size ≡ size) × IsSeat r.core r.events r.owner r.made r.boss id w v.part v.trail
     known = let k = r.each_seat id v at in (
       subst (λ ρ. SizedAs size ρ v.size) mine k.0,
@@ -135,6 +228,24 @@ module _ {K : Type 0} (shows : K → Lasting) (o : Beside) (size : PathSize) (s 
 
     pub part_is : v.part ≡ seat_of r.core w
     part_is = known.1.2
+
+    -- what the seat knows of its boxes of memtables
+    pub puts_now : PutsAre r.memtables.contents size.seats w v.part v.hands
+    puts_now = subst (PutsAs r.memtables.contents size.seats v.part v.hands) mine
+        (r.memtables.in_hands id v at)
+
+    -- what it has read of a memtable
+    pub reads_now : (q : FlushRead) → v.hands.reading ≡ Some q
+        → ReadsAre size.seats r.core v.part q
+    reads_now = subst (ReadsAs size.seats r.core v.part v.hands) mine (r.reads id v at)
+
+    -- the places of its write stay until that is closed
+    pub place_still : (e : Event) (found : Reading) (told : Told) → LeavesPlaces e
+        → PlacesStay v.part (seat_after v.part e found told)
+    place_still e found told leaves t k place = let T = core_lawful.places.tries w t in
+        let is = ap (λ (p : Seat). (seat_table p t).place) (sym part_is) ∙ place in
+        place_stays v.part e found told t k leaves
+        (ap (λ (p : Seat). (seat_table p t).trying) part_is ∙ T.place_is_tried k is) place
 
     pub inside : w < length r.core.seats
     inside = let k = known.1.0 in let l = r.long in let e = r.enough in omega arith
@@ -163,8 +274,8 @@ module _ {K : Type 0} (shows : K → Lasting) (o : Beside) (size : PathSize) (s 
     }
 
     module _ (e : Event) (by : by_of e ≡ w) (may : IsStep r.core e) (whole : CarriesWhole e)
-        (built : IsBuilt size.at_open r.core e) (spot : IsWord (place_of e)) (rows : HasRows (next_of
-        r.core e)) (n found : ℕ)
+        (built : IsBuilt size.at_open r.core e) (spot : IsWord (place_of e))
+        (rows : HasRows (next_of r.core e)) (n found : ℕ)
         (filed : Bool) (h : Hands)
         (now : n ≡ word_of (left_by e (reading r.core (place_of e))))
         (told : seat_after v.part e (reading_at (place_of e) found) (told_by filed h)
@@ -238,12 +349,110 @@ module _ {K : Type 0} (shows : K → Lasting) (o : Beside) (size : PathSize) (s 
         returned = (view_still size.capacity r.core core_lawful capacity_is e may v old).returned;
       }
 
-      -- with what the keeper may have kept up to a key
-      pub plays_to : (key : ℕ) → MayBeKept x' key → (cs : List (ℕ × Slot K)) (a : Act (Slot K))
-          → Boxed shows size.seats x'.notes (shown o size.at_open key x') x'.claims x'.append
+      abbrev MemtablesThen : List (ℕ × Slot K) → Act (Slot K) → Type 0
+      MemtablesThen cs a = HasMemtables size.seats x'.notes x'.placed x'.tables
           (homes_after s.homes cs a) (set s.views id v')
+
+      -- the boxes of memtables, where none of them moves
+      pub memtables_then : (cs : List (ℕ × Slot K)) (a : Act (Slot K))
+          → MovesBelow (boxes size.seats) cs a → h.memtable_box ≡ v.hands.memtable_box
+          → h.reading ≡ v.hands.reading → PutsAre r.memtables.contents size.seats w v'.part h
+          → ((p : Placed) → Contains x'.placed p → IsKeptAt x'.tables p → LiesPlaced p)
+          → RunsOn e v' → MemtablesThen cs a
+      memtables_then cs a below held read puts kept runs = memtables_stay size.seats r.core.notes
+          x'.notes r.core.placed x'.placed r.core.tables x'.tables s.homes s.views r.memtables id
+          v v' at (notes_stay r.core e) (homes_after s.homes cs a)
+          (same_above (boxes size.seats) s.homes cs a below) held read
+          (subst (PutsAs r.memtables.contents size.seats v'.part h) (sym mine) puts) kept
+          (λ z t k n few q. ⊎_elim (λ p. inl (placed_still e may built t k n.end.0 p))
+          (λ R. runs z t k n few q R) (r.memtables.settled z t k n few q))
+
+      -- and the seat's write stays
+      pub memtables_still : (cs : List (ℕ × Slot K)) (a : Act (Slot K)) → LeavesWrite e
+          → SameHeld v.hands h → MovesBelow (boxes size.seats) cs a → MemtablesThen cs a
+      memtables_still cs a leaves held below = memtables_then cs a below held.0 held.3
+          (puts_stay r.memtables.contents size.seats w v.part v'.part v.hands h
+          (columns_now.note ∙ note_left v.part.note e leaves)
+          (columns_now.claim ∙ claim_left v.part.claim e leaves)
+          (place_still e (reading_at (place_of e) found) (told_by filed h) (leaves_places e leaves))
+          held puts_now) (still_kept e may built (placed_left r.core e leaves))
+          (λ z t k n few q R. inr (runs_still s.views id v v' at refl
+          (columns_now.claim ∙ claim_left v.part.claim e leaves) z n.end.0 R))
+
+      -- what holders of Flush turns have read
+      abbrev pub ReadsThen : Type 0
+      ReadsThen = (j : ℕ) (u : View) → get_elem? (set s.views id v') j ≡ some u
+          → ReadsAs size.seats x' u.part u.hands u.role
+
+      next_lawful : IsLawfulPath x'
+      next_lawful = keeps_lawful r.core core_lawful e may whole
+
+      -- that of others stays so
+      pub reads_then : ReadsAs size.seats x' v'.part h (Steps w) → ReadsThen
+      reads_then own j u p = ⊎_elim
+          (λ (t : (j ≡ id) × (v' ≡ u)). subst (λ (y : View).
+          ReadsAs size.seats x' y.part y.hands y.role) t.1
+          (subst (ReadsAs size.seats x' v'.part h) (sym mine) own))
+          (λ (t : (j ≢ id) × (get_elem? s.views j ≡ some u)). other t.0 t.1 u.role refl
+          (r.reads j u t.1))
+          (at_set s.views id j v' u p)
+        where
+          -- it holds the turn of the table, so the step retires no memtable of it
+          leaves_live : (d : Event) → IsStep r.core d → by_of d ≡ w → j ≢ id
+              → get_elem? s.views j ≡ some u → (z : ℕ) → u.role ≡ Steps z → (q : FlushRead)
+              → ReadsAre size.seats r.core u.part q → LeavesLive q.table d
+          leaves_live (Put y (OldestLive t) value) a is apart there z role q R = λ same.
+              let mine' = (subst (λ ρ. Knows r.core r.events r.owner r.made r.boss j ρ u.part
+              u.trail u.returned) role (r.each_seat j u there).1).0 in
+              apart (sym mine'.1 ∙ (ap r.owner (core_lawful.orders.one_holder_a_turn.one (Flush t)
+              z w (ap (λ (p : Seat). is_some (seat_table p t.0).flush) (sym mine'.2)
+              ∙ (ap (λ (k : ℕ). is_some (seat_table u.part k).flush) (sym same)
+              ∙ switched_held u.part q.table R.switched))
+              (subst (λ (k : ℕ). is_some (seat_table (seat_of r.core k) t.0).flush ≡ true) is
+              a.row.0)) ∙ known.1.1))
+          leaves_live (Put y Synced value) a is apart there z role q R = tt
+          leaves_live (Put y Stopped value) a is apart there z role q R = tt
+          leaves_live d a is apart there z role q R = tt
+
+          other : j ≢ id → get_elem? s.views j ≡ some u → (ρ : Role) → u.role ≡ ρ
+              → ReadsAs size.seats r.core u.part u.hands ρ → ReadsAs size.seats x' u.part u.hands ρ
+          other apart there (Opener k) is R = R
+          other apart there Spent is R = R
+          other apart there (Steps z) is R = λ q has. reads_on r.core core_lawful e may next_lawful
+              size.seats u.part u.part q (R q has) (R q has).switched
+              (live_still r.core e may q.table (leaves_live e may by apart there z is q (R q has)))
+
+      -- and that of the seat, where the step leaves it
+      pub reads_still : LeavesReading v.hands e → h.reading ≡ v.hands.reading → ReadsThen
+      reads_still leaves same = reads_then (λ q has. let before = sym same ∙ has in
+          let R = reads_now q before in
+          reads_on r.core core_lawful e may next_lawful size.seats v.part v'.part q R
+          (switch_stays e v.part (reading_at (place_of e) found) (told_by filed h) q.table
+          (leaves_switch e may by leaves q before) R.switched)
+          (live_still r.core e may q.table (leaves_live e leaves q)))
+        where
+          leaves_live : (d : Event) → LeavesReading v.hands d → (q : FlushRead)
+              → LeavesLive q.table d
+          leaves_live (Put y (OldestLive t) value) leaves q = absurd leaves
+          leaves_live (Put y Synced value) leaves q = tt
+          leaves_live (Put y Stopped value) leaves q = tt
+          leaves_live d leaves q = tt
+
+          leaves_switch : (d : Event) → IsStep r.core d → by_of d ≡ w → LeavesReading v.hands d
+              → (q : FlushRead) → v.hands.reading ≡ Some q → LeavesSwitch v.part q.table d
+          leaves_switch (GiveTurn by (Flush t)) may is leaves q has = leaves q has
+          leaves_switch (TakeTurn by (Flush t)) may is leaves q has =
+              ap (λ (p : Seat). is_some (seat_table p t.0).flush) part_is ∙ may.row.1 w
+          leaves_switch (TakeTurn by Sync) may is leaves q has = tt
+          leaves_switch (GiveTurn by Sync) may is leaves q has = tt
+          leaves_switch d may is leaves q has = tt
+
+      -- with what the keeper may have kept up to a key, and what is in the boxes
+      pub plays_all : (key : ℕ) → MayBeKept x' key → (cs : List (ℕ × Slot K)) (a : Act (Slot K))
+          → Boxed shows size.seats x'.notes (shown o size.at_open key x') x'.claims x'.append
+          (homes_after s.homes cs a) (set s.views id v') → MemtablesThen cs a → ReadsThen
           → Ruled shows o size (stepped s (word_at (place_of e)) n id cs v' a)
-      plays_to key may_be cs a boxed = record {
+      plays_all key may_be cs a boxed memtables reads = record {
         core = x';
         events = es';
         owner = r.owner;
@@ -274,6 +483,8 @@ module _ {K : Type 0} (shows : K → Lasting) (o : Beside) (size : PathSize) (s 
         kept_to = key;
         may_be_kept = may_be;
         boxed = boxed;
+        memtables = memtables;
+        reads = reads;
         risen = still_risen size.at_open r.core e built r.risen;
         unfiled = still_unfiled size.at_open r.core e built r.unfiled;
         each_seat = λ j u p. ⊎_elim
@@ -302,10 +513,30 @@ module _ {K : Type 0} (shows : K → Lasting) (o : Beside) (size : PathSize) (s 
             (at_set s.views id j v' u p);
       }
 
+      -- where no box of a memtable moves, and the seat's write stays
+      pub plays_to : (key : ℕ) → MayBeKept x' key → (cs : List (ℕ × Slot K)) (a : Act (Slot K))
+          → Boxed shows size.seats x'.notes (shown o size.at_open key x') x'.claims x'.append
+          (homes_after s.homes cs a) (set s.views id v') → LeavesWrite e → SameHeld v.hands h
+          → MovesBelow (boxes size.seats) cs a → LeavesReading v.hands e
+          → Ruled shows o size (stepped s (word_at (place_of e)) n id cs v' a)
+      plays_to key may_be cs a boxed leaves held below quiet = plays_all key may_be cs a boxed
+          (memtables_still cs a leaves held below) (reads_still quiet held.3)
+
+      kept_now : MayBeKept x' r.kept_to
+      kept_now = kept_stays r.core core_lawful e may r.kept_to r.may_be_kept
+
       -- with what it may have kept before
       pub plays : (cs : List (ℕ × Slot K)) (a : Act (Slot K))
           → Boxed shows size.seats x'.notes (shown o size.at_open r.kept_to x') x'.claims x'.append
-          (homes_after s.homes cs a) (set s.views id v')
+          (homes_after s.homes cs a) (set s.views id v') → LeavesWrite e → SameHeld v.hands h
+          → MovesBelow (boxes size.seats) cs a → LeavesReading v.hands e
           → Ruled shows o size (stepped s (word_at (place_of e)) n id cs v' a)
-      plays cs a boxed = plays_to r.kept_to
-          (kept_stays r.core core_lawful e may r.kept_to r.may_be_kept) cs a boxed
+      plays cs a boxed = plays_to r.kept_to kept_now cs a boxed
+
+      -- and what is in the boxes of memtables
+      pub plays_with : (cs : List (ℕ × Slot K)) (a : Act (Slot K))
+          → Boxed shows size.seats x'.notes (shown o size.at_open r.kept_to x') x'.claims x'.append
+          (homes_after s.homes cs a) (set s.views id v') → MemtablesThen cs a → ReadsThen
+          → Ruled shows o size (stepped s (word_at (place_of e)) n id cs v' a)
+      plays_with cs a boxed memtables reads = plays_all r.kept_to kept_now cs a boxed memtables
+          reads

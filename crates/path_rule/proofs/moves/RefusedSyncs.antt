@@ -226,7 +226,7 @@ module _ {K : Type 0} (shows : K → Lasting) (o : Beside) (size : PathSize) (sl
             (kept_stays x (core_lawful shows o size s r) e may k.0 k.1) m.1 keeps
             (boxed_now s r there stopped (shown o size.at_open k.0 x) v' refl
             (outside shows o size slots id m w mine s r there held)
-            (still _ m.0.part.sync held) refl refl after_is),
+            (still _ m.0.part.sync held) refl refl after_is) tt (refl, refl, refl, refl) tt tt,
         (λ z u role bar. subst
             (λ (q : ℕ). MadeRefused shows q stopped z (Look z (CursorWord Stopped)) n m (v', m.1))
             (one_start m.0.hands upto u barred bar)
@@ -277,7 +277,7 @@ module _ {K : Type 0} (shows : K → Lasting) (o : Beside) (size : PathSize) (sl
             (kept_stays x (core_lawful shows o size s r) e may k.0 k.1) m.1 keeps
             (boxed_now s r there (Some value) (shown o size.at_open k.0 (next_of x e)) v' refl
             (outside shows o size slots id m w mine s r there held)
-            (still _ m.0.part.sync held) refl refl after_is),
+            (still _ m.0.part.sync held) refl refl after_is) tt (refl, refl, refl, refl) tt tt,
         (λ z u role bar. subst
             (λ (q : ℕ). MadeRefused shows q (Some value) z (Put z Stopped value) value m (v', m.1))
             (one_start m.0.hands upto u barred bar)

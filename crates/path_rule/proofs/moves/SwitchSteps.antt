@@ -178,7 +178,7 @@ module _ {K : Type 0} (shows : K → Lasting) (o : Beside) (size : PathSize) (sl
       (λ C. boxed_stay shows size.seats x.notes
       (shown o size.at_open r.kept_to x) x.claims x.claims x.append x.append s.homes s.views r.boxed
       id w m.0 v' there mine refl refl refl (λ i g l _ _. (l, refl)) refl C.append C.issue refl)
-      (MemtableOpened (step slots (8 + 4 * t.0) f 0 none) m f)
+      tt tt (MemtableOpened (step slots (8 + 4 * t.0) f 0 none) m f)
       (λ u z q role _ word. each_table_name shows o size slots id m w mine 8 t
       (λ z q. Made z (Switch z q f Open) f m (v', m.1)) ((refl, u), refl) z q role word)
 
@@ -211,7 +211,7 @@ module _ {K : Type 0} (shows : K → Lasting) (o : Beside) (size : PathSize) (sl
       (λ C. boxed_stay shows size.seats x.notes
       (shown o size.at_open r.kept_to x) x.claims x.claims x.append x.append s.homes s.views r.boxed
       id w m.0 v' there mine refl refl refl (λ i g l _ _. (l, refl)) refl C.append C.issue refl)
-      (MemtableMarked (step slots (131144 + 16 * f + t.0) (2 ^ 62) 0 none) m (2 ^ 62))
+      tt tt (MemtableMarked (step slots (131144 + 16 * f + t.0) (2 ^ 62) 0 none) m (2 ^ 62))
       (λ u z h q role high word. each_bound_name shows o size slots id m w mine t f 0
       (λ z q h key. Made z (Switch z q h Mark) (2 ^ 62) m (v', m.1)) ((refl, u), refl)
       z q h 0 role few high word refl)
@@ -275,7 +275,7 @@ module _ {K : Type 0} (shows : K → Lasting) (o : Beside) (size : PathSize) (sl
       (λ C. boxed_stay shows size.seats x.notes
       (shown o size.at_open r.kept_to x) x.claims x.claims x.append x.append s.homes s.views r.boxed
       id w m.0 v' there mine refl refl refl (λ i g l _ _. (l, refl)) refl C.append C.issue refl)
-      (MemtableFinal (step slots i (2 ^ 62) 0 none) m n)
+      tt tt (MemtableFinal (step slots i (2 ^ 62) 0 none) m n)
       (λ u z h q role high word. each_bound_name shows o size slots id m w mine t f 0
       (λ z q h key. Made z (Finalise z q h) n m (v', m.1)
       × ((was : Was m.0 z (Finalise z q h)) × (word_of (reading was.core (Bound q h)) ≡ n)))

@@ -167,7 +167,7 @@ module _ {K : Type 0} (shows : K → Lasting) (o : Beside) (size : PathSize) (sl
             (rows_stay x e may (λ q. q) r.rows) value value false h refl refl value
             (inl (omega arith)) m.1 keeps
             (subst (λ q. Boxed shows size.seats x.notes q x.claims x.append s.homes
-            (set s.views id v')) now_is boxed),
+            (set s.views id v')) now_is boxed) tt (refl, refl, refl, refl) tt tt,
         (λ z lasting pending role C. let d = desk_same shows y C.0
             (more_lasting run value m.0.hands.lasting) lasting left pending
             m.0.hands.progress (ap (top_box y) (sym holds ∙ C.1)) fits C.2 in

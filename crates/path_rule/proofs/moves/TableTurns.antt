@@ -23,9 +23,10 @@ use Rattle.std.proofs.Common.{
   ⊎_elim,
   arith,
 }
-use Rattle.std.specs.Prelude.{slice_index}
+use Rattle.std.specs.Prelude.{slice_index, ◌⊎◌}
 use Rattle.std.specs.List.{list_any}
 use Rattle.std.specs.Option.{option_map}
+use Rattle.std.proofs.lemmas.Bool.{false≢true}
 use Rattle.std.proofs.lemmas.Option.{none-some}
 use mathlib.Core.Option.{none, some}
 use lib.ListN.{get_elem?}
@@ -59,11 +60,13 @@ use Rattle.path_rule.specs.declared.view.View.{View}
 use Rattle.path_rule.specs.Calls.{IsPast}
 use Rattle.path_rule.specs.Lasts.{shown}
 use Rattle.path_rule.specs.Rule.{Ruled, view_after}
-use Rattle.path_rule.specs.Switches.{MayGiveFlush}
+use Rattle.path_rule.specs.Reads.{has_switched}
+use Rattle.path_rule.specs.Switches.{MayGiveFlush, ReadsNone}
 use Rattle.path_rule.specs.TableTold.{FlushGiven, FlushTaken}
 use Rattle.path_rule.specs.Told.{Made}
-use Rattle.path_rule.specs.Turns.{FoundPast, IsSwitchThrough}
+use Rattle.path_rule.specs.Turns.{FoundPast}
 use Rattle.path_rule.proofs.boxes.HeldBoxes.{boxed_stay}
+use Rattle.path_rule.proofs.boxes.Switching.{unbegun}
 use Rattle.path_rule.proofs.moves.Looks.{
   Owes,
   acts,
@@ -73,7 +76,7 @@ use Rattle.path_rule.proofs.moves.Looks.{
   own_part,
   within,
 }
-use Rattle.path_rule.proofs.moves.Moving.{core_lawful}
+use Rattle.path_rule.proofs.moves.Moving.{core_lawful, reads_now}
 use Rattle.path_rule.proofs.moves.StepFacts.{known_groups, same_seat}
 use Rattle.path_rule.proofs.places.ReadBack.{rows_stay}
 
@@ -130,7 +133,7 @@ module _ {K : Type 0} (shows : K → Lasting) (o : Beside) (size : PathSize) (sl
       (λ C. boxed_stay shows size.seats x.notes
       (shown o size.at_open r.kept_to x) x.claims x.claims x.append x.append s.homes s.views r.boxed
       id w m.0 v' there mine refl refl refl (λ i g l _ _. (l, refl)) refl C.append C.issue refl)
-      then (λ u z q role _ word. each_table_name 9 t
+      tt tt then (λ u z q role _ word. each_table_name 9 t
       (λ z q. (n ≡ 0 → Made z (TakeTurn z (Flush q)) 1 m (v', m.1))
       × (n ≢ 0 → Made z (Look z (TurnWord (Flush q))) n m (v', m.1) × (n ≡ 1)))
       ((λ _. ((refl, u), refl)), (λ miss. absurd (miss hit))) z q role word))
@@ -155,14 +158,17 @@ module _ {K : Type 0} (shows : K → Lasting) (o : Beside) (size : PathSize) (sl
         (Some k)
 
     -- the newest switch is through, as the holder's part tells
-    pub settled : (t : ℕ) → IsSwitchThrough t m.0.part
+    pub settled : (t : ℕ) → ((stage_of m.0.part t ≡ Some Settled)
+        ⊎ ((f g : ℕ) × (stage_of m.0.part t ≡ Some (WithBarrier f g)) × FoundPast m.0.part g
+        × ReadsNone t m.0.hands))
         → (is_some (seat_table (seat_of r.core w) t).flush ≡ true) × IsSettled r.core t
     settled t through = let L = core_lawful shows o size s r in ⊎_elim
         (λ (k : stage_of m.0.part t ≡ Some Settled). let now = at_stage t Settled k in (
           held_at (seat_table (seat_of r.core w) t).flush Settled now,
           (through_by_stage r.core L w t Settled now).1 tt,
         ))
-        (λ (k : (f g : ℕ) × (stage_of m.0.part t ≡ Some (WithBarrier f g)) × FoundPast m.0.part g).
+        (λ (k : (f g : ℕ) × (stage_of m.0.part t ≡ Some (WithBarrier f g)) × FoundPast m.0.part g
+        × ReadsNone t m.0.hands).
         let stage : Switching = WithBarrier k.0 k.1 in
         let now = at_stage t stage k.2 in (
           held_at (seat_table (seat_of r.core w) t).flush stage now,
@@ -191,11 +197,37 @@ module _ {K : Type 0} (shows : K → Lasting) (o : Beside) (size : PathSize) (sl
           }),
         )
 
+    -- the group of such a barrier is passed
+    pub passed_now : (g : ℕ) → IsPast Write m.0 g → IsPassed r.core.write.tallies g
+    passed_now g past = let L = core_lawful shows o size s r in let turn = past.1 in
+        let oldest = ((L.seats_know w).sync turn.0 (own_part shows o size slots id m w mine s r
+        there
+        (λ (p : Seat). p.sync) (Some turn.0) turn.1)).write.oldest past.0 turn.2 in
+        let below = past.2 in let more = current_is_made r.core L Write in
+        let old = (L.orders.made_groups Write).oldest in record {
+          made = omega arith;
+          finished = λ h le.
+              ((L.orders.counts_stand_for_seats Write).each h).below_oldest (omega arith);
+        }
+
     pub settled_now : (t : ℕ) → MayGiveFlush t m.0
         → (is_some (seat_table (seat_of r.core w) t).flush ≡ true) × IsSettled r.core t
     settled_now t may = ⊎_elim (λ through. settled t through)
-        (λ (k : (f g : ℕ) × (stage_of m.0.part t ≡ Some (WithBarrier f g)) × IsPast Write m.0 g).
-        settled_past t k.0 k.1 k.2 k.3) may
+        (λ (k : (f g : ℕ) × (stage_of m.0.part t ≡ Some (WithBarrier f g)) × IsPast Write m.0 g
+        × ReadsNone t m.0.hands). settled_past t k.0 k.1 k.2 k.3) may
+
+    -- and no memtable of the table is read
+    reads_none : (t : ℕ) → MayGiveFlush t m.0 → ReadsNone t m.0.hands
+    reads_none t may = ⊎_elim
+        (λ through. ⊎_elim
+        (λ (at : stage_of m.0.part t ≡ Some Settled). λ q has same.
+        let R = reads_now shows o size s r id w m.0 there mine q has in
+        false≢true (sym (unbegun m.0.part t at)
+        ∙ (ap (λ (k : ℕ). has_switched (seat_table m.0.part k)) (sym same) ∙ R.switched)))
+        (λ (k : (f g : ℕ) × (stage_of m.0.part t ≡ Some (WithBarrier f g)) × FoundPast m.0.part g
+        × ReadsNone t m.0.hands). k.4) through)
+        (λ (k : (f g : ℕ) × (stage_of m.0.part t ≡ Some (WithBarrier f g)) × IsPast Write m.0 g
+        × ReadsNone t m.0.hands). k.4) may
 
   pub gives_flush : (t : Table) → t.0 < 16 → t.0 < m.0.size.tables → MayGiveFlush t.0 m.0
       → Allows (Ruled shows o size) slots id m (9 + 4 * t.0) (λ _. 0)
@@ -212,6 +244,7 @@ module _ {K : Type 0} (shows : K → Lasting) (o : Beside) (size : PathSize) (sl
       (λ C. boxed_stay shows size.seats x.notes
       (shown o size.at_open r.kept_to x) x.claims x.claims x.append x.append s.homes s.views r.boxed
       id w m.0 v' there mine refl refl refl (λ i g l _ _. (l, refl)) refl C.append C.issue refl)
+      tt (reads_none s r there t.0 through)
       (FlushGiven (step slots (9 + 4 * t.0) 0 0 none) m 0)
       (λ u z q role _ word. each_table_name 9 t
       (λ z q. Made z (GiveTurn z (Flush q)) 0 m (v', m.1)) ((refl, u), refl) z q role word)

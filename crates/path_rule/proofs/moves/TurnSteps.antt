@@ -48,7 +48,7 @@ use Rattle.path_rule.specs.declared.view.Progress.{Progress}
 use Rattle.path_rule.specs.declared.view.Role.TheVariants.{Steps}
 use Rattle.path_rule.specs.declared.view.View.{View}
 use Rattle.path_rule.specs.Boxed.{Boxed}
-use Rattle.path_rule.specs.Boxes.{desk_box, DeskIs}
+use Rattle.path_rule.specs.Boxes.{boxes, desk_box, DeskIs}
 use Rattle.path_rule.specs.HandsAfter.{with_desk, unswept_hands}
 use Rattle.path_rule.specs.Lasts.{shown}
 use Rattle.path_rule.specs.Rule.{Ruled, view_after, with_hands}
@@ -56,8 +56,9 @@ use Rattle.path_rule.specs.Told.{MadeAs, Made}
 use Rattle.path_rule.specs.TurnTold.{TookDesk, SyncTaken, SyncGiven}
 use Rattle.path_rule.proofs.boxes.DeskMoved.{boxed_desk_take, boxed_desk_give}
 use Rattle.path_rule.proofs.boxes.OneHolder.{desk_free}
+use Rattle.path_rule.proofs.moves.LeavesWrites.{FirstBelow}
 use Rattle.path_rule.proofs.moves.Looks.{Owes, as_part, within, own_part, look_owes, each_seat_name}
-use Rattle.path_rule.proofs.moves.Moving.{core_lawful, known, was, plays}
+use Rattle.path_rule.proofs.moves.Moving.{core_lawful, enough_boxes, known, was, plays}
 use Rattle.path_rule.proofs.places.ReadBack.{rows_stay}
 use Rattle.path_rule.proofs.seats.Untaken.{untaken}
 
@@ -102,7 +103,8 @@ module _ {K : Type 0} (shows : K → Lasting) (o : Beside) (size : PathSize) (sl
             (shown o size.at_open r.kept_to x) x.claims x.append s.homes s.views r.boxed id w m.0 v'
             there mine
             refl
-            idle.append idle.append empty empty refl refl (refl, refl, refl)),
+            idle.append idle.append empty empty refl refl (refl, refl, refl)) tt
+            (refl, refl, refl, refl) (omega arith) tt,
         each_seat_name shows o size slots id m w mine
             (λ z. (m.0.hands.box_taken ≡ None)
             × (n ≡ 0 → ((lasting : Lasting) × (pending : List EntryNote) × (marks : Progress)
@@ -184,7 +186,9 @@ module _ {K : Type 0} (shows : K → Lasting) (o : Beside) (size : PathSize) (sl
             (shown o size.at_open r.kept_to x) x.claims x.append s.homes s.views r.boxed id w m.0 v'
             there mine
             refl out
-            out empty empty refl y refl held fits r.deep))),
+            out empty empty refl y refl held fits (enough_boxes shows o size s r)))) tt
+            (refl, refl, refl, refl)
+            (subst (λ l. FirstBelow (boxes size.seats) l) (sym holds) (omega arith)) tt,
         each_seat_name shows o size slots id m w mine
             (λ z. MadeAs z (GiveTurn z Sync) 0 h m.0 v' × (rest m.1 ≡ rest m.1))
             ((refl, was shows o size s r id w m.0 there mine e may tt), refl),

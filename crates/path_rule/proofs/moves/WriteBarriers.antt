@@ -106,7 +106,7 @@ module _ {K : Type 0} (shows : K → Lasting) (o : Beside) (size : PathSize) (sl
             keeps
             (unseen shows o size slots id m w mine s r there held
             (next_of x e).append v' refl refl refl out
-            (still _ m.0.part.sync held) refl empty),
+            (still _ m.0.part.sync held) refl empty) tt (refl, refl, refl, refl) tt tt,
         (λ z q role _ word. each_name shows o size slots id m w mine 72 g
             (λ z q. Made z (OpenGroup z Write q) 0 m (v', m.1))
             ((refl, was shows o size s r id w m.0 there mine e may tt), refl) z q role word),
@@ -152,7 +152,7 @@ module _ {K : Type 0} (shows : K → Lasting) (o : Beside) (size : PathSize) (sl
             (rows_stay x e may (λ q. q) r.rows) g c false m.0.hands refl
             (ap (λ k. seat_after m.0.part e (Number k) (told_by false m.0.hands)) now) m.1 keeps
             (unseen shows o size slots id m w mine s r there held x.append v' refl refl refl out
-            (still _ m.0.part.sync held) refl empty),
+            (still _ m.0.part.sync held) refl empty) tt (refl, refl, refl, refl) tt tt,
         (λ z c' role saw'. let same : c ≡ c' = now
             ∙ sym (now_is shows o size slots id m w mine s r there held Write c' saw') in
             each_seat_name shows o size slots id m w mine
@@ -197,7 +197,7 @@ module _ {K : Type 0} (shows : K → Lasting) (o : Beside) (size : PathSize) (sl
             (rows_stay x e may (λ q. q) r.rows)
             ((n + 2 ^ 63) % 2 ^ 64) n false m.0.hands told refl m.1 keeps
             (unseen shows o size slots id m w mine s r there held x.append v' refl refl refl out
-            (still _ m.0.part.sync held) refl empty),
+            (still _ m.0.part.sync held) refl empty) tt (refl, refl, refl, refl) tt tt,
         (λ z q role _ word. each_name shows o size slots id m w mine 72 g
             (λ z q. Made z (Expire z Write q) n m (v', m.1))
             ((refl, was shows o size s r id w m.0 there mine e may tt), refl) z q role word),
@@ -233,7 +233,7 @@ module _ {K : Type 0} (shows : K → Lasting) (o : Beside) (size : PathSize) (sl
         plays shows o size s r id w m.0 there mine e refl may tt tt tt
             (rows_stay x e may (λ q. q) r.rows) g g false m.0.hands refl refl m.1 keeps
             (unseen shows o size slots id m w mine s r there held x.append v' refl refl refl out
-            (still _ m.0.part.sync held) refl empty),
+            (still _ m.0.part.sync held) refl empty) tt (refl, refl, refl, refl) tt tt,
         each_seat_name shows o size slots id m w mine (λ z. Made z (Advance z Write g) g m
             (v', m.1))
             ((refl, was shows o size s r id w m.0 there mine e may tt), refl),

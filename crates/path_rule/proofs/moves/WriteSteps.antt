@@ -21,7 +21,7 @@ use Rattle.std.proofs.Common.{
   arith,
 }
 use Rattle.std.specs.Prelude.{slice_index}
-use mathlib.Core.Logic.{inl}
+use mathlib.Core.Logic.{inl, inr}
 use mathlib.Core.Option.{none}
 use prog.Atomic.{either}
 use Rattle.atomic_table.proofs.Lists.{exchanged}
@@ -34,6 +34,7 @@ use Rattle.path_core.specs.declared.seat.Seat.{Seat as SeatOf}
 use Rattle.path_core.specs.Allowed.{IsStep}
 use Rattle.path_core.specs.Parts.{tally_of, found_of, HoldsNoTurn, IsIdle}
 use Rattle.path_core.proofs.frame.Seats.{some_left, group_made}
+use Rattle.path_core.proofs.log.OwnNotes.{no_note}
 use Rattle.path_rule.specs.declared.lasting.Beside.{Beside}
 use Rattle.path_rule.specs.declared.lasting.Lasting.{Lasting}
 use Rattle.path_rule.specs.declared.slot.Slot.{Slot}
@@ -45,8 +46,18 @@ use Rattle.path_rule.specs.Layout.{tally_word}
 use Rattle.path_rule.specs.Rule.{Ruled, view_after}
 use Rattle.path_rule.specs.Told.{Made, Registered, Stopped as StoppedBy}
 use Rattle.path_rule.proofs.boxes.HeldBoxes.{boxed_stay}
-use Rattle.path_rule.proofs.moves.Looks.{Owes, as_part, within, below, acts, look_owes, each_name}
-use Rattle.path_rule.proofs.moves.Moving.{core_lawful}
+use Rattle.path_rule.proofs.boxes.MemtablesStay.{closed_puts, runs_else}
+use Rattle.path_rule.proofs.moves.Looks.{
+  Owes,
+  as_part,
+  within,
+  below,
+  acts,
+  acts_with,
+  look_owes,
+  each_name,
+}
+use Rattle.path_rule.proofs.moves.Moving.{core_lawful, puts_now, still_kept}
 use Rattle.path_rule.proofs.moves.StepFacts.{more_word, less_word}
 use Rattle.path_rule.proofs.places.ReadBack.{rows_stay}
 
@@ -84,7 +95,7 @@ module _ {K : Type 0} (shows : K → Lasting) (o : Beside) (size : PathSize) (sl
       id w m.0 v'
       there
       mine refl refl refl (λ i g l _ _. (l, refl)) refl C.append C.issue refl)
-      then (λ u z h role _ word. each_name shows o size slots id m w mine 72 g
+      tt tt then (λ u z h role _ word. each_name shows o size slots id m w mine 72 g
       (λ z h. (n ≡ k → Made z (Register z Write h) (k + 1) m (v', m.1))
       × (n ≢ k → Made z (Look z (Count Write h)) n m (v', m.1)))
       ((λ _. ((refl, u), refl)), (λ miss. absurd (miss hit))) z h role word))
@@ -120,7 +131,11 @@ module _ {K : Type 0} (shows : K → Lasting) (o : Beside) (size : PathSize) (sl
           ),
         );
       } in
-      acts shows o size slots id m w mine s r there e refl may tt tt fits
+      let rest = (puts_now shows o size s r id w m.0 there mine).rests
+      (ap (λ (p : SeatOf). p.note) is
+      ∙ no_note x (core_lawful shows o size s r).orders w (ap (λ (p : SeatOf). p.claim) (sym is)
+      ∙ claim)) in
+      acts_with shows o size slots id m w mine s r there e refl may tt tt fits
       (rows_stay x e may (λ q. q) r.rows)
       ((n + (2 ^ 64 - 1)) % 2 ^ 64) n
       (ap (λ z. (z + (2 ^ 64 - 1)) % 2 ^ 64) found
@@ -131,6 +146,9 @@ module _ {K : Type 0} (shows : K → Lasting) (o : Beside) (size : PathSize) (sl
       id w m.0 v'
       there
       mine refl refl refl (λ i g l _ _. (l, refl)) refl C.append C.issue refl)
+      (λ C. closed_puts r.memtables.contents size.seats w m.0.part v'.part m.0.hands rest C.claim
+      (puts_now shows o size s r id w m.0 there mine)) (still_kept shows o size s r e may tt refl)
+      (λ C z t k q few h R. inr (runs_else s.views id m.0 v' there claim z q.end.0 R)) tt
       (StoppedBy (step slots (72 + 2 * g) 1 0 none) m n)
       (λ u z h role _ word. each_name shows o size slots id m w mine 72 g
       (λ z h. Made z (Close z Write h Nothing) n m (v', m.1))

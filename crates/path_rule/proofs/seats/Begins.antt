@@ -44,10 +44,12 @@ use Rattle.path_rule.specs.declared.slot.Slot.TheVariants.{Notes, Turn}
 use Rattle.path_rule.specs.declared.view.PathSize.{PathSize}
 use Rattle.path_rule.specs.declared.view.View.{View}
 use Rattle.path_rule.specs.Boxed.{HandsAs, AreFirst}
-use Rattle.path_rule.specs.Boxes.{first_progress, boxes, DeskIs, NotesAre}
+use Rattle.path_rule.specs.Boxes.{all_boxes, first_progress, DeskIs, NotesAre}
 use Rattle.path_rule.specs.FirstBoxes.{AreEmpty}
 use Rattle.path_rule.specs.Lasts.{beside_of, lasting_of, stopped_with, none_lasting, IsNew}
 use Rattle.path_rule.specs.Layout.{first_words}
+use Rattle.path_rule.specs.Memtables.{PutsAs}
+use Rattle.path_rule.specs.Reads.{ReadsAs}
 use Rattle.path_rule.specs.Rule.{start_of, IsFit, Knows, IsSized, Ruled, opener}
 use Rattle.path_rule.specs.Trails.{ViewTells}
 use Rattle.path_rule.proofs.log.TrailsTell.{none_tells}
@@ -60,8 +62,9 @@ module _ {K : Type 0} (shows : K → Lasting) (o : Beside) where
   some_at (y ∷ ys) zero l = (y, refl)
   some_at (y ∷ ys) (suc b) l = some_at ys b (omega arith)
 
-  pub begins : (size : PathSize) (xs : List (Slot K)) → IsFit size → length xs ≡ boxes size.seats
-      → AreFirst shows o size xs → Ruled shows o size (opening first_words xs (opener 0 size))
+  pub begins : (size : PathSize) (xs : List (Slot K)) → IsFit size
+      → length xs ≡ all_boxes size.seats → AreFirst shows o size xs
+      → Ruled shows o size (opening first_words xs (opener 0 size))
   begins size xs fit long first = record {
     core = start_of size;
     events = [];
@@ -104,6 +107,17 @@ module _ {K : Type 0} (shows : K → Lasting) (o : Beside) where
       alone = λ k b c _. omega arith;
       unlogged = λ n h l. let q = l.1 in omega arith;
     };
+    memtables = record {
+      contents = λ _. [];
+      at_home = λ b low high free. let y = some_at xs b (omega arith) in
+          (y.0, at_map some xs b y.0 y.1, (first.each b y.0 y.1).1 (omega arith));
+      in_hands = λ j u e. first_puts j u e;
+      kept = λ p h _. absurd (let l = h.1 in omega arith);
+      sound = λ w t m n _ h. absurd (let l = h.1 in omega arith);
+      settled = λ w t m n _ h. absurd (let l = h.1 in omega arith);
+      once = λ k b. omega arith;
+    };
+    reads = λ j u e. first_reads j u e;
     words = first_word size;
     fresh = λ w _. (refl, same_all size.seats w fresh_seat);
     each_seat = λ j u e. first_view j u e;
@@ -122,6 +136,20 @@ module _ {K : Type 0} (shows : K → Lasting) (o : Beside) where
           (start_of size).append size.seats y.part y.hands y.role in
           subst P (some-injective (opener 0 size) u e) tt
       first_hands (suc j) u e = absurd (some-ne-none u (sym e))
+
+      first_reads : (j : ℕ) (u : View) → get_elem? (opener 0 size ∷ []) j ≡ some u
+          → ReadsAs size.seats (start_of size) u.part u.hands u.role
+      first_reads zero u e = let P : View → Type 0 =
+          λ y. ReadsAs size.seats (start_of size) y.part y.hands y.role in
+          subst P (some-injective (opener 0 size) u e) refl
+      first_reads (suc j) u e = absurd (some-ne-none u (sym e))
+
+      first_puts : (j : ℕ) (u : View) → get_elem? (opener 0 size ∷ []) j ≡ some u
+          → PutsAs (λ _. []) size.seats u.part u.hands u.role
+      first_puts zero u e = let P : View → Type 0 =
+          λ y. PutsAs (λ _. []) size.seats y.part y.hands y.role in
+          subst P (some-injective (opener 0 size) u e) refl
+      first_puts (suc j) u e = absurd (some-ne-none u (sym e))
 
       first_view : (j : ℕ) (u : View) → get_elem? (opener 0 size ∷ []) j ≡ some u
           → IsSized size u × Knows (start_of size) []

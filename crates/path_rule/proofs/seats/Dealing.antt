@@ -29,6 +29,7 @@ use Rattle.std.proofs.Common.{
   ne_eqb,
 }
 use Rattle.std.proofs.lemmas.Bool.{false≢true}
+use Rattle.std.proofs.lemmas.Option.{none-some}
 use mathlib.Core.Logic.{dite, inl, inr}
 use mathlib.Core.Option.{some, some-injective, some-ne-none}
 use native.Mathlib.Decide.{ℕ_discrete}
@@ -49,9 +50,12 @@ use Rattle.path_rule.specs.declared.view.View.{View}
 use Rattle.path_rule.specs.Boxed.{HandsAs}
 use Rattle.path_rule.specs.Boxes.{HoldsAs, HoldsBox}
 use Rattle.path_rule.specs.Lasts.{shown}
+use Rattle.path_rule.specs.Memtables.{HasInHand, PutsAs}
+use Rattle.path_rule.specs.Reads.{ReadsAs}
 use Rattle.path_rule.specs.Rule.{IsSeat, Knows, SizedAs, IsSized, Ruled, new_seat}
 use Rattle.path_rule.specs.Sharing.{one_on, handing, handed_by, handed}
 use Rattle.path_rule.specs.Trails.{ViewTells}
+use Rattle.path_rule.proofs.boxes.MemtablesStay.{memtables_seen, none_in_hand}
 use Rattle.path_rule.proofs.boxes.SameBoxes.{reboxed}
 use Rattle.path_rule.proofs.log.TrailsTell.{none_tells}
 
@@ -96,6 +100,36 @@ module _ {K : Type 0} (shows : K → Lasting) (o : Beside) (size : PathSize) (id
       desk = λ e. absurd (false≢true e);
       other = λ b e. absurd (let q : None ≡ Some b = e in cc);
       swept = λ l. absurd (omega arith);
+    }
+
+    abbrev Put : View → Type 0
+    Put y = PutsAs r.memtables.contents size.seats y.part y.hands y.role
+
+    empty : v.hands.memtable_box ≡ None
+    empty = subst (PutsAs r.memtables.contents size.seats v.part v.hands) role
+        (r.memtables.in_hands id v at)
+
+    unread : v.hands.reading ≡ None
+    unread = subst (ReadsAs size.seats r.core v.part v.hands) role (r.reads id v at)
+
+    abbrev Read : View → Type 0
+    Read y = ReadsAs size.seats r.core y.part y.hands y.role
+
+    new_reads : (w : ℕ) (z : PathSize) → Read (new_seat w z)
+    new_reads w z = λ q e. absurd (none-some q e)
+
+    no_step : (z : ℕ) → v.role ≡ Steps z → ⊥
+    no_step z e = let q : Opener k ≡ Steps z = sym role ∙ e in cc
+
+    new_puts : (w : ℕ) (z : PathSize) → Put (new_seat w z)
+    new_puts w z = record {
+      in_hand = λ b e. absurd (none-some b e);
+      rests = λ e. refl;
+      tables = λ a h. absurd (let l = h.1 in omega arith);
+      applied = λ a h. absurd (let l = h.1 in omega arith);
+      running = λ q t m e. absurd (none-some q e);
+      placed = λ a q h. absurd (let l = h.1 in omega arith);
+      reads = λ q b e. absurd (none-some q e);
     }
 
     handed_out : k < size.seats → Ruled shows o size
@@ -150,6 +184,45 @@ module _ {K : Type 0} (shows : K → Lasting) (o : Beside) (size : PathSize) (id
               (λ (t : (handed v ≡ u) × (j ≡ new)). subst Hand t.0
               (subst (λ ρ. Hand (handed_by ρ v.size)) (sym role) (new_hands k v.size)))
               (at_end (set s.views id (handing v)) (handed v) u j e));
+          memtables = memtables_seen size.seats r.core.notes r.core.placed r.core.tables s.homes
+              s.views (set s.views id (handing v) ++ handed v ∷ []) r.memtables
+              (λ b free j u e h. dite (ℕ_discrete j id)
+              (λ same. none_in_hand v.hands b empty unread
+              (subst (λ (y : View). HasInHand y.hands b)
+              (some-injective u v (sym e ∙ (ap (get_elem? s.views) same ∙ at))) h))
+              (λ apart. free j u (at_longer (set s.views id (handing v)) (handed v ∷ []) j u
+              (set_else s.views id j (handing v) apart ∙ e)) h))
+              (λ j u e. ⊎_elim
+              (λ old. ⊎_elim
+              (λ (t : (j ≡ id) × (handing v ≡ u)). subst Put t.1
+              (subst (PutsAs r.memtables.contents size.seats v.part v.hands)
+              (sym (ap one_on role)) empty))
+              (λ (t : (j ≢ id) × (get_elem? s.views j ≡ some u)). r.memtables.in_hands j u t.1)
+              (at_set s.views id j (handing v) u old))
+              (λ (t : (handed v ≡ u) × (j ≡ new)). subst Put t.0
+              (subst (λ ρ. Put (handed_by ρ v.size)) (sym role) (new_puts k v.size)))
+              (at_end (set s.views id (handing v)) (handed v) u j e))
+              (λ z key R. let other : R.id ≢ id = (λ same. no_step z
+              (ap (λ (y : View). y.role) (some-injective v R.view
+              (sym at ∙ (ap (get_elem? s.views) (sym same) ∙ R.there))) ∙ R.role)) in record {
+                id = R.id;
+                view = R.view;
+                range = R.range;
+                there = at_longer (set s.views id (handing v)) (handed v ∷ []) R.id R.view
+                    (set_else s.views id R.id (handing v) other ∙ R.there);
+                role = R.role;
+                claim = R.claim;
+                ends = R.ends;
+              });
+          reads = λ j u e. ⊎_elim
+              (λ old. ⊎_elim
+              (λ (t : (j ≡ id) × (handing v ≡ u)). subst Read t.1
+              (subst (ReadsAs size.seats r.core v.part v.hands) (sym (ap one_on role)) unread))
+              (λ (t : (j ≢ id) × (get_elem? s.views j ≡ some u)). r.reads j u t.1)
+              (at_set s.views id j (handing v) u old))
+              (λ (t : (handed v ≡ u) × (j ≡ new)). subst Read t.0
+              (subst (λ ρ. Read (handed_by ρ v.size)) (sym role) (new_reads k v.size)))
+              (at_end (set s.views id (handing v)) (handed v) u j e);
           fresh = λ z l. r.fresh z (omega arith);
           each_seat = λ j u e. ⊎_elim
               (λ old. ⊎_elim

@@ -3,11 +3,14 @@ use Rattle.std.proofs.Common.{
   ◌≡◌,
   ◌≢◌,
   ℕ,
+  Option,
+  Some,
   None,
   List,
   ◌++◌,
   length,
   set,
+  is_some,
   refl,
   sym,
   ap,
@@ -15,16 +18,23 @@ use Rattle.std.proofs.Common.{
   subst,
   ⊎_elim,
 }
+use Rattle.std.proofs.lemmas.Bool.{false≢true}
 use mathlib.Core.Logic.{dite}
 use mathlib.Core.Option.{some, some-injective}
 use native.Mathlib.Decide.{ℕ_discrete}
 use lib.ListN.{get_elem?}
 use Rattle.atomic_table.proofs.Lists.{at_set, set_here, set_else}
 use Rattle.atomic_table.specs.Table.{State, Joins}
+use Rattle.path_core.specs.declared.seat.FlushTurn.{FlushTurn}
+use Rattle.path_core.specs.declared.seat.Range.{Range}
 use Rattle.path_core.specs.declared.seat.Seat.{Seat}
+use Rattle.path_core.specs.Parts.{seat_of, seat_table}
+use Rattle.path_core.proofs.lists.Options.{none_is_not_some}
+use Rattle.path_core.proofs.log.OwnNotes.{no_note}
 use Rattle.path_rule.specs.declared.lasting.Beside.{Beside}
 use Rattle.path_rule.specs.declared.lasting.Lasting.{Lasting}
 use Rattle.path_rule.specs.declared.slot.Slot.{Slot}
+use Rattle.path_rule.specs.declared.view.FlushRead.{FlushRead}
 use Rattle.path_rule.specs.declared.view.OwnStep.{OwnStep}
 use Rattle.path_rule.specs.declared.view.PathSize.{PathSize}
 use Rattle.path_rule.specs.declared.view.Returned.{Returned}
@@ -34,19 +44,30 @@ use Rattle.path_rule.specs.declared.view.View.{View}
 use Rattle.path_rule.specs.Boxed.{HandsAs}
 use Rattle.path_rule.specs.Boxes.{HoldsBox}
 use Rattle.path_rule.specs.Lasts.{shown}
+use Rattle.path_rule.specs.Memtables.{HasInHand, PutsAs}
+use Rattle.path_rule.specs.Reads.{ReadsAs}
 use Rattle.path_rule.specs.Rule.{IsSeat, Knows, IsSized, Ruled}
 use Rattle.path_rule.specs.Sharing.{spent, told_by, taking}
 use Rattle.path_rule.specs.Trails.{TrailTells, ViewTells}
 use Rattle.path_rule.proofs.boxes.AtHome.{inside_list}
+use Rattle.path_rule.proofs.boxes.MemtablesStay.{
+  memtables_seen,
+  none_in_hand,
+  runs_else,
+  runs_still,
+}
+use Rattle.path_rule.proofs.boxes.Switching.{switched_held}
 use Rattle.path_rule.proofs.boxes.SameBoxes.{reboxed, holds_none}
 use Rattle.path_rule.proofs.log.TrailsTell.{none_tells}
+use Rattle.path_rule.proofs.moves.Moving.{core_lawful, known, puts_now, reads_now}
 use Rattle.path_rule.proofs.seats.Untaken.{untaken}
 use Rattle.path_rule.proofs.seats.Dealing.{at_end, with_owner, owner_here, owner_else}
 
 module _ {K : Type 0} (shows : K → Lasting) (o : Beside) (size : PathSize) (id : ℕ) (v : View)
     (q : ℕ)
     (role : v.role ≡ Steps q) (other w : ℕ) (u : View) (seat_is : u.role ≡ Steps w)
-    (outside : u.part.append ≡ None) (free : u.part.sync ≡ None) where
+    (outside : u.part.append ≡ None) (free : u.part.sync ≡ None) (ended : u.part.write ≡ None)
+    (unheld : (t : ℕ) → (seat_table u.part t).flush ≡ None) where
   merged : (s : State (Slot K) View) (r : Ruled shows o size s) → get_elem? s.views id ≡ some v
       → other ≢ id → get_elem? s.views other ≡ some u
       → Ruled shows o size (record {
@@ -119,6 +140,38 @@ module _ {K : Type 0} (shows : K → Lasting) (o : Beside) (size : PathSize) (id
             (λ (k : (j ≢ id) × (get_elem? s.views j ≡ some x)). r.boxed.in_hands j x k.1)
             (at_set s.views id j (taking v u) x t.1))
             (at_set (set s.views id (taking v u)) other j spent x e));
+        memtables = memtables_seen size.seats r.core.notes r.core.placed r.core.tables s.homes
+            s.views (set (set s.views id (taking v u)) other spent) r.memtables
+            (λ b at_home j x e h. dite (ℕ_discrete j other)
+            (λ same. none_in_hand u.hands b (rests s r there) (reads_none s r there)
+            (subst (λ (y : View). HasInHand y.hands b)
+            (some-injective x u (sym e ∙ (ap (get_elem? s.views) same ∙ there))) h))
+            (λ far. dite (ℕ_discrete j id)
+            (λ same. at_home id (taking v u) (set_else (set s.views id (taking v u)) other id spent
+            (λ e'. apart (sym e')) ∙ set_here s.views id (taking v u)
+            (inside_list s.views id v at)) (subst (λ (y : View). HasInHand y.hands b)
+            (some-injective x v (sym e ∙ (ap (get_elem? s.views) same ∙ at))) h))
+            (λ apart'. at_home j x (set_else (set s.views id (taking v u)) other j spent far
+            ∙ (set_else s.views id j (taking v u) apart' ∙ e)) h)))
+            (λ j x e. let Put : View → Type 0 = λ y. PutsAs r.memtables.contents size.seats y.part
+            y.hands y.role in ⊎_elim
+            (λ (t : (j ≡ other) × (spent ≡ x)). subst Put t.1 refl)
+            (λ (t : (j ≢ other) × (get_elem? (set s.views id (taking v u)) j ≡ some x)). ⊎_elim
+            (λ (k : (j ≡ id) × (taking v u ≡ x)). subst Put k.1 (r.memtables.in_hands id v at))
+            (λ (k : (j ≢ id) × (get_elem? s.views j ≡ some x)). r.memtables.in_hands j x k.1)
+            (at_set s.views id j (taking v u) x t.1))
+            (at_set (set s.views id (taking v u)) other j spent x e))
+            (λ z key R. runs_else (set s.views id (taking v u)) other u spent
+            (set_else s.views id other (taking v u) apart ∙ there) (idle s r there) z key
+            (runs_still s.views id v (taking v u) at refl refl z key R));
+        reads = λ j x e. let Read : View → Type 0 = λ y. ReadsAs size.seats r.core y.part y.hands
+            y.role in ⊎_elim
+            (λ (t : (j ≡ other) × (spent ≡ x)). subst Read t.1 refl)
+            (λ (t : (j ≢ other) × (get_elem? (set s.views id (taking v u)) j ≡ some x)). ⊎_elim
+            (λ (k : (j ≡ id) × (taking v u ≡ x)). subst Read k.1 (r.reads id v at))
+            (λ (k : (j ≢ id) × (get_elem? s.views j ≡ some x)). r.reads j x k.1)
+            (at_set s.views id j (taking v u) x t.1))
+            (at_set (set s.views id (taking v u)) other j spent x e);
         fresh = r.fresh;
         each_seat = λ j x e. ⊎_elim
             (λ (t : (j ≡ other) × (spent ≡ x)). let P : View
@@ -166,6 +219,46 @@ module _ {K : Type 0} (shows : K → Lasting) (o : Beside) (size : PathSize) (id
             (at_set (set s.views id (taking v u)) other j spent x e);
       }
     where
+      -- it runs no write, so it has no box of a memtable in hand
+      rests : (s : State (Slot K) View) (r : Ruled shows o size s)
+          → get_elem? s.views other ≡ some u → u.hands.memtable_box ≡ None
+      rests s r there = let law = core_lawful shows o size s r in
+          let is = (known shows o size s r other w u there seat_is).1.2 in
+          let out = ap (λ (p : Seat). p.write) (sym is) ∙ ended in
+          (puts_now shows o size s r other w u there seat_is).rests
+          (ap (λ (p : Seat). p.note) is ∙ no_note r.core law.orders w
+          (unclaimed s r out (seat_of r.core w).claim refl))
+        where
+          unclaimed : (s : State (Slot K) View) (r : Ruled shows o size s)
+              → (seat_of r.core w).write ≡ None → (c : Option Range)
+              → (seat_of r.core w).claim ≡ c → (seat_of r.core w).claim ≡ None
+          unclaimed s r out None e = e
+          unclaimed s r out (Some q) e = absurd (none_is_not_some out
+              (((core_lawful shows o size s r).orders.orders_nest w).claim q e))
+
+      -- it holds no Flush turn, so it reads none
+      reads_none : (s : State (Slot K) View) (r : Ruled shows o size s)
+          → get_elem? s.views other ≡ some u → u.hands.reading ≡ None
+      reads_none s r there = by u.hands.reading refl
+        where
+          by : (k : Option FlushRead) → u.hands.reading ≡ k → u.hands.reading ≡ None
+          by None e = e
+          by (Some k) e = let R = reads_now shows o size s r other w u there seat_is k e in
+              absurd (false≢true (ap (λ (f : Option FlushTurn). is_some f) (sym (unheld k.table))
+              ∙ switched_held u.part k.table R.switched))
+
+      -- so it has claimed nothing
+      idle : (s : State (Slot K) View) (r : Ruled shows o size s)
+          → get_elem? s.views other ≡ some u → u.part.claim ≡ None
+      idle s r there = let is = (known shows o size s r other w u there seat_is).1.2 in
+          by (seat_of r.core w).claim refl is
+        where
+          by : (c : Option Range) → (seat_of r.core w).claim ≡ c → u.part ≡ seat_of r.core w
+              → u.part.claim ≡ None
+          by None e is = ap (λ (p : Seat). p.claim) is ∙ e
+          by (Some q) e is = absurd (none_is_not_some (ap (λ (p : Seat). p.write) (sym is) ∙ ended)
+              (((core_lawful shows o size s r).orders.orders_nest w).claim q e))
+
       taken_tells : (s : State (Slot K) View) (r : Ruled shows o size s)
           → ViewTells size.capacity r.core v → ViewTells size.capacity r.core u
           → ViewTells size.capacity r.core (taking v u)

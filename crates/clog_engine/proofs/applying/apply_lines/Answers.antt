@@ -19,7 +19,7 @@ use Rattle.clog_engine.specs.Refusal.{folder_status}
 use Rattle.clog_engine.specs.Request.{AreSizesOf}
 use Rattle.clog_engine.specs.Report.{IsReport, head_of}
 use Rattle.clog_engine.proofs.Applied.{folder_refuses, left_closed, not_opened}
-use Rattle.clog_engine.proofs.Closed.{is_asked}
+use Rattle.clog_engine.proofs.Closed.{is_asked, one_is_not_batch}
 use Rattle.clog_engine.proofs.LinesLaid.{as_many, laid_many}
 use Rattle.clog_engine.proofs.Opened.{
   ended_applies,
@@ -74,9 +74,10 @@ returns-in-Ok-report_of-clause-applies g c left left_now f h =
     let at = c.args.clock.now in
     let o = outside_with left left_now f h g.D.Disk g.C.Clock start now at in
     let sizes_are = ap (λ s. s.notes.sizes) opening.over in
-    let one = c.requires.one in
-    let asked = is_asked options store.notes.sizes store.archives c.requires.doable one
-    c.requires.periodic (subst (AreSizesOf options) (sym sizes_are) c.requires.sizes)
+    let one = c.requires.one.one_writer in
+    let not_batch = one_is_not_batch options c.requires.one in
+    let asked = is_asked options store.notes.sizes store.archives c.requires.doable c.requires.one
+    (subst (AreSizesOf options) (sym sizes_are) c.requires.sizes)
     (ap (λ s. s.archives) opening.over) in
     let laid_there : AreLaidFor store.notes.sizes ms notes =
     subst (λ (s : Sizes). AreLaidFor s ms notes) (sym sizes_are) laid in
@@ -89,7 +90,7 @@ returns-in-Ok-report_of-clause-applies g c left left_now f h =
     c.base-base.ensures.base c.in-Ok-report_of.ensures) in
     let run = turns_run g.D.Disk g.C.Clock left left_now f h start looked at only still opened
     c.now_ms.result store.notes.base opening.opens opening.any_moment opening.recovers outcome now
-    options c.args.sizes ms notes c.in-Ok.cells report c.requires.periodic c.now_ms.ensures.told
+    options c.args.sizes ms notes c.in-Ok.cells report not_batch c.now_ms.ensures.told
     laid (laid_many c.args.sizes first_offset 1 laid.raw notes laid.laid
     ∙ as_many ms laid.raw laid.entries)
     c.in-Ok.ensures.gives.restored is (λ then made files_are changes_are.
@@ -124,18 +125,19 @@ returns-in-Ok-report_of-clause-applies g c left left_now f h =
     c.write_lines-disk.ensures.told c.write_lines-disk.ensures.stay in
     subst (AppliesLines options ms o) (sym c.ended.ensures)
     (ended_applies outcome options o report ms (record {
-      by_one = λ alone periodic. record {
+      by_one = λ alone. record {
         sizes = c.args.sizes;
         sizes_are = c.requires.sizes;
         notes = notes;
         laid = laid;
         base = store.notes.base;
+        low = c.base-base.ensures.fits;
         cells = c.in-Ok.cells;
         text = is;
       };
       by_several = λ writers. elim writers [
         | inl several ↦ absurd (omega (arith, one, several))
-        | inr batch ↦ absurd (c.requires.periodic batch)
+        | inr other ↦ absurd (other c.requires.one.periodic)
       ];
     }) run has_written stays lasts
     (subst (λ (n : ℕ). HasWriteCause n (g.D.Disk.faults now) outcome)

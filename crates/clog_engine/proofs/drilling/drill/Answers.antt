@@ -42,7 +42,7 @@ returns-in-Ok-outcome-clause-drills g c left left_now f h =
     c.drill_options-options.result c.apply_shares-disk.result.1 text
     c.drill_options-options.ensures c.in-Ok-outcome.is
     (c.apply_shares-disk.ensures.applies left left_now f h ms planned)))
-    still.same.files
+    (c.disks_tell_both.ensures start) still.same.files
     (quiet_at c.apply_shares-disk.result.1 text (g.D.Disk.faults start) (g.D.Disk.faults then)
     c.in-Ok-outcome.is c.apply_shares-disk.ensures.quiet)
     (c.tell_folder-told.ensures.tells ms (sym (made_many c.args.seed c.args.count))

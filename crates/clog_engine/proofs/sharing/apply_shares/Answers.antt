@@ -93,7 +93,7 @@ returns-clause-applies g c left left_now f h ms planned =
     let asked = is_asked options store.notes.sizes store.archives c.requires.doable
     (subst (AreSizesOf options) (sym its_sizes) c.requires.sizes) archives in
     let lasts = lasts_first g.D.Disk g.C.Clock left left_now f h start looked at only still opened
-    c.now_ms.result base opening.opens opening.any_moment opening.recovers now options ms
+    c.now_ms-opened_ms.result base opening.opens opening.any_moment opening.recovers now options ms
     (least_of outcome ms)
     (λ then files_are first is_first lasting.
     subst (λ (x : Bool). LeavesShares g.D.Disk.changes g.D.Disk.moment g.D.Disk.since
@@ -105,14 +105,14 @@ returns-clause-applies g c left left_now f h ms planned =
     (done.shown ms then planned.plan files_are
     (subst (g.D.Disk.lasted_at opened) opening.began (opening.lasted first is_first lasting))))) in
     let has_written = wrote g.D.Disk g.C.Clock left left_now f h start looked at only still opened
-    c.now_ms.result base opening.opens opening.any_moment opening.recovers now options ms
+    c.now_ms-opened_ms.result base opening.opens opening.any_moment opening.recovers now options ms
     (subst (λ (x : Bool). WritesShares g.D.Disk.files g.D.Disk.changes opened now base x
     options.drain options.writers ms) archives
     (subst (λ (n : ℕ). WritesShares g.D.Disk.files g.D.Disk.changes opened now base store.archives
     options.drain n ms) writers (done.wrote ms planned.plan)))
     done.told in
     let stays = others g.D.Disk g.C.Clock left left_now f h start looked at only still opened
-    c.now_ms.result base opening.opens opening.any_moment opening.recovers now done.told done.stay
+    c.now_ms-opened_ms.result base opening.opens opening.any_moment opening.recovers now done.told done.stay
     in
     shares_applied options o ms
     (told_then (g.D.Disk.files start) (g.D.Disk.files opened) (g.D.Disk.files now)
@@ -121,6 +121,7 @@ returns-clause-applies g c left left_now f h ms planned =
     c.told.ensures lasts
     (subst (λ (n : ℕ). HasShareCause n (g.D.Disk.faults now) outcome)
     (opening.quiet ∙ c.in-Ok.ensures.quiet) done.cause)
+    (done.rows ms planned.plan)
     (λ receipts report is_ok text.
     let logged = ok_at outcome receipts _ is_ok (done.receipts ms planned.plan) in
     let is : IsReport options.dump (head_with options.receipts receipts.items) before ms report =
@@ -128,9 +129,9 @@ returns-clause-applies g c left left_now f h ms planned =
     before c.args.lines.cells ms c.in-Ok.ensures.gives.ordered planned.cells
     c.in-Ok-pending.ensures.rows text in (
       record {
-        by_one = λ one periodic. elim c.requires.writers [
-          | inl several ↦ absurd (omega (arith, one, several))
-          | inr batch ↦ absurd (periodic batch)
+        by_one = λ one. elim c.requires.writers [
+          | inl several ↦ absurd (let alone = one.one_writer in omega (arith, alone, several))
+          | inr other ↦ absurd (other one.periodic)
         ];
         by_several = λ writers_are. record {
           sizes = sizes;
@@ -143,8 +144,8 @@ returns-clause-applies g c left left_now f h ms planned =
         };
       },
       turns_shares g.D.Disk g.C.Clock left left_now f h start looked at only still opened
-          c.now_ms.result base opening.opens opening.any_moment opening.recovers now options ms
-          receipts.items before report c.now_ms.ensures.told
+          c.now_ms-opened_ms.result base opening.opens opening.any_moment opening.recovers now options ms
+          receipts.items before report c.now_ms-opened_ms.ensures.told
           logged.long c.in-Ok.ensures.gives.restored is
           (λ then made files_are changes_are.
           ok_at outcome receipts _ is_ok

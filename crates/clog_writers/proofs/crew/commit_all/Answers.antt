@@ -2,7 +2,7 @@ use Rattle.std.proofs.Common.{◌<◌, length, sym, ◌∙◌, subst, arith}
 use Rattle.clog_applied.specs.History.{share_of}
 use Rattle.clog_writers.specs.declared.worker.Worker.{Worker}
 use Rattle.clog_writers.specs.Crews.{HasLogged, IsReady}
-use Rattle.clog_writers.specs.Sealing.{SealsShare}
+use Rattle.clog_writers.specs.Sealing.{WaitsShare}
 use Rattle.clog_writers.proofs.crew.commit_all.Goals as goal
 
 pub for_each_mut-requires-clause-accepts : goal.for_each_mut-requires-clause-accepts
@@ -36,9 +36,9 @@ returns-clause-logged g c = λ mutations ready.
           (sym one.argument_is) (ready.each i d low)));
     }
 
-pub returns-clause-sealed : goal.returns-clause-sealed
-returns-clause-sealed g c = λ batch w among.
+pub returns-clause-waited : goal.returns-clause-waited
+returns-clause-waited g c = λ batch w among.
     let inside = among.1 in
     let long = c.for_each_mut.auto.s in
     let one = (c.for_each_mut.ensures among.0 w (omega (arith, inside, long))).1 in
-    subst (λ (x : Worker g.row.K.Denot). SealsShare x) (one.left ∙ among.2) (one.call.1 batch)
+    subst (λ (x : Worker g.row.K.Denot). WaitsShare x) (one.left ∙ among.2) (one.call.1 batch)

@@ -23,7 +23,7 @@ use Rattle.clog_base.proofs.Members.{further, here, nothing_there, only_one}
 use Rattle.clog_applied.specs.History.{share_of}
 use Rattle.path_rule.specs.declared.trying.PathSeat.{PathSeat}
 use Rattle.clog_writers.specs.declared.worker.Worker.{Worker}
-use Rattle.clog_writers.specs.Sealing.{HasSealed}
+use Rattle.clog_writers.specs.Sealing.{HasWaited}
 use Rattle.clog_writers.proofs.Gathering.{
   Gathers,
   all_gathered,
@@ -45,9 +45,9 @@ loop-worker-init g c =
           (subst (λ (l : List (PathSeat g.row.K.Denot)). Gathers t.table.shared.table_id t.size
           mutations c.args.workers.items l None) (sym c.requires.none)
           (none_gathered t.table.shared.table_id t.size mutations c.args.workers.items logged));
-      sealed = λ all. (
+      waited = λ all. (
         λ w h. all w (subst (λ (l : List (Worker g.row.K.Denot)). Contains l w) gives.0 h),
-        λ none s h. absurd (nothing_there s
+        λ s h. absurd (nothing_there s
             (subst (λ (l : List (PathSeat g.row.K.Denot)). Contains l s) c.requires.none h)),
       );
       room = let none = ap length c.requires.none in
@@ -94,23 +94,21 @@ loop-worker-preserved g c =
           (one_gathered id t.size ms w rest xs l.first c.end_share-seat.result.1 now s before
           (c.end_share-seat.ensures.ends (length xs) (share_of t.size.seats (length xs) ms)
           (next_logged id t.size ms w rest xs l.first before))
-          (c.end_share-seat.ensures.stops (length xs) (share_of t.size.seats (length xs) ms)
-          (next_logged id t.size ms w rest xs l.first before))
-          (c.end_share-seat.ensures.spent (length xs) (share_of t.size.seats (length xs) ms)
+          (c.end_share-seat.ensures.why (length xs) (share_of t.size.seats (length xs) ms)
           (next_logged id t.size ms w rest xs l.first before)) c.first_of-first.ensures.none
           c.first_of-first.ensures.one);
-      sealed = λ all.
-          let before = I.sealed all in (
+      waited = λ all.
+          let before = I.waited all in (
             λ x h. before.0 x (subst (λ (ws : List (Worker g.row.K.Denot)). Contains ws x)
                 (sym steps.0) (further w rest x h)),
-            λ none x h. elim (Contains-append_cases xs (s ∷ []) x
+            λ x h. elim (Contains-append_cases xs (s ∷ []) x
                 (subst (λ (ss : List (PathSeat g.row.K.Denot)). Contains ss x) pushed h)) [
-                  | inl old ↦ before.1 (c.first_of-first.ensures.none none).0 x old
-                  | inr new ↦ subst (λ (y : PathSeat g.row.K.Denot). HasSealed y)
+                  | inl old ↦ before.1 x old
+                  | inr new ↦ subst (λ (y : PathSeat g.row.K.Denot). HasWaited y)
                       (only_one s x new)
-                      (c.end_share-seat.ensures.sealed
+                      (c.end_share-seat.ensures.waited
                       (before.0 w (subst (λ (ws : List (Worker g.row.K.Denot)). Contains ws w)
-                      (sym steps.0) (here w rest))) (c.first_of-first.ensures.none none).1)
+                      (sym steps.0) (here w rest))))
                 ],
           );
       room =
@@ -120,8 +118,8 @@ loop-worker-preserved g c =
       count = omega (arith, short, steps.1, I.count);
     }
 
-pub returns-clause-sealed : goal.returns-clause-sealed
-returns-clause-sealed g c = λ all none. (c.loop-worker.invariant.sealed all).1 none
+pub returns-clause-waited : goal.returns-clause-waited
+returns-clause-waited g c = λ all. (c.loop-worker.invariant.waited all).1
 
 pub returns-clause-ended : goal.returns-clause-ended
 returns-clause-ended g c = λ ms logged.

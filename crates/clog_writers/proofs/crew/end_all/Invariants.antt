@@ -1,7 +1,7 @@
-use Rattle.std.proofs.Common.{◌≡◌, ◌+◌, ◌≤◌, List, None, length, vec_capacity, vec_len}
+use Rattle.std.proofs.Common.{◌≡◌, ◌+◌, ◌≤◌, List, length, vec_capacity, vec_len}
 use Rattle.clog_mutation.specs.declared.mutation.Mutation.{Mutation}
 use Rattle.clog_writers.specs.Crews.{HaveLogged}
-use Rattle.clog_writers.specs.Sealing.{HaveSealed, SealShares}
+use Rattle.clog_writers.specs.Sealing.{HaveWaited, WaitShares}
 use Rattle.clog_writers.proofs.Gathering.{Gathers}
 use Rattle.clog_writers.proofs.crew.end_all.Given as goal
 
@@ -11,8 +11,8 @@ invariant-loop-worker g l = let t = l.path.table in record {
       → HaveLogged t.table.shared.table_id t.size mutations l.fn.workers.items
       → Gathers t.table.shared.table_id t.size mutations l.worker-iterator.rest.items
       l.seats.items l.first;
-  sealed : SealShares l.fn.workers.items → SealShares l.worker-iterator.rest.items
-      × (l.first ≡ None → HaveSealed l.seats.items);
+  waited : WaitShares l.fn.workers.items → WaitShares l.worker-iterator.rest.items
+      × HaveWaited l.seats.items;
   room : vec_len l.seats + length l.worker-iterator.rest.items ≤ vec_capacity l.seats;
   count : l.worker-iterator.rest.len ≡ length l.worker-iterator.rest.items;
 }

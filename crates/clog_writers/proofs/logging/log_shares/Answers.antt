@@ -1,8 +1,12 @@
 use Rattle.std.proofs.Common.{ap, ◌∙◌, subst}
 use Rattle.path_core.specs.Keeper.{Holding}
+use Rattle.path_rule.specs.declared.lasting.Lasting.{Lasting}
 use Rattle.path_rule.specs.declared.table.PathTable.{PathTable}
 use Rattle.path_rule.specs.declared.view.PathSize.{PathSize}
 use Rattle.write_path.specs.Closed.{StaysBeside}
+use Rattle.clog_writers.proofs.Apart.{none_apart}
+use Rattle.clog_writers.proofs.FirstLogged.{none_written}
+use Rattle.clog_writers.proofs.Firsts.{first_none}
 use Rattle.clog_writers.proofs.Running.{unopened, unseated}
 use Rattle.clog_writers.proofs.logging.log_shares.Goals as goal
 
@@ -38,6 +42,18 @@ returns-in-Ok-seats-clause-ends g c =
     ∙ ap g.K.Keeper.holds c.in-Ok.ensures.first)
     c.requires.fresh
 
+pub returns-in-Err-clause-apart : goal.returns-in-Err-clause-apart
+returns-in-Err-clause-apart g c = λ batch.
+    none_apart c.args.sizes.capacity (g.K.Keeper.holds c.in-Err.keeper).logged
+    (ap (λ (l : Lasting). l.logged) c.in-Err.ensures.back ∙ c.requires.fresh.nothing_logged)
+
+pub returns-in-Err-seats-clause-apart : goal.returns-in-Err-seats-clause-apart
+returns-in-Err-seats-clause-apart g c = λ batch.
+    let now = g.K.Keeper.holds c.close-keeper.result.0 in
+    none_apart c.args.sizes.capacity now.logged
+    (first_none now.logged now.kept
+    (none_written _ c.args.room.items _ now c.close-keeper.ensures.outcome c.requires.void))
+
 pub returns-in-Ok-seats-clause-apart : goal.returns-in-Ok-seats-clause-apart
-returns-in-Ok-seats-clause-apart g c = λ batch none.
-    c.run_crew.ensures.apart (c.seats.ensures.path.1 ∙ c.in-Ok.ensures.opened.2 ∙ batch) none
+returns-in-Ok-seats-clause-apart g c = λ batch.
+    c.run_crew.ensures.apart (c.seats.ensures.path.1 ∙ c.in-Ok.ensures.opened.2 ∙ batch)

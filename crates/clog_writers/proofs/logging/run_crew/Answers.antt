@@ -1,15 +1,14 @@
-use Rattle.std.proofs.Common.{ℕ, Option, sym, subst}
+use Rattle.std.proofs.Common.{ℕ, sym, subst}
 use Rattle.clog_closing.specs.Gaps.{StandApart}
 use Rattle.path_core.specs.Keeper.{Holding}
 use Rattle.write_path.specs.Closed.{AreAll, StaysBeside}
 use Rattle.write_path.specs.Opened.{numbers_of}
-use Rattle.clog_writers.specs.declared.fault.WriteFault.{WriteFault}
-use Rattle.clog_writers.specs.Crews.{AreDealt, HaveEnded}
+use Rattle.clog_writers.specs.Crews.{AreDealt}
 use Rattle.clog_writers.proofs.Apart.{stand_apart}
 use Rattle.clog_writers.proofs.Running.{
   all_numbers,
   back_logged,
-  back_sealed,
+  back_waited,
   lent_ready,
   ran,
   sized_as,
@@ -110,7 +109,7 @@ returns-clause-ends g c = λ base before open_for is fresh.
     (subst (AreDealt c.args.sizes ms) (sym c.as_mut_slice.ensures.value) dealt))))))
 
 pub returns-clause-apart : goal.returns-clause-apart
-returns-clause-apart g c = λ batch none.
+returns-clause-apart g c = λ batch.
     let t = c.args.path.table in
     let id = t.table.shared.table_id in
     let d = c.requires.dealt in
@@ -126,12 +125,11 @@ returns-clause-apart g c = λ batch none.
     let ended = c.end_all-fault.ensures.ended d.0
     (back_logged id t.size c.args.sizes sized d.0 c.args.workers.len c.args.workers.items
     c.commit_all.new.workers _ d.1 c.args.workers.ok.0 logged) in
-    let sealed = c.end_all-fault.ensures.sealed
-    (back_sealed id t.size c.args.sizes sized d.0 c.args.workers.len c.args.workers.items
-    c.commit_all.new.workers _ d.1 c.args.workers.ok.0 logged (c.commit_all.ensures.sealed batch))
-    none in
+    let waited = c.end_all-fault.ensures.waited
+    (back_waited id t.size c.args.sizes sized d.0 c.args.workers.len c.args.workers.items
+    c.commit_all.new.workers _ d.1 c.args.workers.ok.0 logged (c.commit_all.ensures.waited batch))
+    in
     let held = g.K.Keeper.holds c.close-keeper.result.0 in
     subst (λ (k : ℕ). StandApart k held.logged) (sym sized.capacity)
-    (stand_apart id t.size d.0 seats
-    (subst (λ (f : Option WriteFault). HaveEnded id t.size d.0 f seats) none ended)
-    c.close-keeper.result.1.end.0 held c.close-keeper.ensures.outcome sealed)
+    (stand_apart id t.size d.0 c.end_all-fault.result seats ended
+    c.close-keeper.result.1.end.0 held c.close-keeper.ensures.outcome waited)

@@ -1,7 +1,7 @@
 use Rattle.std.proofs.Common.{ℕ, refl, sym, ap, ◌∙◌, subst}
 use Rattle.std.proofs.lemmas.Option.{same_Some}
 use Rattle.path_rule.specs.declared.trying.PathSeat.{PathSeat}
-use Rattle.clog_writers.specs.Sealing.{HasSealed}
+use Rattle.clog_writers.specs.Sealing.{HasWaited}
 use Rattle.clog_writers.specs.Shares.{ArePrepared, LogsShare, logged_by}
 use Rattle.clog_writers.proofs.worker.commit_share.Goals as goal
 
@@ -23,12 +23,11 @@ returns-clause-logged g c = λ number lines ready.
           (w.ensures.logs lines
           (subst (λ (v : _). ArePrepared c.args.sizes lines v.items)
           (sym c.replace-writes.ensures.value) ready.1));
-      stops = w.ensures.stops;
-      spent = w.ensures.spent;
+      why = w.ensures.why;
     }
 
-pub returns-clause-sealed : goal.returns-clause-sealed
-returns-clause-sealed g c = λ batch none s is.
+pub returns-clause-waited : goal.returns-clause-waited
+returns-clause-waited g c = λ batch s is.
     let w = c.commit_writes-seat in
-    subst (λ (t : PathSeat g.row.K.Denot). HasSealed t) (same_Some w.result.0 s is)
-    (w.ensures.sealed batch none)
+    subst (λ (t : PathSeat g.row.K.Denot). HasWaited t) (same_Some w.result.0 s is)
+    (w.ensures.waited batch)

@@ -113,6 +113,7 @@ returns-clause-receipts g c = λ ms plan.
     subst (λ (l : List Receipt). HasReceipts c.args.sizes c.args.store.notes.base ms l)
     (sym back ∙ ap (λ (v : Vec Receipt). v.items) (sym so.0))
     (record {
+      low = c.base-base.ensures.fits;
       notes = b.notes.logged;
       holds = (c.log_shares-store.ensures.ends.logs ms plan.dealt
           (c.drain_asked-fault.ensures.ok so.1).0).notes;
@@ -272,14 +273,14 @@ returns-clause-written g c = λ ms options opened made plan asked is made_is.
     c.stores_are_left.ensures c.args.sizes base ms
     (logs_on D.files D.changes D.moment D.faults g.row.D.coded a b e c.requires.fresh shares.alone
     drained.keeps drained.first c.args.sizes base ms (shares.logs ms plan.dealt done.0))
-    c.args.mode
+    c.args.syncing.mode
     (λ batch. subst (λ (l : List EntryNote). StandApart c.args.sizes.capacity l)
     (sym (ap (λ (h : Holding). h.logged) drained.keeps))
-    (c.log_shares-store.ensures.apart batch done.0)) c.args.drain done.1 options
-    (subst (λ (x : Bool). IsAskedBy options c.args.sizes c.args.mode x c.args.drain)
+    (c.log_shares-store.ensures.apart batch)) c.args.drain done.1 options
+    (subst (λ (x : Bool). IsAskedBy options c.args.sizes c.args.syncing.mode x c.args.drain)
     (sym (its_archives D.files D.changes D.moment D.faults g.row.D.coded a b e c.requires.fresh
     shares.alone drained.keeps drained.first))
-    (subst (λ (z : Sizes). IsAskedBy options z c.args.mode a.archives c.args.drain)
+    (subst (λ (z : Sizes). IsAskedBy options z c.args.syncing.mode a.archives c.args.drain)
     (sym c.requires.sizes) asked)) xs placed (lent ∙ plan.receipts) opened made
     (ap D.files its ∙ is) (ap D.changes its ∙ made_is)))))
 
@@ -287,3 +288,8 @@ pub returns-clause-spent : goal.returns-clause-spent
 returns-clause-spent g c = λ ms plan is.
     c.log_shares-store.ensures.ends.spent ms plan.dealt
     (c.drain_asked-fault.ensures.spent (c.ended-outcome.ensures.spent is))
+
+pub returns-clause-rows : goal.returns-clause-rows
+returns-clause-rows g c = λ ms plan groups is.
+    c.log_shares-store.ensures.ends.rows ms plan.dealt groups
+    (c.drain_asked-fault.ensures.rows groups (c.ended-outcome.ensures.rows groups is))

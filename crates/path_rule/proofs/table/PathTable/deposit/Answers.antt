@@ -1,5 +1,7 @@
-use Rattle.std.proofs.Common.{refl, ap, ◌∙◌, arith}
+use Rattle.std.proofs.Common.{List, refl, ap, ◌∙◌, subst, arith}
+use Rattle.std.specs.List.{Contains}
 use Rattle.atomic_table.specs.Table.{rest}
+use Rattle.path_core.specs.declared.state.Placed.{Placed}
 use Rattle.path_core.specs.Parts.{seat_table}
 use Rattle.path_rule.specs.declared.view.View.{View}
 use Rattle.path_rule.specs.Lasts.{beside_of, shows_of}
@@ -41,3 +43,14 @@ returns-clause-untried g c = let m = c.args.member.now in let n = c.requires.not
     refl n.5 in
     λ t. ap (λ (v : View). (seat_table v.part t).trying) d.0.0
     ∙ untried m.seat.me.0 m.number c.args.group n.0 d.0.1 t
+
+pub returns-clause-rests : goal.returns-clause-rests
+returns-clause-rests g c = let m = c.args.member.now in let n = c.requires.note in
+    let d = c.fetch_sub.ensures.2 m.number c.args.group n.0 m.role c.requires.group.0
+    refl n.5 in ap (λ (v : View). v.hands.memtable_box) d.0.0 ∙ d.2
+
+pub returns-clause-unapplied : goal.returns-clause-unapplied
+returns-clause-unapplied g c = let m = c.args.member.now in
+    λ note has a put. let d = c.fetch_sub.ensures.2 m.number c.args.group note m.role
+    c.requires.group.0 refl has in
+    d.3 a (subst (λ (l : List Placed). Contains l a) (ap (λ (v : View). v.hands.applied) d.0.0) put)

@@ -14,7 +14,8 @@ fetch_sub-requires g c = let t = c.args.self.now in let m = c.args.member.now in
       omega arith,
       finishes (shows_of g.K.Keeper.holds) o k t.table.shared.table_id.slots
           m.seat.id m.seat.me m.number m.role c.args.group c.requires.group.1
-          c.requires.deposited c.requires.placed c.requires.group.0,
+          c.requires.deposited c.requires.placed c.requires.applied c.requires.rests
+          c.requires.group.0,
     )
 
 pub invariant_of-member : goal.invariant_of-member

@@ -14,5 +14,5 @@ join_seat-requires g c = let t = c.args.self.now in let m = c.args.first.now in
       omega arith,
       merges (shows_of g.K.Keeper.holds) o k m.seat.id
           m.seat.me.0 m.number m.role b.seat.id b.number b.seat.me.0 b.role
-          i.0 i.1,
+          i.0 i.1 c.requires.ended c.requires.free.flush,
     )

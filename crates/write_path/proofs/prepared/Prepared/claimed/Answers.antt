@@ -1,41 +1,25 @@
-use Rattle.std.proofs.Common.{
-  ◌≡◌,
-  ◌+◌,
-  ◌∙◌,
-  List,
-  ap,
-  sym,
-  subst,
-  refl,
-  arith,
-  slice_index_or,
-  slice_set,
-}
+use Rattle.std.proofs.Common.{◌+◌, ◌∙◌, List, map, ap, refl, arith}
+use Rattle.clog_base.specs.declared.position.Key.{Key}
 use Rattle.path_core.specs.declared.note.EntryNote.{EntryNote}
-use Rattle.write_path.specs.Writes.{HoldsTables}
+use Rattle.write_path.specs.Writes.{said}
+use Rattle.write_path.proofs.NoteCopies.{said_copies}
 use Rattle.write_path.proofs.prepared.Prepared.claimed.Goals as goal
 
-pub returns-in-Some : goal.returns-in-Some
-returns-in-Some c = λ sizes line m p.
-    let old = c.in-Some.note.now in
-    let same : old ≡ p.note =
-    c.in-Some.ensures.value ∙ ap (λ (l : List EntryNote). slice_index_or l 0 old) p.one in
-    let note = record old {
-      start = c.args.start;
-      end = record { 0 = c.args.start.0 + c.from.result };
-      writer = c.args.writer;
-    } in
-    record {
+pub returns : goal.returns
+returns c = λ sizes line m p.
+    let end : Key = record { 0 = c.args.start.0 + c.from.result } in
+    let f = said c.args.start end c.args.writer in record {
       prepared = record {
-        note = note;
-        one = ap (λ (l : List EntryNote). slice_set l 0 note) p.one;
+        note = f p.note;
+        one = c.say_in_each.ensures ∙ ap (λ (l : List EntryNote). map f l) p.one;
         of = record {
-          bytes = ap (λ (n : EntryNote). n.bytes) same ∙ p.of.bytes;
-          tables = subst (λ (n : EntryNote). HoldsTables m n.tables) (sym same) p.of.tables;
-          told = ap (λ (n : EntryNote). n.line) same ∙ p.of.told;
+          bytes = p.of.bytes;
+          tables = p.of.tables;
+          told = p.of.told;
           stored = p.of.stored;
         };
-        mutation = p.mutation;
+        copies = c.say_in_each-2.ensures ∙ (ap (λ (l : List EntryNote). map f l) p.copies
+            ∙ said_copies f p.note refl);
         size = p.size;
         limits = p.limits;
         fits = p.fits;

@@ -20,6 +20,7 @@ use Rattle.std.proofs.Common.{
   subst,
   arith,
   map,
+  inl,
 }
 use Rattle.atomic_table.specs.Table.{rest}
 use Rattle.op_core.specs.declared.count.Order.TheVariants.{Append}
@@ -29,13 +30,16 @@ use Rattle.path_core.specs.declared.note.EntryNote.{EntryNote}
 use Rattle.path_rule.specs.declared.slot.Slot.{Slot}
 use Rattle.path_rule.specs.declared.slot.Slot.TheVariants.{Notes}
 use Rattle.path_rule.specs.declared.view.View.{View}
+use Rattle.path_rule.specs.Applying.{HasDeposited}
 use Rattle.path_rule.specs.Boxes.{box_of}
 use Rattle.path_core.specs.Parts.{HoldsNoTurn}
 use Rattle.path_rule.specs.Calls.{Did}
 use Rattle.path_rule.specs.Rule.{event_of}
 use Rattle.path_rule.proofs.seats.Staying.{view_columns, free_stays}
+use Rattle.write_path.specs.Applies.{tables_left}
 use Rattle.write_path.specs.Ends.{writes_of, IsLast}
 use Rattle.write_path.specs.Writes.{IsNoteOf}
+use Rattle.write_path.proofs.UpdatesPut.{none_put}
 use Rattle.write_path.proofs.BoxKept.{carries_notes}
 use Rattle.write_path.proofs.NoteLaws.{is_depositable}
 use Rattle.write_path.proofs.seats.WritePath.deposit.Goals as goal
@@ -121,6 +125,7 @@ invariant_of-seat g c =
       bare = c.deposit-found.ensures.same.2
           ∙ (ap (λ (l : List (ℕ × Slot g.row.K.Denot)). rest l) kept
           ∙ ap (λ (l : List (ℕ × Slot g.row.K.Denot)). rest l) s.carries);
+      rests = c.deposit-found.ensures.rests;
     }
 
 pub returns-clause-same : goal.returns-clause-same
@@ -150,12 +155,6 @@ returns-clause-same g c =
       refl,
       refl,
     )
-
-pub returns-clause-mutation : goal.returns-clause-mutation
-returns-clause-mutation g c =
-    let P = c.requires.prepared in
-    let C = c.claimed.ensures P.0 P.1 P.2 P.3 in
-    C.prepared.mutation ∙ sym P.3.mutation
 
 pub returns-clause-step : goal.returns-clause-step
 returns-clause-step g c =
@@ -211,3 +210,50 @@ returns-clause-listed g c =
           (ap (λ (l : List EntryNote). get_or l 0 C.prepared.note)
           (sym D.prepared.one ∙ C.prepared.one)) D.prepared.of;
     }
+
+pub returns-clause-holds : goal.returns-clause-holds
+returns-clause-holds g c =
+    let P = c.requires.prepared in
+    let C = c.claimed.ensures P.0 P.1 P.2 P.3 in
+    let s = c.args.seat in
+    let at : 1 + 2 * c.from.result + s.group % 2 ≡ box_of s.member.number s.group =
+    ap (λ (n : ℕ). 1 + 2 * n + s.group % 2) (c.from.ensures ∙ c.number-number.ensures) in
+    let V = c.put_notes-member.ensures.same.1 in
+    let same = c.put_notes-member.ensures.same.0.1 in
+    let kept = c.put_notes-member.ensures.kept in
+    let has = kept ∙ (λ i. (
+      (at ∙ ap (λ (n : ℕ). box_of n s.group) (sym same)) i,
+      Notes ((sym (ap (λ (v : View). v.hands.notes) V)) i ++ C.prepared.one i),
+    ) ∷ (sym (ap (λ (l : List (ℕ × Slot g.row.K.Denot)). rest l) kept)) i) in
+    let d = c.deposit-found.ensures.step C.prepared.note has in
+    let none = c.deposit-found.ensures.unapplied C.prepared.note has in
+    let n = C.prepared.note in
+    let applied = c.deposit-found.new.member.seat.me.0.hands.applied in
+    let tables = c.tables-tables.ensures n C.prepared.one in
+    let ends = C.ends ∙ P.4 in record {
+      note = n;
+      deposited = subst (λ (v : View). HasDeposited n v.trail) (sym d.view) (inl refl);
+      starts = C.begins;
+      ends = ends;
+      tables = sym tables;
+      writer = C.by ∙ (c.number-number.ensures ∙ sym (c.deposit-found.ensures.same.1 ∙ same));
+      copies = C.prepared.copies ∙ (none_put n n.end.0 applied none
+          ∙ (λ i. map (λ (t : ℕ). n) (tables_left (sym tables i) (ends i) applied)));
+    }
+
+pub returns-clause-unapplied : goal.returns-clause-unapplied
+returns-clause-unapplied g c =
+    let P = c.requires.prepared in
+    let C = c.claimed.ensures P.0 P.1 P.2 P.3 in
+    let s = c.args.seat in
+    let at : 1 + 2 * c.from.result + s.group % 2 ≡ box_of s.member.number s.group =
+    ap (λ (n : ℕ). 1 + 2 * n + s.group % 2) (c.from.ensures ∙ c.number-number.ensures) in
+    let V = c.put_notes-member.ensures.same.1 in
+    let same = c.put_notes-member.ensures.same.0.1 in
+    let kept = c.put_notes-member.ensures.kept in
+    let has = kept ∙ (λ i. (
+      (at ∙ ap (λ (n : ℕ). box_of n s.group) (sym same)) i,
+      Notes ((sym (ap (λ (v : View). v.hands.notes) V)) i ++ C.prepared.one i),
+    ) ∷ (sym (ap (λ (l : List (ℕ × Slot g.row.K.Denot)). rest l) kept)) i) in
+    let none = c.deposit-found.ensures.unapplied C.prepared.note has in
+    λ a h is. absurd (none a h (is ∙ sym (C.ends ∙ P.4)))

@@ -7,6 +7,7 @@ use Rattle.path_rule.specs.declared.view.View.{View}
 use Rattle.path_rule.specs.Accepted.{places_of}
 use Rattle.path_rule.proofs.seats.Staying.{view_columns, free_stays}
 use Rattle.write_path.specs.Ends.{writes_of}
+use Rattle.write_path.proofs.AppliedAt.{are_applied}
 use Rattle.write_path.proofs.SmallSets.{bit_below}
 use Rattle.write_path.proofs.seats.WritePath.finish.Goals as goal
 
@@ -15,11 +16,16 @@ leave_placed-found-requires-clause-placed g c =
     let s = c.args.seat in record {
       tables = s.tables;
       deposited = s.noted;
-      each = λ t touched. c.requires.placed t
+      each = λ t touched. let p = c.requires.applied t
           (bit_below c.args.self.now.table.size.tables s.tables t
           (subst (λ (n : ℕ). s.tables < 2 ^ n) (ap (λ z. z.tables) c.requires.table.1) s.few)
-          touched) touched;
+          touched) touched in (p.0, p.1);
     }
+
+pub leave_placed-found-requires-clause-applied : goal.leave_placed-found-requires-clause-applied
+leave_placed-found-requires-clause-applied g c =
+    are_applied c.args.seat c.args.self.now.table.size.tables
+    (ap (λ z. z.tables) c.requires.table.1) c.requires.applied
 
 pub invariant_of-result : goal.invariant_of-result
 invariant_of-result g c =

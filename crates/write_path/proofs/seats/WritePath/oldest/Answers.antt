@@ -25,6 +25,7 @@ invariant_of-seat g c =
       free = subst (λ (v : View). HoldsNoTurn v.part) (sym d.view)
           (free_stays e v.part _ C refl (λ t b. refl) s.free);
       bare = c.look_oldest_live.ensures.same.2 ∙ s.bare;
+      rests = ap (λ (v : View). v.hands.memtable_box) d.view ∙ s.rests;
     }
 
 pub returns-clause-same : goal.returns-clause-same

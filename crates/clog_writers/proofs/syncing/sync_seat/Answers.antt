@@ -1,0 +1,21 @@
+use Rattle.std.proofs.Common.{sym, subst}
+use Rattle.path_rule.specs.Members.{view_of}
+use Rattle.clog_writers.specs.Crews.{KnowsWhy}
+use Rattle.clog_writers.specs.declared.fault.WriteFault.{WriteFault}
+use Rattle.std.specs.Prelude.{Option}
+use Rattle.clog_writers.proofs.Committing.{sync_why}
+use Rattle.clog_writers.proofs.syncing.sync_seat.Goals as goal
+
+pub returns-clause-keeps : goal.returns-clause-keeps
+returns-clause-keeps g c =
+    let syncs = c.sync-seat.ensures.syncs in
+    let steps = syncs.answers.steps in
+    (c.sync-seat.ensures.same, syncs.list, record { newer = steps.steps; is = steps.trail })
+
+pub returns-clause-why : goal.returns-clause-why
+returns-clause-why g c =
+    let size = c.args.path.now.table.size in
+    subst (λ (f : Option WriteFault). KnowsWhy size f c.sync-seat.result.0)
+    (sym c.refusal_of.ensures.is)
+    (sync_why size c.args.seat.member.number size.at_open (view_of c.args.seat.member)
+    c.sync-seat.result.0 c.sync-seat.result.1 c.sync-seat.ensures.syncs.answers)

@@ -1,0 +1,113 @@
+use Rattle.std.proofs.Common.{◌/◌, ◌≤◌, Option, sym, ◌∙◌, subst, arith}
+use Rattle.std.proofs.lemmas.Option.{none-some}
+use Rattle.path_rule.specs.Members.{view_of}
+use Rattle.sync_core.specs.declared.SyncCore.{SyncCore}
+use Rattle.write_path.specs.Receipts.{IsCommitted}
+use Rattle.clog_writers.specs.declared.fault.WriteFault.{WriteFault}
+use Rattle.clog_writers.specs.Crews.{KnowsWhy}
+use Rattle.clog_writers.proofs.Committing.{
+  adds_on,
+  all_earlier,
+  commit_why,
+  may_add,
+  may_on,
+  one_sealed,
+  one_waits,
+  sealed_on,
+  where_logged,
+}
+use Rattle.clog_writers.proofs.worker.commit_one.Goals as goal
+
+-- ---- nothing was refused by the commit, and the log was synced behind it or not
+
+pub returns-in-None-clause-same : goal.returns-in-None-clause-same
+returns-in-None-clause-same g c =
+    let synced = c.sync_when_due.ensures.keeps.0 in
+    let same = c.commit-seat.ensures.same in
+    (synced.0, synced.1 ∙ same.1)
+
+pub returns-in-None-clause-logged : goal.returns-in-None-clause-logged
+returns-in-None-clause-logged g c = λ none.
+    let size = c.args.path.now.table.size in
+    let w = c.args.seat.member.number in
+    let before = (view_of c.args.seat.member).trail in
+    let v = view_of c.commit-seat.result.0.member in
+    adds_on w c.args.prepared before v.trail (view_of c.sync_when_due.result.0.member).trail
+    c.sync_when_due.ensures.keeps.1
+    (where_logged size w before c.args.prepared v c.args.path.now.mode c.commit-seat.result.1
+    c.commit-seat.ensures.committed (sym c.refusal_in.ensures ∙ c.in-None.is))
+
+pub returns-in-None-clause-may : goal.returns-in-None-clause-may
+returns-in-None-clause-may g c =
+    let size = c.args.path.now.table.size in
+    let w = c.args.seat.member.number in
+    let before = (view_of c.args.seat.member).trail in
+    let v = view_of c.commit-seat.result.0.member in
+    may_on w c.args.prepared before v.trail (view_of c.sync_when_due.result.0.member).trail
+    c.sync_when_due.ensures.keeps.1
+    (may_add size w before c.args.prepared v c.args.path.now.mode c.commit-seat.result.1
+    c.commit-seat.ensures.committed)
+
+pub returns-in-None-clause-sealed : goal.returns-in-None-clause-sealed
+returns-in-None-clause-sealed g c = λ batch all none.
+    let size = c.args.path.now.table.size in
+    let w = c.args.seat.member.number in
+    let before = (view_of c.args.seat.member).trail in
+    let v = view_of c.commit-seat.result.0.member in
+    let keeps = c.sync_when_due.ensures.keeps in
+    sealed_on v.trail (view_of c.sync_when_due.result.0.member).trail keeps.1 keeps.2
+    (one_sealed size w before c.args.prepared v c.commit-seat.result.1
+    (subst (λ (m : SyncCore). IsCommitted m size w before c.args.prepared c.commit-seat.result.1 v)
+    batch c.commit-seat.ensures.committed) (sym c.refusal_in.ensures ∙ c.in-None.is) all)
+
+pub returns-in-None-clause-waited : goal.returns-in-None-clause-waited
+returns-in-None-clause-waited g c = λ batch all.
+    let size = c.args.path.now.table.size in
+    let w = c.args.seat.member.number in
+    let before = (view_of c.args.seat.member).trail in
+    let v = view_of c.commit-seat.result.0.member in
+    let keeps = c.sync_when_due.ensures.keeps in
+    let after = (view_of c.sync_when_due.result.0.member).trail in
+    all_earlier after
+    (sealed_on v.trail after keeps.1 keeps.2
+    (one_sealed size w before c.args.prepared v c.commit-seat.result.1
+    (subst (λ (m : SyncCore). IsCommitted m size w before c.args.prepared c.commit-seat.result.1 v)
+    batch c.commit-seat.ensures.committed) (sym c.refusal_in.ensures ∙ c.in-None.is) all))
+
+-- ---- the commit was refused
+
+pub returns-in-Some-clause-logged : goal.returns-in-Some-clause-logged
+returns-in-Some-clause-logged g c = λ none. absurd (none-some c.in-Some.fault (sym none))
+
+pub returns-in-Some-clause-may : goal.returns-in-Some-clause-may
+returns-in-Some-clause-may g c =
+    may_add c.args.path.now.table.size c.args.seat.member.number
+    (view_of c.args.seat.member).trail c.args.prepared (view_of c.commit-seat.result.0.member)
+    c.args.path.now.mode c.commit-seat.result.1 c.commit-seat.ensures.committed
+
+pub returns-in-Some-clause-why : goal.returns-in-Some-clause-why
+returns-in-Some-clause-why g c =
+    let size = c.args.path.now.table.size in
+    let p = c.requires.prepared in
+    let is = p.3 in
+    let fits = is.fits in let long = is.size in let same = p.5 in
+    let small : c.args.prepared.size ≤ size.capacity / 2 = omega (arith, fits, long, same) in
+    subst (λ (f : Option WriteFault). KnowsWhy size f c.commit-seat.result.0)
+    (sym c.refusal_in.ensures ∙ c.in-Some.is)
+    (commit_why size c.args.seat.member.number (view_of c.args.seat.member).trail c.args.prepared
+    c.commit-seat.result.0 small c.args.path.now.mode c.commit-seat.result.1
+    c.commit-seat.ensures.committed)
+
+pub returns-in-Some-clause-sealed : goal.returns-in-Some-clause-sealed
+returns-in-Some-clause-sealed g c = λ batch all none.
+    absurd (none-some c.in-Some.fault (sym none))
+
+pub returns-in-Some-clause-waited : goal.returns-in-Some-clause-waited
+returns-in-Some-clause-waited g c = λ batch all.
+    let size = c.args.path.now.table.size in
+    let w = c.args.seat.member.number in
+    let before = (view_of c.args.seat.member).trail in
+    let v = view_of c.commit-seat.result.0.member in
+    one_waits size w before c.args.prepared v c.commit-seat.result.1
+    (subst (λ (m : SyncCore). IsCommitted m size w before c.args.prepared c.commit-seat.result.1 v)
+    batch c.commit-seat.ensures.committed) all

@@ -1,0 +1,70 @@
+-- What a holder of a Flush turn has read of a memtable stays so while the machine goes on.
+use Rattle.std.proofs.Common.{◌≡◌, ℕ, ◌<◌, true, Some, sym, ◌∙◌, subst, arith}
+use Rattle.std.specs.Prelude.{◌%◌}
+use mathlib.Core.Logic.{dite}
+use native.Mathlib.Decide.{dec_lt}
+use Rattle.std.specs.List.{Contains}
+use Rattle.path_core.specs.declared.event.Event.{Event}
+use Rattle.path_core.specs.declared.note.EntryNote.{EntryNote}
+use Rattle.path_core.specs.declared.seat.Seat.{Seat}
+use Rattle.path_core.specs.declared.state.PathState.{PathState}
+use Rattle.path_core.specs.Allowed.{IsStep}
+use Rattle.path_core.specs.Lawful.{IsLawfulPath, IsLawfulPlacing}
+use Rattle.path_core.specs.Next.{next_of}
+use Rattle.path_core.specs.Parts.{seat_of, seat_table, table_of, HasPassedBarrier}
+use Rattle.path_core.proofs.log.OwnNotes.{notes_stay}
+use Rattle.path_core.proofs.orders.GroupsMove.{passed_stays}
+use Rattle.path_core.proofs.places.AtRest.{leaves_placed, none_runs}
+use Rattle.path_core.proofs.places.Closing.{own_at}
+use Rattle.path_core.proofs.places.KeepsPlaces.{same_note}
+use Rattle.path_core.proofs.runs.EveryRun.{placing_of}
+use Rattle.path_rule.specs.declared.view.FlushRead.{FlushRead}
+use Rattle.path_rule.specs.Reads.{has_switched, placed_at, ReadsAre}
+
+module _ (x : PathState) (L : IsLawfulPath x) (e : Event) (may : IsStep x e)
+    (N : IsLawfulPath (next_of x e)) where
+  abbrev Z : IsLawfulPlacing x
+  Z = placing_of x L
+
+  abbrev Y : IsLawfulPlacing (next_of x e)
+  Y = placing_of (next_of x e) N
+
+  pub reads_on : (seats : ℕ) (p p' : Seat) (q : FlushRead) → ReadsAre seats x p q
+      → has_switched (seat_table p' q.table) ≡ true
+      → (table_of (next_of x e) q.table).oldest_live ≡ (table_of x q.table).oldest_live
+      → ReadsAre seats (next_of x e) p' q
+  reads_on seats p p' q R switched live = record {
+    few = R.few;
+    switched = switched;
+    passed = passed_stays x L.orders e may q.table q.memtable R.passed;
+    live = live ∙ R.live;
+    next = R.next;
+    sound = λ n h. let S = R.sound n h in
+        (notes_stay x e n S.0, (leaves_placed x Z q.table q.memtable R.passed e n.end.0).1 S.1);
+    all = λ n noted low placed.
+        let before = (leaves_placed x Z q.table q.memtable R.passed e n.end.0).0 placed in
+        let K = (L.places.placed (placed_at q.table q.memtable n) before).noted in
+        let same : K.note ≡ n = same_note (next_of x e) Y.core Y.places K.note n
+        (notes_stay x e K.note K.among) noted K.position in
+        subst (λ (z : EntryNote). Contains q.seen z) same (R.all K.note K.among
+        (subst (λ (z : EntryNote). z.writer.0 < q.seen_to) (sym same) low)
+        (subst (λ (z : EntryNote). Contains x.placed (placed_at q.table q.memtable z)) (sym same)
+        before));
+  }
+
+-- A memtable that is not retired and whose barrier is passed: no write has its place in it, nor in
+-- another of its parity.
+pub none_reads : (x : PathState) → IsLawfulPath x → (w t k m : ℕ)
+    → (seat_table (seat_of x w) t).place ≡ Some k → HasPassedBarrier x t m
+    → (table_of x t).oldest_live ≡ m → k % 2 ≡ m % 2 → ⊥
+none_reads x L w t k m place passed live parity = let T = L.places.tries w t in
+    let tried = T.place_is_tried k place in
+    dite (dec_lt k (table_of x t).oldest_live)
+    (λ low. none_runs x (placing_of x L) t k
+    (L.retired_is_filed.each t k (T.of_note k tried).3 low).passed w place)
+    (λ high. let O = own_at x (placing_of x L) w t k place in
+    let made = (T.accepted k O.range place O.claim).made in
+    let near = (L.switches.tables t).bounds_rise.one_behind in
+    let same : m ≡ k = omega arith in
+    none_runs x (placing_of x L) t k
+    (subst (λ (n : ℕ). HasPassedBarrier x t n) same passed) w place)

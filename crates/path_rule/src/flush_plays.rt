@@ -1,0 +1,60 @@
+//! What the steps of a flush tell, by which it reads a memtable (`specs/Flushes.antt`).
+use crate::slot::Slot;
+use crate::view::View;
+use atomic_table::Play;
+use std::marker::PhantomData;
+
+/// A memtable is read from now on.
+pub(crate) struct BeginRead<K> {
+    keeper: PhantomData<K>,
+}
+
+impl<K> Play<Slot<K>, View> for BeginRead<K> {
+    ghost use Rattle.path_rule.specs.Flushes.{ReadBegun};
+
+    ghost then = { ReadBegun };
+}
+
+/// The box of the next seat is taken.
+pub(crate) struct TakeRead<K> {
+    keeper: PhantomData<K>,
+}
+
+impl<K> Play<Slot<K>, View> for TakeRead<K> {
+    ghost use Rattle.path_rule.specs.Flushes.{ReadTaken};
+
+    ghost then = { ReadTaken };
+}
+
+/// It is given back as it was.
+pub(crate) struct GiveRead<K> {
+    keeper: PhantomData<K>,
+}
+
+impl<K> Play<Slot<K>, View> for GiveRead<K> {
+    ghost use Rattle.path_rule.specs.Flushes.{ReadGiven};
+
+    ghost then = { ReadGiven };
+}
+
+/// No memtable is read any more.
+pub(crate) struct EndRead<K> {
+    keeper: PhantomData<K>,
+}
+
+impl<K> Play<Slot<K>, View> for EndRead<K> {
+    ghost use Rattle.path_rule.specs.Flushes.{ReadEnded};
+
+    ghost then = { ReadEnded };
+}
+
+/// A memtable that holds nothing is retired.
+pub(crate) struct RetireEmpty<K> {
+    keeper: PhantomData<K>,
+}
+
+impl<K> Play<Slot<K>, View> for RetireEmpty<K> {
+    ghost use Rattle.path_rule.specs.Flushes.{Retired};
+
+    ghost then = { Retired };
+}
