@@ -24,5 +24,6 @@ pub mod SwitchStages
 pub mod OldestBelow
 pub mod OldestMoves
 pub mod BarrierIssues
+pub mod BarrierBelow
 pub mod Applying
 pub mod PlaceStays
