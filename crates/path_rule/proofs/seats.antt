@@ -25,5 +25,6 @@ pub mod OldestBelow
 pub mod OldestMoves
 pub mod BarrierIssues
 pub mod BarrierBelow
+pub mod BarredTables
 pub mod Applying
 pub mod PlaceStays

@@ -18,6 +18,7 @@ ghost use Rattle.path_rule.specs.Members.{
 };
 ghost use Rattle.path_rule.specs.Passes.{HasIssued, MatchPassed};
 ghost use Rattle.path_rule.specs.Rounds.{RoundSteps};
+ghost use Rattle.path_rule.specs.Switches.{FlushOldest};
 ghost use Rattle.path_rule.specs.Turns.{
   FoundRunning,
   MarkerWaits,
@@ -169,6 +170,10 @@ impl<K: Keeper, A: Allocator> PathTable<K, A> {
         ensures issued { (t memtable : ℕ)
             → stage_of (part_of holder.member) t ≡ Some (Waiting memtable)
             → stage_of (part_of result.member) t ≡ Some (WithBarrier memtable current) }
+        ensures oldest { (t memtable least : ℕ)
+            → stage_of (part_of holder.member) t ≡ Some (Waiting memtable)
+            → FlushOldest t (part_of holder.member) least
+            → FlushOldest t (part_of result.member) least }
     {
         let Holder { mut member } = holder;
         self.open_write(&mut member, current + 1, current);

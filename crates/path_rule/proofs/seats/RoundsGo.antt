@@ -19,8 +19,8 @@ use Rattle.std.proofs.Common.{
   ap,
   ◌∙◌,
   subst,
-  get_or-map_default,
 }
+use Rattle.std.proofs.Math.ListN.{get_or-map as get_or-map_default}
 use Rattle.std.proofs.lemmas.List.{append_assoc}
 use Rattle.std.specs.Option.{option_map, option_map_or}
 use Rattle.op_core.specs.declared.count.Order.{Order}
@@ -189,7 +189,7 @@ table_quiet : (f : Switching → Switching) → ((k : Switching) → IsQuietStag
 table_quiet f same st quiet =
     ap (λ (o : Option FlushTurn). record st { flush = o }) (turn_quiet f same st.flush quiet)
 
-StaysQuiet : Seat → Seat → Type 0
+abbrev pub StaysQuiet : Seat → Seat → Type 0
 StaysQuiet s after = (t : ℕ) → IsQuiet (seat_table s t) → seat_table after t ≡ seat_table s t
 
 keeps_quiet : (o : Order) (f : FoundGroups → FoundGroups) (s : Seat) → StaysQuiet s (keeps o f s)
@@ -230,7 +230,7 @@ look_quiet w by (CursorWord (OldestLive u)) r s is = absurd is
 look_quiet w by (Newest u) r s is = absurd is
 look_quiet w by (BoundOf u m) r s is = absurd is
 
-is_quiet : (w : ℕ) (e : Event) (s : Seat) (r : Reading) (told : Told) → IsRoundStep w e
+pub is_quiet : (w : ℕ) (e : Event) (s : Seat) (r : Reading) (told : Told) → IsRoundStep w e
     → StaysQuiet s (seat_after s e r told)
 is_quiet w (Look by at) s r told is = look_quiet w by at r s is
 is_quiet w (OpenGroup by o g) s r told is = λ t q. refl
@@ -334,7 +334,7 @@ rests_still e p q P C R = record {
       (C.flush t ∙ (P.flush t (is_some (seat_table p t).flush) ∙ ap (λ o. is_some o) (R.flush t)));
 }
 
-idle_still : (e : Event) (p q : Seat) → Plain e → Columns e p q → IsIdle p → p.claim ≡ None
+pub idle_still : (e : Event) (p q : Seat) → Plain e → Columns e p q → IsIdle p → p.claim ≡ None
     → IsIdle q × (q.claim ≡ None)
 idle_still e p q P C I free = (
   record {

@@ -1,7 +1,15 @@
 use Rattle.std.proofs.Common.{◌≡◌, suc, ◌+◌, false, [], ◌∷◌, refl, ap, ◌∙◌, arith}
 use Rattle.op_core.specs.declared.count.Order.TheVariants.{Write}
 use Rattle.path_core.specs.declared.event.Event.TheVariants.{OpenGroup, MoveCurrent, Expire}
+use Rattle.path_core.specs.Parts.{seat_table}
 use Rattle.path_rule.specs.declared.view.View.{View}
+use Rattle.path_rule.proofs.seats.BarredTables.{
+  barred_quiet,
+  least_expired,
+  least_moved,
+  least_opened,
+  least_quiet,
+}
 use Rattle.path_rule.proofs.seats.BarrierIssues.{issues}
 use Rattle.path_rule.proofs.seats.RoundsGo.{one, next}
 use Rattle.path_rule.proofs.table.PathTable.write_barrier.Goals as goal
@@ -51,3 +59,18 @@ returns-clause-issues g c =
     (ap (λ (v : View). v.trail) M.ensures.step.view)
     (ap (λ (v : View). v.trail) E.ensures.step.view)
     c.advance_to.ensures.steps.trail
+
+pub returns-clause-oldest : goal.returns-clause-oldest
+returns-clause-oldest g c =
+    let w = c.args.holder.member.number in let cur = c.args.current in let O = c.open_write in
+    let M = c.move_write in let E = c.expire_write in let A = c.advance_to in
+    let v = c.args.holder.member.seat.me.0 in let o = O.new.member.seat.me.0 in
+    let m = M.new.member.seat.me.0 in let e = E.new.member.seat.me.0 in
+    let a = A.result.member.seat.me.0 in
+    λ t memtable k waits F. let at = E.ensures.stages t
+    ∙ M.ensures.issued t memtable (O.ensures.stages t ∙ waits) in
+    least_quiet t k e a (A.ensures.steps.tables t
+    (barred_quiet memtable cur (seat_table e.part t) at))
+    (least_expired m e M.new.member.number cur E.result t k Write E.ensures.step
+    (least_moved o m O.new.member.number (cur + 1) cur t k M.ensures.step
+    (least_opened v o w (cur + 1) 0 t k Write O.ensures.step F)))
