@@ -30,3 +30,7 @@ pub mod Acknowledged
 pub mod Promises
 pub mod Spending
 pub mod FlushHeld
+pub mod FlushGoes
+pub mod FlushSwitching
+pub mod FlushTaking
+pub mod FlushBarring

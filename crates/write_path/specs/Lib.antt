@@ -13,3 +13,8 @@ pub mod Syncs
 pub mod Commits
 pub mod Receipts
 pub mod Promised
+pub mod FlushSteps
+pub mod Flushed
+pub mod FlushedRows
+pub mod FlushTurns
+pub mod FlushSwitches

@@ -17,6 +17,10 @@ mod deposited;
 mod depositing;
 mod fault;
 mod finishing;
+mod flush;
+mod flush_laws;
+mod flush_switch;
+mod flush_turn;
 mod laws;
 mod opening;
 mod prepared;
@@ -33,6 +37,8 @@ pub use closing::Outcome;
 pub use commit::{Commit, Receipt, SyncFault};
 pub use deposited::Deposited;
 pub use fault::PrepareFault;
+pub use flush::{Flush, Row};
+pub use flush_laws::what_a_flush_tells;
 pub use laws::{
     note_laws, rows_need_many_writes, what_a_sync_reaches, what_close_keeps, what_seals_a_write,
     what_spends_a_path, where_a_log_begins,

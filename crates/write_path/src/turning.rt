@@ -129,7 +129,7 @@ impl<K: Keeper, A: Allocator> WritePath<K, A> {
     }
 
     // Gives the Sync turn back, and the desk with it.
-    fn give_sync_turn(&self, member: Member<K>) -> PathSeat<K>
+    pub(crate) fn give_sync_turn(&self, member: Member<K>) -> PathSeat<K>
         requires table { IsOf self.now.table.table.shared.table_id self.now.table.size member }
         requires holds { HoldsSync (view_of member) }
         requires desk { HoldsDesk (shows_of K.holds) member }
