@@ -1,11 +1,10 @@
 //! The cells of a table are gathered from lists of entries, one after another: what the boxes of a
 //! memtable hold of it.
-ghost use Rattle.std.specs.Prelude.{◌≡◌, ◌++◌, nat_lt, List, OnOk};
+ghost use Rattle.std.specs.Prelude.{◌≡◌, ◌∷◌, ◌++◌, [], nat_lt, List, OnOk};
 ghost use Rattle.std.specs.List.{filter};
-ghost use Rattle.clog_cells.specs.Merge.{AreInOrder, IsMerge, part_on};
+ghost use Rattle.clog_cells.specs.Merge.{AreInOrder};
 ghost use Rattle.clog_memtable.specs.Filling.{AreWhole};
 ghost use Rattle.clog_memtable.specs.Gathering.{IsGathered};
-ghost use Rattle.clog_mutation.specs.Payload.{cells_of};
 ghost use Rattle.path_core.specs.declared.note.EntryNote.{EntryNote};
 ghost use Rattle.path_core.specs.Whole.{IsWhole};
 
@@ -46,7 +45,7 @@ pub fn gather(
     above: Key,
     notes: &LinkedList<EntryNote>,
 ) -> Result<(), OutOfMemory>
-    requires ordered { AreInOrder cells.old }
+    requires gathered { (before : List EntryNote) × IsGathered table before cells.old }
     requires whole { AreWhole notes.now }
     ensures { (before : List EntryNote) → IsGathered table before cells.old
         → OnOk result (IsGathered table
