@@ -1,6 +1,6 @@
 use Rattle.std.proofs.Common.{refl, arith}
 use Rattle.clog_store.proofs.StoreFiles.{nothing_to_put}
-use Rattle.clog_store.proofs.tests.a_store_puts_a_file_behind_those_of_its_table.Goals as goal
+use Rattle.clog_store_tests.proofs.tests.a_store_puts_a_file_behind_those_of_its_table.Goals as goal
 
 pub put_table-requires : goal.put_table-requires
 put_table-requires g c =

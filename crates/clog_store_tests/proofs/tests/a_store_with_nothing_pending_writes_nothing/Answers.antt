@@ -1,5 +1,5 @@
 use Rattle.clog_store.proofs.StoreKept.{nothing_to_sync}
-use Rattle.clog_store.proofs.tests.a_store_with_nothing_pending_writes_nothing.Goals as goal
+use Rattle.clog_store_tests.proofs.tests.a_store_with_nothing_pending_writes_nothing.Goals as goal
 
 pub make_lasting-requires : goal.make_lasting-requires
 make_lasting-requires g c =

@@ -1,11 +1,13 @@
-//! The example segment of the formats is recovered. Its bytes, and those of the table file, were
-//! worked out by hand and by Python's struct and zlib.
-use crate::{SectionLog, Store, drop_segments, recover};
+//! The example segment of the formats is recovered, and a store over it is called. Its bytes, and
+//! those of the table file, were worked out by hand and by Python's struct and zlib.
 use clog_base::{Key, Sizes, Table, archive_name, segment_name, table_name};
 use clog_cells::CellMap;
 use clog_disk::{Disk, MemDisk};
 use clog_folder::OpenFault;
 use clog_scan::Cause;
+use clog_store::{SectionLog, Store, drop_segments, recover};
+use path_core::KeeperFault;
+use std::alloc::Global;
 use std::test::Fail;
 
 // Segment 1000 with one entry, from 28 to 60: the deletion of key `ab` and column `cd` in table 0.
@@ -140,5 +142,44 @@ fn a_store_puts_a_file_behind_those_of_its_table(rt: HostRuntime) -> Result<(), 
         disk.list()?.as_slice(),
         [table_name(Table(0), 1), table_name(Table(0), 2)].as_slice()
     );
+    Ok(())
+}
+
+// Where a put is refused since its disk fails at a call: whether the store has stopped, answers so
+// for a drop too, and has made no change.
+fn stays_at(alloc: Global, call: u64) -> Option<bool> {
+    let sizes = Sizes::make(1, 1, 4096, 4)?;
+    let mut calls = Vec::new(alloc);
+    if calls.push(call).is_err() {
+        return None;
+    }
+    let disk = MemDisk::failing(alloc, calls);
+    // A match, since the call of the store has a condition on what it holds.
+    let mut store = match Store::open(alloc, disk, 1000, sizes, false) {
+        Ok(store) => store,
+        Err(_) => return None,
+    };
+    let cells = CellMap::new(alloc);
+    if store.put_table(Table(0), Key(0), Key(28), &cells).is_ok() {
+        return None;
+    }
+    let answer = store.drop_due(4);
+    let disk = store.into_disk();
+    Some(answer == Err(KeeperFault::Stopped { at_open: 0, now: 1 }) && disk.change_count() == 0)
+}
+
+#[test]
+fn a_stopped_store_changes_nothing(rt: HostRuntime) -> Result<(), Fail> {
+    // A failing call of the opening refuses that; one of the put, its listing or the file, stops the
+    // store.
+    let mut has_stopped = false;
+    for call in 1..8 {
+        match stays_at(rt.alloc(), call) {
+            Some(true) => has_stopped = true,
+            Some(false) => return Err(Fail::new("changed")),
+            None => {}
+        }
+    }
+    assert!(rt; has_stopped);
     Ok(())
 }

@@ -1,6 +1,6 @@
 //! A bound on worked cases, and a path that keeps the law. Runs of steps are played by `path_play`.
-use crate::{Bound, Event, LawfulPath, Place, StepFault, Turn, accepts};
 use clog_base::{Key, OutOfMemory, Sizes};
+use path_core::{Bound, Event, LawfulPath, Place, StepFault, Turn, accepts};
 use std::test::Fail;
 
 #[test]
