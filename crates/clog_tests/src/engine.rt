@@ -1,7 +1,7 @@
 //! Each public call once. Worked rows of `run` are data, which `run_play` reads.
-use crate::{FaultLine, Status, run};
 use clog_base::segment_name;
 use clog_disk::{Disk, MemDisk};
+use clog_engine::{FaultLine, Status, run};
 use clog_io::{FixedClock, HoldGate, MemSink, MemSource, OpenGate};
 use std::alloc::Global;
 use std::rt::HostRuntime;

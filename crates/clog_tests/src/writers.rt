@@ -1,15 +1,11 @@
 //! Writers over a disk in memory. The lines are equal, so that the bytes are the same whoever
 //! claims first; they were worked out by hand and by Python's struct and zlib.
-ghost use Rattle.std.specs.Prelude.{IfOk};
-ghost use Rattle.std.specs.List.{AllByRecursion};
-ghost use Rattle.clog_mutation.specs.Limits.{IsWithinLimits};
-
-use crate::{Syncing, make_plan, write_plan};
+use crate::payloads::{DELETION, lines_of};
 use clog_base::{Sizes, Table, segment_name, table_name};
 use clog_disk::{Disk, MemDisk};
 use clog_io::{FixedClock, OpenGate};
-use clog_mutation::{Mutation, decode};
 use clog_store::Store;
+use clog_writers::{Syncing, make_plan, write_plan};
 use std::alloc::Global;
 use std::sync::Wait;
 use std::test::Fail;
@@ -18,9 +14,6 @@ use sync_core::SyncCore;
 use write_path::Receipt;
 
 const PERIODIC: SyncCore = SyncCore::Periodic { period_ms: 10_000 };
-
-/// Key `ab`, one update: table 0, column `cd`, timestamp 5, a deletion: 20 bytes.
-const DELETION: &[u8] = b"\x00\x02ab\x00\x01\x00\x00\x02cd\x00\x00\x00\x00\x00\x00\x00\x05\x00";
 
 // Segment 1000 with three deletions in one section, from 28 to 60, to 92 and to 124.
 const THREE: [u8; 124] = [
@@ -41,20 +34,6 @@ const TABLE: [u8; 58] = [
     0x01, 0x2a, 0xf0, 0x2d, 0x91, 0x00, 0x02, 0x61, 0x62, 0x00, 0x02, 0x63, 0x64, 0x00, 0x00, 0x00,
     0x00, 0x00, 0x00, 0x00, 0x05, 0x00, 0x58, 0x4f, 0x3f, 0xb8,
 ];
-
-// The lines with these payloads.
-fn lines_of(alloc: Global, payloads: &[&[u8]]) -> Result<Vec<Mutation>, Fail>
-    ensures { IfOk result (λ lines. AllByRecursion IsWithinLimits lines.items) }
-{
-    let mut lines = Vec::new(alloc);
-    for payload in payloads {
-        match decode(alloc, payload) {
-            Ok(line) => lines.push(line)?,
-            Err(_) => return Err(Fail::new("no payload")),
-        }
-    }
-    Ok(lines)
-}
 
 // So many writers log three deletions to an empty disk in a mode, and drain it or not. It is opened
 // at 1000 ms, and the clock stands at 1010 ms.

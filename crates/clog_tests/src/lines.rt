@@ -1,24 +1,21 @@
 //! Lines over a disk in memory. The bytes were worked out by hand and by Python's struct and zlib.
-ghost use Rattle.std.specs.Prelude.{IfOk};
 ghost use Rattle.std.specs.List.{AllByRecursion};
 ghost use Rattle.clog_mutation.specs.Limits.{IsWithinLimits};
 
-use crate::{notes_of, write_lines};
+use crate::payloads::{DELETION, lines_of};
 use clog_base::{Sizes, Table, archive_name, segment_name, table_name};
 use clog_disk::{Disk, MemDisk};
 use clog_layout::lay_out;
-use clog_mutation::{Mutation, decode};
+use clog_lines::{notes_of, write_lines};
+use clog_mutation::Mutation;
 use clog_store::Store;
 use std::alloc::Global;
 use std::test::Fail;
 
-/// Key `ab`, one update: table 0, column `cd`, timestamp 5, a deletion: 20 bytes.
-const DELETION: &[u8] = b"\x00\x02ab\x00\x01\x00\x00\x02cd\x00\x00\x00\x00\x00\x00\x00\x05\x00";
-
-/// The same in table 1.
+/// Key `ab`, one update: table 1, column `cd`, timestamp 5, a deletion.
 const OTHER: &[u8] = b"\x00\x02ab\x00\x01\x01\x00\x02cd\x00\x00\x00\x00\x00\x00\x00\x05\x00";
 
-/// That of table 0, but a value, up to its length.
+/// The same in table 0, but a value, up to its length.
 const VALUE: &[u8] =
     b"\x00\x02ab\x00\x01\x00\x00\x02cd\x00\x00\x00\x00\x00\x00\x00\x05\x01\x00\x00";
 
@@ -55,20 +52,6 @@ fn value_of(alloc: Global, count: u16) -> Result<Vec<u8>, Fail> {
         payload.push(b'x')?;
     }
     Ok(payload)
-}
-
-// The lines with these payloads.
-fn lines_of(alloc: Global, payloads: &[&[u8]]) -> Result<Vec<Mutation>, Fail>
-    ensures { IfOk result (λ lines. AllByRecursion IsWithinLimits lines.items) }
-{
-    let mut lines = Vec::new(alloc);
-    for payload in payloads {
-        match decode(alloc, payload) {
-            Ok(line) => lines.push(line)?,
-            Err(_) => return Err(Fail::new("no payload")),
-        }
-    }
-    Ok(lines)
 }
 
 // Writes lines to an empty disk, at 1000 ms and with segments of a capacity, and drains it or not.
