@@ -24,5 +24,7 @@ pub mod SwitchStages
 pub mod OldestBelow
 pub mod OldestMoves
 pub mod BarrierIssues
+pub mod BarrierBelow
+pub mod BarredTables
 pub mod Applying
 pub mod PlaceStays

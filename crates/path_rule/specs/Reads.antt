@@ -1,7 +1,7 @@
 -- What the holder of a table's Flush turn has read of a memtable whose barrier is passed. It takes
 -- the boxes of all seats one by one, looks at what is in them, and gives each back. What a retired
 -- memtable left there may be gone then.
-use Rattle.std.specs.Prelude.{◌≡◌, ℕ, ◌<◌, Bool, true, false, Some, None, IsTrue}
+use Rattle.std.specs.Prelude.{◌≡◌, ℕ, ◌<◌, Bool, true, false, Some, None, IsTrue, is_some}
 use Rattle.std.specs.List.{Contains}
 use Rattle.std.specs.Option.{option_map_or}
 use Rattle.path_core.specs.declared.note.EntryNote.{EntryNote}
@@ -24,6 +24,7 @@ use Rattle.path_rule.specs.declared.view.FlushRead.{FlushRead}
 use Rattle.path_rule.specs.declared.view.Hands.{Hands}
 use Rattle.path_rule.specs.declared.view.Role.{Role}
 use Rattle.path_rule.specs.declared.view.Role.TheVariants.{Opener, Steps, Spent}
+use Rattle.path_rule.specs.declared.view.View.{View}
 use Rattle.path_rule.specs.Boxes.{memtable_box}
 
 -- The seat began a switch of the table while it holds the table's turn.
@@ -61,3 +62,8 @@ abbrev pub ReadsAs : ℕ → PathState → Seat → Hands → Role → Type 0
 ReadsAs seats x p h (Steps w) = (q : FlushRead) → h.reading ≡ Some q → ReadsAre seats x p q
 ReadsAs seats x p h (Opener k) = h.reading ≡ None
 ReadsAs seats x p h Spent = h.reading ≡ None
+
+-- A memtable that the seat reads is of a table whose turn it has.
+abbrev pub ReadsHeld : View → Type 0
+ReadsHeld v = (q : FlushRead) → v.hands.reading ≡ Some q
+    → IsTrue (is_some (seat_table v.part q.table).flush)

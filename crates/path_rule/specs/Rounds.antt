@@ -1,5 +1,5 @@
 -- The steps of barriers and of syncs, and what a seat keeps that makes no others.
-use Rattle.std.specs.Prelude.{◌≡◌, ℕ, ◌≤◌, false, List, [], ◌∷◌, ◌++◌, None}
+use Rattle.std.specs.Prelude.{◌≡◌, ℕ, ◌≤◌, false, List, [], ◌∷◌, ◌++◌, Some, None}
 use Rattle.path_core.specs.declared.event.Carried.TheVariants.{Deposit}
 use Rattle.path_core.specs.declared.event.ClaimKind.TheVariants.{Marker}
 use Rattle.path_core.specs.declared.event.Cursor.TheVariants.{Synced, Stopped}
@@ -25,7 +25,17 @@ use Rattle.path_core.specs.declared.event.Place.TheVariants.{
   CursorWord,
 }
 use Rattle.path_core.specs.declared.event.Turn.TheVariants.{Sync}
+use Rattle.path_core.specs.declared.seat.FlushTurn.{FlushTurn}
 use Rattle.path_core.specs.declared.seat.Seat.{Seat}
+use Rattle.path_core.specs.declared.seat.SeatTable.{SeatTable}
+use Rattle.path_core.specs.declared.seat.Switching.{Switching}
+use Rattle.path_core.specs.declared.seat.Switching.TheVariants.{
+  Begun,
+  Marked,
+  Settled,
+  Waiting,
+  WithBarrier,
+}
 use Rattle.path_core.specs.Next.{has_filed}
 use Rattle.path_core.specs.Parts.{IsIdle, seat_table}
 use Rattle.path_rule.specs.declared.view.OwnStep.{OwnStep}
@@ -71,6 +81,18 @@ pub record IsAtRest (p : Seat) : Type 0 where
   pub unclaimed : p.claim ≡ None
   pub flush : (t : ℕ) → (seat_table p t).flush ≡ None
 
+-- No log key and no barrier changes what the holder of a table's turn knows of its switch: none is
+-- marked, and none waits for its barrier.
+abbrev pub IsQuietStage : Switching → Type 0
+IsQuietStage Settled = Unit {0}
+IsQuietStage (Begun m) = Unit {0}
+IsQuietStage (Marked k) = ⊥
+IsQuietStage (Waiting m) = ⊥
+IsQuietStage (WithBarrier m group) = Unit {0}
+
+abbrev pub IsQuiet : SeatTable → Type 0
+IsQuiet st = (turn : FlushTurn) → st.flush ≡ Some turn → IsQuietStage turn.stage
+
 -- Seat w went from one view to another by such steps alone, of which these put a cursor, the newest
 -- first. Where it ran no write it runs none, and it filed nothing with the turn in hand.
 pub record RoundSteps (w : ℕ) (puts : List Event) (v after : View) : Type 0 where
@@ -79,6 +101,10 @@ pub record RoundSteps (w : ℕ) (puts : List Event) (v after : View) : Type 0 wh
   pub are : AreRoundSteps w steps
   pub puts_are : puts_of steps ≡ puts
   pub rests : IsAtRest v.part → IsAtRest after.part
+  pub idles : IsIdle v.part → v.part.claim ≡ None → IsIdle after.part × (after.part.claim ≡ None)
+  pub tables : (t : ℕ) → IsQuiet (seat_table v.part t)
+      → seat_table after.part t ≡ seat_table v.part t
+  pub reading : after.hands.reading ≡ v.hands.reading
   pub unfiled : has_filed v.part ≡ false → has_filed after.part ≡ false
   pub returned : after.returned ≡ v.returned
   pub size : after.size ≡ v.size

@@ -18,15 +18,17 @@ use Rattle.path_rule.specs.declared.slot.Slot.{Slot}
 use Rattle.path_rule.specs.declared.view.Role.TheVariants.{Steps}
 use Rattle.path_rule.specs.declared.view.View.{View}
 use Rattle.path_rule.specs.Layout.{word_of}
+use Rattle.path_rule.specs.Reads.{ReadsHeld}
 use Rattle.path_rule.specs.Rule.{Was}
 use Rattle.path_rule.specs.Told.{Made}
 
 module _ {K : Type 0} where
-  -- The seat has the table's Flush turn; or another had it, and this was a look.
+  -- The seat has the table's Flush turn, and read none but of turns that it had; or another had it,
+  -- and this was a look.
   abbrev pub FlushTaken : Step (Slot K) → Me (Slot K) View → ℕ → Me (Slot K) View → Type 0
   FlushTaken st m n m' = (w : ℕ) (t : Table) → m.0.role ≡ Steps w → t.0 < 16
       → st.word ≡ 9 + 4 * t.0
-      → (n ≡ 0 → Made w (TakeTurn w (Flush t)) 1 m m')
+      → (n ≡ 0 → Made w (TakeTurn w (Flush t)) 1 m m' × ReadsHeld m.0)
       × (n ≢ 0 → Made w (Look w (TurnWord (Flush t))) n m m' × (n ≡ 1))
 
   -- it gave that turn back

@@ -58,8 +58,8 @@ fn count_word(order: Order, group: u64) -> usize
 }
 
 impl<K: Keeper, A: Allocator> PathTable<K, A> {
-    // The current group of an order.
-    pub(crate) fn seek_current(&self, member: &mut Member<K>, order: Order) -> u64
+    /// The current group of an order.
+    pub fn seek_current(&self, member: &mut Member<K>, order: Order) -> u64
         requires table { IsOf self.now.table.shared.table_id self.now.size member.old }
         requires turn { Holds Rest (view_of member.old) }
         ensures same { KeepsSizes member.old member.new }

@@ -1,12 +1,20 @@
 //! A table's Flush turn: taken by an idle seat where nobody has it, and given back once the newest
 //! switch of the table is through.
-ghost use Rattle.std.specs.Prelude.{◌≡◌, ◌≢◌, ℕ, ◌<◌, Some};
+ghost use Rattle.std.specs.Prelude.{◌≡◌, ◌≢◌, ℕ, ◌<◌, Some, IsTrue, is_some};
 ghost use Rattle.path_core.specs.declared.event.Event.TheVariants.{Look, TakeTurn, GiveTurn};
 ghost use Rattle.path_core.specs.declared.event.Place.TheVariants.{TurnWord};
 ghost use Rattle.path_core.specs.declared.event.Turn.TheVariants.{Flush};
 ghost use Rattle.path_core.specs.Parts.{seat_table, IsIdle};
 ghost use Rattle.path_core.specs.SeatAfter.{new_flush};
-ghost use Rattle.path_rule.specs.Members.{view_of, part_of, IsOf, KeepsBoxes, Stepped};
+ghost use Rattle.path_rule.specs.declared.view.FlushRead.{FlushRead};
+ghost use Rattle.path_rule.specs.Members.{
+  view_of,
+  part_of,
+  hands_of,
+  IsOf,
+  KeepsBoxes,
+  Stepped,
+};
 ghost use Rattle.path_rule.specs.Switches.{MayGiveFlush};
 
 use crate::table::{Member, PathTable};
@@ -19,7 +27,7 @@ use std::alloc::Allocator;
 impl<K: Keeper, A: Allocator> PathTable<K, A> {
     /// Takes the Flush turn of a table, where nobody has it. Returns what it found: where that is
     /// not 0, another seat has the turn: it is 1, and this was a look. The newest switch of a table
-    /// whose turn was free is through.
+    /// whose turn was free is through. A memtable that the member reads is of a turn that it had.
     pub fn take_flush(&self, member: &mut Member<K>, table: Table) -> u64
         requires table { IsOf self.now.table.shared.table_id self.now.size member.old }
         requires there { table.0 < self.now.size.tables }
@@ -29,6 +37,8 @@ impl<K: Keeper, A: Allocator> PathTable<K, A> {
             → Stepped member.old (TakeTurn member.old.number (Flush table)) 1 member.new }
         ensures holds { result ≡ 0
             → (seat_table (part_of member.new) table.0).flush ≡ Some new_flush }
+        ensures reads { result ≡ 0 → (q : FlushRead) → (hands_of member.new).reading ≡ Some q
+            → IsTrue (is_some (seat_table (part_of member.old) q.table).flush) }
         ensures miss { result ≢ 0
             → Stepped member.old (Look member.old.number (TurnWord (Flush table))) result
             member.new × (result ≡ 1) }

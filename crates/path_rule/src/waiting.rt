@@ -18,6 +18,7 @@ ghost use Rattle.path_rule.specs.Members.{
 };
 ghost use Rattle.path_rule.specs.Passes.{HasIssued, MatchPassed};
 ghost use Rattle.path_rule.specs.Rounds.{RoundSteps};
+ghost use Rattle.path_rule.specs.Switches.{FlushOldest};
 ghost use Rattle.path_rule.specs.Turns.{
   FoundRunning,
   MarkerWaits,
@@ -151,6 +152,54 @@ impl<K: Keeper, A: Allocator> PathTable<K, A> {
         self.expire_write(&mut member, current, current + 1);
         let holder = self.advance_to(rt, Holder { member }, Order::Write, current + 1);
         (holder, Passed::Passed(current))
+    }
+
+    /// Issues a barrier of the write order behind the group that the member found current, and waits
+    /// until it is passed. A memtable that waits for its barrier has this one then. There is a word
+    /// for the next group. No clause says that it returns.
+    pub fn write_barrier<R: Wait>(&self, rt: &R, holder: Holder<K>, current: u64) -> Holder<K>
+        requires table { IsOf self.now.table.shared.table_id self.now.size holder.member }
+        requires current { TurnSaw Write (part_of holder.member) current × (current < 65535) }
+        ensures same { KeepsSizes holder.member result.member }
+        ensures steps { RoundSteps holder.member.number [] (view_of holder.member)
+            (view_of result.member) }
+        ensures passed { IsPast Write (view_of result.member) current
+            × (hands_of result.member ≡ hands_of holder.member) }
+        ensures issues { HasIssued Write holder.member.number current (view_of holder.member)
+            (view_of result.member) }
+        ensures issued { (t memtable : ℕ)
+            → stage_of (part_of holder.member) t ≡ Some (Waiting memtable)
+            → stage_of (part_of result.member) t ≡ Some (WithBarrier memtable current) }
+        ensures oldest { (t memtable least : ℕ)
+            → stage_of (part_of holder.member) t ≡ Some (Waiting memtable)
+            → FlushOldest t (part_of holder.member) least
+            → FlushOldest t (part_of result.member) least }
+    {
+        let Holder { mut member } = holder;
+        self.open_write(&mut member, current + 1, current);
+        self.move_write(&mut member, current + 1, current);
+        self.expire_write(&mut member, current, current + 1);
+        self.advance_to(rt, Holder { member }, Order::Write, current + 1)
+    }
+
+    /// Waits until all groups of the write order before the current one are finished: so is the
+    /// barrier of each memtable of a table whose turn the member has. No clause says that it returns.
+    pub fn pass_all<R: Wait>(&self, rt: &R, holder: Holder<K>) -> Holder<K>
+        requires { IsOf self.now.table.shared.table_id self.now.size holder.member }
+        ensures same { KeepsSizes holder.member result.member }
+        ensures steps { RoundSteps holder.member.number [] (view_of holder.member)
+            (view_of result.member) }
+        ensures hands { hands_of result.member ≡ hands_of holder.member }
+        ensures passed { (t memtable group : ℕ)
+            → stage_of (part_of holder.member) t ≡ Some (WithBarrier memtable group)
+            → (stage_of (part_of result.member) t ≡ Some (WithBarrier memtable group))
+            × IsPast Write (view_of result.member) group }
+    {
+        let Holder { mut member } = holder;
+        let current = self.seek_current(&mut member, Order::Write);
+        // A look behind the one at the current group, which tells that no barrier is of a later one.
+        let _oldest = self.seek_oldest(&mut member, Order::Write);
+        self.advance_to(rt, Holder { member }, Order::Write, current)
     }
 
     /// Issues the barrier of the last marker, which is the member's own and has none, and waits

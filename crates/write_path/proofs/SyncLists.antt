@@ -187,14 +187,15 @@ looked_trail w key v after L = subst (λ (l : List OwnStep). Finds Log key l)
 
 -- A seat took the Sync turn, made a round of a sync, and gave the turn back.
 pub tried : (w z y opened : ℕ) (h k : Hands) (a : Option SyncAnswer) (v u x after : View)
-    → DidAs v w (TakeTurn w Sync) 1 h u → z ≡ w → MayAnswer z opened u a x → y ≡ w
-    → DidAs x y (GiveTurn y Sync) 0 k after → k.progress.marker ≡ x.hands.progress.marker
+    → DidAs v w (TakeTurn w Sync) 1 h u → h.reading ≡ v.hands.reading → z ≡ w → MayAnswer z opened u a x → y ≡ w
+    → DidAs x y (GiveTurn y Sync) 0 k after → k.reading ≡ x.hands.reading
+    → k.progress.marker ≡ x.hands.progress.marker
     → MayAnswer w opened v a after
-tried w z y opened h k a v u x after took same A again gave marker =
+tried w z y opened h k a v u x after took reads same A again gave kept marker =
     may_still w opened a v x after
-    (may_after w opened a v u x (one_as w (TakeTurn w Sync) 1 h v u refl took)
+    (may_after w opened a v u x (one_as w (TakeTurn w Sync) 1 h v u refl took reads)
     (subst (λ i. MayAnswer i opened u a x) same A))
     (subst (λ i. RoundSteps i [] x after) again
-    (one_as y (GiveTurn y Sync) 0 k x after refl gave))
+    (one_as y (GiveTurn y Sync) 0 k x after refl gave kept))
     (ap (λ (q : View). q.part.found) gave.view)
     (ap (λ (q : View). q.hands.progress.marker) gave.view ∙ marker)

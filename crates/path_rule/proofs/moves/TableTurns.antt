@@ -60,13 +60,13 @@ use Rattle.path_rule.specs.declared.view.View.{View}
 use Rattle.path_rule.specs.Calls.{IsPast}
 use Rattle.path_rule.specs.Lasts.{shown}
 use Rattle.path_rule.specs.Rule.{Ruled, view_after}
-use Rattle.path_rule.specs.Reads.{has_switched}
+use Rattle.path_rule.specs.Reads.{has_switched, ReadsHeld}
 use Rattle.path_rule.specs.Switches.{MayGiveFlush, ReadsNone}
 use Rattle.path_rule.specs.TableTold.{FlushGiven, FlushTaken}
 use Rattle.path_rule.specs.Told.{Made}
 use Rattle.path_rule.specs.Turns.{FoundPast}
 use Rattle.path_rule.proofs.boxes.HeldBoxes.{boxed_stay}
-use Rattle.path_rule.proofs.boxes.Switching.{unbegun}
+use Rattle.path_rule.proofs.boxes.Switching.{switched_held, unbegun}
 use Rattle.path_rule.proofs.moves.Looks.{
   Owes,
   acts,
@@ -122,6 +122,8 @@ module _ {K : Type 0} (shows : K → Lasting) (o : Beside) (size : PathSize) (sl
       (λ hit. let e = TakeTurn w (Flush t) in
       let v' = view_after m.0 e 1 false in
       let is = as_part shows o size slots id m w mine s r there in
+      let reads : ReadsHeld m.0 = λ q has. switched_held m.0.part q.table
+      (reads_now shows o size s r id w m.0 there mine q has).switched in
       let free = unheld x (Flush t) (ap Number (sym (r.words (TurnWord (Flush t)) few) ∙ hit)) in
       let may : IsStep x e = record {
         seat = within shows o size slots id m w mine s r there;
@@ -134,13 +136,13 @@ module _ {K : Type 0} (shows : K → Lasting) (o : Beside) (size : PathSize) (sl
       (shown o size.at_open r.kept_to x) x.claims x.claims x.append x.append s.homes s.views r.boxed
       id w m.0 v' there mine refl refl refl (λ i g l _ _. (l, refl)) refl C.append C.issue refl)
       tt tt then (λ u z q role _ word. each_table_name 9 t
-      (λ z q. (n ≡ 0 → Made z (TakeTurn z (Flush q)) 1 m (v', m.1))
+      (λ z q. (n ≡ 0 → Made z (TakeTurn z (Flush q)) 1 m (v', m.1) × ReadsHeld m.0)
       × (n ≢ 0 → Made z (Look z (TurnWord (Flush q))) n m (v', m.1) × (n ≡ 1)))
-      ((λ _. ((refl, u), refl)), (λ miss. absurd (miss hit))) z q role word))
+      ((λ _. (((refl, u), refl), reads)), (λ miss. absurd (miss hit))) z q role word))
       (λ miss. let v' = view_after m.0 (Look w (TurnWord (Flush t))) n false in
       look_owes shows o size slots id m w mine s r there (TurnWord (Flush t)) few inside then
       (λ made _ z q role _ word. each_table_name 9 t
-      (λ z q. (n ≡ 0 → Made z (TakeTurn z (Flush q)) 1 m (v', m.1))
+      (λ z q. (n ≡ 0 → Made z (TakeTurn z (Flush q)) 1 m (v', m.1) × ReadsHeld m.0)
       × (n ≢ 0 → Made z (Look z (TurnWord (Flush q))) n m (v', m.1) × (n ≡ 1))) (
         (λ hit. absurd (miss hit)),
         (λ _. (

@@ -213,7 +213,7 @@ done_answers w opened upto s v after B E =
     })
     (λ (new : (E.found < upto) × (s ≡ upto) × HasSynced w upto E.seen after).
     let steps = both w [] (Put w Synced upto ∷ []) v E.seen after first
-    (one_as w (Put w Synced upto) upto _ E.seen after refl new.2.did) in record {
+    (one_as w (Put w Synced upto) upto _ E.seen after refl new.2.did refl) in record {
       puts = Put w Synced upto ∷ [];
       steps = steps;
       is = (
@@ -233,7 +233,7 @@ stopped_answers w opened upto at_open now v after at risen E = record {
   puts = Put w StoppedCursor now ∷ [];
   steps = both w [] (Put w StoppedCursor now ∷ []) v E.seen after
       (one w (Look w (CursorWord Synced)) E.found v E.seen refl E.looked)
-      (one_as w (Put w StoppedCursor now) now _ E.seen after refl E.ended.1.did);
+      (one_as w (Put w StoppedCursor now) now _ E.seen after refl E.ended.1.did refl);
   is = (at, risen, ap (λ (u : View). u.part.found.stopped) E.ended.1.did.view, inr refl);
   now = inl (refl, refl);
 }
@@ -245,7 +245,7 @@ refused_answers w opened upto v after E = record {
   steps = both w [] [] v E.seen after
       (one w (Look w (CursorWord Synced)) E.found v E.seen refl E.looked)
       (one_as w (Look w (CursorWord StoppedCursor)) E.ended.1.0 _ E.seen after refl
-      E.ended.1.1.did);
+      E.ended.1.1.did refl);
   is = refl;
   now = tt;
 }

@@ -106,7 +106,7 @@ marked u after w from to D held = record {
   waits = subst (λ (v : View). MarkerWaits w v.part from) (sym D.view)
       (ap (λ (o : Option SyncTurn). option_and_then (λ (t : SyncTurn). t.marker)
       (option_map (marker_claimed w from) o)) (the_turn u.part held).1);
-  wrote = still_wrote w from _ u after (one_as w _ to _ u after refl D)
+  wrote = still_wrote w from _ u after (one_as w _ to _ u after refl D refl)
       (wrote_below u w _ D.was from (λ (n : EntryNote) (h : Contains D.was.core.notes n).
       let low = below_log D.was.core D.was.lawful n h in let at = D.was.allowed.row.2 in
       omega arith));

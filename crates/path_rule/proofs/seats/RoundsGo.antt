@@ -20,6 +20,7 @@ use Rattle.std.proofs.Common.{
   ◌∙◌,
   subst,
 }
+use Rattle.std.proofs.Math.ListN.{get_or-map as get_or-map_default}
 use Rattle.std.proofs.lemmas.List.{append_assoc}
 use Rattle.std.specs.Option.{option_map, option_map_or}
 use Rattle.op_core.specs.declared.count.Order.{Order}
@@ -60,12 +61,29 @@ use Rattle.path_core.specs.declared.event.Reading.TheVariants.{Operations, Numbe
 use Rattle.path_core.specs.declared.event.Turn.TheVariants.{Sync, Flush}
 use Rattle.path_core.specs.declared.seat.FoundGroups.{FoundGroups}
 use Rattle.path_core.specs.declared.seat.Range.{Range}
+use Rattle.path_core.specs.declared.seat.FlushTurn.{FlushTurn}
 use Rattle.path_core.specs.declared.seat.Seat.{Seat}
+use Rattle.path_core.specs.declared.seat.SeatTable.{SeatTable}
+use Rattle.path_core.specs.declared.seat.Switching.{Switching}
+use Rattle.path_core.specs.declared.seat.Switching.TheVariants.{
+  Begun,
+  Marked,
+  Settled,
+  Waiting,
+  WithBarrier,
+}
 use Rattle.path_core.specs.declared.seat.SyncTurn.{SyncTurn}
 use Rattle.path_core.specs.Next.{has_filed}
-use Rattle.path_core.specs.Parts.{seat_table}
-use Rattle.path_core.specs.SeatAfter.{Told, seat_after, looked}
-use Rattle.path_core.specs.SeatParts.{keeps, finished_found}
+use Rattle.path_core.specs.Parts.{seat_table, untouched, IsIdle}
+use Rattle.path_core.specs.SeatAfter.{Told, number_read, seat_after, looked}
+use Rattle.path_core.specs.SeatParts.{
+  barrier_issued,
+  finished_found,
+  keeps,
+  key_found,
+  log_found,
+  with_barrier,
+}
 use Rattle.path_core.specs.Words.{place_of}
 use Rattle.path_core.proofs.seats.Columns.{
   Columns,
@@ -86,6 +104,8 @@ use Rattle.path_rule.specs.Rounds.{
   with_put,
   puts_of,
   IsAtRest,
+  IsQuiet,
+  IsQuietStage,
   RoundSteps,
   EndsBelow,
   WroteBelow,
@@ -137,6 +157,104 @@ look_unfiled w by (CursorWord Stopped) (Limit b) s is h = h
 look_unfiled w by (CursorWord (OldestLive t)) r s is h = absurd is
 look_unfiled w by (Newest t) r s is h = absurd is
 look_unfiled w by (BoundOf t m) r s is h = absurd is
+
+-- ---- what the seat knows of a table whose switch is quiet
+
+key_quiet : (n : ℕ) (k : Switching) → IsQuietStage k → key_found n k ≡ k
+key_quiet n Settled q = refl
+key_quiet n (Begun m) q = refl
+key_quiet n (Marked k) q = absurd q
+key_quiet n (Waiting m) q = absurd q
+key_quiet n (WithBarrier m g) q = refl
+
+barrier_quiet : (n : ℕ) (k : Switching) → IsQuietStage k → with_barrier n k ≡ k
+barrier_quiet n Settled q = refl
+barrier_quiet n (Begun m) q = refl
+barrier_quiet n (Marked k) q = absurd q
+barrier_quiet n (Waiting m) q = absurd q
+barrier_quiet n (WithBarrier m g) q = refl
+
+-- a stage that stays has its turn stay
+turn_quiet : (f : Switching → Switching) → ((k : Switching) → IsQuietStage k → f k ≡ k)
+    → (o : Option FlushTurn) → ((turn : FlushTurn) → o ≡ Some turn → IsQuietStage turn.stage)
+    → option_map (λ (turn : FlushTurn). record turn { stage = f turn.stage }) o ≡ o
+turn_quiet f same None quiet = refl
+turn_quiet f same (Some turn) quiet = ap (λ (k : Switching). Some (record turn { stage = k }))
+    (same turn.stage (quiet turn refl))
+
+table_quiet : (f : Switching → Switching) → ((k : Switching) → IsQuietStage k → f k ≡ k)
+    → (st : SeatTable) → IsQuiet st → record st {
+      flush = option_map (λ (turn : FlushTurn). record turn { stage = f turn.stage }) st.flush;
+    } ≡ st
+table_quiet f same st quiet =
+    ap (λ (o : Option FlushTurn). record st { flush = o }) (turn_quiet f same st.flush quiet)
+
+abbrev pub StaysQuiet : Seat → Seat → Type 0
+StaysQuiet s after = (t : ℕ) → IsQuiet (seat_table s t) → seat_table after t ≡ seat_table s t
+
+keeps_quiet : (o : Order) (f : FoundGroups → FoundGroups) (s : Seat) → StaysQuiet s (keeps o f s)
+keeps_quiet Write f s = λ t q. refl
+keeps_quiet Append f s = λ t q. refl
+
+look_quiet : (w by : ℕ) (at : Place) (r : Reading) (s : Seat) → IsRoundStep w (Look by at)
+    → StaysQuiet s (looked s at r)
+look_quiet w by (Count o g) (Operations k) s is = choose (is_finished k)
+  where
+    choose : (b : Bool) → StaysQuiet s (if b then keeps o (finished_found g) s else s)
+    choose true = keeps_quiet o (finished_found g) s
+    choose false = λ t q. refl
+look_quiet w by (Count o g) (Number n) s is = λ t q. refl
+look_quiet w by (Count o g) (Limit b) s is = λ t q. refl
+look_quiet w by (Current o) (Operations k) s is = λ t q. refl
+look_quiet w by (Current o) (Number n) s is = keeps_quiet o _ s
+look_quiet w by (Current o) (Limit b) s is = λ t q. refl
+look_quiet w by (Oldest o) (Operations k) s is = λ t q. refl
+look_quiet w by (Oldest o) (Number n) s is = keeps_quiet o _ s
+look_quiet w by (Oldest o) (Limit b) s is = λ t q. refl
+look_quiet w by Log (Operations k) s is = λ t q. refl
+look_quiet w by Log (Number n) s is = λ t q.
+    get_or-map_default (log_found n) s.tables t untouched
+    ∙ table_quiet (key_found n) (key_quiet n) (seat_table s t) q
+look_quiet w by Log (Limit b) s is = λ t q. refl
+look_quiet w by (TurnWord Sync) (Operations k) s is = λ t q. refl
+look_quiet w by (TurnWord Sync) (Number n) s is = λ t q. refl
+look_quiet w by (TurnWord Sync) (Limit b) s is = λ t q. refl
+look_quiet w by (TurnWord (Flush u)) r s is = absurd is
+look_quiet w by (CursorWord Synced) (Operations k) s is = λ t q. refl
+look_quiet w by (CursorWord Synced) (Number n) s is = λ t q. refl
+look_quiet w by (CursorWord Synced) (Limit b) s is = λ t q. refl
+look_quiet w by (CursorWord Stopped) (Operations k) s is = λ t q. refl
+look_quiet w by (CursorWord Stopped) (Number n) s is = λ t q. refl
+look_quiet w by (CursorWord Stopped) (Limit b) s is = λ t q. refl
+look_quiet w by (CursorWord (OldestLive u)) r s is = absurd is
+look_quiet w by (Newest u) r s is = absurd is
+look_quiet w by (BoundOf u m) r s is = absurd is
+
+pub is_quiet : (w : ℕ) (e : Event) (s : Seat) (r : Reading) (told : Told) → IsRoundStep w e
+    → StaysQuiet s (seat_after s e r told)
+is_quiet w (Look by at) s r told is = look_quiet w by at r s is
+is_quiet w (OpenGroup by o g) s r told is = λ t q. refl
+is_quiet w (MoveCurrent by Write g) s r told is = λ t q.
+    get_or-map_default (barrier_issued (number_read r)) s.tables t untouched
+    ∙ table_quiet (with_barrier (number_read r)) (barrier_quiet (number_read r)) (seat_table s t)
+    q
+is_quiet w (MoveCurrent by Append g) s r told is = λ t q. refl
+is_quiet w (Expire by o g) s r told is = λ t q. refl
+is_quiet w (Advance by o g) s r told is = keeps_quiet o _ s
+is_quiet w (Claim by from to Marker) s r told is = λ t q. refl
+is_quiet w (TakeTurn by Sync) s r told is = λ t q. refl
+is_quiet w (GiveTurn by Sync) s r told is = λ t q. refl
+is_quiet w (Put by Synced value) s r told is = λ t q. refl
+is_quiet w (Put by Stopped value) s r told is = λ t q. refl
+is_quiet w (Register by o g) s r told is = absurd is
+is_quiet w (Close by o g carried) s r told is = absurd is
+is_quiet w (Claim by from to Entry) s r told is = absurd is
+is_quiet w (Switch by t m part) s r told is = absurd is
+is_quiet w (Raise by t m to) s r told is = absurd is
+is_quiet w (Finalise by t m) s r told is = absurd is
+is_quiet w (TakeTurn by (Flush t)) s r told is = absurd is
+is_quiet w (GiveTurn by (Flush t)) s r told is = absurd is
+is_quiet w (Put by (OldestLive t) value) s r told is = absurd is
 
 -- ---- one step
 
@@ -216,9 +334,20 @@ rests_still e p q P C R = record {
       (C.flush t ∙ (P.flush t (is_some (seat_table p t).flush) ∙ ap (λ o. is_some o) (R.flush t)));
 }
 
+pub idle_still : (e : Event) (p q : Seat) → Plain e → Columns e p q → IsIdle p → p.claim ≡ None
+    → IsIdle q × (q.claim ≡ None)
+idle_still e p q P C I free = (
+  record {
+    write = C.write ∙ (P.write p.write ∙ I.write);
+    append = C.append ∙ (P.append p.append ∙ I.append);
+  },
+  C.claim ∙ (P.claim p.claim ∙ free),
+)
+
+-- where the step leaves what the seat reads of a memtable
 abbrev pub one_as : (w : ℕ) (e : Event) (n : ℕ) (h : Hands) (v after : View) → IsRoundStep w e
-    → DidAs v w e n h after → RoundSteps w (with_put e []) v after
-one_as w e n h v after is d = let P = is_plain w e is in
+    → DidAs v w e n h after → h.reading ≡ v.hands.reading → RoundSteps w (with_put e []) v after
+one_as w e n h v after is d reads = let P = is_plain w e is in
     let r = reading_at (place_of e) n in let told = told_by false h in record {
       steps = record { event = e; found = n; filed = false } ∷ [];
       trail = ap (λ (u : View). u.trail) d.view;
@@ -226,6 +355,11 @@ one_as w e n h v after is d = let P = is_plain w e is in
       puts_are = refl;
       rests = λ R. subst (λ (u : View). IsAtRest u.part) (sym d.view)
           (rests_still e v.part _ P (columns e v.part r told (P.fits v.part)) R);
+      idles = λ I free. subst (λ (u : View). IsIdle u.part × (u.part.claim ≡ None)) (sym d.view)
+          (idle_still e v.part _ P (columns e v.part r told (P.fits v.part)) I free);
+      tables = λ t q. subst (λ (u : View). seat_table u.part t ≡ seat_table v.part t) (sym d.view)
+          (is_quiet w e v.part r told is t q);
+      reading = ap (λ (u : View). u.hands.reading) d.view ∙ reads;
       unfiled = λ U. subst (λ (u : View). has_filed u.part ≡ false) (sym d.view)
           (P.unfiled v.part r told U);
       returned = ap (λ (u : View). u.returned) d.view;
@@ -234,7 +368,8 @@ one_as w e n h v after is d = let P = is_plain w e is in
 
 abbrev pub one : (w : ℕ) (e : Event) (n : ℕ) (v after : View) → IsRoundStep w e
     → Did v w e n after → RoundSteps w (with_put e []) v after
-one w e n v after is d = one_as w e n v.hands v after is (record { view = d.view; was = d.was })
+one w e n v after is d =
+    one_as w e n v.hands v after is (record { view = d.view; was = d.was }) refl
 
 -- ---- steps together
 
@@ -245,6 +380,10 @@ none_yet w v after same = record {
   are = tt;
   puts_are = refl;
   rests = λ R. subst (λ (u : View). IsAtRest u.part) (sym same) R;
+  idles = λ I free. subst (λ (u : View). IsIdle u.part × (u.part.claim ≡ None)) (sym same)
+      (I, free);
+  tables = λ t q. ap (λ (u : View). seat_table u.part t) same;
+  reading = ap (λ (u : View). u.hands.reading) same;
   unfiled = λ U. subst (λ (u : View). has_filed u.part ≡ false) (sym same) U;
   returned = ap (λ (u : View). u.returned) same;
   size = ap (λ (u : View). u.size) same;
@@ -286,6 +425,10 @@ both w ps qs v u after A B = record {
   puts_are = puts_both B.steps A.steps
       ∙ (ap (λ l. l ++ puts_of A.steps) B.puts_are ∙ ap (λ l. qs ++ l) A.puts_are);
   rests = λ R. B.rests (A.rests R);
+  idles = λ I free. let first = A.idles I free in B.idles first.0 first.1;
+  tables = λ t q. B.tables t (subst (λ (st : SeatTable). IsQuiet st) (sym (A.tables t q)) q)
+      ∙ A.tables t q;
+  reading = B.reading ∙ A.reading;
   unfiled = λ U. B.unfiled (A.unfiled U);
   returned = B.returned ∙ A.returned;
   size = B.size ∙ A.size;
@@ -300,6 +443,9 @@ renamed w ps qs v after same A = record {
   are = A.are;
   puts_are = A.puts_are ∙ same;
   rests = A.rests;
+  idles = A.idles;
+  tables = A.tables;
+  reading = A.reading;
   unfiled = A.unfiled;
   returned = A.returned;
   size = A.size;

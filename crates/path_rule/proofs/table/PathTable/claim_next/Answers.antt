@@ -1,4 +1,4 @@
-use Rattle.std.proofs.Common.{◌≡◌, [], sym, ap, ◌∙◌, subst}
+use Rattle.std.proofs.Common.{◌≡◌, [], refl, sym, ap, ◌∙◌, subst}
 use Rattle.op_core.specs.declared.count.Order.TheVariants.{Append}
 use Rattle.path_core.specs.declared.event.Place.TheVariants.{Log}
 use Rattle.path_rule.specs.declared.view.Hands.{Hands}
@@ -10,8 +10,22 @@ use Rattle.path_rule.specs.Marks.{HasMarked}
 use Rattle.path_rule.specs.Rounds.{RoundSteps}
 use Rattle.path_rule.specs.Turns.{FoundRunning, MarkerWaits, TurnSaw}
 use Rattle.path_rule.proofs.seats.Reaching.{found_on}
-use Rattle.path_rule.proofs.seats.RoundsGo.{next}
+use Rattle.path_rule.proofs.seats.RoundsGo.{next, none_yet}
 use Rattle.path_rule.proofs.table.PathTable.claim_next.Goals as goal
+
+pub loop-init : goal.loop-init
+loop-init g c = let m = c.args.member in record {
+  next = tt;
+  finite = tt;
+  table = refl;
+  number = refl;
+  boxes = refl;
+  steps = none_yet m.number m.seat.me.0 m.seat.me.0 refl;
+  give = c.requires.turn.0;
+  current = λ k saw. saw;
+  runs = c.requires.runs;
+  hands = refl;
+}
 
 pub note_progress-requires-clause-desk : goal.note_progress-requires-clause-desk
 note_progress-requires-clause-desk g c =

@@ -22,7 +22,7 @@ returns-then-claim_marker-from-clause-steps g c =
     next w _ [] [] _ _ _ L.ensures.same.1 (one w (Look w Log) L.result _ _ refl L.ensures.step)
     (one_as _ (Claim _ (record { 0 = L.result }) (record { 0 = c.key_behind_marker-to.result })
     Marker) c.key_behind_marker-to.result _ _ _ refl
-    (c.claim_marker.ensures.hit c.if-claim_marker-from.true))
+    (c.claim_marker.ensures.hit c.if-claim_marker-from.true) refl)
 
 pub returns-then-claim_marker-from-clause-claim : goal.returns-then-claim_marker-from-clause-claim
 returns-then-claim_marker-from-clause-claim g c =

@@ -78,9 +78,10 @@ returns-clause-steps g c =
     next w K.result.number [] [] v K.result.seat.me.0 G.new.member.seat.me.0
     (K.ensures.same.0.1 ∙ c.gather.ensures.same.1)
     (subst (λ (u : View). RoundSteps w [] v u) (sym K.ensures.same.1)
-    (one_as w (Look w (Oldest Append)) c.gather.result _ v c.gather.new.member.seat.me.0 refl d))
+    (one_as w (Look w (Oldest Append)) c.gather.result _ v c.gather.new.member.seat.me.0 refl d
+    refl))
     (one_as K.result.number (Look K.result.number (Oldest Append)) G.result _ _ _ refl
-    G.ensures.step)
+    G.ensures.step refl)
 
 pub returns-clause-turn : goal.returns-clause-turn
 returns-clause-turn g c =

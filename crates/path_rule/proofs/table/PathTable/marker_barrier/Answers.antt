@@ -25,7 +25,7 @@ returns-clause-steps g c =
     let m = M.same.1 ∙ O.same.1 in let e = E.ensures.same.1 ∙ m in
     next w _ [] [] _ _ _ e (next w _ [] [] _ _ _ m (next w _ [] [] _ _ _ O.same.1
     (one w (OpenGroup w Append (cur + 1)) 0 _ _ refl O.step)
-    (one_as _ (MoveCurrent _ Append (cur + 1)) cur _ _ _ refl M.step))
+    (one_as _ (MoveCurrent _ Append (cur + 1)) cur _ _ _ refl M.step refl))
     (one _ (Expire _ Append cur) E.result _ _ refl E.ensures.step)) A.steps
 
 pub returns-clause-issues : goal.returns-clause-issues

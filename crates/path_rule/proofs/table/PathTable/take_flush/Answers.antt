@@ -27,7 +27,7 @@ invariant_of-member g c = let m = c.args.member.now in
     let few = c.args.self.now.fits.few_tables in let there = c.requires.there in
     let e = c.compare_exchange.ensures.2 m.number c.args.table m.role (omega arith) refl in
     dite (ℕ_discrete c.compare_exchange.result 0)
-    (λ hit. record { role = ap (λ (v : View). v.role) (e.0 hit).0.0 ∙ m.role })
+    (λ hit. record { role = ap (λ (v : View). v.role) (e.0 hit).0.0.0 ∙ m.role })
     (λ miss. record { role = ap (λ (v : View). v.role) (e.1 miss).0.0.0 ∙ m.role })
 
 pub returns-clause-same : goal.returns-clause-same
@@ -35,20 +35,20 @@ returns-clause-same g c = let m = c.args.member.now in
     let few = c.args.self.now.fits.few_tables in let there = c.requires.there in
     let e = c.compare_exchange.ensures.2 m.number c.args.table m.role (omega arith) refl in
     dite (ℕ_discrete c.compare_exchange.result 0)
-    (λ hit. (c.compare_exchange.ensures.0, refl, (e.0 hit).1))
+    (λ hit. (c.compare_exchange.ensures.0, refl, (e.0 hit).0.1))
     (λ miss. (c.compare_exchange.ensures.0, refl, (e.1 miss).0.1))
 
 pub returns-clause-hit : goal.returns-clause-hit
 returns-clause-hit g c = let m = c.args.member.now in
     let few = c.args.self.now.fits.few_tables in let there = c.requires.there in
     let e = c.compare_exchange.ensures.2 m.number c.args.table m.role (omega arith) refl in
-    λ hit. record { view = (e.0 hit).0.0; was = (e.0 hit).0.1 }
+    λ hit. record { view = (e.0 hit).0.0.0; was = (e.0 hit).0.0.1 }
 
 pub returns-clause-holds : goal.returns-clause-holds
 returns-clause-holds g c = let m = c.args.member.now in
     let few = c.args.self.now.fits.few_tables in let there = c.requires.there in
     let e = c.compare_exchange.ensures.2 m.number c.args.table m.role (omega arith) refl in
-    λ hit. let d = e.0 hit in
+    λ hit. let d = (e.0 hit).0 in
     ap (λ (v : View). (seat_table v.part c.args.table.0).flush) d.0.0
     ∙ ap (λ st. st.flush) (get_or-set_same m.seat.me.0.part.tables c.args.table.0 _ untouched
     (table_inside m.seat.me.0 m.number _ d.0.1 c.args.table.0 (omega arith)))
@@ -64,6 +64,12 @@ returns-clause-others g c = let m = c.args.member.now in
     let few = c.args.self.now.fits.few_tables in let there = c.requires.there in
     let e = c.compare_exchange.ensures.2 m.number c.args.table m.role (omega arith) refl in
     λ u apart. dite (ℕ_discrete c.compare_exchange.result 0)
-    (λ hit. ap (λ (v : View). seat_table v.part u) (e.0 hit).0.0
+    (λ hit. ap (λ (v : View). seat_table v.part u) (e.0 hit).0.0.0
     ∙ get_or-set_other m.seat.me.0.part.tables c.args.table.0 u _ untouched apart)
     (λ miss. ap (λ (v : View). seat_table v.part u) (e.1 miss).0.0.0)
+
+pub returns-clause-reads : goal.returns-clause-reads
+returns-clause-reads g c = let m = c.args.member.now in
+    let few = c.args.self.now.fits.few_tables in let there = c.requires.there in
+    let e = c.compare_exchange.ensures.2 m.number c.args.table m.role (omega arith) refl in
+    λ hit q has. (e.0 hit).1 q (sym (ap (λ (v : View). v.hands.reading) (e.0 hit).0.0.0) ∙ has)

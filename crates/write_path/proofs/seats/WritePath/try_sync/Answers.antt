@@ -31,8 +31,8 @@ invariant_of-result-2 g c =
     let T = c.take_sync.ensures in let S = c.sync_round-member in let G = c.give_sync.ensures in
     let seat = c.args.seat in let opened = c.args.self.now.table.size.at_open in
     let R = may_rest seat.member.number opened S.result.1 seat.member.seat.me.0 _
-    (tried seat.member.number _ _ opened _ _ S.result.1 _ _ _ _ h.3 T.same.1 S.ensures.answer
-    (S.ensures.same.1 ∙ T.same.1) G.step refl) (record {
+    (tried seat.member.number _ _ opened _ _ S.result.1 _ _ _ _ h.3 refl T.same.1 S.ensures.answer
+    (S.ensures.same.1 ∙ T.same.1) G.step refl refl) (record {
       idle = seat.idle;
       unclaimed = seat.unclaimed;
       flush = seat.free.flush;
@@ -54,8 +54,8 @@ returns-clause-same g c =
       (
         G.same.0 ∙ (S.ensures.same.0 ∙ (T.same.0 ∙ c.requires.0)),
         may_size seat.member.number opened S.result.1 seat.member.seat.me.0 _
-            (tried seat.member.number _ _ opened _ _ S.result.1 _ _ _ _ h.3 T.same.1
-            S.ensures.answer (S.ensures.same.1 ∙ T.same.1) G.step refl) ∙ c.requires.1,
+            (tried seat.member.number _ _ opened _ _ S.result.1 _ _ _ _ h.3 refl T.same.1
+            S.ensures.answer (S.ensures.same.1 ∙ T.same.1) G.step refl refl) ∙ c.requires.1,
       ),
       G.same.1 ∙ (S.ensures.same.1 ∙ T.same.1),
     )
@@ -65,11 +65,12 @@ returns-clause-answer g c =
     let h = (c.take_sync.ensures.hit c.if-take_sync-ne0.false).0 in
     let T = c.take_sync.ensures in let S = c.sync_round-member in
     tried c.args.seat.member.number _ _ c.args.self.now.table.size.at_open _ _ S.result.1 _ _ _ _
-    h.3 T.same.1 S.ensures.answer (S.ensures.same.1 ∙ T.same.1) c.give_sync.ensures.step refl
+    h.3 refl T.same.1 S.ensures.answer (S.ensures.same.1 ∙ T.same.1) c.give_sync.ensures.step refl
+    refl
 
 pub returns-clause-reaches : goal.returns-clause-reaches
 returns-clause-reaches g c =
     let h = (c.take_sync.ensures.hit c.if-take_sync-ne0.false).0 in
     let w = c.args.seat.member.number in
     λ key F. c.sync_round-member.ensures.reaches key (found_on w [] _ _ Log key
-    (one_as w (TakeTurn w Sync) 1 _ _ _ refl h.3) F)
+    (one_as w (TakeTurn w Sync) 1 _ _ _ refl h.3 refl) F)
