@@ -23,8 +23,6 @@ mod shares;
 mod sharing;
 mod status;
 mod summary;
-#[cfg(test)]
-mod tests;
 mod words;
 
 pub use fault_line::FaultLine;

@@ -8,8 +8,6 @@ mod draining;
 mod logging;
 mod notes;
 mod rows;
-#[cfg(test)]
-mod tests;
 mod writing;
 
 pub use draining::drain;

@@ -65,7 +65,7 @@ mod NoteTakes
 mod Noted
 mod Numbering
 mod OnDisk
-mod OneDroppable
+pub mod OneDroppable
 mod OpensSince
 mod OpensWell
 mod OpenedAgain
@@ -90,10 +90,10 @@ mod ShownNotes
 mod Stays
 mod StoreBeside
 mod StoreDropped
-mod StoreFiles
+pub mod StoreFiles
 mod StoreFolds
 mod StoreImages
-mod StoreKept
+pub mod StoreKept
 mod StoreLetGo
 mod StorePuts
 mod StoreTaking

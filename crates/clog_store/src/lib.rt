@@ -33,8 +33,6 @@ mod sequences;
 mod store;
 mod table_log;
 mod taking_laws;
-#[cfg(test)]
-mod tests;
 mod written;
 
 pub use changing::{put_table, take_away};

@@ -23,8 +23,6 @@ mod opening;
 mod putting;
 mod syncing;
 mod telling;
-#[cfg(test)]
-mod tests;
 
 use crate::counted::Counted;
 use crate::note_log::NoteLog;

@@ -14,8 +14,6 @@ mod placing;
 mod planning;
 mod rows;
 mod syncing;
-#[cfg(test)]
-mod tests;
 mod worker;
 mod writing;
 

@@ -99,10 +99,12 @@ fn disks_read_now<D: Disk>(_store: &Store<D>)
 /// sizes say, each in a thread of its own where one can be started, and gives the disk back. Line
 /// `n`, from 1, is written by the writer of number `n` modulo their count, each writer's lines in
 /// order, and each writer has the log synced at the end; in batch mode behind each of its lines,
-/// before its next one, and in periodic mode behind each one at which the clock tells that the
-/// period has passed since its last sync. With `drain` a table file is put then for each table that one of them
-/// touches, and all segments go, each with its archive name first where the store archives. The
-/// receipts are in the order of the lines. The gate is told how far each commit is.
+/// before its next one, and in periodic mode behind each one at which the clock, in milliseconds,
+/// tells that the period has passed since its last sync.
+///
+/// With `drain` a table file is put then for each table that one of them touches, and all segments
+/// go, each with its archive name first where the store archives. The receipts are in the order of
+/// the lines. The gate is told how far each commit is.
 ///
 /// Whatever is answered, the disk's further changes are appends alone, which have brought segments,
 /// and no other names have come; with `drain` perhaps true table files and removals behind them, in

@@ -37,8 +37,6 @@ mod table_allowed;
 mod table_changes;
 mod table_files;
 mod table_steps;
-#[cfg(test)]
-mod tests;
 mod turn_allowed;
 mod turn_changes;
 

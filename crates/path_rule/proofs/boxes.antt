@@ -16,8 +16,10 @@ pub mod MemtablesStay
 pub mod MemtablePut
 pub mod OtherBoxes
 pub mod InItsBox
-pub mod Switching
+pub mod TurnHeld
 pub mod ReadsStay
+pub mod AboveBound
 pub mod MemtableReads
+pub mod MemtableTrimmed
 pub mod SeenInterval
 pub mod OneInHand

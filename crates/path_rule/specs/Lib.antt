@@ -11,6 +11,7 @@ pub mod Seen
 pub mod Finds
 pub mod Trails
 pub mod Rule
+pub mod Trimmed
 pub mod HandsAfter
 pub mod Turns
 pub mod Accepted

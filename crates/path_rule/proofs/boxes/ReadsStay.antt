@@ -1,5 +1,5 @@
 -- What a holder of a Flush turn has read of a memtable stays so while the machine goes on.
-use Rattle.std.proofs.Common.{◌≡◌, ℕ, ◌<◌, true, Some, sym, ◌∙◌, subst, arith}
+use Rattle.std.proofs.Common.{◌≡◌, ℕ, ◌<◌, true, Some, is_some, sym, ◌∙◌, subst, arith}
 use Rattle.std.specs.Prelude.{◌%◌}
 use mathlib.Core.Logic.{dite}
 use native.Mathlib.Decide.{dec_lt}
@@ -12,6 +12,7 @@ use Rattle.path_core.specs.Allowed.{IsStep}
 use Rattle.path_core.specs.Lawful.{IsLawfulPath, IsLawfulPlacing}
 use Rattle.path_core.specs.Next.{next_of}
 use Rattle.path_core.specs.Parts.{seat_of, seat_table, table_of, HasPassedBarrier}
+use Rattle.path_core.proofs.files.LastFile.{before_stays}
 use Rattle.path_core.proofs.log.OwnNotes.{notes_stay}
 use Rattle.path_core.proofs.orders.GroupsMove.{passed_stays}
 use Rattle.path_core.proofs.places.AtRest.{leaves_placed, none_runs}
@@ -19,7 +20,7 @@ use Rattle.path_core.proofs.places.Closing.{own_at}
 use Rattle.path_core.proofs.places.KeepsPlaces.{same_note}
 use Rattle.path_core.proofs.runs.EveryRun.{placing_of}
 use Rattle.path_rule.specs.declared.view.FlushRead.{FlushRead}
-use Rattle.path_rule.specs.Reads.{has_switched, placed_at, ReadsAre}
+use Rattle.path_rule.specs.Reads.{placed_at, ReadsAre}
 
 module _ (x : PathState) (L : IsLawfulPath x) (e : Event) (may : IsStep x e)
     (N : IsLawfulPath (next_of x e)) where
@@ -30,14 +31,16 @@ module _ (x : PathState) (L : IsLawfulPath x) (e : Event) (may : IsStep x e)
   Y = placing_of (next_of x e) N
 
   pub reads_on : (seats : ℕ) (p p' : Seat) (q : FlushRead) → ReadsAre seats x p q
-      → has_switched (seat_table p' q.table) ≡ true
+      → is_some (seat_table p' q.table).flush ≡ true
       → (table_of (next_of x e) q.table).oldest_live ≡ (table_of x q.table).oldest_live
       → ReadsAre seats (next_of x e) p' q
-  reads_on seats p p' q R switched live = record {
+  reads_on seats p p' q R held live = record {
     few = R.few;
-    switched = switched;
+    held = held;
     passed = passed_stays x L.orders e may q.table q.memtable R.passed;
     live = live ∙ R.live;
+    above = R.above ∙ sym (before_stays x Z e may q.table q.memtable
+        (let l = R.live in omega arith));
     next = R.next;
     sound = λ n h. let S = R.sound n h in
         (notes_stay x e n S.0, (leaves_placed x Z q.table q.memtable R.passed e n.end.0).1 S.1);

@@ -49,7 +49,7 @@ use Rattle.atomic_table.specs.Table.{
 }
 use Rattle.path_core.specs.declared.event.Event.{Event}
 use Rattle.path_core.specs.declared.event.Cursor.TheVariants.{OldestLive, Stopped, Synced}
-use Rattle.path_core.specs.declared.event.Event.TheVariants.{GiveTurn, Put, TakeTurn}
+use Rattle.path_core.specs.declared.event.Event.TheVariants.{GiveTurn, Put}
 use Rattle.path_core.specs.declared.event.Reading.{Reading}
 use Rattle.path_core.specs.declared.event.Turn.TheVariants.{Sync, Flush}
 use Rattle.path_core.specs.declared.note.EntryNote.{EntryNote}
@@ -61,7 +61,7 @@ use Rattle.path_core.specs.Frame.{left_by}
 use Rattle.path_core.specs.Keeper.{HasRisen}
 use Rattle.path_core.specs.Lawful.{IsLawfulPath}
 use Rattle.path_core.specs.Next.{next_of, placed_after, told_of}
-use Rattle.path_core.specs.Parts.{fresh_seat, is_empty, seat_of, seat_table, table_of}
+use Rattle.path_core.specs.Parts.{fresh_seat, seat_of, seat_table}
 use Rattle.path_core.specs.Runs.{Past}
 use Rattle.path_core.specs.SeatAfter.{Told, seat_after}
 use Rattle.path_core.specs.Whole.{CarriesWhole}
@@ -123,7 +123,7 @@ use Rattle.path_rule.proofs.boxes.MemtablesStay.{
   SameHeld,
 }
 use Rattle.path_rule.proofs.boxes.ReadsStay.{reads_on}
-use Rattle.path_rule.proofs.boxes.Switching.{LeavesSwitch, switch_stays, switched_held}
+use Rattle.path_rule.proofs.boxes.TurnHeld.{held_stays, LeavesTurn}
 use Rattle.path_rule.proofs.log.BuiltSteps.{still_risen, still_unfiled}
 use Rattle.path_rule.specs.Trails.{TrailTells, ViewTells}
 use Rattle.path_rule.proofs.log.KeptStays.{kept_stays}
@@ -137,7 +137,6 @@ use Rattle.path_rule.proofs.moves.LeavesWrites.{
   leaves_places,
   live_moves,
   live_still,
-  not_empty,
   note_left,
   placed_left,
   placed_stays,
@@ -194,17 +193,11 @@ module _ {K : Type 0} (shows : K → Lasting) (o : Beside) (size : PathSize) (s 
         (kept_before p live)
 
     -- and is where it was
-    pub placed_still : (t k entry : ℕ) → IsPlacedIn r.core.placed r.core.tables t k entry
-        → IsPlacedIn (next_of r.core e).placed (next_of r.core e).tables t k entry
+    pub placed_still : (t k entry : ℕ) → IsPlacedIn r.core.placed t k entry
+        → IsPlacedIn (next_of r.core e).placed t k entry
     placed_still t k entry P = record {
       memtable = P.memtable;
       parity = P.parity;
-      live = ⊎_elim (λ same. subst (λ (n : ℕ). n ≤ P.memtable) (sym same) P.live)
-          (λ up. let more = up.0 in let low = P.live in
-          dite (ℕ_discrete (table_of r.core t).oldest_live P.memtable)
-          (λ is. absurd (not_empty r.core t P.memtable entry P.among
-          (subst (λ (n : ℕ). is_empty r.core t n ≡ true) is up.1)))
-          (λ apart. omega arith)) (live_moves size.at_open r.core e may built t);
       among = placed_stays r.core e (record { table = t; entry = entry; memtable = P.memtable })
           P.among;
     }
@@ -216,7 +209,7 @@ module _ {K : Type 0} (shows : K → Lasting) (o : Beside) (size : PathSize) (s 
     RunsOn e v' = (z t k : ℕ) (n : EntryNote) → t < 16
         → Contains (r.memtables.contents (memtable_box size.seats z t k)) n
         → IsRunning s.views z n.end.0
-        → IsPlacedIn (next_of r.core e).placed (next_of r.core e).tables t k n.end.0
+        → IsPlacedIn (next_of r.core e).placed t k n.end.0
         ⊎ IsRunning (set s.views id v') z n.end.0
 
     pub known : (v.size ≡ size) × IsSeat r.core r.events r.owner r.made r.boss id w v.part v.trail
@@ -356,13 +349,14 @@ module _ {K : Type 0} (shows : K → Lasting) (o : Beside) (size : PathSize) (s 
       -- the boxes of memtables, where none of them moves
       pub memtables_then : (cs : List (ℕ × Slot K)) (a : Act (Slot K))
           → MovesBelow (boxes size.seats) cs a → h.memtable_box ≡ v.hands.memtable_box
-          → h.reading ≡ v.hands.reading → PutsAre r.memtables.contents size.seats w v'.part h
+          → h.reading ≡ v.hands.reading → h.applied ≡ v.hands.applied
+          → PutsAre r.memtables.contents size.seats w v'.part h
           → ((p : Placed) → Contains x'.placed p → IsKeptAt x'.tables p → LiesPlaced p)
           → RunsOn e v' → MemtablesThen cs a
-      memtables_then cs a below held read puts kept runs = memtables_stay size.seats r.core.notes
-          x'.notes r.core.placed x'.placed r.core.tables x'.tables s.homes s.views r.memtables id
+      memtables_then cs a below held read applied puts kept runs = memtables_stay size.seats
+          r.core.notes x'.notes r.core.placed x'.placed r.core.tables x'.tables s.homes s.views r.memtables id
           v v' at (notes_stay r.core e) (homes_after s.homes cs a)
-          (same_above (boxes size.seats) s.homes cs a below) held read
+          (same_above (boxes size.seats) s.homes cs a below) held read applied
           (subst (PutsAs r.memtables.contents size.seats v'.part h) (sym mine) puts) kept
           (λ z t k n few q. ⊎_elim (λ p. inl (placed_still e may built t k n.end.0 p))
           (λ R. runs z t k n few q R) (r.memtables.settled z t k n few q))
@@ -370,7 +364,7 @@ module _ {K : Type 0} (shows : K → Lasting) (o : Beside) (size : PathSize) (s 
       -- and the seat's write stays
       pub memtables_still : (cs : List (ℕ × Slot K)) (a : Act (Slot K)) → LeavesWrite e
           → SameHeld v.hands h → MovesBelow (boxes size.seats) cs a → MemtablesThen cs a
-      memtables_still cs a leaves held below = memtables_then cs a below held.0 held.3
+      memtables_still cs a leaves held below = memtables_then cs a below held.0 held.3 held.2
           (puts_stay r.memtables.contents size.seats w v.part v'.part v.hands h
           (columns_now.note ∙ note_left v.part.note e leaves)
           (columns_now.claim ∙ claim_left v.part.claim e leaves)
@@ -407,7 +401,7 @@ module _ {K : Type 0} (shows : K → Lasting) (o : Beside) (size : PathSize) (s 
               apart (sym mine'.1 ∙ (ap r.owner (core_lawful.orders.one_holder_a_turn.one (Flush t)
               z w (ap (λ (p : Seat). is_some (seat_table p t.0).flush) (sym mine'.2)
               ∙ (ap (λ (k : ℕ). is_some (seat_table u.part k).flush) (sym same)
-              ∙ switched_held u.part q.table R.switched))
+              ∙ R.held))
               (subst (λ (k : ℕ). is_some (seat_table (seat_of r.core k) t.0).flush ≡ true) is
               a.row.0)) ∙ known.1.1))
           leaves_live (Put y Synced value) a is apart there z role q R = tt
@@ -419,7 +413,7 @@ module _ {K : Type 0} (shows : K → Lasting) (o : Beside) (size : PathSize) (s 
           other apart there (Opener k) is R = R
           other apart there Spent is R = R
           other apart there (Steps z) is R = λ q has. reads_on r.core core_lawful e may next_lawful
-              size.seats u.part u.part q (R q has) (R q has).switched
+              size.seats u.part u.part q (R q has) (R q has).held
               (live_still r.core e may q.table (leaves_live e may by apart there z is q (R q has)))
 
       -- and that of the seat, where the step leaves it
@@ -427,8 +421,7 @@ module _ {K : Type 0} (shows : K → Lasting) (o : Beside) (size : PathSize) (s 
       reads_still leaves same = reads_then (λ q has. let before = sym same ∙ has in
           let R = reads_now q before in
           reads_on r.core core_lawful e may next_lawful size.seats v.part v'.part q R
-          (switch_stays e v.part (reading_at (place_of e) found) (told_by filed h) q.table
-          (leaves_switch e may by leaves q before) R.switched)
+          (held_stays e v.part v'.part columns_now q.table (leaves_turn e leaves q before) R.held)
           (live_still r.core e may q.table (leaves_live e leaves q)))
         where
           leaves_live : (d : Event) → LeavesReading v.hands d → (q : FlushRead)
@@ -438,14 +431,11 @@ module _ {K : Type 0} (shows : K → Lasting) (o : Beside) (size : PathSize) (s 
           leaves_live (Put y Stopped value) leaves q = tt
           leaves_live d leaves q = tt
 
-          leaves_switch : (d : Event) → IsStep r.core d → by_of d ≡ w → LeavesReading v.hands d
-              → (q : FlushRead) → v.hands.reading ≡ Some q → LeavesSwitch v.part q.table d
-          leaves_switch (GiveTurn by (Flush t)) may is leaves q has = leaves q has
-          leaves_switch (TakeTurn by (Flush t)) may is leaves q has =
-              ap (λ (p : Seat). is_some (seat_table p t.0).flush) part_is ∙ may.row.1 w
-          leaves_switch (TakeTurn by Sync) may is leaves q has = tt
-          leaves_switch (GiveTurn by Sync) may is leaves q has = tt
-          leaves_switch d may is leaves q has = tt
+          leaves_turn : (d : Event) → LeavesReading v.hands d → (q : FlushRead)
+              → v.hands.reading ≡ Some q → LeavesTurn q.table d
+          leaves_turn (GiveTurn by (Flush t)) leaves q has = leaves q has
+          leaves_turn (GiveTurn by Sync) leaves q has = tt
+          leaves_turn d leaves q has = tt
 
       -- with what the keeper may have kept up to a key, and what is in the boxes
       pub plays_all : (key : ℕ) → MayBeKept x' key → (cs : List (ℕ × Slot K)) (a : Act (Slot K))

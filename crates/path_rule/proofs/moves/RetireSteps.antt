@@ -38,7 +38,6 @@ use Rattle.path_rule.specs.Told.{MadeAs}
 use Rattle.path_rule.proofs.boxes.MemtableReads.{read_still, retabled}
 use Rattle.path_rule.proofs.boxes.OtherBoxes.{boxed_other}
 use Rattle.path_rule.proofs.boxes.SeenInterval.{all_seen}
-use Rattle.path_rule.proofs.boxes.Switching.{switched_held}
 use Rattle.path_rule.proofs.moves.Looks.{few_tables, within}
 use Rattle.path_rule.proofs.moves.Moving.{
   columns_now,
@@ -46,7 +45,6 @@ use Rattle.path_rule.proofs.moves.Moving.{
   kept_before,
   part_is,
   place_still,
-  placed_still,
   plays_with,
   reads_now,
   reads_then,
@@ -117,7 +115,7 @@ module _ {K : Type 0} (shows : K → Lasting) (o : Beside) (size : PathSize) (sl
           ap (λ (p : SeatOf). is_some (seat_table p t.0).flush)
               (sym (part_is shows o size s r id w m.0 there mine))
               ∙ (ap (λ (c : ℕ). is_some (seat_table m.0.part c).flush) (sym sees.2)
-              ∙ switched_held m.0.part q.table R.switched),
+              ∙ R.held),
           up ∙ ap suc (sym live),
           subst (λ (c : ℕ). HasPassedBarrier x t.0 c) (sym live) passed,
           inl empty,
@@ -142,8 +140,7 @@ module _ {K : Type 0} (shows : K → Lasting) (o : Beside) (size : PathSize) (sl
             None refl (λ z b is taken. absurd (none-some z is))
             (λ b Q. none-some b (sym (ap (λ (z : FlushRead). z.taken)
             (same_reading Q.0 q Q.1 sees.1) ∙ sees.4) ∙ Q.2)))
-            (kept_before shows o size s r e may empty)
-            (placed_still shows o size s r e may empty))
+            (kept_before shows o size s r e may empty))
             (reads_then shows o size s r id w m.0 there mine e refl may tt empty few rows f
             f false h refl told (λ z is. absurd (none-some z is))),
         λ z u role _ word. each_table_name shows o size slots id m w mine 10 t

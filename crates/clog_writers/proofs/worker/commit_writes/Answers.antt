@@ -1,4 +1,17 @@
-use Rattle.std.proofs.Common.{ℕ, List, length, reverse, Option, None, sym, ap, ◌∙◌, subst, refl, arith}
+use Rattle.std.proofs.Common.{
+  ℕ,
+  List,
+  length,
+  reverse,
+  Option,
+  None,
+  sym,
+  ap,
+  ◌∙◌,
+  subst,
+  refl,
+  arith,
+}
 use Rattle.std.specs.Prelude.{Contains}
 use Rattle.std.proofs.lemmas.List.{nil_from_length}
 use Rattle.std.proofs.lemmas.Option.{none-some}

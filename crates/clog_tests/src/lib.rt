@@ -1,0 +1,12 @@
+//! Tests of the engine and of the crates right below it, through their public calls. They stand in a
+//! crate of their own, since a crate that has tests is proved a second time with them.
+#![tactic(auto)]
+
+#[cfg(test)]
+mod engine;
+#[cfg(test)]
+mod lines;
+#[cfg(test)]
+mod payloads;
+#[cfg(test)]
+mod writers;
