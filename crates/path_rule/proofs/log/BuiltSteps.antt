@@ -1,6 +1,6 @@
--- What each built step keeps: no memtable with entries is retired, and a stopped log tells a count of faults
--- that has risen.
-use Rattle.std.proofs.Common.{◌≡◌, ℕ, ◌<◌, Bool, [], ◌∷◌, ap, ◌∙◌}
+-- What each built step keeps: no memtable with entries is retired, so the files stay, and a stopped
+-- log tells a count of faults that has risen.
+use Rattle.std.proofs.Common.{◌≡◌, ℕ, ◌<◌, Bool, [], ◌∷◌, refl, ap}
 use Rattle.std.specs.Prelude.{◌++◌, if◌then◌else◌}
 use Rattle.path_core.specs.declared.event.Cursor.TheVariants.{Synced, OldestLive, Stopped}
 use Rattle.path_core.specs.declared.event.Event.{Event}
@@ -19,14 +19,14 @@ module _ (opened : ℕ) (x : PathState) where
   still_risen (Put by (OldestLive t) value) built old above = old above
   still_risen e built old above = old above
 
-  pub still_unfiled : (e : Event) → IsBuilt opened x e → x.files ≡ [] → (next_of x e).files ≡ []
-  still_unfiled (Put by (OldestLive t) value) built is =
+  pub same_files : (e : Event) → IsBuilt opened x e → (next_of x e).files ≡ x.files
+  same_files (Put by (OldestLive t) value) built =
       ap (λ (b : Bool). if b then x.files else x.files ++ record {
         table = t.0;
         memtable = (table_of x t.0).oldest_live;
         lower = last_upper x.files t.0;
         upper = key_of_bound (memtable_of x t.0 (table_of x t.0).oldest_live).bound;
-      } ∷ []) built ∙ is
-  still_unfiled (Put by Synced value) built is = is
-  still_unfiled (Put by Stopped value) built is = is
-  still_unfiled e built is = is
+      } ∷ []) built
+  same_files (Put by Synced value) built = refl
+  same_files (Put by Stopped value) built = refl
+  same_files e built = refl

@@ -185,7 +185,7 @@ module _ {K : Type 0} (shows : K → Lasting) (o : Beside) (size : PathSize) (sl
         → seat_after m.0.part e (reading_at (place_of e) found) (told_by false m.0.hands)
         ≡ seat_after m.0.part e (reading x (place_of e)) (told_of x e)
         → (Columns e m.0.part (view_after m.0 e found false).part
-        → Boxed shows size.seats (next_of x e).notes (shown o size.at_open r.kept_to (next_of x e))
+        → Boxed shows size.seats (next_of x e).notes (shown o size.at_open r.kept_to r.filed r.dropped (next_of x e))
         (next_of x
         e).claims
         (next_of x e).append s.homes (set s.views id (view_after m.0 e found false)))
@@ -221,7 +221,7 @@ module _ {K : Type 0} (shows : K → Lasting) (o : Beside) (size : PathSize) (sl
         → seat_after m.0.part e (reading_at (place_of e) found) (told_by false m.0.hands)
         ≡ seat_after m.0.part e (reading x (place_of e)) (told_of x e)
         → (Columns e m.0.part (view_after m.0 e found false).part
-        → Boxed shows size.seats (next_of x e).notes (shown o size.at_open r.kept_to (next_of x e))
+        → Boxed shows size.seats (next_of x e).notes (shown o size.at_open r.kept_to r.filed r.dropped (next_of x e))
         (next_of x
         e).claims
         (next_of x e).append s.homes (set s.views id (view_after m.0 e found false)))
@@ -259,7 +259,7 @@ module _ {K : Type 0} (shows : K → Lasting) (o : Beside) (size : PathSize) (sl
         (ap (λ k. seat_after m.0.part (Look w at) k (told_by false m.0.hands))
         (ap (reading_at at) found ∙ read_back x L at))
         (λ C. boxed_stay shows size.seats x.notes
-        (shown o size.at_open r.kept_to x) x.claims x.claims x.append x.append s.homes s.views
+        (shown o size.at_open r.kept_to r.filed r.dropped x) x.claims x.claims x.append x.append s.homes s.views
         r.boxed
         id w m.0
         (view_after m.0 (Look w at) n false) there mine refl refl refl

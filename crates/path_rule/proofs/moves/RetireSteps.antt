@@ -132,7 +132,7 @@ module _ {K : Type 0} (shows : K → Lasting) (o : Beside) (size : PathSize) (sl
         tt,
         plays_with shows o size s r id w m.0 there mine e refl may tt empty few rows f
             f false h refl told m.1 keeps
-            (boxed_other shows size.seats x.notes (shown o size.at_open r.kept_to x) x.claims
+            (boxed_other shows size.seats x.notes (shown o size.at_open r.kept_to r.filed r.dropped x) x.claims
             x.append s.homes s.views r.boxed id m.0 v' there refl s.homes (λ b l. refl) C.append
             C.issue m.0.hands.memtable_box m.0.hands.held m.0.hands.applied None refl)
             (retabled size.seats x.notes x.placed x.tables (next_of x e).tables s.homes _
