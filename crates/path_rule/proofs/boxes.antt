@@ -19,6 +19,8 @@ pub mod OtherBoxes
 pub mod InItsBox
 pub mod Switching
 pub mod ReadsStay
+pub mod AboveBound
 pub mod MemtableReads
+pub mod MemtableTrimmed
 pub mod SeenInterval
 pub mod OneInHand

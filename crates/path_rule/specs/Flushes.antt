@@ -1,11 +1,13 @@
 -- The holder of a table's Flush turn reads what lies in the boxes of a memtable behind its barrier.
-use Rattle.std.specs.Prelude.{◌≡◌, ℕ, ◌+◌, ◌*◌, ◌<◌, List, [], ◌∷◌, Some, None}
+use Rattle.std.specs.Prelude.{◌≡◌, ℕ, zero, suc, ◌+◌, ◌*◌, ◌<◌, List, [], ◌∷◌, Some, None}
 use Rattle.atomic_table.specs.Table.{Me, Step, rest}
 use Rattle.clog_base.specs.declared.cell.Table.{Table}
 use Rattle.path_core.specs.declared.event.Cursor.TheVariants.{OldestLive}
 use Rattle.path_core.specs.declared.event.Event.TheVariants.{Look, Put}
-use Rattle.path_core.specs.declared.event.Place.TheVariants.{Newest}
+use Rattle.path_core.specs.declared.event.Place.{Place}
+use Rattle.path_core.specs.declared.event.Place.TheVariants.{Bound, Newest}
 use Rattle.path_core.specs.declared.note.EntryNote.{EntryNote}
+use Rattle.path_core.specs.declared.state.Bound.TheVariants.{Final}
 use Rattle.path_rule.specs.declared.slot.Slot.{Slot}
 use Rattle.path_rule.specs.declared.view.FlushRead.{FlushRead}
 use Rattle.path_rule.specs.declared.view.Hands.{Hands}
@@ -13,8 +15,18 @@ use Rattle.path_rule.specs.declared.view.Role.TheVariants.{Steps}
 use Rattle.path_rule.specs.declared.view.View.{View}
 use Rattle.path_rule.specs.Boxes.{memtable_box, NotesAre}
 use Rattle.path_rule.specs.HandsAfter.{box_read, box_seen, first_read, with_reading}
-use Rattle.path_rule.specs.Switches.{FlushOldest}
+use Rattle.path_rule.specs.Layout.{bound_word}
 use Rattle.path_rule.specs.Told.{MadeAs}
+
+-- Where a reader looks up the key above which the interval of a memtable begins: the bound of the
+-- memtable below, where there is one. That is final at the key.
+abbrev pub place_below : Table → ℕ → Place
+place_below t zero = Newest t
+place_below t (suc k) = Bound t k
+
+abbrev pub BeginsAbove : ℕ → ℕ → ℕ → Type 0
+BeginsAbove zero found above = above ≡ 0
+BeginsAbove (suc k) found above = found ≡ bound_word (Final (record { 0 = above }))
 
 -- it has no box in hand to read it
 abbrev pub TakesNone : Hands → Type 0
@@ -38,11 +50,21 @@ module _ {K : Type 0} where
   abbrev pub TookRead : ℕ → List EntryNote → Me (Slot K) View → Me (Slot K) View → Type 0
   TookRead b held m m' = (y : Slot K) × (m'.1 ≡ (b, y) ∷ m.1) × NotesAre y held
 
-  -- At a look at the newest memtable of a table the least that is not retired is read from now on.
-  abbrev pub ReadBegun : Step (Slot K) → Me (Slot K) View → ℕ → Me (Slot K) View → Type 0
-  ReadBegun st m n m' = (w k : ℕ) (t : Table) → m.0.role ≡ Steps w → t.0 < 16
-      → st.word ≡ 8 + 4 * t.0 → FlushOldest t.0 m.0.part k
-      → MadeAs w (Look w (Newest t)) n (with_reading (Some (first_read t.0 k)) m.0.hands) m.0 m'.0
+  -- At a look at the newest memtable of a table its first one is read from now on.
+  abbrev pub FirstBegun : Step (Slot K) → Me (Slot K) View → ℕ → Me (Slot K) View → Type 0
+  FirstBegun st m n m' = (w : ℕ) (t : Table) → m.0.role ≡ Steps w → t.0 < 16
+      → st.word ≡ 8 + 4 * t.0
+      → MadeAs w (Look w (Newest t)) n (with_reading (Some (first_read t.0 0 0)) m.0.hands) m.0 m'.0
+      × (m'.1 ≡ m.1)
+
+  -- At a look at the bound of a memtable that is retired, which is final at a key, the next one is
+  -- read from now on: its interval begins above that key.
+  abbrev pub NextBegun : Step (Slot K) → Me (Slot K) View → ℕ → Me (Slot K) View → Type 0
+  NextBegun st m n m' = (w k : ℕ) (t : Table) → m.0.role ≡ Steps w → t.0 < 16
+      → st.word ≡ 131144 + 16 * k + t.0
+      → (above : ℕ) × (n ≡ bound_word (Final (record { 0 = above })))
+      × MadeAs w (Look w (Bound t k)) n
+      (with_reading (Some (first_read t.0 (suc k) above)) m.0.hands) m.0 m'.0
       × (m'.1 ≡ m.1)
 
   -- no memtable is read any more
@@ -59,7 +81,7 @@ module _ {K : Type 0} where
       (with_reading (Some (box_read (next_box m.0.size.seats q) held q)) m.0.hands) m.0 m'.0
       × TookRead (next_box m.0.size.seats q) held m m'
 
-  -- it went home as it was, and what lies in it was seen
+  -- it went home, trimmed or as it was, and what it held of the memtable was seen
   abbrev pub ReadGiven : Step (Slot K) → Me (Slot K) View → ℕ → Me (Slot K) View → Type 0
   ReadGiven st m n m' = (w : ℕ) (t : Table) (q : FlushRead) → m.0.role ≡ Steps w → t.0 < 16
       → st.word ≡ 8 + 4 * t.0 → m.0.hands.reading ≡ Some q

@@ -14,6 +14,7 @@ use Rattle.std.specs.Prelude.{
   Some,
   None,
 }
+use Rattle.std.specs.List.{filter}
 use Rattle.std.specs.Option.{option_map}
 use Rattle.path_core.specs.declared.note.EntryNote.{EntryNote}
 use Rattle.path_core.specs.declared.seat.LastMarker.{LastMarker}
@@ -22,6 +23,7 @@ use Rattle.path_rule.specs.declared.lasting.Lasting.{Lasting}
 use Rattle.path_rule.specs.declared.view.FlushRead.{FlushRead}
 use Rattle.path_rule.specs.declared.view.Hands.{Hands}
 use Rattle.path_rule.specs.declared.view.Progress.{Progress}
+use Rattle.path_rule.specs.Trimmed.{ends_above}
 
 -- these notes are in its own box
 abbrev pub with_notes : List EntryNote → Hands → Hands
@@ -87,25 +89,26 @@ with_applied a h = record h { memtable_box = None; held = []; applied = a ∷ h.
 abbrev pub with_reading : Option FlushRead → Hands → Hands
 with_reading q h = record h { reading = q }
 
--- nothing of the memtable is read yet
-abbrev pub first_read : ℕ → ℕ → FlushRead
-first_read t m = record {
+-- nothing of the memtable is read yet, whose interval begins above a key
+abbrev pub first_read : ℕ → ℕ → ℕ → FlushRead
+first_read t m above = record {
   table = t;
   memtable = m;
   seen = [];
   seen_to = 0;
   taken = None;
   held = [];
+  above = above;
 }
 
 -- the box of the next seat was taken, with these notes in it
 abbrev pub box_read : ℕ → List EntryNote → FlushRead → FlushRead
 box_read b held q = record q { taken = Some b; held = held }
 
--- it is at home again, and what it held was seen
+-- it is at home again, and what it held of the memtable was seen
 abbrev pub box_seen : FlushRead → FlushRead
 box_seen q = record q {
-  seen = q.seen ++ q.held;
+  seen = q.seen ++ filter (ends_above q.above) q.held;
   seen_to = suc q.seen_to;
   taken = None;
   held = [];

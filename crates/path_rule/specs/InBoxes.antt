@@ -50,8 +50,8 @@ pub record HasPlaceNow (x : PathState) (w t m entry : ℕ) : Type 0 where
   pub parity : memtable % 2 ≡ m % 2
   pub place : (seat_table (seat_of x w) t).place ≡ Some memtable
 
--- A note of seat w that touches the table was placed there in a memtable of this parity that is not
--- retired, or the seat runs its write, which has its place in one of this parity.
+-- A note of seat w that touches the table was placed there in a memtable of this parity, retired or
+-- not, or the seat runs its write, which has its place in one of this parity.
 pub record BelongsThere (x : PathState) (w t m : ℕ) (n : EntryNote) : Type 0 where
   pub of : IsOfBox x.notes w t n
-  pub put : IsPlacedIn x.placed x.tables t m n.end.0 ⊎ HasPlaceNow x w t m n.end.0
+  pub put : IsPlacedIn x.placed t m n.end.0 ⊎ HasPlaceNow x w t m n.end.0

@@ -12,6 +12,7 @@ pub mod Filing
 pub mod Finds
 pub mod Trails
 pub mod Rule
+pub mod Trimmed
 pub mod HandsAfter
 pub mod Turns
 pub mod Accepted

@@ -66,6 +66,10 @@ pub record HasPut (h : Hands) (t m entry : ℕ) : Type 0 where
   pub parity : put.memtable % 2 ≡ m % 2
   pub ends : put.entry ≡ entry
 
+-- What the seat put into boxes of memtables are notes.
+abbrev pub PutNotes : List EntryNote → Hands → Type 0
+PutNotes notes h = (a : Placed) → Contains h.applied a → LiesAmong notes a.entry
+
 -- What seat w knows of its boxes of memtables is so.
 pub record PutsAre (contents : ℕ → List EntryNote) (seats w : ℕ) (p : Seat) (h : Hands)
     : Type 0 where
@@ -74,9 +78,11 @@ pub record PutsAre (contents : ℕ → List EntryNote) (seats w : ℕ) (p : Seat
       × (h.held ≡ contents b)
   -- it has one in hand only while its write is deposited
   pub rests : p.note ≡ None → h.memtable_box ≡ None
-  -- what it put lies in the box of its place, of one of sixteen tables
+  -- what it put is of one of sixteen tables, and that of its running write lies in the box of its
+  -- place
   pub tables : (a : Placed) → Contains h.applied a → a.table < 16
-  pub applied : (a : Placed) → Contains h.applied a
+  pub applied : (a : Placed) (r : Range) → Contains h.applied a → p.claim ≡ Some r
+      → a.entry ≡ r.end
       → LiesAmong (contents (memtable_box seats w a.table a.memtable)) a.entry
   -- what lies there of its running write is what it put
   pub running : (r : Range) (t m : ℕ) → p.claim ≡ Some r → t < 16
@@ -110,12 +116,10 @@ pub record IsPut (contents : ℕ → List EntryNote) (seats : ℕ) (p : Placed) 
 abbrev pub IsKeptAt : List TableState → Placed → Type 0
 IsKeptAt tables p = (get_or tables p.table fresh_table).oldest_live ≤ p.memtable
 
--- The entry of a position was placed in a memtable of this parity that is not retired.
-pub record IsPlacedIn (placed : List Placed) (tables : List TableState) (t m entry : ℕ)
-    : Type 0 where
+-- The entry of a position was placed in a memtable of this parity.
+pub record IsPlacedIn (placed : List Placed) (t m entry : ℕ) : Type 0 where
   pub memtable : ℕ
   pub parity : memtable % 2 ≡ m % 2
-  pub live : (get_or tables t fresh_table).oldest_live ≤ memtable
   pub among : Contains placed (record { table = t; entry = entry; memtable = memtable })
 
 -- Seat w runs the write of an entry.
@@ -145,9 +149,11 @@ pub record HasMemtables {K : Type 0} (seats : ℕ) (notes : List EntryNote) (pla
   -- what lies in a box belongs there
   pub sound : (w t m : ℕ) (n : EntryNote) → t < 16
       → Contains (contents (memtable_box seats w t m)) n → IsOfBox notes w t n
-  -- it was placed there, or is of the seat's running write
+  -- it was placed in a memtable of this parity, or is of the seat's running write
   pub settled : (w t m : ℕ) (n : EntryNote) → t < 16
       → Contains (contents (memtable_box seats w t m)) n
-      → IsPlacedIn placed tables t m n.end.0 ⊎ IsRunning views w n.end.0
+      → IsPlacedIn placed t m n.end.0 ⊎ IsRunning views w n.end.0
   -- and lies there once
   pub once : (k b : ℕ) → count_by (is_note_at k) (contents b) ≤ 1
+  -- what a seat put into them are notes, also of writes that are closed
+  pub noted : (j : ℕ) (v : View) → get_elem? views j ≡ some v → PutNotes notes v.hands

@@ -1,5 +1,6 @@
 -- What the holder of a table's Flush turn has read of a memtable whose barrier is passed. It takes
--- the boxes of all seats one by one, looks at what is in them, and gives each back as it was.
+-- the boxes of all seats one by one, looks at what is in them, and gives each back. What a retired
+-- memtable left there may be gone then.
 use Rattle.std.specs.Prelude.{◌≡◌, ℕ, ◌<◌, Bool, true, false, Some, None, IsTrue}
 use Rattle.std.specs.List.{Contains}
 use Rattle.std.specs.Option.{option_map_or}
@@ -17,6 +18,7 @@ use Rattle.path_core.specs.declared.seat.Switching.TheVariants.{
 }
 use Rattle.path_core.specs.declared.state.PathState.{PathState}
 use Rattle.path_core.specs.declared.state.Placed.{Placed}
+use Rattle.path_core.specs.History.{bound_before}
 use Rattle.path_core.specs.Parts.{seat_table, table_of, HasPassedBarrier}
 use Rattle.path_rule.specs.declared.view.FlushRead.{FlushRead}
 use Rattle.path_rule.specs.declared.view.Hands.{Hands}
@@ -46,6 +48,7 @@ pub record ReadsAre (seats : ℕ) (x : PathState) (p : Seat) (q : FlushRead) : T
   pub switched : IsTrue (has_switched (seat_table p q.table))
   pub passed : HasPassedBarrier x q.table q.memtable
   pub live : (table_of x q.table).oldest_live ≡ q.memtable
+  pub above : q.above ≡ bound_before x q.table q.memtable
   -- the box in hand is that of the next seat
   pub next : (b : ℕ) → q.taken ≡ Some b
       → (b ≡ memtable_box seats q.seen_to q.table q.memtable) × (q.seen_to < seats)

@@ -4,15 +4,26 @@ use crate::view::View;
 use atomic_table::Play;
 use std::marker::PhantomData;
 
-/// A memtable is read from now on.
-pub(crate) struct BeginRead<K> {
+/// The first memtable of a table is read from now on.
+pub(crate) struct BeginFirst<K> {
     keeper: PhantomData<K>,
 }
 
-impl<K> Play<Slot<K>, View> for BeginRead<K> {
-    ghost use Rattle.path_rule.specs.Flushes.{ReadBegun};
+impl<K> Play<Slot<K>, View> for BeginFirst<K> {
+    ghost use Rattle.path_rule.specs.Flushes.{FirstBegun};
 
-    ghost then = { ReadBegun };
+    ghost then = { FirstBegun };
+}
+
+/// The memtable behind a retired one is.
+pub(crate) struct BeginNext<K> {
+    keeper: PhantomData<K>,
+}
+
+impl<K> Play<Slot<K>, View> for BeginNext<K> {
+    ghost use Rattle.path_rule.specs.Flushes.{NextBegun};
+
+    ghost then = { NextBegun };
 }
 
 /// The box of the next seat is taken.
@@ -26,7 +37,7 @@ impl<K> Play<Slot<K>, View> for TakeRead<K> {
     ghost then = { ReadTaken };
 }
 
-/// It is given back as it was.
+/// It is given back, without what a retired memtable left there.
 pub(crate) struct GiveRead<K> {
     keeper: PhantomData<K>,
 }

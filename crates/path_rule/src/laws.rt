@@ -153,8 +153,8 @@ pub fn what_was_seen_is_the_memtables_interval<K: Keeper>()
 {}
 
 /// What lies in a box of a memtable at home is a note of the box's seat that touches the table. It
-/// was placed there in a memtable of this parity that is not retired, or its write runs still and
-/// has its place in one of this parity.
+/// was placed there in a memtable of this parity, retired or not, or its write runs still and has
+/// its place in one of this parity.
 pub fn what_lies_in_memtables_was_placed<K: Keeper>()
     ensures { (o : Beside) (size : PathSize) (s : State (Slot K) View)
         (r : Ruled (shows_of K.holds) o size s) (w t m : ℕ) (y : Slot K)

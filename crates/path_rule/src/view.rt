@@ -87,6 +87,9 @@ pub struct FlushRead {
     pub taken: Option<u64>,
     /// What that one held when it was taken.
     pub held: LinkedList<EntryNote>,
+    /// The final bound of the memtable below, 0 for the first one: what ends at or below it was
+    /// left in these boxes by a retired memtable.
+    pub above: u64,
 }
 
 /// What a seat knows of the boxes that it has.

@@ -63,12 +63,19 @@ use Rattle.path_rule.specs.Memtables.{
   IsPlacedIn,
   IsRunning,
   LiesAmong,
+  PutNotes,
   PutsAre,
   PutsAs,
   ReadsBox,
 }
 use Rattle.path_rule.proofs.boxes.AtHome.{inside_list}
-use Rattle.path_rule.proofs.boxes.MemtablesStay.{all_hands, old_home, runs_still, PlacesStay}
+use Rattle.path_rule.proofs.boxes.MemtablesStay.{
+  all_hands,
+  all_noted,
+  old_home,
+  runs_still,
+  PlacesStay,
+}
 use Rattle.path_rule.proofs.boxes.PutAt.{put, put_here, put_else}
 
 the_one : {A : Type 0} (a b : A) → Contains (a ∷ []) b → a ≡ b
@@ -164,11 +171,11 @@ module _ {K : Type 0} (seats : ℕ) (notes : List EntryNote) (placed : List Plac
         tables = λ a e. ⊎_elim
             (λ (is : new ≡ a). subst (λ (q : Placed). q.table < 16) is few)
             (λ was. old.tables a was) (first_or_later new a v.hands.applied e);
-        applied = λ a e. ⊎_elim
+        applied = λ a r e c ends. ⊎_elim
             (λ (is : new ≡ a). subst (λ (q : Placed).
             LiesAmong (contents' (memtable_box seats w q.table q.memtable)) q.entry) is lies_here)
             (λ was. lies_still (memtable_box seats w a.table a.memtable) a.entry
-            (old.applied a was))
+            (old.applied a r was (sym claim ∙ c) ends))
             (first_or_later new a v.hands.applied e);
         running = λ r u m e small there. cases (memtable_box seats w u m) there.0 there.1
             (HasPut (with_applied new v.hands) u m r.end)
@@ -212,8 +219,8 @@ module _ {K : Type 0} (seats : ℕ) (notes : List EntryNote) (placed : List Plac
         );
         rests = P.rests;
         tables = P.tables;
-        applied = λ a h. lies_still (memtable_box seats z a.table a.memtable) a.entry
-            (P.applied a h);
+        applied = λ a r h c ends. lies_still (memtable_box seats z a.table a.memtable) a.entry
+            (P.applied a r h c ends);
         running = λ r u m h small there. P.running r u m h small (cases
             (memtable_box seats z u m) there.0 there.1
             (LiesAmong (M.contents (memtable_box seats z u m)) r.end)
@@ -236,9 +243,9 @@ module _ {K : Type 0} (seats : ℕ) (notes : List EntryNote) (placed : List Plac
 
   settled_then : (z u m : ℕ) (n : EntryNote) → u < 16
       → Contains (contents' (memtable_box seats z u m)) n
-      → IsPlacedIn placed tables u m n.end.0 ⊎ IsRunning (set views id v') z n.end.0
+      → IsPlacedIn placed u m n.end.0 ⊎ IsRunning (set views id v') z n.end.0
   settled_then z u m n small h = cases (memtable_box seats z u m) n h
-      (IsPlacedIn placed tables u m n.end.0 ⊎ IsRunning (set views id v') z n.end.0)
+      (IsPlacedIn placed u m n.end.0 ⊎ IsRunning (set views id v') z n.end.0)
       (λ was. ⊎_elim (λ p. inl p)
       (λ R. inr (runs_still views id v v' at role claim z n.end.0 R)) (M.settled z u m n small was))
       (λ same is. let q : memtable_box seats z u m ≡ memtable_box seats w t k = same in
@@ -272,6 +279,12 @@ module _ {K : Type 0} (seats : ℕ) (notes : List EntryNote) (placed : List Plac
           (λ apart. let zero = ap (λ b. cond {A = ℕ} b 1 0)
           (ne_eqb note.end.0 key (λ e. apart (sym e))) in omega arith)
 
+  put_noted : PutNotes notes v'.hands
+  put_noted a h = ⊎_elim
+      (λ (is : new ≡ a). (note, belongs.among, ap (λ (q : Placed). q.entry) is))
+      (λ was. M.noted id v at a was)
+      (first_or_later new a v.hands.applied (subst (λ (k : Hands). Contains k.applied a) hands h))
+
   pub memtable_given :
       HasMemtables seats notes placed tables
       (set homes box (some (Notes (v.hands.held ++ note ∷ [])))) (set views id v')
@@ -302,4 +315,6 @@ module _ {K : Type 0} (seats : ℕ) (notes : List EntryNote) (placed : List Plac
     sound = sound_then;
     settled = settled_then;
     once = once_then;
+    noted = all_noted seats notes notes placed placed tables tables homes views M id v v' at
+        (λ n q. q) put_noted;
   }

@@ -1,10 +1,8 @@
 -- The boxes of memtables under a step by which a holder of a Flush turn reads one.
-use Rattle.std.proofs.Common.{◌≡◌, ◌≢◌, ℕ, ◌<◌, ◌≤◌, List, Option, set, Some, refl, sym, ap, ◌∙◌, subst, ⊎_elim, length}
-use Rattle.std.proofs.lemmas.Option.{same_Some}
-use mathlib.Core.Logic.{dite, inl, inr}
+use Rattle.std.proofs.Common.{◌≡◌, ◌≢◌, ℕ, ◌<◌, ◌≤◌, List, Option, set, Some, refl, sym, ap, ◌∙◌, subst, ⊎_elim}
+use mathlib.Core.Logic.{inl, inr}
 use mathlib.Core.Option.{some, none}
 use mathlib.Core.Option as maybe
-use native.Mathlib.Decide.{ℕ_discrete}
 use lib.ListN.{get_elem?}
 use Rattle.atomic_table.proofs.Lists.{set_here, set_else}
 use Rattle.path_core.specs.declared.note.EntryNote.{EntryNote}
@@ -21,7 +19,7 @@ use Rattle.path_rule.specs.Memtables.{
   HasMemtables,
   IsHome,
   IsKeptAt,
-  IsPlacedIn,
+  PutNotes,
   PutsAre,
   PutsAs,
   ReadsBox,
@@ -29,9 +27,11 @@ use Rattle.path_rule.specs.Memtables.{
 use Rattle.path_rule.proofs.boxes.AtHome.{inside_list}
 use Rattle.path_rule.proofs.boxes.MemtablesStay.{
   all_hands,
+  all_noted,
   old_home,
   puts_stay,
   runs_still,
+  same_noted,
   PlacesStay,
 }
 
@@ -46,7 +46,7 @@ module _ {K : Type 0} (seats : ℕ) (notes : List EntryNote) (placed : List Plac
   old : PutsAre M.contents seats w v.part v.hands
   old = subst (PutsAs M.contents seats v.part v.hands) mine (M.in_hands id v at)
 
-  own : PutsAs M.contents seats v'.part v'.hands v'.role
+  pub own : PutsAs M.contents seats v'.part v'.hands v'.role
   own = let P = puts_stay M.contents seats w v.part v'.part v.hands v.hands note claim places
       (refl, refl, refl, refl) old in
       subst (PutsAs M.contents seats v'.part v'.hands) (sym (role ∙ mine))
@@ -66,6 +66,13 @@ module _ {K : Type 0} (seats : ℕ) (notes : List EntryNote) (placed : List Plac
         reads = knows;
       }))
 
+  -- what seats put into boxes are notes still
+  pub noted_then : (j : ℕ) (u : View) → get_elem? (set views id v') j ≡ some u
+      → PutNotes notes u.hands
+  noted_then = all_noted seats notes notes placed placed tables tables homes views M id v v' at
+      (λ n h. h) (same_noted seats notes notes placed placed tables tables homes views M id v v' at
+      (λ n h. h) (ap (λ (h : Hands). h.applied) hands))
+
   -- whatever was at home, where each box that was in hand still is or is at home since
   moved : (homes' : List (maybe.Option (Slot K)))
       → ((b : ℕ) → boxes seats ≤ b → b < all_boxes seats → IsHome (set views id v') b
@@ -81,13 +88,14 @@ module _ {K : Type 0} (seats : ℕ) (notes : List EntryNote) (placed : List Plac
     settled = λ z t m n few h. ⊎_elim (λ p. inl p)
         (λ R. inr (runs_still views id v v' at role claim z n.end.0 R)) (M.settled z t m n few h);
     once = M.once;
+    noted = noted_then;
   }
 
   box_same : v'.hands.memtable_box ≡ v.hands.memtable_box
   box_same = ap (λ (h : Hands). h.memtable_box) hands
 
   -- at home before, but for a box that it read
-  home_before : (b : ℕ) → ¬ ReadsBox v.hands b → IsHome (set views id v') b → IsHome views b
+  pub home_before : (b : ℕ) → ¬ ReadsBox v.hands b → IsHome (set views id v') b → IsHome views b
   home_before b unread free = old_home seats notes notes placed placed tables tables homes views M
       id v v' at (λ n h. h) b
       (λ h. ⊎_elim (λ e. inl (box_same ∙ e)) (λ R. absurd (unread R)) h) free
@@ -112,35 +120,19 @@ module _ {K : Type 0} (seats : ℕ) (notes : List EntryNote) (placed : List Plac
       let h = M.at_home b low high (home_before b (unread b) free) in
       (h.0, set_else homes box b none apart ∙ h.1, h.2))
 
-  -- It gives it back.
-  pub read_given : (box : ℕ) (z : FlushRead) (y : Slot K) → v.hands.reading ≡ Some z
-      → z.taken ≡ Some box → NotesAre y z.held → box < length homes
-      → HasMemtables seats notes placed tables (set homes box (some y)) (set views id v')
-  read_given box z y is taken kept inside = moved (set homes box (some y))
-      (λ b low high free. dite (ℕ_discrete b box)
-      (λ same. (
-        y,
-        ap (get_elem? (set homes box (some y))) same ∙ set_here homes box (some y) inside,
-        subst (NotesAre y) (old.reads z box is taken ∙ ap M.contents (sym same)) kept,
-      ))
-      (λ apart. let h = M.at_home b low high (home_before b (λ R. apart (sym (same_Some box b
-      (sym taken ∙ (ap (λ (k : FlushRead). k.taken) (same_Some z R.0 (sym is ∙ R.1)) ∙ R.2)))))
-      free) in (h.0, set_else homes box b (some y) apart ∙ h.1, h.2)))
-
--- The same boxes, where memtables were retired in which nothing was placed.
+-- The same boxes, where memtables were retired.
 pub retabled : {K : Type 0} (seats : ℕ) (notes : List EntryNote) (placed : List Placed)
     (tables next : List TableState) (homes : List (maybe.Option (Slot K))) (views : List View)
     → HasMemtables seats notes placed tables homes views
     → ((p : Placed) → IsKeptAt next p → IsKeptAt tables p)
-    → ((t k entry : ℕ) → IsPlacedIn placed tables t k entry → IsPlacedIn placed next t k entry)
     → HasMemtables seats notes placed next homes views
-retabled seats notes placed tables next homes views M kept still = record {
+retabled seats notes placed tables next homes views M kept = record {
   contents = M.contents;
   at_home = M.at_home;
   in_hands = M.in_hands;
   kept = λ p h live. M.kept p h (kept p live);
   sound = M.sound;
-  settled = λ z t k n few h. ⊎_elim (λ p. inl (still t k n.end.0 p)) (λ R. inr R)
-      (M.settled z t k n few h);
+  settled = M.settled;
   once = M.once;
+  noted = M.noted;
 }

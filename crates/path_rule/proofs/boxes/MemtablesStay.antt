@@ -46,6 +46,7 @@ use Rattle.path_rule.specs.Memtables.{
   IsPut,
   IsRunning,
   LiesAmong,
+  PutNotes,
   PutsAre,
   PutsAs,
 }
@@ -89,7 +90,7 @@ puts_stay contents seats w p q h h' note claim places same P = record {
       (still_own seats w b p q places H.0, same.1 ∙ H.1);
   rests = λ e. same.0 ∙ P.rests (sym note ∙ e);
   tables = λ a e. P.tables a (subst (λ l. Contains l a) same.2 e);
-  applied = λ a e. P.applied a (subst (λ l. Contains l a) same.2 e);
+  applied = λ a r e c is. P.applied a r (subst (λ l. Contains l a) same.2 e) (sym claim ∙ c) is;
   running = λ r t m e few there. still_put t m r.end h h' same.2
       (P.running r t m (sym claim ∙ e) few there);
   placed = λ a r e c is. places a.table a.memtable
@@ -108,7 +109,7 @@ closed_puts contents seats w p q h empty claim P = record {
   in_hand = λ b e. absurd (none_some b (sym empty ∙ e));
   rests = λ _. empty;
   tables = P.tables;
-  applied = P.applied;
+  applied = λ a r e c is. absurd (none_some r (sym claim ∙ c));
   running = λ r t m e few there. absurd (none_some r (sym claim ∙ e));
   placed = λ a r e c is. absurd (none_some r (sym claim ∙ c));
   reads = P.reads;
@@ -122,26 +123,25 @@ noted_puts contents seats w p q h empty claim places P = record {
   in_hand = λ b e. absurd (none_some b (sym empty ∙ e));
   rests = λ _. empty;
   tables = P.tables;
-  applied = P.applied;
+  applied = λ a r e c is. P.applied a r e (sym claim ∙ c) is;
   running = λ r t m e. P.running r t m (sym claim ∙ e);
   placed = λ a r e c is. places a.table a.memtable (P.placed a r e (sym claim ∙ c) is);
   reads = P.reads;
 }
 
--- It has claimed a range behind all that lies in its boxes.
+-- It has claimed a range behind all that lies in its boxes, and behind what it put there.
 pub claimed_puts : (contents : ℕ → List EntryNote) (seats w : ℕ) (p q : Seat) (h : Hands)
     → q.note ≡ p.note → PlacesStay p q → ((r : Range) (t m : ℕ) → q.claim ≡ Some r → t < 16
-    → ¬ LiesAmong (contents (memtable_box seats w t m)) r.end) → PutsAre contents seats w p h
-    → PutsAre contents seats w q h
-claimed_puts contents seats w p q h note places none_there P = record {
+    → ¬ LiesAmong (contents (memtable_box seats w t m)) r.end)
+    → ((r : Range) (a : Placed) → q.claim ≡ Some r → Contains h.applied a → a.entry ≢ r.end)
+    → PutsAre contents seats w p h → PutsAre contents seats w q h
+claimed_puts contents seats w p q h note places none_there unput P = record {
   in_hand = λ b e. let H = P.in_hand b e in (still_own seats w b p q places H.0, H.1);
   rests = λ e. P.rests (sym note ∙ e);
   tables = P.tables;
-  applied = P.applied;
+  applied = λ a r e c is. absurd (unput r a c e is);
   running = λ r t m e few there. absurd (none_there r t m e few there);
-  placed = λ a r e c is. absurd (none_there r a.table a.memtable c (P.tables a e)
-      (subst (λ (k : ℕ). LiesAmong (contents (memtable_box seats w a.table a.memtable)) k) is
-      (P.applied a e)));
+  placed = λ a r e c is. absurd (unput r a c e is);
   reads = P.reads;
 }
 
@@ -219,6 +219,20 @@ module _ {K : Type 0} (seats : ℕ) (notes more : List EntryNote) (placed after 
     touched = S.touched;
   }
 
+  -- what they put into the boxes are notes still
+  pub all_noted : PutNotes more v'.hands → (j : ℕ) (u : View)
+      → get_elem? (set views id v') j ≡ some u → PutNotes more u.hands
+  all_noted own j u e a h = ⊎_elim
+      (λ (t : (j ≡ id) × (v' ≡ u)).
+      own a (subst (λ (z : View). Contains z.hands.applied a) (sym t.1) h))
+      (λ (t : (j ≢ id) × (get_elem? views j ≡ some u)). let N = M.noted j u t.1 a h in
+      (N.0, grows N.0 N.1, N.2))
+      (at_set views id j v' u e)
+
+  pub same_noted : v'.hands.applied ≡ v.hands.applied → PutNotes more v'.hands
+  same_noted same a h = let N = M.noted id v at a (subst (λ l. Contains l a) same h) in
+      (N.0, grows N.0 N.1, N.2)
+
   -- the seats' hands, with what is in the boxes then
   pub all_hands : (contents : ℕ → List EntryNote) → PutsAs contents seats v'.part v'.hands v'.role
       → ((j : ℕ) (u : View) → j ≢ id → get_elem? views j ≡ some u
@@ -235,13 +249,14 @@ module _ {K : Type 0} (seats : ℕ) (notes more : List EntryNote) (placed after 
   pub memtables_stay : (homes' : List (maybe.Option (Slot K)))
       → ((b : ℕ) → boxes seats ≤ b → get_elem? homes' b ≡ get_elem? homes b)
       → v'.hands.memtable_box ≡ v.hands.memtable_box → v'.hands.reading ≡ v.hands.reading
+      → v'.hands.applied ≡ v.hands.applied
       → PutsAs M.contents seats v'.part v'.hands v'.role
       → ((p : Placed) → Contains after p → IsKeptAt next p → IsPut M.contents seats p)
       → ((w t m : ℕ) (n : EntryNote) → t < 16
       → Contains (M.contents (memtable_box seats w t m)) n
-      → IsPlacedIn after next t m n.end.0 ⊎ IsRunning (set views id v') w n.end.0)
+      → IsPlacedIn after t m n.end.0 ⊎ IsRunning (set views id v') w n.end.0)
       → HasMemtables seats more after next homes' (set views id v')
-  memtables_stay homes' same box read own kept settled = record {
+  memtables_stay homes' same box read applied own kept settled = record {
     contents = M.contents;
     at_home = λ b low high free. let h = M.at_home b low high
         (old_home b (still_in_hand v.hands v'.hands b box read) free) in
@@ -251,6 +266,7 @@ module _ {K : Type 0} (seats : ℕ) (notes more : List EntryNote) (placed after 
     sound = λ w t m n few h. still_of w t n (M.sound w t m n few h);
     settled = settled;
     once = M.once;
+    noted = all_noted (same_noted applied);
   }
 
 -- The seat takes one of its own.
@@ -286,6 +302,9 @@ module _ {K : Type 0} (seats : ℕ) (notes : List EntryNote) (placed : List Plac
             (λ R. inr (runs_still views id v v' at role claim w n.end.0 R))
             (M.settled w t m n few h);
         once = M.once;
+        noted = all_noted seats notes notes placed placed tables tables homes views M id v v' at
+            (λ n q. q) (same_noted seats notes notes placed placed tables tables homes views M id v
+            v' at (λ n q. q) applied);
       }
     where
       same_box : (a b : ℕ) → Some a ≡ Some b → a ≡ b
@@ -308,7 +327,8 @@ module _ {K : Type 0} (seats : ℕ) (notes : List EntryNote) (placed : List Plac
         );
         rests = λ e. absurd (none_some k (sym e ∙ noted));
         tables = λ a e. old.tables a (subst (λ l. Contains l a) applied e);
-        applied = λ a e. old.applied a (subst (λ l. Contains l a) applied e);
+        applied = λ a r e c is.
+            old.applied a r (subst (λ l. Contains l a) applied e) (sym claim ∙ c) is;
         running = λ r t m e few there. still_put t m r.end v.hands v'.hands applied
             (old.running r t m (sym claim ∙ e) few there);
         placed = λ a r e c is. places a.table a.memtable
@@ -324,8 +344,9 @@ pub memtables_seen : {K : Type 0} (seats : ℕ) (notes : List EntryNote) (placed
     → ((j : ℕ) (u : View) → get_elem? after j ≡ some u
     → PutsAs M.contents seats u.part u.hands u.role)
     → ((w entry : ℕ) → IsRunning views w entry → IsRunning after w entry)
+    → ((j : ℕ) (u : View) → get_elem? after j ≡ some u → PutNotes notes u.hands)
     → HasMemtables seats notes placed tables homes after
-memtables_seen seats notes placed tables homes views after M free hands runs = record {
+memtables_seen seats notes placed tables homes views after M free hands runs noted = record {
   contents = M.contents;
   at_home = λ b low high home. M.at_home b low high (free b home);
   in_hands = hands;
@@ -334,4 +355,5 @@ memtables_seen seats notes placed tables homes views after M free hands runs = r
   settled = λ w t m n few h. ⊎_elim (λ p. inl p) (λ R. inr (runs w n.end.0 R))
       (M.settled w t m n few h);
   once = M.once;
+  noted = noted;
 }

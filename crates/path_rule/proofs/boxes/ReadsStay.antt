@@ -12,6 +12,7 @@ use Rattle.path_core.specs.Allowed.{IsStep}
 use Rattle.path_core.specs.Lawful.{IsLawfulPath, IsLawfulPlacing}
 use Rattle.path_core.specs.Next.{next_of}
 use Rattle.path_core.specs.Parts.{seat_of, seat_table, table_of, HasPassedBarrier}
+use Rattle.path_core.proofs.files.LastFile.{before_stays}
 use Rattle.path_core.proofs.log.OwnNotes.{notes_stay}
 use Rattle.path_core.proofs.orders.GroupsMove.{passed_stays}
 use Rattle.path_core.proofs.places.AtRest.{leaves_placed, none_runs}
@@ -38,6 +39,8 @@ module _ (x : PathState) (L : IsLawfulPath x) (e : Event) (may : IsStep x e)
     switched = switched;
     passed = passed_stays x L.orders e may q.table q.memtable R.passed;
     live = live ∙ R.live;
+    above = R.above ∙ sym (before_stays x Z e may q.table q.memtable
+        (let l = R.live in omega arith));
     next = R.next;
     sound = λ n h. let S = R.sound n h in
         (notes_stay x e n S.0, (leaves_placed x Z q.table q.memtable R.passed e n.end.0).1 S.1);

@@ -15,6 +15,7 @@ use Rattle.std.proofs.Common.{
   subst,
   arith,
 }
+use Rattle.std.specs.List.{Contains}
 use Rattle.std.specs.Prelude.{slice_index, IsSome}
 use Rattle.std.specs.Option.{option_map}
 use Rattle.std.proofs.lemmas.Option.{same_Some}
@@ -27,8 +28,10 @@ use Rattle.atomic_table.specs.Table.{State, Me, step, Allows}
 use Rattle.path_core.specs.declared.event.ClaimKind.TheVariants.{Entry}
 use Rattle.path_core.specs.declared.event.Event.TheVariants.{Look, Claim}
 use Rattle.path_core.specs.declared.event.Place.TheVariants.{Log}
+use Rattle.path_core.specs.declared.note.EntryNote.{EntryNote}
 use Rattle.path_core.specs.declared.seat.Range.{Range}
 use Rattle.path_core.specs.declared.seat.Seat.{Seat as SeatOf}
+use Rattle.path_core.specs.declared.state.Placed.{Placed}
 use Rattle.path_core.specs.Allowed.{IsStep}
 use Rattle.path_core.specs.Keys.{MovesLog, claim_start}
 use Rattle.path_core.specs.Next.{next_of, claim_of}
@@ -98,6 +101,7 @@ module _ {K : Type 0} (shows : K → Lasting) (o : Beside) (size : PathSize) (sl
       (place_still shows o size s r id w m.0 there mine e (reading_at Log to)
       (told_by false m.0.hands) tt)
       (λ q t k c few. none_there s r t k few may q (sym C.claim ∙ c))
+      (λ q a c put. unput s r there may q (sym C.claim ∙ c) a put)
       (puts_now shows o size s r id w m.0 there mine)) (still_kept shows o size s r e may tt refl)
       (λ C z t k q few h R. inr (runs_else s.views id m.0 v' there claim z q.end.0 R)) tt
       then (λ u. each_seat_name shows o size slots id m w mine (λ z. (n ≡ from
@@ -111,19 +115,37 @@ module _ {K : Type 0} (shows : K → Lasting) (o : Beside) (size : PathSize) (sl
       × (n ≢ from → Made z (Look z Log) n m (v', m.1)))
       ((λ hit. absurd (miss hit)), (λ _. made))))
     where
+      -- no note ends where the claim does
+      behind : (s : State (Slot K) View) (r : Ruled shows o size s)
+          → IsStep r.core (Claim w (record { 0 = from }) (record { 0 = to }) Entry) → (q : Range)
+          → Some (record { start = claim_start Entry from to; end = to }) ≡ Some q
+          → (entry : ℕ) (n : EntryNote) → Contains r.core.notes n → n.end.0 ≡ entry
+          → entry ≢ q.end
+      behind s r may q is entry n among ends here = let x = r.core in
+          let law = core_lawful shows o size s r in
+          let low = below_log x law n among in
+          let high = claimed_above x law.sized law.claims_tile_the_log w (record { 0 = from })
+          (record { 0 = to }) may in
+          let same : to ≡ q.end = ap (λ (z : Range). z.end)
+          (same_Some (record { start = claim_start Entry from to; end = to }) q is) in
+          absurd (omega arith)
+
       -- all that lies in a box ends at or below the log key, so below what is claimed now
       none_there : (s : State (Slot K) View) (r : Ruled shows o size s) (t k : ℕ) → t < 16
           → IsStep r.core (Claim w (record { 0 = from }) (record { 0 = to }) Entry) → (q : Range)
           → Some (record { start = claim_start Entry from to; end = to }) ≡ Some q
           → ¬ LiesAmong (r.memtables.contents (memtable_box size.seats w t k)) q.end
-      none_there s r t k few may q is h = let x = r.core in
-          let law = core_lawful shows o size s r in
-          let low = below_log x law h.0 (r.memtables.sound w t k h.0 few h.1).among in
-          let high = claimed_above x law.sized law.claims_tile_the_log w (record { 0 = from })
-          (record { 0 = to }) may in let end = h.2 in
-          let same : to ≡ q.end = ap (λ (z : Range). z.end)
-          (same_Some (record { start = claim_start Entry from to; end = to }) q is) in
-          absurd (omega arith)
+      none_there s r t k few may q is h = behind s r may q is q.end h.0
+          (r.memtables.sound w t k h.0 few h.1).among h.2 refl
+
+      -- so does what the seat put there
+      unput : (s : State (Slot K) View) (r : Ruled shows o size s)
+          → get_elem? s.views id ≡ some m.0
+          → IsStep r.core (Claim w (record { 0 = from }) (record { 0 = to }) Entry) → (q : Range)
+          → Some (record { start = claim_start Entry from to; end = to }) ≡ Some q
+          → (a : Placed) → Contains m.0.hands.applied a → a.entry ≢ q.end
+      unput s r there may q is a put = let N = r.memtables.noted id m.0 there a put in
+          behind s r may q is a.entry N.0 N.1 N.2
 
       sized_moves : (s : State (Slot K) View) (r : Ruled shows o size s)
           → get_elem? s.views id ≡ some m.0 → MovesLog Entry r.core.capacity r.core.ordinals from to

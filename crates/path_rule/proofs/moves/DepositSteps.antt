@@ -173,7 +173,7 @@ module _ {K : Type 0} (shows : K → Lasting) (o : Beside) (size : PathSize) (sl
             u.returned) is (r.each_seat j u at).1).0.1
             ∙ (ap r.owner same ∙ (known shows o size s r id w m.0 there mine).1.1)))))
             (memtables_then shows o size s r id w m.0 there mine e refl may whole tt fits rows
-            ((n + (2 ^ 64 - 1)) % 2 ^ 64) n false m.0.hands now refl m.1 gives below refl refl
+            ((n + (2 ^ 64 - 1)) % 2 ^ 64) n false m.0.hands now refl m.1 gives below refl refl refl
             (noted_puts r.memtables.contents size.seats w m.0.part v'.part m.0.hands rests C.claim
             (place_still shows o size s r id w m.0 there mine e (reading_at (Count Append g) n)
             (told_by false m.0.hands) tt) P)
@@ -254,9 +254,8 @@ module _ {K : Type 0} (shows : K → Lasting) (o : Beside) (size : PathSize) (sl
           → m.0.part.claim ≡ Some (record { start = note.start.0; end = note.end.0 })
           → (a : Placed) → Contains m.0.hands.applied a → a.entry ≡ note.end.0 → ⊥
       unput s r there note append claim a put ends =
-          let P = puts_now shows o size s r id w m.0 there mine in let L = P.applied a put in
-          let I = r.memtables.sound w a.table a.memtable L.0 (P.tables a put) L.1 in
-          absurd (let c = counted_in (is_note_at note.end.0) r.core.notes L.0 I.among
+          let L = r.memtables.noted id m.0 there a put in
+          absurd (let c = counted_in (is_note_at note.end.0) r.core.notes L.0 L.1
           (eq-eqb L.0.end.0 note.end.0 (L.2 ∙ ends)) in let z = unnoted s r there note append claim
           in omega arith)
 

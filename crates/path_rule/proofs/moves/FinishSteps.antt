@@ -35,7 +35,7 @@ use Rattle.std.proofs.lemmas.List.Elements.{Contains-append_right}
 use Rattle.std.proofs.lemmas.Option.{none-some, same_Some}
 use mathlib.Core.Logic.{dite, inl, inr}
 use mathlib.Core.Option.{none, some, some-injective}
-use native.Mathlib.Decide.{dec_le, ℕ_discrete}
+use native.Mathlib.Decide.{ℕ_discrete}
 use lib.ListN.{get_elem?}
 use Rattle.atomic_table.specs.Table.{State, Me, step, Allows}
 use Rattle.op_core.specs.declared.count.Order.TheVariants.{Write}
@@ -51,15 +51,10 @@ use Rattle.path_core.specs.declared.state.Placed.{Placed}
 use Rattle.path_core.specs.Allowed.{IsStep, IsItsPlaces}
 use Rattle.path_core.specs.LawfulTables.{may_touch}
 use Rattle.path_core.specs.Next.{end_of_claim, next_of, places_from}
-use Rattle.path_core.specs.Parts.{seat_of, seat_table, table_of, tally_of, touches, untouched}
+use Rattle.path_core.specs.Parts.{seat_of, seat_table, tally_of, touches, untouched}
 use Rattle.path_core.proofs.frame.Seats.{some_left, group_made}
 use Rattle.path_core.proofs.lists.Heads.{first_in, later_in}
-use Rattle.path_core.proofs.places.Closing.{
-  none_in_retired,
-  own_at,
-  own_place,
-  placed_was,
-}
+use Rattle.path_core.proofs.places.Closing.{own_place, placed_was}
 use Rattle.path_core.proofs.runs.EveryRun.{placing_of}
 use Rattle.path_rule.specs.declared.lasting.Beside.{Beside}
 use Rattle.path_rule.specs.declared.lasting.Lasting.{Lasting}
@@ -173,7 +168,7 @@ module _ {K : Type 0} (shows : K → Lasting) (o : Beside) (size : PathSize) (sl
           → Contains (r.memtables.contents (memtable_box size.seats z t k)) n
           → (R : IsRunning s.views z n.end.0) → R.id ≡ id
           → let y = next_of r.core (Close w Write g (Applied places)) in
-          IsPlacedIn y.placed y.tables t k n.end.0
+          IsPlacedIn y.placed t k n.end.0
       placed_now s r there places g z t k n few h R same =
           let x = r.core in let law = core_lawful shows o size s r in
           let is = as_part shows o size slots id m w mine s r there in
@@ -204,9 +199,6 @@ module _ {K : Type 0} (shows : K → Lasting) (o : Beside) (size : PathSize) (sl
           } in record {
             memtable = H.put.memtable;
             parity = H.parity;
-            live = dite (dec_le (table_of x t).oldest_live H.put.memtable) (λ le. le)
-                (λ above. absurd (none_in_retired x (placing_of x law) w p
-                (own_at x (placing_of x law) w t H.put.memtable place) (omega arith)));
             among = subst (λ (q : ℕ). Contains
                 (next_of x (Close w Write g (Applied places))).placed
                 (record { table = t; entry = q; memtable = H.put.memtable })) end
@@ -246,5 +238,6 @@ module _ {K : Type 0} (shows : K → Lasting) (o : Beside) (size : PathSize) (sl
             lies = subst (λ (q : ℕ × ℕ). LiesAmong (r.memtables.contents
                 (memtable_box size.seats w p.table q.0)) q.1) (λ i. (m_is i, end_is i))
                 ((puts_now shows o size s r id w m.0 there mine).applied
-                (record { table = p.table; entry = applied.range.end; memtable = A.0 }) A.2);
+                (record { table = p.table; entry = applied.range.end; memtable = A.0 })
+                applied.range A.2 applied.claimed refl);
           }

@@ -207,7 +207,7 @@ module _ {K : Type 0} (shows : K → Lasting) (o : Beside) (size : PathSize) (sl
           plays_with shows o size s r id w m.0 there mine e by may whole built spot rows n found
               false m.0.hands now told m.1 keeps (boxed C)
               (memtables_then shows o size s r id w m.0 there mine e by may whole built spot rows n
-              found false m.0.hands now told m.1 keeps tt refl refl (puts C) kept (runs C))
+              found false m.0.hands now told m.1 keeps tt refl refl refl (puts C) kept (runs C))
               (reads_still shows o size s r id w m.0 there mine e by may whole built spot rows n
               found false m.0.hands now told quiet refl),
           ok (was shows o size s r id w m.0 there mine e may whole),

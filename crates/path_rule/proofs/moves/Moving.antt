@@ -61,7 +61,7 @@ use Rattle.path_core.specs.Frame.{left_by}
 use Rattle.path_core.specs.Keeper.{HasRisen}
 use Rattle.path_core.specs.Lawful.{IsLawfulPath}
 use Rattle.path_core.specs.Next.{next_of, placed_after, told_of}
-use Rattle.path_core.specs.Parts.{fresh_seat, is_empty, seat_of, seat_table, table_of}
+use Rattle.path_core.specs.Parts.{fresh_seat, seat_of, seat_table}
 use Rattle.path_core.specs.Runs.{Past}
 use Rattle.path_core.specs.SeatAfter.{Told, seat_after}
 use Rattle.path_core.specs.Whole.{CarriesWhole}
@@ -140,7 +140,6 @@ use Rattle.path_rule.proofs.moves.LeavesWrites.{
   leaves_places,
   live_moves,
   live_still,
-  not_empty,
   note_left,
   placed_left,
   placed_stays,
@@ -197,17 +196,11 @@ module _ {K : Type 0} (shows : K → Lasting) (o : Beside) (size : PathSize) (s 
         (kept_before p live)
 
     -- and is where it was
-    pub placed_still : (t k entry : ℕ) → IsPlacedIn r.core.placed r.core.tables t k entry
-        → IsPlacedIn (next_of r.core e).placed (next_of r.core e).tables t k entry
+    pub placed_still : (t k entry : ℕ) → IsPlacedIn r.core.placed t k entry
+        → IsPlacedIn (next_of r.core e).placed t k entry
     placed_still t k entry P = record {
       memtable = P.memtable;
       parity = P.parity;
-      live = ⊎_elim (λ same. subst (λ (n : ℕ). n ≤ P.memtable) (sym same) P.live)
-          (λ up. let more = up.0 in let low = P.live in
-          dite (ℕ_discrete (table_of r.core t).oldest_live P.memtable)
-          (λ is. absurd (not_empty r.core t P.memtable entry P.among
-          (subst (λ (n : ℕ). is_empty r.core t n ≡ true) is up.1)))
-          (λ apart. omega arith)) (live_moves size.at_open r.core e may built t);
       among = placed_stays r.core e (record { table = t; entry = entry; memtable = P.memtable })
           P.among;
     }
@@ -219,7 +212,7 @@ module _ {K : Type 0} (shows : K → Lasting) (o : Beside) (size : PathSize) (s 
     RunsOn e v' = (z t k : ℕ) (n : EntryNote) → t < 16
         → Contains (r.memtables.contents (memtable_box size.seats z t k)) n
         → IsRunning s.views z n.end.0
-        → IsPlacedIn (next_of r.core e).placed (next_of r.core e).tables t k n.end.0
+        → IsPlacedIn (next_of r.core e).placed t k n.end.0
         ⊎ IsRunning (set s.views id v') z n.end.0
 
     pub known : (v.size ≡ size) × IsSeat r.core r.events r.owner r.made r.boss id w v.part v.trail
@@ -359,13 +352,14 @@ module _ {K : Type 0} (shows : K → Lasting) (o : Beside) (size : PathSize) (s 
       -- the boxes of memtables, where none of them moves
       pub memtables_then : (cs : List (ℕ × Slot K)) (a : Act (Slot K))
           → MovesBelow (boxes size.seats) cs a → h.memtable_box ≡ v.hands.memtable_box
-          → h.reading ≡ v.hands.reading → PutsAre r.memtables.contents size.seats w v'.part h
+          → h.reading ≡ v.hands.reading → h.applied ≡ v.hands.applied
+          → PutsAre r.memtables.contents size.seats w v'.part h
           → ((p : Placed) → Contains x'.placed p → IsKeptAt x'.tables p → LiesPlaced p)
           → RunsOn e v' → MemtablesThen cs a
-      memtables_then cs a below held read puts kept runs = memtables_stay size.seats r.core.notes
-          x'.notes r.core.placed x'.placed r.core.tables x'.tables s.homes s.views r.memtables id
+      memtables_then cs a below held read applied puts kept runs = memtables_stay size.seats
+          r.core.notes x'.notes r.core.placed x'.placed r.core.tables x'.tables s.homes s.views r.memtables id
           v v' at (notes_stay r.core e) (homes_after s.homes cs a)
-          (same_above (boxes size.seats) s.homes cs a below) held read
+          (same_above (boxes size.seats) s.homes cs a below) held read applied
           (subst (PutsAs r.memtables.contents size.seats v'.part h) (sym mine) puts) kept
           (λ z t k n few q. ⊎_elim (λ p. inl (placed_still e may built t k n.end.0 p))
           (λ R. runs z t k n few q R) (r.memtables.settled z t k n few q))
@@ -373,7 +367,7 @@ module _ {K : Type 0} (shows : K → Lasting) (o : Beside) (size : PathSize) (s 
       -- and the seat's write stays
       pub memtables_still : (cs : List (ℕ × Slot K)) (a : Act (Slot K)) → LeavesWrite e
           → SameHeld v.hands h → MovesBelow (boxes size.seats) cs a → MemtablesThen cs a
-      memtables_still cs a leaves held below = memtables_then cs a below held.0 held.3
+      memtables_still cs a leaves held below = memtables_then cs a below held.0 held.3 held.2
           (puts_stay r.memtables.contents size.seats w v.part v'.part v.hands h
           (columns_now.note ∙ note_left v.part.note e leaves)
           (columns_now.claim ∙ claim_left v.part.claim e leaves)

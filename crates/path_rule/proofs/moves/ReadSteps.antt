@@ -1,7 +1,8 @@
 -- The holder of a Flush turn reads the boxes of a memtable behind its barrier.
-use Rattle.std.proofs.Common.{◌≡◌, ℕ, ◌+◌, ◌*◌, ◌<◌, ⊎_elim, false, List, ◌∷◌, Option, set, Some, None, is_some, refl, sym, ap, ◌∙◌, subst, arith}
+use Rattle.std.proofs.Common.{◌≡◌, ◌≢◌, ℕ, suc, ◌+◌, ◌*◌, ◌<◌, ⊎_elim, false, List, ◌∷◌, Option, set, Some, None, is_some, refl, sym, ap, ◌∙◌, subst, arith}
 use Rattle.std.specs.Prelude.{slice_index}
-use Rattle.std.specs.List.{Contains}
+use Rattle.std.specs.List.{filter, Contains}
+use Rattle.std.proofs.lemmas.Bool.{lt-ltb, ltb-true}
 use Rattle.std.proofs.lemmas.List.Elements.{
   Contains-append_cases,
   Contains-append_left,
@@ -10,7 +11,7 @@ use Rattle.std.proofs.lemmas.List.Elements.{
 use Rattle.std.proofs.lemmas.Option.{none-some, same_Some}
 use mathlib.Core.Logic.{dite}
 use mathlib.Core.Option.{none, some, some-injective}
-use native.Mathlib.Decide.{ℕ_discrete}
+use native.Mathlib.Decide.{dec_lt, ℕ_discrete}
 use lib.ListN.{get_elem?}
 use Rattle.atomic_table.proofs.Lists.{set_else}
 use Rattle.atomic_table.specs.Table.{
@@ -30,19 +31,33 @@ use Rattle.atomic_table.specs.Table.{
 use Rattle.clog_base.specs.declared.cell.Table.{Table}
 use Rattle.op_core.specs.declared.count.Order.TheVariants.{Write}
 use Rattle.path_core.specs.declared.event.Event.TheVariants.{Look}
-use Rattle.path_core.specs.declared.event.Place.TheVariants.{Newest}
+use Rattle.path_core.specs.declared.event.Place.{Place}
+use Rattle.path_core.specs.declared.event.Place.TheVariants.{Bound, Newest}
 use Rattle.path_core.specs.declared.event.Reading.TheVariants.{Number}
 use Rattle.path_core.specs.declared.event.Turn.TheVariants.{Flush}
 use Rattle.path_core.specs.declared.note.EntryNote.{EntryNote}
 use Rattle.path_core.specs.declared.seat.Seat.{Seat as SeatOf}
 use Rattle.path_core.specs.declared.seat.Switching.TheVariants.{WithBarrier}
+use Rattle.path_core.specs.declared.state.Bound.TheVariants.{Final}
+use Rattle.path_core.specs.declared.state.Placed.{Placed}
 use Rattle.path_core.specs.Allowed.{IsStep}
-use Rattle.path_core.specs.Parts.{seat_of, seat_table, stage_of, table_of}
+use Rattle.path_core.specs.History.{bound_before}
+use Rattle.path_core.specs.Parts.{
+  key_of_bound,
+  memtable_of,
+  seat_of,
+  seat_table,
+  stage_of,
+  table_of,
+}
 use Rattle.path_core.specs.SeatAfter.{seat_after}
+use Rattle.path_core.specs.Words.{reading, IsPlace}
+use Rattle.path_core.proofs.lists.Passing.{filter_from, kept_in}
 use Rattle.path_core.proofs.places.KeepsPlaces.{same_note}
 use Rattle.path_core.proofs.runs.EveryRun.{keeps_lawful, placing_of}
 use Rattle.path_core.proofs.seats.Columns.{Columns}
 use Rattle.path_core.proofs.tables.StageTells.{stage_exact}
+use Rattle.path_core.proofs.tables.TableBounds.{final_at}
 use Rattle.path_rule.specs.declared.lasting.Beside.{Beside}
 use Rattle.path_rule.specs.declared.lasting.Lasting.{Lasting}
 use Rattle.path_rule.specs.declared.slot.Slot.{Slot}
@@ -56,8 +71,9 @@ use Rattle.path_rule.specs.Boxes.{boxes, memtable_box, NotesAre}
 use Rattle.path_rule.specs.Calls.{IsPast}
 use Rattle.path_rule.specs.Flushes.{
   next_box,
+  FirstBegun,
   MayRead,
-  ReadBegun,
+  NextBegun,
   ReadEnded,
   ReadGiven,
   ReadTaken,
@@ -66,22 +82,27 @@ use Rattle.path_rule.specs.Flushes.{
 }
 use Rattle.path_rule.specs.HandsAfter.{box_read, box_seen, first_read, with_reading}
 use Rattle.path_rule.specs.Lasts.{shown}
-use Rattle.path_rule.specs.Memtables.{HasMemtables, IsHome, PutsAs, ReadsBox}
+use Rattle.path_rule.specs.Layout.{bound_word, reading_at, word_at, word_of, IsWord}
+use Rattle.path_rule.specs.Memtables.{HasMemtables, IsHome, IsKeptAt, PutsAs, ReadsBox}
 use Rattle.path_rule.specs.Reads.{placed_at, ReadsAre, ReadsAs}
 use Rattle.path_rule.specs.Rule.{Ruled, Was, told_by, view_after, with_hands}
 use Rattle.path_rule.specs.Switches.{FlushOldest}
 use Rattle.path_rule.specs.Told.{MadeAs}
+use Rattle.path_rule.specs.Trimmed.{ends_above, IsTrimmed}
+use Rattle.path_rule.proofs.boxes.AboveBound.{earlier_below, placed_above}
 use Rattle.path_rule.proofs.boxes.InItsBox.{runs_there}
-use Rattle.path_rule.proofs.boxes.MemtableReads.{read_given, read_still, read_taken}
+use Rattle.path_rule.proofs.boxes.MemtableReads.{read_still, read_taken}
+use Rattle.path_rule.proofs.boxes.MemtableTrimmed.{read_trimmed}
 use Rattle.path_rule.proofs.boxes.OtherBoxes.{boxed_other}
 use Rattle.path_rule.proofs.boxes.ReadsStay.{none_reads, reads_on}
 use Rattle.path_rule.proofs.boxes.Switching.{begun_at, switch_stays, switched_held}
+use Rattle.path_rule.proofs.moves.BoundSteps.{each_bound_name}
 use Rattle.path_rule.proofs.moves.Looks.{few_tables, within}
 use Rattle.path_rule.proofs.moves.MemtableSteps.{others_are, sized}
 use Rattle.path_rule.proofs.moves.Moving.{columns_now, core_lawful, part_is, place_still, plays_with, puts_now, reads_now, reads_then, was}
 use Rattle.path_rule.proofs.moves.SwitchSteps.{oldest_is, stage_now}
 use Rattle.path_rule.proofs.moves.TableTurns.{each_table_name, passed_now}
-use Rattle.path_rule.proofs.places.ReadBack.{rows_stay}
+use Rattle.path_rule.proofs.places.ReadBack.{read_back, rows_stay}
 
 -- no box is in hand to be read
 takes_none : (h : Hands) → TakesNone h → (b : ℕ) → ¬ ReadsBox h b
@@ -91,75 +112,91 @@ module _ {K : Type 0} (shows : K → Lasting) (o : Beside) (size : PathSize) (sl
     (m : Me (Slot K) View) (w : ℕ) (mine : m.0.role ≡ Steps w) where
   module _ (s : State (Slot K) View) (r : Ruled shows o size s)
       (there : get_elem? s.views id ≡ some m.0) where
-    -- a look at the newest memtable of a table, with what is read then
-    looked : (t : Table) → t.0 < 16 → t.0 < m.0.size.tables → (q : Option FlushRead)
-        → (a : Act (Slot K)) → let e = Look w (Newest t) in
-        let n = slice_index s.words (8 + 4 * t.0) in let h = with_reading q m.0.hands in
+    -- a look at a place, with what is read then
+    looked : (at : Place) → IsWord at → IsPlace r.core at → (q : Option FlushRead)
+        → (a : Act (Slot K)) → let e = Look w at in
+        let n = slice_index s.words (word_at at) in let h = with_reading q m.0.hands in
         let v' = view_after (with_hands h m.0) e n false in
         ((b : ℕ) → b < boxes size.seats → get_elem? (homes_after s.homes m.1 a) b
         ≡ get_elem? s.homes b)
         → (Columns e m.0.part v'.part → HasMemtables size.seats r.core.notes r.core.placed
         r.core.tables (homes_after s.homes m.1 a) (set s.views id v'))
         → ((z : FlushRead) → q ≡ Some z → ReadsAre size.seats r.core m.0.part z)
-        → Ruled shows o size (stepped s (8 + 4 * t.0) n id m.1 v' a) × Was m.0 w e
-    looked t few inside q a below memtables reads = let x = r.core in let e = Look w (Newest t) in
-        let n = slice_index s.words (8 + 4 * t.0) in let h = with_reading q m.0.hands in
+        → Ruled shows o size (stepped s (word_at at) n id m.1 v' a) × Was m.0 w e
+    looked at spot is_there q a below memtables reads = let x = r.core in let e = Look w at in
+        let n = slice_index s.words (word_at at) in let h = with_reading q m.0.hands in
         let v' = view_after (with_hands h m.0) e n false in
         let law = core_lawful shows o size s r in
-        let found : n ≡ (table_of x t.0).newest = r.words (Newest t) few in
+        let found : n ≡ word_of (reading x at) = r.words at spot in
         let may : IsStep x e = record {
           seat = within shows o size slots id m w mine s r there;
-          is_there = few_tables shows o size slots id m w mine s r there t.0 inside;
+          is_there = is_there;
           row = tt;
         } in let rows = rows_stay x e may (λ q. q) r.rows in
-        let told = ap (λ k. seat_after m.0.part e (Number k) (told_by false h)) found in
-        let C = columns_now shows o size s r id w m.0 there mine e refl may tt tt few rows n n false
-        h found told in (
-          plays_with shows o size s r id w m.0 there mine e refl may tt tt few rows n n false h
+        let told = ap (λ k. seat_after m.0.part e k (told_by false h))
+        (ap (reading_at at) found ∙ read_back x law at) in
+        let C = columns_now shows o size s r id w m.0 there mine e refl may tt tt spot rows n n
+        false h found told in (
+          plays_with shows o size s r id w m.0 there mine e refl may tt tt spot rows n n false h
               found told m.1 a
               (boxed_other shows size.seats x.notes (shown o size.at_open r.kept_to r.filed r.dropped x) x.claims
               x.append s.homes s.views r.boxed id m.0 v' there refl (homes_after s.homes m.1 a)
               below C.append C.issue m.0.hands.memtable_box m.0.hands.held m.0.hands.applied q refl)
               (memtables C)
-              (reads_then shows o size s r id w m.0 there mine e refl may tt tt few rows n n false h
-              found told (λ z is. let R = reads z is in
+              (reads_then shows o size s r id w m.0 there mine e refl may tt tt spot rows n n false
+              h found told (λ z is. let R = reads z is in
               reads_on x law e may (keeps_lawful x law e may tt) size.seats m.0.part v'.part z R
-              (switch_stays e m.0.part (Number n) (told_by false h) z.table tt R.switched) refl)),
+              (switch_stays e m.0.part (reading_at at n) (told_by false h) z.table tt R.switched)
+              refl)),
           was shows o size s r id w m.0 there mine e may tt,
         )
 
-    -- No seat has the next box in hand: no write has its place in a memtable that is read, and only
-    -- one seat holds the table's turn.
-    next_home : (q : FlushRead) → m.0.hands.reading ≡ Some q → q.taken ≡ None
-        → IsHome s.views (next_box size.seats q)
-    next_home q is free j u e hand = by u.role refl (r.memtables.in_hands j u e) (r.reads j u e)
+    -- the same where no box moves, and none is in hand to be read
+    looked_still : (at : Place) → IsWord at → IsPlace r.core at → (q : Option FlushRead)
+        → TakesNone m.0.hands → ((z : FlushRead) → q ≡ Some z → z.taken ≡ None)
+        → ((z : FlushRead) → q ≡ Some z → ReadsAre size.seats r.core m.0.part z)
+        → let e = Look w at in let n = slice_index s.words (word_at at) in
+        let v' = view_after (with_hands (with_reading q m.0.hands) m.0) e n false in
+        Ruled shows o size (stepped s (word_at at) n id m.1 v' keeps) × Was m.0 w e
+    looked_still at spot is_there q unread empty reads = let x = r.core in let e = Look w at in
+        let n = slice_index s.words (word_at at) in let h = with_reading q m.0.hands in
+        let v' = view_after (with_hands h m.0) e n false in
+        looked at spot is_there q keeps (λ b l. refl)
+        (λ C. read_still size.seats x.notes x.placed x.tables s.homes s.views r.memtables id w m.0
+        v' there mine refl C.note C.claim
+        (place_still shows o size s r id w m.0 there mine e (reading_at at n) (told_by false h) tt)
+        q refl (λ z b is taken. absurd (none-some b (sym (empty z is) ∙ taken)))
+        (takes_none m.0.hands unread)) reads
+
+    -- The box that is read next is of no place that a write has: none runs in a memtable that is
+    -- read, nor in another of its parity.
+    unplaced : (q : FlushRead) → m.0.hands.reading ≡ Some q → (j y : ℕ) (u : View)
+        → get_elem? s.views j ≡ some u → u.role ≡ Steps y → (t k : ℕ) → t < 16
+        → (seat_table u.part t).place ≡ Some k
+        → memtable_box size.seats y t k ≢ next_box size.seats q
+    unplaced q is j y u e steps t k small place same =
+        let R = reads_now shows o size s r id w m.0 there mine q is in let few = R.few in
+        let table : t ≡ q.table = omega arith in
+        none_reads r.core (core_lawful shows o size s r) y q.table k q.memtable
+        (ap (λ (c : ℕ). (seat_table (seat_of r.core y) c).place) (sym table)
+        ∙ (ap (λ (p : SeatOf). (seat_table p t).place)
+        (sym (part_is shows o size s r j y u e steps)) ∙ place)) R.passed R.live (omega arith)
+
+    -- No other seat reads that box: only one holds the table's turn.
+    alone : (q : FlushRead) → m.0.hands.reading ≡ Some q → (j : ℕ) (u : View) → j ≢ id
+        → get_elem? s.views j ≡ some u → ¬ ReadsBox u.hands (next_box size.seats q)
+    alone q is j u apart e Q = by u.role refl (r.reads j u e)
       where
         R : ReadsAre size.seats r.core m.0.part q
         R = reads_now shows o size s r id w m.0 there mine q is
 
-        own : (z : ℕ) → u.role ≡ Steps z → u.hands.memtable_box ≡ Some (next_box size.seats q)
-            → PutsAs r.memtables.contents size.seats u.part u.hands (Steps z) → ⊥
-        own z is' has P = let I = (P.in_hand (next_box size.seats q) has).0 in
-            let box = I.is in let few = R.few in let small = I.few in
-            let table : I.table ≡ q.table = omega arith in
-            none_reads r.core (core_lawful shows o size s r) z q.table I.memtable q.memtable
-            (ap (λ (k : ℕ). (seat_table (seat_of r.core z) k).place) (sym table)
-            ∙ (ap (λ (p : SeatOf). (seat_table p I.table).place)
-            (sym (part_is shows o size s r j z u e is')) ∙ I.place)) R.passed R.live (omega arith)
-
-        reader : (z : ℕ) → u.role ≡ Steps z → ReadsBox u.hands (next_box size.seats q)
-            → ReadsAs size.seats r.core u.part u.hands (Steps z) → ⊥
-        reader z is' Q S = let H = S Q.0 Q.1 in
+        by : (ρ : Role) → u.role ≡ ρ → ReadsAs size.seats r.core u.part u.hands ρ → ⊥
+        by (Opener n) is' S = none-some Q.0 (sym S ∙ Q.1)
+        by Spent is' S = none-some Q.0 (sym S ∙ Q.1)
+        by (Steps z) is' S = let H = S Q.0 Q.1 in
             let box = (H.next (next_box size.seats q) Q.2).0 in let few = R.few in
             let small = H.few in let table : Q.0.table ≡ q.table = omega arith in
-            dite (ℕ_discrete j id)
-            (λ same. let one : u ≡ m.0 = some-injective u m.0
-            (sym e ∙ (ap (get_elem? s.views) same ∙ there)) in
-            let read : Q.0 ≡ q = same_Some Q.0 q
-            (sym Q.1 ∙ (ap (λ (v : View). v.hands.reading) one ∙ is)) in
-            none-some (next_box size.seats q)
-            (sym free ∙ (ap (λ (k : FlushRead). k.taken) (sym read) ∙ Q.2)))
-            (λ apart. others_are shows o size slots id m w mine s r there j z u apart e is'
+            others_are shows o size slots id m w mine s r there j z u apart e is'
             ((core_lawful shows o size s r).orders.one_holder_a_turn.one
             (Flush (record { 0 = q.table })) z w
             (ap (λ (p : SeatOf). is_some (seat_table p q.table).flush)
@@ -168,21 +205,38 @@ module _ {K : Type 0} (shows : K → Lasting) (o : Beside) (size : PathSize) (sl
             ∙ switched_held u.part Q.0.table H.switched))
             (ap (λ (p : SeatOf). is_some (seat_table p q.table).flush)
             (sym (part_is shows o size s r id w m.0 there mine))
-            ∙ switched_held m.0.part q.table R.switched)))
+            ∙ switched_held m.0.part q.table R.switched))
 
-        by : (ρ : Role) → u.role ≡ ρ → PutsAs r.memtables.contents size.seats u.part u.hands ρ
-            → ReadsAs size.seats r.core u.part u.hands ρ → ⊥
-        by (Opener n) is' P S = ⊎_elim (λ has. none-some (next_box size.seats q) (sym P ∙ has))
-            (λ Q. none-some Q.0 (sym S ∙ Q.1)) hand
-        by Spent is' P S = ⊎_elim (λ has. none-some (next_box size.seats q) (sym P ∙ has))
-            (λ Q. none-some Q.0 (sym S ∙ Q.1)) hand
-        by (Steps z) is' P S = ⊎_elim (λ has. own z is' has P) (λ Q. reader z is' Q S) hand
+    -- So no seat has it in hand, where this one has none.
+    next_home : (q : FlushRead) → m.0.hands.reading ≡ Some q → q.taken ≡ None
+        → IsHome s.views (next_box size.seats q)
+    next_home q is free j u e hand = by u.role refl (r.memtables.in_hands j u e)
+      where
+        reader : ReadsBox u.hands (next_box size.seats q) → ⊥
+        reader Q = dite (ℕ_discrete j id)
+            (λ same. let one : u ≡ m.0 = some-injective u m.0
+            (sym e ∙ (ap (get_elem? s.views) same ∙ there)) in
+            let read : Q.0 ≡ q = same_Some Q.0 q
+            (sym Q.1 ∙ (ap (λ (v : View). v.hands.reading) one ∙ is)) in
+            none-some (next_box size.seats q)
+            (sym free ∙ (ap (λ (k : FlushRead). k.taken) (sym read) ∙ Q.2)))
+            (λ apart. alone q is j u apart e Q)
 
-    -- what lies in the box that is read was placed in the memtable
+        by : (ρ : Role) → u.role ≡ ρ → PutsAs r.memtables.contents size.seats u.part u.hands ρ → ⊥
+        by (Opener n) is' P = ⊎_elim (λ has. none-some (next_box size.seats q) (sym P ∙ has))
+            reader hand
+        by Spent is' P = ⊎_elim (λ has. none-some (next_box size.seats q) (sym P ∙ has))
+            reader hand
+        by (Steps z) is' P = ⊎_elim (λ has.
+            let I = (P.in_hand (next_box size.seats q) has).0 in
+            unplaced q is j z u e is' I.table I.memtable I.few I.place (sym I.is)) reader hand
+
+    -- what lies in the box that is read, and ends above the bound of the memtable below, was placed
+    -- in the memtable
     was_placed : (q : FlushRead) (b : ℕ) → m.0.hands.reading ≡ Some q → q.taken ≡ Some b
-        → (n : EntryNote) → Contains q.held n
+        → (n : EntryNote) → Contains q.held n → q.above < n.end.0
         → Contains r.core.notes n × Contains r.core.placed (placed_at q.table q.memtable n)
-    was_placed q b is taken n h = let M = r.memtables in
+    was_placed q b is taken n h high = let M = r.memtables in
         let law = core_lawful shows o size s r in
         let R = reads_now shows o size s r id w m.0 there mine q is in let N = R.next b taken in
         let P = puts_now shows o size s r id w m.0 there mine in
@@ -191,17 +245,42 @@ module _ {K : Type 0} (shows : K → Lasting) (o : Beside) (size : PathSize) (sl
         (subst (λ l. Contains l n) (P.reads q b is taken) h) in (
           (M.sound q.seen_to q.table q.memtable n R.few lies).among,
           ⊎_elim
-              (λ p. let live = p.live in let low = R.live in let even = p.parity in
+              (λ p. let live = R.live in let even = p.parity in
               let made = (law.places.placed _ p.among).accepted.made in
               let near = (law.switches.tables q.table).bounds_rise.one_behind in
-              let same : p.memtable ≡ q.memtable = omega arith in
+              dite (dec_lt p.memtable q.memtable)
+              (λ less. absurd (let low = earlier_below r.core law q.table p.memtable q.memtable
+              n.end.0 less (sym R.live) p.among in let from = R.above in omega arith))
+              (λ not_less. let same : p.memtable ≡ q.memtable = omega arith in
               subst (λ (k : ℕ). Contains r.core.placed
-              (record { table = q.table; entry = n.end.0; memtable = k })) same p.among)
+              (record { table = q.table; entry = n.end.0; memtable = k })) same p.among))
               (λ run. let H = runs_there shows o size s r q.seen_to q.table q.memtable n R.few lies
               run in absurd (none_reads r.core law q.seen_to q.table H.memtable q.memtable H.place
               R.passed R.live H.parity))
               (M.settled q.seen_to q.table q.memtable n R.few lies),
         )
+
+    -- What is placed in a memtable that is not retired, and lies in that box, ends above the bound.
+    stays_above : (q : FlushRead) → m.0.hands.reading ≡ Some q → (p : Placed) (by : ℕ)
+        → Contains r.core.placed p → IsKeptAt r.core.tables p
+        → memtable_box size.seats by p.table p.memtable ≡ next_box size.seats q
+        → q.above < p.entry
+    stays_above q is p by placed live same = let x = r.core in
+        let law = core_lawful shows o size s r in
+        let R = reads_now shows o size s r id w m.0 there mine q is in let few = R.few in
+        let A = law.places.placed p placed in let inside = A.table in
+        let limit = law.sized.limits.few_tables in
+        let table : p.table ≡ q.table = omega arith in
+        let low = R.live in let made = A.accepted.made in
+        let near = (law.switches.tables p.table).bounds_rise.one_behind in
+        let at : (table_of x p.table).oldest_live ≡ q.memtable =
+        ap (λ (c : ℕ). (table_of x c).oldest_live) table ∙ R.live in
+        let memtable : p.memtable ≡ q.memtable = omega arith in
+        let from = R.above in
+        let high = placed_above x law q.table q.memtable p.entry R.passed
+        (subst (λ (y : ℕ × ℕ). Contains x.placed
+        (record { table = y.0; entry = p.entry; memtable = y.1 }))
+        (λ i. (table i, memtable i)) placed) in omega arith
 
     -- and all of it that the box's seat wrote lies there
     lies_there : (q : FlushRead) (b : ℕ) → m.0.hands.reading ≡ Some q → q.taken ≡ Some b
@@ -223,66 +302,92 @@ module _ {K : Type 0} (shows : K → Lasting) (o : Beside) (size : PathSize) (sl
         Contains (M.contents (memtable_box size.seats y.0 q.table q.memtable)) y.1)
         (λ i. (seat i, one i)) K.lies.1))
 
-  pub begins_read : (t : Table) (k g : ℕ)
-      → stage_of m.0.part t.0 ≡ Some (WithBarrier k g) → IsPast Write m.0 g
-      → FlushOldest t.0 m.0.part k → TakesNone m.0.hands → t.0 < 16 → t.0 < m.0.size.tables
-      → Allows (Ruled shows o size) slots id m (8 + 4 * t.0) (λ n. n)
-      (ReadBegun (step slots (8 + 4 * t.0) 0 0 none) m)
-  begins_read t k g at past oldest unread few inside s r _ there _ =
-      let n = slice_index s.words (8 + 4 * t.0) in let x = r.core in let e = Look w (Newest t) in
-      let q = first_read t.0 k in let h = with_reading (Some q) m.0.hands in
+    -- nothing is read yet of the least memtable that is not retired
+    first_reads : (t k g above : ℕ) → stage_of m.0.part t ≡ Some (WithBarrier k g)
+        → IsPast Write m.0 g → FlushOldest t m.0.part k → t < 16
+        → above ≡ bound_before r.core t k
+        → ReadsAre size.seats r.core m.0.part (first_read t k above)
+    first_reads t k g above at past oldest few from = record {
+      few = few;
+      switched = begun_at m.0.part t (WithBarrier k g) at refl;
+      passed = record {
+        group = g;
+        issued = (stage_exact r.core (core_lawful shows o size s r) w t (WithBarrier k g)
+            (stage_now shows o size slots id m w mine s r there t (WithBarrier k g) at)).issued;
+        passed = passed_now shows o size slots id m w mine s r there g past;
+      };
+      live = sym (oldest_is shows o size slots id m w mine s r there t k oldest);
+      above = from;
+      next = λ b taken. absurd (none-some b taken);
+      sound = λ n h. absurd (let l = h.1 in omega arith);
+      all = λ n h l. absurd (omega arith);
+    }
+
+  pub begins_first : (t : Table) (g : ℕ) → stage_of m.0.part t.0 ≡ Some (WithBarrier 0 g)
+      → IsPast Write m.0 g → FlushOldest t.0 m.0.part 0 → TakesNone m.0.hands → t.0 < 16
+      → t.0 < m.0.size.tables → Allows (Ruled shows o size) slots id m (8 + 4 * t.0) (λ n. n)
+      (FirstBegun (step slots (8 + 4 * t.0) 0 0 none) m)
+  begins_first t g at past oldest unread few inside s r _ there _ =
+      let n = slice_index s.words (8 + 4 * t.0) in let e = Look w (Newest t) in
+      let q = first_read t.0 0 0 in let h = with_reading (Some q) m.0.hands in
       let v' = view_after (with_hands h m.0) e n false in
-      let law = core_lawful shows o size s r in
-      let H = stage_exact x law w t.0 (WithBarrier k g)
-      (stage_now shows o size slots id m w mine s r there t.0 (WithBarrier k g) at) in
-      let live = oldest_is shows o size slots id m w mine s r there t.0 k oldest in
-      let did = looked s r there t few inside (Some q) keeps (λ b l. refl)
-      (λ C. read_still size.seats x.notes x.placed x.tables s.homes s.views r.memtables id w m.0 v'
-      there mine refl C.note C.claim
-      (place_still shows o size s r id w m.0 there mine e (Number n) (told_by false h) tt)
-      (Some q) refl
-      (λ z b is taken. absurd (none-some b (ap (λ (y : FlushRead). y.taken) (same_Some q z is)
-      ∙ taken)))
-      (takes_none m.0.hands unread))
-      (λ z is. subst (ReadsAre size.seats x m.0.part) (same_Some q z is) (record {
-        few = few;
-        switched = begun_at m.0.part t.0 (WithBarrier k g) at refl;
-        passed = record {
-          group = g;
-          issued = H.issued;
-          passed = passed_now shows o size slots id m w mine s r there g past;
-        };
-        live = sym live;
-        next = λ b taken. absurd (none-some b taken);
-        sound = λ n h. absurd (let l = h.1 in omega arith);
-        all = λ n h l. absurd (omega arith);
-      })) in (
+      let did = looked_still s r there (Newest t) few
+      (few_tables shows o size slots id m w mine s r there t.0 inside) (Some q) unread
+      (λ z is. ap (λ (y : FlushRead). y.taken) (sym (same_Some q z is)))
+      (λ z is. subst (ReadsAre size.seats r.core m.0.part) (same_Some q z is)
+      (first_reads s r there t.0 0 g 0 at past oldest few refl)) in (
         v',
         keeps,
         tt,
         did.0,
-        λ z k' u role _ word other. each_table_name shows o size slots id m w mine 8 t
-            (λ z u. FlushOldest u.0 m.0.part k' → MadeAs z (Look z (Newest u)) n
-            (with_reading (Some (first_read u.0 k')) m.0.hands) m.0 v' × (m.1 ≡ m.1))
-            (λ other. subst (λ (c : ℕ). MadeAs w (Look w (Newest t)) n
-            (with_reading (Some (first_read t.0 c)) m.0.hands) m.0 v' × (m.1 ≡ m.1))
-            (live ∙ sym (oldest_is shows o size slots id m w mine s r there t.0 k' other))
-            ((refl, did.1), refl)) z u role word other,
+        λ z u role _ word. each_table_name shows o size slots id m w mine 8 t
+            (λ z u. MadeAs z (Look z (Newest u)) n
+            (with_reading (Some (first_read u.0 0 0)) m.0.hands) m.0 v' × (m.1 ≡ m.1))
+            ((refl, did.1), refl) z u role word,
+      )
+
+  pub begins_next : (t : Table) (k g : ℕ) → stage_of m.0.part t.0 ≡ Some (WithBarrier (suc k) g)
+      → IsPast Write m.0 g → FlushOldest t.0 m.0.part (suc k) → TakesNone m.0.hands → t.0 < 16
+      → k < 256 → t.0 < m.0.size.tables
+      → Allows (Ruled shows o size) slots id m (131144 + 16 * k + t.0) (λ n. n)
+      (NextBegun (step slots (131144 + 16 * k + t.0) 0 0 none) m)
+  begins_next t k g at past oldest unread few small inside s r _ there _ =
+      let n = slice_index s.words (131144 + 16 * k + t.0) in let x = r.core in
+      let e = Look w (Bound t k) in let W = (core_lawful shows o size s r).switches.tables t.0 in
+      let live = oldest_is shows o size slots id m w mine s r there t.0 (suc k) oldest in
+      let made = W.bounds_rise.made in let least = W.bounds_rise.oldest_is_made in
+      let f = final_at (memtable_of x t.0 k).bound (W.retired_is_final k (omega arith)) in
+      let found : n ≡ bound_word (Final f.0) = r.words (Bound t k) (few, small)
+      ∙ ap bound_word f.1 in
+      let q = first_read t.0 (suc k) f.0.0 in let h = with_reading (Some q) m.0.hands in
+      let v' = view_after (with_hands h m.0) e n false in
+      let did = looked_still s r there (Bound t k) (few, small)
+      (few_tables shows o size slots id m w mine s r there t.0 inside, omega arith) (Some q) unread
+      (λ z is. ap (λ (y : FlushRead). y.taken) (sym (same_Some q z is)))
+      (λ z is. subst (ReadsAre size.seats r.core m.0.part) (same_Some q z is)
+      (first_reads s r there t.0 (suc k) g f.0.0 at past oldest few
+      (sym (ap key_of_bound f.1)))) in (
+        v',
+        keeps,
+        tt,
+        did.0,
+        λ z k' u role low word. each_bound_name shows o size slots id m w mine t k 0
+            (λ z u k' key. (above : ℕ) × (n ≡ bound_word (Final (record { 0 = above })))
+            × MadeAs z (Look z (Bound u k')) n
+            (with_reading (Some (first_read u.0 (suc k') above)) m.0.hands) m.0 v' × (m.1 ≡ m.1))
+            (f.0.0, found, (refl, did.1), refl) z u k' 0 role few low word refl,
       )
 
   pub ends_read : (t : Table) → TakesNone m.0.hands → t.0 < 16 → t.0 < m.0.size.tables
       → Allows (Ruled shows o size) slots id m (8 + 4 * t.0) (λ n. n)
       (ReadEnded (step slots (8 + 4 * t.0) 0 0 none) m)
   ends_read t unread few inside s r _ there _ =
-      let n = slice_index s.words (8 + 4 * t.0) in let x = r.core in let e = Look w (Newest t) in
+      let n = slice_index s.words (8 + 4 * t.0) in let e = Look w (Newest t) in
       let h = with_reading None m.0.hands in
       let v' = view_after (with_hands h m.0) e n false in
-      let did = looked s r there t few inside None keeps (λ b l. refl)
-      (λ C. read_still size.seats x.notes x.placed x.tables s.homes s.views r.memtables id w m.0 v'
-      there mine refl C.note C.claim
-      (place_still shows o size s r id w m.0 there mine e (Number n) (told_by false h) tt)
-      None refl (λ z b is taken. absurd (none-some z is)) (takes_none m.0.hands unread))
-      (λ z is. absurd (none-some z is)) in (
+      let did = looked_still s r there (Newest t) few
+      (few_tables shows o size slots id m w mine s r there t.0 inside) None unread
+      (λ z is. absurd (none-some z is)) (λ z is. absurd (none-some z is)) in (
         v',
         keeps,
         tt,
@@ -307,7 +412,8 @@ module _ {K : Type 0} (shows : K → Lasting) (o : Beside) (size : PathSize) (sl
       (same_Some p q (sym is ∙ reads.0)) ∙ reads.2) in
       let home = M.at_home box (omega arith) (omega arith)
       (next_home s r there q reads.0 reads.2) in
-      let did = looked s r there t small inside (Some z) (takes box home.0)
+      let did = looked s r there (Newest t) small
+      (few_tables shows o size slots id m w mine s r there t.0 inside) (Some z) (takes box home.0)
       (λ b l. set_else s.homes box b none (λ q. absurd (omega arith)))
       (λ C. read_taken size.seats x.notes x.placed x.tables s.homes s.views M id w m.0 v'
       there mine refl C.note C.claim
@@ -322,6 +428,7 @@ module _ {K : Type 0} (shows : K → Lasting) (o : Beside) (size : PathSize) (sl
         switched = R.switched;
         passed = R.passed;
         live = R.live;
+        above = R.above;
         next = λ b taken. (sym (same_Some box b taken), more);
         sound = R.sound;
         all = R.all;
@@ -344,41 +451,53 @@ module _ {K : Type 0} (shows : K → Lasting) (o : Beside) (size : PathSize) (sl
             )) (held, (refl, did.1), (home.0, refl, home.2))) z' u role word,
       )
 
-  pub gives_read : (t : Table) (q : FlushRead) (b : ℕ) (y : Slot K) (cs : List (ℕ × Slot K))
-      → m.0.hands.reading ≡ Some q → q.taken ≡ Some b → m.1 ≡ (b, y) ∷ cs → NotesAre y q.held
+  pub gives_read : (t : Table) (q : FlushRead) (b : ℕ) (left : List EntryNote) (y : Slot K)
+      (cs : List (ℕ × Slot K)) → m.0.hands.reading ≡ Some q → q.taken ≡ Some b
+      → IsTrimmed q.above q.held left → m.1 ≡ (b, y) ∷ cs → NotesAre y left
       → t.0 < 16 → t.0 < m.0.size.tables
       → Allows (Ruled shows o size) slots id m (8 + 4 * t.0) (λ n. n)
       (ReadGiven (step slots (8 + 4 * t.0) 0 0 none) m)
-  gives_read t q b y cs is taken holds kept small inside s r _ there _ =
+  gives_read t q b left y cs is taken trimmed holds kept small inside s r _ there _ =
       let n = slice_index s.words (8 + 4 * t.0) in let x = r.core in let e = Look w (Newest t) in
       let z = box_seen q in let h = with_reading (Some z) m.0.hands in
       let v' = view_after (with_hands h m.0) e n false in
       let R = reads_now shows o size s r id w m.0 there mine q is in let few = R.few in
       let N = R.next b taken in let box = N.0 in let low = N.1 in let deep = r.deep in
-      let did = looked s r there t small inside (Some z) gives
+      let did = looked s r there (Newest t) small
+      (few_tables shows o size slots id m w mine s r there t.0 inside) (Some z) gives
       (λ c l. subst (λ k. get_elem? (put_back s.homes k) c ≡ get_elem? s.homes c) (sym holds)
       (set_else s.homes b c (some y) (λ same. absurd (omega arith))))
       (λ C. subst (λ k. HasMemtables size.seats x.notes x.placed x.tables (put_back s.homes k)
       (set s.views id v')) (sym holds)
-      (read_given size.seats x.notes x.placed x.tables s.homes s.views r.memtables id w m.0 v'
+      (read_trimmed size.seats x.notes x.placed x.tables s.homes s.views r.memtables id w m.0 v'
       there mine refl C.note C.claim
       (place_still shows o size s r id w m.0 there mine e (Number n) (told_by false h) tt)
-      (Some z) refl
-      (λ k c is' taken'. absurd (none-some c (ap (λ (j : FlushRead). j.taken) (same_Some z k is')
-      ∙ taken'))) b q y is taken kept (omega arith)))
+      q z refl refl is b taken left trimmed
+      (λ j i u e steps t k few place same. unplaced s r there q is j i u e steps t k few place
+      (same ∙ N.0))
+      (λ j u apart e. subst (λ (c : ℕ). ¬ ReadsBox u.hands c) (sym N.0)
+      (alone s r there q is j u apart e))
+      (λ p by placed live same. stays_above s r there q is p by placed live (same ∙ N.0))
+      y kept (omega arith)))
       (λ k is'. subst (ReadsAre size.seats x m.0.part) (same_Some z k is') (record {
         few = R.few;
         switched = R.switched;
         passed = R.passed;
         live = R.live;
+        above = R.above;
         next = λ c taken'. absurd (none-some c taken');
         sound = λ n h. ⊎_elim (λ old. R.sound n old)
-            (λ new. was_placed s r there q b is taken n new)
-            (Contains-append_cases q.seen q.held n h);
+            (λ new. let f = filter_from (ends_above q.above) q.held n new in
+            was_placed s r there q b is taken n f.0 (ltb-true q.above n.end.0 f.1))
+            (Contains-append_cases q.seen (filter (ends_above q.above) q.held) n h);
         all = λ n noted below placed. dite (ℕ_discrete n.writer.0 q.seen_to)
-            (λ same. Contains-append_right q.seen q.held n
-            (lies_there s r there q b is taken n noted same placed))
-            (λ apart. Contains-append_left q.seen q.held n
+            (λ same. Contains-append_right q.seen (filter (ends_above q.above) q.held) n
+            (kept_in (ends_above q.above) q.held n
+            (lies_there s r there q b is taken n noted same placed)
+            (lt-ltb q.above n.end.0 (let from = R.above in let high = placed_above x
+            (core_lawful shows o size s r) q.table q.memtable n.end.0 R.passed placed in
+            omega arith))))
+            (λ apart. Contains-append_left q.seen (filter (ends_above q.above) q.held) n
             (R.all n noted (omega arith) placed));
       })) in (
         v',

@@ -46,7 +46,6 @@ use Rattle.path_rule.proofs.moves.Moving.{
   kept_before,
   part_is,
   place_still,
-  placed_still,
   plays_with,
   reads_now,
   reads_then,
@@ -142,8 +141,7 @@ module _ {K : Type 0} (shows : K → Lasting) (o : Beside) (size : PathSize) (sl
             None refl (λ z b is taken. absurd (none-some z is))
             (λ b Q. none-some b (sym (ap (λ (z : FlushRead). z.taken)
             (same_reading Q.0 q Q.1 sees.1) ∙ sees.4) ∙ Q.2)))
-            (kept_before shows o size s r e may empty)
-            (placed_still shows o size s r e may empty))
+            (kept_before shows o size s r e may empty))
             (reads_then shows o size s r id w m.0 there mine e refl may tt empty few rows f
             f false h refl told (λ z is. absurd (none-some z is))),
         λ z u role _ word. each_table_name shows o size slots id m w mine 10 t

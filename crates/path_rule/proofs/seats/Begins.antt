@@ -58,7 +58,7 @@ use Rattle.path_rule.specs.Lasts.{
   IsNew,
 }
 use Rattle.path_rule.specs.Layout.{first_words}
-use Rattle.path_rule.specs.Memtables.{PutsAs}
+use Rattle.path_rule.specs.Memtables.{PutNotes, PutsAs}
 use Rattle.path_rule.specs.Reads.{ReadsAs}
 use Rattle.path_rule.specs.Rule.{start_of, IsFit, Knows, IsSized, Ruled, opener}
 use Rattle.path_rule.specs.Trails.{ViewTells}
@@ -136,6 +136,7 @@ module _ {K : Type 0} (shows : K → Lasting) (o : Beside) where
       sound = λ w t m n _ h. absurd (let l = h.1 in omega arith);
       settled = λ w t m n _ h. absurd (let l = h.1 in omega arith);
       once = λ k b. omega arith;
+      noted = λ j u e. first_noted j u e;
     };
     reads = λ j u e. first_reads j u e;
     words = first_word size;
@@ -170,6 +171,12 @@ module _ {K : Type 0} (shows : K → Lasting) (o : Beside) where
           λ y. PutsAs (λ _. []) size.seats y.part y.hands y.role in
           subst P (some-injective (opener 0 size) u e) refl
       first_puts (suc j) u e = absurd (some-ne-none u (sym e))
+
+      first_noted : (j : ℕ) (u : View) → get_elem? (opener 0 size ∷ []) j ≡ some u
+          → PutNotes (start_of size).notes u.hands
+      first_noted zero u e = subst (λ (y : View). PutNotes (start_of size).notes y.hands)
+          (some-injective (opener 0 size) u e) (λ a h. absurd (let l = h.1 in omega arith))
+      first_noted (suc j) u e = absurd (some-ne-none u (sym e))
 
       first_view : (j : ℕ) (u : View) → get_elem? (opener 0 size ∷ []) j ≡ some u
           → IsSized size u × Knows (start_of size) []

@@ -50,7 +50,7 @@ use Rattle.path_rule.specs.declared.view.View.{View}
 use Rattle.path_rule.specs.Boxed.{HandsAs}
 use Rattle.path_rule.specs.Boxes.{HoldsAs, HoldsBox}
 use Rattle.path_rule.specs.Lasts.{shown}
-use Rattle.path_rule.specs.Memtables.{HasInHand, PutsAs}
+use Rattle.path_rule.specs.Memtables.{HasInHand, PutNotes, PutsAs}
 use Rattle.path_rule.specs.Reads.{ReadsAs}
 use Rattle.path_rule.specs.Rule.{IsSeat, Knows, SizedAs, IsSized, Ruled, new_seat}
 use Rattle.path_rule.specs.Sharing.{one_on, handing, handed_by, handed}
@@ -126,11 +126,17 @@ module _ {K : Type 0} (shows : K → Lasting) (o : Beside) (size : PathSize) (id
       in_hand = λ b e. absurd (none-some b e);
       rests = λ e. refl;
       tables = λ a h. absurd (let l = h.1 in omega arith);
-      applied = λ a h. absurd (let l = h.1 in omega arith);
+      applied = λ a q h. absurd (let l = h.1 in omega arith);
       running = λ q t m e. absurd (none-some q e);
       placed = λ a q h. absurd (let l = h.1 in omega arith);
       reads = λ q b e. absurd (none-some q e);
     }
+
+    abbrev Noted : View → Type 0
+    Noted y = PutNotes r.core.notes y.hands
+
+    new_noted : (w : ℕ) (z : PathSize) → Noted (new_seat w z)
+    new_noted w z = λ a h. absurd (let l = h.1 in omega arith)
 
     handed_out : k < size.seats → Ruled shows o size
         (record {
@@ -217,7 +223,15 @@ module _ {K : Type 0} (shows : K → Lasting) (o : Beside) (size : PathSize) (id
                 role = R.role;
                 claim = R.claim;
                 ends = R.ends;
-              });
+              })
+              (λ j u e. ⊎_elim
+              (λ old. ⊎_elim
+              (λ (t : (j ≡ id) × (handing v ≡ u)). subst Noted t.1 (r.memtables.noted id v at))
+              (λ (t : (j ≢ id) × (get_elem? s.views j ≡ some u)). r.memtables.noted j u t.1)
+              (at_set s.views id j (handing v) u old))
+              (λ (t : (handed v ≡ u) × (j ≡ new)). subst Noted t.0
+              (subst (λ ρ. Noted (handed_by ρ v.size)) (sym role) (new_noted k v.size)))
+              (at_end (set s.views id (handing v)) (handed v) u j e));
           reads = λ j u e. ⊎_elim
               (λ old. ⊎_elim
               (λ (t : (j ≡ id) × (handing v ≡ u)). subst Read t.1

@@ -17,6 +17,7 @@ use Rattle.std.proofs.Common.{
   ◌∙◌,
   subst,
   ⊎_elim,
+  arith,
 }
 use Rattle.std.proofs.lemmas.Bool.{false≢true}
 use mathlib.Core.Logic.{dite}
@@ -44,7 +45,7 @@ use Rattle.path_rule.specs.declared.view.View.{View}
 use Rattle.path_rule.specs.Boxed.{HandsAs}
 use Rattle.path_rule.specs.Boxes.{HoldsBox}
 use Rattle.path_rule.specs.Lasts.{shown}
-use Rattle.path_rule.specs.Memtables.{HasInHand, PutsAs}
+use Rattle.path_rule.specs.Memtables.{HasInHand, PutNotes, PutsAs}
 use Rattle.path_rule.specs.Reads.{ReadsAs}
 use Rattle.path_rule.specs.Rule.{IsSeat, Knows, IsSized, Ruled}
 use Rattle.path_rule.specs.Sharing.{spent, told_by, taking}
@@ -167,7 +168,15 @@ module _ {K : Type 0} (shows : K → Lasting) (o : Beside) (size : PathSize) (id
             (at_set (set s.views id (taking v u)) other j spent x e))
             (λ z key R. runs_else (set s.views id (taking v u)) other u spent
             (set_else s.views id other (taking v u) apart ∙ there) (idle s r there) z key
-            (runs_still s.views id v (taking v u) at refl refl z key R));
+            (runs_still s.views id v (taking v u) at refl refl z key R))
+            (λ j x e. let Noted : View → Type 0 = λ y. PutNotes r.core.notes y.hands in ⊎_elim
+            (λ (t : (j ≡ other) × (spent ≡ x)). subst Noted t.1
+            (λ a h. absurd (let l = h.1 in omega arith)))
+            (λ (t : (j ≢ other) × (get_elem? (set s.views id (taking v u)) j ≡ some x)). ⊎_elim
+            (λ (k : (j ≡ id) × (taking v u ≡ x)). subst Noted k.1 (r.memtables.noted id v at))
+            (λ (k : (j ≢ id) × (get_elem? s.views j ≡ some x)). r.memtables.noted j x k.1)
+            (at_set s.views id j (taking v u) x t.1))
+            (at_set (set s.views id (taking v u)) other j spent x e));
         reads = λ j x e. let Read : View → Type 0 = λ y. ReadsAs size.seats r.core y.part y.hands
             y.role in ⊎_elim
             (λ (t : (j ≡ other) × (spent ≡ x)). subst Read t.1 refl)
