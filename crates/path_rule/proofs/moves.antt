@@ -22,6 +22,7 @@ pub mod SyncSteps
 pub mod FilingFacts
 pub mod FiledLooks
 pub mod NotedSteps
+pub mod FiledSteps
 pub mod LentLooks
 pub mod RefusedSyncs
 pub mod DepositSteps

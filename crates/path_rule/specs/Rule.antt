@@ -41,7 +41,6 @@ use Rattle.path_core.specs.Parts.{
   seat_of,
   groups_of,
   table_of,
-  is_empty,
 }
 use Rattle.path_core.specs.Runs.{opening, Past}
 use Rattle.path_core.specs.SeatAfter.{Told, seat_after}
@@ -184,12 +183,10 @@ SizedAs size (Opener k) z = z ≡ size
 abbrev pub IsSized : PathSize → View → Type 0
 IsSized size v = SizedAs size v.role v.size
 
--- A step of a kind that is built: a memtable that is retired is empty, the log is stopped only with
--- a count of faults that has risen, a marker is claimed only while the log runs, and so is a group
--- of the append order made, where a marker of the seat wants a barrier.
+-- A step of a kind that is built: the log is stopped only with a count of faults that has risen, a
+-- marker is claimed only while the log runs, and so is a group of the append order made, where a
+-- marker of the seat wants a barrier.
 abbrev pub IsBuilt : ℕ → PathState → Event → Type 0
-IsBuilt opened x (Put by (OldestLive t) value) =
-    IsTrue (is_empty x t.0 (table_of x t.0).oldest_live)
 IsBuilt opened x (Put by Synced value) = Unit {0}
 IsBuilt opened x (Put by Stopped value) = HasRisen opened value
 IsBuilt opened x (OpenGroup by Append group) = WantsBarrier Append x by × (x.stopped ≡ 0)

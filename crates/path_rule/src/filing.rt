@@ -161,6 +161,44 @@ impl<K: Keeper, A: Allocator> PathTable<K, A> {
         (Member { seat, number }, done)
     }
 
+    /// Retires the least memtable of a table that is not retired, once its table file is put on the
+    /// desk: the boxes of all seats were seen, something was placed in it, and the log is lasting
+    /// up to its bound. The desk tells of the file then.
+    pub fn retire_filed(&self, member: &mut Member<K>, table: Table, memtable: u64, bound: Key)
+        requires table { IsOf self.now.table.shared.table_id self.now.size member.old }
+        requires there { (table.0 < self.now.size.tables) × (memtable < 256) }
+        requires files { self.now.size.files ≡ true }
+        requires turn { (key : ℕ) × TurnSynced (part_of member.old) key
+            × (bound.0 ≤ after self.now.size.capacity key)
+            × ((hands_of member.old).box_taken ≡ None) }
+        requires bound { FoundFinal table.0 (part_of member.old) memtable bound.0 }
+        requires file { (q : FlushRead) × (cells : List (CellKey × Cell))
+            × SeesAll self.now.size.seats (hands_of member.old) table.0 memtable q
+            × (q.seen ≢ []) × AreSeen q table.0 cells
+            × CarriesFiled (shows_of K.holds)
+            (next_file (hands_of member.old).lasting table.0 bound.0 cells) member.old.seat.me }
+        ensures same { KeepsBoxes member.old member.new }
+        ensures step { (lasting : Lasting) (pending : List EntryNote)
+            → CarriesAs (shows_of K.holds) lasting pending (hands_of member.old).progress
+            member.old.seat.me
+            → SteppedFiled member.old (Put member.old.number (OldestLive table) (memtable + 1))
+            (memtable + 1) (with_reading None
+            (with_desk lasting pending (hands_of member.old).progress (hands_of member.old)))
+            member.new }
+        ensures filed { has_filed (part_of member.new) ≡ true }
+        ensures turn { (key : ℕ) → TurnSynced (part_of member.old) key
+            → TurnSynced (part_of member.new) key }
+        ensures give { Holds Rest (view_of member.old) → Holds Rest (view_of member.new) }
+        ensures desk { CarriesDesk (shows_of K.holds) member.new.seat.me }
+    {
+        let _ = bound;
+        self.table.shared.store::<RetireFiled<K>>(
+            &mut member.seat,
+            OLDEST_LIVE + 4 * table.0 as usize,
+            memtable + 1,
+        );
+    }
+
     /// Drops the segments that may go, by the keeper on the desk: those below that of the synced
     /// key, which the member found in its turn, of which table files hold all that they hold. It
     /// has filed a memtable in that turn. It tells how many went.

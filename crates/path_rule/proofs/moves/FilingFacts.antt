@@ -216,7 +216,7 @@ module _ {K : Type 0} (shows : K → Lasting) (o : Beside) (size : PathSize) (sl
         Contains l file) (sym files_then) (Contains-append_right x.files (file ∷ []) file
         (zero, (let l : 0 < suc (length {A = WrittenFile} []) = omega arith in l), refl)))
 
-    upper_is : file.upper ≡ bound
+    pub upper_is : file.upper ≡ bound
     upper_is = ap key_of_bound (ap (λ (c : ℕ). (memtable_of x t.0 c).bound) live ∙ bound_is)
 
     -- what was seen is what the notes have in the file's interval

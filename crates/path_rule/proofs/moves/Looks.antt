@@ -87,6 +87,7 @@ use Rattle.path_rule.proofs.moves.LeavesWrites.{
   LeavesReading,
   LeavesWrite,
   claim_left,
+  files_left,
   leaves_places,
   note_left,
   placed_left,
@@ -205,7 +206,7 @@ module _ {K : Type 0} (shows : K → Lasting) (o : Beside) (size : PathSize) (sl
           keeps,
           tt,
           plays_with shows o size s r id w m.0 there mine e by may whole built spot rows n found
-              false m.0.hands now told m.1 keeps (boxed C)
+              false m.0.hands now told (files_left x m.0.hands e quiet) m.1 keeps (boxed C)
               (memtables_then shows o size s r id w m.0 there mine e by may whole built spot rows n
               found false m.0.hands now told m.1 keeps tt refl refl refl (puts C) kept (runs C))
               (reads_still shows o size s r id w m.0 there mine e by may whole built spot rows n

@@ -126,7 +126,7 @@ use Rattle.path_rule.proofs.boxes.MemtablesStay.{
 }
 use Rattle.path_rule.proofs.boxes.ReadsStay.{reads_on}
 use Rattle.path_rule.proofs.boxes.Switching.{LeavesSwitch, switch_stays, switched_held}
-use Rattle.path_rule.proofs.log.BuiltSteps.{same_files, still_risen}
+use Rattle.path_rule.proofs.log.BuiltSteps.{still_risen}
 use Rattle.path_rule.proofs.log.FilingStays.{filing_stays}
 use Rattle.path_rule.specs.Trails.{TrailTells, ViewTells}
 use Rattle.path_rule.proofs.log.KeptStays.{kept_stays}
@@ -137,6 +137,7 @@ use Rattle.path_rule.proofs.moves.LeavesWrites.{
   LeavesWrite,
   MovesBelow,
   claim_left,
+  files_left,
   leaves_places,
   live_moves,
   live_still,
@@ -186,7 +187,7 @@ module _ {K : Type 0} (shows : K → Lasting) (o : Beside) (size : PathSize) (s 
     pub kept_before : (p : Placed) → IsKeptAt (next_of r.core e).tables p
         → IsKeptAt r.core.tables p
     kept_before p live = ⊎_elim (λ same. subst (λ (k : ℕ). k ≤ p.memtable) same live)
-        (λ up. let more = up.0 in omega arith) (live_moves size.at_open r.core e may built p.table)
+        (λ up. omega arith) (live_moves r.core e may p.table)
 
     -- so what was placed lies there still
     pub still_kept : placed_after r.core e ≡ r.core.placed → (p : Placed)
@@ -515,10 +516,9 @@ module _ {K : Type 0} (shows : K → Lasting) (o : Beside) (size : PathSize) (s 
             (at_set s.views id j v' u p);
       }
 
-      -- what was filed and dropped is what the state has still
-      filing_now : HasFiled size x' r.filed r.dropped
-      filing_now = filing_stays r.core core_lawful size r.filed r.dropped e may
-          (same_files size.at_open r.core e built) r.filing
+      -- what was filed and dropped is what the state has still, where it gives no file
+      filing_now : x'.files ≡ r.core.files → HasFiled size x' r.filed r.dropped
+      filing_now same = filing_stays r.core core_lawful size r.filed r.dropped e may same r.filing
 
       -- where no box of a memtable moves, and the seat's write stays
       pub plays_filed : (key : ℕ) → MayBeKept x' key → (put : Filed) (gone : List ℕ)
@@ -538,7 +538,8 @@ module _ {K : Type 0} (shows : K → Lasting) (o : Beside) (size : PathSize) (s 
           → SameHeld v.hands h → MovesBelow (boxes size.seats) cs a → LeavesReading v.hands e
           → Ruled shows o size (stepped s (word_at (place_of e)) n id cs v' a)
       plays_to key may_be cs a boxed leaves held below quiet = plays_filed key may_be r.filed
-          r.dropped filing_now cs a boxed leaves held below quiet
+          r.dropped (filing_now (files_left r.core v.hands e quiet)) cs a boxed leaves held below
+          quiet
 
       kept_now : MayBeKept x' r.kept_to
       kept_now = kept_stays r.core core_lawful e may r.kept_to r.may_be_kept
@@ -552,9 +553,9 @@ module _ {K : Type 0} (shows : K → Lasting) (o : Beside) (size : PathSize) (s 
       plays cs a boxed = plays_to r.kept_to kept_now cs a boxed
 
       -- and what is in the boxes of memtables
-      pub plays_with : (cs : List (ℕ × Slot K)) (a : Act (Slot K))
+      pub plays_with : x'.files ≡ r.core.files → (cs : List (ℕ × Slot K)) (a : Act (Slot K))
           → Boxed shows size.seats x'.notes (shown o size.at_open r.kept_to r.filed r.dropped x') x'.claims x'.append
           (homes_after s.homes cs a) (set s.views id v') → MemtablesThen cs a → ReadsThen
           → Ruled shows o size (stepped s (word_at (place_of e)) n id cs v' a)
-      plays_with cs a boxed memtables reads = plays_all r.kept_to kept_now r.filed r.dropped
-          filing_now cs a boxed memtables reads
+      plays_with same cs a boxed memtables reads = plays_all r.kept_to kept_now r.filed r.dropped
+          (filing_now same) cs a boxed memtables reads
