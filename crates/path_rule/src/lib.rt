@@ -71,10 +71,3 @@ pub use table::{Member, Opener, PathTable};
 pub use trying::{Begun, PathSeat, Seen};
 pub use view::{FlushRead, Hands, OwnStep, PathKey, PathSize, Progress, Returned, Role, View};
 pub use waiting::{Holder, Passed};
-
-#[cfg(test)]
-mod late_tests;
-#[cfg(test)]
-mod rows_tests;
-#[cfg(test)]
-mod tests;
