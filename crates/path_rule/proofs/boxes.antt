@@ -17,7 +17,7 @@ pub mod MemtablesStay
 pub mod MemtablePut
 pub mod OtherBoxes
 pub mod InItsBox
-pub mod Switching
+pub mod TurnHeld
 pub mod ReadsStay
 pub mod AboveBound
 pub mod MemtableReads

@@ -29,5 +29,6 @@ pub mod DepositSteps
 pub mod AppendMoved
 pub mod FinishSteps
 pub mod MemtableSteps
+pub mod LeftMemtables
 pub mod ReadSteps
 pub mod RetireSteps

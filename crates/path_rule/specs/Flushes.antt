@@ -1,5 +1,6 @@
 -- The holder of a table's Flush turn reads what lies in the boxes of a memtable behind its barrier.
 use Rattle.std.specs.Prelude.{◌≡◌, ℕ, zero, suc, ◌+◌, ◌*◌, ◌<◌, List, [], ◌∷◌, Some, None}
+use Rattle.std.specs.List.{Contains}
 use Rattle.atomic_table.specs.Table.{Me, Step, rest}
 use Rattle.clog_base.specs.declared.cell.Table.{Table}
 use Rattle.path_core.specs.declared.event.Cursor.TheVariants.{OldestLive}
@@ -8,6 +9,7 @@ use Rattle.path_core.specs.declared.event.Place.{Place}
 use Rattle.path_core.specs.declared.event.Place.TheVariants.{Bound, Newest}
 use Rattle.path_core.specs.declared.note.EntryNote.{EntryNote}
 use Rattle.path_core.specs.declared.state.Bound.TheVariants.{Final}
+use Rattle.path_core.specs.Whole.{IsWhole}
 use Rattle.path_rule.specs.declared.slot.Slot.{Slot}
 use Rattle.path_rule.specs.declared.view.FlushRead.{FlushRead}
 use Rattle.path_rule.specs.declared.view.Hands.{Hands}
@@ -46,9 +48,10 @@ SeesNone seats h t m = (q : FlushRead) × (h.reading ≡ Some q) × (q.table ≡
     × (q.taken ≡ None) × (q.seen_to ≡ seats) × (q.seen ≡ [])
 
 module _ {K : Type 0} where
-  -- the box came, with these notes in it
+  -- the box came, with these notes in it, each of which is whole
   abbrev pub TookRead : ℕ → List EntryNote → Me (Slot K) View → Me (Slot K) View → Type 0
   TookRead b held m m' = (y : Slot K) × (m'.1 ≡ (b, y) ∷ m.1) × NotesAre y held
+      × ((n : EntryNote) → Contains held n → IsWhole n)
 
   -- At a look at the newest memtable of a table its first one is read from now on.
   abbrev pub FirstBegun : Step (Slot K) → Me (Slot K) View → ℕ → Me (Slot K) View → Type 0

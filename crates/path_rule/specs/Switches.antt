@@ -1,5 +1,5 @@
 -- What the holder of a table's Flush turn found of its memtables, or put there, while it held it.
-use Rattle.std.specs.Prelude.{◌≡◌, ◌≢◌, ◌⊎◌, ℕ, ◌≤◌, Some}
+use Rattle.std.specs.Prelude.{◌≡◌, ◌≢◌, ◌⊎◌, ℕ, ◌<◌, ◌≤◌, Some}
 use Rattle.op_core.specs.declared.count.Order.TheVariants.{Write}
 use Rattle.path_core.specs.declared.seat.FlushTurn.{FlushTurn}
 use Rattle.path_core.specs.declared.seat.Seat.{Seat}
@@ -17,10 +17,10 @@ abbrev pub ReadsNone : ℕ → Hands → Type 0
 ReadsNone t h = (q : FlushRead) → h.reading ≡ Some q → q.table ≢ t
 
 -- The newest switch of a table is through, so that its turn may be given back: the seat began none,
--- or the barrier of the last one is passed, as the seat found with the Sync turn or without it, and
+-- or the barrier of the last one is passed, as the seat found with the Sync turn or without it. And
 -- it reads no memtable of the table.
 abbrev pub MayGiveFlush : ℕ → View → Type 0
-MayGiveFlush t v = ((stage_of v.part t ≡ Some Settled)
+MayGiveFlush t v = (((stage_of v.part t ≡ Some Settled) × ReadsNone t v.hands)
     ⊎ ((m g : ℕ) × (stage_of v.part t ≡ Some (WithBarrier m g)) × FoundPast v.part g
     × ReadsNone t v.hands))
     ⊎ ((m g : ℕ) × (stage_of v.part t ≡ Some (WithBarrier m g)) × IsPast Write v g
@@ -35,6 +35,22 @@ FlushNewest t p n = (turn : FlushTurn) × ((seat_table p t).flush ≡ Some turn)
 abbrev pub FlushOldest : ℕ → Seat → ℕ → Type 0
 FlushOldest t p n = (turn : FlushTurn) × ((seat_table p t).flush ≡ Some turn)
     × (turn.oldest_live ≡ Some n)
+
+-- An earlier holder of the turn switched the memtable, and left it: the seat began no switch, and
+-- the memtable lies below the newest.
+abbrev pub IsLeft : ℕ → Seat → ℕ → Type 0
+IsLeft t p m = (n : ℕ) × (stage_of p t ≡ Some Settled) × FlushNewest t p n × (m < n)
+
+-- No write is placed in the memtable any more: the barrier that the seat issued for it is passed, as
+-- it found with the Sync turn or without it, or an earlier holder left the memtable.
+abbrev pub MayBeginRead : ℕ → View → ℕ → Type 0
+MayBeginRead t v m = ((g : ℕ) × (stage_of v.part t ≡ Some (WithBarrier m g))
+    × (IsPast Write v g ⊎ FoundPast v.part g))
+    ⊎ IsLeft t v.part m
+
+-- The memtable is final: the seat issued its barrier, or an earlier holder left it.
+abbrev pub IsFinalLeft : ℕ → Seat → ℕ → Type 0
+IsFinalLeft t p m = ((g : ℕ) × (stage_of p t ≡ Some (WithBarrier m g))) ⊎ IsLeft t p m
 
 -- the bound of a raising memtable, which is at or above this key since
 abbrev pub FlushRaised : ℕ → Seat → ℕ → ℕ → Type 0

@@ -4,16 +4,12 @@
 //! at which a box moves are at the table's newest memtable, a word that hardly ever changes.
 ghost use Rattle.std.specs.Prelude.{◌≡◌, ℕ, suc, ◌+◌, ◌<◌, List, [], Some, None};
 ghost use Rattle.atomic_table.specs.Table.{rest};
-ghost use Rattle.op_core.specs.declared.count.Order.TheVariants.{Write};
 ghost use Rattle.path_core.specs.declared.event.Cursor.TheVariants.{OldestLive};
 ghost use Rattle.path_core.specs.declared.event.Event.TheVariants.{Look, Put};
 ghost use Rattle.path_core.specs.declared.event.Place.TheVariants.{Bound, Newest};
 ghost use Rattle.path_core.specs.declared.note.EntryNote.{EntryNote};
-ghost use Rattle.path_core.specs.declared.seat.Switching.TheVariants.{WithBarrier};
 ghost use Rattle.path_core.specs.declared.state.Bound.TheVariants.{Final};
-ghost use Rattle.path_core.specs.Parts.{stage_of};
 ghost use Rattle.path_rule.specs.declared.view.FlushRead.{FlushRead};
-ghost use Rattle.path_rule.specs.Calls.{IsPast};
 ghost use Rattle.path_rule.specs.Flushes.{
   next_box,
   place_below,
@@ -36,7 +32,7 @@ ghost use Rattle.path_rule.specs.Members.{
   PutsBack,
   SteppedAs,
 };
-ghost use Rattle.path_rule.specs.Switches.{FlushOldest};
+ghost use Rattle.path_rule.specs.Switches.{FlushOldest, MayBeginRead};
 ghost use Rattle.path_rule.specs.Told.{CarriesNotes};
 ghost use Rattle.path_rule.specs.Trimmed.{IsTrimmed};
 
@@ -55,9 +51,7 @@ impl<K: Keeper, A: Allocator> PathTable<K, A> {
     fn begin_first(&self, member: &mut Member<K>, table: Table) -> u64
         requires table { IsOf self.now.table.shared.table_id self.now.size member.old }
         requires there { table.0 < self.now.size.tables }
-        requires stage { (g : ℕ)
-            × (stage_of (part_of member.old) table.0 ≡ Some (WithBarrier 0 g))
-            × IsPast Write (view_of member.old) g }
+        requires stage { MayBeginRead table.0 (view_of member.old) 0 }
         requires oldest { FlushOldest table.0 (part_of member.old) 0 }
         requires unread { TakesNone (hands_of member.old) }
         ensures same { KeepsBoxes member.old member.new }
@@ -73,9 +67,7 @@ impl<K: Keeper, A: Allocator> PathTable<K, A> {
     fn begin_next(&self, member: &mut Member<K>, table: Table, below: u64) -> u64
         requires table { IsOf self.now.table.shared.table_id self.now.size member.old }
         requires there { (table.0 < self.now.size.tables) × (below < 256) }
-        requires stage { (g : ℕ)
-            × (stage_of (part_of member.old) table.0 ≡ Some (WithBarrier (suc below) g))
-            × IsPast Write (view_of member.old) g }
+        requires stage { MayBeginRead table.0 (view_of member.old) (suc below) }
         requires oldest { FlushOldest table.0 (part_of member.old) (suc below) }
         requires unread { TakesNone (hands_of member.old) }
         ensures same { KeepsBoxes member.old member.new }
@@ -92,14 +84,13 @@ impl<K: Keeper, A: Allocator> PathTable<K, A> {
     }
 
     /// Begins to read the least memtable of a table that is not retired, whose barrier is passed:
-    /// nothing more is placed in it. Returns the key above which its interval begins: the final
-    /// bound of the memtable below, which is retired, or 0 where there is none.
+    /// nothing more is placed in it. The member issued the barrier, or an earlier holder of the
+    /// table's Flush turn did, and left the memtable. Returns the key above which its interval
+    /// begins: the final bound of the memtable below, which is retired, or 0 where there is none.
     pub fn begin_read(&self, member: &mut Member<K>, table: Table, memtable: u64) -> u64
         requires table { IsOf self.now.table.shared.table_id self.now.size member.old }
         requires there { (table.0 < self.now.size.tables) × (memtable < 256) }
-        requires stage { (g : ℕ)
-            × (stage_of (part_of member.old) table.0 ≡ Some (WithBarrier memtable g))
-            × IsPast Write (view_of member.old) g }
+        requires stage { MayBeginRead table.0 (view_of member.old) memtable }
         requires oldest { FlushOldest table.0 (part_of member.old) memtable }
         requires unread { TakesNone (hands_of member.old) }
         ensures same { KeepsBoxes member.old member.new }
@@ -116,8 +107,9 @@ impl<K: Keeper, A: Allocator> PathTable<K, A> {
         }
     }
 
-    /// Takes the box of the next seat, to look at what is in it. The box may hold what a retired
-    /// memtable of the same parity left there.
+    /// Takes the box of the next seat, to look at what is in it: notes, each of which is whole. The
+    /// box may hold what a retired memtable of the same parity left there. Returns the number of
+    /// the newest memtable.
     pub fn take_read(&self, member: &mut Member<K>, table: Table) -> u64
         requires table { IsOf self.now.table.shared.table_id self.now.size member.old }
         requires there { table.0 < self.now.size.tables }

@@ -143,8 +143,8 @@ pub fn what_was_placed_lies_in_memtables<K: Keeper>()
 {}
 
 /// Once the holder of a table's Flush turn has seen the boxes of all seats behind the barrier of a
-/// memtable, what it has seen are exactly the entries of the memtable's log interval that touch its
-/// table.
+/// memtable, what it has seen are notes of the state: exactly those of the entries of the memtable's
+/// log interval that touch its table.
 pub fn what_was_seen_is_the_memtables_interval<K: Keeper>()
     ensures { (o : Beside) (size : PathSize) (s : State (Slot K) View)
         (r : Ruled (shows_of K.holds) o size s) (j w : ℕ) (v : View) (q : FlushRead)

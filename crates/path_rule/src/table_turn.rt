@@ -56,7 +56,7 @@ impl<K: Keeper, A: Allocator> PathTable<K, A> {
     }
 
     /// Gives the Flush turn of a table back: none of its switches was begun in this holding, or the
-    /// barrier of the last one is passed.
+    /// barrier of the last one is passed. And no memtable of the table is read.
     pub fn give_flush(&self, member: &mut Member<K>, table: Table)
         requires table { IsOf self.now.table.shared.table_id self.now.size member.old }
         requires there { table.0 < self.now.size.tables }

@@ -19,7 +19,6 @@ use Rattle.path_rule.specs.Reads.{ReadsAs}
 use Rattle.path_rule.specs.Rule.{Knows, Ruled}
 use Rattle.path_rule.proofs.boxes.InItsBox.{one_keeper}
 use Rattle.path_rule.proofs.boxes.ReadsStay.{none_reads}
-use Rattle.path_rule.proofs.boxes.Switching.{switched_held}
 use Rattle.path_rule.proofs.moves.Moving.{core_lawful, part_is}
 
 module _ {K : Type 0} (shows : K → Lasting) (o : Beside) (size : PathSize) (s : State (Slot K) View)
@@ -67,10 +66,10 @@ module _ {K : Type 0} (shows : K → Lasting) (o : Beside) (size : PathSize) (s 
           (ap (λ (p : Seat). is_some (seat_table p Q.0.table).flush)
           (sym (part_is shows o size s r j z u at is))
           ∙ (ap (λ (c : ℕ). is_some (seat_table u.part c).flush) (sym table)
-          ∙ switched_held u.part N.0.table H.switched))
+          ∙ H.held))
           (ap (λ (p : Seat). is_some (seat_table p Q.0.table).flush)
           (sym (part_is shows o size s r i y v there is'))
-          ∙ switched_held v.part Q.0.table G.switched) in
+          ∙ G.held) in
           sym k.0.1 ∙ (ap r.owner same ∙ q.0.1)
 
   pub one_in_hand : (j i b : ℕ) (u v : View) → get_elem? s.views j ≡ some u

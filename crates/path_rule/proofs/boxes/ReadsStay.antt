@@ -1,5 +1,5 @@
 -- What a holder of a Flush turn has read of a memtable stays so while the machine goes on.
-use Rattle.std.proofs.Common.{◌≡◌, ℕ, ◌<◌, true, Some, sym, ◌∙◌, subst, arith}
+use Rattle.std.proofs.Common.{◌≡◌, ℕ, ◌<◌, true, Some, is_some, sym, ◌∙◌, subst, arith}
 use Rattle.std.specs.Prelude.{◌%◌}
 use mathlib.Core.Logic.{dite}
 use native.Mathlib.Decide.{dec_lt}
@@ -20,7 +20,7 @@ use Rattle.path_core.proofs.places.Closing.{own_at}
 use Rattle.path_core.proofs.places.KeepsPlaces.{same_note}
 use Rattle.path_core.proofs.runs.EveryRun.{placing_of}
 use Rattle.path_rule.specs.declared.view.FlushRead.{FlushRead}
-use Rattle.path_rule.specs.Reads.{has_switched, placed_at, ReadsAre}
+use Rattle.path_rule.specs.Reads.{placed_at, ReadsAre}
 
 module _ (x : PathState) (L : IsLawfulPath x) (e : Event) (may : IsStep x e)
     (N : IsLawfulPath (next_of x e)) where
@@ -31,12 +31,12 @@ module _ (x : PathState) (L : IsLawfulPath x) (e : Event) (may : IsStep x e)
   Y = placing_of (next_of x e) N
 
   pub reads_on : (seats : ℕ) (p p' : Seat) (q : FlushRead) → ReadsAre seats x p q
-      → has_switched (seat_table p' q.table) ≡ true
+      → is_some (seat_table p' q.table).flush ≡ true
       → (table_of (next_of x e) q.table).oldest_live ≡ (table_of x q.table).oldest_live
       → ReadsAre seats (next_of x e) p' q
-  reads_on seats p p' q R switched live = record {
+  reads_on seats p p' q R held live = record {
     few = R.few;
-    switched = switched;
+    held = held;
     passed = passed_stays x L.orders e may q.table q.memtable R.passed;
     live = live ∙ R.live;
     above = R.above ∙ sym (before_stays x Z e may q.table q.memtable

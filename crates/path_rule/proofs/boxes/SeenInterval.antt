@@ -38,12 +38,15 @@ module _ {K : Type 0} (shows : K → Lasting) (o : Beside) (size : PathSize) (s 
       )
 
   pub sees_its_interval : SeesItsInterval r.core q
-  sees_its_interval entry = let law = core_lawful shows o size s r in
+  sees_its_interval = let law = core_lawful shows o size s r in
       let Z = placing_of r.core law in
-      let R = reads_now shows o size s r j w v at role q is in
-      let H = holds_interval r.core Z.core Z.places q.table q.memtable R.passed entry in (
-        (λ h. H.0 (subst (λ (k : ℕ). Contains r.core.placed
-            (record { table = q.table; entry = k; memtable = q.memtable })) h.2
-            (R.sound h.0 h.1).1)),
-        (λ T. all_seen entry (H.1 T)),
-      )
+      let R = reads_now shows o size s r j w v at role q is in record {
+        among = λ n h. (R.sound n h).0;
+        ends = λ entry.
+            let H = holds_interval r.core Z.core Z.places q.table q.memtable R.passed entry in (
+              (λ h. H.0 (subst (λ (k : ℕ). Contains r.core.placed
+                  (record { table = q.table; entry = k; memtable = q.memtable })) h.2
+                  (R.sound h.0 h.1).1)),
+              (λ T. all_seen entry (H.1 T)),
+            );
+      }

@@ -49,7 +49,7 @@ use Rattle.atomic_table.specs.Table.{
 }
 use Rattle.path_core.specs.declared.event.Event.{Event}
 use Rattle.path_core.specs.declared.event.Cursor.TheVariants.{OldestLive, Stopped, Synced}
-use Rattle.path_core.specs.declared.event.Event.TheVariants.{GiveTurn, Put, TakeTurn}
+use Rattle.path_core.specs.declared.event.Event.TheVariants.{GiveTurn, Put}
 use Rattle.path_core.specs.declared.event.Reading.{Reading}
 use Rattle.path_core.specs.declared.event.Turn.TheVariants.{Sync, Flush}
 use Rattle.path_core.specs.declared.note.EntryNote.{EntryNote}
@@ -125,7 +125,7 @@ use Rattle.path_rule.proofs.boxes.MemtablesStay.{
   SameHeld,
 }
 use Rattle.path_rule.proofs.boxes.ReadsStay.{reads_on}
-use Rattle.path_rule.proofs.boxes.Switching.{LeavesSwitch, switch_stays, switched_held}
+use Rattle.path_rule.proofs.boxes.TurnHeld.{held_stays, LeavesTurn}
 use Rattle.path_rule.proofs.log.BuiltSteps.{still_risen}
 use Rattle.path_rule.proofs.log.FilingStays.{filing_stays}
 use Rattle.path_rule.specs.Trails.{TrailTells, ViewTells}
@@ -405,7 +405,7 @@ module _ {K : Type 0} (shows : K → Lasting) (o : Beside) (size : PathSize) (s 
               apart (sym mine'.1 ∙ (ap r.owner (core_lawful.orders.one_holder_a_turn.one (Flush t)
               z w (ap (λ (p : Seat). is_some (seat_table p t.0).flush) (sym mine'.2)
               ∙ (ap (λ (k : ℕ). is_some (seat_table u.part k).flush) (sym same)
-              ∙ switched_held u.part q.table R.switched))
+              ∙ R.held))
               (subst (λ (k : ℕ). is_some (seat_table (seat_of r.core k) t.0).flush ≡ true) is
               a.row.0)) ∙ known.1.1))
           leaves_live (Put y Synced value) a is apart there z role q R = tt
@@ -417,7 +417,7 @@ module _ {K : Type 0} (shows : K → Lasting) (o : Beside) (size : PathSize) (s 
           other apart there (Opener k) is R = R
           other apart there Spent is R = R
           other apart there (Steps z) is R = λ q has. reads_on r.core core_lawful e may next_lawful
-              size.seats u.part u.part q (R q has) (R q has).switched
+              size.seats u.part u.part q (R q has) (R q has).held
               (live_still r.core e may q.table (leaves_live e may by apart there z is q (R q has)))
 
       -- and that of the seat, where the step leaves it
@@ -425,8 +425,7 @@ module _ {K : Type 0} (shows : K → Lasting) (o : Beside) (size : PathSize) (s 
       reads_still leaves same = reads_then (λ q has. let before = sym same ∙ has in
           let R = reads_now q before in
           reads_on r.core core_lawful e may next_lawful size.seats v.part v'.part q R
-          (switch_stays e v.part (reading_at (place_of e) found) (told_by filed h) q.table
-          (leaves_switch e may by leaves q before) R.switched)
+          (held_stays e v.part v'.part columns_now q.table (leaves_turn e leaves q before) R.held)
           (live_still r.core e may q.table (leaves_live e leaves q)))
         where
           leaves_live : (d : Event) → LeavesReading v.hands d → (q : FlushRead)
@@ -436,14 +435,11 @@ module _ {K : Type 0} (shows : K → Lasting) (o : Beside) (size : PathSize) (s 
           leaves_live (Put y Stopped value) leaves q = tt
           leaves_live d leaves q = tt
 
-          leaves_switch : (d : Event) → IsStep r.core d → by_of d ≡ w → LeavesReading v.hands d
-              → (q : FlushRead) → v.hands.reading ≡ Some q → LeavesSwitch v.part q.table d
-          leaves_switch (GiveTurn by (Flush t)) may is leaves q has = leaves q has
-          leaves_switch (TakeTurn by (Flush t)) may is leaves q has =
-              ap (λ (p : Seat). is_some (seat_table p t.0).flush) part_is ∙ may.row.1 w
-          leaves_switch (TakeTurn by Sync) may is leaves q has = tt
-          leaves_switch (GiveTurn by Sync) may is leaves q has = tt
-          leaves_switch d may is leaves q has = tt
+          leaves_turn : (d : Event) → LeavesReading v.hands d → (q : FlushRead)
+              → v.hands.reading ≡ Some q → LeavesTurn q.table d
+          leaves_turn (GiveTurn by (Flush t)) leaves q has = leaves q has
+          leaves_turn (GiveTurn by Sync) leaves q has = tt
+          leaves_turn d leaves q has = tt
 
       -- with what the keeper may have kept up to a key, and what is in the boxes
       pub plays_all : (key : ℕ) → MayBeKept x' key → (put : Filed) (gone : List ℕ)

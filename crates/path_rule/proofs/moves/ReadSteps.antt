@@ -29,7 +29,6 @@ use Rattle.atomic_table.specs.Table.{
   Allows,
 }
 use Rattle.clog_base.specs.declared.cell.Table.{Table}
-use Rattle.op_core.specs.declared.count.Order.TheVariants.{Write}
 use Rattle.path_core.specs.declared.event.Event.TheVariants.{Look}
 use Rattle.path_core.specs.declared.event.Place.{Place}
 use Rattle.path_core.specs.declared.event.Place.TheVariants.{Bound, Newest}
@@ -37,7 +36,6 @@ use Rattle.path_core.specs.declared.event.Reading.TheVariants.{Number}
 use Rattle.path_core.specs.declared.event.Turn.TheVariants.{Flush}
 use Rattle.path_core.specs.declared.note.EntryNote.{EntryNote}
 use Rattle.path_core.specs.declared.seat.Seat.{Seat as SeatOf}
-use Rattle.path_core.specs.declared.seat.Switching.TheVariants.{WithBarrier}
 use Rattle.path_core.specs.declared.state.Bound.TheVariants.{Final}
 use Rattle.path_core.specs.declared.state.Placed.{Placed}
 use Rattle.path_core.specs.Allowed.{IsStep}
@@ -47,16 +45,15 @@ use Rattle.path_core.specs.Parts.{
   memtable_of,
   seat_of,
   seat_table,
-  stage_of,
   table_of,
 }
 use Rattle.path_core.specs.SeatAfter.{seat_after}
+use Rattle.path_core.specs.Whole.{IsWhole}
 use Rattle.path_core.specs.Words.{reading, IsPlace}
 use Rattle.path_core.proofs.lists.Passing.{filter_from, kept_in}
 use Rattle.path_core.proofs.places.KeepsPlaces.{same_note}
 use Rattle.path_core.proofs.runs.EveryRun.{keeps_lawful, placing_of}
 use Rattle.path_core.proofs.seats.Columns.{Columns}
-use Rattle.path_core.proofs.tables.StageTells.{stage_exact}
 use Rattle.path_core.proofs.tables.TableBounds.{final_at}
 use Rattle.path_rule.specs.declared.lasting.Beside.{Beside}
 use Rattle.path_rule.specs.declared.lasting.Lasting.{Lasting}
@@ -68,7 +65,6 @@ use Rattle.path_rule.specs.declared.view.Role.{Role}
 use Rattle.path_rule.specs.declared.view.Role.TheVariants.{Opener, Steps, Spent}
 use Rattle.path_rule.specs.declared.view.View.{View}
 use Rattle.path_rule.specs.Boxes.{boxes, memtable_box, NotesAre}
-use Rattle.path_rule.specs.Calls.{IsPast}
 use Rattle.path_rule.specs.Flushes.{
   next_box,
   FirstBegun,
@@ -86,7 +82,7 @@ use Rattle.path_rule.specs.Layout.{bound_word, reading_at, word_at, word_of, IsW
 use Rattle.path_rule.specs.Memtables.{HasMemtables, IsHome, IsKeptAt, PutsAs, ReadsBox}
 use Rattle.path_rule.specs.Reads.{placed_at, ReadsAre, ReadsAs}
 use Rattle.path_rule.specs.Rule.{Ruled, Was, told_by, view_after, with_hands}
-use Rattle.path_rule.specs.Switches.{FlushOldest}
+use Rattle.path_rule.specs.Switches.{FlushOldest, MayBeginRead}
 use Rattle.path_rule.specs.Told.{MadeAs}
 use Rattle.path_rule.specs.Trimmed.{ends_above, IsTrimmed}
 use Rattle.path_rule.proofs.boxes.AboveBound.{earlier_below, placed_above}
@@ -95,13 +91,14 @@ use Rattle.path_rule.proofs.boxes.MemtableReads.{read_still, read_taken}
 use Rattle.path_rule.proofs.boxes.MemtableTrimmed.{read_trimmed}
 use Rattle.path_rule.proofs.boxes.OtherBoxes.{boxed_other}
 use Rattle.path_rule.proofs.boxes.ReadsStay.{none_reads, reads_on}
-use Rattle.path_rule.proofs.boxes.Switching.{begun_at, switch_stays, switched_held}
+use Rattle.path_rule.proofs.boxes.TurnHeld.{held_stays}
 use Rattle.path_rule.proofs.moves.BoundSteps.{each_bound_name}
+use Rattle.path_rule.proofs.moves.LeftMemtables.{begins_held, begins_passed}
 use Rattle.path_rule.proofs.moves.Looks.{few_tables, within}
 use Rattle.path_rule.proofs.moves.MemtableSteps.{others_are, sized}
 use Rattle.path_rule.proofs.moves.Moving.{columns_now, core_lawful, part_is, place_still, plays_with, puts_now, reads_now, reads_then, was}
-use Rattle.path_rule.proofs.moves.SwitchSteps.{oldest_is, stage_now}
-use Rattle.path_rule.proofs.moves.TableTurns.{each_table_name, passed_now}
+use Rattle.path_rule.proofs.moves.SwitchSteps.{oldest_is}
+use Rattle.path_rule.proofs.moves.TableTurns.{each_table_name}
 use Rattle.path_rule.proofs.places.ReadBack.{read_back, rows_stay}
 
 -- no box is in hand to be read
@@ -146,7 +143,7 @@ module _ {K : Type 0} (shows : K → Lasting) (o : Beside) (size : PathSize) (sl
               (reads_then shows o size s r id w m.0 there mine e refl may tt tt spot rows n n false
               h found told (λ z is. let R = reads z is in
               reads_on x law e may (keeps_lawful x law e may tt) size.seats m.0.part v'.part z R
-              (switch_stays e m.0.part (reading_at at n) (told_by false h) z.table tt R.switched)
+              (held_stays e m.0.part v'.part C z.table tt R.held)
               refl)),
           was shows o size s r id w m.0 there mine e may tt,
         )
@@ -202,10 +199,10 @@ module _ {K : Type 0} (shows : K → Lasting) (o : Beside) (size : PathSize) (sl
             (ap (λ (p : SeatOf). is_some (seat_table p q.table).flush)
             (sym (part_is shows o size s r j z u e is'))
             ∙ (ap (λ (k : ℕ). is_some (seat_table u.part k).flush) (sym table)
-            ∙ switched_held u.part Q.0.table H.switched))
+            ∙ H.held))
             (ap (λ (p : SeatOf). is_some (seat_table p q.table).flush)
             (sym (part_is shows o size s r id w m.0 there mine))
-            ∙ switched_held m.0.part q.table R.switched))
+            ∙ R.held))
 
     -- So no seat has it in hand, where this one has none.
     next_home : (q : FlushRead) → m.0.hands.reading ≡ Some q → q.taken ≡ None
@@ -303,19 +300,13 @@ module _ {K : Type 0} (shows : K → Lasting) (o : Beside) (size : PathSize) (sl
         (λ i. (seat i, one i)) K.lies.1))
 
     -- nothing is read yet of the least memtable that is not retired
-    first_reads : (t k g above : ℕ) → stage_of m.0.part t ≡ Some (WithBarrier k g)
-        → IsPast Write m.0 g → FlushOldest t m.0.part k → t < 16
+    first_reads : (t k above : ℕ) → MayBeginRead t m.0 k → FlushOldest t m.0.part k → t < 16
         → above ≡ bound_before r.core t k
         → ReadsAre size.seats r.core m.0.part (first_read t k above)
-    first_reads t k g above at past oldest few from = record {
+    first_reads t k above may oldest few from = record {
       few = few;
-      switched = begun_at m.0.part t (WithBarrier k g) at refl;
-      passed = record {
-        group = g;
-        issued = (stage_exact r.core (core_lawful shows o size s r) w t (WithBarrier k g)
-            (stage_now shows o size slots id m w mine s r there t (WithBarrier k g) at)).issued;
-        passed = passed_now shows o size slots id m w mine s r there g past;
-      };
+      held = begins_held shows o size slots id m w mine s r there t k may;
+      passed = begins_passed shows o size slots id m w mine s r there t k may oldest;
       live = sym (oldest_is shows o size slots id m w mine s r there t k oldest);
       above = from;
       next = λ b taken. absurd (none-some b taken);
@@ -323,11 +314,10 @@ module _ {K : Type 0} (shows : K → Lasting) (o : Beside) (size : PathSize) (sl
       all = λ n h l. absurd (omega arith);
     }
 
-  pub begins_first : (t : Table) (g : ℕ) → stage_of m.0.part t.0 ≡ Some (WithBarrier 0 g)
-      → IsPast Write m.0 g → FlushOldest t.0 m.0.part 0 → TakesNone m.0.hands → t.0 < 16
-      → t.0 < m.0.size.tables → Allows (Ruled shows o size) slots id m (8 + 4 * t.0) (λ n. n)
+  pub begins_first : (t : Table) → MayBeginRead t.0 m.0 0 → FlushOldest t.0 m.0.part 0
+      → TakesNone m.0.hands → t.0 < 16 → t.0 < m.0.size.tables → Allows (Ruled shows o size) slots id m (8 + 4 * t.0) (λ n. n)
       (FirstBegun (step slots (8 + 4 * t.0) 0 0 none) m)
-  begins_first t g at past oldest unread few inside s r _ there _ =
+  begins_first t may oldest unread few inside s r _ there _ =
       let n = slice_index s.words (8 + 4 * t.0) in let e = Look w (Newest t) in
       let q = first_read t.0 0 0 in let h = with_reading (Some q) m.0.hands in
       let v' = view_after (with_hands h m.0) e n false in
@@ -335,7 +325,7 @@ module _ {K : Type 0} (shows : K → Lasting) (o : Beside) (size : PathSize) (sl
       (few_tables shows o size slots id m w mine s r there t.0 inside) (Some q) unread
       (λ z is. ap (λ (y : FlushRead). y.taken) (sym (same_Some q z is)))
       (λ z is. subst (ReadsAre size.seats r.core m.0.part) (same_Some q z is)
-      (first_reads s r there t.0 0 g 0 at past oldest few refl)) in (
+      (first_reads s r there t.0 0 0 may oldest few refl)) in (
         v',
         keeps,
         tt,
@@ -346,12 +336,12 @@ module _ {K : Type 0} (shows : K → Lasting) (o : Beside) (size : PathSize) (sl
             ((refl, did.1), refl) z u role word,
       )
 
-  pub begins_next : (t : Table) (k g : ℕ) → stage_of m.0.part t.0 ≡ Some (WithBarrier (suc k) g)
-      → IsPast Write m.0 g → FlushOldest t.0 m.0.part (suc k) → TakesNone m.0.hands → t.0 < 16
-      → k < 256 → t.0 < m.0.size.tables
+  pub begins_next : (t : Table) (k : ℕ) → MayBeginRead t.0 m.0 (suc k)
+      → FlushOldest t.0 m.0.part (suc k) → TakesNone m.0.hands → t.0 < 16 → k < 256
+      → t.0 < m.0.size.tables
       → Allows (Ruled shows o size) slots id m (131144 + 16 * k + t.0) (λ n. n)
       (NextBegun (step slots (131144 + 16 * k + t.0) 0 0 none) m)
-  begins_next t k g at past oldest unread few small inside s r _ there _ =
+  begins_next t k may oldest unread few small inside s r _ there _ =
       let n = slice_index s.words (131144 + 16 * k + t.0) in let x = r.core in
       let e = Look w (Bound t k) in let W = (core_lawful shows o size s r).switches.tables t.0 in
       let live = oldest_is shows o size slots id m w mine s r there t.0 (suc k) oldest in
@@ -365,7 +355,7 @@ module _ {K : Type 0} (shows : K → Lasting) (o : Beside) (size : PathSize) (sl
       (few_tables shows o size slots id m w mine s r there t.0 inside, omega arith) (Some q) unread
       (λ z is. ap (λ (y : FlushRead). y.taken) (sym (same_Some q z is)))
       (λ z is. subst (ReadsAre size.seats r.core m.0.part) (same_Some q z is)
-      (first_reads s r there t.0 (suc k) g f.0.0 at past oldest few
+      (first_reads s r there t.0 (suc k) f.0.0 may oldest few
       (sym (ap key_of_bound f.1)))) in (
         v',
         keeps,
@@ -408,6 +398,9 @@ module _ {K : Type 0} (shows : K → Lasting) (o : Beside) (size : PathSize) (sl
       let v' = view_after (with_hands h m.0) e n false in
       let R = reads_now shows o size s r id w m.0 there mine q reads.0 in let few = R.few in
       let more = reads.3 in
+      let whole : (k : EntryNote) → Contains held k → IsWhole k =
+      (λ k h. ((core_lawful shows o size s r).notes_are_claims.each k
+      (M.sound q.seen_to q.table q.memtable k R.few h).among).whole) in
       let free : TakesNone m.0.hands = (λ p is. ap (λ (y : FlushRead). y.taken)
       (same_Some p q (sym is ∙ reads.0)) ∙ reads.2) in
       let home = M.at_home box (omega arith) (omega arith)
@@ -425,7 +418,7 @@ module _ {K : Type 0} (shows : K → Lasting) (o : Beside) (size : PathSize) (sl
       box z refl refl (takes_none m.0.hands free))
       (λ y is. subst (ReadsAre size.seats x m.0.part) (same_Some z y is) (record {
         few = R.few;
-        switched = R.switched;
+        held = R.held;
         passed = R.passed;
         live = R.live;
         above = R.above;
@@ -448,7 +441,7 @@ module _ {K : Type 0} (shows : K → Lasting) (o : Beside) (size : PathSize) (sl
               sym (ap (λ (y : PathSize). y.seats) (sized shows o size slots id m w mine s r there))
                   i,
               same_Some q p (sym reads.0 ∙ is) i,
-            )) (held, (refl, did.1), (home.0, refl, home.2))) z' u role word,
+            )) (held, (refl, did.1), (home.0, refl, home.2, whole))) z' u role word,
       )
 
   pub gives_read : (t : Table) (q : FlushRead) (b : ℕ) (left : List EntryNote) (y : Slot K)
@@ -481,7 +474,7 @@ module _ {K : Type 0} (shows : K → Lasting) (o : Beside) (size : PathSize) (sl
       y kept (omega arith)))
       (λ k is'. subst (ReadsAre size.seats x m.0.part) (same_Some z k is') (record {
         few = R.few;
-        switched = R.switched;
+        held = R.held;
         passed = R.passed;
         live = R.live;
         above = R.above;

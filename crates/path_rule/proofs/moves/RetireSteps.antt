@@ -39,7 +39,6 @@ use Rattle.path_rule.specs.Told.{MadeAs}
 use Rattle.path_rule.proofs.boxes.MemtableReads.{read_still, retabled}
 use Rattle.path_rule.proofs.boxes.OtherBoxes.{boxed_other}
 use Rattle.path_rule.proofs.boxes.SeenInterval.{all_seen}
-use Rattle.path_rule.proofs.boxes.Switching.{switched_held}
 use Rattle.path_rule.proofs.moves.Looks.{few_tables, within}
 use Rattle.path_rule.proofs.moves.Moving.{
   columns_now,
@@ -124,7 +123,7 @@ module _ {K : Type 0} (shows : K → Lasting) (o : Beside) (size : PathSize) (sl
           ap (λ (p : SeatOf). is_some (seat_table p t.0).flush)
               (sym (part_is shows o size s r id w m.0 there mine))
               ∙ (ap (λ (c : ℕ). is_some (seat_table m.0.part c).flush) (sym sees.2)
-              ∙ switched_held m.0.part q.table R.switched),
+              ∙ R.held),
           up ∙ ap suc (sym live),
           subst (λ (c : ℕ). HasPassedBarrier x t.0 c) (sym live) passed,
           inl empty,

@@ -26,7 +26,6 @@ use Rattle.std.proofs.Common.{
 use Rattle.std.specs.Prelude.{slice_index, ◌⊎◌}
 use Rattle.std.specs.List.{list_any}
 use Rattle.std.specs.Option.{option_map}
-use Rattle.std.proofs.lemmas.Bool.{false≢true}
 use Rattle.std.proofs.lemmas.Option.{none-some}
 use mathlib.Core.Option.{none, some}
 use lib.ListN.{get_elem?}
@@ -60,13 +59,12 @@ use Rattle.path_rule.specs.declared.view.View.{View}
 use Rattle.path_rule.specs.Calls.{IsPast}
 use Rattle.path_rule.specs.Lasts.{shown}
 use Rattle.path_rule.specs.Rule.{Ruled, view_after}
-use Rattle.path_rule.specs.Reads.{has_switched, ReadsHeld}
+use Rattle.path_rule.specs.Reads.{ReadsHeld}
 use Rattle.path_rule.specs.Switches.{MayGiveFlush, ReadsNone}
 use Rattle.path_rule.specs.TableTold.{FlushGiven, FlushTaken}
 use Rattle.path_rule.specs.Told.{Made}
 use Rattle.path_rule.specs.Turns.{FoundPast}
 use Rattle.path_rule.proofs.boxes.HeldBoxes.{boxed_stay}
-use Rattle.path_rule.proofs.boxes.Switching.{switched_held, unbegun}
 use Rattle.path_rule.proofs.moves.Looks.{
   Owes,
   acts,
@@ -122,8 +120,8 @@ module _ {K : Type 0} (shows : K → Lasting) (o : Beside) (size : PathSize) (sl
       (λ hit. let e = TakeTurn w (Flush t) in
       let v' = view_after m.0 e 1 false in
       let is = as_part shows o size slots id m w mine s r there in
-      let reads : ReadsHeld m.0 = λ q has. switched_held m.0.part q.table
-      (reads_now shows o size s r id w m.0 there mine q has).switched in
+      let reads : ReadsHeld m.0 = λ q has.
+      (reads_now shows o size s r id w m.0 there mine q has).held in
       let free = unheld x (Flush t) (ap Number (sym (r.words (TurnWord (Flush t)) few) ∙ hit)) in
       let may : IsStep x e = record {
         seat = within shows o size slots id m w mine s r there;
@@ -160,12 +158,13 @@ module _ {K : Type 0} (shows : K → Lasting) (o : Beside) (size : PathSize) (sl
         (Some k)
 
     -- the newest switch is through, as the holder's part tells
-    pub settled : (t : ℕ) → ((stage_of m.0.part t ≡ Some Settled)
+    pub settled : (t : ℕ) → (((stage_of m.0.part t ≡ Some Settled) × ReadsNone t m.0.hands)
         ⊎ ((f g : ℕ) × (stage_of m.0.part t ≡ Some (WithBarrier f g)) × FoundPast m.0.part g
         × ReadsNone t m.0.hands))
         → (is_some (seat_table (seat_of r.core w) t).flush ≡ true) × IsSettled r.core t
     settled t through = let L = core_lawful shows o size s r in ⊎_elim
-        (λ (k : stage_of m.0.part t ≡ Some Settled). let now = at_stage t Settled k in (
+        (λ (k : (stage_of m.0.part t ≡ Some Settled) × ReadsNone t m.0.hands).
+        let now = at_stage t Settled k.0 in (
           held_at (seat_table (seat_of r.core w) t).flush Settled now,
           (through_by_stage r.core L w t Settled now).1 tt,
         ))
@@ -222,10 +221,7 @@ module _ {K : Type 0} (shows : K → Lasting) (o : Beside) (size : PathSize) (sl
     reads_none : (t : ℕ) → MayGiveFlush t m.0 → ReadsNone t m.0.hands
     reads_none t may = ⊎_elim
         (λ through. ⊎_elim
-        (λ (at : stage_of m.0.part t ≡ Some Settled). λ q has same.
-        let R = reads_now shows o size s r id w m.0 there mine q has in
-        false≢true (sym (unbegun m.0.part t at)
-        ∙ (ap (λ (k : ℕ). has_switched (seat_table m.0.part k)) (sym same) ∙ R.switched)))
+        (λ (k : (stage_of m.0.part t ≡ Some Settled) × ReadsNone t m.0.hands). k.1)
         (λ (k : (f g : ℕ) × (stage_of m.0.part t ≡ Some (WithBarrier f g)) × FoundPast m.0.part g
         × ReadsNone t m.0.hands). k.4) through)
         (λ (k : (f g : ℕ) × (stage_of m.0.part t ≡ Some (WithBarrier f g)) × IsPast Write m.0 g

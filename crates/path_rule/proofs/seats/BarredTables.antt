@@ -1,15 +1,5 @@
 -- What the holder of a table's turn keeps while the barrier of its switch is issued and passed.
-use Rattle.std.proofs.Common.{
-  ◌≡◌,
-  ℕ,
-  Option,
-  Some,
-  refl,
-  sym,
-  ap,
-  ◌∙◌,
-  subst,
-}
+use Rattle.std.proofs.Common.{◌≡◌, ℕ, Option, Some, sym, ap, ◌∙◌, subst}
 use Rattle.std.proofs.Math.ListN.{get_or-map as get_or-map_default}
 use Rattle.std.proofs.lemmas.Option.{same_Some}
 use Rattle.std.specs.Option.{option_map}
@@ -20,7 +10,7 @@ use Rattle.path_core.specs.declared.seat.FlushTurn.{FlushTurn}
 use Rattle.path_core.specs.declared.seat.SeatTable.{SeatTable}
 use Rattle.path_core.specs.declared.seat.Switching.{Switching}
 use Rattle.path_core.specs.declared.seat.Switching.TheVariants.{WithBarrier}
-use Rattle.path_core.specs.Parts.{seat_table, stage_of, untouched}
+use Rattle.path_core.specs.Parts.{seat_table, untouched}
 use Rattle.path_core.specs.SeatParts.{barrier_issued, with_barrier}
 use Rattle.path_rule.specs.declared.view.View.{View}
 use Rattle.path_rule.specs.Calls.{Did}

@@ -57,7 +57,6 @@ use Rattle.path_rule.proofs.boxes.MemtablesStay.{
   runs_else,
   runs_still,
 }
-use Rattle.path_rule.proofs.boxes.Switching.{switched_held}
 use Rattle.path_rule.proofs.boxes.SameBoxes.{reboxed, holds_none}
 use Rattle.path_rule.proofs.log.TrailsTell.{none_tells}
 use Rattle.path_rule.proofs.moves.Moving.{core_lawful, known, puts_now, reads_now}
@@ -258,7 +257,7 @@ module _ {K : Type 0} (shows : K → Lasting) (o : Beside) (size : PathSize) (id
           by None e = e
           by (Some k) e = let R = reads_now shows o size s r other w u there seat_is k e in
               absurd (false≢true (ap (λ (f : Option FlushTurn). is_some f) (sym (unheld k.table))
-              ∙ switched_held u.part k.table R.switched))
+              ∙ R.held))
 
       -- so it has claimed nothing
       idle : (s : State (Slot K) View) (r : Ruled shows o size s)

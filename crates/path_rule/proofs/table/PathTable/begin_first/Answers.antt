@@ -13,8 +13,8 @@ load-requires g c = let t = c.args.self.now in let m = c.args.member.now in
       c.requires.table.0,
       omega arith,
       begins_first (shows_of g.K.Keeper.holds) o k t.table.shared.table_id.slots m.seat.id
-          m.seat.me m.number m.role c.args.table c.requires.stage.0
-          c.requires.stage.1 c.requires.stage.2 c.requires.oldest c.requires.unread
+          m.seat.me m.number m.role c.args.table c.requires.stage
+          c.requires.oldest c.requires.unread
           (omega arith)
           (subst (λ (z : PathSize). c.args.table.0 < z.tables) (sym c.requires.table.1) there),
     )

@@ -33,8 +33,8 @@ load-word-requires g c = let t = c.args.self.now in let m = c.args.member.now in
       c.requires.table.0,
       omega arith,
       begins_next (shows_of g.K.Keeper.holds) o k t.table.shared.table_id.slots m.seat.id
-          m.seat.me m.number m.role c.args.table c.args.below c.requires.stage.0
-          c.requires.stage.1 c.requires.stage.2 c.requires.oldest c.requires.unread
+          m.seat.me m.number m.role c.args.table c.args.below c.requires.stage
+          c.requires.oldest c.requires.unread
           (omega arith) low
           (subst (λ (z : PathSize). c.args.table.0 < z.tables) (sym c.requires.table.1) there),
     )
