@@ -102,7 +102,6 @@ use Rattle.path_rule.specs.Lasts.{beside_of, filed_of, lasting_of, put_file, put
 use Rattle.path_rule.specs.Reads.{ReadsAre, placed_at}
 use Rattle.path_rule.specs.Rule.{Ruled}
 use Rattle.path_rule.proofs.boxes.SeenInterval.{all_seen}
-use Rattle.path_rule.proofs.boxes.Switching.{switched_held}
 use Rattle.path_rule.proofs.log.FilesShown.{few_files, last_is, upper_held}
 use Rattle.path_rule.proofs.log.NotesBehind.{ends_below}
 use Rattle.path_rule.proofs.moves.HolderFacts.{is_held, hands_now}
@@ -185,7 +184,7 @@ module _ {K : Type 0} (shows : K → Lasting) (o : Beside) (size : PathSize) (sl
         ap (λ (p : SeatOf). is_some (seat_table p t.0).flush)
             (sym (part_is shows o size s r id w m.0 there mine))
             ∙ (ap (λ (c : ℕ). is_some (seat_table m.0.part c).flush) (sym sees.1)
-            ∙ switched_held m.0.part q.table reads.switched),
+            ∙ reads.held),
         ap suc (sym live),
         subst (λ (c : ℕ). HasPassedBarrier x t.0 c) (sym live) passed,
         inr (record {
