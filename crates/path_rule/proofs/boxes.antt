@@ -12,6 +12,7 @@ pub mod SameBoxes
 pub mod PutAt
 pub mod FewNotes
 pub mod DeskLent
+pub mod DeskFiled
 pub mod MemtablesStay
 pub mod MemtablePut
 pub mod OtherBoxes

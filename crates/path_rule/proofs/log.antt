@@ -3,7 +3,12 @@ pub mod BuiltSteps
 pub mod Lending
 pub mod Marks
 pub mod Behind
+pub mod NotesBehind
+pub mod NoneDropped
 pub mod TrailsTell
+pub mod TurnFiled
+pub mod FilingStays
+pub mod FilesShown
 pub mod KeptStays
 pub mod OwnWrites
 pub mod StoppedTakes

@@ -19,6 +19,10 @@ pub mod WriteBarriers
 pub mod MarkerSteps
 pub mod SyncFacts
 pub mod SyncSteps
+pub mod FilingFacts
+pub mod FiledLooks
+pub mod NotedSteps
+pub mod FiledSteps
 pub mod LentLooks
 pub mod RefusedSyncs
 pub mod DepositSteps

@@ -19,6 +19,7 @@ use Rattle.std.specs.Prelude.{
   Some,
   None,
   is_some,
+  slice_index,
   IsTrue,
   ◌⊎◌,
 }
@@ -32,6 +33,7 @@ use Rattle.path_rule.specs.declared.view.Progress.{Progress}
 use Rattle.path_rule.specs.declared.view.Role.{Role}
 use Rattle.path_rule.specs.declared.view.Role.TheVariants.{Opener, Steps, Spent}
 use Rattle.path_rule.specs.declared.view.View.{View}
+use Rattle.path_rule.specs.Filing.{upper_of}
 
 abbrev pub desk_box : ℕ
 desk_box = 0
@@ -90,12 +92,14 @@ module _ {K : Type 0} where
   NotesAre (Turn desk) notes = ⊥
 
 module _ {K : Type 0} (shows : K → Lasting) where
-  -- a keeper that shows this, these pending notes, and this progress
+  -- a keeper that shows this, these pending notes, and this progress; the desk tells where each
+  -- table's files end
   abbrev pub DeskIs : Slot K → Lasting → List EntryNote → Progress → Type 0
   DeskIs (Notes kept) lasting pending progress = ⊥
   DeskIs (Turn desk) lasting pending progress =
       (shows desk.keeper ≡ lasting) × (desk.lent.items ++ desk.gathered ≡ pending)
       × (desk.progress ≡ progress)
+      × ((t : ℕ) → t < 16 → slice_index desk.uppers t ≡ upper_of t lasting.filed.files)
 
   -- what is in box b, where it is at home
   pub record Fits (contents : ℕ → List EntryNote) (lasting : Lasting) (pending : List EntryNote)

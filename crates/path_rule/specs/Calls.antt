@@ -44,6 +44,11 @@ pub record DidAs (v : View) (w : ℕ) (e : Event) (n : ℕ) (h : Hands) (after :
   pub view : after ≡ view_after (with_hands h v) e n false
   pub was : Was v w e
 
+-- the same where the step gave a table file
+pub record FiledAs (v : View) (w : ℕ) (e : Event) (n : ℕ) (h : Hands) (after : View) : Type 0 where
+  pub view : after ≡ view_after (with_hands h v) e n true
+  pub was : Was v w e
+
 -- the same where it knows of them what it knew
 pub record Did (v : View) (w : ℕ) (e : Event) (n : ℕ) (after : View) : Type 0 where
   pub view : after ≡ view_after v e n false

@@ -21,11 +21,13 @@ use Rattle.std.specs.List.{filter}
 use Rattle.clog_base.specs.declared.sizes.Sizes.{Sizes}
 use Rattle.path_core.specs.declared.note.EntryNote.{EntryNote}
 use Rattle.path_core.specs.declared.state.PathState.{PathState}
-use Rattle.path_core.specs.Keeper.{Holding, IsFresh}
+use Rattle.path_core.specs.Keeper.{Holding, IsFresh, PutFile}
 use Rattle.path_core.specs.LawfulLog.{is_at_most}
 use Rattle.path_core.specs.Next.{is_between}
 use Rattle.path_rule.specs.declared.lasting.Beside.{Beside}
+use Rattle.path_rule.specs.declared.lasting.Filed.{Filed}
 use Rattle.path_rule.specs.declared.lasting.Lasting.{Lasting}
+use Rattle.path_rule.specs.declared.lasting.PutTable.{PutTable}
 use Rattle.path_rule.specs.declared.view.PathSize.{PathSize}
 
 -- where entries end
@@ -43,11 +45,28 @@ beside_of h = record {
   tables = h.sizes.tables;
   writers = h.sizes.writers;
   archives = h.opening.archives;
-  files = length h.files;
-  refused = is_some h.refused;
-  archived = length h.archived;
   disk = h.opening.disk;
 }
+
+-- a table file as a keeper shows it, and as it holds it
+
+abbrev pub put_table : PutFile → PutTable
+put_table f = record { table = f.table; lower = f.lower; upper = f.upper; cells = f.cells }
+
+abbrev pub put_file : PutTable → PutFile
+put_file f = record { table = f.table; lower = f.lower; upper = f.upper; cells = f.cells }
+
+-- what it has done beside its log
+abbrev pub filed_of : Holding → Filed
+filed_of h = record {
+  files = map put_table h.files;
+  refused = is_some h.refused;
+  archived = length h.archived;
+}
+
+-- of one that was just opened
+abbrev pub none_filed : Filed
+none_filed = record { files = []; refused = false; archived = 0 }
 
 -- what a keeper shows by what it holds
 abbrev pub lasting_of : Holding → Lasting
@@ -61,6 +80,7 @@ lasting_of h = record {
   capacity = h.sizes.capacity;
   ordinals = h.sizes.ordinals;
   base = h.base;
+  filed = filed_of h;
   beside = beside_of h;
 }
 
@@ -73,18 +93,20 @@ fault_count zero = None
 fault_count (suc n) = Some (suc n)
 
 -- What it is to show of a state, where it has this beside its log, and its disk had counted so many
--- faults when it was opened. It may have kept the entries of a sync up to a key, which was refused.
-abbrev pub shown : Beside → ℕ → ℕ → PathState → Lasting
-shown o opened key x = record {
+-- faults when it was opened. It may have kept the entries of a sync up to a key, which was refused,
+-- and it has done this beside its log, and dropped these segments.
+abbrev pub shown : Beside → ℕ → ℕ → Filed → List ℕ → PathState → Lasting
+shown o opened key filed dropped x = record {
   logged = filter (is_at_most x.synced) x.notes;
   synced = x.synced;
-  dropped = x.dropped;
+  dropped = dropped;
   kept = filter (is_between x.synced key) x.notes;
   stopped = fault_count x.stopped;
   at_open = opened;
   capacity = x.capacity;
   ordinals = x.ordinals;
   base = x.base;
+  filed = filed;
   beside = o;
 }
 
@@ -100,6 +122,7 @@ none_lasting o size = record {
   capacity = size.capacity;
   ordinals = size.ordinals;
   base = size.base;
+  filed = none_filed;
   beside = o;
 }
 
@@ -107,6 +130,7 @@ none_lasting o size = record {
 abbrev pub IsNew : PathSize → Holding → Type 0
 IsNew size h = (sizes : Sizes) × IsFresh size.base sizes h × (sizes.capacity ≡ size.capacity)
     × (sizes.ordinals ≡ size.ordinals) × (h.at_open ≡ size.at_open)
+    × (sizes.tables ≡ size.tables)
 
 -- More entries are lasting, up to a key, and none is kept.
 abbrev pub more_lasting : List EntryNote → ℕ → Lasting → Lasting

@@ -8,6 +8,7 @@ pub mod Memtables
 pub mod Reads
 pub mod Flushes
 pub mod Seen
+pub mod Filing
 pub mod Finds
 pub mod Trails
 pub mod Rule
@@ -18,6 +19,7 @@ pub mod Accepted
 pub mod Told
 pub mod TurnTold
 pub mod TableTold
+pub mod FilingTold
 pub mod Desks
 pub mod Calls
 pub mod Switches

@@ -1,5 +1,5 @@
 -- What the contracts say of the members of a table.
-use Rattle.std.specs.Prelude.{◌≡◌, ℕ, List, [], ◌∷◌, ◌++◌, Option}
+use Rattle.std.specs.Prelude.{◌≡◌, ℕ, Bool, List, [], ◌∷◌, ◌++◌, Option}
 use Rattle.std.specs.List.Sorted.{IsPermutation}
 use Rattle.atomic_table.specs.Seated.{TableId}
 use Rattle.atomic_table.specs.Table.{rest}
@@ -15,7 +15,8 @@ use Rattle.path_rule.specs.declared.view.PathSize.{PathSize}
 use Rattle.path_rule.specs.declared.view.Returned.{Returned}
 use Rattle.path_rule.specs.declared.view.View.{View}
 use Rattle.path_rule.specs.Boxes.{box_of, memtable_box}
-use Rattle.path_rule.specs.Calls.{Did, DidAs}
+use Rattle.path_rule.specs.Calls.{Did, DidAs, FiledAs}
+use Rattle.path_rule.specs.FilingTold.{MayBeGone, noted}
 use Rattle.path_rule.specs.HandsAfter.{with_desk}
 use Rattle.path_rule.specs.Lasts.{refused_lasting}
 use Rattle.path_rule.specs.TurnTold.{IsKeptNow}
@@ -64,6 +65,19 @@ module _ {K : Type 0} where
   -- It made that step, and knows h of its boxes since.
   abbrev pub SteppedAs : Member K → Event → ℕ → Hands → Member K → Type 0
   SteppedAs m e n h m' = DidAs m.seat.me.0 m.number e n h m'.seat.me.0
+
+  -- It made that step, which gave a table file.
+  abbrev pub SteppedFiled : Member K → Event → ℕ → Hands → Member K → Type 0
+  SteppedFiled m e n h m' = FiledAs m.seat.me.0 m.number e n h m'.seat.me.0
+
+  -- It made that step after the keeper refused a table file, or dropped segments, and may have
+  -- stopped with a count of faults. It knows since what the keeper shows.
+  abbrev pub SteppedNoted : Option ℕ → Member K → Event → ℕ → Member K → Type 0
+  SteppedNoted stopped m e n m' = (refused : Bool) × (archived : ℕ) × (dropped : List ℕ)
+      × MayBeGone m.seat.me.0 dropped
+      × SteppedAs m e n (with_desk (noted refused archived dropped stopped
+      m.seat.me.0.hands.lasting) m.seat.me.0.hands.pending m.seat.me.0.hands.progress
+      m.seat.me.0.hands) m'
 
   -- It made that step after a sync up to a key that was refused. It knows since what lies on the
   -- desk: all is pending still, in some order, and the keeper may have kept a part, and may have

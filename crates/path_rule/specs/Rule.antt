@@ -41,13 +41,13 @@ use Rattle.path_core.specs.Parts.{
   seat_of,
   groups_of,
   table_of,
-  is_empty,
 }
 use Rattle.path_core.specs.Runs.{opening, Past}
 use Rattle.path_core.specs.SeatAfter.{Told, seat_after}
 use Rattle.path_core.specs.Whole.{CarriesWhole}
 use Rattle.path_core.specs.Words.{reading, by_of, place_of}
 use Rattle.path_rule.specs.declared.lasting.Beside.{Beside}
+use Rattle.path_rule.specs.declared.lasting.Filed.{Filed}
 use Rattle.path_rule.specs.declared.lasting.Lasting.{Lasting}
 use Rattle.path_rule.specs.declared.slot.Slot.{Slot}
 use Rattle.path_rule.specs.declared.view.Hands.{Hands}
@@ -59,8 +59,9 @@ use Rattle.path_rule.specs.declared.view.Role.TheVariants.{Opener, Steps, Spent}
 use Rattle.path_rule.specs.declared.view.View.{View}
 use Rattle.path_rule.specs.Boxed.{Boxed}
 use Rattle.path_rule.specs.Boxes.{all_boxes}
+use Rattle.path_rule.specs.Filing.{HasFiled}
 use Rattle.path_rule.specs.Kept.{MayBeKept}
-use Rattle.path_rule.specs.Lasts.{shown, none_lasting}
+use Rattle.path_rule.specs.Lasts.{none_filed, none_lasting, shown}
 use Rattle.path_rule.specs.Memtables.{HasMemtables}
 use Rattle.path_rule.specs.Reads.{ReadsAs}
 use Rattle.path_rule.specs.Trails.{TrailTells, ViewTells}
@@ -98,9 +99,6 @@ no_beside = record {
   tables = 0;
   writers = 0;
   archives = false;
-  files = 0;
-  refused = false;
-  archived = 0;
   disk = gnil;
 }
 
@@ -118,6 +116,7 @@ no_hands = record {
     ordinals = 0;
     base = 0;
     at_open = 0;
+    files = false;
   });
   swept = 0;
   progress = record { gathered = false; marker = None };
@@ -184,12 +183,10 @@ SizedAs size (Opener k) z = z ≡ size
 abbrev pub IsSized : PathSize → View → Type 0
 IsSized size v = SizedAs size v.role v.size
 
--- A step of a kind that is built: a memtable that is retired is empty, the log is stopped only with
--- a count of faults that has risen, a marker is claimed only while the log runs, and so is a group
--- of the append order made, where a marker of the seat wants a barrier.
+-- A step of a kind that is built: the log is stopped only with a count of faults that has risen, a
+-- marker is claimed only while the log runs, and so is a group of the append order made, where a
+-- marker of the seat wants a barrier.
 abbrev pub IsBuilt : ℕ → PathState → Event → Type 0
-IsBuilt opened x (Put by (OldestLive t) value) =
-    IsTrue (is_empty x t.0 (table_of x t.0).oldest_live)
 IsBuilt opened x (Put by Synced value) = Unit {0}
 IsBuilt opened x (Put by Stopped value) = HasRisen opened value
 IsBuilt opened x (OpenGroup by Append group) = WantsBarrier Append x by × (x.stopped ≡ 0)
@@ -236,8 +233,16 @@ pub record Ruled {K : Type 0} (shows : K → Lasting) (o : Beside) (size : PathS
   -- up to which key a refused sync may have kept entries
   pub kept_to : ℕ
   pub may_be_kept : MayBeKept core kept_to
+  -- what the keeper has filed and dropped
+  pub filed : Filed
+  pub dropped : List ℕ
+  pub filing : HasFiled size core filed dropped
+  -- and nothing before the first step
+  pub unstepped : events ≡ [] → (filed ≡ none_filed) × (dropped ≡ [])
+  -- it has as many tables
+  pub tabled : o.tables ≡ size.tables
   -- the boxes show the notes that are not yet lasting, and the keeper what is
-  pub boxed : Boxed shows size.seats core.notes (shown o size.at_open kept_to core) core.claims
+  pub boxed : Boxed shows size.seats core.notes (shown o size.at_open kept_to filed dropped core) core.claims
       core.append s.homes
       s.views
   -- those of memtables hold what was placed
@@ -247,8 +252,6 @@ pub record Ruled {K : Type 0} (shows : K → Lasting) (o : Beside) (size : PathS
       → ReadsAs size.seats core v.part v.hands v.role
   -- a stopped log tells a count of faults that has risen since the keeper was opened
   pub risen : 0 < core.stopped → HasRisen size.at_open core.stopped
-  -- only empty memtables were retired, so there is no table file
-  pub unfiled : core.files ≡ []
   -- each view shows its seat's part and steps
   pub each_seat : (j : ℕ) (v : View) → get_elem? s.views j ≡ some v
       → IsSized size v × Knows core events owner made boss j v.role v.part v.trail v.returned

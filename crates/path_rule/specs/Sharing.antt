@@ -1,5 +1,5 @@
 -- Seats are handed out and taken back, and what is known of a table that was closed.
-use Rattle.std.specs.Prelude.{◌≡◌, ◌⊎◌, ◌<◌, ℕ, suc, List, [], ◌∷◌, ◌++◌, map}
+use Rattle.std.specs.Prelude.{◌≡◌, ◌⊎◌, ◌<◌, ℕ, suc, false, List, [], ◌∷◌, ◌++◌, map}
 use mathlib.Core.Option.{some}
 use lib.ListN.{get_elem?}
 use Rattle.path_core.specs.declared.event.Event.{Event}
@@ -11,12 +11,14 @@ use Rattle.path_core.specs.Lawful.{IsLawfulPath}
 use Rattle.path_core.specs.Parts.{seat_of}
 use Rattle.path_core.specs.Runs.{Past}
 use Rattle.path_rule.specs.declared.lasting.Beside.{Beside}
+use Rattle.path_rule.specs.declared.lasting.Filed.{Filed}
 use Rattle.path_rule.specs.declared.view.OwnStep.{OwnStep}
 use Rattle.path_rule.specs.declared.view.PathSize.{PathSize}
 use Rattle.path_rule.specs.declared.view.Returned.{Returned}
 use Rattle.path_rule.specs.declared.view.Role.{Role}
 use Rattle.path_rule.specs.declared.view.Role.TheVariants.{Opener, Steps, Spent}
 use Rattle.path_rule.specs.declared.view.View.{View}
+use Rattle.path_rule.specs.Filing.{HasFiled}
 use Rattle.path_rule.specs.Kept.{MayBeKept}
 use Rattle.path_rule.specs.Lasts.{lasting_of, none_lasting, shown}
 use Rattle.path_rule.specs.Rule.{
@@ -50,6 +52,7 @@ spent = spent_view (record {
   ordinals = 0;
   base = 0;
   at_open = 0;
+  files = false;
 })
 
 abbrev pub handed_by : Role → PathSize → View
@@ -78,9 +81,9 @@ HasAll seats w returned = (z : ℕ) → z < seats
 
 -- There is one run of the machine, of sizes within the limits, which ends in a lawful state with
 -- this log key, and in which each seat's steps are those that it made, and tell what is so of that
--- state. The keeper holds what is lasting in that state: the
--- entries, the synced key, what is dropped, and the count of faults with which the log is stopped,
--- which has risen; and it may have kept the entries of a sync that was refused.
+-- state. The keeper holds what is lasting in that state: the entries, the synced key, what is
+-- filed and dropped, and the count of faults with which the log is stopped, which has risen; and it
+-- may have kept the entries of a sync that was refused.
 pub record Ended (o : Beside) (size : PathSize) (returned : List Returned) (log : ℕ)
     (keeper : Holding) : Type 0 where
   pub core : PathState
@@ -90,12 +93,14 @@ pub record Ended (o : Beside) (size : PathSize) (returned : List Returned) (log 
   -- each step was of a kind that is built
   pub built : AreBuilt size.at_open (start_of size) events core run
   pub lawful : IsLawfulPath core
-  -- no memtable has a table file
-  pub unfiled : core.files ≡ []
   pub log_is : log ≡ core.log
   pub kept_to : ℕ
   pub may_be_kept : MayBeKept core kept_to
-  pub lasting_is : lasting_of keeper ≡ shown o size.at_open kept_to core
+  -- what it has filed and dropped is what the state has
+  pub filed : Filed
+  pub dropped : List ℕ
+  pub filing : HasFiled size core filed dropped
+  pub lasting_is : lasting_of keeper ≡ shown o size.at_open kept_to filed dropped core
   pub risen : 0 < core.stopped → HasRisen size.at_open core.stopped
   pub each : (n : ℕ) (b : Returned) → get_elem? returned n ≡ some b
       → (b.part ≡ seat_of core b.number) × (map event_of b.trail ≡ steps_by b.number events)

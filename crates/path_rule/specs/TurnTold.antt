@@ -197,8 +197,8 @@ module _ {K : Type 0} (shows : K → Lasting) where
       → MadeAs w (Put w Synced st.first) n
       (with_desk lasting pending m.0.hands.progress m.0.hands) m.0 m'.0 × (m'.1 ≡ m.1)
       × ((was : Was m.0 w (Put w Synced st.first))
-      × (shown lasting.beside m.0.size.at_open st.first (next_of was.core (Put w Synced st.first))
-      ≡ lasting))
+      × (shown lasting.beside m.0.size.at_open st.first lasting.filed lasting.dropped
+      (next_of was.core (Put w Synced st.first)) ≡ lasting))
 
   -- A sync up to a key was refused: on the desk lies what was pending, in some order, and the
   -- keeper shows what it did, but for what it has kept, and the count with which it has stopped.

@@ -75,6 +75,7 @@ pub(crate) fn keeper_and_log<K: Keeper + Drop>(closed: Closed<Slot<K>, Global>) 
                 lent: _,
                 gathered: _,
                 progress: _,
+                uppers: _,
             } = desk;
             (keeper, log)
         }

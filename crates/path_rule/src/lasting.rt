@@ -4,11 +4,12 @@ ghost use base.Fml.{ftrue};
 ghost use base.Stored.{Gv};
 ghost use Rattle.path_rule.specs.Codes.{itself};
 
+use clog_cells::CellMap;
 use path_core::EntryNote;
 use std::collections::LinkedList;
 use std::marker::Model;
 
-/// What a keeper has beside its log. No sync changes it.
+/// What a keeper has beside its log. No call changes it.
 #[derive(Drop)]
 pub struct Beside {
     /// How many tables there are.
@@ -17,18 +18,37 @@ pub struct Beside {
     pub writers: u64,
     /// Whether a segment that it drops gets its archive name first.
     pub archives: bool,
-    /// How many table files it has put.
-    pub files: u64,
-    /// Whether a table file was refused, and none was put since.
-    pub refused: bool,
-    /// How many segments have got their archive names.
-    pub archived: u64,
     /// Its disk when it was opened, by the code of the disk's type.
     pub ghost disk: { Gv } by { itself },
 }
 
 impl Model for Beside {
     ghost also_owns = { λ _. ftrue };
+}
+
+/// A table file that a keeper has put: it stands for the entries of a table that end above one key
+/// and not above another.
+#[derive(Drop)]
+pub struct PutTable {
+    /// The table.
+    pub table: u64,
+    /// The key above which its entries end.
+    pub lower: u64,
+    /// The key at or below which they end.
+    pub upper: u64,
+    /// The newest cell of each key in them.
+    pub cells: CellMap,
+}
+
+/// What a keeper has done beside its log.
+#[derive(Drop)]
+pub struct Filed {
+    /// The table files that it has put, the first one in front.
+    pub files: LinkedList<PutTable>,
+    /// Whether a table file was refused, and none was put since.
+    pub refused: bool,
+    /// How many segments have got their archive names.
+    pub archived: u64,
 }
 
 /// What a keeper has made of the log.
@@ -52,6 +72,8 @@ pub struct Lasting {
     pub ordinals: u64,
     /// The id of the first one.
     pub base: u64,
+    /// What it has done beside its log.
+    pub filed: Filed,
     /// What it has beside its log.
     pub beside: Beside,
 }

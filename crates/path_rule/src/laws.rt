@@ -1,6 +1,18 @@
 //! What the rule of the table says of each moment, for whatever the words, the boxes and the views
 //! hold then. Nothing here runs; each function's contract is a promise of the table.
-ghost use Rattle.std.specs.Prelude.{◌≡◌, ◌<◌, ◌≤◌, ◌⊎◌, ℕ, true, false, List, Some};
+ghost use Rattle.std.specs.Prelude.{
+  ◌≡◌,
+  ◌<◌,
+  ◌≤◌,
+  ◌⊎◌,
+  ℕ,
+  true,
+  false,
+  List,
+  [],
+  map,
+  Some,
+};
 ghost use Rattle.std.specs.List.{Contains};
 ghost use mathlib.Core.Option.{some};
 ghost use lib.ListN.{get_elem?};
@@ -11,19 +23,23 @@ ghost use Rattle.path_core.specs.declared.note.EntryNote.{EntryNote};
 ghost use Rattle.path_core.specs.declared.state.Claim.{Claim};
 ghost use Rattle.path_core.specs.declared.state.PathState.{PathState};
 ghost use Rattle.path_core.specs.declared.state.Placed.{Placed};
+ghost use Rattle.path_core.specs.Droppable.{IsDroppable};
 ghost use Rattle.path_core.specs.Keeper.{HasRisen};
+ghost use Rattle.path_core.specs.Keys.{ordinal_of};
 ghost use Rattle.path_core.specs.Lawful.{IsLawfulPath};
 ghost use Rattle.path_core.specs.Parts.{holds_turn, last_marker, seat_of, table_of};
 ghost use Rattle.path_core.specs.Runs.{Past};
 ghost use Rattle.path_rule.specs.declared.lasting.Beside.{Beside};
+ghost use Rattle.path_rule.specs.declared.lasting.PutTable.{PutTable};
 ghost use Rattle.path_rule.specs.declared.slot.Slot.{Slot};
 ghost use Rattle.path_rule.specs.declared.view.FlushRead.{FlushRead};
 ghost use Rattle.path_rule.specs.declared.view.PathSize.{PathSize};
 ghost use Rattle.path_rule.specs.declared.view.Role.TheVariants.{Steps};
 ghost use Rattle.path_rule.specs.declared.view.View.{View};
 ghost use Rattle.path_rule.specs.Boxes.{desk_box, memtable_box, DeskIs, HoldsBox, NotesAre};
+ghost use Rattle.path_rule.specs.Filing.{IsFileOf, file_range, put_range};
 ghost use Rattle.path_rule.specs.InBoxes.{BelongsThere, LiesInItsBox};
-ghost use Rattle.path_rule.specs.Lasts.{shown, shows_of};
+ghost use Rattle.path_rule.specs.Lasts.{none_filed, shown, shows_of};
 ghost use Rattle.path_rule.specs.Memtables.{HasInHand, IsHome};
 ghost use Rattle.path_rule.specs.Rule.{AreBuilt, Ruled};
 ghost use Rattle.path_rule.specs.Seen.{SeesItsInterval};
@@ -39,14 +55,40 @@ pub fn the_table_shows_a_lawful_state<K: Keeper>()
 {}
 
 /// While nobody holds the Sync turn, the desk is at home, and the keeper on it shows exactly what
-/// the machine has lasting.
+/// the machine has lasting. Its table files are the machine's, and what it dropped is dropped there.
 pub fn the_keeper_at_home_shows_what_is_lasting<K: Keeper>()
     ensures { (o : Beside) (size : PathSize) (s : State (Slot K) View)
         (r : Ruled (shows_of K.holds) o size s)
         → ((w : ℕ) → holds_turn (seat_of r.core w) Turn.Sync ≡ false)
         → (y : Slot K) × (get_elem? s.homes desk_box ≡ some (some y))
-        × DeskIs (shows_of K.holds) y (shown o size.at_open r.kept_to r.core)
-        r.boxed.pending r.boxed.progress }
+        × DeskIs (shows_of K.holds) y
+        (shown o size.at_open r.kept_to r.filed r.dropped r.core) r.boxed.pending r.boxed.progress
+        × (map put_range r.filed.files ≡ map file_range r.core.files)
+        × ((ordinal : ℕ) → Contains r.dropped ordinal → Contains r.core.dropped ordinal) }
+{}
+
+/// Each table file of the keeper is true for the notes: its cells are the merge of the cells that
+/// the notes have of its table in its interval.
+pub fn each_table_file_holds_its_interval<K: Keeper>()
+    ensures { (o : Beside) (size : PathSize) (s : State (Slot K) View)
+        (r : Ruled (shows_of K.holds) o size s) (f : PutTable) → Contains r.filed.files f
+        → IsFileOf r.core.notes f }
+{}
+
+/// Each segment that the keeper dropped is droppable in the machine, and below that of the synced
+/// key.
+pub fn what_was_dropped_is_droppable<K: Keeper>()
+    ensures { (o : Beside) (size : PathSize) (s : State (Slot K) View)
+        (r : Ruled (shows_of K.holds) o size s) (ordinal : ℕ) → Contains r.dropped ordinal
+        → IsDroppable r.core ordinal × (ordinal < ordinal_of r.core.synced) }
+{}
+
+/// Where memtables may not go to table files there is none, and no segment is dropped.
+pub fn without_files_nothing_goes<K: Keeper>()
+    ensures { (o : Beside) (size : PathSize) (s : State (Slot K) View)
+        (r : Ruled (shows_of K.holds) o size s) → size.files ≡ false
+        → (r.core.files ≡ []) × (r.core.dropped ≡ []) × (r.filed ≡ none_filed)
+        × (r.dropped ≡ []) }
 {}
 
 /// The count of faults that a stopped log tells has risen since its keeper was opened. (That the

@@ -64,6 +64,7 @@ fn lend_pending<K: Keeper>(desk: &mut Desk<K>, upto: u64) -> Result<(), KeeperFa
     requires { (run left : List EntryNote) → IsParted upto (pending_on desk.old) run left
         → MayWrite (K.holds desk.old.keeper) upto run }
     ensures progress { desk.new.progress ≡ desk.old.progress }
+    ensures uppers { desk.new.uppers ≡ desk.old.uppers }
     ensures syncs { OnOk result (Syncs (K.holds desk.old.keeper) (K.holds desk.new.keeper) upto
         (pending_on desk.old) (pending_on desk.new)) }
     ensures refused { OnErr result (SyncRefused (K.holds desk.old.keeper)

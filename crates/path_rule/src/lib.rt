@@ -16,6 +16,8 @@ mod claiming;
 mod closing;
 mod desk;
 mod ending;
+mod filing;
+mod filing_plays;
 mod flush_plays;
 mod flush_reading;
 mod gathering;
@@ -27,6 +29,7 @@ mod marker_keys;
 mod marking;
 mod opening;
 mod plays;
+mod publishing;
 mod round_ends;
 mod rounding;
 mod rule;
@@ -51,13 +54,14 @@ mod writing;
 
 pub use advancing::Advance;
 pub use answer::SyncAnswer;
-pub use lasting::{Beside, Lasting};
+pub use lasting::{Beside, Filed, Lasting, PutTable};
 pub use laws::{
     a_stopped_log_takes_nothing, a_stopped_log_tells_a_count_that_has_risen,
-    each_box_has_one_holder, each_memtable_box_has_one_holder, gathering_reaches_the_last_marker,
-    the_keeper_at_home_shows_what_is_lasting, the_table_shows_a_lawful_state,
-    what_lies_in_memtables_was_placed, what_was_placed_lies_in_memtables,
-    what_was_seen_is_the_memtables_interval,
+    each_box_has_one_holder, each_memtable_box_has_one_holder, each_table_file_holds_its_interval,
+    gathering_reaches_the_last_marker, the_keeper_at_home_shows_what_is_lasting,
+    the_table_shows_a_lawful_state, what_lies_in_memtables_was_placed,
+    what_was_dropped_is_droppable, what_was_placed_lies_in_memtables,
+    what_was_seen_is_the_memtables_interval, without_files_nothing_goes,
 };
 pub use opening::open;
 pub use rule::PathRule;
@@ -67,10 +71,3 @@ pub use table::{Member, Opener, PathTable};
 pub use trying::{Begun, PathSeat, Seen};
 pub use view::{FlushRead, Hands, OwnStep, PathKey, PathSize, Progress, Returned, Role, View};
 pub use waiting::{Holder, Passed};
-
-#[cfg(test)]
-mod late_tests;
-#[cfg(test)]
-mod rows_tests;
-#[cfg(test)]
-mod tests;

@@ -1,5 +1,16 @@
 //! A table is opened, and its seats are handed out.
-ghost use Rattle.std.specs.Prelude.{◌≡◌, ◌+◌, ◌<◌, ◌≤◌, [], length, IfOk, IfErr};
+ghost use Rattle.std.specs.Prelude.{
+  ◌≡◌,
+  ◌+◌,
+  ◌<◌,
+  ◌≤◌,
+  ℕ,
+  [],
+  length,
+  slice_index,
+  IfOk,
+  IfErr,
+};
 ghost use Rattle.path_rule.specs.Boxed.{AreFirst};
 ghost use Rattle.path_rule.specs.Boxes.{all_boxes, first_progress};
 ghost use Rattle.path_rule.specs.FirstBoxes.{AreEmpty, HasInFront};
@@ -35,7 +46,8 @@ fn empty_boxes<K: Keeper + Drop>(alloc: Global, size: &PathSize) -> Result<Vec<S
 // The desk of a new table.
 fn first_desk<K>(alloc: Global, keeper: K) -> Desk<K>
     ensures { (result.keeper ≡ keeper) × (result.lent.items ≡ []) × (result.gathered ≡ [])
-        × (result.progress ≡ first_progress) }
+        × (result.progress ≡ first_progress)
+        × ((t : ℕ) → slice_index result.uppers t ≡ 0) }
 {
     let progress = Progress {
         gathered: true,
@@ -46,6 +58,7 @@ fn first_desk<K>(alloc: Global, keeper: K) -> Desk<K>
         lent: Vec::new(alloc),
         gathered: LinkedList::new(alloc),
         progress,
+        uppers: [0; 16],
     }
 }
 
@@ -83,6 +96,7 @@ fn keeper_back<K: Keeper + Drop>(boxes: Vec<Slot<K>>) -> K
                 lent: _,
                 gathered: _,
                 progress: _,
+                uppers: _,
             } = desk;
             keeper
         }

@@ -16,6 +16,8 @@ pub struct Desk<K> {
     pub gathered: LinkedList<EntryNote>,
     /// How far the last barrier of the append order has got.
     pub progress: Progress,
+    /// The upper key of each table's last table file, 0 before the first.
+    pub uppers: [u64; 16],
 }
 
 /// A box of the table.

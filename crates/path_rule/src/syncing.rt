@@ -84,7 +84,7 @@ impl<K: Keeper, A: Allocator> PathTable<K, A> {
             member.new
             × ((was : Was (view_of member.old) member.old.number
             (Put member.old.number Synced value))
-            × (shown lasting.beside self.now.size.at_open value
+            × (shown lasting.beside self.now.size.at_open value lasting.filed lasting.dropped
             (next_of was.core (Put member.old.number Synced value)) ≡ lasting)) }
         ensures give { MayGive (view_of member.old) → MayGive (view_of member.new) }
         ensures desk { CarriesDesk (shows_of K.holds) member.new.seat.me }

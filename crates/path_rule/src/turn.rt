@@ -8,7 +8,6 @@ ghost use Rattle.path_core.specs.declared.note.EntryNote.{EntryNote};
 ghost use Rattle.path_core.specs.declared.seat.Issue.TheVariants.{Rest};
 ghost use Rattle.path_core.specs.declared.seat.SyncTurn.{SyncTurn};
 ghost use Rattle.path_core.specs.Keeper.{HasRisen};
-ghost use Rattle.path_core.specs.Next.{has_filed};
 ghost use Rattle.path_core.specs.Parts.{IsIdle, issue_of};
 ghost use Rattle.path_rule.specs.declared.lasting.Lasting.{Lasting};
 ghost use Rattle.path_rule.specs.declared.view.Progress.{Progress};
@@ -58,12 +57,12 @@ impl<K: Keeper, A: Allocator> PathTable<K, A> {
     }
 
     /// Gives the Sync turn back, and the desk with what the member knows to be on it, while no
-    /// barrier is under way.
+    /// barrier is under way. What the keeper on it dropped is dropped in the machine too then.
     pub fn give_sync(&self, member: &mut Member<K>)
         requires table { IsOf self.now.table.shared.table_id self.now.size member.old }
         requires rest { IsTrue (is_some (part_of member.old).sync)
-            × (issue_of (part_of member.old) ≡ Rest) × ((hands_of member.old).box_taken ≡ None)
-            × (has_filed (part_of member.old) ≡ false) }
+            × (issue_of (part_of member.old) ≡ Rest)
+            × ((hands_of member.old).box_taken ≡ None) }
         requires desk { CarriesDesk (shows_of K.holds) member.old.seat.me }
         ensures same { PutsBack member.old member.new }
         ensures step { SteppedAs member.old (GiveTurn member.old.number Sync) 0

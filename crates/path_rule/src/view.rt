@@ -21,6 +21,8 @@ pub struct PathSize {
     pub base: u64,
     /// The count of faults of the keeper's disk when the keeper was opened.
     pub at_open: u64,
+    /// Whether its memtables may go to table files.
+    pub files: bool,
 }
 
 /// What a table is opened for: its sizes, and its keeper as it was then.

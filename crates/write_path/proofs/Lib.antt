@@ -11,7 +11,6 @@ pub mod AppliedAt
 pub mod Handing
 pub mod Histories
 pub mod Accounted
-pub mod NoneDropped
 pub mod FewSegments
 pub mod FewGroups
 pub mod NonePassed

@@ -31,7 +31,7 @@ use Rattle.std.proofs.Common.{
 use Rattle.std.specs.List.{All, filter, range_with_len}
 use Rattle.std.specs.List.Sorted.{IsPermutation}
 use Rattle.std.proofs.lemmas.Bool.{false≢true}
-use Rattle.std.proofs.lemmas.List.{get_or_default, length-replicate}
+use Rattle.std.proofs.lemmas.List.{get_or_default, length-map, length-replicate}
 use Rattle.std.proofs.lemmas.List.Elements.{All-nil, All-cons, All-contains, All-head, All-tail}
 use Rattle.std.proofs.lemmas.List.Sorted.{
   IsPermutation-refl,
@@ -54,12 +54,16 @@ use Rattle.path_core.proofs.lists.Inserted.{map_from}
 use Rattle.path_core.proofs.log.History.{is_history}
 use Rattle.path_core.proofs.runs.EveryRun.{opening_lawful}
 use Rattle.path_rule.specs.declared.lasting.Beside.{Beside}
+use Rattle.path_rule.specs.declared.lasting.Filed.{Filed}
 use Rattle.path_rule.specs.declared.lasting.Lasting.{Lasting}
 use Rattle.path_rule.specs.declared.trying.PathSeat.{PathSeat}
 use Rattle.path_rule.specs.declared.view.PathSize.{PathSize}
 use Rattle.path_rule.specs.Lasts.{
   beside_of,
+  filed_of,
   lasting_of,
+  none_filed,
+  put_table,
   shown,
   none_lasting,
   stopped_with,
@@ -88,7 +92,7 @@ use Rattle.write_path.specs.Sealed.{AreSealed, AreSealedApart}
 use Rattle.write_path.proofs.Accounted.{each_once, each_there}
 use Rattle.write_path.proofs.FewGroups.{few_groups}
 use Rattle.write_path.proofs.FewSegments.{few_segments}
-use Rattle.write_path.proofs.NoneDropped.{none_dropped}
+use Rattle.path_rule.proofs.log.NoneDropped.{none_dropped}
 use Rattle.write_path.proofs.NonePassed.{first_part, none_passed}
 use Rattle.write_path.proofs.Parted.{parts_at}
 use Rattle.write_path.proofs.Histories.{noted, writes_are, run_notes, by_all, all_noted}
@@ -177,10 +181,12 @@ module _ {K : Type 0} (size : PathSize) where
       (sym (ap (λ (p : Seat). p.claim) (All-contains P seats s parts one.1)) ∙ s.unclaimed)
 
   pub outcome : (o : Beside) (seats : List (PathSeat K)) (end : ℕ) (h : Holding)
-      → EndsBy o size seats end h
+      → size.files ≡ false → EndsBy o size seats end h
       → IsPermutation (range_with_len 0 size.seats) (numbers_of seats)
       → IsOutcome size seats end h
-  outcome o seats end h E all = let e = E.ended in let x = e.core in let L = e.lawful in
+  outcome o seats end h plain E all = let e = E.ended in let x = e.core in let L = e.lawful in
+      let P = e.filing.plain plain in
+      let none_gone = none_dropped x L P.0 in
       let z = past_sizes e.events (start_of size) x e.run in
       let same = e.lasting_is in
       let synced : h.synced ≡ x.synced = ap (λ (k : Lasting). k.synced) same in
@@ -229,9 +235,8 @@ module _ {K : Type 0} (size : PathSize) where
         none_passed = λ key. first_part x.capacity L.sized.limits.greatest_capacity key x.notes
             (is_history x L.claims_tile_the_log L.notes_are_claims) (none_passed x L idle);
         synced_is = synced;
-        dropped_are = ap (λ (k : Lasting). k.dropped) same;
-        none_dropped = ap (λ (k : Lasting). k.dropped) same
-            ∙ none_dropped x L e.unfiled;
+        dropped_are = ap (λ (k : Lasting). k.dropped) same ∙ (P.2 ∙ sym none_gone);
+        none_dropped = ap (λ (k : Lasting). k.dropped) same ∙ P.2;
         stops = stops;
         found_synced = known_of x
             (λ (s : PathSeat K). part_of s.member ≡ seat_of x s.member.number) (IsSyncedFor h)
@@ -285,7 +290,7 @@ module _ {K : Type 0} (size : PathSize) where
             (ap (λ (k : Lasting). k.stopped) same) in
             subst (λ (q : ℕ × ℕ). HasRisen q.0 q.1)
             (λ i. (sym (ap (λ (k : Lasting). k.at_open) same) i, t.1 i)) (e.risen t.0);
-        sized = sized_as size (shown o size.at_open e.kept_to x) h same z.base z.capacity z.ordinals
+        sized = sized_as size (shown o size.at_open e.kept_to e.filed e.dropped x) h same z.base z.capacity z.ordinals
             refl;
       }
 
@@ -367,13 +372,15 @@ void_too [] [] same is = refl
 void_too [] (y ∷ b) same is = absurd (omega arith)
 void_too (x ∷ a) b same is = absurd (let q = ap (λ (l : List _). length l) is in omega arith)
 
-pub stays_beside : (first h : Holding) → beside_of h ≡ beside_of first → StaysBeside first h
-stays_beside first h same = record {
+pub stays_beside : (first h : Holding) → beside_of h ≡ beside_of first → filed_of h ≡ none_filed
+    → StaysBeside first h
+stays_beside first h same filed = record {
   disk_is = ap (λ (b : Beside). b.disk) same;
   archives_are = ap (λ (b : Beside). b.archives) same;
   tables_are = ap (λ (b : Beside). b.tables) same;
   writers_are = ap (λ (b : Beside). b.writers) same;
-  no_file = void_too first.files h.files (ap (λ (b : Beside). b.files) same);
-  none_refused = none_too first.refused h.refused (ap (λ (b : Beside). b.refused) same);
-  none_archived = void_too first.archived h.archived (ap (λ (b : Beside). b.archived) same);
+  no_file = λ _. void_too [] h.files (sym (length-map h.files put_table)
+      ∙ ap (λ (f : Filed). length f.files) filed) refl;
+  none_refused = λ _. none_too None h.refused (ap (λ (f : Filed). f.refused) filed) refl;
+  none_archived = λ _. void_too [] h.archived (ap (λ (f : Filed). f.archived) filed) refl;
 }

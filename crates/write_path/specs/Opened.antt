@@ -1,5 +1,5 @@
 -- A path that was opened, and its seats when they are handed out.
-use Rattle.std.specs.Prelude.{◌≡◌, ℕ, List, map}
+use Rattle.std.specs.Prelude.{◌≡◌, ℕ, false, List, map}
 use Rattle.std.specs.List.{All, range_with_len}
 use Rattle.atomic_table.specs.Seated.{TableId}
 use Rattle.clog_base.specs.declared.sizes.Sizes.{Sizes}
@@ -20,6 +20,7 @@ size_of sizes base at_open = record {
   ordinals = sizes.ordinals;
   base = base;
   at_open = at_open;
+  files = false;
 }
 
 -- it shows what it did: what is lasting, what is kept, and whether it has stopped

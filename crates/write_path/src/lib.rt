@@ -48,22 +48,3 @@ pub use prepared::Prepared;
 pub use seats::{Appending, WritePath};
 pub use turning::TurnSeat;
 pub use writing::Written;
-
-#[cfg(test)]
-mod applying_tests;
-#[cfg(test)]
-mod commit_tests;
-#[cfg(test)]
-mod refusing_tests;
-#[cfg(test)]
-mod rolling_tests;
-#[cfg(test)]
-mod rows_tests;
-#[cfg(test)]
-mod stopping_tests;
-#[cfg(test)]
-mod sync_tests;
-#[cfg(test)]
-mod tests;
-#[cfg(test)]
-mod turning_tests;

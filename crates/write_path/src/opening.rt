@@ -42,6 +42,7 @@ fn size_of(sizes: Sizes, base: u64, at_open: u64) -> PathSize
         ordinals: u64::from(sizes.ordinals),
         base,
         at_open,
+        files: false,
     }
 }
 

@@ -32,6 +32,7 @@ use Rattle.path_core.specs.Parts.{no_claim, is_marker, last_marker}
 use Rattle.path_core.proofs.log.MarkerSteps.{last_is_marker}
 use Rattle.path_core.proofs.log.MarkerTells.{last_claimed}
 use Rattle.path_rule.specs.declared.lasting.Beside.{Beside}
+use Rattle.path_rule.specs.declared.lasting.Filed.{Filed}
 use Rattle.path_rule.specs.declared.lasting.Lasting.{Lasting}
 use Rattle.path_rule.specs.declared.slot.Slot.{Slot}
 use Rattle.path_rule.specs.declared.view.PathSize.{PathSize}
@@ -80,17 +81,20 @@ marker_at x L c last g issued =
 
 -- So it is for the last marker, once its barrier is issued.
 pub gathered_up_to_last : {K : Type 0} (shows : K → Lasting) (o : Beside) (size : PathSize)
-    (opened key : ℕ) (homes : List (maybe.Option (Slot K))) (views : List View) (x : PathState)
+    (opened key : ℕ) (filed : Filed) (dropped : List ℕ) (homes : List (maybe.Option (Slot K)))
+    (views : List View) (x : PathState)
     → IsLawfulPath x
-    → (B : Boxed shows size.seats x.notes (shown o opened key x) x.claims x.append homes views)
+    → (B : Boxed shows size.seats x.notes (shown o opened key filed dropped x) x.claims x.append
+    homes views)
     → B.progress.gathered ≡ true → (c : Claim) (g : ℕ) → last_marker x ≡ Some c
     → c.barrier ≡ Some g → (n : EntryNote) → Contains x.notes n → n.end.0 ≤ c.start
     → Contains x.logged n.end.0 ⊎ Contains B.pending n
-gathered_up_to_last shows o size opened key homes views x L B all c g last issued n h low =
+gathered_up_to_last shows o size opened key filed dropped homes views x L B all c g last issued n h
+    low =
     let M = marker_at x L c last g issued in
     let start = ap (λ (d : Claim). d.start) M.is in
     ⊎_elim (λ a. inl (subst (λ (l : List ℕ). Contains l n.end.0)
     (sym L.logged_is_the_synced_part.logged) a)) (λ p. inr p)
-    (gathered_all shows size.seats x.notes (shown o opened key x) x.claims x.append homes views B
-    all
+    (gathered_all shows size.seats x.notes (shown o opened key filed dropped x) x.claims x.append
+    homes views B all
     M.number g M.inside M.marker M.barrier M.below n h (omega arith))

@@ -31,6 +31,7 @@ use Rattle.std.proofs.Common.{
   ⊎_elim,
   arith,
 }
+use Rattle.std.specs.Prelude.{slice_index}
 use Rattle.std.proofs.lemmas.Bool.{false≢true}
 use Rattle.std.proofs.lemmas.List.{append-nil}
 use Rattle.std.proofs.lemmas.List.Sorted.{IsPermutation-refl, IsPermutation-trans}
@@ -43,6 +44,7 @@ use Rattle.path_core.specs.declared.note.EntryNote.{EntryNote}
 use Rattle.path_core.specs.declared.keeper.KeeperFault.{KeeperFault}
 use Rattle.path_core.specs.declared.keeper.KeeperFault.TheVariants.{Stopped, OutOfMemory}
 use Rattle.path_core.specs.Keeper.{
+  HasRisen,
   Holding,
   IsParted,
   MayWrite,
@@ -83,7 +85,7 @@ on_desk holds before m carries top = subst (λ (y : Slot _). DeskIs (shows_of ho
 module _ {K : Type 0} (holds : K → Holding) (before after : Desk K) (m : Me (Slot K) View)
     (upto : ℕ) (carries : CarriesDesk (shows_of holds) m)
     (top : m.1 ≡ (desk_box, Turn before) ∷ rest m.1)
-    (progress : after.progress ≡ before.progress) where
+    (progress : after.progress ≡ before.progress) (uppers : after.uppers ≡ before.uppers) where
   pub lent_synced : stopped_with (holds after.keeper).stopped (holds after.keeper).faults
       ≡ stopped_with (holds before.keeper).stopped (holds before.keeper).faults
       → Syncs (holds before.keeper) (holds after.keeper) upto (pending_on before)
@@ -108,6 +110,7 @@ module _ {K : Type 0} (holds : K → Holding) (before after : Desk K) (m : Me (S
                 ∙ ap (more_lasting S.run upto) D.0),
             refl,
             progress ∙ D.2,
+            (λ t few. ap (λ (l : List ℕ). slice_index l t) uppers ∙ D.3 t few),
           ),
         ),
       )
@@ -140,6 +143,7 @@ module _ {K : Type 0} (holds : K → Holding) (before after : Desk K) (m : Me (S
             ∙ ap (λ (l : Lasting). refused_lasting (holds after.keeper).kept (by l.stopped) l) D.0),
         refl,
         progress ∙ D.2,
+        (λ t few. ap (λ (l : List ℕ). slice_index l t) uppers ∙ D.3 t few),
       ),
     ),
   )
@@ -283,3 +287,11 @@ pub on_err : {A E : Type 0} (r : Result A E) (P Q : Type 0) → (P → Q)
     → OnErr r P → OnErr r Q
 on_err (Ok a) P Q f h = h
 on_err (Err e) P Q f h = f h
+
+-- a keeper that has stopped tells its counts
+pub tells_at : {T : Type 0} (r : Result T KeeperFault) (opened : ℕ) → TellsFaults opened r
+    → {fault : KeeperFault} → r ≡ Err fault → {at_open count : ℕ} → fault ≡ Stopped at_open count
+    → (at_open ≡ opened) × HasRisen at_open count
+tells_at {T} r opened told {fault} is {at_open} {count} stops =
+    subst (λ (q : Result T KeeperFault). TellsFaults opened q)
+    (is ∙ ap (λ (f : KeeperFault). Err f) stops) told

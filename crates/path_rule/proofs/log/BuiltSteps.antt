@@ -1,14 +1,11 @@
--- What each built step keeps: no memtable with entries is retired, and a stopped log tells a count of faults
--- that has risen.
-use Rattle.std.proofs.Common.{◌≡◌, ℕ, ◌<◌, Bool, [], ◌∷◌, ap, ◌∙◌}
-use Rattle.std.specs.Prelude.{◌++◌, if◌then◌else◌}
+-- What each built step keeps: a stopped log tells a count of faults that has risen.
+use Rattle.std.proofs.Common.{ℕ, ◌<◌}
 use Rattle.path_core.specs.declared.event.Cursor.TheVariants.{Synced, OldestLive, Stopped}
 use Rattle.path_core.specs.declared.event.Event.{Event}
 use Rattle.path_core.specs.declared.event.Event.TheVariants.{Put}
 use Rattle.path_core.specs.declared.state.PathState.{PathState}
 use Rattle.path_core.specs.Keeper.{HasRisen}
 use Rattle.path_core.specs.Next.{next_of}
-use Rattle.path_core.specs.Parts.{key_of_bound, last_upper, memtable_of, table_of}
 use Rattle.path_rule.specs.Rule.{IsBuilt}
 
 module _ (opened : ℕ) (x : PathState) where
@@ -18,15 +15,3 @@ module _ (opened : ℕ) (x : PathState) where
   still_risen (Put by Synced value) built old above = old above
   still_risen (Put by (OldestLive t) value) built old above = old above
   still_risen e built old above = old above
-
-  pub still_unfiled : (e : Event) → IsBuilt opened x e → x.files ≡ [] → (next_of x e).files ≡ []
-  still_unfiled (Put by (OldestLive t) value) built is =
-      ap (λ (b : Bool). if b then x.files else x.files ++ record {
-        table = t.0;
-        memtable = (table_of x t.0).oldest_live;
-        lower = last_upper x.files t.0;
-        upper = key_of_bound (memtable_of x t.0 (table_of x t.0).oldest_live).bound;
-      } ∷ []) built ∙ is
-  still_unfiled (Put by Synced value) built is = is
-  still_unfiled (Put by Stopped value) built is = is
-  still_unfiled e built is = is

@@ -62,6 +62,7 @@ use Rattle.path_core.proofs.log.OwnNotes.{notes_stay}
 use Rattle.path_core.specs.Parts.{kept_of, last_kept}
 use Rattle.path_rule.specs.Kept.{IsDepositedTo, MayBeKept}
 use Rattle.path_rule.specs.declared.lasting.Beside.{Beside}
+use Rattle.path_rule.specs.declared.lasting.Filed.{Filed}
 use Rattle.path_rule.specs.Lasts.{shown}
 use Rattle.path_rule.proofs.log.Marks.{marker_stays}
 
@@ -188,13 +189,17 @@ module _ (x : PathState) (L : IsLawfulPath x) where
 
   -- and what is lasting
   pub kept_same : (by g : ℕ) (note : EntryNote) (a : IsStep x (Close by Append g (Deposit note)))
-      (o : Beside) (opened key : ℕ) → MayBeKept x key
-      → shown o opened key x ≡ shown o opened key (next_of x (Close by Append g (Deposit note)))
-  kept_same by g note a o opened key may =
+      (o : Beside) (opened key : ℕ) (filed : Filed) (dropped : List ℕ) → MayBeKept x key
+      → shown o opened key filed dropped x
+      ≡ shown o opened key filed dropped (next_of x (Close by Append g (Deposit note)))
+  kept_same by g note a o opened key filed dropped may =
       let at = position_or_len (λ (n : EntryNote). nat_lt note.start.0 n.start.0) x.notes in
       let above = above_noted x.synced L.logged_is_the_synced_part.gathered by g note a in
       let lasts = filter_insert (is_at_most x.synced) x.notes at note
       (lt-leb note.end.0 x.synced above) in
       let kept = filter_insert (is_between x.synced key) x.notes at note
       (not_kept by g note a key may) in
-      λ j. record (shown o opened key x) { logged = sym lasts j; kept = sym kept j }
+      λ j. record (shown o opened key filed dropped x) {
+        logged = sym lasts j;
+        kept = sym kept j;
+      }

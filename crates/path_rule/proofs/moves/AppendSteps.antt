@@ -103,7 +103,7 @@ module _ {K : Type 0} (shows : K → Lasting) (o : Beside) (size : PathSize) (sl
 
         by_role : (ρ : Role) → Knows r.core r.events r.owner r.made r.boss j ρ u.part u.trail
             u.returned → HandsAs r.boxed.contents
-            (shown o size.at_open r.kept_to r.core) r.boxed.pending r.boxed.progress r.core.append
+            (shown o size.at_open r.kept_to r.filed r.dropped r.core) r.boxed.pending r.boxed.progress r.core.append
             size.seats
             u.part u.hands
             ρ
@@ -171,7 +171,7 @@ module _ {K : Type 0} (shows : K → Lasting) (o : Beside) (size : PathSize) (sl
       let few : length ns ≤ 2 ^ 62 = (let f = few_kept shows size.seats x
       (core_lawful shows o size s
       r)
-      (shown o size.at_open r.kept_to x)
+      (shown o size.at_open r.kept_to r.filed r.dropped x)
       x.claims x.append s.homes s.views r.boxed box in omega arith) in
       let C = columns_now shows o size s r id w m.0 there mine e refl may tt tt fits rows (k + 1)
       (k + 1) false h now refl in (
@@ -180,7 +180,7 @@ module _ {K : Type 0} (shows : K → Lasting) (o : Beside) (size : PathSize) (sl
         home.1,
         plays shows o size s r id w m.0 there mine e refl may tt tt fits rows (k + 1)
             (k + 1) false h now refl m.1 (takes box home.0)
-            (boxed_take shows size.seats x.notes (shown o size.at_open r.kept_to x) x.claims
+            (boxed_take shows size.seats x.notes (shown o size.at_open r.kept_to r.filed r.dropped x) x.claims
             x.claims
             x.append
             (next_of x e).append s.homes s.views r.boxed id w m.0 v' there mine refl refl refl
@@ -240,11 +240,11 @@ module _ {K : Type 0} (shows : K → Lasting) (o : Beside) (size : PathSize) (sl
         tt,
         plays shows o size s r id w m.0 there mine e refl may tt tt fits rows
             ((n + (2 ^ 64 - 1)) % 2 ^ 64) n false m.0.hands now refl m.1 gives
-            (subst (λ l. Boxed shows size.seats x.notes (shown o size.at_open r.kept_to x) x.claims
+            (subst (λ l. Boxed shows size.seats x.notes (shown o size.at_open r.kept_to r.filed r.dropped x) x.claims
             (next_of x
             e).append
             (put_back s.homes l) (set s.views id v')) (sym holds)
-            (boxed_give shows size.seats x.notes (shown o size.at_open r.kept_to x) x.claims
+            (boxed_give shows size.seats x.notes (shown o size.at_open r.kept_to r.filed r.dropped x) x.claims
             x.claims
             x.append
             (next_of x e).append s.homes s.views r.boxed id w m.0 v' there mine refl refl refl

@@ -143,16 +143,17 @@ module _ {K : Type 0} (shows : K → Lasting) (o : Beside) (size : PathSize) (sl
         gives,
         tt,
         plays_with shows o size s r id w m.0 there mine e refl may whole tt fits rows
-            ((n + (2 ^ 64 - 1)) % 2 ^ 64) n false m.0.hands now refl m.1 gives
+            ((n + (2 ^ 64 - 1)) % 2 ^ 64) n false m.0.hands now refl refl m.1 gives
             (subst (λ (q : Lasting × List (ℕ × Slot K)). Boxed shows size.seats (next_of x e).notes
             q.0 x.claims (next_of x e).append (put_back s.homes q.1) (set s.views id v'))
             (λ i. (
-              kept_same x law w g note may o size.at_open r.kept_to r.may_be_kept i,
+              kept_same x law w g note may o size.at_open r.kept_to r.filed r.dropped
+                  r.may_be_kept i,
               sym holds
                   i,
             ))
             (boxed_put shows size.seats x.notes (next_of x e).notes
-            (shown o size.at_open r.kept_to x)
+            (shown o size.at_open r.kept_to r.filed r.dropped x)
             x.claims
             x.append
             (next_of x e).append s.homes s.views r.boxed id w m.0 v' there mine refl refl refl g

@@ -67,7 +67,6 @@ use Rattle.path_core.proofs.frame.Tables.{live_left}
 use Rattle.path_core.proofs.lists.Passing.{any_from}
 use Rattle.path_core.proofs.seats.Columns.{claim_after, note_after}
 use Rattle.path_rule.specs.declared.view.Hands.{Hands}
-use Rattle.path_rule.specs.Rule.{IsBuilt}
 use Rattle.path_rule.specs.Switches.{ReadsNone}
 use Rattle.path_rule.proofs.seats.PlaceStays.{LeavesPlaces}
 
@@ -156,23 +155,27 @@ live_still x e a t leaves = by e a leaves
     by (Put w (OldestLive u) value) a leaves = ap (λ (tb : TableState). tb.oldest_live)
         (get_or-set_other x.tables u.0 t _ fresh_table leaves)
 
--- A step that is built retires no memtable of the table, or the least of it, which is empty.
-pub live_moves : (opened : ℕ) (x : PathState) (e : Event) → IsStep x e → IsBuilt opened x e
-    → (t : ℕ) → ((table_of (next_of x e) t).oldest_live ≡ (table_of x t).oldest_live)
-    ⊎ (((table_of (next_of x e) t).oldest_live ≡ suc (table_of x t).oldest_live)
-    × (is_empty x t (table_of x t).oldest_live ≡ true))
-live_moves opened x (Put w (OldestLive u) value) a built t = dite (ℕ_discrete t u.0)
-    (λ same. inr (
-      subst (λ (k : ℕ). (table_of (next_of x (Put w (OldestLive u) value)) k).oldest_live
-          ≡ suc (table_of x k).oldest_live) (sym same)
-          (ap (λ (tb : TableState). tb.oldest_live)
-          (get_or-set_same x.tables u.0 _ fresh_table a.is_there) ∙ a.row.1),
-      subst (λ (k : ℕ). is_empty x k (table_of x k).oldest_live ≡ true) (sym same) built,
-    ))
+-- A step retires no memtable of the table, or the least of it.
+pub live_moves : (x : PathState) (e : Event) → IsStep x e → (t : ℕ)
+    → ((table_of (next_of x e) t).oldest_live ≡ (table_of x t).oldest_live)
+    ⊎ ((table_of (next_of x e) t).oldest_live ≡ suc (table_of x t).oldest_live)
+live_moves x (Put w (OldestLive u) value) a t = dite (ℕ_discrete t u.0)
+    (λ same. inr (subst (λ (k : ℕ).
+    (table_of (next_of x (Put w (OldestLive u) value)) k).oldest_live
+    ≡ suc (table_of x k).oldest_live) (sym same) (ap (λ (tb : TableState). tb.oldest_live)
+    (get_or-set_same x.tables u.0 _ fresh_table a.is_there) ∙ a.row.1)))
     (λ apart. inl (live_still x (Put w (OldestLive u) value) a t apart))
-live_moves opened x (Put w Synced value) a built t = inl refl
-live_moves opened x (Put w Stopped value) a built t = inl refl
-live_moves opened x e a built t = inl (live_still x e a t tt)
+live_moves x (Put w Synced value) a t = inl refl
+live_moves x (Put w Stopped value) a t = inl refl
+live_moves x e a t = inl (live_still x e a t tt)
+
+-- where it retires none of any table, the files stay
+pub files_left : (x : PathState) (h : Hands) (e : Event) → LeavesReading h e
+    → (next_of x e).files ≡ x.files
+files_left x h (Put by (OldestLive t) value) leaves = absurd leaves
+files_left x h (Put by Synced value) leaves = refl
+files_left x h (Put by Stopped value) leaves = refl
+files_left x h e leaves = refl
 
 -- a memtable in which something was placed is not empty
 pub not_empty : (x : PathState) (t m entry : ℕ)

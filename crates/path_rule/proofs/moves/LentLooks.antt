@@ -17,7 +17,8 @@ use Rattle.std.proofs.Common.{
   arith,
 }
 use Rattle.std.specs.List.{Contains, filter}
-use Rattle.std.specs.Prelude.{slice_index}
+use Rattle.std.specs.Prelude.{slice_index, nat_le, nat_lt}
+use Rattle.std.proofs.lemmas.Bool.{and_parts, ltb-true}
 use mathlib.Core.Logic.{dite, inl, inr}
 use mathlib.Core.Option.{none}
 use native.Mathlib.Decide.{dec_le}
@@ -30,12 +31,15 @@ use Rattle.path_core.specs.declared.seat.LastMarker.{LastMarker}
 use Rattle.path_core.specs.declared.seat.SyncTurn.{SyncTurn}
 use Rattle.path_core.specs.declared.state.PathState.{PathState}
 use Rattle.path_core.specs.Allowed.{IsStep}
-use Rattle.path_core.specs.Keeper.{IsParted, MayWrite}
+use Rattle.path_core.specs.Keeper.{Holding, IsParted, MayWrite}
 use Rattle.path_core.specs.Lawful.{IsLawfulPath}
-use Rattle.path_core.specs.Lent.{IsKeptOf}
+use Rattle.path_core.specs.Keys.{ordinal_of}
+use Rattle.path_core.specs.Lent.{IsKeptOf, run_to}
 use Rattle.path_core.specs.Next.{is_between}
 use Rattle.path_core.proofs.lent.Writable.{may_write}
+use Rattle.path_core.proofs.lists.Passing.{filter_from}
 use Rattle.path_rule.specs.declared.lasting.Beside.{Beside}
+use Rattle.path_rule.specs.declared.lasting.Filed.{Filed}
 use Rattle.path_rule.specs.declared.lasting.Lasting.{Lasting}
 use Rattle.path_rule.specs.declared.slot.Slot.{Slot}
 use Rattle.path_rule.specs.declared.view.PathSize.{PathSize}
@@ -51,7 +55,9 @@ use Rattle.path_rule.specs.TurnTold.{MayLend, IsLent, LentFound}
 use Rattle.path_rule.specs.Trails.{GoesOnBehind}
 use Rattle.path_rule.specs.Turns.{IsBarred}
 use Rattle.path_rule.proofs.log.Behind.{goes_on}
+use Rattle.path_rule.proofs.log.FilingStays.{dropped_below}
 use Rattle.path_rule.proofs.log.KeptStays.{none_kept}
+use Rattle.path_rule.proofs.log.NotesBehind.{starts_above}
 use Rattle.path_rule.proofs.moves.HolderFacts.{is_held, hands_now}
 use Rattle.path_rule.proofs.moves.Looks.{look_owes, within, each_seat_name}
 use Rattle.path_rule.proofs.moves.Moving.{capacity_is, core_lawful, known, was}
@@ -79,25 +85,49 @@ kept_below x key value kept may last m marked is = ⊎_elim (λ low. nothing low
 
 -- so a keeper that shows what it has made of the state may write what the machine would
 may_be_lent : (x : PathState) → IsLawfulPath x → (o : Beside) (w opened key value by group : ℕ)
+    (filed : Filed) (dropped : List ℕ) → ((k : ℕ) → Contains dropped k → k < ordinal_of x.synced)
     → MayBeKept x key
     → last_kept x.claims ≡ Some (record { by = by; start = value; barrier = Some group })
     → IsStep x (Put w Synced value) → (lasting : Lasting) (run : List EntryNote)
-    → lasting ≡ shown o opened key x → filter (is_between x.synced value) x.notes ≡ run
-    → MayLend lasting value run
-may_be_lent x L o w opened key value by group may marked step lasting run shows is h holds =
-    let E : lasting_of h ≡ shown o opened key x = holds ∙ shows in
-    subst (λ (l : List EntryNote). MayWrite h value l) is
-    (may_write x L w value step h (record {
+    → lasting ≡ shown o opened key filed dropped x
+    → filter (is_between x.synced value) x.notes ≡ run → MayLend lasting value run
+may_be_lent x L o w opened key value by group filed dropped below may marked step lasting run shows
+    is h holds =
+    let E : lasting_of h ≡ shown o opened key filed dropped x = holds ∙ shows in
+    let whole : Holding = record h { dropped = x.dropped } in
+    let M = may_write x L w value step whole (record {
       capacity = ap (λ (l : Lasting). l.capacity) E;
       ordinals = ap (λ (l : Lasting). l.ordinals) E;
       synced = ap (λ (l : Lasting). l.synced) E;
-      dropped = λ o d. subst (λ (l : List ℕ). Contains l o) (ap (λ (l : Lasting). l.dropped) E) d;
+      dropped = λ o d. d;
     })
     (kept_below x key value h.kept may
     (λ k q. ap (λ (m : LastMarker). m.start) (same_marker (sym q ∙ marked)))
-    (record { by = by; start = value; barrier = Some group }) marked (ap (λ (l : Lasting). l.kept)
-    E)))
+    (record { by = by; start = value; barrier = Some group }) marked
+    (ap (λ (l : Lasting). l.kept) E)) in
+    subst (λ (l : List EntryNote). MayWrite h value l) is (record {
+      each = λ n among. let W = M.each n among in record {
+        whole = W.whole;
+        in_segment = W.in_segment;
+        segment_is = W.segment_is;
+        not_dropped = λ d. not_gone n among (below (ordinal_of n.start.0)
+            (subst (λ (l : List ℕ). Contains l (ordinal_of n.start.0))
+            (ap (λ (l : Lasting). l.dropped) E) d));
+      };
+      tiled = M.tiled;
+      more = M.more;
+      begins = M.begins;
+      go_on = M.go_on;
+    })
   where
+    -- what is written now lies in no segment below that of the synced key
+    not_gone : (n : EntryNote) → Contains (run_to x value) n
+        → ordinal_of n.start.0 < ordinal_of x.synced → ⊥
+    not_gone n among low = let f = filter_from (is_between x.synced value) x.notes n among in
+        let above = ltb-true x.synced n.end.0
+        (and_parts (nat_lt x.synced n.end.0) (nat_le n.end.0 value) f.1).0 in
+        let up = starts_above x L n f.0 above in absurd (omega arith)
+
     same_marker : {a b : LastMarker} → Some a ≡ Some b → a ≡ b
     same_marker e = cc
 
@@ -140,7 +170,8 @@ module _ {K : Type 0} (shows : K → Lasting) (o : Beside) (size : PathSize) (sl
               S.1,
               record { seat = S.0.seat; is_there = S.0.is_there; row = S.0.row },
               may_be_lent x (core_lawful shows o size s r) o w size.at_open r.kept_to value barred.0
-                  barred.1 r.may_be_kept marked S.0 m.0.hands.lasting run D.0 S.1,
+                  barred.1 r.filed r.dropped (dropped_below x (core_lawful shows o size s r) size
+                  r.filed r.dropped r.filing) r.may_be_kept marked S.0 m.0.hands.lasting run D.0 S.1,
             )),
         goes,
       ))

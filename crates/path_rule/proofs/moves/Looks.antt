@@ -87,6 +87,7 @@ use Rattle.path_rule.proofs.moves.LeavesWrites.{
   LeavesReading,
   LeavesWrite,
   claim_left,
+  files_left,
   leaves_places,
   note_left,
   placed_left,
@@ -185,7 +186,7 @@ module _ {K : Type 0} (shows : K → Lasting) (o : Beside) (size : PathSize) (sl
         → seat_after m.0.part e (reading_at (place_of e) found) (told_by false m.0.hands)
         ≡ seat_after m.0.part e (reading x (place_of e)) (told_of x e)
         → (Columns e m.0.part (view_after m.0 e found false).part
-        → Boxed shows size.seats (next_of x e).notes (shown o size.at_open r.kept_to (next_of x e))
+        → Boxed shows size.seats (next_of x e).notes (shown o size.at_open r.kept_to r.filed r.dropped (next_of x e))
         (next_of x
         e).claims
         (next_of x e).append s.homes (set s.views id (view_after m.0 e found false)))
@@ -205,7 +206,7 @@ module _ {K : Type 0} (shows : K → Lasting) (o : Beside) (size : PathSize) (sl
           keeps,
           tt,
           plays_with shows o size s r id w m.0 there mine e by may whole built spot rows n found
-              false m.0.hands now told m.1 keeps (boxed C)
+              false m.0.hands now told (files_left x m.0.hands e quiet) m.1 keeps (boxed C)
               (memtables_then shows o size s r id w m.0 there mine e by may whole built spot rows n
               found false m.0.hands now told m.1 keeps tt refl refl refl (puts C) kept (runs C))
               (reads_still shows o size s r id w m.0 there mine e by may whole built spot rows n
@@ -221,7 +222,7 @@ module _ {K : Type 0} (shows : K → Lasting) (o : Beside) (size : PathSize) (sl
         → seat_after m.0.part e (reading_at (place_of e) found) (told_by false m.0.hands)
         ≡ seat_after m.0.part e (reading x (place_of e)) (told_of x e)
         → (Columns e m.0.part (view_after m.0 e found false).part
-        → Boxed shows size.seats (next_of x e).notes (shown o size.at_open r.kept_to (next_of x e))
+        → Boxed shows size.seats (next_of x e).notes (shown o size.at_open r.kept_to r.filed r.dropped (next_of x e))
         (next_of x
         e).claims
         (next_of x e).append s.homes (set s.views id (view_after m.0 e found false)))
@@ -259,7 +260,7 @@ module _ {K : Type 0} (shows : K → Lasting) (o : Beside) (size : PathSize) (sl
         (ap (λ k. seat_after m.0.part (Look w at) k (told_by false m.0.hands))
         (ap (reading_at at) found ∙ read_back x L at))
         (λ C. boxed_stay shows size.seats x.notes
-        (shown o size.at_open r.kept_to x) x.claims x.claims x.append x.append s.homes s.views
+        (shown o size.at_open r.kept_to r.filed r.dropped x) x.claims x.claims x.append x.append s.homes s.views
         r.boxed
         id w m.0
         (view_after m.0 (Look w at) n false) there mine refl refl refl

@@ -174,7 +174,7 @@ module _ {K : Type 0} (shows : K → Lasting) (o : Beside) (size : PathSize) (sl
         → let e = Look w (Newest t) in let n = slice_index s.words (8 + 4 * t.0) in
         let v' = view_after (with_hands h m.0) e n false in
         (Columns e m.0.part v'.part → Boxed shows size.seats r.core.notes
-        (shown o size.at_open r.kept_to r.core) r.core.claims r.core.append
+        (shown o size.at_open r.kept_to r.filed r.dropped r.core) r.core.claims r.core.append
         (homes_after s.homes m.1 a) (set s.views id v'))
         → (Columns e m.0.part v'.part → HasMemtables size.seats r.core.notes r.core.placed
         r.core.tables (homes_after s.homes m.1 a) (set s.views id v'))
@@ -191,7 +191,7 @@ module _ {K : Type 0} (shows : K → Lasting) (o : Beside) (size : PathSize) (sl
         let C = columns_now shows o size s r id w m.0 there mine e refl may tt tt few rows n n false
         h found told in (
           plays_with shows o size s r id w m.0 there mine e refl may tt tt few rows n n false h
-              found told m.1 a (boxed C) (memtables C)
+              found told refl m.1 a (boxed C) (memtables C)
               (reads_still shows o size s r id w m.0 there mine e refl may tt tt few rows n n false
               h found told tt reading),
           was shows o size s r id w m.0 there mine e may tt,
@@ -216,7 +216,7 @@ module _ {K : Type 0} (shows : K → Lasting) (o : Beside) (size : PathSize) (sl
       (λ q in_it. let b = below_log x law q (M.sound w t.0 k q small in_it).among in omega arith) in
       omega arith) in
       let did = looked s r there t small inside h (takes box home.0) refl
-      (λ C. boxed_other shows size.seats x.notes (shown o size.at_open r.kept_to x) x.claims
+      (λ C. boxed_other shows size.seats x.notes (shown o size.at_open r.kept_to r.filed r.dropped x) x.claims
       x.append s.homes s.views r.boxed id m.0 v' there refl (set s.homes box none)
       (λ b l. set_else s.homes box b none (λ q. absurd (omega arith))) C.append C.issue (Some box)
       held m.0.hands.applied m.0.hands.reading refl)
@@ -265,9 +265,9 @@ module _ {K : Type 0} (shows : K → Lasting) (o : Beside) (size : PathSize) (sl
       ap (λ (z : PathSize). memtable_box z.seats w t.0 k) (sized s r there) in
       let carried : m.1 ≡ (box, y) ∷ cs = holds ∙ (λ i. (same i, y) ∷ cs) in
       let did = looked s r there t small inside h gives refl
-      (λ C. subst (λ l. Boxed shows size.seats x.notes (shown o size.at_open r.kept_to x) x.claims
+      (λ C. subst (λ l. Boxed shows size.seats x.notes (shown o size.at_open r.kept_to r.filed r.dropped x) x.claims
       x.append (put_back s.homes l) (set s.views id v')) (sym carried)
-      (boxed_other shows size.seats x.notes (shown o size.at_open r.kept_to x) x.claims
+      (boxed_other shows size.seats x.notes (shown o size.at_open r.kept_to r.filed r.dropped x) x.claims
       x.append s.homes s.views r.boxed id m.0 v' there refl (set s.homes box (some y))
       (λ b l. set_else s.homes box b (some y) (λ q. absurd (omega arith))) C.append C.issue None
       [] (new ∷ m.0.hands.applied) m.0.hands.reading refl))

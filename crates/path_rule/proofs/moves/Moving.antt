@@ -73,6 +73,7 @@ use Rattle.path_core.proofs.runs.EveryRun.{keeps_lawful, past_lawful, opening_la
 use Rattle.path_core.proofs.runs.Sizes.{as_many_seats}
 use Rattle.path_core.proofs.seats.Columns.{own_after, Columns}
 use Rattle.path_rule.specs.declared.lasting.Beside.{Beside}
+use Rattle.path_rule.specs.declared.lasting.Filed.{Filed}
 use Rattle.path_rule.specs.declared.lasting.Lasting.{Lasting}
 use Rattle.path_rule.specs.declared.slot.Slot.{Slot}
 use Rattle.path_rule.specs.declared.view.FlushRead.{FlushRead}
@@ -85,6 +86,7 @@ use Rattle.path_rule.specs.declared.view.Role.TheVariants.{Opener, Steps, Spent}
 use Rattle.path_rule.specs.declared.view.View.{View}
 use Rattle.path_rule.specs.Boxed.{Boxed}
 use Rattle.path_rule.specs.Boxes.{boxes, memtable_box}
+use Rattle.path_rule.specs.Filing.{HasFiled}
 use Rattle.path_rule.specs.Kept.{MayBeKept}
 use Rattle.path_rule.specs.Lasts.{shown}
 use Rattle.path_rule.specs.Layout.{word_at, IsWord, word_of, reading_at}
@@ -124,7 +126,8 @@ use Rattle.path_rule.proofs.boxes.MemtablesStay.{
 }
 use Rattle.path_rule.proofs.boxes.ReadsStay.{reads_on}
 use Rattle.path_rule.proofs.boxes.TurnHeld.{held_stays, LeavesTurn}
-use Rattle.path_rule.proofs.log.BuiltSteps.{still_risen, still_unfiled}
+use Rattle.path_rule.proofs.log.BuiltSteps.{still_risen}
+use Rattle.path_rule.proofs.log.FilingStays.{filing_stays}
 use Rattle.path_rule.specs.Trails.{TrailTells, ViewTells}
 use Rattle.path_rule.proofs.log.KeptStays.{kept_stays}
 use Rattle.path_rule.proofs.log.TrailsTell.{tells_more, view_still}
@@ -134,6 +137,7 @@ use Rattle.path_rule.proofs.moves.LeavesWrites.{
   LeavesWrite,
   MovesBelow,
   claim_left,
+  files_left,
   leaves_places,
   live_moves,
   live_still,
@@ -183,7 +187,7 @@ module _ {K : Type 0} (shows : K → Lasting) (o : Beside) (size : PathSize) (s 
     pub kept_before : (p : Placed) → IsKeptAt (next_of r.core e).tables p
         → IsKeptAt r.core.tables p
     kept_before p live = ⊎_elim (λ same. subst (λ (k : ℕ). k ≤ p.memtable) same live)
-        (λ up. let more = up.0 in omega arith) (live_moves size.at_open r.core e may built p.table)
+        (λ up. omega arith) (live_moves r.core e may p.table)
 
     -- so what was placed lies there still
     pub still_kept : placed_after r.core e ≡ r.core.placed → (p : Placed)
@@ -438,11 +442,12 @@ module _ {K : Type 0} (shows : K → Lasting) (o : Beside) (size : PathSize) (s 
           leaves_turn d leaves q has = tt
 
       -- with what the keeper may have kept up to a key, and what is in the boxes
-      pub plays_all : (key : ℕ) → MayBeKept x' key → (cs : List (ℕ × Slot K)) (a : Act (Slot K))
-          → Boxed shows size.seats x'.notes (shown o size.at_open key x') x'.claims x'.append
-          (homes_after s.homes cs a) (set s.views id v') → MemtablesThen cs a → ReadsThen
+      pub plays_all : (key : ℕ) → MayBeKept x' key → (put : Filed) (gone : List ℕ)
+          → HasFiled size x' put gone → (cs : List (ℕ × Slot K)) (a : Act (Slot K))
+          → Boxed shows size.seats x'.notes (shown o size.at_open key put gone x') x'.claims
+          x'.append (homes_after s.homes cs a) (set s.views id v') → MemtablesThen cs a → ReadsThen
           → Ruled shows o size (stepped s (word_at (place_of e)) n id cs v' a)
-      plays_all key may_be cs a boxed memtables reads = record {
+      plays_all key may_be put gone filing cs a boxed memtables reads = record {
         core = x';
         events = es';
         owner = r.owner;
@@ -472,11 +477,15 @@ module _ {K : Type 0} (shows : K → Lasting) (o : Beside) (size : PathSize) (s 
         deep = homes_length s.homes cs a ∙ r.deep;
         kept_to = key;
         may_be_kept = may_be;
+        filed = put;
+        dropped = gone;
+        filing = filing;
+        unstepped = λ none_made. absurd (let q : e ∷ r.events ≡ [] = none_made in cc);
+        tabled = r.tabled;
         boxed = boxed;
         memtables = memtables;
         reads = reads;
         risen = still_risen size.at_open r.core e built r.risen;
-        unfiled = still_unfiled size.at_open r.core e built r.unfiled;
         each_seat = λ j u p. ⊎_elim
             (λ (t : (j ≡ id) × (v' ≡ u)). let P : ℕ × View
             → Type 0 = λ y. IsSized size y.1
@@ -503,30 +512,46 @@ module _ {K : Type 0} (shows : K → Lasting) (o : Beside) (size : PathSize) (s 
             (at_set s.views id j v' u p);
       }
 
+      -- what was filed and dropped is what the state has still, where it gives no file
+      filing_now : x'.files ≡ r.core.files → HasFiled size x' r.filed r.dropped
+      filing_now same = filing_stays r.core core_lawful size r.filed r.dropped e may same r.filing
+
       -- where no box of a memtable moves, and the seat's write stays
-      pub plays_to : (key : ℕ) → MayBeKept x' key → (cs : List (ℕ × Slot K)) (a : Act (Slot K))
-          → Boxed shows size.seats x'.notes (shown o size.at_open key x') x'.claims x'.append
-          (homes_after s.homes cs a) (set s.views id v') → LeavesWrite e → SameHeld v.hands h
-          → MovesBelow (boxes size.seats) cs a → LeavesReading v.hands e
+      pub plays_filed : (key : ℕ) → MayBeKept x' key → (put : Filed) (gone : List ℕ)
+          → HasFiled size x' put gone → (cs : List (ℕ × Slot K)) (a : Act (Slot K))
+          → Boxed shows size.seats x'.notes (shown o size.at_open key put gone x') x'.claims
+          x'.append (homes_after s.homes cs a) (set s.views id v') → LeavesWrite e
+          → SameHeld v.hands h → MovesBelow (boxes size.seats) cs a → LeavesReading v.hands e
           → Ruled shows o size (stepped s (word_at (place_of e)) n id cs v' a)
-      plays_to key may_be cs a boxed leaves held below quiet = plays_all key may_be cs a boxed
+      plays_filed key may_be put gone filing cs a boxed leaves held below quiet =
+          plays_all key may_be put gone filing cs a boxed
           (memtables_still cs a leaves held below) (reads_still quiet held.3)
+
+      -- and nothing was filed or dropped
+      pub plays_to : (key : ℕ) → MayBeKept x' key → (cs : List (ℕ × Slot K)) (a : Act (Slot K))
+          → Boxed shows size.seats x'.notes (shown o size.at_open key r.filed r.dropped x')
+          x'.claims x'.append (homes_after s.homes cs a) (set s.views id v') → LeavesWrite e
+          → SameHeld v.hands h → MovesBelow (boxes size.seats) cs a → LeavesReading v.hands e
+          → Ruled shows o size (stepped s (word_at (place_of e)) n id cs v' a)
+      plays_to key may_be cs a boxed leaves held below quiet = plays_filed key may_be r.filed
+          r.dropped (filing_now (files_left r.core v.hands e quiet)) cs a boxed leaves held below
+          quiet
 
       kept_now : MayBeKept x' r.kept_to
       kept_now = kept_stays r.core core_lawful e may r.kept_to r.may_be_kept
 
       -- with what it may have kept before
       pub plays : (cs : List (ℕ × Slot K)) (a : Act (Slot K))
-          → Boxed shows size.seats x'.notes (shown o size.at_open r.kept_to x') x'.claims x'.append
+          → Boxed shows size.seats x'.notes (shown o size.at_open r.kept_to r.filed r.dropped x') x'.claims x'.append
           (homes_after s.homes cs a) (set s.views id v') → LeavesWrite e → SameHeld v.hands h
           → MovesBelow (boxes size.seats) cs a → LeavesReading v.hands e
           → Ruled shows o size (stepped s (word_at (place_of e)) n id cs v' a)
       plays cs a boxed = plays_to r.kept_to kept_now cs a boxed
 
       -- and what is in the boxes of memtables
-      pub plays_with : (cs : List (ℕ × Slot K)) (a : Act (Slot K))
-          → Boxed shows size.seats x'.notes (shown o size.at_open r.kept_to x') x'.claims x'.append
+      pub plays_with : x'.files ≡ r.core.files → (cs : List (ℕ × Slot K)) (a : Act (Slot K))
+          → Boxed shows size.seats x'.notes (shown o size.at_open r.kept_to r.filed r.dropped x') x'.claims x'.append
           (homes_after s.homes cs a) (set s.views id v') → MemtablesThen cs a → ReadsThen
           → Ruled shows o size (stepped s (word_at (place_of e)) n id cs v' a)
-      plays_with cs a boxed memtables reads = plays_all r.kept_to kept_now cs a boxed memtables
-          reads
+      plays_with same cs a boxed memtables reads = plays_all r.kept_to kept_now r.filed r.dropped
+          (filing_now same) cs a boxed memtables reads

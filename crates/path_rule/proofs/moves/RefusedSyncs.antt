@@ -92,7 +92,7 @@ same_marker e = cc
 one_start : (h : Hands) (u v : ℕ) → IsBarred h u → IsBarred h v → u ≡ v
 one_start h u v a b = ap (λ (k : LastMarker). k.start) (same_marker (sym a.2 ∙ b.2))
 
-counts_fault : (n : ℕ) → 0 < n → fault_count n ≡ Some n
+pub counts_fault : (n : ℕ) → 0 < n → fault_count n ≡ Some n
 counts_fault zero above = absurd (omega arith)
 counts_fault (suc n) above = refl
 
@@ -176,7 +176,7 @@ module _ {K : Type 0} (shows : K → Lasting) (o : Beside) (size : PathSize) (sl
         subst (λ (l : List EntryNote). IsPermutation l pending) D.1 perm in
         let back : (n : EntryNote) → Contains pending n → Contains B.pending n =
         λ n a. Contains-permutation pending B.pending n (IsPermutation-sym B.pending pending P) a in
-        boxed_desk_turns shows size.seats x.notes (shown o size.at_open r.kept_to x) after x.claims
+        boxed_desk_turns shows size.seats x.notes (shown o size.at_open r.kept_to r.filed r.dropped x) after x.claims
         x.append
         s.homes s.views B id w m.0 v' there mine role
         (outside shows o size slots id m w mine s r there held) out held on empty
@@ -215,7 +215,7 @@ module _ {K : Type 0} (shows : K → Lasting) (o : Beside) (size : PathSize) (sl
         is_there = tt;
         row = tt;
       } in
-      let after_is : refused_lasting kept stopped m.0.hands.lasting ≡ shown o size.at_open k.0 x =
+      let after_is : refused_lasting kept stopped m.0.hands.lasting ≡ shown o size.at_open k.0 r.filed r.dropped x =
       (λ j. refused_lasting (k.2 j) ((ap (λ (l : Lasting). l.stopped) D.0) j) (D.0 j)) in (
         v',
         keeps,
@@ -224,7 +224,7 @@ module _ {K : Type 0} (shows : K → Lasting) (o : Beside) (size : PathSize) (sl
             (rows_stay x e may (λ q. q) r.rows) n n false h found
             (ap (λ q. seat_after m.0.part e (Number q) (told_by false h)) found) k.0
             (kept_stays x (core_lawful shows o size s r) e may k.0 k.1) m.1 keeps
-            (boxed_now s r there stopped (shown o size.at_open k.0 x) v' refl
+            (boxed_now s r there stopped (shown o size.at_open k.0 r.filed r.dropped x) v' refl
             (outside shows o size slots id m w mine s r there held)
             (still _ m.0.part.sync held) refl refl after_is) tt (refl, refl, refl, refl) tt tt,
         (λ z u role bar. subst
@@ -267,7 +267,7 @@ module _ {K : Type 0} (shows : K → Lasting) (o : Beside) (size : PathSize) (sl
       } in
       let built = subst (λ (k : ℕ). HasRisen k value) (ap (λ (l : Lasting). l.at_open) D.0) risen in
       let after_is : refused_lasting kept (Some value) m.0.hands.lasting ≡ shown o size.at_open k.0
-      (next_of x e) =
+      r.filed r.dropped (next_of x e) =
       (λ j. refused_lasting (k.2 j) (sym (counts_fault value above) j) (D.0 j)) in (
         v',
         keeps,
@@ -275,7 +275,7 @@ module _ {K : Type 0} (shows : K → Lasting) (o : Beside) (size : PathSize) (sl
         plays_to shows o size s r id w m.0 there mine e refl may tt built tt
             (rows_stay x e may (λ q. q) r.rows) value value false h refl refl k.0
             (kept_stays x (core_lawful shows o size s r) e may k.0 k.1) m.1 keeps
-            (boxed_now s r there (Some value) (shown o size.at_open k.0 (next_of x e)) v' refl
+            (boxed_now s r there (Some value) (shown o size.at_open k.0 r.filed r.dropped (next_of x e)) v' refl
             (outside shows o size slots id m w mine s r there held)
             (still _ m.0.part.sync held) refl refl after_is) tt (refl, refl, refl, refl) tt tt,
         (λ z u role bar. subst

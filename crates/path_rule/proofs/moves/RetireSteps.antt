@@ -1,5 +1,5 @@
 -- The holder of a Flush turn retires a memtable in which nothing was placed.
-use Rattle.std.proofs.Common.{◌≡◌, ℕ, suc, ◌+◌, ◌*◌, ◌<◌, Bool, false, true, List, Option, Some, None, is_some, refl, sym, ap, ◌∙◌, subst, arith}
+use Rattle.std.proofs.Common.{◌≡◌, ℕ, suc, ◌+◌, ◌*◌, ◌<◌, Bool, false, true, cond, List, [], ◌∷◌, ◌++◌, Option, Some, None, is_some, refl, sym, ap, ◌∙◌, subst, arith}
 use Rattle.std.specs.Prelude.{◌&&◌, ◌==◌, not}
 use Rattle.std.specs.List.{list_any, Contains}
 use Rattle.std.proofs.lemmas.Bool.{and_parts, eqb-true, false≢true}
@@ -20,6 +20,7 @@ use Rattle.path_core.specs.Lawful.{IsLawfulPath}
 use Rattle.path_core.specs.Next.{next_of}
 use Rattle.path_core.specs.Parts.{fresh_seat, has_place, is_at, is_empty, is_placed_in, seat_table, table_of, HasPassedBarrier}
 use Rattle.path_core.specs.SeatAfter.{seat_after}
+use Rattle.path_core.proofs.files.Retires.{next_file as file_next}
 use Rattle.path_core.proofs.lists.Passing.{any_to}
 use Rattle.path_core.proofs.places.AtRest.{none_runs}
 use Rattle.path_core.proofs.runs.EveryRun.{placing_of}
@@ -83,6 +84,13 @@ rests_empty x L t m passed never =
     ∙ is_there (seat_table p t).place m is)) in
     (λ i. not (bare i) && not (quiet i))
 
+-- such a one gives no file
+none_filed_now : (x : PathState) (w : ℕ) (t : Table) (f : ℕ)
+    → is_empty x t.0 (table_of x t.0).oldest_live ≡ true
+    → (next_of x (Put w (OldestLive t) f)).files ≡ x.files
+none_filed_now x w t f empty = ap (λ (b : Bool). cond b x.files
+    (x.files ++ file_next x t.0 ∷ [])) empty
+
 module _ {K : Type 0} (shows : K → Lasting) (o : Beside) (size : PathSize) (slots id : ℕ)
     (m : Me (Slot K) View) (w : ℕ) (mine : m.0.role ≡ Steps w) where
   pub retires_empty : (t : Table) (k f : ℕ) → f ≡ suc k → SeesNone size.seats m.0.hands t.0 k
@@ -123,14 +131,14 @@ module _ {K : Type 0} (shows : K → Lasting) (o : Beside) (size : PathSize) (sl
       } in let rows = rows_stay x e may (λ q. q) r.rows in
       let told = ap (λ (b : Bool). seat_after m.0.part e (Number 0)
       (record { files = b; marker = None })) (sym (ap not empty)) in
-      let C = columns_now shows o size s r id w m.0 there mine e refl may tt empty few rows f
+      let C = columns_now shows o size s r id w m.0 there mine e refl may tt tt few rows f
       f false h refl told in (
         v',
         keeps,
         tt,
-        plays_with shows o size s r id w m.0 there mine e refl may tt empty few rows f
-            f false h refl told m.1 keeps
-            (boxed_other shows size.seats x.notes (shown o size.at_open r.kept_to x) x.claims
+        plays_with shows o size s r id w m.0 there mine e refl may tt tt few rows f
+            f false h refl told (none_filed_now x w t f empty) m.1 keeps
+            (boxed_other shows size.seats x.notes (shown o size.at_open r.kept_to r.filed r.dropped x) x.claims
             x.append s.homes s.views r.boxed id m.0 v' there refl s.homes (λ b l. refl) C.append
             C.issue m.0.hands.memtable_box m.0.hands.held m.0.hands.applied None refl)
             (retabled size.seats x.notes x.placed x.tables (next_of x e).tables s.homes _
@@ -140,8 +148,8 @@ module _ {K : Type 0} (shows : K → Lasting) (o : Beside) (size : PathSize) (sl
             None refl (λ z b is taken. absurd (none-some z is))
             (λ b Q. none-some b (sym (ap (λ (z : FlushRead). z.taken)
             (same_reading Q.0 q Q.1 sees.1) ∙ sees.4) ∙ Q.2)))
-            (kept_before shows o size s r e may empty))
-            (reads_then shows o size s r id w m.0 there mine e refl may tt empty few rows f
+            (kept_before shows o size s r e may tt))
+            (reads_then shows o size s r id w m.0 there mine e refl may tt tt few rows f
             f false h refl told (λ z is. absurd (none-some z is))),
         λ z u role _ word. each_table_name shows o size slots id m w mine 10 t
             (λ z u. MadeAs z (Put z (OldestLive u) f) f

@@ -72,7 +72,7 @@ use Rattle.path_rule.proofs.moves.SyncFacts.{turn_exact, settled}
 use Rattle.path_rule.proofs.places.ReadBack.{rows_stay}
 
 -- What two seats know of one desk is the same.
-desk_same : {K : Type 0} (shows : K → Lasting) (y z : Slot K) (l k : Lasting) (p q : List EntryNote)
+pub desk_same : {K : Type 0} (shows : K → Lasting) (y z : Slot K) (l k : Lasting) (p q : List EntryNote)
     (f : Progress) → y ≡ z → DeskIs shows y l p f → DeskIs shows z k q f → (l ≡ k) × (p ≡ q)
 desk_same shows (Notes n) z l k p q f e a b = absurd a
 desk_same shows (Turn d) (Notes n) l k p q f e a b = absurd b
@@ -120,13 +120,13 @@ module _ {K : Type 0} (shows : K → Lasting) (o : Beside) (size : PathSize) (sl
       law.each_claim_noted_once law.notes_are_claims k h) in
       let both : ends (old ++ run) ≡ lasting_ends x ++ ends run =
       map-append (λ (k : EntryNote). k.end.0) old run in
-      let now_is : more_lasting run value (shown o size.at_open r.kept_to x) ≡ shown o size.at_open
-      value (next_of x e) =
-      (λ j. record (more_lasting run value (shown o size.at_open r.kept_to x)) {
+      let now_is : more_lasting run value (shown o size.at_open r.kept_to r.filed r.dropped x) ≡ shown o size.at_open
+      value r.filed r.dropped (next_of x e) =
+      (λ j. record (more_lasting run value (shown o size.at_open r.kept_to r.filed r.dropped x)) {
         logged = lasts j;
         kept = sym (none_kept value value x.notes (omega arith)) j;
       }) in
-      let now : shown o size.at_open value (next_of x e) ≡ more_lasting run value m.0.hands.lasting
+      let now : shown o size.at_open value r.filed r.dropped (next_of x e) ≡ more_lasting run value m.0.hands.lasting
       =
       sym now_is ∙ (λ j. more_lasting run value (sym D.0 j)) in
       let h = with_desk (more_lasting run value m.0.hands.lasting) left m.0.hands.progress
@@ -138,8 +138,8 @@ module _ {K : Type 0} (shows : K → Lasting) (o : Beside) (size : PathSize) (sl
       inr (let k = P.low o.0 o.1 in let z = o.2 in omega arith))
       (Contains-append_cases (lasting_ends x) (ends run) q.end.0
       (subst (λ (l : List ℕ). Contains l q.end.0) both h)) in
-      let boxed = boxed_desk_turns shows size.seats x.notes (shown o size.at_open r.kept_to x)
-      (more_lasting run value (shown o size.at_open r.kept_to x)) x.claims x.append s.homes s.views
+      let boxed = boxed_desk_turns shows size.seats x.notes (shown o size.at_open r.kept_to r.filed r.dropped x)
+      (more_lasting run value (shown o size.at_open r.kept_to r.filed r.dropped x)) x.claims x.append s.homes s.views
       B
       id w
       m.0 v'
@@ -175,7 +175,8 @@ module _ {K : Type 0} (shows : K → Lasting) (o : Beside) (size : PathSize) (sl
             λ z lasting pending. MadeAs z (Put z Synced value) value
             (with_desk lasting pending m.0.hands.progress m.0.hands) m.0 v' × (m.1 ≡ m.1)
             × ((was : Was m.0 z (Put z Synced value))
-            × (shown lasting.beside m.0.size.at_open value (next_of was.core (Put z Synced value))
+            × (shown lasting.beside m.0.size.at_open value lasting.filed lasting.dropped
+            (next_of was.core (Put z Synced value))
             ≡ lasting)) in
             each_seat_name shows o size slots id m w mine (λ z. Q z lasting pending)
             (subst (λ (q : Lasting × List EntryNote). Q w q.0 q.1) (λ j. (d.0 j, d.1 j)) (
@@ -183,10 +184,11 @@ module _ {K : Type 0} (shows : K → Lasting) (o : Beside) (size : PathSize) (sl
               refl,
               (
                 was shows o size s r id w m.0 there mine e may tt,
-                ap (λ (z : PathSize). shown m.0.hands.lasting.beside z.at_open value (next_of x e))
+                ap (λ (z : PathSize). shown m.0.hands.lasting.beside z.at_open value
+                    m.0.hands.lasting.filed m.0.hands.lasting.dropped (next_of x e))
                     (known shows o size s r id w m.0 there mine).0
-                    ∙ (ap (λ (b : Beside). shown b size.at_open value (next_of x e))
-                    (ap (λ (l : Lasting). l.beside) D.0) ∙ now),
+                    ∙ (ap (λ (l : Lasting). shown l.beside size.at_open value l.filed l.dropped (next_of x e))
+                    D.0 ∙ now),
               ),
             )) z role),
       )

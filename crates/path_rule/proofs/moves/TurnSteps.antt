@@ -36,7 +36,7 @@ use Rattle.path_core.specs.declared.note.EntryNote.{EntryNote}
 use Rattle.path_core.specs.declared.seat.Issue.TheVariants.{Rest}
 use Rattle.path_core.specs.declared.seat.Seat.{Seat}
 use Rattle.path_core.specs.Allowed.{IsStep}
-use Rattle.path_core.specs.Next.{next_of, has_filed, newly_dropped}
+use Rattle.path_core.specs.Next.{next_of}
 use Rattle.path_core.specs.Parts.{issue_of, holds_turn, IsIdle}
 use Rattle.path_core.specs.SeatAfter.{seat_after}
 use Rattle.path_core.proofs.frame.Turns.{unheld}
@@ -79,7 +79,7 @@ module _ {K : Type 0} (shows : K → Lasting) (o : Beside) (size : PathSize) (sl
       exchanged n 0 1 (λ z. Owes shows o size slots id m w mine s 7 z then)
       (λ hit. let e = TakeTurn w Sync in let is = as_part shows o size slots id m w mine s r there
       in
-      let h = with_desk (shown o size.at_open r.kept_to x) r.boxed.pending r.boxed.progress
+      let h = with_desk (shown o size.at_open r.kept_to r.filed r.dropped x) r.boxed.pending r.boxed.progress
       m.0.hands
       in
       let v' = view_after (with_hands h m.0) e 1 false in
@@ -100,7 +100,7 @@ module _ {K : Type 0} (shows : K → Lasting) (o : Beside) (size : PathSize) (sl
             (ap (λ k. seat_after m.0.part e (Number 1) (record { files = false; marker = k }))
             (sym r.boxed.marked)) m.1 (takes desk_box home.0)
             (boxed_desk_take shows size.seats x.notes
-            (shown o size.at_open r.kept_to x) x.claims x.append s.homes s.views r.boxed id w m.0 v'
+            (shown o size.at_open r.kept_to r.filed r.dropped x) x.claims x.append s.homes s.views r.boxed id w m.0 v'
             there mine
             refl
             idle.append idle.append empty empty refl refl (refl, refl, refl)) tt
@@ -116,7 +116,7 @@ module _ {K : Type 0} (shows : K → Lasting) (o : Beside) (size : PathSize) (sl
               empty,
               (λ _. (
                 (
-                  shown o size.at_open r.kept_to x,
+                  shown o size.at_open r.kept_to r.filed r.dropped x,
                   r.boxed.pending,
                   r.boxed.progress,
                   (refl, was shows o size s r id w m.0 there mine e may tt),
@@ -147,12 +147,12 @@ module _ {K : Type 0} (shows : K → Lasting) (o : Beside) (size : PathSize) (sl
       )))
 
   pub gives_sync : (y : Slot K) (cs : List (ℕ × Slot K)) → IsTrue (is_some m.0.part.sync)
-      → issue_of m.0.part ≡ Rest → m.0.hands.box_taken ≡ None → has_filed m.0.part ≡ false
+      → issue_of m.0.part ≡ Rest → m.0.hands.box_taken ≡ None
       → m.1 ≡ (desk_box, y) ∷ cs → DeskIs shows y m.0.hands.lasting m.0.hands.pending
       m.0.hands.progress
       → Allows (Ruled shows o size) slots id m 7 (λ _. 0) (λ _. SyncGiven
       (step slots 7 0 0 none) m 0)
-  gives_sync y cs held rest_now empty unfiled holds fits s r _ there _ = let x = r.core in
+  gives_sync y cs held rest_now empty holds fits s r _ there _ = let x = r.core in
       let law = core_lawful shows o size s r in let e = GiveTurn w Sync in
       let h = unswept_hands m.0.hands in let v' = view_after (with_hands h m.0) e 0 false in
       let in_it = within shows o size slots id m w mine s r there in
@@ -164,12 +164,6 @@ module _ {K : Type 0} (shows : K → Lasting) (o : Beside) (size : PathSize) (sl
         row =
             (has, own_part shows o size slots id m w mine s r there issue_of Rest rest_now);
       } in
-      let same : shown o size.at_open r.kept_to x ≡ shown o size.at_open r.kept_to (next_of x e) =
-      ap (λ (b : Bool). record (shown o size.at_open r.kept_to x) {
-        dropped = cond b
-            (x.dropped ++ newly_dropped x) x.dropped;
-      })
-      (sym (own_part shows o size slots id m w mine s r there has_filed false unfiled)) in
       let out = ap (λ (p : Seat). p.append) (as_part shows o size slots id m w mine s r there)
       ∙ (law.orders.one_holder_a_turn.holder_is_idle Sync w has).1 in (
         v',
@@ -177,16 +171,15 @@ module _ {K : Type 0} (shows : K → Lasting) (o : Beside) (size : PathSize) (sl
         tt,
         plays shows o size s r id w m.0 there mine e refl may tt tt tt
             (rows_stay x e may (λ q. q) r.rows) 0 0 false h refl refl m.1 gives
-            (subst (λ q. Boxed shows size.seats x.notes q x.claims x.append (put_back s.homes m.1)
-            (set s.views id v')) same (subst
-            (λ l. Boxed shows size.seats x.notes (shown o size.at_open r.kept_to x) x.claims
+            (subst
+            (λ l. Boxed shows size.seats x.notes (shown o size.at_open r.kept_to r.filed r.dropped x) x.claims
             x.append
             (put_back s.homes l) (set s.views id v')) (sym holds)
             (boxed_desk_give shows size.seats x.notes
-            (shown o size.at_open r.kept_to x) x.claims x.append s.homes s.views r.boxed id w m.0 v'
+            (shown o size.at_open r.kept_to r.filed r.dropped x) x.claims x.append s.homes s.views r.boxed id w m.0 v'
             there mine
             refl out
-            out empty empty refl y refl held fits (enough_boxes shows o size s r)))) tt
+            out empty empty refl y refl held fits (enough_boxes shows o size s r))) tt
             (refl, refl, refl, refl)
             (subst (λ l. FirstBelow (boxes size.seats) l) (sym holds) (omega arith)) tt,
         each_seat_name shows o size slots id m w mine

@@ -11,6 +11,8 @@ use Rattle.std.proofs.Common.{
   ◌∷◌,
   ◌++◌,
   length,
+  map,
+  is_some,
   replicate,
   set,
   refl,
@@ -46,7 +48,15 @@ use Rattle.path_rule.specs.declared.view.View.{View}
 use Rattle.path_rule.specs.Boxed.{HandsAs, AreFirst}
 use Rattle.path_rule.specs.Boxes.{all_boxes, first_progress, DeskIs, NotesAre}
 use Rattle.path_rule.specs.FirstBoxes.{AreEmpty}
-use Rattle.path_rule.specs.Lasts.{beside_of, lasting_of, stopped_with, none_lasting, IsNew}
+use Rattle.path_rule.specs.Lasts.{
+  beside_of,
+  lasting_of,
+  none_filed,
+  none_lasting,
+  put_table,
+  stopped_with,
+  IsNew,
+}
 use Rattle.path_rule.specs.Layout.{first_words}
 use Rattle.path_rule.specs.Memtables.{PutNotes, PutsAs}
 use Rattle.path_rule.specs.Reads.{ReadsAs}
@@ -62,10 +72,10 @@ module _ {K : Type 0} (shows : K → Lasting) (o : Beside) where
   some_at (y ∷ ys) zero l = (y, refl)
   some_at (y ∷ ys) (suc b) l = some_at ys b (omega arith)
 
-  pub begins : (size : PathSize) (xs : List (Slot K)) → IsFit size
+  pub begins : (size : PathSize) (xs : List (Slot K)) → o.tables ≡ size.tables → IsFit size
       → length xs ≡ all_boxes size.seats → AreFirst shows o size xs
       → Ruled shows o size (opening first_words xs (opener 0 size))
-  begins size xs fit long first = record {
+  begins size xs tabled fit long first = record {
     core = start_of size;
     events = [];
     owner = λ _. 0;
@@ -87,7 +97,17 @@ module _ {K : Type 0} (shows : K → Lasting) (o : Beside) where
     kept_to = 0;
     may_be_kept = inl (omega arith);
     risen = λ above. absurd (omega arith);
-    unfiled = refl;
+    filed = none_filed;
+    dropped = [];
+    filing = record {
+      ranged = refl;
+      merged = λ f h. absurd (let l = h.1 in omega arith);
+      gone = λ k h. absurd (let l = h.1 in omega arith);
+      few = omega arith;
+      plain = λ _. (refl, refl, refl);
+    };
+    unstepped = λ _. (refl, refl);
+    tabled = tabled;
     boxed = record {
       contents = λ _. [];
       stamp = λ _. 0;
@@ -207,6 +227,11 @@ new_lasting size h n = let f = n.1 in λ i. record {
   capacity = (ap (λ (s : Sizes). s.capacity) f.sizes_are ∙ n.2) i;
   ordinals = (ap (λ (s : Sizes). s.ordinals) f.sizes_are ∙ n.3) i;
   base = f.base_is i;
+  filed = record {
+    files = map put_table (f.no_file i);
+    refused = is_some (f.none_refused i);
+    archived = length (f.none_archived i);
+  };
   beside = beside_of h;
 }
 

@@ -89,7 +89,7 @@ module _ {K : Type 0} (shows : K → Lasting) (o : Beside) (size : PathSize) (id
     sized = subst (λ ρ. SizedAs size ρ v.size) role (r.each_seat id v at).0
 
     abbrev Hand : View → Type 0
-    Hand y = HandsAs r.boxed.contents (shown o size.at_open r.kept_to r.core) r.boxed.pending
+    Hand y = HandsAs r.boxed.contents (shown o size.at_open r.kept_to r.filed r.dropped r.core) r.boxed.pending
         r.boxed.progress
         r.core.append
         size.seats y.part y.hands y.role
@@ -166,9 +166,13 @@ module _ {K : Type 0} (shows : K → Lasting) (o : Beside) (size : PathSize) (id
           kept_to = r.kept_to;
           may_be_kept = r.may_be_kept;
           risen = r.risen;
-          unfiled = r.unfiled;
+          filed = r.filed;
+          dropped = r.dropped;
+          filing = r.filing;
+          unstepped = r.unstepped;
+          tabled = r.tabled;
           boxed = reboxed shows size.seats r.core.notes
-              (shown o size.at_open r.kept_to r.core) r.core.claims r.core.append s.homes s.views
+              (shown o size.at_open r.kept_to r.filed r.dropped r.core) r.core.claims r.core.append s.homes s.views
               (set s.views id (handing v) ++ handed v ∷ []) r.boxed
               (λ b free j u e h. dite (ℕ_discrete j id)
               (λ same. let u_is : u ≡ v = some-injective u v
@@ -181,7 +185,7 @@ module _ {K : Type 0} (shows : K → Lasting) (o : Beside) (size : PathSize) (id
               (λ old. ⊎_elim
               (λ (t : (j ≡ id) × (handing v ≡ u)). subst Hand t.1
               (subst (HandsAs r.boxed.contents
-              (shown o size.at_open r.kept_to r.core) r.boxed.pending r.boxed.progress r.core.append
+              (shown o size.at_open r.kept_to r.filed r.dropped r.core) r.boxed.pending r.boxed.progress r.core.append
               size.seats
               v.part
               v.hands) (sym (ap one_on role)) tt))

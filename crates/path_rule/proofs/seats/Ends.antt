@@ -5,7 +5,11 @@ use Rattle.std.proofs.Common.{
   zero,
   suc,
   ◌<◌,
+  Bool,
+  false,
   cond,
+  get_or,
+  set,
   List,
   [],
   ◌∷◌,
@@ -44,6 +48,7 @@ use Rattle.path_rule.specs.declared.view.Role.{Role}
 use Rattle.path_rule.specs.declared.view.Role.TheVariants.{Opener, Steps, Spent}
 use Rattle.path_rule.specs.declared.view.View.{View}
 use Rattle.path_rule.specs.Boxes.{HoldsAs, HoldsBox, IsFree, DeskIs}
+use Rattle.path_rule.specs.Filing.{HasFiled}
 use Rattle.path_rule.specs.FirstBoxes.{HasInFront}
 use Rattle.path_rule.specs.Lasts.{lasting_of, shown}
 use Rattle.path_rule.specs.Rule.{AreBuilt, IsFit, start_of, Knows, Ruled, event_of, steps_by}
@@ -52,6 +57,15 @@ use Rattle.path_rule.specs.Trails.{TrailTells, ViewTells}
 use Rattle.path_rule.proofs.boxes.SameBoxes.{holds_none}
 use Rattle.path_rule.proofs.moves.Moving.{core_lawful}
 use Rattle.path_rule.proofs.seats.Untaken.{untaken}
+
+-- what is set to false, or behind a list's end, reads false
+pub set_false : (l : List Bool) (i k : ℕ) → k ≡ i → get_or (set l i false) k false ≡ false
+set_false l i k same = ap (λ (j : ℕ). get_or (set l i false) j false) same ∙ by l i
+  where
+    by : (l : List Bool) (i : ℕ) → get_or (set l i false) i false ≡ false
+    by [] i = refl
+    by (b ∷ bs) zero = refl
+    by (b ∷ bs) (suc i) = by bs i
 
 module _ {K : Type 0} (shows : K → Lasting) (o : Beside) where
   at_four : (l : List ℕ) (i a : ℕ) → get_elem? l i ≡ some a → slice_index l i ≡ a
@@ -65,15 +79,15 @@ module _ {K : Type 0} (shows : K → Lasting) (o : Beside) where
       → (b : ℕ) → IsFree s.views b)
       → (ws : List ℕ) (xs : List (Slot K)) → (f : Final (Seen (Ruled shows o key) id v) ws xs)
       → (keeper : K) × HasInFront keeper xs
-      × (shows keeper ≡ shown o key.at_open f.1.0.kept_to f.1.0.core)
+      × (shows keeper ≡ shown o key.at_open f.1.0.kept_to f.1.0.filed f.1.0.dropped f.1.0.core)
   desk_home key id v free ws xs f = let r : Ruled shows o key f.0 = f.1.0 in
       let y = r.boxed.at_home 0 (omega arith) (free f.0 r f.1.1 0) in
       found y.0 (f.4 0 y.0 y.1) (y.2.desk refl)
     where
       found : (y : Slot K) → get_elem? xs 0 ≡ some y
-          → DeskIs shows y (shown o key.at_open f.1.0.kept_to f.1.0.core) f.1.0.boxed.pending
+          → DeskIs shows y (shown o key.at_open f.1.0.kept_to f.1.0.filed f.1.0.dropped f.1.0.core) f.1.0.boxed.pending
           f.1.0.boxed.progress → (keeper : K) × HasInFront keeper xs
-          × (shows keeper ≡ shown o key.at_open f.1.0.kept_to f.1.0.core)
+          × (shows keeper ≡ shown o key.at_open f.1.0.kept_to f.1.0.filed f.1.0.dropped f.1.0.core)
       found (Notes kept) e d = absurd d
       found (Turn desk) e d = (desk.keeper, record { desk = desk; lies = refl; front = e }, d.0)
 
@@ -123,7 +137,7 @@ module _ {K : Type 0} (shows : K → Lasting) (o : Beside) where
   pub ends_by : (size key : PathSize) (id w log : ℕ) (keeper : Holding) (v : View) (ws : List ℕ)
       (xs : List (Slot K)) → key ≡ size → v.role ≡ Steps w
       → (f : Final (Seen (Ruled shows o key) id v) ws xs) → get_elem? ws 4 ≡ some log
-      → lasting_of keeper ≡ shown o key.at_open f.1.0.kept_to f.1.0.core
+      → lasting_of keeper ≡ shown o key.at_open f.1.0.kept_to f.1.0.filed f.1.0.dropped f.1.0.core
       → Ended o size (record { number = w; part = v.part; trail = v.trail } ∷ v.returned) log keeper
   ends_by size key id w log keeper v ws xs same role f e kept = let s = f.0 in
       let r : Ruled shows o key s = f.1.0 in
@@ -137,12 +151,14 @@ module _ {K : Type 0} (shows : K → Lasting) (o : Beside) where
         run = ran.0;
         built = ran.1;
         lawful = core_lawful shows o key s r;
-        unfiled = r.unfiled;
         log_is = sym (at_four ws 4 log e) ∙
             (ap (λ (l : List ℕ). slice_index l 4) (sym f.2) ∙ r.words Log tt);
         kept_to = r.kept_to;
         may_be_kept = r.may_be_kept;
-        lasting_is = kept ∙ ap (λ (z : PathSize). shown o z.at_open r.kept_to r.core) same;
+        filed = r.filed;
+        dropped = r.dropped;
+        filing = subst (λ (z : PathSize). HasFiled z r.core r.filed r.dropped) same r.filing;
+        lasting_is = kept ∙ ap (λ (z : PathSize). shown o z.at_open r.kept_to r.filed r.dropped r.core) same;
         risen = subst (λ (z : PathSize). 0 < r.core.stopped → HasRisen z.at_open r.core.stopped)
             same r.risen;
         each = one s r k (r.tells id v f.1.1);
@@ -180,7 +196,7 @@ module _ {K : Type 0} (shows : K → Lasting) (o : Beside) where
   pub ends_unmade : (size key : PathSize) (id log : ℕ) (keeper : Holding) (v : View) (ws : List ℕ)
       (xs : List (Slot K)) → key ≡ size → v.role ≡ Opener 0
       → (f : Final (Seen (Ruled shows o key) id v) ws xs) → get_elem? ws 4 ≡ some log
-      → lasting_of keeper ≡ shown o key.at_open f.1.0.kept_to f.1.0.core
+      → lasting_of keeper ≡ shown o key.at_open f.1.0.kept_to f.1.0.filed f.1.0.dropped f.1.0.core
       → EndsUnused o size log keeper
   ends_unmade size key id log keeper v ws xs same role f e kept = let s = f.0 in
       let r : Ruled shows o key s = f.1.0 in
@@ -192,5 +208,6 @@ module _ {K : Type 0} (shows : K → Lasting) (o : Beside) where
       let core : r.core ≡ start_of size = sym core_is ∙ ap start_of same in (
         sym (at_four ws 4 log e) ∙ (ap (λ (l : List ℕ). slice_index l 4) (sym f.2)
             ∙ (r.words Log tt ∙ ap (λ (x : PathState). x.log) core)),
-        kept ∙ (λ i. shown o ((ap (λ (z : PathSize). z.at_open) same) i) r.kept_to (core i)),
+        kept ∙ (λ i. shown o ((ap (λ (z : PathSize). z.at_open) same) i) r.kept_to
+            ((r.unstepped no_step).0 i) ((r.unstepped no_step).1 i) (core i)),
       )

@@ -33,7 +33,7 @@ use Rattle.path_rule.specs.declared.view.Hands.{Hands}
 use Rattle.path_rule.specs.declared.view.Progress.{Progress}
 use Rattle.path_rule.specs.declared.view.View.{View}
 use Rattle.path_rule.specs.Boxes.{desk_box, DeskIs}
-use Rattle.path_rule.specs.Calls.{MayGive}
+use Rattle.path_rule.specs.Calls.{Holds, MayGive}
 use Rattle.path_rule.specs.HandsAfter.{with_desk}
 use Rattle.path_rule.specs.TurnTold.{CarriesAs, CarriesDesk}
 use Rattle.path_rule.proofs.seats.HolderKnows.{still, becomes}
@@ -58,6 +58,17 @@ gives_still f issue filed v v' sync taken M = record {
         ≡ option_map_or (λ (t : SyncTurn). t.filed) o false
     filed_stays None = refl
     filed_stays (Some t) = filed t
+
+-- the same, whether it has filed or not
+pub holds_still : (f : SyncTurn → SyncTurn) → ((t : SyncTurn) → (f t).issue ≡ t.issue)
+    → (v v' : View) → v'.part.sync ≡ option_map f v.part.sync
+    → v'.hands.box_taken ≡ v.hands.box_taken → Holds Rest v → Holds Rest v'
+holds_still f issue v v' sync taken H = record {
+  held = ap (λ o. is_some o) sync ∙ still f v.part.sync H.held;
+  issue = ap (λ o. option_map_or (λ (t : SyncTurn). t.issue) o Rest) sync
+      ∙ becomes f v.part.sync Rest Rest (λ t e. issue t ∙ e) H.held H.issue;
+  empty = taken ∙ H.empty;
+}
 
 -- a seat that knows what lies on the desk carries it
 pub carries_on : {K : Type 0} (shows : K → Lasting) (m m' : Me (Slot K) View) (lasting : Lasting)

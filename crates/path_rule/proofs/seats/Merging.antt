@@ -114,9 +114,13 @@ module _ {K : Type 0} (shows : K → Lasting) (o : Beside) (size : PathSize) (id
         kept_to = r.kept_to;
         may_be_kept = r.may_be_kept;
         risen = r.risen;
-        unfiled = r.unfiled;
+        filed = r.filed;
+        dropped = r.dropped;
+        filing = r.filing;
+        unstepped = r.unstepped;
+        tabled = r.tabled;
         boxed = reboxed shows size.seats r.core.notes
-            (shown o size.at_open r.kept_to r.core) r.core.claims r.core.append s.homes s.views
+            (shown o size.at_open r.kept_to r.filed r.dropped r.core) r.core.claims r.core.append s.homes s.views
             (set (set s.views id (taking v u)) other spent) r.boxed
             (λ b at_home j x e h. dite (ℕ_discrete j other)
             (λ same. bare b (subst (λ z. HoldsBox z b)
@@ -130,7 +134,7 @@ module _ {K : Type 0} (shows : K → Lasting) (o : Beside) (size : PathSize) (id
             (λ apart'. at_home j x (set_else (set s.views id (taking v u)) other j spent far
             ∙ (set_else s.views id j (taking v u) apart' ∙ e)) h)))
             (λ j x e. let Hand : View → Type 0 = λ y. HandsAs r.boxed.contents
-            (shown o size.at_open r.kept_to r.core) r.boxed.pending r.boxed.progress r.core.append
+            (shown o size.at_open r.kept_to r.filed r.dropped r.core) r.boxed.pending r.boxed.progress r.core.append
             size.seats
             y.part
             y.hands y.role in ⊎_elim

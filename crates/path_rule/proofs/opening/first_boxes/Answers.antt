@@ -14,6 +14,7 @@ returns-clause-boxes g c = let size = c.args.size.now in let xs = c.in-Ok.boxes.
                 ∙ new_lasting size (g.K.Keeper.holds c.args.keeper) c.requires.keeper,
             (λ i. e.1 i ++ e.2 i),
             e.3,
+            (λ t few. e.4 t),
           ),
     )
 

@@ -1,5 +1,12 @@
 use Rattle.std.proofs.Common.{ℕ, Some, refl, sym, ap, ◌∙◌, subst, arith}
+use Rattle.std.specs.Prelude.{Result}
+use borrow.Enum.Total.{values_d}
+use denote.Builtin.{unit}
 use mathlib.Core.Logic.{inr}
+use Rattle.path_core.specs.contracts.keeper.KeeperFault.{the_row}
+use Rattle.path_core.specs.declared.keeper.KeeperFault.{KeeperFault}
+use Rattle.path_core.specs.declared.keeper.KeeperFault.TheVariants.{Stopped as StoppedFault}
+use Rattle.std.specs.contracts.result.Result.{enum}
 use Rattle.path_core.specs.declared.event.Cursor.TheVariants.{Synced, Stopped}
 use Rattle.path_core.specs.declared.event.Event.TheVariants.{Look, Put}
 use Rattle.path_core.specs.declared.event.Place.TheVariants.{CursorWord}
@@ -12,7 +19,7 @@ use Rattle.path_rule.specs.HandsAfter.{with_desk}
 use Rattle.path_rule.specs.Lasts.{more_lasting, refused_lasting}
 use Rattle.path_rule.specs.SyncEnd.{HasSynced, HasRefused}
 use Rattle.path_rule.specs.Turns.{IsBarred}
-use Rattle.path_rule.proofs.boxes.DeskLent.{ok_holds}
+use Rattle.path_rule.proofs.boxes.DeskLent.{ok_holds, tells_at}
 use Rattle.path_rule.proofs.log.Behind.{behind_is}
 use Rattle.path_rule.proofs.table.PathTable.end_sync.Goals as goal
 
@@ -149,3 +156,12 @@ returns-in-Err-OutOfMemory-clause-steps g c =
         ),
       );
     }
+
+pub returns-in-Err-Stopped-clause-counts : goal.returns-in-Err-Stopped-clause-counts
+returns-in-Err-Stopped-clause-counts g c = let L = c.look_lent-synced in let M = c.lend-member in
+    let is = c.in-Err-Stopped.is in let fault = c.in-Err-Stopped.field-0-is in
+    let picked = ap (λ (r : Result (Unit {0}) KeeperFault).
+    (values_d (enum unit the_row) 1 (StoppedFault 0 0, tt) r).0) is in
+    let told = tells_at M.result.1 L.new.member.seat.me.0.hands.lasting.at_open
+    M.ensures.counts is (sym picked ∙ fault) in
+    (told.0 ∙ ap (λ (k : Hands). k.lasting.at_open) L.ensures.hands, told.1)

@@ -6,6 +6,7 @@ use Rattle.std.proofs.Common.{
   ◌*◌,
   ◌%◌,
   [],
+  ◌∷◌,
   ◌++◌,
   Some,
   refl,
@@ -30,6 +31,8 @@ use Rattle.path_rule.specs.Lasts.{shows_of}
 use Rattle.path_rule.specs.Rounds.{RoundSteps}
 use Rattle.path_rule.specs.Told.{CarriesNotes}
 use Rattle.path_rule.specs.Turns.{TurnSaw}
+use Rattle.path_rule.specs.declared.slot.Slot.TheVariants.{Notes}
+use Rattle.path_rule.proofs.boxes.DeskFiled.{notes_is}
 use Rattle.path_rule.proofs.seats.HolderLooks as know
 use Rattle.path_rule.proofs.seats.RoundsGo.{one, one_as, next}
 use Rattle.path_rule.proofs.seats.Sweeping.{saw_swept, holds_swept, hands_then}
@@ -124,4 +127,31 @@ returns-clause-desk g c =
           (subst (λ (p : Progress). DeskIs shows D.0 before.lasting
           (before.pending ++ before.taken) p)
           (ap (λ (h : Hands). h.progress) (ap (λ (v : View). v.hands) d.view)) D.2),
+    )
+
+pub returns-then-gather-current-clause-desk : goal.returns-then-gather-current-clause-desk
+returns-then-gather-current-clause-desk g c = let D = c.requires.desk in
+    let M = c.gather.ensures.miss c.if-gather-current.true in (
+      D.0,
+      M.1 ∙ D.1,
+      subst (λ (v : View). DeskIs (shows_of g.K.Keeper.holds) D.0 v.hands.lasting v.hands.pending
+          c.args.member.seat.me.0.hands.progress) (sym M.0.view) D.2,
+    )
+
+pub keep_taken-member-requires-clause-boxes : goal.keep_taken-member-requires-clause-boxes
+keep_taken-member-requires-clause-boxes g c = let D = c.requires.desk in
+    let H = c.gather.ensures.hit c.if-gather-current.false in let T = H.1 in
+    let b : box_of c.args.member.seat.me.0.hands.swept (suc c.args.current)
+    ≡ 1 + 2 * c.args.swept + (c.args.current + 1) % 2 =
+    ap (λ (k : ℕ). box_of k (suc c.args.current)) c.requires.more.0
+    ∙ ap (λ (k : ℕ). 1 + 2 * c.args.swept + k % 2)
+    (let e : suc c.args.current ≡ c.args.current + 1 = omega arith in e) in (
+      D.0,
+      T.1 ∙ ((λ i. (b i, notes_is T.0 c.gather.new.member.seat.me.0.hands.taken T.2 i)
+          ∷ c.args.member.seat.me.1) ∙ ap (λ l. (
+            1 + 2 * c.args.swept + (c.args.current + 1) % 2,
+            Notes c.gather.new.member.seat.me.0.hands.taken,
+          ) ∷ l) D.1),
+      subst (λ (v : View). DeskIs (shows_of g.K.Keeper.holds) D.0 v.hands.lasting v.hands.pending
+          v.hands.progress) (sym H.0.1.view) D.2,
     )

@@ -13,7 +13,7 @@ store-requires g c = let t = c.args.self.now in let m = c.args.member.now in
       omega arith,
       gives_sync (shows_of g.K.Keeper.holds) o k t.table.shared.table_id.slots
           m.seat.id m.seat.me m.number m.role c.requires.desk.0
-          (rest m.seat.me.1) c.requires.rest.0 c.requires.rest.1 c.requires.rest.2 c.requires.rest.3
+          (rest m.seat.me.1) c.requires.rest.0 c.requires.rest.1 c.requires.rest.2
           c.requires.desk.1 c.requires.desk.2,
     )
 

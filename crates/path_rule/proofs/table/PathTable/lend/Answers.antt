@@ -32,7 +32,7 @@ returns-clause-synced g c = let m = c.args.member in
           c.args.upto c.requires.desk
           (c.slot_mut.ensures.value
           ∙ ap (λ (y : Slot _). (desk_box, y) ∷ rest m.seat.me.1) c.in-Turn.is)
-          c.lend_pending-done.ensures.progress stops S,
+          c.lend_pending-done.ensures.progress c.lend_pending-done.ensures.uppers stops S,
       refl,
     )) c.lend_pending-done.ensures.syncs
 
@@ -43,7 +43,8 @@ returns-clause-refused g c = let m = c.args.member in
           c.args.upto c.requires.desk
           (c.slot_mut.ensures.value
           ∙ ap (λ (y : Slot _). (desk_box, y) ∷ rest m.seat.me.1) c.in-Turn.is)
-          c.lend_pending-done.ensures.progress (λ o. stopped_by o c.lend_pending-done.result)
+          c.lend_pending-done.ensures.progress c.lend_pending-done.ensures.uppers
+          (λ o. stopped_by o c.lend_pending-done.result)
           c.lend_pending-done.ensures.stopped S,
       refl,
     )) c.lend_pending-done.ensures.refused

@@ -4,6 +4,7 @@ use Rattle.path_core.specs.declared.event.Cursor.TheVariants.{Stopped}
 use Rattle.path_core.specs.declared.event.Event.TheVariants.{Look}
 use Rattle.path_core.specs.declared.event.Place.TheVariants.{Current, CursorWord, Log}
 use Rattle.path_core.specs.declared.seat.LastMarker.{LastMarker}
+use Rattle.path_rule.specs.declared.view.Hands.{Hands}
 use Rattle.path_rule.specs.declared.view.PathSize.{PathSize}
 use Rattle.path_rule.specs.declared.view.Progress.{Progress}
 use Rattle.path_rule.specs.declared.view.View.{View}
@@ -131,3 +132,15 @@ pub claim_next-member-requires-clause-runs : goal.claim_next-member-requires-cla
 claim_next-member-requires-clause-runs g c = let H = c.look_halted-halted in
     c.seek_current-current.ensures.runs (H.ensures.runs (none_is H.result
     (sym c.is_some.ensures ∙ c.if-is_some.false)))
+
+pub claim_next-member-requires-clause-turn : goal.claim_next-member-requires-clause-turn
+claim_next-member-requires-clause-turn g c = let P = c.progress-member in
+    let H = c.look_halted-halted in let S = c.seek_current-current in (
+      record {
+        holds = S.ensures.turn.0;
+        unfiled = (one _ (Look _ (Current Append)) S.result _ _ refl S.ensures.step).unfiled
+            H.ensures.give.unfiled;
+      },
+      P.ensures.found ∙ sym (ap (λ (h : Hands). h.progress) (S.ensures.hands
+          ∙ (H.ensures.hands ∙ ap (λ (v : View). v.hands) P.ensures.same.1))),
+    )

@@ -46,6 +46,7 @@ returns-clause-step g c = let m = c.args.member.now in
       (
         d.2.0,
         ap (λ (z : PathSize). shown lasting.beside z.at_open c.args.value
+            lasting.filed lasting.dropped
             (next_of d.2.0.core (Put m.number Synced c.args.value))) (sym c.requires.table.1)
             ∙ d.2.1,
       ),

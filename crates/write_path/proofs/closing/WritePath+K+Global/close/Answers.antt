@@ -19,7 +19,7 @@ returns-clause-outcome g c = let size = c.args.self.table.size in
           (subst (λ o. AreAll o size.seats (numbers_of seats)) w.in-Some.is c.requires.all)
           w.finish_unused.ensures)
       | in-None w ↦ subst P (sym w.keeper-is) (outcome size o seats w.close_by_all.result.1
-          (g.K.Keeper.holds w.close_by_all.result.0) w.close_by_all.ensures
+          (g.K.Keeper.holds w.close_by_all.result.0) c.args.self.unfiled w.close_by_all.ensures
           (subst (λ o. AreAll o size.seats (numbers_of seats)) w.in-None.is c.requires.all))
     ]
 
@@ -30,8 +30,11 @@ returns-clause-beside g c =
     elim c.match-opener.branch [
       | in-Some w ↦ subst P (sym w.keeper-is)
           (stays_beside first (g.K.Keeper.holds w.finish_unused.result.0)
-          (ap (λ (l : Lasting). l.beside) w.finish_unused.ensures.1))
+          (ap (λ (l : Lasting). l.beside) w.finish_unused.ensures.1)
+          (ap (λ (l : Lasting). l.filed) w.finish_unused.ensures.1))
       | in-None w ↦ subst P (sym w.keeper-is)
           (stays_beside first (g.K.Keeper.holds w.close_by_all.result.0)
-          (ap (λ (l : Lasting). l.beside) w.close_by_all.ensures.ended.lasting_is))
+          (ap (λ (l : Lasting). l.beside) w.close_by_all.ensures.ended.lasting_is)
+          (ap (λ (l : Lasting). l.filed) w.close_by_all.ensures.ended.lasting_is
+          ∙ (w.close_by_all.ensures.ended.filing.plain c.args.self.unfiled).1))
     ]

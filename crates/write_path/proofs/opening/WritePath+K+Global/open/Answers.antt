@@ -6,4 +6,4 @@ use Rattle.write_path.proofs.opening.WritePath+K+Global.open.Goals as goal
 pub open-requires-clause-keeper : goal.open-requires-clause-keeper
 open-requires-clause-keeper g c =
     subst (λ (z : PathSize). IsNew z (g.K.Keeper.holds c.args.keeper)) (sym c.size_of-size.ensures)
-    (c.args.sizes, c.requires.fresh, refl, refl, sym c.at_open.ensures)
+    (c.args.sizes, c.requires.fresh, refl, refl, sym c.at_open.ensures, refl)

@@ -1,6 +1,0 @@
-use Rattle.std.proofs.Common.{refl, sym}
-use Rattle.path_rule.proofs.tests.opened.Goals as goal
-
-pub open-requires-clause-keeper : goal.open-requires-clause-keeper
-open-requires-clause-keeper c =
-    (c.in-Some.sizes, c.new-keeper.ensures, sym c.from.ensures, sym c.from-2.ensures, refl)

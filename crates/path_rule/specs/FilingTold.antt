@@ -1,0 +1,179 @@
+-- What the holder of the Sync turn and of a table's Flush turn knows where it files a memtable, and
+-- what its steps tell then.
+use Rattle.std.specs.Prelude.{
+  ◌≡◌,
+  ◌≢◌,
+  ◌⊎◌,
+  ◌∷◌,
+  [],
+  ℕ,
+  ◌+◌,
+  ◌*◌,
+  ◌^◌,
+  ◌<◌,
+  ◌≤◌,
+  Bool,
+  true,
+  List,
+  length,
+  Option,
+  Some,
+  None,
+  Result,
+}
+use Rattle.std.specs.List.{Contains}
+use Rattle.atomic_table.specs.Table.{Me, Step}
+use Rattle.clog_base.specs.declared.cell.Cell.{Cell}
+use Rattle.clog_base.specs.declared.cell.CellKey.{CellKey}
+use Rattle.clog_base.specs.declared.cell.Table.{Table}
+use Rattle.clog_cells.specs.Merge.{IsMergeOf}
+use Rattle.path_core.specs.declared.event.Cursor.TheVariants.{
+  OldestLive,
+  Stopped as StoppedCursor,
+  Synced,
+}
+use Rattle.path_core.specs.declared.event.Event.{Event}
+use Rattle.path_core.specs.declared.event.Event.TheVariants.{Look, Put}
+use Rattle.path_core.specs.declared.event.Place.TheVariants.{CursorWord}
+use Rattle.path_core.specs.declared.note.EntryNote.{EntryNote}
+use Rattle.path_core.specs.declared.seat.Seat.{Seat}
+use Rattle.path_core.specs.declared.seat.SyncTurn.{SyncTurn}
+use Rattle.path_core.specs.declared.state.Bound.TheVariants.{Final}
+use Rattle.path_core.specs.Keys.{after, ordinal_of}
+use Rattle.path_core.specs.Next.{has_filed}
+use Rattle.path_core.specs.Parts.{seat_table}
+use Rattle.path_rule.specs.declared.lasting.Lasting.{Lasting}
+use Rattle.path_rule.specs.declared.lasting.PutTable.{PutTable}
+use Rattle.path_rule.specs.declared.slot.Slot.{Slot}
+use Rattle.path_rule.specs.declared.view.FlushRead.{FlushRead}
+use Rattle.path_rule.specs.declared.view.Hands.{Hands}
+use Rattle.path_rule.specs.declared.view.Role.TheVariants.{Steps}
+use Rattle.path_rule.specs.declared.view.View.{View}
+use Rattle.path_rule.specs.Filing.{IsCellIn, MayGo, MayPut, more_filed, upper_of}
+use Rattle.path_rule.specs.HandsAfter.{with_desk, with_reading}
+use Rattle.path_rule.specs.Rule.{view_after, with_hands, Was}
+use Rattle.path_rule.specs.Told.{Made, MadeAs}
+use Rattle.path_rule.specs.TurnTold.{CarriesAs}
+
+-- ---- what it knows
+
+-- It found the log running, and the synced key here, or put it here.
+abbrev pub TurnSynced : Seat → ℕ → Type 0
+TurnSynced p key = (t : SyncTurn) × (p.sync ≡ Some t) × (t.stopped ≡ Some 0)
+    × (t.synced ≡ Some key)
+
+-- it found a memtable of the table final at a key, or made it so
+abbrev pub FoundFinal : ℕ → Seat → ℕ → ℕ → Type 0
+FoundFinal t p m bound = (seat_table p t).bound
+    ≡ Some (record { memtable = m; bound = Final (record { 0 = bound }) })
+
+-- It has seen the boxes of all seats of a memtable, and has none of them in hand.
+abbrev pub SeesAll : ℕ → Hands → ℕ → ℕ → FlushRead → Type 0
+SeesAll seats h t m q = (h.reading ≡ Some q) × (q.table ≡ t) × (q.memtable ≡ m)
+    × (q.taken ≡ None) × (q.seen_to ≡ seats)
+
+-- these are the newest cells of a table in what it has seen
+abbrev pub AreSeen : FlushRead → ℕ → List (CellKey × Cell) → Type 0
+AreSeen q t cells = IsMergeOf (IsCellIn q.seen t) cells
+
+-- ---- what it asks of the keeper
+
+-- The file of a memtable with these cells: it goes on where the table's last file ended, up to the
+-- memtable's bound.
+abbrev pub next_file : Lasting → ℕ → ℕ → List (CellKey × Cell) → PutTable
+next_file l t bound cells = record {
+  table = t;
+  lower = upper_of t l.filed.files;
+  upper = bound;
+  cells = cells;
+}
+
+-- A segment may go now: by what the keeper shows, and below that of the synced key. The holder has
+-- filed a memtable.
+pub record GoesNow (v : View) (o : ℕ) : Type 0 where
+  pub filed : has_filed v.part ≡ true
+  pub may : MayGo v.hands.lasting o
+  pub key : ℕ
+  pub synced : TurnSynced v.part key
+  pub below : o < ordinal_of key
+
+-- ---- what the keeper shows then
+
+-- A file was refused or not, so many segments have their archive names, these were dropped, and the
+-- keeper has stopped with a count, or not.
+abbrev pub noted : Bool → ℕ → List ℕ → Option ℕ → Lasting → Lasting
+noted refused archived dropped stopped l = record l {
+  dropped = dropped;
+  stopped = stopped;
+  filed = record l.filed { refused = refused; archived = archived };
+}
+
+-- each of these was dropped before, or may go now
+abbrev pub MayBeGone : View → List ℕ → Type 0
+MayBeGone v dropped = (o : ℕ) → Contains dropped o
+    → Contains v.hands.lasting.dropped o ⊎ GoesNow v o
+
+-- ---- what its steps tell
+
+-- the seat w made the step e, which gave a table file
+abbrev pub MadeFiled : ℕ → Event → ℕ → Hands → View → View → Type 0
+MadeFiled w e n h v v' = (v' ≡ view_after (with_hands h v) e n true) × Was v w e
+
+module _ {K : Type 0} where
+  -- The synced key was found. Where the log is lasting up to the bound of a memtable that was seen
+  -- whole, the file of what was seen may be put.
+  abbrev pub FiledFound : Step (Slot K) → Me (Slot K) View → ℕ → Me (Slot K) View → Type 0
+  FiledFound st m n m' = (w : ℕ) → m.0.role ≡ Steps w
+      → Made w (Look w (CursorWord Synced)) n m m'
+      × ((t k bound : ℕ) (q : FlushRead) (cells : List (CellKey × Cell)) → t < m.0.size.tables
+      → SeesAll m.0.size.seats m.0.hands t k q → q.seen ≢ [] → FoundFinal t m.0.part k bound
+      → bound ≤ after m.0.size.capacity n → AreSeen q t cells
+      → MayPut m.0.hands.lasting (next_file m.0.hands.lasting t bound cells))
+      × (n < 2 ^ 62)
+
+module _ {K : Type 0} (shows : K → Lasting) where
+  -- The keeper on the desk has put this file behind the others.
+  abbrev pub CarriesFiled : PutTable → Me (Slot K) View → Type 0
+  CarriesFiled f m = CarriesAs shows (more_filed f m.0.hands.lasting) m.0.hands.pending
+      m.0.hands.progress m
+
+  -- It shows that it refused a file, or has dropped segments, or has stopped with a count.
+  abbrev pub CarriesNoted : Option ℕ → Me (Slot K) View → Type 0
+  CarriesNoted stopped m = (refused : Bool) × (archived : ℕ) × (dropped : List ℕ)
+      × MayBeGone m.0 dropped
+      × CarriesAs shows (noted refused archived dropped stopped m.0.hands.lasting)
+      m.0.hands.pending m.0.hands.progress m
+
+  -- each segment that may go is dropped, of those below a key's
+  abbrev pub HasDropped : ℕ → View → Me (Slot K) View → Type 0
+  HasDropped key v m = (lasting : Lasting) → CarriesAs shows lasting v.hands.pending
+      v.hands.progress m → (o : ℕ) → o < ordinal_of key → MayGo v.hands.lasting o
+      → Contains lasting.dropped o
+
+  -- The seat made a step, and knows since what the keeper shows.
+  abbrev pub MadeNoted : Option ℕ → ℕ → Event → ℕ → Me (Slot K) View → Me (Slot K) View → Type 0
+  MadeNoted stopped w e n m m' = ((refused : Bool) × (archived : ℕ) × (dropped : List ℕ)
+      × MayBeGone m.0 dropped
+      × MadeAs w e n (with_desk (noted refused archived dropped stopped m.0.hands.lasting)
+      m.0.hands.pending m.0.hands.progress m.0.hands) m.0 m'.0
+      × CarriesAs shows (noted refused archived dropped stopped m.0.hands.lasting)
+      m.0.hands.pending m.0.hands.progress m) × (m'.1 ≡ m.1)
+
+  -- a look
+  abbrev pub FilingNoted : Step (Slot K) → Me (Slot K) View → ℕ → Me (Slot K) View → Type 0
+  FilingNoted st m n m' = (w : ℕ) → m.0.role ≡ Steps w
+      → MadeNoted m.0.hands.lasting.stopped w (Look w (CursorWord StoppedCursor)) n m m'
+
+  -- the log is stopped with the count with which the keeper is
+  abbrev pub FilingStopped : Step (Slot K) → Me (Slot K) View → ℕ → Me (Slot K) View → Type 0
+  FilingStopped st m n m' = (w : ℕ) → m.0.role ≡ Steps w
+      → MadeNoted (Some st.first) w (Put w StoppedCursor st.first) n m m'
+
+  -- The least memtable of the table is retired with the file that the keeper on the desk has put,
+  -- and none is read any more.
+  abbrev pub RetiredFiled : Step (Slot K) → Me (Slot K) View → ℕ → Me (Slot K) View → Type 0
+  RetiredFiled st m n m' = (w : ℕ) (t : Table) (lasting : Lasting) (pending : List EntryNote)
+      → m.0.role ≡ Steps w → t.0 < 16 → st.word ≡ 10 + 4 * t.0
+      → CarriesAs shows lasting pending m.0.hands.progress m
+      → MadeFiled w (Put w (OldestLive t) n) n (with_reading None
+      (with_desk lasting pending m.0.hands.progress m.0.hands)) m.0 m'.0 × (m'.1 ≡ m.1)
