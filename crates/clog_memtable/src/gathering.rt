@@ -26,8 +26,8 @@ fn put_above(
     requires ordered { AreInOrder cells.old }
     requires whole { IsWhole note.now }
     ensures { (before : List EntryNote) → IsGathered table before cells.old
-        → OnOk result (IsGathered table (before ++ filter (λ (n : EntryNote). nat_lt above.0 n.end.0)
-        (note.now ∷ [])) cells.new) }
+        → OnOk result (IsGathered table (before
+        ++ filter (λ (n : EntryNote). nat_lt above.0 n.end.0) (note.now ∷ [])) cells.new) }
 {
     if note.end.0 > above.0 {
         return put_note(alloc, cells, table, note);

@@ -37,7 +37,11 @@ use Rattle.path_core.specs.declared.seat.FoundBound.{FoundBound}
 use Rattle.path_core.specs.declared.seat.Seat.{Seat}
 use Rattle.path_core.specs.declared.seat.SeatTable.{SeatTable}
 use Rattle.path_core.specs.declared.seat.Switching.{Switching}
-use Rattle.path_core.specs.declared.seat.Switching.TheVariants.{Begun, Marked as MarkedStage, Waiting}
+use Rattle.path_core.specs.declared.seat.Switching.TheVariants.{
+  Begun,
+  Marked as MarkedStage,
+  Waiting,
+}
 use Rattle.path_core.specs.declared.state.Bound.{Bound}
 use Rattle.path_core.specs.declared.state.Bound.TheVariants.{Raising}
 use Rattle.path_core.specs.Parts.{is_at, seat_table, stage_of, untouched}

@@ -30,6 +30,9 @@ pub mod Promises
 pub mod Spending
 pub mod FlushHeld
 pub mod FlushGoes
+pub mod FlushTrims
 pub mod FlushSwitching
 pub mod FlushTaking
 pub mod FlushBarring
+pub mod FlushReading
+pub mod FlushRetires

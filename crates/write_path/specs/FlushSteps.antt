@@ -1,5 +1,5 @@
 -- The steps of a flush, and what its seat makes by them.
-use Rattle.std.specs.Prelude.{◌≡◌, ◌⊎◌, ℕ, suc, List, [], ◌∷◌, ◌++◌, Bool, None, Some}
+use Rattle.std.specs.Prelude.{◌≡◌, ◌⊎◌, ℕ, suc, List, [], ◌∷◌, ◌++◌, Bool}
 use Rattle.path_core.specs.declared.event.ClaimKind.TheVariants.{Entry}
 use Rattle.path_core.specs.declared.event.Cursor.TheVariants.{OldestLive}
 use Rattle.path_core.specs.declared.event.Event.{Event}
@@ -14,9 +14,9 @@ use Rattle.path_core.specs.declared.event.Event.TheVariants.{
 use Rattle.path_core.specs.declared.state.Bound.TheVariants.{Raising}
 use Rattle.path_core.specs.Words.{by_of}
 use Rattle.path_rule.specs.declared.view.FlushRead.{FlushRead}
-use Rattle.path_rule.specs.declared.view.Hands.{Hands}
 use Rattle.path_rule.specs.declared.view.OwnStep.{OwnStep}
 use Rattle.path_rule.specs.declared.view.View.{View}
+use Rattle.path_rule.specs.FilingTold.{SeesAll}
 use Rattle.path_rule.specs.Layout.{bound_word}
 use Rattle.write_path.specs.Grown.{HasGrown}
 
@@ -45,7 +45,8 @@ pub record FlushSteps (w : ℕ) (v after : View) : Type 0 where
 -- raised.
 abbrev pub FinalisesBy : ℕ → ℕ → ℕ → ℕ → Event → ℕ → Type 0
 FinalisesBy w t m key (Finalise by table memtable) found =
-    (by ≡ w) × (table.0 ≡ t) × (memtable ≡ m) × (found ≡ bound_word (Raising (record { 0 = key })))
+    (by ≡ w) × (table.0 ≡ t) × (memtable ≡ m)
+    × (found ≡ bound_word (Raising (record { 0 = key })))
 FinalisesBy w t m key _ found = ⊥
 
 -- at one of these steps
@@ -65,11 +66,6 @@ SwitchesNone [] = Unit {0}
 SwitchesNone (t ∷ ts) = LeavesMemtables t.event × SwitchesNone ts
 
 -- ---- a memtable is retired
-
--- It has read this of memtable m of table t, in the boxes of all seats.
-abbrev pub SeesAll : ℕ → Hands → ℕ → ℕ → FlushRead → Type 0
-SeesAll seats h t m q = (h.reading ≡ Some q) × (q.table ≡ t) × (q.memtable ≡ m) × (q.taken ≡ None)
-    × (q.seen_to ≡ seats)
 
 -- the step by which seat w retires it, with a table file or without
 abbrev pub retiring : ℕ → ℕ → ℕ → Bool → OwnStep

@@ -52,7 +52,8 @@ FindsMemtables t (Full n) v after w = (s : FlushSteps w v after) × (n + 1 ≡ m
 FindsMemtables t (Free n) v after w = FlushOldest t after.part n × FlushNewest t after.part n
     × (n + 1 < memtable_rows)
 
--- A memtable of the table is final at a key and its barrier is passed: nothing more is placed in it.
+-- A memtable of the table is final at a key and its barrier is passed: nothing more is placed in
+-- it.
 pub record IsDrained (t m key : ℕ) (v : View) : Type 0 where
   pub group : ℕ
   pub stage : stage_of v.part t ≡ Some (WithBarrier m group)

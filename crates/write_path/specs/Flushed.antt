@@ -12,10 +12,13 @@ use Rattle.path_core.specs.declared.event.Place.TheVariants.{
 use Rattle.path_core.specs.declared.event.Turn.TheVariants.{Flush as FlushTurn}
 use Rattle.path_core.specs.declared.note.EntryNote.{EntryNote}
 use Rattle.path_core.specs.Keeper.{HasRisen}
+use Rattle.path_rule.specs.declared.lasting.PutTable.{PutTable}
+use Rattle.path_rule.specs.declared.view.FlushRead.{FlushRead}
 use Rattle.path_rule.specs.declared.view.OwnStep.{OwnStep}
 use Rattle.path_rule.specs.declared.view.PathSize.{PathSize}
 use Rattle.path_rule.specs.declared.view.View.{View}
 use Rattle.path_rule.specs.Calls.{FoundSince, acts}
+use Rattle.path_rule.specs.FilingTold.{AreSeen}
 use Rattle.path_rule.specs.Finds.{Finds}
 use Rattle.path_rule.specs.Layout.{group_rows, memtable_rows}
 use Rattle.write_path.specs.declared.flush.Flush.{Flush}
@@ -48,13 +51,25 @@ FindsLast WriteGroups t last steps = (suc last ≡ group_rows) × SwitchesNone s
 FindsLast AppendGroups t last steps = (suc last ≡ group_rows) × Finds (Current Append) last steps
     × Finds (CursorWord StoppedCursor) 0 steps
 
+-- The keeper has a file of table t from one key to another, with the newest cells in what was read.
+pub record HasFile (t lower upper : ℕ) (q : FlushRead) (files : List PutTable) : Type 0 where
+  pub file : PutTable
+  pub among : Contains files file
+  pub of_table : file.table ≡ t
+  pub from : file.lower ≡ lower
+  pub up_to : file.upper ≡ upper
+  pub cells : AreSeen q t file.cells
+
 -- What is so behind an answer to seat w, which made these steps, for a table t. Flushed and Empty:
 -- the bound was set in this call, at or above each write of the seat's list, and the memtable is
--- retired, with a table file exactly where something was seen in it. Busy: the seat only looked, and
--- found the turn's word so. Stopped: it found that count in the Stopped cursor, or put it there.
+-- retired, with a table file exactly where something was seen in it. Busy: the seat only looked,
+-- and found the turn's word so. Stopped: it found that count in the Stopped cursor, or put it
+-- there.
 abbrev pub IsFlush : PathSize → ℕ → ℕ → View → Flush → List OwnStep → View → Type 0
-IsFlush size w t v (Flushed lower upper) steps after = (m : ℕ) × SetsBound w t m upper steps after
-    × ((r : Retires w t m true v after) × (r.read.seen ≢ [])) × (lower ≤ upper)
+IsFlush size w t v (Flushed lower upper) steps after =
+    (m : ℕ) × SetsBound w t m upper steps after × (lower ≤ upper)
+    × ((r : Retires w t m true v after) × (r.read.seen ≢ [])
+    × HasFile t lower upper r.read after.hands.lasting.filed.files)
 IsFlush size w t v (Empty upper) steps after = (m : ℕ) × SetsBound w t m upper steps after
     × ((r : Retires w t m false v after) × (r.read.seen ≡ []))
 IsFlush size w t v (Busy found) steps after = (found ≡ 1)

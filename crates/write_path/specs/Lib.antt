@@ -18,3 +18,4 @@ pub mod Flushed
 pub mod FlushedRows
 pub mod FlushTurns
 pub mod FlushSwitches
+pub mod FlushReads

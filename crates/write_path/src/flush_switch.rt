@@ -1,5 +1,5 @@
-//! A flush switches its table's memtables, while it holds both turns: the next memtable is made, and
-//! the one below it final at a key at or above all that the seat wrote. Then it waits for the
+//! A flush switches its table's memtables, while it holds both turns: the next memtable is made,
+//! and the one below it final at a key at or above all that the seat wrote. Then it waits for the
 //! barrier: nothing more comes into that one.
 ghost use Rattle.std.specs.Prelude.{◌+◌, ◌<◌, MatchOption};
 ghost use Rattle.path_rule.specs.Lasts.{shows_of};
@@ -20,8 +20,8 @@ use std::sync::Wait;
 const LAST_GROUP: u64 = 65_535;
 
 impl<K: Keeper, A: Allocator> WritePath<K, A> {
-    // Makes the next memtable, and the newest one so far final. Returns its bound: all that the seat
-    // wrote ends at or below it.
+    // Makes the next memtable, and the newest one so far final. Returns its bound: all that the
+    // seat wrote ends at or below it.
     fn make_final(&self, member: &mut Member<K>, table: Table, newest: u64) -> Key
         requires table { IsOf self.now.table.table.shared.table_id self.now.table.size member.old }
         requires holder { IsHolder table.0 (view_of member.old) }

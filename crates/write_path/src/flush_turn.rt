@@ -88,8 +88,8 @@ impl<K: Keeper, A: Allocator> WritePath<K, A> {
         }
     }
 
-    // Takes the Sync turn beside the table's, with the desk, and waits while another seat has it. No
-    // clause says that it returns.
+    // Takes the Sync turn beside the table's, with the desk, and waits while another seat has it.
+    // No clause says that it returns.
     fn take_sync_beside<R: Wait>(&self, rt: &R, member: Member<K>, table: Table) -> Member<K>
         requires table { IsOf self.now.table.table.shared.table_id self.now.table.size member }
         requires holds { HoldsTable table.0 member.seat.me }
@@ -114,7 +114,7 @@ impl<K: Keeper, A: Allocator> WritePath<K, A> {
     }
 
     // Gives both turns back, the table's first: nothing of its switches is left half done.
-    fn leave_both(&self, member: Member<K>, table: Table) -> PathSeat<K>
+    pub(crate) fn leave_both(&self, member: Member<K>, table: Table) -> PathSeat<K>
         requires table { IsOf self.now.table.table.shared.table_id self.now.table.size member }
         requires holds { HoldsBoth (shows_of K.holds) table.0 member.seat.me }
         requires through { MayGiveFlush table.0 (view_of member) }

@@ -19,6 +19,8 @@ mod fault;
 mod finishing;
 mod flush;
 mod flush_laws;
+mod flush_reading;
+mod flush_retire;
 mod flush_switch;
 mod flush_turn;
 mod laws;

@@ -1,4 +1,4 @@
-use Rattle.std.proofs.Common.{◌≡◌, suc, ◌+◌, ◌^◌, ◌<◌, refl, sym, ap, ◌∙◌, subst, arith, inl, None, Some, true, false}
+use Rattle.std.proofs.Common.{◌+◌, ◌^◌, inl, refl, ap, ◌∙◌, arith, None, false}
 use Rattle.path_core.specs.declared.event.Event.TheVariants.{Look, Switch, Raise, Finalise}
 use Rattle.path_core.specs.declared.event.Place.TheVariants.{Log}
 use Rattle.path_core.specs.declared.event.SwitchPart.TheVariants.{Open, Mark}
@@ -36,7 +36,8 @@ raise_marked-requires-clause-stage g c =
 
 pub returns-clause-made : goal.returns-clause-made
 returns-clause-made g c =
-    let m = c.args.member.now in let w = m.number in let t = c.args.table in let k = c.args.newest in
+    let m = c.args.member.now in let w = m.number in let t = c.args.table in
+    let k = c.args.newest in
     let O = c.open_memtable in let M = c.mark_memtable in let L = c.look_log-key in
     let R = c.raise_marked in let F = c.finalise_memtable in
     let n1 = O.ensures.same.1 in let n2 = M.ensures.same.1 ∙ n1 in
@@ -62,7 +63,8 @@ returns-clause-made g c =
       hands = all.hands;
       stage = F.ensures.stage;
       bound = F.ensures.bound;
-      oldest = from_oldest t.0 k F.new.member.seat.me.0.part (final_keeps _ _ _ t.0 t k _ F.ensures.step
+      oldest = from_oldest t.0 k F.new.member.seat.me.0.part
+          (final_keeps _ _ _ t.0 t k _ F.ensures.step
           ∙ (raise_keeps _ _ _ t.0 t k _ (record { 0 = L.result }) R.ensures.step.1
           ∙ (look_keeps _ _ _ t.0 _ L.ensures.step ∙ (mark_keeps _ _ _ t.0 t k _ M.ensures.step
           ∙ (open_keeps _ _ _ t.0 t (k + 1) _ O.ensures.step
