@@ -26,3 +26,4 @@ pub mod OldestMoves
 pub mod BarrierIssues
 pub mod Applying
 pub mod PlaceStays
+pub mod ReadBounds
