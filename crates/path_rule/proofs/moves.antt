@@ -26,5 +26,6 @@ pub mod AppendMoved
 pub mod FinishSteps
 pub mod MemtableSteps
 pub mod LeftMemtables
+pub mod LeftLooks
 pub mod ReadSteps
 pub mod RetireSteps

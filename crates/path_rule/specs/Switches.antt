@@ -52,6 +52,12 @@ MayBeginRead t v m = ((g : ℕ) × (stage_of v.part t ≡ Some (WithBarrier m g)
 abbrev pub IsFinalLeft : ℕ → Seat → ℕ → Type 0
 IsFinalLeft t p m = ((g : ℕ) × (stage_of p t ≡ Some (WithBarrier m g))) ⊎ IsLeft t p m
 
+-- How far a switch is, and what the holder found of the newest and of the least memtable, stay.
+abbrev pub KeepsTurn : ℕ → Seat → Seat → Type 0
+KeepsTurn t p after = (stage_of after t ≡ stage_of p t)
+    × ((n : ℕ) → FlushNewest t p n → FlushNewest t after n)
+    × ((n : ℕ) → FlushOldest t p n → FlushOldest t after n)
+
 -- the bound of a raising memtable, which is at or above this key since
 abbrev pub FlushRaised : ℕ → Seat → ℕ → ℕ → Type 0
 FlushRaised t p m key = (turn : FlushTurn) × (k : ℕ) × ((seat_table p t).flush ≡ Some turn)

@@ -21,6 +21,7 @@ mod flush_reading;
 mod gathering;
 mod lasting;
 mod laws;
+mod left_memtables;
 mod lending;
 mod looking;
 mod marker_keys;
