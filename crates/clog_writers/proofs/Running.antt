@@ -176,7 +176,8 @@ module _ {K : Type 0} (sizes : Sizes) (base : ℕ) (before now : Holding)
   unopened workers same =
       refused workers
       (alone_by sizes base before now fresh (ap (λ (l : Lasting). l.base) same)
-      (stays_beside before now (ap (λ (l : Lasting). l.beside) same))
+      (stays_beside before now (ap (λ (l : Lasting). l.beside) same)
+      (ap (λ (l : Lasting). l.filed) same))
       (ap (λ (l : Lasting). l.dropped) same ∙ fresh.none_dropped))
       (ap (λ (l : Lasting). l.logged ++ l.kept) same
       ∙ ap (λ (l : List EntryNote). l ++ before.kept) fresh.nothing_logged ∙ fresh.nothing_kept)

@@ -23,6 +23,7 @@ pub mod FilingFacts
 pub mod FiledLooks
 pub mod NotedSteps
 pub mod FiledSteps
+pub mod ReadBounds
 pub mod LentLooks
 pub mod RefusedSyncs
 pub mod DepositSteps

@@ -28,3 +28,4 @@ pub mod BarrierBelow
 pub mod BarredTables
 pub mod Applying
 pub mod PlaceStays
+pub mod ReadBounds

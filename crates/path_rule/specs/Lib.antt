@@ -20,6 +20,7 @@ pub mod Told
 pub mod TurnTold
 pub mod TableTold
 pub mod FilingTold
+pub mod ReadBound
 pub mod Desks
 pub mod Calls
 pub mod Switches

@@ -15,3 +15,10 @@ IsSwitched t p (Final m bound) = (stage_of p t ≡ Some (Waiting m))
     × ((seat_table p t).bound ≡ Some (record { memtable = m; bound = FinalBound bound }))
 IsSwitched t p (Left m) = (n : ℕ) × FlushOldest t p m × FlushNewest t p n × (m ≢ n)
 IsSwitched t p (Rows made) = (n : ℕ) × FlushNewest t p n × (made ≡ n + 1) × (256 ≤ made)
+
+-- What a seat knows of its groups, of its claim and of the Sync turn is what it knew.
+pub record KeepsOrders (p after : Seat) : Type 0 where
+  pub write : after.write ≡ p.write
+  pub append : after.append ≡ p.append
+  pub claim : after.claim ≡ p.claim
+  pub sync : after.sync ≡ p.sync

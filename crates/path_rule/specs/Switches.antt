@@ -48,10 +48,6 @@ MayBeginRead t v m = ((g : ℕ) × (stage_of v.part t ≡ Some (WithBarrier m g)
     × (IsPast Write v g ⊎ FoundPast v.part g))
     ⊎ IsLeft t v.part m
 
--- The memtable is final: the seat issued its barrier, or an earlier holder left it.
-abbrev pub IsFinalLeft : ℕ → Seat → ℕ → Type 0
-IsFinalLeft t p m = ((g : ℕ) × (stage_of p t ≡ Some (WithBarrier m g))) ⊎ IsLeft t p m
-
 -- the bound of a raising memtable, which is at or above this key since
 abbrev pub FlushRaised : ℕ → Seat → ℕ → ℕ → Type 0
 FlushRaised t p m key = (turn : FlushTurn) × (k : ℕ) × ((seat_table p t).flush ≡ Some turn)

@@ -30,6 +30,7 @@ mod marking;
 mod opening;
 mod plays;
 mod publishing;
+mod read_bounds;
 mod round_ends;
 mod rounding;
 mod rule;

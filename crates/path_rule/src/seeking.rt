@@ -1,11 +1,11 @@
 //! What the holder of the Sync turn looks at for a barrier of either order. What it finds is exact
 //! while it holds the turn: the current group (`TurnSaw`), the oldest one (`TurnOld`), and one
 //! whose count is finished (`TurnGone`).
-ghost use Rattle.std.specs.Prelude.{◌≡◌, ℕ, ◌<◌, ◌^◌};
+ghost use Rattle.std.specs.Prelude.{◌≡◌, ℕ, ◌<◌, ◌^◌, Some};
 ghost use Rattle.path_core.specs.declared.event.Event.TheVariants.{Look};
 ghost use Rattle.path_core.specs.declared.event.Place.TheVariants.{Count, Current, Oldest};
 ghost use Rattle.path_core.specs.declared.seat.Issue.TheVariants.{Rest};
-ghost use Rattle.path_core.specs.Parts.{marker_of, stage_of};
+ghost use Rattle.path_core.specs.Parts.{found_of, marker_of, stage_of};
 ghost use Rattle.path_rule.specs.Calls.{Holds};
 ghost use Rattle.path_rule.specs.Layout.{word_at};
 ghost use Rattle.path_rule.specs.Members.{view_of, part_of, hands_of, IsOf, KeepsSizes, Stepped};
@@ -87,6 +87,7 @@ impl<K: Keeper, A: Allocator> PathTable<K, A> {
         ensures step { Stepped member.old (Look member.old.number (Oldest order)) result
             member.new }
         ensures below { result < 65536 }
+        ensures found { (found_of order (part_of member.new)).oldest ≡ Some result }
         ensures turn { Holds Rest (view_of member.new) × TurnOld order (part_of member.new) result
             × KeepsCurrent order (part_of member.old) (part_of member.new) }
         ensures hands { hands_of member.new ≡ hands_of member.old }

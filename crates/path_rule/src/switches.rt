@@ -2,8 +2,8 @@
 //! waits for its barrier.
 ghost use Rattle.std.specs.Prelude.{◌≡◌, ◌+◌, ◌<◌, IsTrue, is_some};
 ghost use Rattle.path_core.specs.Parts.{seat_table};
-ghost use Rattle.path_rule.specs.Members.{part_of, IsOf, KeepsBoxes};
-ghost use Rattle.path_rule.specs.Switched.{IsSwitched};
+ghost use Rattle.path_rule.specs.Members.{part_of, hands_of, IsOf, KeepsSizes};
+ghost use Rattle.path_rule.specs.Switched.{IsSwitched, KeepsOrders};
 ghost use Rattle.path_rule.specs.Switches.{FlushNewest, FlushOldest};
 
 use crate::table::{Member, PathTable};
@@ -30,7 +30,9 @@ impl<K: Keeper, A: Allocator> PathTable<K, A> {
         requires table { IsOf self.now.table.shared.table_id self.now.size member.old }
         requires there { table.0 < self.now.size.tables }
         requires holds { IsTrue (is_some (seat_table (part_of member.old) table.0).flush) }
-        ensures same { KeepsBoxes member.old member.new }
+        ensures same { KeepsSizes member.old member.new }
+        ensures hands { hands_of member.new ≡ hands_of member.old }
+        ensures others { KeepsOrders (part_of member.old) (part_of member.new) }
         ensures switched { IsSwitched table.0 (part_of member.new) result }
     {
         let oldest = self.look_oldest_live(member, table);
@@ -50,7 +52,9 @@ impl<K: Keeper, A: Allocator> PathTable<K, A> {
         requires there { (table.0 < self.now.size.tables) × (newest + 1 < 256) }
         requires turn { FlushNewest table.0 (part_of member.old) newest
             × FlushOldest table.0 (part_of member.old) newest }
-        ensures same { KeepsBoxes member.old member.new }
+        ensures same { KeepsSizes member.old member.new }
+        ensures hands { hands_of member.new ≡ hands_of member.old }
+        ensures others { KeepsOrders (part_of member.old) (part_of member.new) }
         ensures switched { IsSwitched table.0 (part_of member.new) result }
     {
         self.open_memtable(member, table, newest + 1);

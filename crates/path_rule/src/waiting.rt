@@ -5,7 +5,7 @@ ghost use Rattle.op_core.specs.declared.count.Order.TheVariants.{Write, Append};
 ghost use Rattle.path_core.specs.declared.event.Event.TheVariants.{Advance};
 ghost use Rattle.path_core.specs.declared.seat.Issue.TheVariants.{Rest};
 ghost use Rattle.path_core.specs.declared.seat.Switching.TheVariants.{Waiting, WithBarrier};
-ghost use Rattle.path_core.specs.Parts.{stage_of};
+ghost use Rattle.path_core.specs.Parts.{found_of, stage_of};
 ghost use Rattle.path_rule.specs.Calls.{acts, Holds, IsPast};
 ghost use Rattle.path_rule.specs.HandsAfter.{issued_hands};
 ghost use Rattle.path_rule.specs.Members.{
@@ -20,6 +20,7 @@ ghost use Rattle.path_rule.specs.Passes.{HasIssued, MatchPassed};
 ghost use Rattle.path_rule.specs.Rounds.{RoundSteps};
 ghost use Rattle.path_rule.specs.Switches.{FlushOldest};
 ghost use Rattle.path_rule.specs.Turns.{
+  FoundPast,
   FoundRunning,
   MarkerWaits,
   TurnSaw,
@@ -100,6 +101,8 @@ impl<K: Keeper, A: Allocator> PathTable<K, A> {
         ensures steps { RoundSteps holder.member.number [] (view_of holder.member)
             (view_of result.member) }
         ensures past { (h : ℕ) × TurnOld order (part_of result.member) h × (current ≤ h) }
+        ensures found { (h : ℕ) × ((found_of order (part_of result.member)).oldest ≡ Some h)
+            × (current ≤ h) }
         ensures saw { TurnSaw order (part_of result.member) current }
         ensures hands { hands_of result.member ≡ hands_of holder.member }
         ensures stages { (t : ℕ) → stage_of (part_of result.member) t
@@ -132,6 +135,9 @@ impl<K: Keeper, A: Allocator> PathTable<K, A> {
         ensures passed { MatchPassed result.1
             (λ g. IsPast Write (view_of result.0.member) g)
             (λ n. (n ≡ 65536) × TurnSaw Write (part_of result.0.member) 65535) }
+        ensures found { MatchPassed result.1 (λ g. FoundPast (part_of result.0.member) g)
+            (λ n. n ≡ 65536) }
+        ensures hands { hands_of result.0.member ≡ hands_of holder.member }
         ensures issues { MatchPassed result.1
             (λ g. HasIssued Write holder.member.number g (view_of holder.member)
             (view_of result.0.member))
@@ -165,6 +171,7 @@ impl<K: Keeper, A: Allocator> PathTable<K, A> {
             (view_of result.member) }
         ensures passed { IsPast Write (view_of result.member) current
             × (hands_of result.member ≡ hands_of holder.member) }
+        ensures found { FoundPast (part_of result.member) current }
         ensures issues { HasIssued Write holder.member.number current (view_of holder.member)
             (view_of result.member) }
         ensures issued { (t memtable : ℕ)

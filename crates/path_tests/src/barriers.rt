@@ -37,12 +37,13 @@ pub(crate) fn opened(
         return Err(Fail::new("no sizes"));
     };
     let size = PathSize {
-        tables: 1,
+        tables: u64::from(sizes.tables),
         seats: 2,
         capacity: u64::from(sizes.capacity),
         ordinals: u64::from(sizes.ordinals),
         base: 7,
         at_open: 0,
+        files: false,
     };
     let keeper = ListKeeper::new(alloc, sizes, 7);
     match open(alloc, keeper, size) {

@@ -372,9 +372,27 @@ void_too [] [] same is = refl
 void_too [] (y ∷ b) same is = absurd (omega arith)
 void_too (x ∷ a) b same is = absurd (let q = ap (λ (l : List _). length l) is in omega arith)
 
-pub stays_beside : (first h : Holding) → beside_of h ≡ beside_of first → filed_of h ≡ none_filed
-    → StaysBeside first h
+-- as many files
+as_many : (first h : Holding) → filed_of h ≡ filed_of first → length h.files ≡ length first.files
+as_many first h same = sym (length-map h.files put_table)
+    ∙ (ap (λ (f : Filed). length f.files) same ∙ length-map first.files put_table)
+
+pub stays_beside : (first h : Holding) → beside_of h ≡ beside_of first
+    → filed_of h ≡ filed_of first → StaysBeside first h
 stays_beside first h same filed = record {
+  disk_is = ap (λ (b : Beside). b.disk) same;
+  archives_are = ap (λ (b : Beside). b.archives) same;
+  tables_are = ap (λ (b : Beside). b.tables) same;
+  writers_are = ap (λ (b : Beside). b.writers) same;
+  no_file = void_too first.files h.files (as_many first h filed);
+  none_refused = none_too first.refused h.refused (ap (λ (f : Filed). f.refused) filed);
+  none_archived = void_too first.archived h.archived (ap (λ (f : Filed). f.archived) filed);
+}
+
+-- and where it has done nothing beside its log
+pub plain_beside : (first h : Holding) → beside_of h ≡ beside_of first → filed_of h ≡ none_filed
+    → StaysBeside first h
+plain_beside first h same filed = record {
   disk_is = ap (λ (b : Beside). b.disk) same;
   archives_are = ap (λ (b : Beside). b.archives) same;
   tables_are = ap (λ (b : Beside). b.tables) same;

@@ -146,9 +146,8 @@ pub record IsOutcome {K : Type 0} (size : PathSize) (seats : List (PathSeat K)) 
   pub core : PathState
   pub events : List Event
   pub run : Past (start_of size) events core
-  -- each step was of a kind that is built: only empty memtables were retired, a marker was claimed
-  -- only while the log ran, and so was a group of the append order made, where a marker of the seat
-  -- wanted a barrier
+  -- each step was of a kind that is built: a marker was claimed only while the log ran, and so was
+  -- a group of the append order made, where a marker of the seat wanted a barrier
   pub built : AreBuilt size.at_open (start_of size) events core run
   pub own : All (λ (s : PathSeat K). map event_of (view_of s.member).trail
       ≡ steps_by s.member.number events) seats
@@ -171,7 +170,7 @@ pub record IsOutcome {K : Type 0} (size : PathSize) (seats : List (PathSeat K)) 
   -- the keeper has what the run made lasting, dropped and stopped
   pub synced_is : h.synced ≡ core.synced
   pub dropped_are : h.dropped ≡ core.dropped
-  -- no segment has gone, since no memtable has a table file
+  -- no segment has gone, since the path was opened for no table files
   pub none_dropped : h.dropped ≡ []
   pub stops : stopped_with h.stopped h.faults ≡ fault_count core.stopped
   -- so it has all that a seat knows to be synced, and has stopped where a seat knows that

@@ -11,6 +11,7 @@ ghost use Rattle.std.specs.Prelude.{
   ◌≤◌,
   [],
   ◌∷◌,
+  false,
   length,
   Some,
   None,

@@ -44,7 +44,7 @@ use Rattle.path_rule.specs.declared.view.Role.TheVariants.{Steps}
 use Rattle.path_rule.specs.declared.view.View.{View}
 use Rattle.path_rule.specs.Calls.{IsPast}
 use Rattle.path_rule.specs.Rule.{Ruled}
-use Rattle.path_rule.specs.Switches.{FlushOldest, IsFinalLeft, IsLeft, MayBeginRead}
+use Rattle.path_rule.specs.Switches.{FlushOldest, IsLeft, MayBeginRead}
 use Rattle.path_rule.specs.Turns.{FoundPast}
 use Rattle.path_rule.proofs.moves.Looks.{as_part}
 use Rattle.path_rule.proofs.moves.Moving.{core_lawful}
@@ -66,29 +66,6 @@ module _ (x : PathState) (L : IsLawfulPath x) (w : ℕ) where
   left_passed t m left live = let top = left_newest t m left in let low = left.3 in
       let near = (L.switches.tables t).bounds_rise.one_behind in
       settled_at x L t m (omega arith) (left_settled t m left)
-
-  barred : (t m g : ℕ) → stage_of (seat_of x w) t ≡ Some (WithBarrier m g)
-      → HasBarrier (table_of x t) m g
-  barred t m g at = stage_exact x L w t (WithBarrier m g) at
-
-  -- it is final
-  pub left_final : (t m : ℕ) → IsFinalLeft t (seat_of x w) m → IsFinal (memtable_of x t m).bound
-  left_final t m is = let T = L.switches.tables t in ⊎_elim
-      (λ (B : (g : ℕ) × (stage_of (seat_of x w) t ≡ Some (WithBarrier m g))).
-      T.barrier_means_final m B.0 (barred t m B.0 B.1).issued)
-      (λ (left : IsLeft t (seat_of x w) m). let top = left_newest t m left in
-      let low = left.3 in dite (ℕ_discrete (suc m) (table_of x t).newest)
-      (λ same. let P = settled_at x L t m same (left_settled t m left) in
-      T.barrier_means_final m P.group P.issued)
-      (λ apart. T.bounds_rise.others_are_final m (omega arith))) is
-
-  -- and the table has it
-  pub left_made : (t m : ℕ) → IsFinalLeft t (seat_of x w) m → m < length (table_of x t).memtables
-  left_made t m is = let made = (L.switches.tables t).bounds_rise.made in ⊎_elim
-      (λ (B : (g : ℕ) × (stage_of (seat_of x w) t ≡ Some (WithBarrier m g))).
-      let top = (barred t m B.0 B.1).below_newest in omega arith)
-      (λ (left : IsLeft t (seat_of x w) m). let top = left_newest t m left in
-      let low = left.3 in omega arith) is
 
 -- it holds the table's turn
 pub left_held : (p : Seat) (t m : ℕ) → IsLeft t p m → is_some (seat_table p t).flush ≡ true

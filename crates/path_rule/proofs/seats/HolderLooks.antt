@@ -1,5 +1,5 @@
 -- What the holder of the Sync turn knows after it looked at the groups of an order.
-use Rattle.std.proofs.Common.{◌≡◌, ℕ, ◌^◌, Bool, true, false, is_some, IsTrue, refl, sym, ap, subst}
+use Rattle.std.proofs.Common.{◌≡◌, ℕ, ◌^◌, Bool, true, false, is_some, Some, IsTrue, refl, sym, ap, subst}
 use Rattle.std.specs.Prelude.{if◌then◌else◌}
 use Rattle.std.specs.Option.{option_map}
 use Rattle.op_core.specs.Tallies.{is_finished}
@@ -8,7 +8,7 @@ use Rattle.op_core.specs.declared.count.Order.TheVariants.{Write, Append}
 use Rattle.path_core.specs.declared.event.Event.TheVariants.{Look}
 use Rattle.path_core.specs.declared.event.Place.TheVariants.{Count, Current, Oldest}
 use Rattle.path_core.specs.declared.seat.Issue.{Issue}
-use Rattle.path_core.specs.Parts.{marker_of}
+use Rattle.path_core.specs.Parts.{found_of, marker_of}
 use Rattle.path_core.specs.SeatParts.{keeps, finished_found}
 use Rattle.path_rule.specs.declared.view.View.{View}
 use Rattle.path_rule.specs.Calls.{Holds}
@@ -62,6 +62,11 @@ module _ (v : View) (w n : ℕ) where
       → TurnOld o (view_after v (Look w (Oldest o)) n false).part n
   oldest_old Write h = let t = the_turn v.part h in (_, ap (option_map _) t.1, refl)
   oldest_old Append h = let t = the_turn v.part h in (_, ap (option_map _) t.1, refl)
+
+  pub oldest_seen : (o : Order)
+      → (found_of o (view_after v (Look w (Oldest o)) n false).part).oldest ≡ Some n
+  oldest_seen Write = refl
+  oldest_seen Append = refl
 
   pub count_held : (o : Order) (g : ℕ) (i : Issue) → Holds i v
       → Holds i (view_after v (Look w (Count o g)) n false)

@@ -80,3 +80,15 @@ returns-clause-issues g c =
     (ap (λ (v : View). v.trail) M.ensures.step.view)
     (ap (λ (v : View). v.trail) E.ensures.step.view)
     c.advance_to-holder.ensures.steps.trail
+
+pub returns-clause-found : goal.returns-clause-found
+returns-clause-found g c =
+    let past = c.advance_to-holder.ensures.found in let high = past.2 in
+    (past.0, past.1, omega arith)
+
+pub returns-clause-hands : goal.returns-clause-hands
+returns-clause-hands g c = c.advance_to-holder.ensures.hands
+    ∙ (ap (λ (v : View). v.hands) c.expire_write.ensures.step.view
+    ∙ (ap (λ (v : View). v.hands) c.move_write.ensures.step.view
+    ∙ (ap (λ (v : View). v.hands) c.open_write.ensures.step.view
+    ∙ c.seek_current-current.ensures.hands)))

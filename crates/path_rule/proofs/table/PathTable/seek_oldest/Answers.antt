@@ -1,7 +1,7 @@
 use Rattle.std.proofs.Common.{refl, sym, ap, ◌∙◌, subst, arith}
 use Rattle.path_core.specs.declared.event.Place.TheVariants.{Oldest}
 use Rattle.path_core.specs.declared.seat.Issue.TheVariants.{Rest}
-use Rattle.path_core.specs.Parts.{stage_of}
+use Rattle.path_core.specs.Parts.{found_of, stage_of}
 use Rattle.path_rule.specs.declared.view.View.{View}
 use Rattle.path_rule.specs.Calls.{Holds}
 use Rattle.path_rule.specs.Turns.{TurnSaw, TurnOld}
@@ -76,3 +76,10 @@ returns-clause-stages g c = let m = c.args.member.now in
     c.oldest_word.ensures in
     λ t. ap (λ (v : View). stage_of v.part t) q.0.0.0
     ∙ oldest_stages m.seat.me.0 m.number c.load.result c.args.order t
+
+pub returns-clause-found : goal.returns-clause-found
+returns-clause-found g c = let m = c.args.member.now in
+    let q = c.load.ensures.2 m.number (Oldest c.args.order) m.role tt
+    c.oldest_word.ensures in
+    ap (λ (v : View). (found_of c.args.order v.part).oldest) q.0.0.0
+    ∙ know.oldest_seen m.seat.me.0 m.number c.load.result c.args.order

@@ -74,3 +74,8 @@ returns-clause-oldest g c =
     (least_expired m e M.new.member.number cur E.result t k Write E.ensures.step
     (least_moved o m O.new.member.number (cur + 1) cur t k M.ensures.step
     (least_opened v o w (cur + 1) 0 t k Write O.ensures.step F)))
+
+pub returns-clause-found : goal.returns-clause-found
+returns-clause-found g c =
+    let past = c.advance_to.ensures.found in let high = past.2 in
+    (past.0, past.1, omega arith)

@@ -1,9 +1,9 @@
-use Rattle.std.proofs.Common.{ℕ, sym, ap, subst}
+use Rattle.std.proofs.Common.{ℕ, sym, ap, ◌∙◌, subst}
 use Rattle.path_rule.specs.declared.lasting.Lasting.{Lasting}
 use Rattle.path_rule.specs.Lasts.{beside_of}
 use Rattle.write_path.specs.Closed.{AreAll, IsOutcome, StaysBeside}
 use Rattle.write_path.specs.Opened.{numbers_of}
-use Rattle.write_path.proofs.Outcomes.{outcome, stays_beside, unused_outcome}
+use Rattle.write_path.proofs.Outcomes.{outcome, plain_beside, unused_outcome}
 use Rattle.write_path.proofs.closing.WritePath+K+Global.close.Goals.{in-Some, in-None}
 use Rattle.write_path.proofs.closing.WritePath+K+Global.close.Goals as goal
 
@@ -29,11 +29,11 @@ returns-clause-beside g c =
     let P : g.row.K.Denot × ℕ → Type 0 = λ r. StaysBeside first (g.K.Keeper.holds r.0) in
     elim c.match-opener.branch [
       | in-Some w ↦ subst P (sym w.keeper-is)
-          (stays_beside first (g.K.Keeper.holds w.finish_unused.result.0)
+          (plain_beside first (g.K.Keeper.holds w.finish_unused.result.0)
           (ap (λ (l : Lasting). l.beside) w.finish_unused.ensures.1)
           (ap (λ (l : Lasting). l.filed) w.finish_unused.ensures.1))
       | in-None w ↦ subst P (sym w.keeper-is)
-          (stays_beside first (g.K.Keeper.holds w.close_by_all.result.0)
+          (plain_beside first (g.K.Keeper.holds w.close_by_all.result.0)
           (ap (λ (l : Lasting). l.beside) w.close_by_all.ensures.ended.lasting_is)
           (ap (λ (l : Lasting). l.filed) w.close_by_all.ensures.ended.lasting_is
           ∙ (w.close_by_all.ensures.ended.filing.plain c.args.self.unfiled).1))
