@@ -49,7 +49,7 @@ use Rattle.write_path.specs.FlushTurns.{HoldsBoth, IsHolder}
 
 -- the same desk, as the seat knows it
 module _ {K : Type 0} (shows : K → Lasting) where
-  desk_still : (h k : Hands) (l n : List (ℕ × Slot K)) → k ≡ h → n ≡ l
+  pub desk_still : (h k : Hands) (l n : List (ℕ × Slot K)) → k ≡ h → n ≡ l
       → HasDesk shows h.lasting h.pending h.progress l
       → HasDesk shows k.lasting k.pending k.progress n
   desk_still h k l n hands boxes D = subst (λ (q : Hands × List (ℕ × Slot K)).

@@ -51,8 +51,7 @@ use Rattle.path_rule.specs.Layout.{reading_at}
 use Rattle.path_rule.specs.Rule.{told_by}
 use Rattle.path_rule.proofs.seats.Staying.{none_is}
 use Rattle.write_path.specs.FlushTurns.{HoldsBoth, IsHolder}
-use Rattle.write_path.proofs.FlushBarring.{desk_still}
-use Rattle.write_path.proofs.FlushGoes.{stage_in, staged}
+use Rattle.write_path.proofs.FlushReadSteps.{stage_in, staged}
 
 -- the turn's holder has filed no more than before
 or_none : (b : Bool) → (b || false) ≡ b

@@ -30,6 +30,8 @@ pub mod Promises
 pub mod Spending
 pub mod FlushHeld
 pub mod FlushGoes
+pub mod FlushTables
+pub mod FlushReadSteps
 pub mod FlushTrims
 pub mod FlushSwitching
 pub mod FlushTaking

@@ -8,7 +8,8 @@ use Rattle.path_rule.specs.declared.view.View.{View}
 use Rattle.path_rule.proofs.seats.Answering.{wrote_more}
 use Rattle.path_rule.proofs.seats.Marking.{under_log}
 use Rattle.path_rule.proofs.seats.SwitchStages.{found_stage}
-use Rattle.write_path.proofs.FlushGoes.{on_table, then_table, still_wrote}
+use Rattle.write_path.proofs.FlushGoes.{still_wrote}
+use Rattle.write_path.proofs.FlushTables.{on_table, then_table}
 use Rattle.write_path.proofs.FlushSwitching.{
   final_keeps,
   from_oldest,

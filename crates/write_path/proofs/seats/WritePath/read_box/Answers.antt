@@ -1,6 +1,7 @@
 use Rattle.std.proofs.Common.{
   ◌≡◌,
   ◌<◌,
+  ◌≤◌,
   ℕ,
   List,
   Some,
@@ -15,14 +16,16 @@ use Rattle.atomic_table.specs.Table.{rest}
 use Rattle.path_core.specs.declared.event.Event.TheVariants.{Look}
 use Rattle.path_core.specs.declared.event.Place.TheVariants.{Newest}
 use Rattle.path_core.specs.declared.note.EntryNote.{EntryNote}
+use Rattle.path_rule.specs.declared.view.PathSize.{PathSize}
 use Rattle.path_rule.specs.declared.view.View.{View}
+use Rattle.path_rule.specs.Boxes.{memtable_box}
 use Rattle.path_rule.specs.Calls.{DidAs}
 use Rattle.path_rule.specs.Flushes.{next_box}
 use Rattle.path_rule.specs.HandsAfter.{box_read, box_seen, with_reading}
 use Rattle.path_rule.specs.Told.{CarriesNotes}
 use Rattle.path_rule.specs.Trimmed.{IsTrimmed}
 use Rattle.clog_memtable.specs.Gathering.{IsGathered}
-use Rattle.write_path.proofs.FlushGoes.{on_read, then_read}
+use Rattle.write_path.proofs.FlushReadSteps.{on_read, then_read}
 use Rattle.write_path.proofs.FlushReading.{carried, on_ok, one_seen, seen_is, the_box}
 use Rattle.write_path.proofs.FlushTrims.{left_held}
 use Rattle.write_path.proofs.seats.WritePath.read_box.Goals as goal
@@ -33,9 +36,10 @@ take_read-requires-clause-reads g c = let H = c.requires.reads in let more = c.r
     (H.read, (H.reads, H.of_table, H.none_taken, omega (arith, more, at)))
 
 pub box_number-number-requires : goal.box_number-number-requires
-box_number-number-requires g c = let F = c.args.self.now.table.fits in let few = F.few_writers in
+box_number-number-requires g c = let F = c.args.self.now.table.fits in
     let low = F.few_tables in let there = c.requires.there.0 in
-    (omega (arith, few), c.requires.there.2, omega (arith, low, there))
+    subst (λ (z : PathSize). (z.seats ≤ 64) × (c.args.seat < z.seats) × (c.args.table.0 < 16))
+    (sym c.size.ensures) (F.few_writers, c.requires.there.2, omega (arith, low, there))
 
 pub lend_read-member-requires-clause-held : goal.lend_read-member-requires-clause-held
 lend_read-member-requires-clause-held g c = let H = c.requires.reads in
@@ -44,7 +48,8 @@ lend_read-member-requires-clause-held g c = let H = c.requires.reads in
       carried c.args.member.seat.me c.take_read.new.member.seat.me _ c.box_number-number.result D.0
           D.2 (the_box c.args.self.now.table.size.seats c.args.table.0 c.args.memtable
           c.args.above.0 c.args.seat c.args.member.seat.me.0.hands H
-          ∙ sym c.box_number-number.ensures),
+          ∙ (ap (λ (z : PathSize). memtable_box z.seats c.args.seat c.args.table.0 c.args.memtable)
+          (sym c.size.ensures) ∙ sym c.box_number-number.ensures)),
     )
 
 pub gather-done-requires-clause-gathered : goal.gather-done-requires-clause-gathered
@@ -57,7 +62,9 @@ gather-done-requires-clause-whole g c = let H = c.requires.reads in
     let lent = c.lend_read-member.ensures.notes D.0
     (carried c.args.member.seat.me c.take_read.new.member.seat.me _ c.box_number-number.result D.0
     D.2 (the_box c.args.self.now.table.size.seats c.args.table.0 c.args.memtable c.args.above.0
-    c.args.seat c.args.member.seat.me.0.hands H ∙ sym c.box_number-number.ensures)) in
+    c.args.seat c.args.member.seat.me.0.hands H
+    ∙ (ap (λ (z : PathSize). memtable_box z.seats c.args.seat c.args.table.0 c.args.memtable)
+    (sym c.size.ensures) ∙ sym c.box_number-number.ensures))) in
     let T = subst (λ (l : List EntryNote). IsTrimmed c.args.above.0 l c.trim.new.notes) lent
     c.trim.ensures in
     λ n h. D.2.3 n (left_held c.args.above.0 D.0 c.trim.new.notes T n h)
@@ -68,7 +75,9 @@ give_read-requires-clause-reads g c = let H = c.requires.reads in
     let R = c.return_read-member.ensures in
     let seats = c.args.self.now.table.size.seats in
     let box = the_box seats c.args.table.0 c.args.memtable c.args.above.0 c.args.seat
-    c.args.member.seat.me.0.hands H ∙ sym c.box_number-number.ensures in
+    c.args.member.seat.me.0.hands H
+    ∙ (ap (λ (z : PathSize). memtable_box z.seats c.args.seat c.args.table.0 c.args.memtable)
+    (sym c.size.ensures) ∙ sym c.box_number-number.ensures) in
     let lent = L.notes D.0 (carried c.args.member.seat.me c.take_read.new.member.seat.me _
     c.box_number-number.result D.0 D.2 box) in
     let T = subst (λ (l : List EntryNote). IsTrimmed c.args.above.0 l c.trim.new.notes) lent
@@ -132,7 +141,9 @@ returns-clause-gathered g c = let H = c.requires.reads in
     let R = c.return_read-member.ensures in
     let seats = c.args.self.now.table.size.seats in let b = next_box seats H.read in
     let box = the_box seats c.args.table.0 c.args.memtable c.args.above.0 c.args.seat
-    c.args.member.seat.me.0.hands H ∙ sym c.box_number-number.ensures in
+    c.args.member.seat.me.0.hands H
+    ∙ (ap (λ (z : PathSize). memtable_box z.seats c.args.seat c.args.table.0 c.args.memtable)
+    (sym c.size.ensures) ∙ sym c.box_number-number.ensures) in
     let lent = L.notes D.0 (carried c.args.member.seat.me c.take_read.new.member.seat.me _
     c.box_number-number.result D.0 D.2 box) in
     let left = c.trim.new.notes in

@@ -10,7 +10,7 @@ invariant-loop-seat g l = let first = l.fn.member in record {
   stays : Stays l.self.table.table.shared.table_id l.self.table.size first l.member;
   boxes : l.member.seat.me.1 ≡ first.seat.me.1;
   steps : ReadSteps first.number l.fn.table.0 first.seat.me.0 l.member.seat.me.0;
-  reads : HasRead l.fn.table.0 l.fn.memtable l.fn.above.0 l.seat-index l.member.seat.me.0.hands;
+  reads : HasRead l.fn.table.0 l.fn.memtable l.fn.above.0 l.seat l.member.seat.me.0.hands;
   gathered : (q : FlushRead) → l.member.seat.me.0.hands.reading ≡ Some q
       → IsGathered l.fn.table q.seen l.cells;
 }

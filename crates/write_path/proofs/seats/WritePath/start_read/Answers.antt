@@ -3,7 +3,7 @@ use Rattle.std.proofs.lemmas.Option.{none-some, same_Some}
 use Rattle.path_rule.specs.declared.view.FlushRead.{FlushRead}
 use Rattle.path_rule.specs.declared.view.View.{View}
 use Rattle.path_rule.specs.HandsAfter.{first_read}
-use Rattle.write_path.proofs.FlushGoes.{on_begin}
+use Rattle.write_path.proofs.FlushReadSteps.{on_begin}
 use Rattle.write_path.proofs.seats.WritePath.start_read.Goals as goal
 
 pub begin_read-above-requires-clause-unread : goal.begin_read-above-requires-clause-unread
