@@ -20,6 +20,7 @@ use Rattle.path_rule.specs.Desks.{HasDesk}
 use Rattle.path_rule.specs.HandsAfter.{unswept_hands, with_desk}
 use Rattle.path_rule.specs.Members.{hands_of, boxes_of, Stepped, SteppedAs}
 use Rattle.path_rule.specs.Rounds.{IsAtRest}
+use Rattle.path_rule.specs.Switches.{ReadsNone}
 
 -- It has the Sync turn, with no barrier under way and no box of another seat. It runs no write, and
 -- filed nothing.
@@ -29,11 +30,12 @@ pub record HoldsSync (v : View) : Type 0 where
   pub rests : IsAtRest v.part
 
 module _ {K : Type 0} where
-  -- It has the Flush turn of a table that there is, no other turn and no box. It runs no write, and
-  -- began no switch.
+  -- It has the Flush turn of a table that there is, no other turn and no box. It runs no write,
+  -- began no switch, and reads no memtable of the table.
   pub record HoldsFlush (t : ℕ) (m : Me (Slot K) View) : Type 0 where
     pub there : t < m.0.size.tables
     pub settled : stage_of m.0.part t ≡ Some Settled
+    pub unread : ReadsNone t m.0.hands
     pub others : (u : ℕ) → u ≢ t → (seat_table m.0.part u).flush ≡ None
     pub unsynced : m.0.part.sync ≡ None
     pub idle : IsIdle m.0.part

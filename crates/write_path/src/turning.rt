@@ -86,6 +86,7 @@ impl<K: Keeper, A: Allocator> WritePath<K, A> {
     }
 
     // Takes a table's Flush turn, where nobody has it.
+    #[tactic(auto, using(crate::proofs::FlushHeld::nothing_read))]
     fn try_flush_turn(
         &self,
         seat: PathSeat<K>,

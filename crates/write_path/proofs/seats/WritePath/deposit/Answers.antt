@@ -257,3 +257,6 @@ returns-clause-unapplied g c =
     ) ∷ (sym (ap (λ (l : List (ℕ × Slot g.row.K.Denot)). rest l) kept)) i) in
     let none = c.deposit-found.ensures.unapplied C.prepared.note has in
     λ a h is. absurd (none a h (is ∙ sym (C.ends ∙ P.4)))
+
+pub returns-clause-untried : goal.returns-clause-untried
+returns-clause-untried g c = λ t low. c.deposit-found.ensures.untried t

@@ -74,3 +74,13 @@ returns-clause-reaches g c =
     let w = c.args.seat.member.number in
     λ key F. c.sync_round-member.ensures.reaches key (found_on w [] _ _ Log key
     (one_as w (TakeTurn w Sync) 1 _ _ _ refl h.3 refl) F)
+
+pub give_sync-requires-clause-table : goal.give_sync-requires-clause-table
+give_sync-requires-clause-table g c =
+    let h = (c.take_sync.ensures.hit c.if-take_sync-ne0.false).0 in
+    let T = c.take_sync.ensures in let S = c.sync_round-member in
+    let opened = c.args.self.now.table.size.at_open in (
+      S.ensures.same.0 ∙ (T.same.0 ∙ c.requires.0),
+      may_size _ opened S.result.1 _ _ S.ensures.answer
+          ∙ (ap (λ (v : View). v.size) h.3.view ∙ c.requires.1),
+    )
