@@ -1,6 +1,6 @@
 # Runs of 1 to 64 writers, in both modes and with a period that passes while they run, that drain,
-# archive, or do neither, are killed: at random moments, and, where calls can be traced, as many at a
-# chosen call. What each leaves can be read, and the next run recovers it. Nothing of before is
+# archive, or do neither, are killed: at random moments, and, where calls can be traced, as many at
+# a chosen call. What each leaves can be read, and the next run recovers it. Nothing of before is
 # lost, of each writer the first of its lines are there, all of a run that has said so, and in batch
 # mode a line at least for each sync of the log that returned.
 . "$top/checks/lib"

@@ -217,8 +217,8 @@ module _ {K : Type 0} (sizes : Sizes) (base : ℕ) (before now : Holding)
           (hold_firsts id size ms fault seats (ended ms given) end now o);
       stops = λ a n stopped.
           let one = (ended some dealt).stops a n stopped in
-          let so = All-contains (AreStoppedFor now) seats one.0 o.all_stopped one.1 n one.2.1 one.2.2
-          in (one.2.0 ∙ sym o.sized.at_open_is, sym so.1, so.0);
+          let so = All-contains (AreStoppedFor now) seats one.0 o.all_stopped one.1 n one.2.1
+          one.2.2 in (one.2.0 ∙ sym o.sized.at_open_is, sym so.1, so.0);
       spent = λ ms given no_room.
           let e = ended ms given in
           let k = e.spent no_room in

@@ -76,8 +76,8 @@ module _ {K : Type 0} where
   abbrev pub IsReady : TableId → PathSize → Sizes → ℕ → List Line → Worker K → Type 0
   IsReady id size sizes number lines w = IsSeated id size number w × IsDealt sizes lines w
 
-  -- the seat found, or put, the count of faults with which the log is stopped; the other one is that
-  -- of the path's opening
+  -- the seat found, or put, the count of faults with which the log is stopped; the other one is
+  -- that of the path's opening
   abbrev pub KnowsStopped : PathSize → ℕ → ℕ → PathSeat K → Type 0
   KnowsStopped size at_open now s = (at_open ≡ size.at_open)
       × Finds (CursorWord StoppedCursor) now (view_of s.member).trail × (0 < now)
@@ -92,8 +92,8 @@ module _ {K : Type 0} where
   KnowsRows s = (last : ℕ) × (suc last ≡ group_rows)
       × Finds (Current Append) last (view_of s.member).trail
 
-  -- the seat found why its lines were not all logged, and the numbers are those of what it found; of
-  -- want of memory there is nothing to find
+  -- the seat found why its lines were not all logged, and the numbers are those of what it found;
+  -- of want of memory there is nothing to find
   abbrev pub KnowsWhy : PathSize → Option WriteFault → PathSeat K → Type 0
   KnowsWhy size None s = ⊤
   KnowsWhy size (Some OutOfMemory) s = ⊤

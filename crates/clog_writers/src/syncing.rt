@@ -63,8 +63,8 @@ fn sync_seat<R: Wait, K: Keeper>(
 }
 
 /// Syncs the log by a seat that has committed, where by the clock the period has passed since it
-/// last had the log synced, at `last_ms`, in ms since the start of 1970. It tells when that was, and
-/// why a sync was refused, if one was. In batch mode it does nothing.
+/// last had the log synced, at `last_ms`, in ms since the start of 1970. It tells when that was,
+/// and why a sync was refused, if one was. In batch mode it does nothing.
 pub(crate) fn sync_when_due<R: Wait, K: Keeper, C: Clock>(
     rt: &R,
     alloc: Global,

@@ -115,8 +115,9 @@ fn disks_read_now<D: Disk>(_store: &Store<D>)
 ///
 /// `OutOfMemory`: memory was refused for the path, by a sync or for the drain's table files;
 /// `Spent`: the log has no further segment, so it may have at most two segments for each line;
-/// `Rows`: no further group for a barrier, so there are at least 65,535 lines, and it tells how many
-/// groups there are; `Stopped`: the disk has failed, with its fault counts at the opening and now.
+/// `Rows`: no further group for a barrier, so there are at least 65,535 lines, and it tells how
+/// many groups there are; `Stopped`: the disk has failed, with its fault counts at the opening and
+/// now.
 pub fn write_plan<R: Threads + Wait + Sync, D: Disk + Send + Drop, G: Gate + Sync, C: Clock + Sync>(
     rt: &R,
     alloc: Global,
