@@ -182,7 +182,8 @@ module _ (options : ApplyOptions) (o : Outside) (ms : List Mutation)
       → IsToldAs options.receipts pending outcome result
       → LastsFirst o options ms (least_of outcome ms)
       → HasShareCause o.disk_faults o.disk_faults_now outcome
-      → ((groups : ℕ) → outcome ≡ err (fault.Rows groups) → group_limit ≤ 1 + length ms)
+      → ((groups : ℕ) → outcome ≡ err (fault.Rows groups)
+      → (groups ≡ group_limit) × (group_limit ≤ 1 + length ms))
       → ((receipts : Vec Receipt) (report : List ℕ) → outcome ≡ ok receipts
       → report ≡ head_with options.receipts receipts.items ++ pending.rows.items
       → IsReported options ms report × Turns o (IsRun o options ms report))
@@ -196,13 +197,14 @@ module _ (options : ApplyOptions) (o : Outside) (ms : List Mutation)
         run = is.1;
       })
   shares_applied pending (err (fault.Stopped at_open now)) result told_as lasts cause many so =
-      subst (AppliesLines options ms o) (sym told_as) (cause.1, partly lasts)
+      subst (AppliesLines options ms o) (sym told_as) (cause.3, partly lasts)
   shares_applied pending (err fault.OutOfMemory) result told_as lasts cause many so =
       failed result told_as lasts
   shares_applied pending (err fault.Spent) result told_as lasts cause many so =
       failed result told_as lasts
   shares_applied pending (err (fault.Rows n)) result told_as lasts cause many so =
-      subst (AppliesLines options ms o) (sym told_as) (refl, many n refl, partly lasts)
+      let so_many = many n refl in
+      subst (AppliesLines options ms o) (sym told_as) (so_many.0, so_many.1, partly lasts)
 
 -- a run that comes so far has called the disk
 pub shares_call : (receipts : Bool) (pending : PendingReport)

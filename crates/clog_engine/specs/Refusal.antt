@@ -34,7 +34,6 @@ use Rattle.clog_engine.specs.declared.status.Status.TheVariants.{
   Limit,
   Groups,
 }
-use Rattle.clog_engine.specs.Limits.{group_limit}
 use Rattle.clog_engine.specs.Report.{head_with, longest_receipt}
 
 abbrev pub status_of : DiskFault → Status
@@ -71,5 +70,5 @@ IsToldAs receipts pending (result.Ok logged) told =
     told ≡ result.Ok (head_with receipts logged.items ++ pending.rows.items)
 IsToldAs receipts pending (result.Err (Stopped at_open now)) told =
     told ≡ result.Err HasDiskFault
-IsToldAs receipts pending (result.Err (Rows groups)) told = told ≡ result.Err (Groups group_limit)
+IsToldAs receipts pending (result.Err (Rows groups)) told = told ≡ result.Err (Groups groups)
 IsToldAs receipts pending (result.Err other) told = told ≡ result.Err OutOfMemory

@@ -32,9 +32,6 @@ use std::sync::Wait;
 use std::thread::Threads;
 use write_path::Receipt;
 
-// The groups of the append order that a path has words for.
-const MOST_GROUPS: u64 = 65_536;
-
 // How a run ends whose lines were logged by their writers, or not: no log is spent by as many lines
 // as a file has, and there is room for the report of as many.
 fn told(
@@ -51,8 +48,7 @@ fn told(
         Ok(told) => Ok(finished(pending, receipts, told.as_slice())),
         Err(WriteFault::Stopped { .. }) => Err(Status::DiskFault),
         Err(WriteFault::OutOfMemory) => Err(Status::OutOfMemory),
-        // There is one number that it can be: that of the words that each path has for groups.
-        Err(WriteFault::Rows(_)) => Err(Status::Groups(MOST_GROUPS)),
+        Err(WriteFault::Rows(groups)) => Err(Status::Groups(groups)),
         Err(WriteFault::Spent) => unreachable!(),
     }
 }

@@ -238,7 +238,7 @@ may_on w p before then after same (inr none) = inr (same ∙ none)
 -- ---- what a commit answers
 
 -- what is sealed stays so
-sealed_still : (n : EntryNote) (before after : List OwnStep) → HasGrown before after
+pub sealed_still : (n : EntryNote) (before after : List OwnStep) → HasGrown before after
     → IsSealed n before → IsSealed n after
 sealed_still n before after G S = subst (λ (l : List OwnStep). IsSealed n l) (sym G.is)
     (still_sealed n G.newer before S)
@@ -370,36 +370,44 @@ commit_why size w before p s small (Periodic k) (NoRoom back key) is =
 commit_why size w before p s small Batch (Logged r) is = absurd is
 commit_why size w before p s small Batch (Durable r) is = tt
 commit_why size w before p s small Batch (Unsynced r (LogStopped at_open now)) is = (
+  is.1.0,
   found_in is.0.logged.listed.note (CursorWord StoppedCursor) now (view_of s.member).trail is.2,
   risen at_open now is.1.1,
 )
 commit_why size w before p s small Batch (Unsynced r NoMemory) is = tt
 commit_why size w before p s small Batch (Unsynced r (NoRows n)) is =
     let told = is.2 in (
-      told.0,
-      told.1 ∙ is.1.all,
-      found_in is.0.logged.listed.note (Current Append) told.0 (view_of s.member).trail told.2,
+      is.1.all,
+      (
+        told.0,
+        told.1 ∙ is.1.all,
+        found_in is.0.logged.listed.note (Current Append) told.0 (view_of s.member).trail told.2,
+      ),
     )
 commit_why size w before p s small Batch (NoRoom back key) is =
     found_no_room size before p back key s small is
 
 -- a sync too
-pub sync_why : {K : Type 0} (size : PathSize) (w opened : ℕ) (v : View) (s : PathSeat K)
-    (answer : SyncAnswer) → Answers w opened v answer (view_of s.member)
+pub sync_why : {K : Type 0} (size : PathSize) (w : ℕ) (v : View) (s : PathSeat K)
+    (answer : SyncAnswer) → Answers w size.at_open v answer (view_of s.member)
     → KnowsWhy size (refusal_of answer) s
-sync_why size w opened v s (sync.Done key) A = tt
-sync_why size w opened v s (sync.Stopped at_open now) A = (
+sync_why size w v s (sync.Done key) A = tt
+sync_why size w v s (sync.Stopped at_open now) A = (
+  A.is.0,
   subst (λ (l : List OwnStep). Finds (CursorWord StoppedCursor) now l) (sym A.steps.trail)
       (found_after (CursorWord StoppedCursor) now A.steps.steps v.trail A.now),
   risen at_open now A.is.1,
 )
-sync_why size w opened v s sync.OutOfMemory A = tt
-sync_why size w opened v s (sync.Rows groups) A =
+sync_why size w v s sync.OutOfMemory A = tt
+sync_why size w v s (sync.Rows groups) A =
     let F = A.now in (
-      F.0,
-      F.1 ∙ A.is.0.all,
-      subst (λ (l : List OwnStep). Finds (Current Append) F.0 l) (sym A.steps.trail)
-          (found_after (Current Append) F.0 A.steps.steps v.trail F.2),
+      A.is.0.all,
+      (
+        F.0,
+        F.1 ∙ A.is.0.all,
+        subst (λ (l : List OwnStep). Finds (Current Append) F.0 l) (sym A.steps.trail)
+            (found_after (Current Append) F.0 A.steps.steps v.trail F.2),
+      ),
     )
 
 -- and what a seat has found it tells also behind a sync
@@ -426,14 +434,18 @@ still_why size (Some Spent) s t G (bytes, key, small, S) = (
   },
 )
 still_why size (Some (Stopped at_open now)) s t G why = (
+  why.0,
   still_found (CursorWord StoppedCursor) now (view_of s.member).trail (view_of t.member).trail G
-      why.0,
-  why.1,
+      why.1,
+  why.2,
 )
-still_why size (Some (Rows groups)) s t G (last, next, found) = (
-  last,
-  next,
-  still_found (Current Append) last (view_of s.member).trail (view_of t.member).trail G found,
+still_why size (Some (Rows groups)) s t G (all, (last, next, found)) = (
+  all,
+  (
+    last,
+    next,
+    still_found (Current Append) last (view_of s.member).trail (view_of t.member).trail G found,
+  ),
 )
 
 -- ---- behind a sync

@@ -34,6 +34,7 @@ use Rattle.clog_mutation.specs.declared.mutation.Mutation.{Mutation}
 use Rattle.clog_applied.specs.History.{Line, share_of}
 use Rattle.path_rule.specs.declared.trying.PathSeat.{PathSeat}
 use Rattle.path_rule.specs.declared.view.PathSize.{PathSize}
+use Rattle.path_rule.specs.Layout.{group_rows}
 use Rattle.clog_writers.specs.declared.fault.WriteFault.{WriteFault}
 use Rattle.clog_writers.specs.declared.fault.WriteFault.TheVariants.{Rows, Spent, Stopped}
 use Rattle.clog_writers.specs.declared.worker.Worker.{Worker}
@@ -62,10 +63,10 @@ module _ {K : Type 0} (id : TableId) (size : PathSize) where
     pub done : (i : ℕ) (d : PathSeat K) → i < length seats
         → HasEnded id size i (its size ms i) first (get_or seats i d)
     pub stops : (at_open now : ℕ) → first ≡ Some (Stopped at_open now)
-        → (s : PathSeat K) × Contains seats s × KnowsStopped now s
+        → (s : PathSeat K) × Contains seats s × KnowsStopped size at_open now s
     pub spent : first ≡ Some Spent → (s : PathSeat K) × Contains seats s × KnowsSpent size s
     pub rows : (groups : ℕ) → first ≡ Some (Rows groups)
-        → (s : PathSeat K) × Contains seats s × KnowsRows s
+        → (groups ≡ group_rows) × ((s : PathSeat K) × Contains seats s × KnowsRows s)
 
   pub none_gathered : (ms : List Mutation) (ws : List (Worker K)) → HaveLogged id size ms ws
       → Gathers ms ws [] None
@@ -154,8 +155,10 @@ module _ {K : Type 0} (id : TableId) (size : PathSize) where
         rows = λ groups is. elim one [
           | inl same ↦
               let old = g.rows groups (sym same ∙ is) in
-              (old.0, Contains-append_left seats (s ∷ []) old.0 old.1, old.2)
-          | inr same ↦ (s, Contains-push seats s, why_is (Some (Rows groups)) (sym same ∙ is))
+              (old.0, (old.1.0, Contains-append_left seats (s ∷ []) old.1.0 old.1.1, old.1.2))
+          | inr same ↦
+              let knows = why_is (Some (Rows groups)) (sym same ∙ is) in
+              (knows.0, (s, Contains-push seats s, knows.1))
         ];
       }
 

@@ -1,5 +1,6 @@
 pub mod Rising
 pub mod Committing
+pub mod Timing
 pub mod Firsts
 pub mod Owned
 pub mod FirstLogged

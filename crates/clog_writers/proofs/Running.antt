@@ -217,7 +217,8 @@ module _ {K : Type 0} (sizes : Sizes) (base : ℕ) (before now : Holding)
           (hold_firsts id size ms fault seats (ended ms given) end now o);
       stops = λ a n stopped.
           let one = (ended some dealt).stops a n stopped in
-          (All-contains (AreStoppedFor now) seats one.0 o.all_stopped one.1 n one.2.0 one.2.1).0;
+          let so = All-contains (AreStoppedFor now) seats one.0 o.all_stopped one.1 n one.2.1
+          one.2.2 in (one.2.0 ∙ sym o.sized.at_open_is, sym so.1, so.0);
       spent = λ ms given no_room.
           let e = ended ms given in
           let k = e.spent no_room in
@@ -226,10 +227,11 @@ module _ {K : Type 0} (sizes : Sizes) (base : ℕ) (before now : Holding)
           let same = ap (λ (z : PathSize). z.ordinals) is in omega (arith, most, few, same);
       rows = λ ms given groups no_group.
           let e = ended ms given in
-          let k = e.rows groups no_group in
+          let named = e.rows groups no_group in
+          let k = named.1 in
           let most = All-contains (FindsGroupsTo (length o.core.notes)) seats k.0 o.few_groups k.1
           k.2.0 k.2.2 in
           let long = length_permutation (all_writes seats) o.core.notes o.of_writes in
           let few = few_writes id size ms fault seats e in
-          let next = k.2.1 in omega (arith, next, most, long, few);
+          let next = k.2.1 in (named.0, omega (arith, next, most, long, few));
     }

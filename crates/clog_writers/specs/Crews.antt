@@ -27,8 +27,7 @@ use Rattle.path_rule.specs.declared.trying.PathSeat.{PathSeat}
 use Rattle.path_rule.specs.declared.view.PathSize.{PathSize}
 use Rattle.path_rule.specs.Finds.{Finds}
 use Rattle.path_rule.specs.Layout.{group_rows}
-use Rattle.path_rule.specs.Members.{IsOf, part_of, view_of}
-use Rattle.write_path.specs.Commits.{WritesEndBelow}
+use Rattle.path_rule.specs.Members.{IsOf, view_of}
 use Rattle.write_path.specs.Opened.{size_of}
 use Rattle.write_path.specs.Ends.{writes_of}
 use Rattle.write_path.specs.Promised.{WasSpent}
@@ -41,6 +40,7 @@ use Rattle.clog_writers.specs.declared.fault.WriteFault.TheVariants.{
 }
 use Rattle.clog_writers.specs.declared.worker.Worker.{Worker}
 use Rattle.clog_writers.specs.Shares.{ArePrepared, LogsShare, logged_by}
+use Rattle.clog_writers.specs.Timed.{KnowsSynced}
 
 -- each of a list is so for its place in it
 abbrev pub Each : {A : Type 0} → (ℕ → A → Type 0) → List A → Type 0
@@ -76,9 +76,11 @@ module _ {K : Type 0} where
   abbrev pub IsReady : TableId → PathSize → Sizes → ℕ → List Line → Worker K → Type 0
   IsReady id size sizes number lines w = IsSeated id size number w × IsDealt sizes lines w
 
-  -- the seat found, or put, this count of faults, with which the log is stopped
-  abbrev pub KnowsStopped : ℕ → PathSeat K → Type 0
-  KnowsStopped n s = Finds (CursorWord StoppedCursor) n (view_of s.member).trail × (0 < n)
+  -- the seat found, or put, the count of faults with which the log is stopped; the other one is
+  -- that of the path's opening
+  abbrev pub KnowsStopped : PathSize → ℕ → ℕ → PathSeat K → Type 0
+  KnowsStopped size at_open now s = (at_open ≡ size.at_open)
+      × Finds (CursorWord StoppedCursor) now (view_of s.member).trail × (0 < now)
 
   -- the seat found that an entry, of a size that may be, has no segment
   abbrev pub KnowsSpent : PathSize → PathSeat K → Type 0
@@ -90,13 +92,14 @@ module _ {K : Type 0} where
   KnowsRows s = (last : ℕ) × (suc last ≡ group_rows)
       × Finds (Current Append) last (view_of s.member).trail
 
-  -- the seat found why its lines were not all logged; of want of memory there is nothing to find
+  -- the seat found why its lines were not all logged, and the numbers are those of what it found;
+  -- of want of memory there is nothing to find
   abbrev pub KnowsWhy : PathSize → Option WriteFault → PathSeat K → Type 0
   KnowsWhy size None s = ⊤
   KnowsWhy size (Some OutOfMemory) s = ⊤
   KnowsWhy size (Some Spent) s = KnowsSpent size s
-  KnowsWhy size (Some (Stopped at_open now)) s = KnowsStopped now s
-  KnowsWhy size (Some (Rows groups)) s = KnowsRows s
+  KnowsWhy size (Some (Stopped at_open now)) s = KnowsStopped size at_open now s
+  KnowsWhy size (Some (Rows groups)) s = (groups ≡ group_rows) × KnowsRows s
 
   -- The worker has logged its lines, or the first of them, and its seat knows why no more.
   pub record HasLogged (id : TableId) (size : PathSize) (number : ℕ) (lines : List Line)
@@ -128,8 +131,7 @@ module _ {K : Type 0} where
     pub of_path : IsOf id size s.member
     pub number_is : s.member.number ≡ number
     pub logs : LogsShare number lines (logged_by s.member) fault
-    pub synced : fault ≡ None → (key : ℕ) × ((part_of s.member).found.synced ≡ Some key)
-        × WritesEndBelow key (view_of s.member).trail
+    pub synced : fault ≡ None → KnowsSynced s
 
   -- So has each of these seats. Where the log has stopped, or has no room or no group, one of them
   -- knows that.
@@ -139,10 +141,10 @@ module _ {K : Type 0} where
     pub each : Each (λ (i : ℕ) (s : PathSeat K).
         HasEnded id size i (share_of size.seats i mutations) fault s) seats
     pub stops : (at_open now : ℕ) → fault ≡ Some (Stopped at_open now)
-        → (s : PathSeat K) × Contains seats s × KnowsStopped now s
+        → (s : PathSeat K) × Contains seats s × KnowsStopped size at_open now s
     pub spent : fault ≡ Some Spent → (s : PathSeat K) × Contains seats s × KnowsSpent size s
     pub rows : (groups : ℕ) → fault ≡ Some (Rows groups)
-        → (s : PathSeat K) × Contains seats s × KnowsRows s
+        → (groups ≡ group_rows) × ((s : PathSeat K) × Contains seats s × KnowsRows s)
 
 -- The path was opened with these sizes over a keeper of this base.
 pub record IsOpenFor (sizes : Sizes) (base : ℕ) (size : PathSize) : Type 0 where

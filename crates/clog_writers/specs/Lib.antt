@@ -1,6 +1,7 @@
 pub mod Shares
 pub mod Crews
 pub mod Sealing
+pub mod Timed
 pub mod Logged
 pub mod Placed
 pub mod Planned

@@ -84,10 +84,14 @@ pub record EndsShares {K : Type 0} (sizes : Sizes) (base : ℕ) (before now : Ho
       → LogsShares sizes base mutations now
   pub firsts : (mutations : List Mutation) → AreDealt sizes mutations workers
       → HoldFirsts sizes.writers mutations (now.logged ++ now.kept)
-  pub stops : (at_open count : ℕ) → fault ≡ Some (Stopped at_open count) → now.stopped ≡ true
+  -- the counts that are told are the keeper's
+  pub stops : (at_open count : ℕ) → fault ≡ Some (Stopped at_open count)
+      → (at_open ≡ now.at_open) × (count ≡ now.faults) × (now.stopped ≡ true)
   -- it has no room only for many lines
   pub spent : (mutations : List Mutation) → AreDealt sizes mutations workers → fault ≡ Some Spent
       → sizes.ordinals ≤ 1 + (2 * length mutations - 1)
-  -- and it has no group only for as many lines as there are groups, but for the first
+  -- and it has no group only for as many lines as there are groups, but for the first; so many
+  -- groups are told
   pub rows : (mutations : List Mutation) → AreDealt sizes mutations workers → (groups : ℕ)
-      → fault ≡ Some (Rows groups) → group_rows ≤ 1 + length mutations
+      → fault ≡ Some (Rows groups)
+      → (groups ≡ group_rows) × (group_rows ≤ 1 + length mutations)

@@ -108,10 +108,11 @@ pub record TellsWrittenShares (options : ApplyOptions) (base : ℕ) (opened : Fi
   pub written : HasWrittenShares options base opened after later mutations receipts
 
 -- Why lines were not all logged, by the disk's counts of faults before and now: it counts one only
--- where it has failed, and then that is told.
+-- where it has failed, and then that is told, with these two counts.
 abbrev pub HasShareCause : {T : Type 0} → ℕ → ℕ → Result T WriteFault → Type 0
 HasShareCause faults now (Ok done) = now ≡ faults
-HasShareCause faults now (Err (Stopped at_open counted)) = (faults ≤ now) × Rose faults now
+HasShareCause faults now (Err (Stopped at_open counted)) =
+    (at_open ≡ faults) × (counted ≡ now) × (faults ≤ now) × Rose faults now
 HasShareCause faults now (Err other) = now ≡ faults
 
 -- a keeper's refusal, as one of the lines

@@ -15,7 +15,8 @@ ghost use Rattle.clog_writers.specs.Crews.{
   KnowsWhy,
 };
 ghost use Rattle.clog_writers.specs.Sealing.{HasWaited, HaveWaited, WaitShares, WaitsShare};
-ghost use Rattle.sync_core.specs.declared.SyncCore.TheVariants.{Batch};
+ghost use Rattle.clog_writers.specs.Timed.{TimeShares, TimesShare};
+ghost use Rattle.sync_core.specs.declared.SyncCore.TheVariants.{Batch, Periodic};
 ghost use Rattle.write_path.specs.Opened.{AreNew};
 
 use crate::fault::{WriteFault, first_of, refusal_of};
@@ -60,7 +61,8 @@ pub fn seat_all<K: Keeper + Drop>(
     }
 }
 
-/// Each worker commits its share in a thread of its own, where one can be started.
+/// Each worker commits its share in a thread of its own, where one can be started. In periodic mode
+/// each asks the clock behind each of its writes, and its first period runs from the opening.
 pub fn commit_all<R: Threads + Wait + Sync, K: Keeper + Send, G: Gate + Sync, C: Clock + Sync>(
     rt: &R,
     alloc: Global,
@@ -75,19 +77,22 @@ pub fn commit_all<R: Threads + Wait + Sync, K: Keeper + Send, G: Gate + Sync, C:
     requires ready { (mutations : List Mutation)
         × AreReady path.now.table.table.shared.table_id path.now.table.size sizes mutations
         workers.old }
+    requires mode { path.now.mode ≡ syncing.mode }
     ensures logged { (mutations : List Mutation)
         → AreReady path.now.table.table.shared.table_id path.now.table.size sizes mutations
         workers.old
         → HaveLogged path.now.table.table.shared.table_id path.now.table.size mutations
         workers.new }
     ensures waited { path.now.mode ≡ Batch → WaitShares workers.new }
+    ensures timed { (period : ℕ) → syncing.mode ≡ Periodic period
+        → TimeShares (C.tells clock.now) syncing.mode syncing.since_ms workers.new }
 {
     thread::for_each_mut(
         rt,
         workers,
         64,
         &|_place, worker: &mut Worker<K>|
-            requires { IsSizedAs path.now.table.size sizes
+            requires { IsSizedAs path.now.table.size sizes × (path.now.mode ≡ syncing.mode)
                 × ((number : ℕ) × (lines : List Line)
                 × IsReady path.now.table.table.shared.table_id path.now.table.size sizes number
                 lines worker.old) }
@@ -96,7 +101,9 @@ pub fn commit_all<R: Threads + Wait + Sync, K: Keeper + Send, G: Gate + Sync, C:
                 sizes number lines worker.old
                 → HasLogged path.entry.now.table.table.shared.table_id path.entry.now.table.size
                 number lines worker.new)
-                × (path.entry.now.mode ≡ Batch → WaitsShare worker.new) }
+                × (path.entry.now.mode ≡ Batch → WaitsShare worker.new)
+                × ((period : ℕ) → syncing.mode ≡ Periodic period
+                → TimesShare (C.tells clock.entry.now) syncing.mode syncing.since_ms worker.new) }
         { commit_share(rt, alloc, path, sizes, syncing, gate, clock, worker) },
     );
 }

@@ -40,6 +40,7 @@ fn run_crew<R: Threads + Wait + Sync, K: Keeper + Send + Drop, G: Gate + Sync, C
     requires seats { AreNew path.table.table.shared.table_id path.table.size path.table.size.seats
         handed.items }
     requires made { path.opener ≡ None }
+    requires mode { path.mode ≡ syncing.mode }
     requires dealt { (mutations : List Mutation) × AreDealt sizes mutations workers.items }
     requires room { sizes.writers ≤ vec_capacity room }
     requires void { room.items ≡ [] }

@@ -2,11 +2,12 @@
 //! commit has the log synced; in periodic mode a writer asks the clock behind each of its commits
 //! whether the period has passed since it last had the log synced (`CommitLog.sync` at each period
 //! of `PeriodicCommitLogService`).
-ghost use Rattle.std.specs.Prelude.{◌≡◌, ℕ, MatchOption};
+ghost use Rattle.std.specs.Prelude.{◌≡◌, ℕ, MatchOption, None};
 ghost use Rattle.clog_writers.specs.Crews.{KnowsWhy};
+ghost use Rattle.clog_writers.specs.Timed.{HasNotSynced, KnowsSynced, SealsLast, SyncsWhenDue};
 ghost use Rattle.path_rule.specs.Members.{IsOf};
 ghost use Rattle.sync_core.specs.Due.{IsDue};
-ghost use Rattle.sync_core.specs.declared.SyncCore.TheVariants.{Periodic};
+ghost use Rattle.sync_core.specs.declared.SyncCore.TheVariants.{Batch, Periodic};
 ghost use Rattle.write_path.specs.Commits.{KeepsList};
 
 use crate::fault::{WriteFault, refusal_of};
@@ -54,13 +55,16 @@ fn sync_seat<R: Wait, K: Keeper>(
     ensures keeps { KeepsList path.now.table.table.shared.table_id path.now.table.size seat.member
         result.0.member }
     ensures why { KnowsWhy path.now.table.size result.1 result.0 }
+    ensures synced { result.1 ≡ None → KnowsSynced result.0 }
+    ensures seals { result.1 ≡ None → SealsLast seat result.0 }
 {
     let (seat, answer) = path.sync(rt, alloc, seat);
     (seat, refusal_of(answer))
 }
 
-/// Syncs the log by a seat that has committed, where the period has passed since it last had the
-/// log synced. It tells when that was, and why a sync was refused, if one was.
+/// Syncs the log by a seat that has committed, where by the clock the period has passed since it
+/// last had the log synced, at `last_ms`, in ms since the start of 1970. It tells when that was,
+/// and why a sync was refused, if one was. In batch mode it does nothing.
 pub(crate) fn sync_when_due<R: Wait, K: Keeper, C: Clock>(
     rt: &R,
     alloc: Global,
@@ -74,6 +78,9 @@ pub(crate) fn sync_when_due<R: Wait, K: Keeper, C: Clock>(
     ensures keeps { KeepsList path.now.table.table.shared.table_id path.now.table.size seat.member
         result.0.member }
     ensures why { KnowsWhy path.now.table.size result.2 result.0 }
+    ensures due { (period : ℕ) → mode ≡ Periodic period
+        → SyncsWhenDue (C.tells clock.now) mode last_ms seat result.0 result.1 result.2 }
+    ensures batch { mode ≡ Batch → HasNotSynced last_ms seat result.0 result.1 result.2 }
 {
     match due_at(mode, clock, last_ms) {
         Some(now_ms) => {

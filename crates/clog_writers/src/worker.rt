@@ -7,6 +7,7 @@ ghost use Rattle.clog_mutation.specs.declared.mutation.Mutation.{Mutation};
 ghost use Rattle.clog_applied.specs.History.{Line};
 ghost use Rattle.clog_writers.specs.Crews.{HasLogged, IsReady, IsSizedAs, KnowsWhy};
 ghost use Rattle.clog_writers.specs.Sealing.{HasSealed, HasWaited, WaitsShare};
+ghost use Rattle.clog_writers.specs.Timed.{HasTimed, TimesShare, TimesWrite};
 ghost use Rattle.clog_writers.specs.Shares.{
   AddsWrite,
   ArePrepared,
@@ -17,7 +18,7 @@ ghost use Rattle.clog_writers.specs.Shares.{
   refusal_in,
 };
 ghost use Rattle.path_rule.specs.Members.{IsOf, view_of};
-ghost use Rattle.sync_core.specs.declared.SyncCore.TheVariants.{Batch};
+ghost use Rattle.sync_core.specs.declared.SyncCore.TheVariants.{Batch, Periodic};
 ghost use Rattle.write_path.specs.Ends.{writes_of};
 ghost use Rattle.write_path.specs.Tries.{Stays};
 ghost use Rattle.write_path.specs.Writes.{IsPrepared};
@@ -66,8 +67,9 @@ fn refusal_in(commit: Commit) -> Option<WriteFault>
     }
 }
 
-// Commits a write, and behind it has the log synced where that is due. It tells when the seat last
-// had the log synced, and why the write was not logged, or a sync was refused.
+// Commits a write, and behind it has the log synced where that is due, since `last_ms` in periodic
+// mode. It tells from when on the next period runs, in ms, and why the write was not logged, or a
+// sync was refused.
 fn commit_one<R: Wait, K: Keeper, G: Gate, C: Clock>(
     rt: &R,
     alloc: Global,
@@ -83,6 +85,7 @@ fn commit_one<R: Wait, K: Keeper, G: Gate, C: Clock>(
     requires prepared { (sizes : Sizes) × (line : ℕ) × (m : Mutation)
         × IsPrepared sizes line m prepared × (sizes.tables ≡ path.now.table.size.tables)
         × (sizes.capacity ≡ path.now.table.size.capacity) }
+    requires mode { path.now.mode ≡ mode }
     ensures same { Stays path.now.table.table.shared.table_id path.now.table.size seat.member
         result.0.member }
     ensures logged { result.2 ≡ None → AddsWrite seat.member.number prepared
@@ -93,6 +96,9 @@ fn commit_one<R: Wait, K: Keeper, G: Gate, C: Clock>(
     ensures sealed { path.now.mode ≡ Batch → HasSealed seat → result.2 ≡ None
         → HasSealed result.0 }
     ensures waited { path.now.mode ≡ Batch → HasSealed seat → HasWaited result.0 }
+    ensures timed { (period : ℕ) → mode ≡ Periodic period → result.2 ≡ None
+        → TimesWrite (C.tells clock.now) mode last_ms (view_of seat.member).trail
+        (view_of result.0.member).trail result.1 }
 {
     let (seat, commit) = path.commit(rt, alloc, seat, prepared, gate);
     match refusal_in(commit) {
@@ -102,7 +108,7 @@ fn commit_one<R: Wait, K: Keeper, G: Gate, C: Clock>(
 }
 
 // Commits writes one after another, by a seat that has written nothing, until one is refused, or a
-// sync behind it.
+// sync behind it. In periodic mode the first period runs from the opening.
 fn commit_writes<R: Wait, K: Keeper, G: Gate, C: Clock>(
     rt: &R,
     alloc: Global,
@@ -118,6 +124,7 @@ fn commit_writes<R: Wait, K: Keeper, G: Gate, C: Clock>(
     requires sized { IsSizedAs path.now.table.size sizes }
     requires prepared { (lines : List Line) × ArePrepared sizes lines writes.items }
     requires unused { writes_of (view_of seat.member).trail ≡ [] }
+    requires mode { path.now.mode ≡ syncing.mode }
     ensures same { Stays path.now.table.table.shared.table_id path.now.table.size seat.member
         result.0.member }
     ensures logs { (lines : List Line) → ArePrepared sizes lines writes.items
@@ -125,6 +132,8 @@ fn commit_writes<R: Wait, K: Keeper, G: Gate, C: Clock>(
     ensures why { KnowsWhy path.now.table.size result.1 result.0 }
     ensures sealed { path.now.mode ≡ Batch → result.1 ≡ None → HasSealed result.0 }
     ensures waited { path.now.mode ≡ Batch → HasWaited result.0 }
+    ensures timed { (period : ℕ) → syncing.mode ≡ Periodic period → result.1 ≡ None
+        → HasTimed (C.tells clock.now) syncing.mode syncing.since_ms result.0 }
 {
     let mut seat = seat;
     let mut last_ms = syncing.since_ms;
@@ -150,7 +159,9 @@ fn commit_writes<R: Wait, K: Keeper, G: Gate, C: Clock>(
     (seat, None)
 }
 
-/// Commits the writes of a worker's share, until one is refused.
+/// Commits the writes of a worker's share, until one is refused. Where none is, in periodic mode
+/// the log was synced behind each at which the clock told that the period had passed, before the
+/// next one.
 pub fn commit_share<R: Wait, K: Keeper, G: Gate, C: Clock>(
     rt: &R,
     alloc: Global,
@@ -165,12 +176,15 @@ pub fn commit_share<R: Wait, K: Keeper, G: Gate, C: Clock>(
     requires ready { (number : ℕ) × (lines : List Line)
         × IsReady path.now.table.table.shared.table_id path.now.table.size sizes number lines
         worker.old }
+    requires mode { path.now.mode ≡ syncing.mode }
     ensures logged { (number : ℕ) (lines : List Line)
         → IsReady path.now.table.table.shared.table_id path.now.table.size sizes number lines
         worker.old
         → HasLogged path.now.table.table.shared.table_id path.now.table.size number lines
         worker.new }
     ensures waited { path.now.mode ≡ Batch → WaitsShare worker.new }
+    ensures timed { (period : ℕ) → syncing.mode ≡ Periodic period
+        → TimesShare (C.tells clock.now) syncing.mode syncing.since_ms worker.new }
 {
     let writes = mem::replace(&mut worker.writes, Vec::new(alloc));
     match worker.seat.take() {

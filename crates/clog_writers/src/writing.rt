@@ -115,8 +115,9 @@ fn disks_read_now<D: Disk>(_store: &Store<D>)
 ///
 /// `OutOfMemory`: memory was refused for the path, by a sync or for the drain's table files;
 /// `Spent`: the log has no further segment, so it may have at most two segments for each line;
-/// `Rows`: no further group for a barrier, so there are at least 65,535 lines; `Stopped`: the disk
-/// has failed, with its fault counts.
+/// `Rows`: no further group for a barrier, so there are at least 65,535 lines, and it tells how
+/// many groups there are; `Stopped`: the disk has failed, with its fault counts at the opening and
+/// now.
 pub fn write_plan<R: Threads + Wait + Sync, D: Disk + Send + Drop, G: Gate + Sync, C: Clock + Sync>(
     rt: &R,
     alloc: Global,
@@ -150,7 +151,8 @@ pub fn write_plan<R: Threads + Wait + Sync, D: Disk + Send + Drop, G: Gate + Syn
     ensures spent { (mutations : List MutationOf) → IsPlanFor sizes mutations plan
         → result.1 ≡ Err Spent → sizes.ordinals ≤ 1 + (2 * length mutations - 1) }
     ensures rows { (mutations : List MutationOf) → IsPlanFor sizes mutations plan → (groups : ℕ)
-        → result.1 ≡ Err (Rows groups) → group_rows ≤ 1 + length mutations }
+        → result.1 ≡ Err (Rows groups)
+        → (groups ≡ group_rows) × (group_rows ≤ 1 + length mutations) }
     ensures wrote { (mutations : List MutationOf) → IsPlanFor sizes mutations plan
         → WritesShares D.files D.changes store.notes.log.disk result.0 store.notes.base
         store.archives drain sizes.writers mutations }

@@ -242,9 +242,8 @@ pub record Ruled {K : Type 0} (shows : K → Lasting) (o : Beside) (size : PathS
   -- it has as many tables
   pub tabled : o.tables ≡ size.tables
   -- the boxes show the notes that are not yet lasting, and the keeper what is
-  pub boxed : Boxed shows size.seats core.notes (shown o size.at_open kept_to filed dropped core) core.claims
-      core.append s.homes
-      s.views
+  pub boxed : Boxed shows size.seats core.notes (shown o size.at_open kept_to filed dropped core)
+      core.claims core.append s.homes s.views
   -- those of memtables hold what was placed
   pub memtables : HasMemtables size.seats core.notes core.placed core.tables s.homes s.views
   -- what holders of Flush turns have read of them was placed there

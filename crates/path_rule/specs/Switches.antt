@@ -41,8 +41,8 @@ FlushOldest t p n = (turn : FlushTurn) × ((seat_table p t).flush ≡ Some turn)
 abbrev pub IsLeft : ℕ → Seat → ℕ → Type 0
 IsLeft t p m = (n : ℕ) × (stage_of p t ≡ Some Settled) × FlushNewest t p n × (m < n)
 
--- No write is placed in the memtable any more: the barrier that the seat issued for it is passed, as
--- it found with the Sync turn or without it, or an earlier holder left the memtable.
+-- No write is placed in the memtable any more: the barrier that the seat issued for it is passed,
+-- as it found with the Sync turn or without it, or an earlier holder left the memtable.
 abbrev pub MayBeginRead : ℕ → View → ℕ → Type 0
 MayBeginRead t v m = ((g : ℕ) × (stage_of v.part t ≡ Some (WithBarrier m g))
     × (IsPast Write v g ⊎ FoundPast v.part g))

@@ -94,8 +94,9 @@ impl<K: Keeper, A: Allocator> PathTable<K, A> {
     }
 
     /// The synced key, once the boxes of all seats of a memtable that is not empty were seen, whose
-    /// final bound the member found. Where the log is lasting up to that bound, a file of the newest cells in what
-    /// was seen may be put: it goes on where the table's last file ended, up to the bound.
+    /// final bound the member found. Where the log is lasting up to that bound, a file of the
+    /// newest cells in what was seen may be put: it goes on where the table's last file ended, up
+    /// to the bound.
     pub fn look_filed(&self, member: &mut Member<K>, table: Table, memtable: u64, bound: Key) -> u64
         requires table { IsOf self.now.table.shared.table_id self.now.size member.old }
         requires there { table.0 < self.now.size.tables }
@@ -201,7 +202,7 @@ impl<K: Keeper, A: Allocator> PathTable<K, A> {
 
     /// Drops the segments that may go, by the keeper on the desk: those below that of the synced
     /// key, which the member found in its turn, of which table files hold all that they hold. It
-    /// has filed a memtable in that turn. It tells how many went.
+    /// has filed a memtable in that turn. The keeper's own count of them is answered.
     pub fn drop_due(&self, member: Member<K>, synced: Key) -> (Member<K>, Result<u32, KeeperFault>)
         requires table { member.seat.table_id ≡ self.now.table.shared.table_id }
         requires turn { TurnSynced (part_of member) synced.0

@@ -45,9 +45,10 @@ pub struct PutTable {
 pub struct Filed {
     /// The table files that it has put, the first one in front.
     pub files: LinkedList<PutTable>,
-    /// Whether a table file was refused, and none was put since.
+    /// Whether the keeper has a refused table file in mind.
     pub refused: bool,
-    /// How many segments have got their archive names.
+    /// How many archive names were given: a segment's counts again where its removal was refused
+    /// behind the first.
     pub archived: u64,
 }
 

@@ -55,7 +55,8 @@ pub fn the_table_shows_a_lawful_state<K: Keeper>()
 {}
 
 /// While nobody holds the Sync turn, the desk is at home, and the keeper on it shows exactly what
-/// the machine has lasting. Its table files are the machine's, and what it dropped is dropped there.
+/// the machine has lasting. Its table files are the machine's, and what it dropped is dropped
+/// there.
 pub fn the_keeper_at_home_shows_what_is_lasting<K: Keeper>()
     ensures { (o : Beside) (size : PathSize) (s : State (Slot K) View)
         (r : Ruled (shows_of K.holds) o size s)
@@ -133,8 +134,8 @@ pub fn gathering_reaches_the_last_marker<K: Keeper>()
 {}
 
 /// What a closed write placed in a memtable that is not retired lies in its writer's box of that
-/// table, for memtables of this parity: at home, or, when it was taken last, in the hand of the seat
-/// that has the box.
+/// table, for memtables of this parity: at home, or, when it was taken last, in the hand of the
+/// seat that has the box.
 pub fn what_was_placed_lies_in_memtables<K: Keeper>()
     ensures { (o : Beside) (size : PathSize) (s : State (Slot K) View)
         (r : Ruled (shows_of K.holds) o size s) (p : Placed)
@@ -143,8 +144,8 @@ pub fn what_was_placed_lies_in_memtables<K: Keeper>()
 {}
 
 /// Once the holder of a table's Flush turn has seen the boxes of all seats behind the barrier of a
-/// memtable, what it has seen are notes of the state: exactly those of the entries of the memtable's
-/// log interval that touch its table.
+/// memtable, what it has seen are notes of the state: exactly those of the entries of the
+/// memtable's log interval that touch its table.
 pub fn what_was_seen_is_the_memtables_interval<K: Keeper>()
     ensures { (o : Beside) (size : PathSize) (s : State (Slot K) View)
         (r : Ruled (shows_of K.holds) o size s) (j w : ℕ) (v : View) (q : FlushRead)

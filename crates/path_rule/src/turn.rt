@@ -57,7 +57,7 @@ impl<K: Keeper, A: Allocator> PathTable<K, A> {
     }
 
     /// Gives the Sync turn back, and the desk with what the member knows to be on it, while no
-    /// barrier is under way. What the keeper on it dropped is dropped in the machine too then.
+    /// barrier is under way.
     pub fn give_sync(&self, member: &mut Member<K>)
         requires table { IsOf self.now.table.shared.table_id self.now.size member.old }
         requires rest { IsTrue (is_some (part_of member.old).sync)

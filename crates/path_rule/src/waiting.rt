@@ -160,9 +160,9 @@ impl<K: Keeper, A: Allocator> PathTable<K, A> {
         (holder, Passed::Passed(current))
     }
 
-    /// Issues a barrier of the write order behind the group that the member found current, and waits
-    /// until it is passed. A memtable that waits for its barrier has this one then. There is a word
-    /// for the next group. No clause says that it returns.
+    /// Issues a barrier of the write order behind the group that the member found current, and
+    /// waits until it is passed. A memtable that waits for its barrier has this one then. There is
+    /// a word for the next group. No clause says that it returns.
     pub fn write_barrier<R: Wait>(&self, rt: &R, holder: Holder<K>, current: u64) -> Holder<K>
         requires table { IsOf self.now.table.shared.table_id self.now.size holder.member }
         requires current { TurnSaw Write (part_of holder.member) current × (current < 65535) }
@@ -190,7 +190,8 @@ impl<K: Keeper, A: Allocator> PathTable<K, A> {
     }
 
     /// Waits until all groups of the write order before the current one are finished: so is the
-    /// barrier of each memtable of a table whose turn the member has. No clause says that it returns.
+    /// barrier of each memtable of a table whose turn the member has. No clause says that it
+    /// returns.
     pub fn pass_all<R: Wait>(&self, rt: &R, holder: Holder<K>) -> Holder<K>
         requires { IsOf self.now.table.shared.table_id self.now.size holder.member }
         ensures same { KeepsSizes holder.member result.member }
@@ -204,7 +205,7 @@ impl<K: Keeper, A: Allocator> PathTable<K, A> {
     {
         let Holder { mut member } = holder;
         let current = self.seek_current(&mut member, Order::Write);
-        // A look behind the one at the current group, which tells that no barrier is of a later one.
+        // A look behind the one at the current group: it tells that no barrier is of a later one.
         let _oldest = self.seek_oldest(&mut member, Order::Write);
         self.advance_to(rt, Holder { member }, Order::Write, current)
     }

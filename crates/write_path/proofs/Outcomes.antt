@@ -236,6 +236,7 @@ module _ {K : Type 0} (size : PathSize) where
             (is_history x L.claims_tile_the_log L.notes_are_claims) (none_passed x L idle);
         synced_is = synced;
         dropped_are = ap (λ (k : Lasting). k.dropped) same ∙ (P.2 ∙ sym none_gone);
+        unfiled = P.0;
         none_dropped = ap (λ (k : Lasting). k.dropped) same ∙ P.2;
         stops = stops;
         found_synced = known_of x
@@ -328,6 +329,7 @@ module _ {K : Type 0} (size : PathSize) where
         none_passed = λ key n m. absurd (let l = m.1 in omega arith);
         synced_is = synced;
         dropped_are = ap (λ (k : Lasting). k.dropped) same;
+        unfiled = refl;
         none_dropped = ap (λ (k : Lasting). k.dropped) same;
         stops = ap (λ (k : Lasting). k.stopped) same;
         found_synced = subst (λ (l : List (PathSeat K)). All (IsSyncedFor h) l)

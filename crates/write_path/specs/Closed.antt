@@ -170,6 +170,8 @@ pub record IsOutcome {K : Type 0} (size : PathSize) (seats : List (PathSeat K)) 
   -- the keeper has what the run made lasting, dropped and stopped
   pub synced_is : h.synced ≡ core.synced
   pub dropped_are : h.dropped ≡ core.dropped
+  -- no memtable has a table file
+  pub unfiled : core.files ≡ []
   -- no segment has gone, since the path was opened for no table files
   pub none_dropped : h.dropped ≡ []
   pub stops : stopped_with h.stopped h.faults ≡ fault_count core.stopped

@@ -3,6 +3,7 @@ use Rattle.clog_applied.specs.History.{share_of}
 use Rattle.clog_writers.specs.declared.worker.Worker.{Worker}
 use Rattle.clog_writers.specs.Crews.{HasLogged, IsReady}
 use Rattle.clog_writers.specs.Sealing.{WaitsShare}
+use Rattle.clog_writers.specs.Timed.{TimesShare}
 use Rattle.clog_writers.proofs.crew.commit_all.Goals as goal
 
 pub for_each_mut-requires-clause-accepts : goal.for_each_mut-requires-clause-accepts
@@ -11,6 +12,7 @@ for_each_mut-requires-clause-accepts g c κs within = λ i p inside is.
     let ready = c.requires.ready in
     let lines = share_of t.size.seats i ready.0 in (
       c.requires.sized,
+      c.requires.mode,
       (
         i,
         lines,
@@ -42,3 +44,12 @@ returns-clause-waited g c = λ batch w among.
     let long = c.for_each_mut.auto.s in
     let one = (c.for_each_mut.ensures among.0 w (omega (arith, inside, long))).1 in
     subst (λ (x : Worker g.row.K.Denot). WaitsShare x) (one.left ∙ among.2) (one.call.1 batch)
+
+pub returns-clause-timed : goal.returns-clause-timed
+returns-clause-timed g c = λ period periodic w among.
+    let inside = among.1 in
+    let long = c.for_each_mut.auto.s in
+    let one = (c.for_each_mut.ensures among.0 w (omega (arith, inside, long))).1 in
+    subst (λ (x : Worker g.row.K.Denot). TimesShare (g.C.Clock.tells c.args.clock.now)
+    c.args.syncing.mode c.args.syncing.since_ms x) (one.left ∙ among.2)
+    (one.call.2 period periodic)

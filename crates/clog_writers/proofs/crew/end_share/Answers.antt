@@ -21,8 +21,8 @@ returns-clause-why g c = λ number lines logged.
           (subst (λ (s : PathSeat g.row.K.Denot). KnowsWhy size fault s) same logged.why))
       | inr other ↦ subst (λ (f : Option WriteFault). KnowsWhy size f after)
           (sym c.refusal_of.ensures.is ∙ sym other)
-          (sync_why size c.in-Some.seat.member.number size.at_open (view_of c.in-Some.seat.member)
-          after c.sync-seat.result.1 answers)
+          (sync_why size c.in-Some.seat.member.number (view_of c.in-Some.seat.member) after
+          c.sync-seat.result.1 answers)
     ]
 
 pub returns-clause-waited : goal.returns-clause-waited

@@ -1,9 +1,10 @@
-use Rattle.std.proofs.Common.{sym, subst}
+use Rattle.std.proofs.Common.{sym, ◌∙◌, subst}
 use Rattle.path_rule.specs.Members.{view_of}
 use Rattle.clog_writers.specs.Crews.{KnowsWhy}
 use Rattle.clog_writers.specs.declared.fault.WriteFault.{WriteFault}
 use Rattle.std.specs.Prelude.{Option}
 use Rattle.clog_writers.proofs.Committing.{sync_why}
+use Rattle.clog_writers.proofs.Timing.{knows_synced, seals_last}
 use Rattle.clog_writers.proofs.syncing.sync_seat.Goals as goal
 
 pub returns-clause-keeps : goal.returns-clause-keeps
@@ -17,5 +18,18 @@ returns-clause-why g c =
     let size = c.args.path.now.table.size in
     subst (λ (f : Option WriteFault). KnowsWhy size f c.sync-seat.result.0)
     (sym c.refusal_of.ensures.is)
-    (sync_why size c.args.seat.member.number size.at_open (view_of c.args.seat.member)
-    c.sync-seat.result.0 c.sync-seat.result.1 c.sync-seat.ensures.syncs.answers)
+    (sync_why size c.args.seat.member.number (view_of c.args.seat.member) c.sync-seat.result.0
+    c.sync-seat.result.1 c.sync-seat.ensures.syncs.answers)
+
+pub returns-clause-synced : goal.returns-clause-synced
+returns-clause-synced g c = λ none.
+    let size = c.args.path.now.table.size in
+    knows_synced c.args.seat.member.number size.at_open (view_of c.args.seat.member)
+    c.sync-seat.result.0 c.sync-seat.result.1 c.sync-seat.ensures.syncs
+    (sym c.refusal_of.ensures.is ∙ none)
+
+pub returns-clause-seals : goal.returns-clause-seals
+returns-clause-seals g c = λ none.
+    let size = c.args.path.now.table.size in
+    seals_last c.args.seat.member.number size.at_open c.args.seat c.sync-seat.result.0
+    c.sync-seat.result.1 c.sync-seat.ensures.syncs (sym c.refusal_of.ensures.is ∙ none)

@@ -16,6 +16,7 @@ use Rattle.clog_writers.proofs.Committing.{
   sealed_on,
   where_logged,
 }
+use Rattle.clog_writers.proofs.Timing.{logs_last, times_write}
 use Rattle.clog_writers.proofs.worker.commit_one.Goals as goal
 
 -- ---- nothing was refused by the commit, and the log was synced behind it or not
@@ -74,7 +75,27 @@ returns-in-None-clause-waited g c = λ batch all.
     (subst (λ (m : SyncCore). IsCommitted m size w before c.args.prepared c.commit-seat.result.1 v)
     batch c.commit-seat.ensures.committed) (sym c.refusal_in.ensures ∙ c.in-None.is) all))
 
+pub returns-in-None-clause-timed : goal.returns-in-None-clause-timed
+returns-in-None-clause-timed g c = λ period periodic none.
+    let size = c.args.path.now.table.size in
+    let w = c.args.seat.member.number in
+    let before = (view_of c.args.seat.member).trail in
+    let then = c.commit-seat.result.0 in
+    let v = view_of then.member in
+    let due = c.sync_when_due in
+    times_write (g.C.Clock.tells c.args.clock.now) c.args.mode c.args.last_ms before then
+    due.result.0 due.result.1 due.result.2
+    (logs_last size w before c.args.prepared v period c.commit-seat.result.1
+    (subst (λ (m : SyncCore). IsCommitted m size w before c.args.prepared c.commit-seat.result.1 v)
+    (c.requires.mode ∙ periodic) c.commit-seat.ensures.committed)
+    (sym c.refusal_in.ensures ∙ c.in-None.is))
+    none due.ensures.keeps.1 due.ensures.keeps.2 (due.ensures.due period periodic)
+
 -- ---- the commit was refused
+
+pub returns-in-Some-clause-timed : goal.returns-in-Some-clause-timed
+returns-in-Some-clause-timed g c = λ period periodic none.
+    absurd (none-some c.in-Some.fault (sym none))
 
 pub returns-in-Some-clause-logged : goal.returns-in-Some-clause-logged
 returns-in-Some-clause-logged g c = λ none. absurd (none-some c.in-Some.fault (sym none))

@@ -3,6 +3,7 @@ use Rattle.std.proofs.lemmas.Option.{same_Some}
 use Rattle.path_rule.specs.declared.trying.PathSeat.{PathSeat}
 use Rattle.clog_writers.specs.Sealing.{HasWaited}
 use Rattle.clog_writers.specs.Shares.{ArePrepared, LogsShare, logged_by}
+use Rattle.clog_writers.specs.Timed.{HasTimed}
 use Rattle.clog_writers.proofs.worker.commit_share.Goals as goal
 
 pub returns-clause-logged : goal.returns-clause-logged
@@ -25,6 +26,13 @@ returns-clause-logged g c = λ number lines ready.
           (sym c.replace-writes.ensures.value) ready.1));
       why = w.ensures.why;
     }
+
+pub returns-clause-timed : goal.returns-clause-timed
+returns-clause-timed g c = λ period periodic none s is.
+    let w = c.commit_writes-seat in
+    subst (λ (t : PathSeat g.row.K.Denot). HasTimed (g.C.Clock.tells c.args.clock.now)
+    c.args.syncing.mode c.args.syncing.since_ms t) (same_Some w.result.0 s is)
+    (w.ensures.timed period periodic none)
 
 pub returns-clause-waited : goal.returns-clause-waited
 returns-clause-waited g c = λ batch s is.

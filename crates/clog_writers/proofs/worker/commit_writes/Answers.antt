@@ -31,6 +31,7 @@ use Rattle.clog_writers.proofs.Committing.{
   next_of,
   stopped_with,
 }
+use Rattle.clog_writers.proofs.Timing.{none_timed, one_timed}
 use Rattle.clog_writers.proofs.worker.commit_writes.Goals as goal
 
 pub loop-prepared-init : goal.loop-prepared-init
@@ -44,6 +45,9 @@ loop-prepared-init g c =
           (begins c.args.sizes w lines c.args.writes.items prepared);
       sealed = λ batch n among. absurd (nothing_there n
           (subst (λ (l : List EntryNote). Contains l n) c.requires.unused among));
+      timed = λ period periodic.
+          none_timed (g.C.Clock.tells c.args.clock.now) c.args.syncing.mode
+          c.args.syncing.since_ms (view_of c.args.seat.member).trail c.requires.unused;
       count = let items = ap length gives.0 in omega (arith, items, gives.1, c.args.writes.ok);
     }
 
@@ -86,6 +90,10 @@ loop-prepared-preserved g c =
           (subst (λ (ps : List Prepared). GoesOn c.args.sizes w lines ps
           (logged_by l.seat.member)) steps.0 (I.goes lines prepared));
       sealed = λ batch. done.sealed batch (I.sealed batch) none;
+      timed = λ period periodic.
+          one_timed (g.C.Clock.tells c.args.clock.now) c.args.syncing.mode
+          c.args.syncing.since_ms before after l.last_ms c.commit_one-next.result.1
+          (I.timed period periodic) (done.timed period periodic none);
       count = let short = ap length steps.0 in omega (arith, short, steps.1, I.count);
     }
 
@@ -119,6 +127,14 @@ returns-in-Some-fault-clause-sealed g c = λ batch none.
 pub returns-in-Some-fault-clause-waited : goal.returns-in-Some-fault-clause-waited
 returns-in-Some-fault-clause-waited g c = λ batch.
     c.commit_one-next.ensures.waited batch (c.loop-prepared.invariant.sealed batch)
+
+pub returns-in-Some-fault-clause-timed : goal.returns-in-Some-fault-clause-timed
+returns-in-Some-fault-clause-timed g c = λ period periodic none.
+    absurd (none-some c.in-Some-fault.fault (sym none))
+
+pub returns-clause-timed : goal.returns-clause-timed
+returns-clause-timed g c = λ period periodic none.
+    (c.loop-prepared.last_ms, c.loop-prepared.invariant.timed period periodic)
 
 pub returns-clause-sealed : goal.returns-clause-sealed
 returns-clause-sealed g c = λ batch none. c.loop-prepared.invariant.sealed batch

@@ -1,9 +1,12 @@
-use Rattle.std.proofs.Common.{◌≡◌, List, length}
+use Rattle.std.proofs.Common.{◌≡◌, ℕ, List, length}
 use Rattle.clog_applied.specs.History.{Line}
-use Rattle.sync_core.specs.declared.SyncCore.TheVariants.{Batch}
+use Rattle.path_rule.specs.Members.{view_of}
+use Rattle.sync_core.specs.declared.SyncCore.TheVariants.{Batch, Periodic}
+use Rattle.write_path.specs.Ends.{writes_of}
 use Rattle.write_path.specs.Tries.{Stays}
 use Rattle.clog_writers.specs.Sealing.{HasSealed}
 use Rattle.clog_writers.specs.Shares.{ArePrepared, logged_by}
+use Rattle.clog_writers.specs.Timed.{AreTimed}
 use Rattle.clog_writers.proofs.Committing.{GoesOn}
 use Rattle.clog_writers.proofs.worker.commit_writes.Given as goal
 
@@ -15,5 +18,8 @@ invariant-loop-prepared g l = let t = l.path.table in record {
       → GoesOn l.fn.sizes l.fn.seat.member.number lines l.prepared-iterator.rest.items
       (logged_by l.seat.member);
   sealed : l.path.mode ≡ Batch → HasSealed l.seat;
+  timed : (period : ℕ) → l.fn.syncing.mode ≡ Periodic period
+      → AreTimed (g.C.Clock.tells l.clock) l.fn.syncing.mode l.fn.syncing.since_ms
+      (writes_of (view_of l.seat.member).trail) (view_of l.seat.member).trail l.last_ms;
   count : l.prepared-iterator.rest.len ≡ length l.prepared-iterator.rest.items;
 }

@@ -65,7 +65,8 @@ drain_asked-fault-requires-clause-none g c =
     }
 
 pub drain_asked-fault-requires-clause-stopped : goal.drain_asked-fault-requires-clause-stopped
-drain_asked-fault-requires-clause-stopped g c = c.log_shares-store.ensures.ends.stops
+drain_asked-fault-requires-clause-stopped g c = λ a n is.
+    (c.log_shares-store.ensures.ends.stops a n is).2
 
 pub returns-clause-wrote : goal.returns-clause-wrote
 returns-clause-wrote g c = λ ms plan.
