@@ -7,18 +7,20 @@ use Rattle.std.proofs.Common.{
   [],
   ◌∷◌,
   ◌++◌,
+  length,
+  nat_eq,
   nat_lt,
+  Bool,
+  true,
   Some,
-  Result,
-  Ok,
-  Err,
-  OnOk,
   refl,
   sym,
   ap,
   ◌∙◌,
   subst,
 }
+use Rattle.std.proofs.lemmas.Bool.{eqb-true}
+use Rattle.std.proofs.lemmas.List.{append-nil, nil_from_length}
 use Rattle.std.proofs.lemmas.Option.{same_Some}
 use Rattle.std.specs.List.{Contains, filter}
 use Rattle.atomic_table.specs.Table.{Me, rest}
@@ -35,10 +37,6 @@ use Rattle.path_rule.specs.Told.{CarriesNotes}
 use Rattle.path_rule.specs.Trimmed.{ends_above, IsTrimmed}
 use Rattle.write_path.specs.FlushReads.{HasRead}
 use Rattle.write_path.proofs.FlushTrims.{trimmed_same}
-
-pub on_ok : {T E : Type 0} (r : Result T E) (P Q : Type 0) → (P → Q) → OnOk r P → OnOk r Q
-on_ok (Ok x) P Q f h = f h
-on_ok (Err e) P Q f h = h
 
 -- the box of the next seat, by the seat's number
 pub the_box : (seats t m above seat : ℕ) (h : Hands) (H : HasRead t m above seat h)
@@ -83,3 +81,19 @@ seen_is t m above seat b held left h after H is T q has =
     ∙ (ap (λ (k : ℕ). H.read.seen ++ filter (ends_above k) held) (sym H.from)
     ∙ ap (λ (r : FlushRead). r.seen)
     (same_Some (box_seen (box_read b held H.read)) q (sym is ∙ has)))
+
+-- a list of length 0
+pub none_left : (l : List EntryNote) (b : Bool) → b ≡ nat_eq (length l) 0 → b ≡ true → l ≡ []
+none_left l b is empty = nil_from_length l (eqb-true (length l) 0 (sym is ∙ empty))
+
+-- where nothing is left, no more was seen
+pub seen_no_more : (t m above seat b : ℕ) (held left : List EntryNote) (h after : Hands)
+    → (H : HasRead t m above seat h)
+    → after.reading ≡ Some (box_seen (box_read b held H.read)) → IsTrimmed above held left
+    → left ≡ [] → (p q : FlushRead) → h.reading ≡ Some p → after.reading ≡ Some q
+    → q.seen ≡ p.seen
+seen_no_more t m above seat b held left h after H is T void p q was has =
+    sym (seen_is t m above seat b held left h after H is T q has)
+    ∙ (ap (λ l. H.read.seen ++ filter (λ (n : EntryNote). nat_lt above n.end.0) l) void
+    ∙ (append-nil H.read.seen
+    ∙ ap (λ (r : FlushRead). r.seen) (same_Some H.read p (sym H.reads ∙ was))))

@@ -38,3 +38,4 @@ pub mod FlushTaking
 pub mod FlushBarring
 pub mod FlushReading
 pub mod FlushRetires
+pub mod SwitchGoes

@@ -1,5 +1,5 @@
 -- The steps of a flush, and what its seat makes by them.
-use Rattle.std.specs.Prelude.{◌≡◌, ◌⊎◌, ℕ, suc, List, [], ◌∷◌, ◌++◌, Bool}
+use Rattle.std.specs.Prelude.{◌≡◌, ◌⊎◌, ℕ, suc, List, [], ◌∷◌, ◌++◌, Bool, false}
 use Rattle.path_core.specs.declared.event.ClaimKind.TheVariants.{Entry}
 use Rattle.path_core.specs.declared.event.Cursor.TheVariants.{OldestLive}
 use Rattle.path_core.specs.declared.event.Event.{Event}
@@ -65,6 +65,11 @@ abbrev pub SwitchesNone : List OwnStep → Type 0
 SwitchesNone [] = Unit {0}
 SwitchesNone (t ∷ ts) = LeavesMemtables t.event × SwitchesNone ts
 
+-- Seat w went from one view to another by steps of a flush, of which none is one of a switch.
+pub record QuietSteps (w : ℕ) (v after : View) : Type 0 where
+  pub made : FlushSteps w v after
+  pub none : SwitchesNone made.steps
+
 -- ---- a memtable is retired
 
 -- the step by which seat w retires it, with a table file or without
@@ -83,3 +88,7 @@ pub record Retires (w t m : ℕ) (filed : Bool) (v after : View) : Type 0 where
   pub read : FlushRead
   pub sees : SeesAll before.size.seats before.hands t m read
   pub put : HasGrown (retiring w t m filed ∷ before.trail) after.trail
+
+-- It saw nothing in it, and gave no table file.
+abbrev pub RetiresEmpty : ℕ → ℕ → ℕ → View → View → Type 0
+RetiresEmpty w t m v after = (r : Retires w t m false v after) × (r.read.seen ≡ [])

@@ -2,7 +2,8 @@
 use Rattle.std.specs.Prelude.{◌≡◌, ◌≢◌, ℕ, ◌+◌, ◌<◌, ◌≤◌, List, [], Some, None, IsTrue, is_some}
 use Rattle.atomic_table.specs.Table.{Me}
 use Rattle.op_core.specs.declared.count.Order.TheVariants.{Write}
-use Rattle.path_core.specs.declared.event.Place.TheVariants.{Newest}
+use Rattle.path_core.specs.declared.event.Cursor.TheVariants.{OldestLive}
+use Rattle.path_core.specs.declared.event.Place.TheVariants.{CursorWord, Newest}
 use Rattle.path_core.specs.declared.seat.Seat.{Seat}
 use Rattle.path_core.specs.declared.seat.Switching.TheVariants.{WithBarrier}
 use Rattle.path_core.specs.declared.state.Bound.TheVariants.{Final}
@@ -17,7 +18,7 @@ use Rattle.path_rule.specs.Layout.{memtable_rows}
 use Rattle.path_rule.specs.Switches.{FlushNewest, FlushOldest}
 use Rattle.write_path.specs.declared.flush_turn.Memtables.{Memtables}
 use Rattle.write_path.specs.declared.flush_turn.Memtables.TheVariants.{Left, Full, Free}
-use Rattle.write_path.specs.FlushSteps.{FlushSteps}
+use Rattle.write_path.specs.FlushSteps.{QuietSteps}
 
 -- It has the Flush turn of a table that there is, and that of no other. It runs no write.
 pub record IsHolder (t : ℕ) (v : View) : Type 0 where
@@ -45,10 +46,11 @@ module _ {K : Type 0} where
 -- retired lies below the newest; or they are the same one, which is the last that has a word, or
 -- behind which there is a word for the next.
 abbrev pub FindsMemtables : ℕ → Memtables → View → View → ℕ → Type 0
-FindsMemtables t (Left m) v after w = (n : ℕ) × FlushOldest t after.part m
-    × FlushNewest t after.part n × (m ≢ n)
-FindsMemtables t (Full n) v after w = (s : FlushSteps w v after) × (n + 1 ≡ memtable_rows)
-    × Finds (Newest (record { 0 = t })) n s.steps
+FindsMemtables t (Left m) v after w = (s : QuietSteps w v after)
+    × Finds (CursorWord (OldestLive (record { 0 = t }))) m s.made.steps
+    × ((n : ℕ) × Finds (Newest (record { 0 = t })) n s.made.steps × (m ≢ n))
+FindsMemtables t (Full n) v after w = (s : QuietSteps w v after) × (n + 1 ≡ memtable_rows)
+    × Finds (Newest (record { 0 = t })) n s.made.steps
 FindsMemtables t (Free n) v after w = FlushOldest t after.part n × FlushNewest t after.part n
     × (n + 1 < memtable_rows)
 

@@ -14,8 +14,8 @@ pub mod Commits
 pub mod Receipts
 pub mod Promised
 pub mod FlushSteps
-pub mod Flushed
-pub mod FlushedRows
+pub mod Switched
+pub mod SwitchedRows
 pub mod FlushTurns
 pub mod FlushSwitches
 pub mod FlushReads

@@ -1,5 +1,5 @@
-//! A flush reads what was written to a memtable behind its barrier, from the boxes of all seats,
-//! and gathers the cells of its table. What a retired memtable left in front in a box goes then.
+//! What was written to a memtable is read behind its barrier, in the boxes of all seats. What a
+//! retired memtable left in front in a box goes then.
 ghost use Rattle.std.specs.Prelude.{
   ◌≡◌,
   ℕ,
@@ -10,15 +10,13 @@ ghost use Rattle.std.specs.Prelude.{
   true,
   List,
   [],
-  IfSome,
   None,
-  OnOk,
   Some,
 };
-ghost use Rattle.clog_memtable.specs.Gathering.{IsGathered};
 ghost use Rattle.path_core.specs.declared.note.EntryNote.{EntryNote};
 ghost use Rattle.path_rule.specs.declared.view.FlushRead.{FlushRead};
 ghost use Rattle.path_rule.specs.Boxes.{memtable_box};
+ghost use Rattle.path_rule.specs.Flushes.{SeesNone};
 ghost use Rattle.path_rule.specs.Members.{view_of, part_of, hands_of, boxes_of, IsOf};
 ghost use Rattle.path_rule.specs.Switches.{FlushOldest, MayBeginRead};
 ghost use Rattle.path_rule.specs.Trimmed.{IsTrimmed};
@@ -26,9 +24,7 @@ ghost use Rattle.write_path.specs.FlushReads.{HasRead, ReadSteps};
 ghost use Rattle.write_path.specs.Tries.{Stays};
 
 use crate::seats::WritePath;
-use clog_base::{Key, OutOfMemory, Table};
-use clog_cells::CellMap;
-use clog_memtable::gather;
+use clog_base::{Key, Table};
 use path_core::{EntryNote, Keeper};
 use path_rule::Member;
 use std::alloc::{Allocator, Global};
@@ -68,7 +64,12 @@ fn box_number(seats: u64, seat: u64, table: Table, memtable: u64) -> usize
 impl<K: Keeper, A: Allocator> WritePath<K, A> {
     // Begins to read the memtable behind its passed barrier. Returns the key above which its
     // interval begins.
-    fn start_read(&self, member: Member<K>, table: Table, memtable: u64) -> (Member<K>, Key)
+    pub(crate) fn start_read(
+        &self,
+        member: Member<K>,
+        table: Table,
+        memtable: u64,
+    ) -> (Member<K>, Key)
         requires table { IsOf self.now.table.table.shared.table_id self.now.table.size member }
         requires there { (table.0 < self.now.table.size.tables) × (memtable < 256) }
         requires stage { MayBeginRead table.0 (view_of member) memtable }
@@ -85,8 +86,8 @@ impl<K: Keeper, A: Allocator> WritePath<K, A> {
         (member, Key(above))
     }
 
-    // Reads the box of the next seat, and gathers the cells of the table that it has, but for what
-    // a retired memtable left. Where memory is refused the box is at home again too.
+    // Reads the box of the next seat. It answers whether nothing lies there but what a retired
+    // memtable left. It takes no memory.
     fn read_box(
         &self,
         alloc: Global,
@@ -95,42 +96,39 @@ impl<K: Keeper, A: Allocator> WritePath<K, A> {
         memtable: u64,
         above: Key,
         seat: u64,
-        cells: &mut CellMap,
-    ) -> (Member<K>, Result<(), OutOfMemory>)
+    ) -> (Member<K>, bool)
         requires table { IsOf self.now.table.table.shared.table_id self.now.table.size member }
         requires there { (table.0 < self.now.table.size.tables) × (memtable < 256)
             × (seat < self.now.table.size.seats) }
         requires reads { HasRead table.0 memtable above.0 seat (hands_of member) }
-        requires gathered { (q : FlushRead) → (hands_of member).reading ≡ Some q
-            → IsGathered table q.seen cells.old }
         ensures same { Stays self.now.table.table.shared.table_id self.now.table.size member
             result.0 × (boxes_of result.0 ≡ boxes_of member) }
         ensures steps { ReadSteps member.number table.0 (view_of member) (view_of result.0) }
         ensures reads { HasRead table.0 memtable above.0 (suc seat) (hands_of result.0) }
-        ensures gathered { OnOk result.1 ((q : FlushRead) → (hands_of result.0).reading ≡ Some q
-            → IsGathered table q.seen cells.new) }
+        ensures void { (p q : FlushRead) → (hands_of member).reading ≡ Some p
+            → (hands_of result.0).reading ≡ Some q → result.1 ≡ true → q.seen ≡ p.seen }
     {
         let mut member = member;
         self.table.take_read(&mut member, table);
         let number = box_number(self.table.size().seats, seat, table, memtable);
         let (member, mut notes) = self.table.lend_read(alloc, member, number);
         trim(&mut notes, above);
-        let done = gather(alloc, cells, table, above, &notes);
+        let empty = notes.is_empty();
         let mut member = self.table.return_read(member, number, notes);
         self.table.give_read(&mut member, table);
-        (member, done)
+        (member, empty)
     }
 
-    // Reads the boxes of all seats, and gathers the cells of the table that they have. `None` where
-    // memory is refused.
-    fn read_boxes(
+    // Reads the boxes of all seats, until something is seen in one. It answers whether nothing was
+    // seen in any. It takes no memory.
+    pub(crate) fn read_boxes(
         &self,
         alloc: Global,
         member: Member<K>,
         table: Table,
         memtable: u64,
         above: Key,
-    ) -> (Member<K>, Option<CellMap>)
+    ) -> (Member<K>, bool)
         requires table { IsOf self.now.table.table.shared.table_id self.now.table.size member }
         requires there { (table.0 < self.now.table.size.tables) × (memtable < 256) }
         requires reads { HasRead table.0 memtable above.0 0 (hands_of member) }
@@ -139,21 +137,17 @@ impl<K: Keeper, A: Allocator> WritePath<K, A> {
             result.0 × (boxes_of result.0 ≡ boxes_of member) }
         ensures steps { ReadSteps member.number table.0 (view_of member) (view_of result.0) }
         ensures reads { (count : ℕ) × HasRead table.0 memtable above.0 count (hands_of result.0) }
-        ensures all { IfSome result.1 (λ cells. HasRead table.0 memtable above.0
-            self.now.table.size.seats (hands_of result.0) × ((q : FlushRead)
-            → (hands_of result.0).reading ≡ Some q → IsGathered table q.seen cells)) }
+        ensures all { result.1 ≡ true → SeesNone self.now.table.size.seats (hands_of result.0)
+            table.0 memtable }
     {
         let mut member = member;
-        let mut cells = CellMap::new(alloc);
         for seat in 0..self.table.size().seats {
-            let (next, done) = self.read_box(
-                alloc, member, table, memtable, above, seat, &mut cells,
-            );
+            let (next, empty) = self.read_box(alloc, member, table, memtable, above, seat);
             member = next;
-            if done.is_err() {
-                return (member, None);
+            if !empty {
+                return (member, false);
             }
         }
-        (member, Some(cells))
+        (member, true)
     }
 }

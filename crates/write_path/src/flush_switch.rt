@@ -41,7 +41,7 @@ impl<K: Keeper, A: Allocator> WritePath<K, A> {
     // Switches the table's memtables and waits for the barrier, unless the last group of the write
     // order that there is a word for is the current one: then nothing is switched, and it answers
     // `None`. No clause says that it returns.
-    fn switch_table<R: Wait>(
+    pub(crate) fn switch_table<R: Wait>(
         &self,
         rt: &R,
         member: Member<K>,

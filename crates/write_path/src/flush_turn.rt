@@ -11,7 +11,7 @@ ghost use Rattle.path_rule.specs.Members.{view_of, part_of, hands_of, IsOf, Step
 ghost use Rattle.path_rule.specs.Rounds.{RoundSteps};
 ghost use Rattle.path_rule.specs.Switches.{MayGiveFlush};
 ghost use Rattle.path_rule.specs.SyncAnswers.{KnowsMarker};
-ghost use Rattle.write_path.specs.FlushSteps.{FlushSteps};
+ghost use Rattle.write_path.specs.FlushSteps.{QuietSteps};
 ghost use Rattle.write_path.specs.FlushTurns.{FindsMemtables, HoldsBoth, HoldsTable};
 ghost use Rattle.write_path.specs.Tries.{Stays};
 
@@ -29,7 +29,7 @@ const MEMTABLES: u64 = 256;
 /// Which memtables a table has, as the holder of its Flush turn finds.
 #[derive(Clone, Copy, Drop)]
 pub enum Memtables {
-    /// An earlier flush left this one: it is final, and not retired.
+    /// An earlier switch left this one: it is final, and not retired.
     Left(u64),
     /// This one is the newest, and no other is in use. There is no word for a further one.
     Full(u64),
@@ -40,7 +40,11 @@ pub enum Memtables {
 impl<K: Keeper, A: Allocator> WritePath<K, A> {
     // Takes a table's Flush turn, where nobody has it. A refused seat only looked, and found the
     // turn's word 1.
-    fn take_table(&self, seat: PathSeat<K>, table: Table) -> Result<Member<K>, (PathSeat<K>, u64)>
+    pub(crate) fn take_table(
+        &self,
+        seat: PathSeat<K>,
+        table: Table,
+    ) -> Result<Member<K>, (PathSeat<K>, u64)>
         requires table { IsOf self.now.table.table.shared.table_id self.now.table.size seat.member }
         requires there { table.0 < self.now.table.size.tables }
         ensures same { MatchResult result
@@ -48,7 +52,7 @@ impl<K: Keeper, A: Allocator> WritePath<K, A> {
             (λ r. Stays self.now.table.table.shared.table_id self.now.table.size seat.member
             r.0.member) }
         ensures step { MatchResult result
-            (λ m. FlushSteps seat.member.number (view_of seat.member) (view_of m))
+            (λ m. QuietSteps seat.member.number (view_of seat.member) (view_of m))
             (λ r. (r.1 ≡ 1)
             × Stepped seat.member (Look seat.member.number (TurnWord (Flush table))) r.1
             r.0.member) }
@@ -65,12 +69,12 @@ impl<K: Keeper, A: Allocator> WritePath<K, A> {
     }
 
     // Which memtables the table has.
-    fn look_memtables(&self, member: &mut Member<K>, table: Table) -> Memtables
+    pub(crate) fn look_memtables(&self, member: &mut Member<K>, table: Table) -> Memtables
         requires table { IsOf self.now.table.table.shared.table_id self.now.table.size member.old }
         requires holds { HoldsTable table.0 member.old.seat.me }
         ensures same { Stays self.now.table.table.shared.table_id self.now.table.size member.old
             member.new }
-        ensures steps { FlushSteps member.old.number (view_of member.old) (view_of member.new) }
+        ensures steps { QuietSteps member.old.number (view_of member.old) (view_of member.new) }
         ensures holds { HoldsTable table.0 member.new.seat.me }
         ensures stage { stage_of (part_of member.new) table.0
             ≡ stage_of (part_of member.old) table.0 }
@@ -90,7 +94,12 @@ impl<K: Keeper, A: Allocator> WritePath<K, A> {
 
     // Takes the Sync turn beside the table's, with the desk, and waits while another seat has it.
     // No clause says that it returns.
-    fn take_sync_beside<R: Wait>(&self, rt: &R, member: Member<K>, table: Table) -> Member<K>
+    pub(crate) fn take_sync_beside<R: Wait>(
+        &self,
+        rt: &R,
+        member: Member<K>,
+        table: Table,
+    ) -> Member<K>
         requires table { IsOf self.now.table.table.shared.table_id self.now.table.size member }
         requires holds { HoldsTable table.0 member.seat.me }
         ensures same { Stays self.now.table.table.shared.table_id self.now.table.size member
@@ -120,7 +129,7 @@ impl<K: Keeper, A: Allocator> WritePath<K, A> {
         requires through { MayGiveFlush table.0 (view_of member) }
         ensures same { Stays self.now.table.table.shared.table_id self.now.table.size member
             result.member }
-        ensures steps { FlushSteps member.number (view_of member) (view_of result.member) }
+        ensures steps { QuietSteps member.number (view_of member) (view_of result.member) }
         ensures stopped { (part_of result.member).found.stopped ≡ (part_of member).found.stopped }
     {
         let mut member = member;

@@ -1,6 +1,6 @@
 //! The write path as its callers use it: a path is opened, its seats are handed out, and it is
 //! closed; what a write takes before it commits, so that a periodic commit takes no memory; commits
-//! and syncs; and the single tries of a write.
+//! and syncs; switches of a table's memtable; and the single tries of a write.
 #![tactic(auto)]
 
 mod accepting;
@@ -17,8 +17,6 @@ mod deposited;
 mod depositing;
 mod fault;
 mod finishing;
-mod flush;
-mod flush_laws;
 mod flush_reading;
 mod flush_retire;
 mod flush_switch;
@@ -28,6 +26,9 @@ mod opening;
 mod prepared;
 mod resting;
 mod seats;
+mod switch;
+mod switch_laws;
+mod switching;
 mod syncing;
 mod turning;
 mod writing;
@@ -39,8 +40,6 @@ pub use closing::Outcome;
 pub use commit::{Commit, Receipt, SyncFault};
 pub use deposited::Deposited;
 pub use fault::PrepareFault;
-pub use flush::{Flush, Row};
-pub use flush_laws::what_a_flush_tells;
 pub use laws::{
     note_laws, rows_need_many_writes, what_a_sync_reaches, what_close_keeps, what_seals_a_write,
     what_spends_a_path, where_a_log_begins,
@@ -48,5 +47,7 @@ pub use laws::{
 pub use path_rule::{Advance, Begun, PathSeat, Seen, SyncAnswer};
 pub use prepared::Prepared;
 pub use seats::{Appending, WritePath};
+pub use switch::{Row, Switch};
+pub use switch_laws::what_a_switch_tells;
 pub use turning::TurnSeat;
 pub use writing::Written;

@@ -18,18 +18,21 @@ leave_both-requires-clause-through g c = let P = c.requires.passed in
 
 pub returns-clause-steps : goal.returns-clause-steps
 returns-clause-steps g c = let R = c.retire_read-member.ensures in
-    next c.args.member.number _ _ _ _ R.same.1 R.steps c.leave_both.ensures.steps
+    next c.args.member.number _ _ _ _ R.same.1 R.steps c.leave_both.ensures.steps.made
 
 pub returns-clause-retires : goal.returns-clause-retires
-returns-clause-retires g c = let R = c.retire_read-member.ensures.retires in
-    let L = c.leave_both.ensures.steps in record {
-      before = R.before;
-      since = R.since;
-      read = R.read;
-      sees = R.sees;
-      put = record {
-        newer = L.steps ++ R.put.newer;
-        is = L.trail ∙ (ap (λ (l : List OwnStep). L.steps ++ l) R.put.is
-            ∙ sym (append_assoc L.steps R.put.newer _));
-      };
-    }
+returns-clause-retires g c = let E = c.retire_read-member.ensures.retires in let R = E.0 in
+    let L = c.leave_both.ensures.steps.made in (
+      record {
+        before = R.before;
+        since = R.since;
+        read = R.read;
+        sees = R.sees;
+        put = record {
+          newer = L.steps ++ R.put.newer;
+          is = L.trail ∙ (ap (λ (l : List OwnStep). L.steps ++ l) R.put.is
+              ∙ sym (append_assoc L.steps R.put.newer _));
+        };
+      },
+      E.1,
+    )

@@ -24,10 +24,8 @@ use Rattle.path_rule.specs.Flushes.{next_box}
 use Rattle.path_rule.specs.HandsAfter.{box_read, box_seen, with_reading}
 use Rattle.path_rule.specs.Told.{CarriesNotes}
 use Rattle.path_rule.specs.Trimmed.{IsTrimmed}
-use Rattle.clog_memtable.specs.Gathering.{IsGathered}
 use Rattle.write_path.proofs.FlushReadSteps.{on_read, then_read}
-use Rattle.write_path.proofs.FlushReading.{carried, on_ok, one_seen, seen_is, the_box}
-use Rattle.write_path.proofs.FlushTrims.{left_held}
+use Rattle.write_path.proofs.FlushReading.{carried, none_left, one_seen, seen_no_more, the_box}
 use Rattle.write_path.proofs.seats.WritePath.read_box.Goals as goal
 
 pub take_read-requires-clause-reads : goal.take_read-requires-clause-reads
@@ -51,23 +49,6 @@ lend_read-member-requires-clause-held g c = let H = c.requires.reads in
           ∙ (ap (λ (z : PathSize). memtable_box z.seats c.args.seat c.args.table.0 c.args.memtable)
           (sym c.size.ensures) ∙ sym c.box_number-number.ensures)),
     )
-
-pub gather-done-requires-clause-gathered : goal.gather-done-requires-clause-gathered
-gather-done-requires-clause-gathered g c = let H = c.requires.reads in
-    (H.read.seen, c.requires.gathered H.read H.reads)
-
-pub gather-done-requires-clause-whole : goal.gather-done-requires-clause-whole
-gather-done-requires-clause-whole g c = let H = c.requires.reads in
-    let D = c.take_read.ensures.step H.read H.reads in
-    let lent = c.lend_read-member.ensures.notes D.0
-    (carried c.args.member.seat.me c.take_read.new.member.seat.me _ c.box_number-number.result D.0
-    D.2 (the_box c.args.self.now.table.size.seats c.args.table.0 c.args.memtable c.args.above.0
-    c.args.seat c.args.member.seat.me.0.hands H
-    ∙ (ap (λ (z : PathSize). memtable_box z.seats c.args.seat c.args.table.0 c.args.memtable)
-    (sym c.size.ensures) ∙ sym c.box_number-number.ensures))) in
-    let T = subst (λ (l : List EntryNote). IsTrimmed c.args.above.0 l c.trim.new.notes) lent
-    c.trim.ensures in
-    λ n h. D.2.3 n (left_held c.args.above.0 D.0 c.trim.new.notes T n h)
 
 pub give_read-requires-clause-reads : goal.give_read-requires-clause-reads
 give_read-requires-clause-reads g c = let H = c.requires.reads in
@@ -135,8 +116,8 @@ returns-clause-reads g c = let H = c.requires.reads in
     c.args.member.seat.me.0.hands c.give_read.new.member.seat.me.0.hands H
     (ap (λ (u : View). u.hands.reading) d.view)
 
-pub returns-clause-gathered : goal.returns-clause-gathered
-returns-clause-gathered g c = let H = c.requires.reads in
+pub returns-clause-void : goal.returns-clause-void
+returns-clause-void g c = let H = c.requires.reads in
     let D = c.take_read.ensures.step H.read H.reads in let L = c.lend_read-member.ensures in
     let R = c.return_read-member.ensures in
     let seats = c.args.self.now.table.size.seats in let b = next_box seats H.read in
@@ -150,9 +131,7 @@ returns-clause-gathered g c = let H = c.requires.reads in
     let T = subst (λ (l : List EntryNote). IsTrimmed c.args.above.0 l left) lent c.trim.ensures in
     let d = c.give_read.ensures.step (box_read b D.0 H.read)
     (ap (λ (u : View). u.hands.reading) (R.same.1 ∙ (L.same.1 ∙ D.1.view))) in
-    on_ok c.gather-done.result _ _ (λ G q has. subst (λ (l : List EntryNote).
-    IsGathered c.args.table l c.gather-done.new.cells)
-    (seen_is c.args.table.0 c.args.memtable c.args.above.0 c.args.seat b D.0 left
-    c.args.member.seat.me.0.hands c.give_read.new.member.seat.me.0.hands H
-    (ap (λ (u : View). u.hands.reading) d.view) T q has) G)
-    (c.gather-done.ensures H.read.seen (c.requires.gathered H.read H.reads))
+    λ p q was has empty. seen_no_more c.args.table.0 c.args.memtable c.args.above.0 c.args.seat b
+    D.0 left c.args.member.seat.me.0.hands c.give_read.new.member.seat.me.0.hands H
+    (ap (λ (u : View). u.hands.reading) d.view) T
+    (none_left left c.is_empty-empty.result c.is_empty-empty.ensures empty) p q was has

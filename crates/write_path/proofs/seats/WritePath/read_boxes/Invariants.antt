@@ -1,5 +1,4 @@
-use Rattle.std.proofs.Common.{◌≡◌, ℕ, Some}
-use Rattle.clog_memtable.specs.Gathering.{IsGathered}
+use Rattle.std.proofs.Common.{◌≡◌, ℕ, [], Some}
 use Rattle.path_rule.specs.declared.view.FlushRead.{FlushRead}
 use Rattle.write_path.specs.FlushReads.{HasRead, ReadSteps}
 use Rattle.write_path.specs.Tries.{Stays}
@@ -11,6 +10,5 @@ invariant-loop-seat g l = let first = l.fn.member in record {
   boxes : l.member.seat.me.1 ≡ first.seat.me.1;
   steps : ReadSteps first.number l.fn.table.0 first.seat.me.0 l.member.seat.me.0;
   reads : HasRead l.fn.table.0 l.fn.memtable l.fn.above.0 l.seat l.member.seat.me.0.hands;
-  gathered : (q : FlushRead) → l.member.seat.me.0.hands.reading ≡ Some q
-      → IsGathered l.fn.table q.seen l.cells;
+  void : (q : FlushRead) → l.member.seat.me.0.hands.reading ≡ Some q → q.seen ≡ [];
 }

@@ -45,18 +45,21 @@ returns-clause-unread g c = ap (λ (u : View). u.hands.reading) c.retire_empty.e
 pub returns-clause-retires : goal.returns-clause-retires
 returns-clause-retires g c = let m = c.args.member in let S = c.requires.sees in
     let w = m.number in let t = c.args.table in let k = c.args.memtable in
-    let more : k + 1 ≡ suc k = omega arith in record {
-      before = m.seat.me.0;
-      since = record { newer = []; is = refl };
-      read = S.0;
-      sees = (S.1, S.2, S.3, S.4, S.5 ∙ sym (ap (λ z. z.seats) c.requires.table.1));
-      put = record {
-        newer = [];
-        is = ap (λ (u : View). u.trail) c.retire_empty.ensures.step.view
-            ∙ ap (λ (n : ℕ). record {
-              event = Put w (OldestLive t) n;
-              found = n;
-              filed = false;
-            } ∷ m.seat.me.0.trail) more;
-      };
-    }
+    let more : k + 1 ≡ suc k = omega arith in (
+      record {
+        before = m.seat.me.0;
+        since = record { newer = []; is = refl };
+        read = S.0;
+        sees = (S.1, S.2, S.3, S.4, S.5 ∙ sym (ap (λ z. z.seats) c.requires.table.1));
+        put = record {
+          newer = [];
+          is = ap (λ (u : View). u.trail) c.retire_empty.ensures.step.view
+              ∙ ap (λ (n : ℕ). record {
+                event = Put w (OldestLive t) n;
+                found = n;
+                filed = false;
+              } ∷ m.seat.me.0.trail) more;
+        };
+      },
+      S.6,
+    )

@@ -9,7 +9,11 @@ use Rattle.write_path.proofs.seats.WritePath.take_table.Goals as goal
 pub returns-then-found-eq0-clause-step : goal.returns-then-found-eq0-clause-step
 returns-then-found-eq0-clause-step g c = let w = c.args.seat.member.number in
     let D = c.take_flush-found.ensures.hit c.if-found-eq0.true in
-    one w (TakeTurn w (Flush c.args.table)) 1 _ _ _ refl (record { view = D.view; was = D.was })
+    record {
+      made = one w (TakeTurn w (Flush c.args.table)) 1 _ _ _ refl
+          (record { view = D.view; was = D.was });
+      none = (tt, tt);
+    }
 
 pub returns-then-found-eq0-clause-holds : goal.returns-then-found-eq0-clause-holds
 returns-then-found-eq0-clause-holds g c = let seat = c.args.seat in

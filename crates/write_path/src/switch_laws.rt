@@ -1,15 +1,15 @@
-//! What the answers of a flush say, on worked rows. Nothing here runs.
+//! What the answers of a switch say, on worked rows. Nothing here runs.
 ghost use Rattle.std.specs.Prelude.{◌≡◌, ℕ, ◌++◌, List};
 ghost use Rattle.path_rule.specs.declared.view.OwnStep.{OwnStep};
 ghost use Rattle.path_rule.specs.Calls.{acts};
 ghost use Rattle.write_path.specs.Ends.{writes_of};
-ghost use Rattle.write_path.specs.declared.flush.Row.TheVariants.{Memtables};
-ghost use Rattle.write_path.specs.Flushed.{FindsLast};
-ghost use Rattle.write_path.specs.FlushedRows.{found_newest, found_taken, switched_at};
+ghost use Rattle.write_path.specs.declared.switch.Row.TheVariants.{Memtables};
+ghost use Rattle.write_path.specs.Switched.{FindsLast};
+ghost use Rattle.write_path.specs.SwitchedRows.{found_newest, found_taken, switched_at};
 ghost use Rattle.write_path.specs.FlushSteps.{AreFlushSteps, Finalises, SwitchesNone};
 
-/// What the steps of a flush tell.
-pub fn what_a_flush_tells()
+/// What the steps of a switch tell.
+pub fn what_a_switch_tells()
     // A switch behind an entry of 32 bytes, at [28, 60), makes memtable 0 final at 60, and at no
     // other key; behind a marker the next one is final at 68.
     ensures first { Finalises 0 0 0 60 (switched_at 0 60) }

@@ -1,4 +1,4 @@
--- Worked rows of flushes of table 0 by seat 0: the steps, the newest first.
+-- Worked rows of switches of table 0 by seat 0: the steps, the newest first.
 use Rattle.std.specs.Prelude.{ℕ, ◌+◌, ◌^◌, false, List, [], ◌∷◌}
 use Rattle.path_core.specs.declared.event.Event.TheVariants.{Look, Switch, Raise, Finalise}
 use Rattle.path_core.specs.declared.event.Place.TheVariants.{Log, Newest, TurnWord}

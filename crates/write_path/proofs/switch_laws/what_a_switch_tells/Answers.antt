@@ -1,5 +1,5 @@
 use Rattle.std.proofs.Common.{◌≡◌, ℕ, ⊎_elim, inl, refl, sym, arith}
-use Rattle.write_path.proofs.flush_laws.what_a_flush_tells.Goals as goal
+use Rattle.write_path.proofs.switch_laws.what_a_switch_tells.Goals as goal
 
 pub returns-clause-first : goal.returns-clause-first
 returns-clause-first c = inl (refl, refl, refl, refl)
