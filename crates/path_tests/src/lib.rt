@@ -24,6 +24,8 @@ mod rows;
 #[cfg(test)]
 mod stopping;
 #[cfg(test)]
+mod switches;
+#[cfg(test)]
 mod syncs;
 #[cfg(test)]
 mod turns;
