@@ -82,7 +82,7 @@ payload_is payload =
     ∙ take-append-le (length payload) payload check (omega arith)
     ∙ take_all (length payload) payload (omega arith)
 
-one_of : (a b : EntryNote) → a ≡ b → (w : IsWhole a) (v : IsWhole b) → w.mutation ≡ v.mutation
+pub one_of : (a b : EntryNote) → a ≡ b → (w : IsWhole a) (v : IsWhole b) → w.mutation ≡ v.mutation
 one_of a b same w v =
     one_mutation w.mutation v.mutation w.stored v.stored
     (sym (payload_is (payload_of w.mutation))

@@ -1,3 +1,4 @@
 pub mod Filling
 pub mod Flushing
+pub mod Gathering
 pub mod Touched

@@ -4,11 +4,13 @@
 
 mod filling;
 mod flushing;
+mod gathering;
 mod memtable;
 mod memtables;
 #[cfg(test)]
 mod tests;
 
 pub use flushing::{Memtable, flush_all};
+pub use gathering::gather;
 pub use memtable::{Interval, cells_within};
 pub use memtables::memtables_of;

@@ -29,3 +29,13 @@ pub mod Acknowledged
 pub mod Promises
 pub mod Spending
 pub mod FlushHeld
+pub mod FlushGoes
+pub mod FlushTables
+pub mod FlushReadSteps
+pub mod FlushTrims
+pub mod FlushSwitching
+pub mod FlushTaking
+pub mod FlushBarring
+pub mod FlushReading
+pub mod FlushRetires
+pub mod SwitchGoes

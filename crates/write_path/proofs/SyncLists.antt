@@ -187,7 +187,8 @@ looked_trail w key v after L = subst (λ (l : List OwnStep). Finds Log key l)
 
 -- A seat took the Sync turn, made a round of a sync, and gave the turn back.
 pub tried : (w z y opened : ℕ) (h k : Hands) (a : Option SyncAnswer) (v u x after : View)
-    → DidAs v w (TakeTurn w Sync) 1 h u → h.reading ≡ v.hands.reading → z ≡ w → MayAnswer z opened u a x → y ≡ w
+    → DidAs v w (TakeTurn w Sync) 1 h u → h.reading ≡ v.hands.reading → z ≡ w
+    → MayAnswer z opened u a x → y ≡ w
     → DidAs x y (GiveTurn y Sync) 0 k after → k.reading ≡ x.hands.reading
     → k.progress.marker ≡ x.hands.progress.marker
     → MayAnswer w opened v a after

@@ -13,3 +13,9 @@ pub mod Syncs
 pub mod Commits
 pub mod Receipts
 pub mod Promised
+pub mod FlushSteps
+pub mod Switched
+pub mod SwitchedRows
+pub mod FlushTurns
+pub mod FlushSwitches
+pub mod FlushReads

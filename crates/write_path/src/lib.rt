@@ -1,6 +1,6 @@
 //! The write path as its callers use it: a path is opened, its seats are handed out, and it is
 //! closed; what a write takes before it commits, so that a periodic commit takes no memory; commits
-//! and syncs; and the single tries of a write.
+//! and syncs; switches of a table's memtable; and the single tries of a write.
 #![tactic(auto)]
 
 mod accepting;
@@ -17,11 +17,18 @@ mod deposited;
 mod depositing;
 mod fault;
 mod finishing;
+mod flush_reading;
+mod flush_retire;
+mod flush_switch;
+mod flush_turn;
 mod laws;
 mod opening;
 mod prepared;
 mod resting;
 mod seats;
+mod switch;
+mod switch_laws;
+mod switching;
 mod syncing;
 mod turning;
 mod writing;
@@ -40,5 +47,7 @@ pub use laws::{
 pub use path_rule::{Advance, Begun, PathSeat, Seen, SyncAnswer};
 pub use prepared::Prepared;
 pub use seats::{Appending, WritePath};
+pub use switch::{Row, Switch};
+pub use switch_laws::what_a_switch_tells;
 pub use turning::TurnSeat;
 pub use writing::Written;

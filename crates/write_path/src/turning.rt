@@ -130,7 +130,7 @@ impl<K: Keeper, A: Allocator> WritePath<K, A> {
     }
 
     // Gives the Sync turn back, and the desk with it.
-    fn give_sync_turn(&self, member: Member<K>) -> PathSeat<K>
+    pub(crate) fn give_sync_turn(&self, member: Member<K>) -> PathSeat<K>
         requires table { IsOf self.now.table.table.shared.table_id self.now.table.size member }
         requires holds { HoldsSync (view_of member) }
         requires desk { HoldsDesk (shows_of K.holds) member }
@@ -144,7 +144,7 @@ impl<K: Keeper, A: Allocator> WritePath<K, A> {
     }
 
     // Gives a table's Flush turn back.
-    fn give_flush_turn(&self, member: Member<K>, table: Table) -> PathSeat<K>
+    pub(crate) fn give_flush_turn(&self, member: Member<K>, table: Table) -> PathSeat<K>
         requires table { IsOf self.now.table.table.shared.table_id self.now.table.size member }
         requires holds { HoldsFlush table.0 member.seat.me }
         ensures same { Stays self.now.table.table.shared.table_id self.now.table.size member

@@ -11,7 +11,8 @@ use Rattle.write_path.proofs.seats.WritePath.give_sync_turn.Goals as goal
 pub invariant_of-result : goal.invariant_of-result
 invariant_of-result g c = let m = c.args.member in let d = c.give_sync.ensures.step in
     let r = (one_as m.number (GiveTurn m.number Sync) 0 (unswept_hands m.seat.me.0.hands)
-    m.seat.me.0 c.give_sync.new.member.seat.me.0 refl d refl).rests c.requires.holds.rests in record {
+    m.seat.me.0 c.give_sync.new.member.seat.me.0 refl d refl).rests c.requires.holds.rests in
+    record {
       idle = r.idle;
       unclaimed = r.unclaimed;
       free = record { sync = ap (λ (v : View). v.part.sync) d.view; flush = r.flush };

@@ -1,0 +1,359 @@
+-- A switch of a table's memtable, put together from the steps of its parts.
+use Rattle.std.proofs.Common.{
+  ◌≡◌,
+  ◌≢◌,
+  ◌⊎◌,
+  inl,
+  inr,
+  ℕ,
+  suc,
+  ◌+◌,
+  ◌≤◌,
+  length,
+  false,
+  List,
+  [],
+  ◌∷◌,
+  ◌++◌,
+  Option,
+  Some,
+  None,
+  is_some,
+  refl,
+  sym,
+  ap,
+  ◌∙◌,
+  subst,
+  arith,
+}
+use Rattle.std.proofs.lemmas.List.{append_assoc}
+use Rattle.std.proofs.lemmas.Option.{none-some, same_Some}
+use Rattle.std.specs.List.{Contains}
+use Rattle.std.specs.Option.{MatchOption, option_map, option_map_or}
+use Rattle.atomic_table.specs.Table.{Me}
+use Rattle.clog_base.specs.declared.cell.Table.{Table}
+use Rattle.op_core.specs.declared.count.Order.TheVariants.{Write}
+use Rattle.path_core.specs.declared.event.Cursor.TheVariants.{OldestLive}
+use Rattle.path_core.specs.declared.event.Event.{Event}
+use Rattle.path_core.specs.declared.event.Event.TheVariants.{
+  Look,
+  Register,
+  Close,
+  OpenGroup,
+  MoveCurrent,
+  Expire,
+  Advance,
+  Claim,
+  Switch as SwitchStep,
+  Raise,
+  Finalise,
+  TakeTurn,
+  GiveTurn,
+  Put,
+}
+use Rattle.path_core.specs.declared.event.Place.TheVariants.{
+  Current,
+  CursorWord,
+  Newest,
+  TurnWord,
+}
+use Rattle.path_core.specs.declared.event.Turn.TheVariants.{Flush}
+use Rattle.path_core.specs.declared.note.EntryNote.{EntryNote}
+use Rattle.path_core.specs.declared.seat.FlushTurn.{FlushTurn}
+use Rattle.path_core.specs.declared.seat.Issue.TheVariants.{Rest}
+use Rattle.path_core.specs.declared.seat.Seat.{Seat}
+use Rattle.path_core.specs.declared.seat.SeatTable.{SeatTable}
+use Rattle.path_core.specs.declared.seat.Switching.{Switching}
+use Rattle.path_core.specs.declared.seat.Switching.TheVariants.{Settled}
+use Rattle.path_core.specs.declared.seat.SyncTurn.{SyncTurn}
+use Rattle.path_core.specs.Parts.{seat_table, stage_of}
+use Rattle.path_rule.specs.declared.lasting.Lasting.{Lasting}
+use Rattle.path_rule.specs.declared.slot.Slot.{Slot}
+use Rattle.path_rule.specs.declared.view.FlushRead.{FlushRead}
+use Rattle.path_rule.specs.declared.view.Hands.{Hands}
+use Rattle.path_rule.specs.declared.view.OwnStep.{OwnStep}
+use Rattle.path_rule.specs.declared.view.View.{View}
+use Rattle.path_rule.specs.Calls.{acts, Did, FoundSince, IsPast}
+use Rattle.path_rule.specs.Desks.{HasDesk}
+use Rattle.path_rule.specs.Rounds.{
+  AreRoundSteps,
+  IsQuiet,
+  IsQuietStage,
+  IsRoundStep,
+  RoundSteps,
+  WroteBelow,
+}
+use Rattle.path_rule.specs.Switches.{FlushNewest, FlushOldest}
+use Rattle.path_rule.proofs.seats.Answering.{found_after, found_before}
+use Rattle.write_path.specs.declared.flush_turn.Memtables.TheVariants.{Left as LeftOne, Full}
+use Rattle.write_path.specs.declared.switch.Row.TheVariants.{Memtables, WriteGroups}
+use Rattle.write_path.specs.declared.switch.Switch.{Switch}
+use Rattle.write_path.specs.declared.switch.Switch.TheVariants.{Empty, Left, Waits, Busy, Rows}
+use Rattle.write_path.specs.Ends.{writes_of}
+use Rattle.write_path.specs.FlushReads.{ReadSteps}
+use Rattle.write_path.specs.FlushSteps.{
+  Finalises,
+  FlushSteps,
+  LeavesMemtables,
+  QuietSteps,
+  RetiresEmpty,
+  SwitchesNone,
+}
+use Rattle.write_path.specs.FlushTurns.{FindsMemtables, HoldsBoth}
+use Rattle.write_path.specs.Switched.{HadTurn, IsSettled, IsSwitch, SetsBound, Switches}
+use Rattle.write_path.proofs.FlushBarring.{final_before, final_behind}
+use Rattle.write_path.proofs.FlushGoes.{next, of_round, one, same_list}
+use Rattle.write_path.proofs.SyncLists.{list_below}
+
+-- ---- what is so by cases of an answer
+
+pub on_none : {X : Type 0} (o : Option X) (N : Type 0) (S : X → Type 0) → o ≡ None
+    → MatchOption o N S → N
+on_none o N S is M = subst (λ x. MatchOption x N S) is M
+
+pub on_some : {X : Type 0} (o : Option X) (x : X) (N : Type 0) (S : X → Type 0) → o ≡ Some x
+    → MatchOption o N S → S x
+on_some o x N S is M = subst (λ y. MatchOption y N S) is M
+
+-- ---- what a seat with both turns knows behind steps of its reading
+
+module _ {K : Type 0} (shows : K → Lasting) where
+  pub both_read : (m m' : Me (Slot K) View) (w t : ℕ) → ReadSteps w t m.0 m'.0 → m'.1 ≡ m.1
+      → HoldsBoth shows t m → HoldsBoth shows t m'
+  both_read m m' w t R boxes H = record {
+    holder = R.holder H.holder;
+    gives = record {
+      holds = record {
+        held = ap (λ (o : Option SyncTurn). is_some o) R.sync ∙ H.gives.holds.held;
+        issue = ap (λ (o : Option SyncTurn). option_map_or (λ (turn : SyncTurn). turn.issue) o Rest)
+            R.sync ∙ H.gives.holds.issue;
+        empty = ap (λ (h : Hands). h.box_taken) R.hands ∙ H.gives.holds.empty;
+      };
+      unfiled = ap (λ (o : Option SyncTurn). option_map_or (λ (turn : SyncTurn). turn.filed) o
+          false) R.sync ∙ H.gives.unfiled;
+    };
+    desk = subst (λ (h : Hands). HasDesk shows h.lasting h.pending h.progress m'.1) (sym R.hands)
+        (subst (λ (l : List (ℕ × Slot K)).
+        HasDesk shows m.0.hands.lasting m.0.hands.pending m.0.hands.progress l) (sym boxes)
+        H.desk);
+  }
+
+pub past_read : (w t g : ℕ) (v after : View) → ReadSteps w t v after → IsPast Write v g
+    → IsPast Write after g
+past_read w t g v after R P = (P.0, (P.1.0, R.sync ∙ P.1.1, P.1.2), P.2)
+
+-- ---- what a holder of a table's turn knows whose tables' words stay
+
+pub newest_same : (t n : ℕ) (p q : Seat) → seat_table q t ≡ seat_table p t → FlushNewest t p n
+    → FlushNewest t q n
+newest_same t n p q same F = (F.0, ap (λ (st : SeatTable). st.flush) same ∙ F.1, F.2)
+
+pub oldest_same : (t n : ℕ) (p q : Seat) → seat_table q t ≡ seat_table p t → FlushOldest t p n
+    → FlushOldest t q n
+oldest_same t n p q same F = (F.0, ap (λ (st : SeatTable). st.flush) same ∙ F.1, F.2)
+
+abbrev stage_in : SeatTable → Option Switching
+stage_in st = option_map (λ (turn : FlushTurn). turn.stage) st.flush
+
+pub stage_same : (t : ℕ) (p q : Seat) → seat_table q t ≡ seat_table p t
+    → stage_of q t ≡ stage_of p t
+stage_same t p q same = ap (λ (st : SeatTable). stage_in st) same
+
+pub settled_quiet : (t : ℕ) (p : Seat) → stage_of p t ≡ Some Settled → IsQuiet (seat_table p t)
+settled_quiet t p is turn has = subst (λ (k : Switching). IsQuietStage k)
+    (same_Some Settled turn.stage
+    (sym is ∙ ap (λ (o : Option FlushTurn). option_map (λ (f : FlushTurn). f.stage) o) has)) tt
+
+-- ---- steps of which none is one of a switch
+
+pub none_both : (ts us : List OwnStep) → SwitchesNone ts → SwitchesNone us → SwitchesNone (ts ++ us)
+none_both [] us A B = B
+none_both (t ∷ ts) us A B = (A.0, none_both ts us A.1 B)
+
+abbrev pub then_quiet : (w z : ℕ) (v u after : View) → z ≡ w → QuietSteps w v u
+    → QuietSteps z u after → QuietSteps w v after
+then_quiet w z v u after same A B = record {
+  made = next w z v u after same A.made B.made;
+  none = none_both B.made.steps A.made.steps B.none A.none;
+}
+
+round_leaves : (w : ℕ) (e : Event) → IsRoundStep w e → LeavesMemtables e
+round_leaves w (Look by at) is = tt
+round_leaves w (OpenGroup by o g) is = tt
+round_leaves w (MoveCurrent by o g) is = tt
+round_leaves w (Expire by o g) is = tt
+round_leaves w (Advance by o g) is = tt
+round_leaves w (Claim by from to what) is = tt
+round_leaves w (TakeTurn by turn) is = tt
+round_leaves w (GiveTurn by turn) is = tt
+round_leaves w (Put by cursor value) is = tt
+round_leaves w (Register by o g) is = tt
+round_leaves w (Close by o g carried) is = tt
+round_leaves w (SwitchStep by t m part) is = absurd is
+round_leaves w (Raise by t m to) is = tt
+round_leaves w (Finalise by t m) is = absurd is
+
+pub round_none : (w : ℕ) (ts : List OwnStep) → AreRoundSteps w ts → SwitchesNone ts
+round_none w [] A = tt
+round_none w (t ∷ ts) A = (round_leaves w t.event A.0, round_none w ts A.1)
+
+abbrev pub quiet_round : (w : ℕ) (puts : List Event) (v after : View) → RoundSteps w puts v after
+    → QuietSteps w v after
+quiet_round w puts v after S = record {
+  made = of_round w puts v after S;
+  none = round_none w S.steps S.are;
+}
+
+-- ---- a memtable that was retired behind further steps
+
+pub retires_behind : (w z t m : ℕ) (v u after : View) → z ≡ w → FlushSteps w v u
+    → RetiresEmpty z t m u after → RetiresEmpty w t m v after
+retires_behind w z t m v u after same S R =
+    let E = subst (λ k. RetiresEmpty k t m u after) same R in (
+      record {
+        before = E.0.before;
+        since = record {
+          newer = E.0.since.newer ++ S.steps;
+          is = E.0.since.is ∙ (ap (λ (l : List OwnStep). E.0.since.newer ++ l) S.trail
+              ∙ sym (append_assoc E.0.since.newer S.steps v.trail));
+        };
+        read = E.0.read;
+        sees = E.0.sees;
+        put = E.0.put;
+      },
+      E.1,
+    )
+
+bound_set : (w t m key found : ℕ) (newer older : List OwnStep) (after : View) → found ≡ key
+    → Finalises w t m key older → WroteBelow key after.trail
+    → SetsBound w t m found (newer ++ older) after
+bound_set w t m key found newer older after is F W = record {
+  set = subst (λ k. Finalises w t m k (newer ++ older)) (sym is)
+      (final_behind w t m key newer older F);
+  covers = subst (λ k. (n : EntryNote) → Contains (writes_of after.trail) n → n.end.0 ≤ k) (sym is)
+      (list_below key after.trail W);
+}
+
+-- what is so of the memtable that was switched
+pub settled_is : (w z t m key : ℕ) (v u after : View) (a : Switch) (newer : List OwnStep)
+    (S : FlushSteps w v u) → z ≡ w → Finalises w t m key S.steps → WroteBelow key after.trail
+    → IsSettled z t m key u a after → IsSwitch w t v a (newer ++ S.steps) after
+settled_is w z t m key v u after (Empty found) newer S same F W I = (
+  m,
+  bound_set w t m key found.0 newer S.steps after I.0 F W,
+  retires_behind w z t m v u after same S I.1,
+)
+settled_is w z t m key v u after (Left found) newer S same F W I =
+    (m, bound_set w t m key found.0 newer S.steps after I F W)
+settled_is w z t m key v u after (Waits k) newer S same F W I = absurd I
+settled_is w z t m key v u after (Busy found) newer S same F W I = absurd I
+settled_is w z t m key v u after (Rows row made) newer S same F W I = absurd I
+
+-- ---- an answer behind steps that switched nothing
+
+bound_behind : (w t m key : ℕ) (newer older : List OwnStep) (after : View)
+    → SetsBound w t m key newer after → SetsBound w t m key (newer ++ older) after
+bound_behind w t m key newer older after B = record {
+  set = final_before w t m key newer older B.set;
+  covers = B.covers;
+}
+
+is_behind : (w t : ℕ) (v u after : View) (a : Switch) (steps : List OwnStep) (Q : QuietSteps w v u)
+    → HadTurn a → IsSwitch w t u a steps after → IsSwitch w t v a (steps ++ Q.made.steps) after
+is_behind w t v u after (Empty key) steps Q had I = (
+  I.0,
+  bound_behind w t I.0 key.0 steps Q.made.steps after I.1,
+  retires_behind w w t I.0 v u after refl Q.made I.2,
+)
+is_behind w t v u after (Left key) steps Q had I =
+    (I.0, bound_behind w t I.0 key.0 steps Q.made.steps after I.1)
+is_behind w t v u after (Waits m) steps Q had I = (
+  none_both steps Q.made.steps I.0 Q.none,
+  found_after (CursorWord (OldestLive (record { 0 = t }))) m steps Q.made.steps I.1,
+  (I.2.0, found_after (Newest (record { 0 = t })) I.2.0 steps Q.made.steps I.2.1, I.2.2),
+)
+is_behind w t v u after (Busy found) steps Q had I = absurd had
+is_behind w t v u after (Rows Memtables made) steps Q had I = (
+  I.0,
+  I.1,
+  (
+    I.2.0,
+    none_both steps Q.made.steps I.2.1 Q.none,
+    found_after (Newest (record { 0 = t })) I.0 steps Q.made.steps I.2.2,
+  ),
+)
+is_behind w t v u after (Rows WriteGroups made) steps Q had I = (
+  I.0,
+  I.1,
+  (
+    I.2.0,
+    none_both steps Q.made.steps I.2.1 Q.none,
+    found_after (Current Write) I.0 steps Q.made.steps I.2.2,
+  ),
+)
+
+pub behind : (w z t : ℕ) (v u after : View) (a : Switch) → z ≡ w → QuietSteps w v u → HadTurn a
+    → Switches z t u a after → Switches w t v a after
+behind w z t v u after a same Q had R = let S = subst (λ k. Switches k t u a after) same R in
+    let made = next w w v u after refl Q.made S.steps in record {
+      steps = made;
+      list = same_list w v after made;
+      is = is_behind w t v u after a S.steps.steps Q had S.is;
+    }
+
+-- ---- the answers by which nothing was switched
+
+pub busy_is : (w n : ℕ) (t : Table) (v after : View) → Did v w (Look w (TurnWord (Flush t))) n after
+    → n ≡ 1 → Switches w t.0 v (Busy n) after
+busy_is w n t v after d is = let e = Look w (TurnWord (Flush t)) in
+    let made = one w e n _ v after refl (record { view = d.view; was = d.was }) in record {
+      steps = made;
+      list = same_list w v after made;
+      is = (
+        is,
+        subst (λ (l : List OwnStep). FoundSince (length v.trail) (TurnWord (Flush t)) n l)
+            (sym made.trail) (inl (omega arith, refl, refl)),
+        ap acts made.trail,
+      );
+    }
+
+pub waits_is : (w z y t m : ℕ) (v u x after : View) → z ≡ w → y ≡ w → QuietSteps w v u
+    → FindsMemtables t (LeftOne m) u x z → QuietSteps y x after → Switches w t v (Waits m) after
+waits_is w z y t m v u x after first second T F L =
+    let Q = then_quiet w y v x after second (then_quiet w z v u x first T F.0) L in
+    let oldest = CursorWord (OldestLive (record { 0 = t })) in
+    let newest = Newest (record { 0 = t }) in record {
+      steps = Q.made;
+      list = same_list w v after Q.made;
+      is = (
+        Q.none,
+        found_before oldest m L.made.steps (F.0.made.steps ++ T.made.steps)
+            (found_after oldest m F.0.made.steps T.made.steps F.1),
+        (
+          F.2.0,
+          found_before newest F.2.0 L.made.steps (F.0.made.steps ++ T.made.steps)
+              (found_after newest F.2.0 F.0.made.steps T.made.steps F.2.1),
+          F.2.2,
+        ),
+      );
+    }
+
+pub full_is : (w z y t n : ℕ) (v u x after : View) → z ≡ w → y ≡ w → QuietSteps w v u
+    → FindsMemtables t (Full n) u x z → QuietSteps y x after
+    → Switches w t v (Rows Memtables (n + 1)) after
+full_is w z y t n v u x after first second T F L =
+    let Q = then_quiet w y v x after second (then_quiet w z v u x first T F.0) L in
+    let newest = Newest (record { 0 = t }) in let all = F.1 in record {
+      steps = Q.made;
+      list = same_list w v after Q.made;
+      is = (
+        n,
+        omega arith,
+        (
+          omega (arith, all),
+          Q.none,
+          found_before newest n L.made.steps (F.0.made.steps ++ T.made.steps)
+              (found_after newest n F.0.made.steps T.made.steps F.2),
+        ),
+      );
+    }

@@ -1,0 +1,23 @@
+use Rattle.std.proofs.Common.{◌≡◌, ◌+◌, ℕ, suc, ◌∙◌, subst, arith}
+use Rattle.write_path.specs.FlushReads.{HasRead}
+use Rattle.write_path.proofs.FlushReadSteps.{then_read}
+use Rattle.write_path.proofs.seats.WritePath.read_boxes.Goals as goal
+
+pub returns-then-not-empty-clause-steps : goal.returns-then-not-empty-clause-steps
+returns-then-not-empty-clause-steps g c = let I = c.loop-seat.invariant in
+    then_read c.args.member.number c.loop-seat.member.number c.args.table.0 _ _ _ I.stays.1 I.steps
+    c.read_box-next.ensures.steps
+
+pub loop-seat-preserved : goal.loop-seat-preserved
+loop-seat-preserved g c = let I = c.loop-seat.invariant in let B = c.read_box-next.ensures in
+    let s = c.loop-seat.seat in let up : suc s ≡ s + 1 = omega arith in record {
+      stays = (B.same.0.0, B.same.0.1 ∙ I.stays.1);
+      boxes = B.same.1 ∙ I.boxes;
+      steps = then_read c.args.member.number c.loop-seat.member.number c.args.table.0 _ _ _
+          I.stays.1 I.steps B.steps;
+      reads = subst (λ (k : ℕ). HasRead c.args.table.0 c.args.memtable c.args.above.0 k
+          c.read_box-next.result.0.seat.me.0.hands) up B.reads;
+      void = λ q has. let p = I.reads in
+          B.void p.read q p.reads has c.if-not-empty.false
+          ∙ I.void p.read p.reads;
+    }

@@ -1,0 +1,34 @@
+use Rattle.std.proofs.Common.{◌≡◌, ◌∙◌}
+use Rattle.write_path.proofs.SwitchGoes.{behind, busy_is, full_is, then_quiet, waits_is}
+use Rattle.write_path.proofs.seats.WritePath.switch.Goals as goal
+
+pub returns-in-Err-clause-switches : goal.returns-in-Err-clause-switches
+returns-in-Err-clause-switches g c = let step = c.in-Err.ensures.step in
+    busy_is c.args.seat.member.number c.in-Err.found c.args.table c.args.seat.member.seat.me.0
+    c.in-Err.seat.member.seat.me.0 step.1 step.0
+
+pub returns-in-Left-clause-switches : goal.returns-in-Left-clause-switches
+returns-in-Left-clause-switches g c = let O = c.in-Ok in let M = c.look_memtables in
+    let first = O.ensures.same.1 in
+    waits_is c.args.seat.member.number O.member.number M.new.member.number c.args.table.0
+    c.in-Left.memtable c.args.seat.member.seat.me.0 O.member.seat.me.0 M.new.member.seat.me.0
+    c.leave_table.result.member.seat.me.0 first (M.ensures.same.1 ∙ first) O.ensures.step
+    c.in-Left.ensures.found c.leave_table.ensures.steps
+
+pub returns-in-Full-clause-switches : goal.returns-in-Full-clause-switches
+returns-in-Full-clause-switches g c = let O = c.in-Ok in let M = c.look_memtables in
+    let first = O.ensures.same.1 in
+    full_is c.args.seat.member.number O.member.number M.new.member.number c.args.table.0
+    c.in-Full.newest c.args.seat.member.seat.me.0 O.member.seat.me.0 M.new.member.seat.me.0
+    c.leave_table-in-Full.result.member.seat.me.0 first (M.ensures.same.1 ∙ first) O.ensures.step
+    c.in-Full.ensures.found c.leave_table-in-Full.ensures.steps
+
+pub returns-in-Free-clause-switches : goal.returns-in-Free-clause-switches
+returns-in-Free-clause-switches g c = let O = c.in-Ok in let M = c.look_memtables in
+    let first = O.ensures.same.1 in let w = c.args.seat.member.number in
+    let v = c.args.seat.member.seat.me.0 in let u = O.member.seat.me.0 in
+    let x = M.new.member.seat.me.0 in
+    behind w M.new.member.number c.args.table.0 v x c.switch_newest.result.0.member.seat.me.0
+    c.switch_newest.result.1 (M.ensures.same.1 ∙ first)
+    (then_quiet w O.member.number v u x first O.ensures.step c.in-Free.ensures.steps)
+    c.switch_newest.ensures.had c.switch_newest.ensures.switches

@@ -1,0 +1,28 @@
+use Rattle.std.proofs.Common.{◌≡◌, ℕ, ⊎_elim, inl, refl, sym, arith}
+use Rattle.write_path.proofs.switch_laws.what_a_switch_tells.Goals as goal
+
+pub returns-clause-first : goal.returns-clause-first
+returns-clause-first c = inl (refl, refl, refl, refl)
+
+pub returns-clause-at_no_other : goal.returns-clause-at_no_other
+returns-clause-at_no_other c = λ key F. ⊎_elim (λ f. let is = f.3 in omega (arith, is))
+    (λ a. ⊎_elim (λ x. absurd x) (λ b. ⊎_elim (λ x. absurd x) (λ d. ⊎_elim (λ x. absurd x)
+    (λ e. ⊎_elim (λ x. absurd x) (λ x. absurd x) e) d) b) a) F
+
+pub returns-clause-second : goal.returns-clause-second
+returns-clause-second c = inl (refl, refl, refl, refl)
+
+pub returns-clause-list : goal.returns-clause-list
+returns-clause-list c = λ before. ((refl, (refl, (refl, (refl, (refl, tt))))), refl)
+
+pub returns-clause-looked : goal.returns-clause-looked
+returns-clause-looked c = λ before. refl
+
+pub returns-clause-acted : goal.returns-clause-acted
+returns-clause-acted c = refl
+
+pub returns-clause-full : goal.returns-clause-full
+returns-clause-full c = (refl, (tt, tt), inl (refl, refl))
+
+pub returns-clause-switched : goal.returns-clause-switched
+returns-clause-switched c = λ S. S.0

@@ -1,0 +1,94 @@
+-- The steps of a flush, and what its seat makes by them.
+use Rattle.std.specs.Prelude.{◌≡◌, ◌⊎◌, ℕ, suc, List, [], ◌∷◌, ◌++◌, Bool, false}
+use Rattle.path_core.specs.declared.event.ClaimKind.TheVariants.{Entry}
+use Rattle.path_core.specs.declared.event.Cursor.TheVariants.{OldestLive}
+use Rattle.path_core.specs.declared.event.Event.{Event}
+use Rattle.path_core.specs.declared.event.Event.TheVariants.{
+  Register,
+  Close,
+  Claim,
+  Switch,
+  Finalise,
+  Put,
+}
+use Rattle.path_core.specs.declared.state.Bound.TheVariants.{Raising}
+use Rattle.path_core.specs.Words.{by_of}
+use Rattle.path_rule.specs.declared.view.FlushRead.{FlushRead}
+use Rattle.path_rule.specs.declared.view.OwnStep.{OwnStep}
+use Rattle.path_rule.specs.declared.view.View.{View}
+use Rattle.path_rule.specs.FilingTold.{SeesAll}
+use Rattle.path_rule.specs.Layout.{bound_word}
+use Rattle.write_path.specs.Grown.{HasGrown}
+
+-- Seat w makes the step, by which it neither joins nor leaves an order, and claims no entry.
+abbrev pub IsFlushStep : ℕ → Event → Type 0
+IsFlushStep w (Register by order group) = ⊥
+IsFlushStep w (Close by order group carried) = ⊥
+IsFlushStep w (Claim by from to Entry) = ⊥
+IsFlushStep w e = by_of e ≡ w
+
+abbrev pub AreFlushSteps : ℕ → List OwnStep → Type 0
+AreFlushSteps w [] = Unit {0}
+AreFlushSteps w (t ∷ ts) = IsFlushStep w t.event × AreFlushSteps w ts
+
+-- Seat w went from one view to another by such steps alone.
+pub record FlushSteps (w : ℕ) (v after : View) : Type 0 where
+  pub steps : List OwnStep
+  pub trail : after.trail ≡ steps ++ v.trail
+  pub are : AreFlushSteps w steps
+  pub returned : after.returned ≡ v.returned
+  pub size : after.size ≡ v.size
+
+-- ---- switches
+
+-- At a step at which this was found seat w made memtable m of table t final at a key: so far it was
+-- raised.
+abbrev pub FinalisesBy : ℕ → ℕ → ℕ → ℕ → Event → ℕ → Type 0
+FinalisesBy w t m key (Finalise by table memtable) found =
+    (by ≡ w) × (table.0 ≡ t) × (memtable ≡ m)
+    × (found ≡ bound_word (Raising (record { 0 = key })))
+FinalisesBy w t m key _ found = ⊥
+
+-- at one of these steps
+abbrev pub Finalises : ℕ → ℕ → ℕ → ℕ → List OwnStep → Type 0
+Finalises w t m key [] = ⊥
+Finalises w t m key (s ∷ ss) =
+    FinalisesBy w t m key s.event s.found ⊎ Finalises w t m key ss
+
+-- None of these steps is one of a switch.
+abbrev pub LeavesMemtables : Event → Type 0
+LeavesMemtables (Switch by table memtable part) = ⊥
+LeavesMemtables (Finalise by table memtable) = ⊥
+LeavesMemtables _ = Unit {0}
+
+abbrev pub SwitchesNone : List OwnStep → Type 0
+SwitchesNone [] = Unit {0}
+SwitchesNone (t ∷ ts) = LeavesMemtables t.event × SwitchesNone ts
+
+-- Seat w went from one view to another by steps of a flush, of which none is one of a switch.
+pub record QuietSteps (w : ℕ) (v after : View) : Type 0 where
+  pub made : FlushSteps w v after
+  pub none : SwitchesNone made.steps
+
+-- ---- a memtable is retired
+
+-- the step by which seat w retires it, with a table file or without
+abbrev pub retiring : ℕ → ℕ → ℕ → Bool → OwnStep
+retiring w t m filed = record {
+  event = Put w (OldestLive (record { 0 = t })) (suc m);
+  found = suc m;
+  filed = filed;
+}
+
+-- Behind one view seat w read the memtable, in the boxes of all seats, and retired it.
+pub record Retires (w t m : ℕ) (filed : Bool) (v after : View) : Type 0 where
+  -- what it knew before it did so
+  pub before : View
+  pub since : HasGrown v.trail before.trail
+  pub read : FlushRead
+  pub sees : SeesAll before.size.seats before.hands t m read
+  pub put : HasGrown (retiring w t m filed ∷ before.trail) after.trail
+
+-- It saw nothing in it, and gave no table file.
+abbrev pub RetiresEmpty : ℕ → ℕ → ℕ → View → View → Type 0
+RetiresEmpty w t m v after = (r : Retires w t m false v after) × (r.read.seen ≡ [])

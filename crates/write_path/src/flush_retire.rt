@@ -1,0 +1,81 @@
+//! A memtable to which nothing was written goes: it is retired without a table file, and both turns
+//! are given back.
+ghost use Rattle.std.specs.Prelude.{◌≡◌, ℕ, ◌<◌, None, Some};
+ghost use Rattle.op_core.specs.declared.count.Order.TheVariants.{Write};
+ghost use Rattle.path_core.specs.declared.seat.Switching.TheVariants.{WithBarrier};
+ghost use Rattle.path_core.specs.Parts.{stage_of};
+ghost use Rattle.path_rule.specs.Calls.{IsPast};
+ghost use Rattle.path_rule.specs.Flushes.{SeesNone, TakesNone};
+ghost use Rattle.path_rule.specs.Lasts.{shows_of};
+ghost use Rattle.path_rule.specs.Members.{view_of, part_of, hands_of, IsOf};
+ghost use Rattle.write_path.specs.FlushSteps.{FlushSteps, RetiresEmpty};
+ghost use Rattle.write_path.specs.FlushTurns.{HoldsBoth};
+ghost use Rattle.write_path.specs.Tries.{Stays};
+
+use crate::seats::WritePath;
+use clog_base::Table;
+use path_core::Keeper;
+use path_rule::{Member, PathSeat};
+use std::alloc::Allocator;
+
+impl<K: Keeper, A: Allocator> WritePath<K, A> {
+    // Retires a memtable in which nothing was seen.
+    fn retire_read(&self, member: Member<K>, table: Table, memtable: u64) -> Member<K>
+        requires table { IsOf self.now.table.table.shared.table_id self.now.table.size member }
+        requires there { memtable < 256 }
+        requires holds { HoldsBoth (shows_of K.holds) table.0 member.seat.me }
+        requires sees { SeesNone self.now.table.size.seats (hands_of member) table.0 memtable }
+        ensures same { Stays self.now.table.table.shared.table_id self.now.table.size member
+            result }
+        ensures steps { FlushSteps member.number (view_of member) (view_of result) }
+        ensures holds { HoldsBoth (shows_of K.holds) table.0 result.seat.me }
+        ensures stage { stage_of (part_of result) table.0 ≡ stage_of (part_of member) table.0 }
+        ensures past { (g : ℕ) → IsPast Write (view_of member) g
+            → IsPast Write (view_of result) g }
+        ensures unread { (hands_of result).reading ≡ None }
+        ensures retires { RetiresEmpty member.number table.0 memtable (view_of member)
+            (view_of result) }
+    {
+        let mut member = member;
+        self.table.retire_empty(&mut member, table, memtable);
+        member
+    }
+
+    // Retires a memtable in which nothing was seen, and whose barrier the seat issued, and gives
+    // both turns back.
+    pub(crate) fn leave_empty(&self, member: Member<K>, table: Table, memtable: u64) -> PathSeat<K>
+        requires table { IsOf self.now.table.table.shared.table_id self.now.table.size member }
+        requires there { memtable < 256 }
+        requires holds { HoldsBoth (shows_of K.holds) table.0 member.seat.me }
+        requires sees { SeesNone self.now.table.size.seats (hands_of member) table.0 memtable }
+        requires passed { (g : ℕ)
+            × (stage_of (part_of member) table.0 ≡ Some (WithBarrier memtable g))
+            × IsPast Write (view_of member) g }
+        ensures same { Stays self.now.table.table.shared.table_id self.now.table.size member
+            result.member }
+        ensures steps { FlushSteps member.number (view_of member) (view_of result.member) }
+        ensures retires { RetiresEmpty member.number table.0 memtable (view_of member)
+            (view_of result.member) }
+    {
+        let member = self.retire_read(member, table, memtable);
+        self.leave_both(member, table)
+    }
+
+    // Leaves a memtable in which something was seen, or of which not all was seen, and whose
+    // barrier the seat issued: it reads it no more, and gives both turns back.
+    pub(crate) fn leave_filled(&self, member: Member<K>, table: Table) -> PathSeat<K>
+        requires table { IsOf self.now.table.table.shared.table_id self.now.table.size member }
+        requires holds { HoldsBoth (shows_of K.holds) table.0 member.seat.me }
+        requires unread { TakesNone (hands_of member) }
+        requires passed { (m g : ℕ)
+            × (stage_of (part_of member) table.0 ≡ Some (WithBarrier m g))
+            × IsPast Write (view_of member) g }
+        ensures same { Stays self.now.table.table.shared.table_id self.now.table.size member
+            result.member }
+        ensures steps { FlushSteps member.number (view_of member) (view_of result.member) }
+    {
+        let mut member = member;
+        let _newest = self.table.end_read(&mut member, table);
+        self.leave_both(member, table)
+    }
+}

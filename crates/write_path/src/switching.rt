@@ -1,0 +1,146 @@
+//! A switch of a table's memtable (`ColumnFamilyStore.Flush`, before it writes). The seat takes the
+//! table's Flush turn, and beside it the Sync turn; it makes the next memtable, and the newest one
+//! so far final; it waits for the barrier, and looks into the boxes of all seats. Then it gives both
+//! turns back, and is idle again.
+ghost use Rattle.std.specs.Prelude.{◌≡◌, ◌+◌, ◌<◌, None, Some};
+ghost use Rattle.path_core.specs.declared.seat.Switching.TheVariants.{Settled};
+ghost use Rattle.path_core.specs.Parts.{stage_of};
+ghost use Rattle.path_rule.specs.Lasts.{shows_of};
+ghost use Rattle.path_rule.specs.Members.{view_of, part_of, hands_of, IsOf};
+ghost use Rattle.path_rule.specs.Switches.{FlushNewest, FlushOldest};
+ghost use Rattle.write_path.specs.FlushSteps.{FlushSteps, QuietSteps};
+ghost use Rattle.write_path.specs.FlushTurns.{HoldsBoth, HoldsTable, IsDrained};
+ghost use Rattle.write_path.specs.Switched.{HadTurn, IsSettled, Switches};
+ghost use Rattle.write_path.specs.Tries.{Stays};
+
+use crate::flush_turn::Memtables;
+use crate::seats::WritePath;
+use crate::switch::{Row, Switch};
+use clog_base::{Key, Table};
+use path_core::Keeper;
+use path_rule::{Member, PathSeat};
+use std::alloc::{Allocator, Global};
+use std::sync::Wait;
+
+// How many groups of the write order there are words for.
+const GROUPS: u64 = 65_536;
+
+impl<K: Keeper, A: Allocator> WritePath<K, A> {
+    // Gives the table's turn back, where no switch was begun.
+    fn leave_table(&self, member: Member<K>, table: Table) -> PathSeat<K>
+        requires table { IsOf self.now.table.table.shared.table_id self.now.table.size member }
+        requires holds { HoldsTable table.0 member.seat.me }
+        requires settled { stage_of (part_of member) table.0 ≡ Some Settled }
+        ensures same { Stays self.now.table.table.shared.table_id self.now.table.size member
+            result.member }
+        ensures steps { QuietSteps member.number (view_of member) (view_of result.member) }
+    {
+        self.give_flush_turn(member, table)
+    }
+
+    // Looks whether the memtable holds something, behind its passed barrier, and retires it where it
+    // does not. Both turns are given back.
+    fn settle(
+        &self,
+        alloc: Global,
+        member: Member<K>,
+        table: Table,
+        memtable: u64,
+        bound: Key,
+    ) -> (PathSeat<K>, Switch)
+        requires table { IsOf self.now.table.table.shared.table_id self.now.table.size member }
+        requires there { memtable < 256 }
+        requires holds { HoldsBoth (shows_of K.holds) table.0 member.seat.me }
+        requires drained { IsDrained table.0 memtable bound.0 (view_of member) }
+        requires unread { (hands_of member).reading ≡ None }
+        ensures same { Stays self.now.table.table.shared.table_id self.now.table.size member
+            result.0.member }
+        ensures steps { FlushSteps member.number (view_of member) (view_of result.0.member) }
+        ensures settled { IsSettled member.number table.0 memtable bound.0 (view_of member)
+            result.1 (view_of result.0.member) }
+    {
+        let (member, above) = self.start_read(member, table, memtable);
+        let (member, empty) = self.read_boxes(alloc, member, table, memtable, above);
+        if empty {
+            (
+                self.leave_empty(member, table, memtable),
+                Switch::Empty(bound),
+            )
+        } else {
+            (self.leave_filled(member, table), Switch::Left(bound))
+        }
+    }
+
+    // Switches the newest memtable, which is the only one in use, with the table's turn in hand. No
+    // clause says that it returns.
+    fn switch_newest<R: Wait>(
+        &self,
+        rt: &R,
+        alloc: Global,
+        member: Member<K>,
+        table: Table,
+        newest: u64,
+    ) -> (PathSeat<K>, Switch)
+        requires table { IsOf self.now.table.table.shared.table_id self.now.table.size member }
+        requires holds { HoldsTable table.0 member.seat.me }
+        requires settled { stage_of (part_of member) table.0 ≡ Some Settled }
+        requires turn { FlushNewest table.0 (part_of member) newest
+            × FlushOldest table.0 (part_of member) newest × (newest + 1 < 256) }
+        ensures same { Stays self.now.table.table.shared.table_id self.now.table.size member
+            result.0.member }
+        ensures had { HadTurn result.1 }
+        ensures switches { Switches member.number table.0 (view_of member) result.1
+            (view_of result.0.member) }
+    {
+        let member = self.take_sync_beside(rt, member, table);
+        let (member, bound) = self.switch_table(rt, member, table, newest);
+        match bound {
+            Some(bound) => self.settle(alloc, member, table, newest, bound),
+            None => (
+                self.leave_both(member, table),
+                Switch::Rows(Row::WriteGroups, GROUPS),
+            ),
+        }
+    }
+
+    /// Switches a table's memtable: what was live until then takes no write that begins later
+    /// (`ColumnFamilyStore.Flush`, before it writes). The bound of the old memtable, the log key up
+    /// to which it takes entries, was set in this call, at or above each write of the seat's list,
+    /// which is as it was. Then the call waits until each write that was begun before is through,
+    /// and looks whether the memtable holds something. `Empty` carries the bound, in keys of the
+    /// log: nothing was seen in the boxes of all seats, and the memtable is retired. `Left` carries
+    /// it too: the memtable is left behind its barrier, for the flush that is to put its table file.
+    /// `Waits` has the number of a memtable that an earlier switch left, behind which nothing is
+    /// switched. `Busy` has what was found in the table's turn word; the seat only looked. `Rows`
+    /// has the row of words of which a further one is wanted, and how many are in use; nothing was
+    /// switched. It takes no memory. No clause says that it returns.
+    pub fn switch<R: Wait>(
+        &self,
+        rt: &R,
+        alloc: Global,
+        seat: PathSeat<K>,
+        table: Table,
+    ) -> (PathSeat<K>, Switch)
+        requires table { IsOf self.now.table.table.shared.table_id self.now.table.size seat.member }
+        requires there { table.0 < self.now.table.size.tables }
+        ensures same { Stays self.now.table.table.shared.table_id self.now.table.size seat.member
+            result.0.member }
+        ensures switches { Switches seat.member.number table.0 (view_of seat.member) result.1
+            (view_of result.0.member) }
+    {
+        let mut member = match self.take_table(seat, table) {
+            Ok(member) => member,
+            Err((seat, found)) => return (seat, Switch::Busy(found)),
+        };
+        match self.look_memtables(&mut member, table) {
+            Memtables::Left(memtable) => {
+                (self.leave_table(member, table), Switch::Waits(memtable))
+            }
+            Memtables::Full(newest) => {
+                let rows = Switch::Rows(Row::Memtables, newest + 1);
+                (self.leave_table(member, table), rows)
+            }
+            Memtables::Free(newest) => self.switch_newest(rt, alloc, member, table, newest),
+        }
+    }
+}
