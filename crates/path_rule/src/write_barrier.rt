@@ -25,8 +25,9 @@ use path_core::Keeper;
 use std::alloc::Allocator;
 
 impl<K: Keeper, A: Allocator> PathTable<K, A> {
-    // Makes the next group. Where a switched memtable waits for its barrier, the barrier is for it.
-    pub(crate) fn open_write(&self, member: &mut Member<K>, group: u64, current: u64)
+    /// Makes the next group of the write order, for a barrier behind the current one. Where a
+    /// switched memtable waits for its barrier, the barrier is for it.
+    pub fn open_write(&self, member: &mut Member<K>, group: u64, current: u64)
         requires table { IsOf self.now.table.shared.table_id self.now.size member.old }
         requires turn { Holds Rest (view_of member.old)
             × TurnSaw Write (part_of member.old) current × (group ≡ suc current)
@@ -47,8 +48,9 @@ impl<K: Keeper, A: Allocator> PathTable<K, A> {
             .store::<OpenWrite<K>>(&mut member.seat, WRITE_COUNTS + 2 * group as usize, 0);
     }
 
-    // Makes it the current one. What waited for its barrier has it: the group that was current.
-    pub(crate) fn move_write(&self, member: &mut Member<K>, group: u64, current: u64)
+    /// Makes that group the current one. What waited for its barrier has it: the group that was
+    /// current.
+    pub fn move_write(&self, member: &mut Member<K>, group: u64, current: u64)
         requires table { IsOf self.now.table.shared.table_id self.now.size member.old }
         requires turn { Holds (Opened Write) (view_of member.old)
             × TurnSaw Write (part_of member.old) current × (group ≡ suc current) }
@@ -66,8 +68,9 @@ impl<K: Keeper, A: Allocator> PathTable<K, A> {
             .store::<MoveWrite<K>>(&mut member.seat, CURRENT_WRITE, group);
     }
 
-    // Expires the group before the current one: nobody joins it any more.
-    pub(crate) fn expire_write(&self, member: &mut Member<K>, group: u64, current: u64) -> u64
+    /// Expires the group before the current one: nobody joins it any more. Returns the count of its
+    /// operations, as it was found.
+    pub fn expire_write(&self, member: &mut Member<K>, group: u64, current: u64) -> u64
         requires table { IsOf self.now.table.shared.table_id self.now.size member.old }
         requires turn { Holds (Moved Write) (view_of member.old)
             × TurnSaw Write (part_of member.old) current × (suc group ≡ current)
