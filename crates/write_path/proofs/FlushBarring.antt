@@ -1,28 +1,5 @@
 -- What a seat with both turns knows behind steps of barriers and syncs, and behind a switch.
-use Rattle.std.proofs.Common.{
-  ◌≡◌,
-  ◌⊎◌,
-  ⊎_elim,
-  inl,
-  inr,
-  ℕ,
-  ◌<◌,
-  false,
-  List,
-  [],
-  ◌∷◌,
-  ◌++◌,
-  Option,
-  Some,
-  None,
-  IsTrue,
-  is_some,
-  refl,
-  sym,
-  ap,
-  ◌∙◌,
-  subst,
-}
+use Rattle.std.proofs.Common.{◌≡◌, ⊎_elim, inl, inr, ℕ, ◌<◌, false, List, [], ◌∷◌, ◌++◌, Option, IsTrue, is_some, sym, ap, ◌∙◌, subst}
 use Rattle.std.proofs.lemmas.Option.{none-some}
 use Rattle.std.specs.Option.{option_map_or}
 use Rattle.atomic_table.specs.Table.{Me}
@@ -31,7 +8,6 @@ use Rattle.path_core.specs.declared.event.Event.TheVariants.{Look}
 use Rattle.path_core.specs.declared.event.Place.TheVariants.{Current}
 use Rattle.path_core.specs.declared.seat.FlushTurn.{FlushTurn}
 use Rattle.path_core.specs.declared.seat.Issue.TheVariants.{Rest}
-use Rattle.path_core.specs.declared.seat.Seat.{Seat}
 use Rattle.path_core.specs.declared.seat.SyncTurn.{SyncTurn}
 use Rattle.path_core.specs.Parts.{seat_table}
 use Rattle.path_rule.specs.declared.lasting.Lasting.{Lasting}
@@ -39,13 +15,13 @@ use Rattle.path_rule.specs.declared.slot.Slot.{Slot}
 use Rattle.path_rule.specs.declared.view.Hands.{Hands}
 use Rattle.path_rule.specs.declared.view.OwnStep.{OwnStep}
 use Rattle.path_rule.specs.declared.view.View.{View}
-use Rattle.path_rule.specs.Calls.{Did, Holds, MayGive}
+use Rattle.path_rule.specs.Calls.{Did, Holds}
 use Rattle.path_rule.specs.Desks.{HasDesk}
 use Rattle.path_rule.specs.Rounds.{RoundSteps}
 use Rattle.path_rule.specs.Switches.{FlushNewest, FlushOldest}
 use Rattle.write_path.specs.FlushSteps.{Finalises}
 use Rattle.write_path.specs.FlushSwitches.{MadeFinal}
-use Rattle.write_path.specs.FlushTurns.{HoldsBoth, IsHolder}
+use Rattle.write_path.specs.FlushTurns.{HoldsBoth}
 
 -- the same desk, as the seat knows it
 module _ {K : Type 0} (shows : K → Lasting) where

@@ -1,36 +1,16 @@
 -- What a flush knows behind the reading of one box.
-use Rattle.std.proofs.Common.{
-  ◌≡◌,
-  ℕ,
-  suc,
-  List,
-  [],
-  ◌∷◌,
-  ◌++◌,
-  length,
-  nat_eq,
-  nat_lt,
-  Bool,
-  true,
-  Some,
-  refl,
-  sym,
-  ap,
-  ◌∙◌,
-  subst,
-}
+use Rattle.std.proofs.Common.{◌≡◌, ℕ, suc, List, [], ◌∷◌, ◌++◌, length, nat_eq, nat_lt, Bool, true, Some, refl, sym, ap, ◌∙◌}
 use Rattle.std.proofs.lemmas.Bool.{eqb-true}
 use Rattle.std.proofs.lemmas.List.{append-nil, nil_from_length}
 use Rattle.std.proofs.lemmas.Option.{same_Some}
-use Rattle.std.specs.List.{Contains, filter}
+use Rattle.std.specs.List.{filter}
 use Rattle.atomic_table.specs.Table.{Me, rest}
 use Rattle.path_core.specs.declared.note.EntryNote.{EntryNote}
-use Rattle.path_core.specs.Whole.{IsWhole}
 use Rattle.path_rule.specs.declared.slot.Slot.{Slot}
 use Rattle.path_rule.specs.declared.view.FlushRead.{FlushRead}
 use Rattle.path_rule.specs.declared.view.Hands.{Hands}
 use Rattle.path_rule.specs.declared.view.View.{View}
-use Rattle.path_rule.specs.Boxes.{memtable_box, NotesAre}
+use Rattle.path_rule.specs.Boxes.{memtable_box}
 use Rattle.path_rule.specs.Flushes.{next_box, TookRead}
 use Rattle.path_rule.specs.HandsAfter.{box_read, box_seen}
 use Rattle.path_rule.specs.Told.{CarriesNotes}

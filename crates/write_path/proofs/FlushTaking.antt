@@ -1,25 +1,5 @@
 -- What a seat knows that has just taken a table's Flush turn, or the Sync turn beside it.
-use Rattle.std.proofs.Common.{
-  ◌≡◌,
-  ◌≢◌,
-  ℕ,
-  ◌<◌,
-  true,
-  false,
-  [],
-  List,
-  Option,
-  Some,
-  None,
-  IsTrue,
-  is_some,
-  refl,
-  sym,
-  ap,
-  ◌∙◌,
-  subst,
-  get_or-set_same,
-}
+use Rattle.std.proofs.Common.{◌≡◌, ◌≢◌, ℕ, ◌<◌, [], Option, Some, None, IsTrue, is_some, refl, sym, ap, ◌∙◌, subst, get_or-set_same}
 use mathlib.Core.Logic.{dite}
 use native.Mathlib.Decide.{ℕ_discrete}
 use Rattle.std.proofs.lemmas.Bool.{false≢true}

@@ -1,5 +1,5 @@
 -- What a flush's switch of its table's memtables leaves.
-use Rattle.std.specs.Prelude.{◌≡◌, ℕ, suc, [], List, ◌++◌, Some, None}
+use Rattle.std.specs.Prelude.{◌≡◌, ℕ, suc, [], Some}
 use Rattle.op_core.specs.declared.count.Order.TheVariants.{Write}
 use Rattle.path_core.specs.declared.event.Place.TheVariants.{Current}
 use Rattle.path_core.specs.declared.seat.Switching.TheVariants.{Waiting}

@@ -1,5 +1,5 @@
 -- Worked rows of switches of table 0 by seat 0: the steps, the newest first.
-use Rattle.std.specs.Prelude.{ℕ, ◌+◌, ◌^◌, false, List, [], ◌∷◌}
+use Rattle.std.specs.Prelude.{ℕ, ◌+◌, ◌^◌, List, [], ◌∷◌}
 use Rattle.path_core.specs.declared.event.Event.TheVariants.{Look, Switch, Raise, Finalise}
 use Rattle.path_core.specs.declared.event.Place.TheVariants.{Log, Newest, TurnWord}
 use Rattle.path_core.specs.declared.event.SwitchPart.TheVariants.{Open, Mark}

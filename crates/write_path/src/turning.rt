@@ -1,6 +1,5 @@
 //! Turns: an idle seat takes the Sync turn, or the Flush turn of a table, by one try, and gives it
-//! back. With the Sync turn it moves the oldest group of an order on by one try. A switch of a
-//! table's memtables comes with the flush.
+//! back. With the Sync turn it moves the oldest group of an order on by one try.
 ghost use Rattle.std.specs.Prelude.{◌≡◌, ◌<◌, [], IfOk, MatchResult};
 ghost use Rattle.clog_base.specs.declared.cell.Table.{Table};
 ghost use Rattle.path_core.specs.declared.event.Event.TheVariants.{Look};

@@ -1,4 +1,4 @@
-use Rattle.std.proofs.Common.{◌≡◌, List, sym, ap, ◌∙◌, subst, drop}
+use Rattle.std.proofs.Common.{List, sym, ap, ◌∙◌, subst, drop}
 use Rattle.path_core.specs.declared.note.EntryNote.{EntryNote}
 use Rattle.path_rule.specs.Trimmed.{IsTrimmed}
 use Rattle.write_path.proofs.FlushTrims.{trimmed_more, untrimmed}

@@ -1,4 +1,4 @@
-use Rattle.std.proofs.Common.{◌≡◌, ℕ, ⊎_elim, inl, refl, sym, arith}
+use Rattle.std.proofs.Common.{⊎_elim, inl, refl, arith}
 use Rattle.write_path.proofs.switch_laws.what_a_switch_tells.Goals as goal
 
 pub returns-clause-first : goal.returns-clause-first

@@ -1,4 +1,4 @@
-use Rattle.std.proofs.Common.{false, refl, ap, ◌∙◌, subst, sym, arith, is_some}
+use Rattle.std.proofs.Common.{refl, ap, ◌∙◌, arith, is_some}
 use Rattle.path_core.specs.declared.event.Event.TheVariants.{GiveTurn}
 use Rattle.path_core.specs.declared.event.Turn.TheVariants.{Flush, Sync}
 use Rattle.path_core.specs.Next.{has_filed}

@@ -1,4 +1,4 @@
-use Rattle.std.proofs.Common.{◌≡◌, ◌++◌, List, inr, sym, ap, ◌∙◌}
+use Rattle.std.proofs.Common.{◌++◌, List, inr, sym, ap, ◌∙◌}
 use Rattle.std.proofs.lemmas.List.{append_assoc}
 use Rattle.std.proofs.lemmas.Option.{none-some}
 use Rattle.path_rule.specs.declared.view.OwnStep.{OwnStep}

@@ -2,7 +2,6 @@ use Rattle.std.proofs.Common.{◌+◌, ◌^◌, inl, refl, ap, ◌∙◌, arith,
 use Rattle.path_core.specs.declared.event.Event.TheVariants.{Look, Switch, Raise, Finalise}
 use Rattle.path_core.specs.declared.event.Place.TheVariants.{Log}
 use Rattle.path_core.specs.declared.event.SwitchPart.TheVariants.{Open, Mark}
-use Rattle.path_core.specs.declared.seat.Switching.TheVariants.{Marked}
 use Rattle.path_core.specs.Parts.{stage_of}
 use Rattle.path_rule.specs.declared.view.View.{View}
 use Rattle.path_rule.proofs.seats.Answering.{wrote_more}

@@ -1,4 +1,4 @@
-use Rattle.std.proofs.Common.{◌≡◌, ℕ, [], Some}
+use Rattle.std.proofs.Common.{◌≡◌, [], Some}
 use Rattle.path_rule.specs.declared.view.FlushRead.{FlushRead}
 use Rattle.write_path.specs.FlushReads.{HasRead, ReadSteps}
 use Rattle.write_path.specs.Tries.{Stays}

@@ -1,4 +1,4 @@
-use Rattle.std.proofs.Common.{◌≡◌, refl, ◌∙◌}
+use Rattle.std.proofs.Common.{refl, ◌∙◌}
 use Rattle.write_path.proofs.FlushGoes.{next}
 use Rattle.write_path.proofs.FlushReadSteps.{then_read}
 use Rattle.write_path.proofs.SwitchGoes.{past_read, retires_behind}

@@ -1,4 +1,4 @@
-use Rattle.std.proofs.Common.{◌≡◌, ◌∙◌}
+use Rattle.std.proofs.Common.{◌∙◌}
 use Rattle.write_path.proofs.SwitchGoes.{behind, busy_is, full_is, then_quiet, waits_is}
 use Rattle.write_path.proofs.seats.WritePath.switch.Goals as goal
 

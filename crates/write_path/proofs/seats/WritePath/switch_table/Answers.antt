@@ -1,16 +1,4 @@
-use Rattle.std.proofs.Common.{
-  ◌≡◌,
-  ◌+◌,
-  ◌++◌,
-  [],
-  inl,
-  refl,
-  ap,
-  ◌∙◌,
-  subst,
-  arith,
-  is_some,
-}
+use Rattle.std.proofs.Common.{◌++◌, [], inl, refl, ap, ◌∙◌, subst, arith, is_some}
 use Rattle.op_core.specs.declared.count.Order.TheVariants.{Write}
 use Rattle.path_core.specs.declared.event.Event.TheVariants.{Look}
 use Rattle.path_core.specs.declared.event.Place.TheVariants.{Current}
