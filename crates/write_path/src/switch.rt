@@ -15,8 +15,8 @@ pub enum Row {
 pub enum Switch {
     /// Nothing was written to the memtable, which is retired, up to this key, its final bound.
     Empty(Key),
-    /// The memtable holds something. It is left behind its barrier, with this key as its final
-    /// bound, and waits for the flush that is to put its table file.
+    /// The memtable is left behind its barrier, with this key as its final bound, and waits for the
+    /// flush that is to put its table file.
     Left(Key),
     /// An earlier switch left this memtable, which waits still. Nothing was switched.
     Waits(u64),
