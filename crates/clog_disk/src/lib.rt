@@ -17,6 +17,3 @@ pub use change::Change;
 pub use disk::{Disk, DiskFault};
 pub use folder::FolderDisk;
 pub use memory::MemDisk;
-
-#[cfg(test)]
-mod tests;

@@ -8,7 +8,7 @@ use std::rt::Files;
 use std::{fs, io};
 
 /// Where it stands.
-pub(crate) const UNFINISHED: &str =
+const UNFINISHED: &str =
     "commitlog/being-published-by-pinsilver-and-may-be-removed-where-no-program-runs.tmp";
 
 /// Makes it, empty and open to be written, for a name where nothing stands but a regular file. It

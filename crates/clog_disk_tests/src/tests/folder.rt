@@ -1,6 +1,6 @@
 //! The disk over a real folder. Each test is a process, and has a current folder of its own.
-use crate::{Disk, DiskFault, FolderDisk};
 use clog_base::{Name, segment_name};
+use clog_disk::{Disk, DiskFault, FolderDisk};
 use std::os::unix::fs::symlink;
 use std::test::Fail;
 use std::{env, fs, io};

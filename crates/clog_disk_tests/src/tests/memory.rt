@@ -2,8 +2,8 @@
 ghost use Rattle.std.specs.Prelude.{IfOk};
 ghost use Rattle.clog_disk.specs.Files.{IsEnd};
 
-use crate::{Change, Disk, DiskFault, MemDisk};
 use clog_base::{Name, archive_name, segment_name};
+use clog_disk::{Change, Disk, DiskFault, MemDisk};
 use std::alloc::Global;
 use std::test::Fail;
 

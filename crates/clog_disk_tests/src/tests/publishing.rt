@@ -1,11 +1,14 @@
 //! Real files that are put in place, copied and removed.
 use crate::tests::folder::{enter, leave, refuses_changes, said, write_hello};
-use crate::unfinished::UNFINISHED;
-use crate::{Disk, DiskFault, FolderDisk};
 use clog_base::{archive_name, segment_name};
+use clog_disk::{Disk, DiskFault, FolderDisk};
 use std::fs;
 use std::os::unix::fs::symlink;
 use std::test::Fail;
+
+// Where a file stands until all of it lasts.
+const UNFINISHED: &str =
+    "commitlog/being-published-by-pinsilver-and-may-be-removed-where-no-program-runs.tmp";
 
 #[test]
 fn files_come_and_go_whole(rt: HostRuntime) -> Result<(), Fail> {

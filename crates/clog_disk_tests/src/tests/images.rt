@@ -1,7 +1,7 @@
 //! The sample of what a crash might have left of a disk in memory.
 use crate::tests::memory::append;
-use crate::{Disk, DiskFault, MemDisk};
 use clog_base::{Name, segment_name};
+use clog_disk::{Disk, DiskFault, MemDisk};
 use std::alloc::Global;
 use std::test::Fail;
 
