@@ -1,5 +1,4 @@
 pub mod lists
-pub mod steps
 pub mod seats
 pub mod orders
 pub mod log

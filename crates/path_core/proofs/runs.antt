@@ -7,4 +7,3 @@ pub mod KeepsPlacing
 pub mod KeepsLasting
 pub mod KeepsFiling
 pub mod EveryRun
-pub mod Stepped

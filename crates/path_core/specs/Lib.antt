@@ -1,4 +1,3 @@
-pub mod Accepts
 pub mod Keys
 pub mod Parts
 pub mod Words
@@ -17,11 +16,8 @@ pub mod LawfulPlaces
 pub mod LawfulSeats
 pub mod Lawful
 pub mod Frame
-pub mod SeatSteps
-pub mod Spans
-pub mod Steps
+pub mod Markers
 pub mod Promises
 pub mod Holders
 pub mod Keeper
-pub mod ListKept
 pub mod Lent

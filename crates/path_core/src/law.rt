@@ -25,7 +25,7 @@ ghost use Rattle.path_core.specs.Parts.{
 ghost use Rattle.path_core.specs.Whole.{IsWhole};
 ghost use Rattle.path_core.specs.History.{IsHistory};
 ghost use Rattle.path_core.specs.Allowed.{IsAllowed};
-ghost use Rattle.path_core.specs.Steps.{HasPassedMarker};
+ghost use Rattle.path_core.specs.Markers.{HasPassedMarker};
 ghost use Rattle.path_core.specs.Runs.{IsOpening, Run, Past};
 ghost use Rattle.path_core.specs.Droppable.{IsDroppable};
 ghost use Rattle.path_core.specs.Lawful.{IsLawfulPath};

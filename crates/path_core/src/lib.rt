@@ -1,46 +1,18 @@
-//! The write path as a machine without threads: its state, the single steps that change it, and
-//! what every step keeps.
+//! The write path as a machine without threads: its state, the rows that say which single steps
+//! are allowed and what each leaves, and what every step keeps. `path_machine` makes the steps.
 #![tactic(auto)]
 
-mod bound;
-mod claim_allowed;
-mod close_changes;
-mod cursor_allowed;
-mod drop_changes;
 mod event;
-mod file_changes;
-mod group_changes;
-mod groups_known;
 mod holder_law;
 mod keeper;
 mod keeper_law;
-mod keys;
 mod law;
-mod lawful_path;
-mod list_keeper;
-mod log_changes;
-mod making;
-mod move_changes;
-mod names;
 mod note;
-mod order_allowed;
-mod path;
-mod reading;
 mod seat;
-mod seat_asks;
-mod seat_steps;
 mod state;
 mod state_law;
-mod step_allowed;
 mod step_law;
-mod table_allowed;
-mod table_changes;
-mod table_files;
-mod table_steps;
-mod turn_allowed;
-mod turn_changes;
 
-pub use bound::accepts;
 pub use event::{Carried, ClaimKind, Cursor, Event, Place, Reading, SwitchPart, Turn};
 pub use holder_law::{
     a_part_tells_when_a_marker_waits, each_holder_keeps_the_last_marker,
@@ -66,11 +38,8 @@ pub use law::{
     passed_memtables_rest, retired_memtables_are_filed, runs_are_told_from_their_end,
     synced_is_the_start_of_a_marker, what_seats_found_stands, writes_are_placed_at_most_once,
 };
-pub use lawful_path::LawfulPath;
-pub use list_keeper::{ListFile, ListKeeper};
 pub use note::EntryNote;
 pub use op_core::{Order, Tally};
-pub use path::{Path, StepFault};
 pub use seat::{
     FlushTurn, Found, FoundBound, FoundGroups, Issue, LastMarker, Marked, Range, Seat, SeatTable,
     Switching, SyncTurn,

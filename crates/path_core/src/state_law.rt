@@ -25,7 +25,7 @@ ghost use Rattle.path_core.specs.Parts.{
 ghost use Rattle.path_core.specs.Allowed.{IsStep};
 ghost use Rattle.path_core.specs.Lawful.{IsLawfulPath};
 ghost use Rattle.path_core.specs.Promises.{IsDeposited, HoldsItsInterval};
-ghost use Rattle.path_core.specs.Steps.{HasPassedMarker};
+ghost use Rattle.path_core.specs.Markers.{HasPassedMarker};
 
 /// Where a seat's group stands: it was made, and its count stands for somebody. While the holder of
 /// the Sync turn is at no issue, a group up to the current one that is open is the current one.

@@ -2,7 +2,8 @@
 use crate::fault::Fault;
 use crate::line::{Line, line_of};
 use clog_base::Sizes;
-use path_core::{Event, Path, PathState, StepFault};
+use path_core::{Event, PathState};
+use path_machine::{Path, StepFault};
 use std::alloc::Global;
 
 /// What came of a line.

@@ -10,7 +10,7 @@ use Rattle.path_core.specs.declared.event.Event.TheVariants.{Claim}
 use Rattle.path_core.specs.declared.event.Place.TheVariants.{Current, CursorWord, Log}
 use Rattle.path_core.specs.declared.state.PathState.{PathState}
 use Rattle.path_core.specs.Keys.{after, behind_marker, first_offset}
-use Rattle.path_core.specs.Steps.{HasMarkerAt}
+use Rattle.path_core.specs.Markers.{HasMarkerAt}
 use Rattle.path_rule.specs.declared.view.OwnStep.{OwnStep}
 use Rattle.path_rule.specs.declared.view.Returned.{Returned}
 use Rattle.path_rule.specs.declared.view.View.{View}

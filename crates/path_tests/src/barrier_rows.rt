@@ -2,7 +2,7 @@
 ghost use Rattle.path_rule.specs.Members.{IsOf};
 
 use crate::barriers::opened;
-use path_core::ListKeeper;
+use path_machine::ListKeeper;
 use path_rule::{Holder, Passed, PathTable};
 use std::alloc::Global;
 use std::sync::Wait;

@@ -4,7 +4,8 @@ ghost use Rattle.std.specs.Prelude.{◌≡◌, IfOk};
 
 use clog_base::Sizes;
 use op_core::Order;
-use path_core::{Keeper, ListKeeper};
+use path_core::Keeper;
+use path_machine::ListKeeper;
 use path_rule::{Advance, Holder, Member, Opener, Passed, PathSeat, PathSize, PathTable, open};
 use std::alloc::Global;
 use std::test::*;

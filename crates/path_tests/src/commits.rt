@@ -9,7 +9,7 @@ use crate::turns::two_seats;
 use clog_base::{Key, Position, Sizes, Writer};
 use clog_io::{Gate, OpenGate, Point};
 use clog_mutation::decode;
-use path_core::ListKeeper;
+use path_machine::ListKeeper;
 use std::alloc::Global;
 use std::sync::Wait;
 use std::sync::atomic::{AtomicU64, Ordering};

@@ -1,6 +1,7 @@
 //! A bound on worked cases, and a path that keeps the law. Runs of steps are played by `path_play`.
 use clog_base::{Key, OutOfMemory, Sizes};
-use path_core::{Bound, Event, LawfulPath, Place, StepFault, Turn, accepts};
+use path_core::{Bound, Event, Place, Turn};
+use path_machine::{LawfulPath, StepFault, accepts};
 use std::test::Fail;
 
 #[test]

@@ -5,7 +5,7 @@ ghost use Rattle.path_rule.specs.Members.{IsOf};
 use crate::commits::{DELETION, one_seat, prepared};
 use clog_base::Sizes;
 use clog_io::OpenGate;
-use path_core::ListKeeper;
+use path_machine::ListKeeper;
 use std::alloc::Global;
 use std::sync::Wait;
 use std::test::*;

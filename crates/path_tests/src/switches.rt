@@ -4,7 +4,8 @@ use crate::commits::{DELETION, logged, one_seat, place, place_of, prepared, rece
 use crate::turns::two_seats;
 use clog_base::{Position, Sizes, Table};
 use clog_io::OpenGate;
-use path_core::{ListKeeper, Turn};
+use path_core::Turn;
+use path_machine::ListKeeper;
 use std::alloc::Global;
 use std::sync::Wait;
 use std::test::*;

@@ -7,7 +7,8 @@ ghost use Rattle.path_rule.specs.Members.{IsOf};
 ghost use Rattle.write_path.specs.Tries.{Stays};
 
 use clog_base::{Sizes, Table};
-use path_core::{Keeper, ListKeeper, Order, Turn};
+use path_core::{Keeper, Order, Turn};
+use path_machine::ListKeeper;
 use std::alloc::Global;
 use std::test::*;
 use sync_core::SyncCore;

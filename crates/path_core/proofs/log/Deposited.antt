@@ -49,7 +49,7 @@ use Rattle.path_core.specs.Parts.{
   is_marker,
   is_marker_kind,
 }
-use Rattle.path_core.specs.Steps.{IsPassedMarker, HasPassedMarker}
+use Rattle.path_core.specs.Markers.{IsPassedMarker, HasPassedMarker}
 use Rattle.path_core.specs.Promises.{IsDeposited}
 use Rattle.path_core.specs.Lawful.{IsLawfulLog}
 use Rattle.path_core.specs.LawfulLog.{

@@ -35,7 +35,7 @@ use Rattle.path_core.specs.declared.state.WrittenFile.{WrittenFile}
 use Rattle.path_core.specs.Keys.{offset_of, first_offset, after}
 use Rattle.path_core.specs.Parts.{is_entry, key_of_bound}
 use Rattle.path_core.specs.Allowed.{IsStep, IsSyncPoint}
-use Rattle.path_core.specs.Steps.{HasPassedMarker}
+use Rattle.path_core.specs.Markers.{HasPassedMarker}
 use Rattle.path_core.specs.Next.{next_of, is_between}
 use Rattle.path_core.specs.Lawful.{IsLawfulLog}
 use Rattle.path_core.specs.LawfulLog.{

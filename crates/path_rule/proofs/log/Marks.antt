@@ -61,7 +61,7 @@ use Rattle.path_core.specs.LawfulLog.{
 }
 use Rattle.path_core.specs.Next.{next_of, claim_of, barred_marker}
 use Rattle.path_core.specs.Parts.{no_claim, is_marker, is_marker_kind}
-use Rattle.path_core.specs.Steps.{HasMarkerAt}
+use Rattle.path_core.specs.Markers.{HasMarkerAt}
 use Rattle.path_core.proofs.lists.Inserted.{map_old}
 use Rattle.path_core.proofs.log.LogGrows.{synced_grows}
 use Rattle.path_core.proofs.log.MarkerSteps.{barred_is_marker, barred_start}

@@ -50,7 +50,7 @@ use Rattle.path_core.specs.Keeper.{HasRisen}
 use Rattle.path_core.specs.LawfulLog.{is_note_at, is_at_most}
 use Rattle.path_core.specs.Next.{next_of, is_between}
 use Rattle.path_core.specs.SeatAfter.{seat_after}
-use Rattle.path_core.specs.Steps.{HasPassedMarker}
+use Rattle.path_core.specs.Markers.{HasPassedMarker}
 use Rattle.path_core.proofs.log.Deposited.{all_deposited}
 use Rattle.path_core.proofs.runs.EveryRun.{log_of}
 use Rattle.path_rule.specs.declared.lasting.Beside.{Beside}

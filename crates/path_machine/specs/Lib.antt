@@ -1,0 +1,5 @@
+pub mod Accepts
+pub mod SeatSteps
+pub mod Spans
+pub mod Steps
+pub mod ListKept
