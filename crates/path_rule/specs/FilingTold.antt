@@ -7,6 +7,7 @@ use Rattle.std.specs.Prelude.{
   ◌∷◌,
   [],
   ℕ,
+  suc,
   ◌+◌,
   ◌*◌,
   ◌^◌,
@@ -51,6 +52,7 @@ use Rattle.path_rule.specs.declared.view.Role.TheVariants.{Steps}
 use Rattle.path_rule.specs.declared.view.View.{View}
 use Rattle.path_rule.specs.Filing.{IsCellIn, MayGo, MayPut, more_filed, upper_of}
 use Rattle.path_rule.specs.HandsAfter.{with_desk, with_reading}
+use Rattle.path_rule.specs.Retires.{RetiresFiledIn}
 use Rattle.path_rule.specs.Rule.{view_after, with_hands, Was}
 use Rattle.path_rule.specs.Told.{Made, MadeAs}
 use Rattle.path_rule.specs.TurnTold.{CarriesAs}
@@ -177,3 +179,6 @@ module _ {K : Type 0} (shows : K → Lasting) where
       → CarriesAs shows lasting pending m.0.hands.progress m
       → MadeFiled w (Put w (OldestLive t) n) n (with_reading None
       (with_desk lasting pending m.0.hands.progress m.0.hands)) m.0 m'.0 × (m'.1 ≡ m.1)
+      × ((f : PutTable) (k : ℕ) → n ≡ suc k → CarriesFiled f m
+      → (was : Was m.0 w (Put w (OldestLive t) n))
+      × RetiresFiledIn was.core (Put w (OldestLive t) n) t.0 k f)

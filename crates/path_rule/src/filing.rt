@@ -33,6 +33,7 @@ ghost use Rattle.path_core.specs.Keeper.{HasRisen};
 ghost use Rattle.path_core.specs.Keys.{after};
 ghost use Rattle.path_core.specs.Next.{has_filed};
 ghost use Rattle.path_rule.specs.declared.lasting.Lasting.{Lasting};
+ghost use Rattle.path_rule.specs.declared.lasting.PutTable.{PutTable};
 ghost use Rattle.path_rule.specs.declared.view.FlushRead.{FlushRead};
 ghost use Rattle.path_rule.specs.Calls.{Holds};
 ghost use Rattle.path_rule.specs.Filing.{MayPut, more_filed, upper_of};
@@ -60,6 +61,8 @@ ghost use Rattle.path_rule.specs.Members.{
   SteppedFiled,
   SteppedNoted,
 };
+ghost use Rattle.path_rule.specs.Retires.{RetiresFiledIn};
+ghost use Rattle.path_rule.specs.Rule.{Was};
 ghost use Rattle.path_rule.specs.SyncEnd.{stopped_by, TellsFaults};
 ghost use Rattle.path_rule.specs.TurnTold.{CarriesAs, CarriesDesk};
 ghost use Rattle.path_rule.specs.Turns.{FoundRunning};
@@ -186,6 +189,11 @@ impl<K: Keeper, A: Allocator> PathTable<K, A> {
             (memtable + 1) (with_reading None
             (with_desk lasting pending (hands_of member.old).progress (hands_of member.old)))
             member.new }
+        ensures was { (f : PutTable) → CarriesFiled (shows_of K.holds) f member.old.seat.me
+            → (was : Was (view_of member.old) member.old.number
+            (Put member.old.number (OldestLive table) (memtable + 1)))
+            × RetiresFiledIn was.core (Put member.old.number (OldestLive table) (memtable + 1))
+            table.0 memtable f }
         ensures filed { has_filed (part_of member.new) ≡ true }
         ensures turn { (key : ℕ) → TurnSynced (part_of member.old) key
             → TurnSynced (part_of member.new) key }
