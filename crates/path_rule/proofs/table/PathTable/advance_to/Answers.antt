@@ -1,4 +1,4 @@
-use Rattle.std.proofs.Common.{[], refl, ◌∙◌}
+use Rattle.std.proofs.Common.{◌+◌, [], refl, ◌∙◌}
 use Rattle.path_core.specs.declared.event.Event.TheVariants.{Look}
 use Rattle.path_core.specs.declared.event.Place.TheVariants.{Count, Oldest}
 use Rattle.path_rule.proofs.seats.RoundsGo.{one, next, none_yet}
