@@ -17,9 +17,9 @@ pub record RetiresEmptyIn (x : PathState) (t m : ℕ) : Type 0 where
 abbrev pub written_as : ℕ → PutTable → WrittenFile
 written_as m f = record { table = f.table; memtable = m; lower = f.lower; upper = f.upper }
 
--- Memtable m is the least of table t that is not retired, and something is placed in it. At the step
--- e the machine has file f behind its others, for the interval that f stands for, and f holds what
--- the notes have there.
+-- Memtable m is the least of table t that is not retired, and something is placed in it. At the
+-- step e the machine has file f behind its others, for the interval that f stands for, and f holds
+-- what the notes have there.
 pub record RetiresFiledIn (x : PathState) (e : Event) (t m : ℕ) (f : PutTable) : Type 0 where
   pub least : (table_of x t).oldest_live ≡ m
   pub filled : is_empty x t m ≡ false

@@ -277,7 +277,8 @@ module _ {K : Type 0} (shows : K → Lasting) (o : Beside) (size : PathSize) (sl
         let first = live shows o size slots id m w mine s r there t k bound q inside sees some_seen
         final in let full = filled shows o size slots id m w mine s r there t k bound q inside sees
         some_seen final in
-        subst (λ (y : ℕ × PutTable). RetiresFiledIn x e t.0 y.0 y.1) (λ i. (same i, one i)) (record {
+        subst (λ (y : ℕ × PutTable). RetiresFiledIn x e t.0 y.0 y.1) (λ i. (same i, one i))
+        (record {
           least = first;
           filled = subst (λ (c : ℕ). is_empty x t.0 c ≡ false) first full;
           of_table = refl;
