@@ -26,6 +26,7 @@ pub mod OldestMoves
 pub mod BarrierIssues
 pub mod BarrierBelow
 pub mod BarredTables
+pub mod LeastStays
 pub mod Applying
 pub mod PlaceStays
 pub mod ReadBounds

@@ -7,13 +7,16 @@ use Rattle.std.specs.Prelude.{
   ◌∷◌,
   [],
   ℕ,
+  suc,
   ◌+◌,
   ◌*◌,
   ◌^◌,
   ◌<◌,
   ◌≤◌,
+  ◌++◌,
   Bool,
   true,
+  false,
   List,
   length,
   Option,
@@ -21,7 +24,7 @@ use Rattle.std.specs.Prelude.{
   None,
   Result,
 }
-use Rattle.std.specs.List.{Contains}
+use Rattle.std.specs.List.{AllPairs, Contains}
 use Rattle.atomic_table.specs.Table.{Me, Step}
 use Rattle.clog_base.specs.declared.cell.Cell.{Cell}
 use Rattle.clog_base.specs.declared.cell.CellKey.{CellKey}
@@ -51,6 +54,7 @@ use Rattle.path_rule.specs.declared.view.Role.TheVariants.{Steps}
 use Rattle.path_rule.specs.declared.view.View.{View}
 use Rattle.path_rule.specs.Filing.{IsCellIn, MayGo, MayPut, more_filed, upper_of}
 use Rattle.path_rule.specs.HandsAfter.{with_desk, with_reading}
+use Rattle.path_rule.specs.Retires.{RetiresFiledIn}
 use Rattle.path_rule.specs.Rule.{view_after, with_hands, Was}
 use Rattle.path_rule.specs.Told.{Made, MadeAs}
 use Rattle.path_rule.specs.TurnTold.{CarriesAs}
@@ -108,6 +112,19 @@ noted refused archived dropped stopped l = record l {
   filed = record l.filed { refused = refused; archived = archived };
 }
 
+-- These segments may go now, of which none was dropped before: in the order of their ordinals, and
+-- each that may go below one of them is among them. They go up to that of a key.
+pub record AreGone (v : View) (key : ℕ) (ordinals : List ℕ) : Type 0 where
+  pub ascending : AllPairs (λ (a b : ℕ). a < b) ordinals
+  pub each : (o : ℕ) → Contains ordinals o → GoesNow v o
+  pub once : (o : ℕ) → Contains ordinals o → ¬ Contains v.hands.lasting.dropped o
+  pub first : (o p : ℕ) → o < ordinal_of key → MayGo v.hands.lasting o
+      → ¬ Contains v.hands.lasting.dropped o → Contains ordinals p → o < p → Contains ordinals o
+
+-- So many segments have their archive names: as many as before, where a keeper gives none.
+abbrev pub AreArchived : Lasting → ℕ → Type 0
+AreArchived l archived = l.beside.archives ≡ false → archived ≡ l.filed.archived
+
 -- each of these was dropped before, or may go now
 abbrev pub MayBeGone : View → List ℕ → Type 0
 MayBeGone v dropped = (o : ℕ) → Contains dropped o
@@ -144,6 +161,20 @@ module _ {K : Type 0} (shows : K → Lasting) where
       × CarriesAs shows (noted refused archived dropped stopped m.0.hands.lasting)
       m.0.hands.pending m.0.hands.progress m
 
+  -- It has refused a file, and has stopped with a count, or not. Nothing was dropped.
+  abbrev pub CarriesUndropped : Option ℕ → Me (Slot K) View → Type 0
+  CarriesUndropped stopped m = (refused : Bool)
+      × CarriesAs shows (noted refused m.0.hands.lasting.filed.archived m.0.hands.lasting.dropped
+      stopped m.0.hands.lasting) m.0.hands.pending m.0.hands.progress m
+
+  -- It has dropped these segments behind those that had gone, and has stopped with a count, or not.
+  abbrev pub CarriesDropped : Option ℕ → ℕ → List ℕ → Me (Slot K) View → Type 0
+  CarriesDropped stopped key ordinals m = (archived : ℕ) × AreArchived m.0.hands.lasting archived
+      × AreGone m.0 key ordinals
+      × CarriesAs shows (noted m.0.hands.lasting.filed.refused archived
+      (m.0.hands.lasting.dropped ++ ordinals) stopped m.0.hands.lasting) m.0.hands.pending
+      m.0.hands.progress m
+
   -- each segment that may go is dropped, of those below a key's
   abbrev pub HasDropped : ℕ → View → Me (Slot K) View → Type 0
   HasDropped key v m = (lasting : Lasting) → CarriesAs shows lasting v.hands.pending
@@ -159,10 +190,11 @@ module _ {K : Type 0} (shows : K → Lasting) where
       × CarriesAs shows (noted refused archived dropped stopped m.0.hands.lasting)
       m.0.hands.pending m.0.hands.progress m) × (m'.1 ≡ m.1)
 
-  -- a look
+  -- a look, which found the log running
   abbrev pub FilingNoted : Step (Slot K) → Me (Slot K) View → ℕ → Me (Slot K) View → Type 0
   FilingNoted st m n m' = (w : ℕ) → m.0.role ≡ Steps w
       → MadeNoted m.0.hands.lasting.stopped w (Look w (CursorWord StoppedCursor)) n m m'
+      × (n ≡ 0)
 
   -- the log is stopped with the count with which the keeper is
   abbrev pub FilingStopped : Step (Slot K) → Me (Slot K) View → ℕ → Me (Slot K) View → Type 0
@@ -177,3 +209,6 @@ module _ {K : Type 0} (shows : K → Lasting) where
       → CarriesAs shows lasting pending m.0.hands.progress m
       → MadeFiled w (Put w (OldestLive t) n) n (with_reading None
       (with_desk lasting pending m.0.hands.progress m.0.hands)) m.0 m'.0 × (m'.1 ≡ m.1)
+      × ((f : PutTable) (k : ℕ) → n ≡ suc k → CarriesFiled f m
+      → (was : Was m.0 w (Put w (OldestLive t) n))
+      × RetiresFiledIn was.core (Put w (OldestLive t) n) t.0 k f)

@@ -18,6 +18,8 @@ use Rattle.path_rule.specs.declared.view.View.{View}
 use Rattle.path_rule.specs.Boxes.{memtable_box, NotesAre}
 use Rattle.path_rule.specs.HandsAfter.{box_read, box_seen, first_read, with_reading}
 use Rattle.path_rule.specs.Layout.{bound_word}
+use Rattle.path_rule.specs.Retires.{RetiresEmptyIn}
+use Rattle.path_rule.specs.Rule.{Was}
 use Rattle.path_rule.specs.Told.{MadeAs}
 
 -- Where a reader looks up the key above which the interval of a memtable begins: the bound of the
@@ -91,9 +93,12 @@ module _ {K : Type 0} where
       → MadeAs w (Look w (Newest t)) n (with_reading (Some (box_seen q)) m.0.hands) m.0 m'.0
       × (m'.1 ≡ rest m.1)
 
-  -- the least memtable of the table is retired, and none is read any more
+  -- The least memtable of the table is retired, in which nothing is placed, and none is read any
+  -- more.
   abbrev pub Retired : Step (Slot K) → Me (Slot K) View → ℕ → Me (Slot K) View → Type 0
   Retired st m n m' = (w : ℕ) (t : Table) → m.0.role ≡ Steps w → t.0 < 16
       → st.word ≡ 10 + 4 * t.0
       → MadeAs w (Put w (OldestLive t) n) n (with_reading None m.0.hands) m.0 m'.0
       × (m'.1 ≡ m.1)
+      × ((was : Was m.0 w (Put w (OldestLive t) n))
+      × ((k : ℕ) → n ≡ suc k → RetiresEmptyIn was.core t.0 k))

@@ -6,6 +6,7 @@ pub mod Boxes
 pub mod Boxed
 pub mod Memtables
 pub mod Reads
+pub mod Retires
 pub mod Flushes
 pub mod Seen
 pub mod Filing

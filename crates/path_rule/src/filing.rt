@@ -14,6 +14,7 @@ ghost use Rattle.std.specs.Prelude.{
   true,
   List,
   [],
+  length,
   Option,
   Some,
   None,
@@ -33,13 +34,16 @@ ghost use Rattle.path_core.specs.Keeper.{HasRisen};
 ghost use Rattle.path_core.specs.Keys.{after};
 ghost use Rattle.path_core.specs.Next.{has_filed};
 ghost use Rattle.path_rule.specs.declared.lasting.Lasting.{Lasting};
+ghost use Rattle.path_rule.specs.declared.lasting.PutTable.{PutTable};
 ghost use Rattle.path_rule.specs.declared.view.FlushRead.{FlushRead};
-ghost use Rattle.path_rule.specs.Calls.{Holds};
+ghost use Rattle.path_rule.specs.Calls.{Holds, IsSyncedTo};
 ghost use Rattle.path_rule.specs.Filing.{MayPut, more_filed, upper_of};
 ghost use Rattle.path_rule.specs.FilingTold.{
   AreSeen,
+  CarriesDropped,
   CarriesFiled,
   CarriesNoted,
+  CarriesUndropped,
   FoundFinal,
   HasDropped,
   SeesAll,
@@ -60,6 +64,8 @@ ghost use Rattle.path_rule.specs.Members.{
   SteppedFiled,
   SteppedNoted,
 };
+ghost use Rattle.path_rule.specs.Retires.{RetiresFiledIn};
+ghost use Rattle.path_rule.specs.Rule.{Was};
 ghost use Rattle.path_rule.specs.SyncEnd.{stopped_by, TellsFaults};
 ghost use Rattle.path_rule.specs.TurnTold.{CarriesAs, CarriesDesk};
 ghost use Rattle.path_rule.specs.Turns.{FoundRunning};
@@ -151,6 +157,8 @@ impl<K: Keeper, A: Allocator> PathTable<K, A> {
         }) result.0.seat.me) }
         ensures refused { OnErr result.1 (CarriesNoted (shows_of K.holds)
             (stopped_by (hands_of member).lasting.stopped result.1) result.0.seat.me) }
+        ensures undropped { OnErr result.1 (CarriesUndropped (shows_of K.holds)
+            (stopped_by (hands_of member).lasting.stopped result.1) result.0.seat.me) }
         ensures counts { TellsFaults (hands_of member).lasting.at_open result.1 }
     {
         let Member { mut seat, number } = member;
@@ -186,6 +194,11 @@ impl<K: Keeper, A: Allocator> PathTable<K, A> {
             (memtable + 1) (with_reading None
             (with_desk lasting pending (hands_of member.old).progress (hands_of member.old)))
             member.new }
+        ensures was { (f : PutTable) → CarriesFiled (shows_of K.holds) f member.old.seat.me
+            → (was : Was (view_of member.old) member.old.number
+            (Put member.old.number (OldestLive table) (memtable + 1)))
+            × RetiresFiledIn was.core (Put member.old.number (OldestLive table) (memtable + 1))
+            table.0 memtable f }
         ensures filed { has_filed (part_of member.new) ≡ true }
         ensures turn { (key : ℕ) → TurnSynced (part_of member.old) key
             → TurnSynced (part_of member.new) key }
@@ -202,7 +215,8 @@ impl<K: Keeper, A: Allocator> PathTable<K, A> {
 
     /// Drops the segments that may go, by the keeper on the desk: those below that of the synced
     /// key, which the member found in its turn, of which table files hold all that they hold. It
-    /// has filed a memtable in that turn. The keeper's own count of them is answered.
+    /// has filed a memtable in that turn. The keeper's own count of them is answered; where it
+    /// refuses, the first of them may have gone.
     pub fn drop_due(&self, member: Member<K>, synced: Key) -> (Member<K>, Result<u32, KeeperFault>)
         requires table { member.seat.table_id ≡ self.now.table.shared.table_id }
         requires turn { TurnSynced (part_of member) synced.0
@@ -215,6 +229,9 @@ impl<K: Keeper, A: Allocator> PathTable<K, A> {
             (stopped_by (hands_of member).lasting.stopped result.1) result.0.seat.me }
         ensures all { OnOk result.1 (HasDropped (shows_of K.holds) synced.0 (view_of member)
             result.0.seat.me) }
+        ensures gone { (ordinals : List ℕ) × CarriesDropped (shows_of K.holds)
+            (stopped_by (hands_of member).lasting.stopped result.1) synced.0 ordinals
+            result.0.seat.me × IfOk result.1 (λ count. count ≡ length ordinals) }
         ensures counts { TellsFaults (hands_of member).lasting.at_open result.1 }
     {
         let closed = (synced.0 >> 31) as u32;
@@ -239,6 +256,15 @@ impl<K: Keeper, A: Allocator> PathTable<K, A> {
         ensures same { KeepsBoxes member.old member.new }
         ensures step { SteppedNoted (hands_of member.old).lasting.stopped member.old
             (Look member.old.number (CursorWord Stopped)) result member.new }
+        ensures shown { (lasting : Lasting) (pending : List EntryNote)
+            → CarriesAs (shows_of K.holds) lasting pending (hands_of member.old).progress
+            member.old.seat.me
+            → hands_of member.new ≡ with_desk lasting pending (hands_of member.old).progress
+            (hands_of member.old) }
+        ensures runs { (result ≡ 0) × FoundRunning (part_of member.new) }
+        ensures turn { (key : ℕ) → TurnSynced (part_of member.old) key
+            → TurnSynced (part_of member.new) key }
+        ensures filed { has_filed (part_of member.new) ≡ has_filed (part_of member.old) }
         ensures give { Holds Rest (view_of member.old) → Holds Rest (view_of member.new) }
         ensures desk { CarriesDesk (shows_of K.holds) member.new.seat.me }
     {
@@ -259,6 +285,14 @@ impl<K: Keeper, A: Allocator> PathTable<K, A> {
         ensures same { KeepsBoxes member.old member.new }
         ensures step { SteppedNoted (Some value) member.old
             (Put member.old.number Stopped value) value member.new }
+        ensures shown { (lasting : Lasting) (pending : List EntryNote)
+            → CarriesAs (shows_of K.holds) lasting pending (hands_of member.old).progress
+            member.old.seat.me
+            → hands_of member.new ≡ with_desk lasting pending (hands_of member.old).progress
+            (hands_of member.old) }
+        ensures synced { (upto : ℕ) → IsSyncedTo (view_of member.old) upto
+            → IsSyncedTo (view_of member.new) upto }
+        ensures filed { has_filed (part_of member.new) ≡ has_filed (part_of member.old) }
         ensures give { Holds Rest (view_of member.old) → Holds Rest (view_of member.new) }
         ensures desk { CarriesDesk (shows_of K.holds) member.new.seat.me }
     {

@@ -32,6 +32,8 @@ ghost use Rattle.path_rule.specs.Members.{
   PutsBack,
   SteppedAs,
 };
+ghost use Rattle.path_rule.specs.Retires.{RetiresEmptyIn};
+ghost use Rattle.path_rule.specs.Rule.{Was};
 ghost use Rattle.path_rule.specs.Switches.{FlushOldest, MayBeginRead};
 ghost use Rattle.path_rule.specs.Told.{CarriesNotes};
 ghost use Rattle.path_rule.specs.Trimmed.{IsTrimmed};
@@ -225,6 +227,9 @@ impl<K: Keeper, A: Allocator> PathTable<K, A> {
         ensures step { SteppedAs member.old
             (Put member.old.number (OldestLive table) (memtable + 1)) (memtable + 1)
             (with_reading None (hands_of member.old)) member.new }
+        ensures was { (was : Was (view_of member.old) member.old.number
+            (Put member.old.number (OldestLive table) (memtable + 1)))
+            × RetiresEmptyIn was.core table.0 memtable }
     {
         self.table.shared.store::<RetireEmpty<K>>(
             &mut member.seat,

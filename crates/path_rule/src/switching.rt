@@ -30,6 +30,7 @@ ghost use Rattle.path_core.specs.declared.seat.Switching.TheVariants.{
 ghost use Rattle.path_core.specs.declared.state.Bound.TheVariants.{Final};
 ghost use Rattle.path_core.specs.Parts.{seat_table, stage_of};
 ghost use Rattle.path_rule.specs.Members.{part_of, IsOf, KeepsBoxes, Stepped};
+ghost use Rattle.path_rule.specs.Switched.{KeepsMemtables};
 ghost use Rattle.path_rule.specs.Switches.{FlushNewest, FlushOldest, FlushRaised};
 
 use crate::plays::LookAt;
@@ -73,6 +74,9 @@ impl<K: Keeper, A: Allocator> PathTable<K, A> {
         ensures step { Stepped member.old (Switch member.old.number table memtable Open) memtable
             member.new }
         ensures stage { stage_of (part_of member.new) table.0 ≡ Some (Begun memtable) }
+        ensures newest { FlushNewest table.0 (part_of member.new) memtable }
+        ensures keeps { (n : ℕ) → FlushOldest table.0 (part_of member.old) n
+            → FlushOldest table.0 (part_of member.new) n }
         ensures others { (t : ℕ) → t ≢ table.0
             → seat_table (part_of member.new) t ≡ seat_table (part_of member.old) t }
     {
@@ -91,6 +95,7 @@ impl<K: Keeper, A: Allocator> PathTable<K, A> {
             (2 ^ 62) member.new }
         ensures stage { stage_of (part_of member.new) table.0 ≡ Some
             (MarkedStage (record { memtable = memtable; key = None; raised = false })) }
+        ensures keeps { KeepsMemtables table.0 (part_of member.old) (part_of member.new) }
         ensures others { (t : ℕ) → t ≢ table.0
             → seat_table (part_of member.new) t ≡ seat_table (part_of member.old) t }
     {
@@ -113,6 +118,7 @@ impl<K: Keeper, A: Allocator> PathTable<K, A> {
         ensures small { result.0 < 2 ^ 62 }
         ensures stage { (raised : Bool) × (stage_of (part_of member.new) table.0 ≡ Some
             (MarkedStage (record { memtable = memtable; key = Some result.0; raised = raised }))) }
+        ensures keeps { KeepsMemtables table.0 (part_of member.old) (part_of member.new) }
     {
         let _ = memtable;
         let key = self.look_log(member);
@@ -132,6 +138,7 @@ impl<K: Keeper, A: Allocator> PathTable<K, A> {
         ensures stage { stage_of (part_of member.new) table.0 ≡ Some
             (MarkedStage (record { memtable = memtable; key = Some key.0; raised = true })) }
         ensures raised { FlushRaised table.0 (part_of member.new) memtable key.0 }
+        ensures keeps { KeepsMemtables table.0 (part_of member.old) (part_of member.new) }
         ensures others { (t : ℕ) → t ≢ table.0
             → seat_table (part_of member.new) t ≡ seat_table (part_of member.old) t }
     {
@@ -157,6 +164,7 @@ impl<K: Keeper, A: Allocator> PathTable<K, A> {
             ≡ Some (record { memtable = memtable; bound = Final result }) }
         ensures above { (key : ℕ) → FlushRaised table.0 (part_of member.old) memtable key
             → key ≤ result.0 }
+        ensures keeps { KeepsMemtables table.0 (part_of member.old) (part_of member.new) }
         ensures others { (t : ℕ) → t ≢ table.0
             → seat_table (part_of member.new) t ≡ seat_table (part_of member.old) t }
     {

@@ -105,6 +105,7 @@ impl<K: Keeper, A: Allocator> PathTable<K, A> {
             × (current ≤ h) }
         ensures saw { TurnSaw order (part_of result.member) current }
         ensures hands { hands_of result.member ≡ hands_of holder.member }
+        ensures tables { (part_of result.member).tables ≡ (part_of holder.member).tables }
         ensures stages { (t : ℕ) → stage_of (part_of result.member) t
             ≡ stage_of (part_of holder.member) t }
     {
@@ -147,6 +148,8 @@ impl<K: Keeper, A: Allocator> PathTable<K, A> {
             → MatchPassed result.1
             (λ g. stage_of (part_of result.0.member) t ≡ Some (WithBarrier memtable g))
             (λ n. stage_of (part_of result.0.member) t ≡ Some (Waiting memtable)) }
+        ensures oldest { (t least : ℕ) → FlushOldest t (part_of holder.member) least
+            → FlushOldest t (part_of result.0.member) least }
     {
         let Holder { mut member } = holder;
         let current = self.seek_current(&mut member, Order::Write);
@@ -202,6 +205,9 @@ impl<K: Keeper, A: Allocator> PathTable<K, A> {
             → stage_of (part_of holder.member) t ≡ Some (WithBarrier memtable group)
             → (stage_of (part_of result.member) t ≡ Some (WithBarrier memtable group))
             × IsPast Write (view_of result.member) group }
+        ensures found { (t memtable group : ℕ)
+            → stage_of (part_of holder.member) t ≡ Some (WithBarrier memtable group)
+            → FoundPast (part_of result.member) group }
     {
         let Holder { mut member } = holder;
         let current = self.seek_current(&mut member, Order::Write);

@@ -38,7 +38,7 @@ use Rattle.std.specs.Prelude.{
   OnOk,
   Result,
 }
-use Rattle.std.specs.List.{Contains}
+use Rattle.std.specs.List.{AllPairs, Contains}
 use Rattle.std.proofs.lemmas.Bool.{eq-eqb, eqb-true, false≢true}
 use Rattle.std.proofs.lemmas.List.{map-append}
 use Rattle.std.proofs.lemmas.List.Elements.{
@@ -76,8 +76,10 @@ use Rattle.path_rule.specs.Boxes.{DeskIs, NotesAre, desk_box}
 use Rattle.path_rule.specs.Desks.{pending_on}
 use Rattle.path_rule.specs.Filing.{MayGo, more_filed, upper_of}
 use Rattle.path_rule.specs.FilingTold.{
+  CarriesDropped,
   CarriesFiled,
   CarriesNoted,
+  CarriesUndropped,
   GoesNow,
   HasDropped,
   MayBeGone,
@@ -162,6 +164,26 @@ module _ {K : Type 0} (holds : K → Holding) (before after : Desk K) (m : Me (S
       ),
     )
 
+    -- and nothing else has changed
+    pub desk_undropped : (f : PutFile)
+        → PublishRefused (holds before.keeper) (holds after.keeper) f
+        → CarriesUndropped (shows_of holds) stopped now
+    desk_undropped f S = let g = holds after.keeper in (
+      is_some g.refused,
+      (
+        Turn after,
+        refl,
+        (
+          ap lasting_of S.holds
+              ∙ (λ i. noted (is_some g.refused) (D.0 i).filed.archived (D.0 i).dropped (stops i)
+              (D.0 i)),
+          pends ∙ D.1,
+          progress ∙ D.2,
+          (λ t few. ap (λ (l : List ℕ). slice_index l t) uppers ∙ D.3 t few),
+        ),
+      ),
+    )
+
     module _ (closed key : ℕ) (is : closed ≡ ordinal_of key) (synced : TurnSynced m.0.part key)
         (filed : has_filed m.0.part ≡ true) where
       gone_now : (ordinals : List ℕ)
@@ -218,6 +240,85 @@ module _ {K : Type 0} (holds : K → Holding) (before after : Desk K) (m : Me (S
       desk_dropped_some S = let g = holds after.keeper in
           dropped_with S.ordinals g.archived S.due (ap lasting_of S.holds)
 
+      -- which of them went
+
+      gone_with : (ordinals archived : List ℕ) → AllPairs (λ (a b : ℕ). a < b) ordinals
+          → ((o : ℕ) → Contains ordinals o → IsDue (holds before.keeper) closed o)
+          → ((o p : ℕ) → IsDue (holds before.keeper) closed o → Contains ordinals p → o < p
+          → Contains ordinals o)
+          → ((holds before.keeper).opening.archives ≡ false
+          → archived ≡ (holds before.keeper).archived)
+          → lasting_of (holds after.keeper) ≡ noted (is_some (holds before.keeper).refused)
+          (length archived) ((holds before.keeper).dropped ++ ordinals)
+          (stopped_with (holds after.keeper).stopped (holds after.keeper).faults)
+          (lasting_of (holds before.keeper))
+          → CarriesDropped (shows_of holds) stopped key ordinals now
+      gone_with ordinals archived rises due first plain shows_now = let h = holds before.keeper in
+          let old = ap (λ (l : Lasting). l.dropped) D.0 in (
+            length archived,
+            (λ none. ap (λ (l : List ℕ). length l)
+                (plain (ap (λ (l : Lasting). l.beside.archives) D.0 ∙ none))
+                ∙ ap (λ (l : Lasting). l.filed.archived) D.0),
+            record {
+              ascending = rises;
+              each = λ o q. let d = due o q in record {
+                filed = filed;
+                may = subst (λ (l : Lasting). MayGo l o) D.0 (may_go h o d.1);
+                key = key;
+                synced = synced;
+                below = (let low = d.0 in omega arith);
+              };
+              once = λ o q was. (due o q).2 (subst (λ (l : List ℕ). Contains l o) (sym old) was);
+              first = λ o p low may fresh among less. first o p (
+                (omega arith),
+                may_drop h o (subst (λ (l : Lasting). MayGo l o) (sym D.0) may),
+                (λ q. fresh (subst (λ (l : List ℕ). Contains l o) old q)),
+              ) among less;
+            },
+            (
+              Turn after,
+              refl,
+              (
+                shows_now ∙ (λ i. noted (D.0 i).filed.refused (length archived)
+                    ((D.0 i).dropped ++ ordinals) (stops i) (D.0 i)),
+                pends ∙ D.1,
+                progress ∙ D.2,
+                (λ t few. ap (λ (l : List ℕ). slice_index l t) uppers ∙ D.3 t few),
+              ),
+            ),
+          )
+
+      -- a keeper that gives no archive names has those that it had
+      none_named : (ordinals : List ℕ) → (holds before.keeper).opening.archives ≡ false
+          → archived_with (holds before.keeper) ordinals ≡ (holds before.keeper).archived
+      none_named ordinals none = ap (λ (b : Bool). if b
+          then (holds before.keeper).archived ++ ordinals else (holds before.keeper).archived) none
+
+      desk_gone : (count : ℕ) → Drops (holds before.keeper) (holds after.keeper) closed count
+          → (ordinals : List ℕ) × CarriesDropped (shows_of holds) stopped key ordinals now
+          × (count ≡ length ordinals)
+      desk_gone count S = let h = holds before.keeper in let g = holds after.keeper in
+          let same : g.stopped ≡ h.stopped = ap (λ (k : Holding). k.stopped) S.holds in (
+            S.ordinals,
+            gone_with S.ordinals (archived_with h S.ordinals) S.ascending
+                (λ o q. (S.exact o).0 q) (λ o p due among less. (S.exact o).1 due)
+                (none_named S.ordinals)
+                (ap lasting_of S.holds ∙ (λ i. noted (is_some h.refused)
+                (length (archived_with h S.ordinals)) (h.dropped ++ S.ordinals)
+                (stopped_with (sym same i) g.faults) (lasting_of h))),
+            S.counted,
+          )
+
+      desk_gone_some : DropRefused (holds before.keeper) (holds after.keeper) closed
+          → (ordinals : List ℕ) × CarriesDropped (shows_of holds) stopped key ordinals now
+      desk_gone_some S = let g = holds after.keeper in (
+        S.ordinals,
+        gone_with S.ordinals g.archived S.ascending S.due S.first
+            (λ none. ⊎_elim (λ all. all ∙ none_named S.ordinals none)
+            (λ more. more.2 ∙ none_named (S.ordinals ++ more.0 ∷ []) none) S.named)
+            (ap lasting_of S.holds),
+      )
+
       -- all that may go went
       pub desk_has_dropped : (count : ℕ)
           → Drops (holds before.keeper) (holds after.keeper) closed count
@@ -265,3 +366,11 @@ module _ {K : Type 0} (holds : K → Holding) (before after : Desk K) (m : Me (S
           → OnOk r (HasDropped (shows_of holds) key m.0 now)
       all_dropped (Ok count) drops = desk_has_dropped count drops
       all_dropped (Err fault) drops = tt
+
+      pub all_gone : (r : Result ℕ KeeperFault)
+          → IfOk r (λ count. Drops (holds before.keeper) (holds after.keeper) closed count)
+          → OnErr r (DropRefused (holds before.keeper) (holds after.keeper) closed)
+          → (ordinals : List ℕ) × CarriesDropped (shows_of holds) stopped key ordinals now
+          × IfOk r (λ count. count ≡ length ordinals)
+      all_gone (Ok count) drops refused = desk_gone count drops
+      all_gone (Err fault) drops refused = let G = desk_gone_some refused in (G.0, G.1, tt)

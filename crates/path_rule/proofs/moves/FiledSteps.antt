@@ -61,7 +61,7 @@ use Rattle.path_core.specs.Allowed.{IsStep}
 use Rattle.path_core.specs.Keys.{after}
 use Rattle.path_core.specs.Lawful.{IsLawfulPath}
 use Rattle.path_core.specs.Next.{next_of}
-use Rattle.path_core.specs.Parts.{fresh_table, table_of}
+use Rattle.path_core.specs.Parts.{fresh_table, is_empty, table_of}
 use Rattle.path_core.specs.SeatAfter.{seat_after}
 use Rattle.path_core.proofs.files.LastFile.{oldest_grows}
 use Rattle.path_core.proofs.runs.EveryRun.{placing_of}
@@ -97,7 +97,8 @@ use Rattle.path_rule.specs.FilingTold.{
 use Rattle.path_rule.specs.HandsAfter.{with_desk, with_reading}
 use Rattle.path_rule.specs.Lasts.{shown}
 use Rattle.path_rule.specs.Memtables.{HasMemtables, PutsAre, PutsAs}
-use Rattle.path_rule.specs.Rule.{Ruled, told_by, view_after, with_hands}
+use Rattle.path_rule.specs.Retires.{RetiresFiledIn, written_as}
+use Rattle.path_rule.specs.Rule.{Ruled, Was, told_by, view_after, with_hands}
 use Rattle.path_rule.specs.TurnTold.{CarriesAs}
 use Rattle.path_rule.proofs.boxes.AtHome.{inside_list}
 use Rattle.path_rule.proofs.boxes.DeskChanged.{boxed_desk_turns}
@@ -128,6 +129,7 @@ use Rattle.path_rule.proofs.moves.Moving.{
   reads_then,
   was,
 }
+use Rattle.path_rule.proofs.moves.StepFacts.{last_same}
 use Rattle.path_rule.proofs.moves.SyncFacts.{turn_exact}
 use Rattle.path_rule.proofs.moves.SyncSteps.{desk_same, top_box}
 use Rattle.path_rule.proofs.moves.TableTurns.{each_table_name}
@@ -253,6 +255,37 @@ module _ {K : Type 0} (shows : K → Lasting) (o : Beside) (size : PathSize) (sl
         one_longer [] f = refl
         one_longer (g ∷ l) f = ap suc (one_longer l f)
 
+    written_is : written ≡ written_as k put_now
+    written_is = let first = live shows o size slots id m w mine s r there t k bound q inside sees
+        some_seen final in λ i. record {
+          table = t.0;
+          memtable = first i;
+          lower = sym lower_now i;
+          upper = upper_now i;
+        }
+
+    -- the file that lies behind the others is the one that the keeper was given
+    one_put : CarriesFiled shows put_now m → (f : PutTable) → CarriesFiled shows f m → put_now ≡ f
+    one_put C f F = let l = m.0.hands.lasting in
+        let d = desk_same shows C.0 F.0 (more_filed put_now l) (more_filed f l) m.0.hands.pending
+        m.0.hands.pending m.0.hands.progress (ap (top_box C.0) (sym C.1 ∙ F.1)) C.2 F.2 in
+        last_same l.filed.files put_now f (ap (λ (a : Lasting). a.filed.files) d.0)
+
+    retired_in_it : CarriesFiled shows put_now m → (f : PutTable) (j : ℕ) → suc k ≡ suc j
+        → CarriesFiled shows f m → RetiresFiledIn x e t.0 j f
+    retired_in_it C f j next F = let same : k ≡ j = omega arith in let one = one_put C f F in
+        let first = live shows o size slots id m w mine s r there t k bound q inside sees some_seen
+        final in let full = filled shows o size slots id m w mine s r there t k bound q inside sees
+        some_seen final in
+        subst (λ (y : ℕ × PutTable). RetiresFiledIn x e t.0 y.0 y.1) (λ i. (same i, one i))
+        (record {
+          least = first;
+          filled = subst (λ (c : ℕ). is_empty x t.0 c ≡ false) first full;
+          of_table = refl;
+          files = files_now ∙ ap (λ (g : WrittenFile). x.files ++ g ∷ []) written_is;
+          exact = true_now;
+        })
+
     -- the view with what the desk tells, where it has made no step yet
     abbrev told_view : View
     told_view = record m.0 { hands = told_desk }
@@ -318,13 +351,20 @@ module _ {K : Type 0} (shows : K → Lasting) (o : Beside) (size : PathSize) (sl
             m.0.hands.progress (ap (top_box C.0) (sym C.1 ∙ C'.1)) C.2 C'.2 in
             each_table_name shows o size slots id m w mine 10 t
             (λ z u. MadeFiled z (Put z (OldestLive u) (suc k)) (suc k) (with_reading None
-            (with_desk lasting pending m.0.hands.progress m.0.hands)) m.0 v' × (m.1 ≡ m.1)) (
+            (with_desk lasting pending m.0.hands.progress m.0.hands)) m.0 v' × (m.1 ≡ m.1)
+            × ((f : PutTable) (j : ℕ) → suc k ≡ suc j → CarriesFiled shows f m
+            → (was : Was m.0 z (Put z (OldestLive u) (suc k)))
+            × RetiresFiledIn was.core (Put z (OldestLive u) (suc k)) u.0 j f)) (
               (
                 (λ i. view_after (with_hands (with_reading None (with_desk (d.0 i) (d.1 i)
                     m.0.hands.progress m.0.hands)) m.0) e (suc k) true),
                 was shows o size s r id w m.0 there mine e may tt,
               ),
               refl,
+              (λ f j next F. (
+                was shows o size s r id w m.0 there mine e may tt,
+                retired_in_it s r there C f j next F,
+              )),
             ) z u role word,
       )
     where

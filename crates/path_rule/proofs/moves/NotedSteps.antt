@@ -180,16 +180,21 @@ module _ {K : Type 0} (shows : K → Lasting) (o : Beside) (size : PathSize) (sl
             (still _ m.0.part.sync held) stopped refl refl after_is) tt (refl, refl, refl, refl) tt
             tt,
         each_seat_name shows o size slots id m w mine
-            (λ y. MadeNoted shows stopped y (Look y (CursorWord Stopped)) n m (v', m.1)) (
+            (λ y. MadeNoted shows stopped y (Look y (CursorWord Stopped)) n m (v', m.1)
+            × (n ≡ 0)) (
               (
-                refused,
-                archived,
-                dropped,
-                gone,
-                (refl, was shows o size s r id w m.0 there mine e may tt),
-                C,
+                (
+                  refused,
+                  archived,
+                  dropped,
+                  gone,
+                  (refl, was shows o size s r id w m.0 there mine e may tt),
+                  C,
+                ),
+                refl,
               ),
-              refl,
+              found ∙ sym ((turn_exact shows o size slots id m w mine s r there turn
+                  sync).stopped 0 runs),
             ),
       )
 

@@ -34,7 +34,8 @@ use Rattle.path_rule.specs.declared.view.View.{View}
 use Rattle.path_rule.specs.Flushes.{Retired, SeesNone}
 use Rattle.path_rule.specs.HandsAfter.{with_reading}
 use Rattle.path_rule.specs.Lasts.{shown}
-use Rattle.path_rule.specs.Rule.{Ruled, told_by, view_after, with_hands}
+use Rattle.path_rule.specs.Retires.{RetiresEmptyIn}
+use Rattle.path_rule.specs.Rule.{Ruled, Was, told_by, view_after, with_hands}
 use Rattle.path_rule.specs.Told.{MadeAs}
 use Rattle.path_rule.proofs.boxes.MemtableReads.{read_still, retabled}
 use Rattle.path_rule.proofs.boxes.OtherBoxes.{boxed_other}
@@ -153,8 +154,20 @@ module _ {K : Type 0} (shows : K → Lasting) (o : Beside) (size : PathSize) (sl
             f false h refl told (λ z is. absurd (none-some z is))),
         λ z u role _ word. each_table_name shows o size slots id m w mine 10 t
             (λ z u. MadeAs z (Put z (OldestLive u) f) f
-            (with_reading None m.0.hands) m.0 v' × (m.1 ≡ m.1))
-            ((refl, was shows o size s r id w m.0 there mine e may tt), refl) z u role word,
+            (with_reading None m.0.hands) m.0 v' × (m.1 ≡ m.1)
+            × ((was : Was m.0 z (Put z (OldestLive u) f))
+            × ((j : ℕ) → f ≡ suc j → RetiresEmptyIn was.core u.0 j))) (
+              (refl, was shows o size s r id w m.0 there mine e may tt),
+              refl,
+              (
+                was shows o size s r id w m.0 there mine e may tt,
+                (λ j next. let same : (table_of x t.0).oldest_live ≡ j = omega arith in
+                    record {
+                      least = same;
+                      empty = subst (λ (c : ℕ). is_empty x t.0 c ≡ true) same empty;
+                    }),
+              ),
+            ) z u role word,
       )
     where
       same_reading : (a b : FlushRead) → m.0.hands.reading ≡ Some a → m.0.hands.reading ≡ Some b

@@ -36,6 +36,7 @@ use Rattle.path_rule.specs.Boxes.{desk_box, DeskIs}
 use Rattle.path_rule.specs.Calls.{Holds, MayGive}
 use Rattle.path_rule.specs.HandsAfter.{with_desk}
 use Rattle.path_rule.specs.TurnTold.{CarriesAs, CarriesDesk}
+use Rattle.path_rule.proofs.moves.SyncSteps.{desk_same, top_box}
 use Rattle.path_rule.proofs.seats.HolderKnows.{still, becomes}
 
 pub gives_still : (f : SyncTurn → SyncTurn) → ((t : SyncTurn) → (f t).issue ≡ t.issue)
@@ -69,6 +70,21 @@ holds_still f issue v v' sync taken H = record {
       ∙ becomes f v.part.sync Rest Rest (λ t e. issue t ∙ e) H.held H.issue;
   empty = taken ∙ H.empty;
 }
+
+-- whether it has filed
+pub filed_as : (f : SyncTurn → SyncTurn) → ((t : SyncTurn) → (f t).filed ≡ t.filed)
+    → (o : Option SyncTurn) → option_map_or (λ (t : SyncTurn). t.filed) (option_map f o) false
+    ≡ option_map_or (λ (t : SyncTurn). t.filed) o false
+filed_as f filed None = refl
+filed_as f filed (Some t) = filed t
+
+-- What two seats know of one desk they know alike.
+pub hands_as : {K : Type 0} (shows : K → Lasting) (m : Me (Slot K) View) (l k : Lasting)
+    (p q : List EntryNote) (h : Hands) → CarriesAs shows l p h.progress m
+    → CarriesAs shows k q h.progress m → with_desk l p h.progress h ≡ with_desk k q h.progress h
+hands_as shows m l k p q h C D = let d = desk_same shows C.0 D.0 l k p q h.progress
+    (ap (top_box C.0) (sym C.1 ∙ D.1)) C.2 D.2 in
+    λ i. with_desk (d.0 i) (d.1 i) h.progress h
 
 -- a seat that knows what lies on the desk carries it
 pub carries_on : {K : Type 0} (shows : K → Lasting) (m m' : Me (Slot K) View) (lasting : Lasting)

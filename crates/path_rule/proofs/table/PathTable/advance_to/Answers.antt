@@ -1,7 +1,8 @@
-use Rattle.std.proofs.Common.{[], refl, ◌∙◌}
+use Rattle.std.proofs.Common.{◌+◌, [], refl, ◌∙◌}
 use Rattle.path_core.specs.declared.event.Event.TheVariants.{Look}
 use Rattle.path_core.specs.declared.event.Place.TheVariants.{Count, Oldest}
 use Rattle.path_rule.proofs.seats.RoundsGo.{one, next, none_yet}
+use Rattle.path_rule.proofs.seats.LeastStays.{advance_leaves, count_leaves, oldest_leaves}
 use Rattle.path_rule.proofs.table.PathTable.advance_to.Goals as goal
 
 pub returns-then-oldest-current-clause-steps : goal.returns-then-oldest-current-clause-steps
@@ -28,6 +29,12 @@ loop-preserved-then-count g c =
           (one _ (Look _ (Oldest c.args.order)) O.result _ _ refl O.ensures.step))
           (one _ (Look _ (Count c.args.order O.result)) C.result _ _ refl C.ensures.step)) A.steps;
       hands = A.hands ∙ (C.ensures.hands ∙ (O.ensures.hands ∙ I.hands));
+      tables = advance_leaves C.new.member.seat.me.0 c.advance.new.member.seat.me.0
+          C.new.member.number (O.result + 1) c.args.order (O.result + 1) A.step
+          ∙ (count_leaves O.new.member.seat.me.0 C.new.member.seat.me.0 O.new.member.number
+          C.result c.args.order O.result C.ensures.step
+          ∙ (oldest_leaves c.loop.member.seat.me.0 O.new.member.seat.me.0 c.loop.member.number
+          O.result c.args.order O.ensures.step ∙ I.tables));
       stages = λ t. A.stages t ∙ (C.ensures.stages t ∙ (O.ensures.stages t ∙ I.stages t));
     }
 
@@ -47,6 +54,10 @@ loop-preserved g c =
           (one _ (Look _ (Oldest c.args.order)) O.result _ _ refl O.ensures.step))
           (one _ (Look _ (Count c.args.order O.result)) C.result _ _ refl C.ensures.step);
       hands = C.ensures.hands ∙ (O.ensures.hands ∙ I.hands);
+      tables = count_leaves O.new.member.seat.me.0 C.new.member.seat.me.0 O.new.member.number
+          C.result c.args.order O.result C.ensures.step
+          ∙ (oldest_leaves c.loop.member.seat.me.0 O.new.member.seat.me.0 c.loop.member.number
+          O.result c.args.order O.ensures.step ∙ I.tables);
       stages = λ t. C.ensures.stages t ∙ (O.ensures.stages t ∙ I.stages t);
     }
 
@@ -62,9 +73,15 @@ loop-init g c = record {
   saw = c.requires.current.0;
   steps = none_yet c.args.holder.member.number _ _ refl;
   hands = refl;
+  tables = refl;
   stages = λ t. refl;
 }
 
 pub returns-then-oldest-current-clause-stages : goal.returns-then-oldest-current-clause-stages
 returns-then-oldest-current-clause-stages g c =
     λ t. c.seek_oldest-oldest.ensures.stages t ∙ c.loop.invariant.stages t
+
+pub returns-then-oldest-current-clause-tables : goal.returns-then-oldest-current-clause-tables
+returns-then-oldest-current-clause-tables g c = let O = c.seek_oldest-oldest in
+    oldest_leaves c.loop.member.seat.me.0 O.new.member.seat.me.0 c.loop.member.number O.result
+    c.args.order O.ensures.step ∙ c.loop.invariant.tables

@@ -18,6 +18,7 @@ invariant-loop g l = record {
   saw : TurnSaw l.order l.member.seat.me.0.part l.current;
   steps : RoundSteps l.initial.member.number [] l.initial.member.seat.me.0 l.member.seat.me.0;
   hands : l.member.seat.me.0.hands ≡ l.initial.member.seat.me.0.hands;
+  tables : l.member.seat.me.0.part.tables ≡ l.initial.member.seat.me.0.part.tables;
   stages : (t : ℕ) → stage_of l.member.seat.me.0.part t
       ≡ stage_of l.initial.member.seat.me.0.part t;
 }

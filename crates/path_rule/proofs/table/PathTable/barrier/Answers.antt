@@ -12,6 +12,8 @@ use Rattle.path_rule.specs.declared.view.View.{View}
 use Rattle.path_rule.specs.Calls.{acts}
 use Rattle.path_rule.proofs.seats.BarrierIssues.{issues}
 use Rattle.path_rule.proofs.seats.RoundsGo.{one, next}
+use Rattle.path_rule.proofs.seats.BarredTables.{least_expired, least_moved, least_opened}
+use Rattle.path_rule.proofs.seats.LeastStays.{current_leaves, least_left}
 use Rattle.path_rule.proofs.table.PathTable.barrier.Goals as goal
 
 pub returns-then-current-eq-LAST_GROUP-clause-steps :
@@ -92,3 +94,23 @@ returns-clause-hands g c = c.advance_to-holder.ensures.hands
     ∙ (ap (λ (v : View). v.hands) c.move_write.ensures.step.view
     ∙ (ap (λ (v : View). v.hands) c.open_write.ensures.step.view
     ∙ c.seek_current-current.ensures.hands)))
+
+pub returns-then-current-eq-LAST_GROUP-clause-oldest :
+    goal.returns-then-current-eq-LAST_GROUP-clause-oldest
+returns-then-current-eq-LAST_GROUP-clause-oldest g c = let m = c.args.holder.member in
+    let S = c.seek_current-current in let s = S.new.member.seat.me.0 in
+    λ t k F. least_left m.seat.me.0 s t k
+    (current_leaves m.seat.me.0 s m.number S.result Write S.ensures.step) F
+
+pub returns-clause-oldest : goal.returns-clause-oldest
+returns-clause-oldest g c = let h = c.args.holder.member in let S = c.seek_current-current in
+    let cur = S.result in let O = c.open_write in let M = c.move_write in let E = c.expire_write in
+    let A = c.advance_to-holder in let s = S.new.member.seat.me.0 in
+    let o = O.new.member.seat.me.0 in let m = M.new.member.seat.me.0 in
+    let e = E.new.member.seat.me.0 in
+    λ t k F. least_left e A.result.member.seat.me.0 t k A.ensures.tables
+    (least_expired m e M.new.member.number cur E.result t k Write E.ensures.step
+    (least_moved o m O.new.member.number (cur + 1) cur t k M.ensures.step
+    (least_opened s o S.new.member.number (cur + 1) 0 t k Write O.ensures.step
+    (least_left h.seat.me.0 s t k
+    (current_leaves h.seat.me.0 s h.number cur Write S.ensures.step) F))))

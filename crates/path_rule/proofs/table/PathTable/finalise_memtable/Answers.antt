@@ -14,6 +14,7 @@ use Rattle.path_rule.proofs.seats.SwitchStages.{
   final_stage,
   switch_leaves,
 }
+use Rattle.path_rule.proofs.seats.LeastStays.{final_keeps}
 use Rattle.path_rule.proofs.table.PathTable.finalise_memtable.Goals as goal
 
 pub fetch_add-word-requires : goal.fetch_add-word-requires
@@ -94,3 +95,11 @@ returns-clause-others g c = let m = c.args.member.now in
     λ u apart. ap (λ (v : View). seat_table v.part u) q.0.0.0
     ∙ (switch_leaves m.seat.me.0 m.number c.args.table (omega arith) c.args.memtable
     c.fetch_add-word.result u apart).2
+
+pub returns-clause-keeps : goal.returns-clause-keeps
+returns-clause-keeps g c = let m = c.args.member.now in
+    let few = c.args.self.now.fits.few_tables in let there = c.requires.there.0 in
+    let q = c.fetch_add-word.ensures.2 m.number c.args.memtable c.args.table m.role (omega arith)
+    refl in
+    final_keeps m.seat.me.0 c.fetch_add-word.new.seat.me.0 m.number c.args.table.0 c.args.table
+    c.args.memtable c.fetch_add-word.result (record { view = q.0.0.0; was = q.0.0.1 })

@@ -7,6 +7,7 @@ use Rattle.path_rule.specs.Lasts.{beside_of, shows_of}
 use Rattle.path_core.specs.Parts.{stage_of}
 use Rattle.path_rule.proofs.moves.SwitchSteps.{marks_memtable}
 use Rattle.path_rule.proofs.seats.SwitchStages.{marked_stage, switch_leaves}
+use Rattle.path_rule.proofs.seats.LeastStays.{mark_keeps}
 use Rattle.path_rule.proofs.table.PathTable.mark_memtable.Goals as goal
 
 pub store-requires : goal.store-requires
@@ -57,3 +58,10 @@ returns-clause-others g c = let m = c.args.member.now in
     λ u apart. ap (λ (v : View). seat_table v.part u) q.0.0
     ∙ (switch_leaves m.seat.me.0 m.number c.args.table (omega arith) c.args.memtable (2 ^ 62) u
     apart).1
+
+pub returns-clause-keeps : goal.returns-clause-keeps
+returns-clause-keeps g c = let m = c.args.member.now in
+    let few = c.args.self.now.fits.few_tables in let there = c.requires.there.0 in
+    let q = c.store.ensures.2 m.number c.args.memtable c.args.table m.role (omega arith) refl in
+    mark_keeps m.seat.me.0 c.store.new.seat.me.0 m.number c.args.table.0 c.args.table
+    c.args.memtable (2 ^ 62) (record { view = q.0.0; was = q.0.1 })

@@ -6,6 +6,7 @@ use Rattle.path_rule.specs.Lasts.{beside_of, shows_of}
 use Rattle.path_core.specs.Parts.{stage_of}
 use Rattle.path_rule.proofs.moves.SwitchSteps.{opens_memtable}
 use Rattle.path_rule.proofs.seats.SwitchStages.{opened_stage, switch_leaves}
+use Rattle.path_rule.proofs.seats.LeastStays.{open_keeps, open_newest}
 use Rattle.path_rule.proofs.table.PathTable.open_memtable.Goals as goal
 
 pub store-requires : goal.store-requires
@@ -58,3 +59,18 @@ returns-clause-others g c = let m = c.args.member.now in
     λ u apart. ap (λ (v : View). seat_table v.part u) q.0.0
     ∙ (switch_leaves m.seat.me.0 m.number c.args.table (omega arith) c.args.memtable c.args.memtable
     u apart).0
+
+pub returns-clause-newest : goal.returns-clause-newest
+returns-clause-newest g c = let m = c.args.member.now in
+    let few = c.args.self.now.fits.few_tables in let there = c.requires.there in
+    let q = c.store.ensures.2 m.number c.args.table m.role (omega arith) refl in
+    let turn = c.requires.turn.1 in
+    open_newest m.seat.me.0 c.store.new.seat.me.0 m.number c.args.table c.args.memtable
+    c.args.memtable (omega arith) (record { view = q.0.0; was = q.0.1 }) turn.0 turn.1
+
+pub returns-clause-keeps : goal.returns-clause-keeps
+returns-clause-keeps g c = let m = c.args.member.now in
+    let few = c.args.self.now.fits.few_tables in let there = c.requires.there in
+    let q = c.store.ensures.2 m.number c.args.table m.role (omega arith) refl in
+    open_keeps m.seat.me.0 c.store.new.seat.me.0 m.number c.args.table.0 c.args.table
+    c.args.memtable c.args.memtable (record { view = q.0.0; was = q.0.1 })

@@ -24,3 +24,11 @@ returns-clause-passed g c =
       A.stages t ∙ (O.ensures.stages t ∙ then),
       (A.past.0, A.past.1, omega (arith, low, high)),
     )
+
+pub returns-clause-found : goal.returns-clause-found
+returns-clause-found g c =
+    let S = c.seek_current-current in let O = c.seek_oldest-oldest in
+    let A = c.advance_to.ensures in
+    λ t m group stage. let then = S.ensures.stages t ∙ stage in
+    let low = barrier_below _ _ S.result t m group _ O.ensures.step.was S.ensures.turn.1 then in
+    let high = A.found.2 in (A.found.0, A.found.1, omega (arith, low, high))

@@ -4,7 +4,7 @@ use Rattle.path_rule.specs.declared.lasting.Lasting.{Lasting}
 use Rattle.path_rule.specs.declared.slot.Slot.{Slot}
 use Rattle.path_rule.specs.Boxes.{desk_box}
 use Rattle.path_rule.specs.SyncEnd.{stopped_by, TellsFaults}
-use Rattle.path_rule.proofs.boxes.DeskFiled.{desk_filed, desk_refused}
+use Rattle.path_rule.proofs.boxes.DeskFiled.{desk_filed, desk_refused, desk_undropped}
 use Rattle.path_rule.proofs.boxes.DeskLent.{on_desk, on_err, on_ok_with}
 use Rattle.path_rule.proofs.table.PathTable.put_table.Goals as goal
 
@@ -52,3 +52,19 @@ returns-clause-counts g c = let m = c.args.member in
     ∙ ap (λ (y : Slot _). (desk_box, y) ∷ rest m.seat.me.1) c.in-Turn.is) in
     subst (λ n. TellsFaults n c.publish_on-done.result)
     (ap (λ (l : Lasting). l.at_open) D.0) c.publish_on-done.ensures.counts
+
+pub returns-clause-undropped : goal.returns-clause-undropped
+returns-clause-undropped g c = let m = c.args.member in let P = c.publish_on-done.ensures in
+    let r = c.publish_on-done.result in
+    let top = c.slot_mut.ensures.value
+    ∙ ap (λ (y : Slot _). (desk_box, y) ∷ rest m.seat.me.1) c.in-Turn.is in
+    let D = on_desk g.K.Keeper.holds c.in-Turn.desk m.seat.me c.requires.desk top in
+    on_err r _ _ (λ S. desk_undropped g.K.Keeper.holds c.in-Turn.desk c.publish_on-done.new.desk
+    m.seat.me c.requires.desk top P.same.0 P.same.1 S.1
+    (stopped_by m.seat.me.0.hands.lasting.stopped r)
+    (P.stopped ∙ ap (λ (l : Lasting). stopped_by l.stopped r) D.0) (record {
+      table = c.args.table.0;
+      lower = c.args.lower.0;
+      upper = c.args.upper.0;
+      cells = c.args.cells.now;
+    }) S.0) P.refused

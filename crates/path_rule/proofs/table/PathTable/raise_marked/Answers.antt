@@ -9,6 +9,7 @@ use Rattle.path_rule.proofs.moves.BoundSteps.{raises}
 use Rattle.path_rule.proofs.moves.SwitchSteps.{holder_raises}
 use Rattle.path_rule.proofs.seats.Accepting.{raised_leaves}
 use Rattle.path_rule.proofs.seats.SwitchStages.{raised_above, raised_stage_now}
+use Rattle.path_rule.proofs.seats.LeastStays.{raise_keeps}
 use Rattle.path_rule.proofs.table.PathTable.raise_marked.Goals as goal
 
 pub fetch_max-found-requires : goal.fetch_max-found-requires
@@ -77,3 +78,12 @@ returns-clause-others g c = let m = c.args.member.now in
     λ u apart. ap (λ (v : View). seat_table v.part u) q.0.0.0
     ∙ raised_leaves m.seat.me.0 m.number c.args.table c.args.memtable c.fetch_max-found.result
     c.args.key u apart
+
+pub returns-clause-keeps : goal.returns-clause-keeps
+returns-clause-keeps g c = let m = c.args.member.now in
+    let few = c.args.self.now.fits.few_tables in let there = c.requires.there.0 in
+    let q = c.fetch_max-found.ensures.2 m.number c.args.memtable c.args.key.0 c.args.table m.role
+    (omega arith) refl refl in
+    raise_keeps m.seat.me.0 c.fetch_max-found.new.seat.me.0 m.number c.args.table.0 c.args.table
+    c.args.memtable c.fetch_max-found.result c.args.key
+    (record { view = q.0.0.0; was = q.0.0.1 })

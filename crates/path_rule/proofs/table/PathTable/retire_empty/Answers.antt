@@ -1,4 +1,4 @@
-use Rattle.std.proofs.Common.{◌+◌, ◌<◌, refl, sym, ap, ◌∙◌, subst, arith}
+use Rattle.std.proofs.Common.{◌≡◌, suc, ◌+◌, ◌<◌, refl, sym, ap, ◌∙◌, subst, arith}
 use Rattle.path_rule.specs.declared.view.PathSize.{PathSize}
 use Rattle.path_rule.specs.declared.view.View.{View}
 use Rattle.path_rule.specs.Flushes.{SeesNone}
@@ -39,3 +39,10 @@ returns-clause-step g c = let m = c.args.member.now in
     let few = c.args.self.now.fits.few_tables in let there = c.requires.there.0 in
     let d = c.store.ensures.2 m.number c.args.table m.role (omega arith) refl in
     record { view = d.0.0; was = d.0.1 }
+
+pub returns-clause-was : goal.returns-clause-was
+returns-clause-was g c = let m = c.args.member.now in
+    let few = c.args.self.now.fits.few_tables in let there = c.requires.there.0 in
+    let d = c.store.ensures.2 m.number c.args.table m.role (omega arith) refl in
+    let up : c.args.memtable + 1 ≡ suc c.args.memtable = omega arith in
+    (d.2.0, d.2.1 c.args.memtable up)

@@ -118,3 +118,10 @@ returns-clause-desk g c = let m = c.args.member.now in let F = c.requires.file i
     let d = c.store.ensures.2 m.number c.args.table l h.pending m.role (omega arith) refl F.5 in
     carries_on (shows_of g.K.Keeper.holds) m.seat.me c.store.new.seat.me l h.pending h.progress
     (with_reading None h) (ap (λ (v : View). v.hands) d.0.0) d.1 F.5
+
+pub returns-clause-was : goal.returns-clause-was
+returns-clause-was g c = let m = c.args.member.now in
+    let few = c.args.self.now.fits.few_tables in let there = c.requires.there.0 in
+    let up : c.args.memtable + 1 ≡ suc c.args.memtable = omega arith in λ f F.
+    let d = c.store.ensures.2 m.number c.args.table (more_filed f m.seat.me.0.hands.lasting)
+    m.seat.me.0.hands.pending m.role (omega arith) refl F in d.2 f c.args.memtable up F

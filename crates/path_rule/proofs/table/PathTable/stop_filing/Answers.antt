@@ -1,13 +1,15 @@
 use Rattle.std.proofs.Common.{Some, refl, sym, ap, ◌∙◌, subst, arith}
+use Rattle.std.specs.Option.{option_map}
 use Rattle.path_core.specs.declared.seat.Issue.TheVariants.{Rest}
 use Rattle.path_core.specs.declared.seat.SyncTurn.{SyncTurn}
+use Rattle.path_core.specs.Next.{has_filed}
 use Rattle.path_rule.specs.declared.view.PathSize.{PathSize}
 use Rattle.path_rule.specs.declared.view.View.{View}
-use Rattle.path_rule.specs.Calls.{Holds}
+use Rattle.path_rule.specs.Calls.{Holds, IsSyncedTo}
 use Rattle.path_rule.specs.FilingTold.{noted}
 use Rattle.path_rule.specs.Lasts.{beside_of, shows_of}
 use Rattle.path_rule.proofs.moves.NotedSteps.{halts_filing}
-use Rattle.path_rule.proofs.seats.MayGives.{carries_on, holds_still}
+use Rattle.path_rule.proofs.seats.MayGives.{carries_on, filed_as, hands_as, holds_still}
 use Rattle.path_rule.proofs.table.PathTable.stop_filing.Goals as goal
 
 pub store-requires : goal.store-requires
@@ -49,3 +51,28 @@ returns-clause-desk g c = let m = c.args.member.now in
     (noted d.0.0 d.0.1 d.0.2 (Some c.args.value) m.seat.me.0.hands.lasting)
     m.seat.me.0.hands.pending m.seat.me.0.hands.progress
     m.seat.me.0.hands (ap (λ (v : View). v.hands) d.0.4.0) d.1 d.0.5
+
+pub returns-clause-shown : goal.returns-clause-shown
+returns-clause-shown g c = let m = c.args.member.now in let h = m.seat.me.0.hands in
+    let d = c.store.ensures.2 m.number m.role in
+    λ lasting pending C. ap (λ (v : View). v.hands) d.0.4.0
+    ∙ hands_as (shows_of g.K.Keeper.holds) m.seat.me
+    (noted d.0.0 d.0.1 d.0.2 (Some c.args.value) h.lasting) lasting h.pending pending h d.0.5 C
+
+pub returns-clause-synced : goal.returns-clause-synced
+returns-clause-synced g c = let m = c.args.member.now in
+    let d = c.store.ensures.2 m.number m.role in
+    λ upto S. subst (λ (v : View). IsSyncedTo v upto) (sym d.0.4.0) (
+      record S.0 { stopped = Some c.args.value },
+      S.1,
+      ap (option_map (λ (t : SyncTurn). record t { stopped = Some c.args.value })) S.2,
+      S.3,
+      S.4,
+    )
+
+pub returns-clause-filed : goal.returns-clause-filed
+returns-clause-filed g c = let m = c.args.member.now in
+    let d = c.store.ensures.2 m.number m.role in
+    ap (λ (v : View). has_filed v.part) d.0.4.0
+    ∙ filed_as (λ (t : SyncTurn). record t { stopped = Some c.args.value }) (λ t. refl)
+    m.seat.me.0.part.sync
