@@ -8,7 +8,11 @@ use Rattle.path_core.specs.declared.event.Turn.TheVariants.{Sync, Flush}
 use Rattle.path_core.specs.declared.seat.FoundGroups.{FoundGroups}
 use Rattle.path_core.specs.SeatParts.{current_found, oldest_found, finished_found}
 use Rattle.path_machine.specs.declared.groups_known.GroupWord.{GroupWord}
-use Rattle.path_machine.specs.declared.groups_known.GroupWord.TheVariants.{Current, Oldest, Finished}
+use Rattle.path_machine.specs.declared.groups_known.GroupWord.TheVariants.{
+  Current,
+  Oldest,
+  Finished,
+}
 
 -- a word of an order's groups, found
 abbrev pub word_found : GroupWord → FoundGroups → FoundGroups

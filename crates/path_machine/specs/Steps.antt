@@ -53,7 +53,10 @@ use Rattle.path_core.specs.Next.{
   newly_dropped,
 }
 use Rattle.path_machine.specs.declared.path.StepFault.{StepFault}
-use Rattle.path_machine.specs.declared.path.StepFault.TheVariants.{NotAllowed, OutOfMemory as NoMemory}
+use Rattle.path_machine.specs.declared.path.StepFault.TheVariants.{
+  NotAllowed,
+  OutOfMemory as NoMemory,
+}
 
 -- notes in the order of their starts
 abbrev pub StandInOrder : List EntryNote → Type 0
