@@ -28,7 +28,7 @@ use Rattle.std.proofs.Common.{
   subst,
   arith,
 }
-use Rattle.std.specs.List.{All, filter, range_with_len}
+use Rattle.std.specs.List.{All, Contains, filter, range_with_len}
 use Rattle.std.specs.List.Sorted.{IsPermutation}
 use Rattle.std.proofs.lemmas.Bool.{false≢true}
 use Rattle.std.proofs.lemmas.List.{get_or_default, length-map, length-replicate}
@@ -42,7 +42,7 @@ use Rattle.path_core.specs.declared.event.Event.{Event}
 use Rattle.path_core.specs.declared.note.EntryNote.{EntryNote}
 use Rattle.path_core.specs.declared.state.Claim.{Claim}
 use Rattle.path_core.specs.History.{IsHistory}
-use Rattle.path_core.specs.Keeper.{Holding, HasRisen}
+use Rattle.path_core.specs.Keeper.{Holding, HasRisen, PutFile}
 use Rattle.path_core.specs.LawfulLog.{claim_in, entry_claim, is_at_most}
 use Rattle.path_core.specs.Next.{is_between}
 use Rattle.path_core.specs.declared.state.PathState.{PathState}
@@ -50,14 +50,16 @@ use Rattle.path_core.specs.declared.seat.Seat.{Seat}
 use Rattle.path_core.specs.Parts.{fresh_seat, no_claim, seat_of}
 use Rattle.path_core.specs.Keys.{ordinal_of}
 use Rattle.path_core.proofs.frame.Runs.{past_sizes}
-use Rattle.path_core.proofs.lists.Inserted.{map_from}
+use Rattle.path_core.proofs.lists.Inserted.{map_from, map_old}
 use Rattle.path_core.proofs.log.History.{is_history}
 use Rattle.path_core.proofs.runs.EveryRun.{opening_lawful}
 use Rattle.path_rule.specs.declared.lasting.Beside.{Beside}
 use Rattle.path_rule.specs.declared.lasting.Filed.{Filed}
 use Rattle.path_rule.specs.declared.lasting.Lasting.{Lasting}
+use Rattle.path_rule.specs.declared.lasting.PutTable.{PutTable}
 use Rattle.path_rule.specs.declared.trying.PathSeat.{PathSeat}
 use Rattle.path_rule.specs.declared.view.PathSize.{PathSize}
+use Rattle.path_rule.specs.Filing.{file_range, put_range}
 use Rattle.path_rule.specs.Lasts.{
   beside_of,
   filed_of,
@@ -73,8 +75,8 @@ use Rattle.path_rule.specs.Members.{view_of, part_of}
 use Rattle.path_rule.specs.Rule.{IsFit, start_of, event_of, steps_by}
 use Rattle.path_rule.specs.Sharing.{EndsUnused}
 use Rattle.path_rule.specs.Trails.{TrailTells}
+use Rattle.write_path.specs.ClosedFiles.{CoversFlushed, IsAskedBy, held_range}
 use Rattle.write_path.specs.Closed.{
-  EndsBy,
   IsOfSize,
   IsOutcome,
   StaysBeside,
@@ -87,9 +89,12 @@ use Rattle.write_path.specs.Closed.{
   HasComeFor,
   all_writes,
 }
+use Rattle.write_path.specs.OneRun.{EndsBy}
 use Rattle.write_path.specs.Opened.{numbers_of}
 use Rattle.write_path.specs.Sealed.{AreSealed, AreSealedApart}
 use Rattle.write_path.proofs.Accounted.{each_once, each_there}
+use Rattle.write_path.proofs.AskedFiles.{each_asked}
+use Rattle.write_path.proofs.CoveredFiles.{covers, ranges_shown, true_as_shown}
 use Rattle.write_path.proofs.FewGroups.{few_groups}
 use Rattle.write_path.proofs.FewSegments.{few_segments}
 use Rattle.path_rule.proofs.log.NoneDropped.{none_dropped}
@@ -136,6 +141,15 @@ sized_as size l h same base capacity ordinals at_open = record {
   at_open_is = ap (λ (k : Lasting). k.at_open) same ∙ at_open;
 }
 
+-- no file where it shows none
+none_shown : (files : List PutFile) → map put_table files ≡ [] → files ≡ []
+none_shown [] is = refl
+none_shown (f ∷ fs) is = absurd (let l = ap (λ (l : List PutTable). length l) is in omega arith)
+
+-- and nothing among nothing
+none_of : {T : Type 0} {xs : List T} → xs ≡ [] → (x : T) → Contains xs x → ⊥
+none_of {T} is x h = absurd (let l = (subst (λ (l : List T). Contains l x) is h).1 in omega arith)
+
 module _ {K : Type 0} (size : PathSize) where
   -- what the seats wrote is what steps of their numbers deposited
   writes_as : (events : List Event) (seats : List (PathSeat K))
@@ -181,12 +195,10 @@ module _ {K : Type 0} (size : PathSize) where
       (sym (ap (λ (p : Seat). p.claim) (All-contains P seats s parts one.1)) ∙ s.unclaimed)
 
   pub outcome : (o : Beside) (seats : List (PathSeat K)) (end : ℕ) (h : Holding)
-      → size.files ≡ false → EndsBy o size seats end h
+      → EndsBy o size seats end h
       → IsPermutation (range_with_len 0 size.seats) (numbers_of seats)
       → IsOutcome size seats end h
-  outcome o seats end h plain E all = let e = E.ended in let x = e.core in let L = e.lawful in
-      let P = e.filing.plain plain in
-      let none_gone = none_dropped x L P.0 in
+  outcome o seats end h E all = let e = E.ended in let x = e.core in let L = e.lawful in
       let z = past_sizes e.events (start_of size) x e.run in
       let same = e.lasting_is in
       let synced : h.synced ≡ x.synced = ap (λ (k : Lasting). k.synced) same in
@@ -194,6 +206,13 @@ module _ {K : Type 0} (size : PathSize) where
       ap (λ (k : Lasting). k.stopped) same in
       let many : length (start_of size).seats ≡ size.seats = length-replicate size.seats fresh_seat
       in
+      let first = opening_lawful size.tables size.seats size.capacity size.ordinals size.base e.fit
+      in
+      let files_shown : map put_table h.files ≡ e.filed.files =
+      ap (λ (k : Lasting). k.filed.files) same in
+      let dropped : h.dropped ≡ e.dropped = ap (λ (k : Lasting). k.dropped) same in
+      let files_are : map held_range h.files ≡ map file_range x.files = ranges_shown h.files
+      ∙ (ap (λ (l : List PutTable). map put_range l) files_shown ∙ e.filing.ranged) in
       let idle = λ (w : ℕ) (l : w < length x.seats). idle_all x seats E.parts all w
       (let long = z.seats in omega (arith, l, long, many)) in record {
         fit = e.fit;
@@ -235,9 +254,31 @@ module _ {K : Type 0} (size : PathSize) where
         none_passed = λ key. first_part x.capacity L.sized.limits.greatest_capacity key x.notes
             (is_history x L.claims_tile_the_log L.notes_are_claims) (none_passed x L idle);
         synced_is = synced;
-        dropped_are = ap (λ (k : Lasting). k.dropped) same ∙ (P.2 ∙ sym none_gone);
-        unfiled = P.0;
-        none_dropped = ap (λ (k : Lasting). k.dropped) same ∙ P.2;
+        unfiled = λ plain. let P = e.filing.plain plain in record {
+          none_written = P.0;
+          no_file = none_shown h.files
+              (files_shown ∙ ap (λ (f : Filed). f.files) P.1);
+          none_gone = none_dropped x L P.0;
+          none_dropped = dropped ∙ P.2;
+        };
+        files_are = files_are;
+        true_files = true_as_shown x.notes h.files e.filed.files files_shown e.filing.merged;
+        dropped_in = λ o gone. e.gone o (subst (λ (l : List ℕ). Contains l o) dropped gone);
+        droppable = λ o gone. let in_run = e.gone o
+            (subst (λ (l : List ℕ). Contains l o) dropped gone) in
+            (L.dropped_was_droppable.droppable o in_run,
+            L.dropped_was_droppable.below_synced o in_run);
+        covered = known_of x
+            (λ (s : PathSeat K). TrailTells size.capacity x (view_of s.member).trail)
+            (λ (s : PathSeat K). CoversFlushed x.notes h.files (view_of s.member).trail)
+            (λ s T. covers x h.files files_are L idle size.capacity (view_of s.member).trail T)
+            seats E.tell;
+        asked = λ f put. let g = map_from file_range x.files (held_range f)
+            (subst (λ (l : List (ℕ × (ℕ × ℕ))). Contains l (held_range f)) files_are
+            (map_old held_range h.files f put)) in
+            subst (IsAskedBy seats) (ap (λ (r : ℕ × (ℕ × ℕ)). r.0) g.2)
+            (each_asked size x e.events seats all E.own E.tell (start_of size) first refl many
+            e.run g.0 g.1);
         stops = stops;
         found_synced = known_of x
             (λ (s : PathSeat K). part_of s.member ≡ seat_of x s.member.number) (IsSyncedFor h)
@@ -303,7 +344,9 @@ module _ {K : Type 0} (size : PathSize) where
       → IsFit size → numbers_of seats ≡ [] → EndsUnused o size end h
       → IsOutcome size seats end h
   unused_outcome o seats end h fit none_there U = let same = U.1 in
-      let synced : h.synced ≡ 0 = ap (λ (k : Lasting). k.synced) same in record {
+      let synced : h.synced ≡ 0 = ap (λ (k : Lasting). k.synced) same in
+      let no_files : h.files ≡ [] = none_shown h.files (ap (λ (k : Lasting). k.filed.files) same) in
+      let dropped : h.dropped ≡ [] = ap (λ (k : Lasting). k.dropped) same in record {
         fit = fit;
         core = start_of size;
         events = [];
@@ -328,9 +371,21 @@ module _ {K : Type 0} (size : PathSize) where
         few_segments = let log = U.0 in omega (arith, log);
         none_passed = λ key n m. absurd (let l = m.1 in omega arith);
         synced_is = synced;
-        dropped_are = ap (λ (k : Lasting). k.dropped) same;
-        unfiled = refl;
-        none_dropped = ap (λ (k : Lasting). k.dropped) same;
+        unfiled = λ plain. record {
+          none_written = refl;
+          no_file = no_files;
+          none_gone = refl;
+          none_dropped = dropped;
+        };
+        files_are = ap (λ (l : List PutFile). map held_range l) no_files;
+        true_files = λ f put. absurd (none_of no_files f put);
+        dropped_in = λ o gone. absurd (none_of dropped o gone);
+        droppable = λ o gone. absurd (none_of dropped o gone);
+        covered = subst (λ (l : List (PathSeat K)). All (λ (s : PathSeat K).
+            CoversFlushed [] h.files (view_of s.member).trail) l)
+            (sym (no_seat seats none_there)) (All-nil (λ (s : PathSeat K).
+            CoversFlushed [] h.files (view_of s.member).trail));
+        asked = λ f put. absurd (none_of no_files f put);
         stops = ap (λ (k : Lasting). k.stopped) same;
         found_synced = subst (λ (l : List (PathSeat K)). All (IsSyncedFor h) l)
             (sym (no_seat seats none_there)) (All-nil (IsSyncedFor h));
@@ -379,28 +434,31 @@ as_many : (first h : Holding) → filed_of h ≡ filed_of first → length h.fil
 as_many first h same = sym (length-map h.files put_table)
     ∙ (ap (λ (f : Filed). length f.files) same ∙ length-map first.files put_table)
 
-pub stays_beside : (first h : Holding) → beside_of h ≡ beside_of first
-    → filed_of h ≡ filed_of first → StaysBeside first h
-stays_beside first h same filed = record {
+pub stays_beside : (size : PathSize) (first h : Holding) → beside_of h ≡ beside_of first
+    → filed_of h ≡ filed_of first → StaysBeside size first h
+stays_beside size first h same filed = record {
   disk_is = ap (λ (b : Beside). b.disk) same;
   archives_are = ap (λ (b : Beside). b.archives) same;
   tables_are = ap (λ (b : Beside). b.tables) same;
   writers_are = ap (λ (b : Beside). b.writers) same;
-  no_file = void_too first.files h.files (as_many first h filed);
-  none_refused = none_too first.refused h.refused (ap (λ (f : Filed). f.refused) filed);
-  none_archived = void_too first.archived h.archived (ap (λ (f : Filed). f.archived) filed);
+  no_file = λ plain. void_too first.files h.files (as_many first h filed);
+  none_refused = λ plain. none_too first.refused h.refused
+      (ap (λ (f : Filed). f.refused) filed);
+  none_archived = λ plain. void_too first.archived h.archived
+      (ap (λ (f : Filed). f.archived) filed);
 }
 
--- and where it has done nothing beside its log
-pub plain_beside : (first h : Holding) → beside_of h ≡ beside_of first → filed_of h ≡ none_filed
-    → StaysBeside first h
-plain_beside first h same filed = record {
+-- and where it has done nothing beside its log, if it was opened for no table files
+pub plain_beside : (size : PathSize) (first h : Holding) → beside_of h ≡ beside_of first
+    → (size.files ≡ false → filed_of h ≡ none_filed) → StaysBeside size first h
+plain_beside size first h same filed = record {
   disk_is = ap (λ (b : Beside). b.disk) same;
   archives_are = ap (λ (b : Beside). b.archives) same;
   tables_are = ap (λ (b : Beside). b.tables) same;
   writers_are = ap (λ (b : Beside). b.writers) same;
-  no_file = λ _. void_too [] h.files (sym (length-map h.files put_table)
-      ∙ ap (λ (f : Filed). length f.files) filed) refl;
-  none_refused = λ _. none_too None h.refused (ap (λ (f : Filed). f.refused) filed) refl;
-  none_archived = λ _. void_too [] h.archived (ap (λ (f : Filed). f.archived) filed) refl;
+  no_file = λ plain none. none_shown h.files (ap (λ (f : Filed). f.files) (filed plain));
+  none_refused = λ plain none. none_too None h.refused
+      (ap (λ (f : Filed). f.refused) (filed plain)) refl;
+  none_archived = λ plain none. void_too [] h.archived
+      (ap (λ (f : Filed). f.archived) (filed plain)) refl;
 }

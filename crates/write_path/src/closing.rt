@@ -7,11 +7,11 @@ ghost use Rattle.path_rule.specs.Members.{view_of, part_of, boxes_of, IsOf};
 ghost use Rattle.write_path.specs.Closed.{
   AreAll,
   AreOf,
-  EndsBy,
   StaysBeside,
   returned_by,
   IsOutcome,
 };
+ghost use Rattle.write_path.specs.OneRun.{EndsBy};
 ghost use Rattle.write_path.specs.Opened.{numbers_of};
 
 use crate::seats::WritePath;
@@ -71,14 +71,17 @@ impl<K: Keeper + Drop> WritePath<K, Global> {
     /// the keeper back, and where the log ends: what the seats wrote, together, is a lawful
     /// history, and the keeper has its part up to the synced key. It goes back to the disk of the
     /// keeper over which the path was opened. A marker stands between each write that is sealed in
-    /// its seat's trail and each later one of that seat. What commits and syncs have answered is so
-    /// of the trails at the end too (`what_close_keeps`).
+    /// its seat's trail and each later one of that seat. Of a path that was opened by `open_filing`
+    /// each table file is true of that history, what a seat knows to be flushed lies in files, and
+    /// each dropped segment may go; of one that was opened by `open` there is no file, and no
+    /// segment has gone. What commits and syncs have answered is so of the trails at the end too
+    /// (`what_close_keeps`).
     pub fn close(self, seats: Vec<PathSeat<K>>) -> (K, Outcome)
         requires seats { AreOf self.table.table.shared.table_id self.table.size seats.items }
         requires all { AreAll self.opener self.table.size.seats (numbers_of seats.items) }
         ensures outcome { IsOutcome self.table.size seats.items result.1.end.0 (K.holds result.0) }
-        ensures beside { StaysBeside (K.holds self.table.table.shared.key.first.value)
-            (K.holds result.0) }
+        ensures beside { StaysBeside self.table.size
+            (K.holds self.table.table.shared.key.first.value) (K.holds result.0) }
     {
         let WritePath {
             table,

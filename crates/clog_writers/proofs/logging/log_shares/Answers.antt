@@ -23,8 +23,10 @@ returns-in-Err-seats-clause-ends g c =
     c.args.room.items _
     (ap (λ (t : PathTable g.row.K.Denot _). t.size.base) c.seats.ensures.path.0
     ∙ ap (λ (z : PathSize). z.base) c.in-Ok.ensures.opened.1)
+    (ap (λ (t : PathTable g.row.K.Denot _). t.size.files) c.seats.ensures.path.0
+    ∙ ap (λ (z : PathSize). z.files) c.in-Ok.ensures.opened.1)
     closed.ensures.outcome
-    (subst (λ (h : Holding). StaysBeside h now)
+    (subst (λ (h : Holding). StaysBeside c.seats.new.self.table.size h now)
     (ap (λ (t : PathTable g.row.K.Denot _). g.K.Keeper.holds t.table.shared.key.first.value)
     c.seats.ensures.path.0 ∙ ap g.K.Keeper.holds c.in-Ok.ensures.first) closed.ensures.beside)
     c.requires.void c.args.workers.items

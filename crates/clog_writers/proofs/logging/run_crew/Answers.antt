@@ -95,7 +95,7 @@ returns-clause-ends g c = λ base before open_for is fresh.
     ran c.args.sizes base before (g.K.Keeper.holds closed.result.0) fresh id t.size
     open_for.at_open open_for.size_is c.end_all-fault.new.seats.items closed.result.1.end.0
     closed.ensures.outcome
-    (subst (λ (h : Holding). StaysBeside h (g.K.Keeper.holds closed.result.0)) is
+    (subst (λ (h : Holding). StaysBeside t.size h (g.K.Keeper.holds closed.result.0)) is
     closed.ensures.beside)
     c.args.workers.items c.end_all-fault.result d.0 d.1
     (λ ms dealt. c.end_all-fault.ensures.ended ms

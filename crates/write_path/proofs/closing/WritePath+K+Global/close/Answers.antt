@@ -19,22 +19,22 @@ returns-clause-outcome g c = let size = c.args.self.table.size in
           (subst (λ o. AreAll o size.seats (numbers_of seats)) w.in-Some.is c.requires.all)
           w.finish_unused.ensures)
       | in-None w ↦ subst P (sym w.keeper-is) (outcome size o seats w.close_by_all.result.1
-          (g.K.Keeper.holds w.close_by_all.result.0) c.args.self.unfiled w.close_by_all.ensures
+          (g.K.Keeper.holds w.close_by_all.result.0) w.close_by_all.ensures
           (subst (λ o. AreAll o size.seats (numbers_of seats)) w.in-None.is c.requires.all))
     ]
 
 pub returns-clause-beside : goal.returns-clause-beside
-returns-clause-beside g c =
+returns-clause-beside g c = let size = c.args.self.table.size in
     let first = g.K.Keeper.holds c.args.self.table.table.shared.key.first.value in
-    let P : g.row.K.Denot × ℕ → Type 0 = λ r. StaysBeside first (g.K.Keeper.holds r.0) in
+    let P : g.row.K.Denot × ℕ → Type 0 = λ r. StaysBeside size first (g.K.Keeper.holds r.0) in
     elim c.match-opener.branch [
       | in-Some w ↦ subst P (sym w.keeper-is)
-          (plain_beside first (g.K.Keeper.holds w.finish_unused.result.0)
+          (plain_beside size first (g.K.Keeper.holds w.finish_unused.result.0)
           (ap (λ (l : Lasting). l.beside) w.finish_unused.ensures.1)
-          (ap (λ (l : Lasting). l.filed) w.finish_unused.ensures.1))
+          (λ plain. ap (λ (l : Lasting). l.filed) w.finish_unused.ensures.1))
       | in-None w ↦ subst P (sym w.keeper-is)
-          (plain_beside first (g.K.Keeper.holds w.close_by_all.result.0)
+          (plain_beside size first (g.K.Keeper.holds w.close_by_all.result.0)
           (ap (λ (l : Lasting). l.beside) w.close_by_all.ensures.ended.lasting_is)
-          (ap (λ (l : Lasting). l.filed) w.close_by_all.ensures.ended.lasting_is
-          ∙ (w.close_by_all.ensures.ended.filing.plain c.args.self.unfiled).1))
+          (λ plain. ap (λ (l : Lasting). l.filed) w.close_by_all.ensures.ended.lasting_is
+          ∙ (w.close_by_all.ensures.ended.filing.plain plain).1))
     ]
