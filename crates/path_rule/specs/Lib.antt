@@ -10,6 +10,8 @@ pub mod Flushes
 pub mod Seen
 pub mod Filing
 pub mod Finds
+pub mod FindsBounds
+pub mod TrailRows
 pub mod Trails
 pub mod Rule
 pub mod Trimmed

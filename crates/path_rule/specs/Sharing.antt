@@ -1,5 +1,6 @@
 -- Seats are handed out and taken back, and what is known of a table that was closed.
 use Rattle.std.specs.Prelude.{◌≡◌, ◌⊎◌, ◌<◌, ℕ, suc, false, List, [], ◌∷◌, ◌++◌, map}
+use Rattle.std.specs.List.{Contains}
 use mathlib.Core.Option.{some}
 use lib.ListN.{get_elem?}
 use Rattle.path_core.specs.declared.event.Event.{Event}
@@ -100,6 +101,8 @@ pub record Ended (o : Beside) (size : PathSize) (returned : List Returned) (log 
   pub filed : Filed
   pub dropped : List ℕ
   pub filing : HasFiled size core filed dropped
+  -- what it dropped is dropped there, and not only about to go: no seat holds the Sync turn
+  pub gone : (ordinal : ℕ) → Contains dropped ordinal → Contains core.dropped ordinal
   pub lasting_is : lasting_of keeper ≡ shown o size.at_open kept_to filed dropped core
   pub risen : 0 < core.stopped → HasRisen size.at_open core.stopped
   pub each : (n : ℕ) (b : Returned) → get_elem? returned n ≡ some b

@@ -1,20 +1,26 @@
 -- What a seat's trail tells of the machine that it was a part of.
-use Rattle.std.specs.Prelude.{◌≡◌, ℕ, ◌<◌, ◌≤◌, List, [], ◌∷◌}
+use Rattle.std.specs.Prelude.{◌≡◌, ℕ, ◌<◌, ◌≤◌, true, false, List, [], ◌∷◌}
+use Rattle.std.specs.List.{Contains}
 use mathlib.Core.Option.{some}
 use lib.ListN.{get_elem?}
+use Rattle.clog_base.specs.declared.cell.Table.{Table}
 use Rattle.op_core.specs.declared.count.Order.TheVariants.{Append}
 use Rattle.path_core.specs.declared.event.ClaimKind.TheVariants.{Entry}
-use Rattle.path_core.specs.declared.event.Cursor.TheVariants.{Synced, Stopped}
+use Rattle.path_core.specs.declared.event.Cursor.TheVariants.{Synced, OldestLive, Stopped}
 use Rattle.path_core.specs.declared.event.Event.{Event}
 use Rattle.path_core.specs.declared.event.Event.TheVariants.{Claim}
 use Rattle.path_core.specs.declared.event.Place.TheVariants.{Current, CursorWord, Log}
+use Rattle.path_core.specs.declared.state.Bound.TheVariants.{Final}
 use Rattle.path_core.specs.declared.state.PathState.{PathState}
 use Rattle.path_core.specs.Keys.{after, behind_marker, first_offset}
+use Rattle.path_core.specs.LawfulTables.{HasFile}
+use Rattle.path_core.specs.Parts.{HoldsNoTurn, memtable_of, table_of}
 use Rattle.path_core.specs.Steps.{HasMarkerAt}
 use Rattle.path_rule.specs.declared.view.OwnStep.{OwnStep}
 use Rattle.path_rule.specs.declared.view.Returned.{Returned}
 use Rattle.path_rule.specs.declared.view.View.{View}
 use Rattle.path_rule.specs.Finds.{Finds}
+use Rattle.path_rule.specs.FindsBounds.{FindsFinal, Retires}
 
 -- The log is lasting up to the key, which is 0 or where a marker starts.
 pub record IsMark (x : PathState) (key : ℕ) : Type 0 where
@@ -39,6 +45,11 @@ abbrev pub AllClaimPast : ℕ → List OwnStep → Type 0
 AllClaimPast capacity [] = Unit {0}
 AllClaimPast capacity (t ∷ ts) = ClaimsPast capacity t.event ts × AllClaimPast capacity ts
 
+-- No closed write placed an entry in the memtable.
+abbrev pub HoldsNothing : PathState → ℕ → ℕ → Type 0
+HoldsNothing x t m = (entry : ℕ)
+    → Contains x.placed (record { table = t; entry = entry; memtable = m }) → ⊥
+
 -- What these steps of a seat tell of the state that they led to.
 pub record TrailTells (capacity : ℕ) (x : PathState) (trail : List OwnStep) : Type 0 where
   -- each synced key that the seat found, or put, is a mark
@@ -51,9 +62,20 @@ pub record TrailTells (capacity : ℕ) (x : PathState) (trail : List OwnStep) : 
   pub current : (g : ℕ) → Finds (Current Append) g trail → g ≤ x.append.current
   -- each entry was claimed behind the markers that the seat had found
   pub past : AllClaimPast capacity trail
+  -- each memtable that it found final at a key, or made final there, is final at that key
+  pub final : (t m key : ℕ) → FindsFinal t m key trail
+      → (memtable_of x t m).bound ≡ Final (record { 0 = key })
+  -- each number that it found, or put, as the least memtable that is not retired is at or below it
+  pub retired : (t : Table) (n : ℕ) → Finds (CursorWord (OldestLive t)) n trail
+      → n ≤ (table_of x t.0).oldest_live
+  -- each memtable that it retired with a table file has that file, which ends at its final bound
+  pub filed : (t : Table) (m : ℕ) → Retires t m true trail → HasFile x t.0 m
+  -- in each that it retired without one nothing is placed
+  pub emptied : (t : Table) (m : ℕ) → Retires t m false trail → HoldsNothing x t.0 m
 
--- A view's own steps tell it, and those of the seats that it took in.
+-- A view's own steps tell it, and those of the seats that it took in, which held no turn then.
 pub record ViewTells (capacity : ℕ) (x : PathState) (v : View) : Type 0 where
   pub own : TrailTells capacity x v.trail
   pub returned : (n : ℕ) (b : Returned) → get_elem? v.returned n ≡ some b
       → TrailTells capacity x b.trail
+  pub free : (n : ℕ) (b : Returned) → get_elem? v.returned n ≡ some b → HoldsNoTurn b.part

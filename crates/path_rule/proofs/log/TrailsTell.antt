@@ -2,9 +2,12 @@
 use Rattle.std.proofs.Common.{
   ◌≡◌,
   ℕ,
+  suc,
   ◌<◌,
   ◌≤◌,
   Bool,
+  true,
+  false,
   List,
   [],
   ◌∷◌,
@@ -66,6 +69,18 @@ use Rattle.path_rule.specs.declared.view.View.{View}
 use Rattle.path_rule.specs.Finds.{FindsBy}
 use Rattle.path_rule.specs.Layout.{reading_at}
 use Rattle.path_rule.specs.Trails.{IsMark, ClaimsPast, TrailTells, ViewTells}
+use Rattle.path_rule.proofs.log.TrailMemtables.{
+  ToldTrue,
+  emptied_still,
+  filed_still,
+  final_still,
+  finds_next,
+  new_emptied,
+  new_filed,
+  new_final,
+  new_retired,
+  retired_still,
+}
 use Rattle.path_rule.proofs.log.Marks.{mark_stays, synced_mark, log_past}
 
 pub nothing_tells : (capacity : ℕ) (x : PathState) → TrailTells capacity x []
@@ -75,6 +90,10 @@ nothing_tells capacity x = record {
   stopped = λ n F above. absurd F;
   current = λ g F. absurd F;
   past = tt;
+  final = λ t m key F. absurd F;
+  retired = λ t n F. absurd F;
+  filed = λ t m F. absurd F;
+  emptied = λ t m F. absurd F;
 }
 
 -- a view with no step that took in no seat
@@ -83,6 +102,8 @@ pub none_tells : (capacity : ℕ) (x : PathState) (v : View) → v.trail ≡ [] 
 none_tells capacity x v trail returned = record {
   own = subst (λ ts. TrailTells capacity x ts) (sym trail) (nothing_tells capacity x);
   returned = λ n b h. absurd (none_there n b
+      (subst (λ (l : List Returned). get_elem? l n ≡ some b) returned h));
+  free = λ n b h. absurd (none_there n b
       (subst (λ (l : List Returned). get_elem? l n ≡ some b) returned h));
 }
   where
@@ -132,12 +153,19 @@ module _ (capacity : ℕ) (x : PathState) (L : IsLawfulPath x) (fits : x.capacit
     current = λ g F. let low = T.current g F in let up = (groups_move x L.orders Append e a).current
         in omega arith;
     past = T.past;
+    final = λ t m key F. final_still x L e a t m key (T.final t m key F);
+    retired = λ t n F. retired_still x L e a t.0 n (T.retired t n F);
+    filed = λ t m F. filed_still x L e a t.0 m (T.retired t (suc m) (finds_next t m true ts F))
+        (T.filed t m F);
+    emptied = λ t m F. emptied_still x L e a t.0 m
+        (T.retired t (suc m) (finds_next t m false ts F)) (T.emptied t m F);
   }
 
   pub view_still : (v : View) → ViewTells capacity x v → ViewTells capacity (next_of x e) v
   view_still v V = record {
     own = tells_still v.trail V.own;
     returned = λ n b h. tells_still b.trail (V.returned n b h);
+    free = V.free;
   }
 
   module _ (N : IsLawfulPath (next_of x e)) (p : Seat) (found : ℕ) (told u : Told)
@@ -251,14 +279,23 @@ module _ (capacity : ℕ) (x : PathState) (L : IsLawfulPath x) (fits : x.capacit
     new_past (Claim by from to Marker) a ts T = tt
     new_past e a ts T = tt
 
-    pub tells_more : (filed : Bool) (ts : List OwnStep) → TrailTells capacity x ts
-        → TrailTells capacity (next_of x e)
+    pub tells_more : (filed : Bool) → ToldTrue x e found filed → (ts : List OwnStep)
+        → TrailTells capacity x ts → TrailTells capacity (next_of x e)
         (record { event = e; found = found; filed = filed } ∷ ts)
-    tells_more filed ts T = let S = tells_still ts T in record {
+    tells_more filed true_told ts T = let S = tells_still ts T in record {
       synced = λ key F. ⊎_elim (λ now. new_synced e a N same key now) (λ old. S.synced key old) F;
       come = λ key F. ⊎_elim (λ now. new_come e same key now) (λ old. S.come key old) F;
       stopped = λ n F above. ⊎_elim (λ now. new_stopped e same n now)
           (λ old. S.stopped n old above) F;
       current = λ g F. ⊎_elim (λ now. new_current e same g now) (λ old. S.current g old) F;
       past = (new_past e a ts T, T.past);
+      final = λ t m key F. ⊎_elim
+          (λ now. new_final x L found filed e a true_told t m key now)
+          (λ old. S.final t m key old) F;
+      retired = λ t n F. ⊎_elim (λ now. new_retired x L found filed e a true_told t n now)
+          (λ old. S.retired t n old) F;
+      filed = λ t m F. ⊎_elim (λ now. new_filed x L found filed e a true_told t m now)
+          (λ old. S.filed t m old) F;
+      emptied = λ t m F. ⊎_elim (λ now. new_emptied x L found filed e a true_told t m now)
+          (λ old. S.emptied t m old) F;
     }

@@ -108,7 +108,7 @@ module _ {K : Type 0} (shows : K → Lasting) (o : Beside) (size : PathSize) (sl
         keeps,
         tt,
         plays shows o size s r id w m.0 there mine e refl may tt tt fits rows
-            ((n + 2 ^ 63) % 2 ^ 64) n false m.0.hands told refl m.1 keeps
+            ((n + 2 ^ 63) % 2 ^ 64) n false m.0.hands told refl tt m.1 keeps
             (boxed_goes shows size.seats x.notes (shown o size.at_open r.kept_to r.filed r.dropped x) x.claims
             x.claims
             x.append
@@ -175,7 +175,7 @@ module _ {K : Type 0} (shows : K → Lasting) (o : Beside) (size : PathSize) (sl
         keeps,
         tt,
         plays shows o size s r id w m.0 there mine e refl may tt tt tt
-            (rows_stay x e may (λ q. q) r.rows) g g false m.0.hands refl refl m.1 keeps
+            (rows_stay x e may (λ q. q) r.rows) g g false m.0.hands refl refl tt m.1 keeps
             (boxed_goes shows size.seats x.notes (shown o size.at_open r.kept_to r.filed r.dropped x) x.claims
             x.claims
             x.append

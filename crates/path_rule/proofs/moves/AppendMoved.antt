@@ -167,7 +167,7 @@ module _ {K : Type 0} (shows : K → Lasting) (o : Beside) (size : PathSize) (sl
         tt,
         plays shows o size s r id w m.0 there mine e refl may tt tt tt
             (rows_stay x e may (λ q. q) r.rows) g c false h refl
-            (ap (λ k. seat_after m.0.part e (Number k) (told_by false h)) now) m.1 keeps
+            (ap (λ k. seat_after m.0.part e (Number k) (told_by false h)) now) tt m.1 keeps
             (boxed_goes shows size.seats x.notes (shown o size.at_open r.kept_to r.filed r.dropped x) x.claims
             (next_of
             x e).claims

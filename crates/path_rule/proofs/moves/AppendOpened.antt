@@ -89,8 +89,8 @@ module _ {K : Type 0} (shows : K → Lasting) (o : Beside) (size : PathSize) (sl
         tt,
         plays shows o size s r id w m.0 there mine e refl may tt (wants, running)
             fits
-            (rows s r g (let q = up ∙ ap suc now in omega arith)) 0 0 false m.0.hands told refl m.1
-            keeps
+            (rows s r g (let q = up ∙ ap suc now in omega arith)) 0 0 false m.0.hands told refl tt
+            m.1 keeps
             (unseen shows o size slots id m w mine s r there held
             (next_of x e).append v' refl refl refl out
             (still _ m.0.part.sync held) refl empty) tt (refl, refl, refl, refl) tt tt,

@@ -179,7 +179,7 @@ module _ {K : Type 0} (shows : K → Lasting) (o : Beside) (size : PathSize) (sl
         takes box home.0,
         home.1,
         plays shows o size s r id w m.0 there mine e refl may tt tt fits rows (k + 1)
-            (k + 1) false h now refl m.1 (takes box home.0)
+            (k + 1) false h now refl tt m.1 (takes box home.0)
             (boxed_take shows size.seats x.notes (shown o size.at_open r.kept_to r.filed r.dropped x) x.claims
             x.claims
             x.append
@@ -239,7 +239,7 @@ module _ {K : Type 0} (shows : K → Lasting) (o : Beside) (size : PathSize) (sl
         gives,
         tt,
         plays shows o size s r id w m.0 there mine e refl may tt tt fits rows
-            ((n + (2 ^ 64 - 1)) % 2 ^ 64) n false m.0.hands now refl m.1 gives
+            ((n + (2 ^ 64 - 1)) % 2 ^ 64) n false m.0.hands now refl tt m.1 gives
             (subst (λ l. Boxed shows size.seats x.notes (shown o size.at_open r.kept_to r.filed r.dropped x) x.claims
             (next_of x
             e).append

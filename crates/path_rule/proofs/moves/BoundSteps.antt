@@ -123,6 +123,7 @@ module _ {K : Type 0} (shows : K → Lasting) (o : Beside) (size : PathSize) (sl
       (ap (λ z. max z (to + 2 ^ 62)) found ∙ raised_word b to R.above (omega arith))
       (ap (λ k. seat_after m.0.part e k (told_by false m.0.hands))
       (ap (reading_at (Bound t f)) found ∙ read_back x L (Bound t f)))
+      tt
       (λ C. boxed_stay shows size.seats x.notes
       (shown o size.at_open r.kept_to r.filed r.dropped x) x.claims x.claims x.append x.append s.homes s.views r.boxed
       id w m.0 v' there mine refl refl refl (λ i g l _ _. (l, refl)) refl C.append C.issue refl)

@@ -143,7 +143,7 @@ module _ {K : Type 0} (shows : K → Lasting) (o : Beside) (size : PathSize) (sl
         gives,
         tt,
         plays_with shows o size s r id w m.0 there mine e refl may whole tt fits rows
-            ((n + (2 ^ 64 - 1)) % 2 ^ 64) n false m.0.hands now refl refl m.1 gives
+            ((n + (2 ^ 64 - 1)) % 2 ^ 64) n false m.0.hands now refl tt refl m.1 gives
             (subst (λ (q : Lasting × List (ℕ × Slot K)). Boxed shows size.seats (next_of x e).notes
             q.0 x.claims (next_of x e).append (put_back s.homes q.1) (set s.views id v'))
             (λ i. (

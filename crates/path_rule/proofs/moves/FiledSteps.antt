@@ -286,7 +286,7 @@ module _ {K : Type 0} (shows : K → Lasting) (o : Beside) (size : PathSize) (sl
         keeps,
         tt,
         plays_all shows o size s r id w m.0 there mine e refl may tt tt few rows (suc k) (suc k)
-            true h refl told r.kept_to
+            true h refl told (sym (ap not gives)) r.kept_to
             (kept_stays (x s r there) (L s r there) e may r.kept_to r.may_be_kept)
             (put s r there) r.dropped (filed_now s r there) m.1 keeps
             (boxed_desk_turns shows size.seats r.core.notes

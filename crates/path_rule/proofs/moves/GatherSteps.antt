@@ -162,7 +162,7 @@ module _ {K : Type 0} (shows : K → Lasting) (o : Beside) (size : PathSize) (sl
           row = tt;
         } in let rows = rows_stay x e may (λ q. q) r.rows in (
           plays shows o size s r id w m.0 there mine e refl may tt tt tt rows n n false h found
-              (ap (λ k. seat_after m.0.part e (Number k) (told_by false h)) found) m.1 a
+              (ap (λ k. seat_after m.0.part e (Number k) (told_by false h)) found) found m.1 a
               (boxed (columns_now shows o size s r id w m.0 there mine e refl may tt tt tt rows n n
               false
               h found (ap (λ k. seat_after m.0.part e (Number k) (told_by false h)) found))) tt

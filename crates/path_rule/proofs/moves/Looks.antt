@@ -83,6 +83,7 @@ use Rattle.path_rule.specs.Told.{Made, Looked}
 use Rattle.path_rule.specs.Turns.{TurnOld, turn_groups, KnowsMemtable, Sighted}
 use Rattle.path_rule.proofs.boxes.HeldBoxes.{boxed_stay}
 use Rattle.path_rule.proofs.boxes.MemtablesStay.{puts_stay, runs_still}
+use Rattle.path_rule.proofs.log.TrailMemtables.{ToldTrue}
 use Rattle.path_rule.proofs.moves.LeavesWrites.{
   LeavesReading,
   LeavesWrite,
@@ -185,6 +186,7 @@ module _ {K : Type 0} (shows : K → Lasting) (o : Beside) (size : PathSize) (sl
         → n ≡ word_of (left_by e (reading x (place_of e)))
         → seat_after m.0.part e (reading_at (place_of e) found) (told_by false m.0.hands)
         ≡ seat_after m.0.part e (reading x (place_of e)) (told_of x e)
+        → ToldTrue x e found false
         → (Columns e m.0.part (view_after m.0 e found false).part
         → Boxed shows size.seats (next_of x e).notes (shown o size.at_open r.kept_to r.filed r.dropped (next_of x e))
         (next_of x
@@ -199,14 +201,16 @@ module _ {K : Type 0} (shows : K → Lasting) (o : Beside) (size : PathSize) (sl
         → LeavesReading m.0.hands e → (then : Me (Slot K) View → Type 0)
         → (Was m.0 w e → then (view_after m.0 e found false, m.1))
         → Owes s (word_at (place_of e)) n then
-    acts_with e by may whole built spot rows n found now told boxed puts kept runs quiet then ok =
+    acts_with e by may whole built spot rows n found now told true_told boxed puts kept runs quiet
+        then ok =
         let C = columns_now shows o size s r id w m.0 there mine e by may whole
         built spot rows n found false m.0.hands now told in (
           view_after m.0 e found false,
           keeps,
           tt,
           plays_with shows o size s r id w m.0 there mine e by may whole built spot rows n found
-              false m.0.hands now told (files_left x m.0.hands e quiet) m.1 keeps (boxed C)
+              false m.0.hands now told true_told (files_left x m.0.hands e quiet) m.1 keeps
+              (boxed C)
               (memtables_then shows o size s r id w m.0 there mine e by may whole built spot rows n
               found false m.0.hands now told m.1 keeps tt refl refl refl (puts C) kept (runs C))
               (reads_still shows o size s r id w m.0 there mine e by may whole built spot rows n
@@ -221,6 +225,7 @@ module _ {K : Type 0} (shows : K → Lasting) (o : Beside) (size : PathSize) (sl
         → n ≡ word_of (left_by e (reading x (place_of e)))
         → seat_after m.0.part e (reading_at (place_of e) found) (told_by false m.0.hands)
         ≡ seat_after m.0.part e (reading x (place_of e)) (told_of x e)
+        → ToldTrue x e found false
         → (Columns e m.0.part (view_after m.0 e found false).part
         → Boxed shows size.seats (next_of x e).notes (shown o size.at_open r.kept_to r.filed r.dropped (next_of x e))
         (next_of x
@@ -229,8 +234,8 @@ module _ {K : Type 0} (shows : K → Lasting) (o : Beside) (size : PathSize) (sl
         → LeavesWrite e → LeavesReading m.0.hands e → (then : Me (Slot K) View → Type 0)
         → (Was m.0 w e → then (view_after m.0 e found false, m.1))
         → Owes s (word_at (place_of e)) n then
-    acts e by may whole built spot rows n found now told boxed leaves quiet then ok =
-        acts_with e by may whole built spot rows n found now told boxed
+    acts e by may whole built spot rows n found now told true_told boxed leaves quiet then ok =
+        acts_with e by may whole built spot rows n found now told true_told boxed
         (λ C. puts_stay r.memtables.contents size.seats w m.0.part
         (view_after m.0 e found false).part m.0.hands m.0.hands
         (C.note ∙ note_left m.0.part.note e leaves)
@@ -259,6 +264,7 @@ module _ {K : Type 0} (shows : K → Lasting) (o : Beside) (size : PathSize) (sl
         acts (Look w at) refl may tt tt spot (rows_stay x (Look w at) may (λ q. q) r.rows) n n found
         (ap (λ k. seat_after m.0.part (Look w at) k (told_by false m.0.hands))
         (ap (reading_at at) found ∙ read_back x L at))
+        found
         (λ C. boxed_stay shows size.seats x.notes
         (shown o size.at_open r.kept_to r.filed r.dropped x) x.claims x.claims x.append x.append s.homes s.views
         r.boxed

@@ -191,7 +191,7 @@ module _ {K : Type 0} (shows : K → Lasting) (o : Beside) (size : PathSize) (sl
         let C = columns_now shows o size s r id w m.0 there mine e refl may tt tt few rows n n false
         h found told in (
           plays_with shows o size s r id w m.0 there mine e refl may tt tt few rows n n false h
-              found told refl m.1 a (boxed C) (memtables C)
+              found told found refl m.1 a (boxed C) (memtables C)
               (reads_still shows o size s r id w m.0 there mine e refl may tt tt few rows n n false
               h found told tt reading),
           was shows o size s r id w m.0 there mine e may tt,

@@ -130,6 +130,7 @@ use Rattle.path_rule.proofs.log.BuiltSteps.{still_risen}
 use Rattle.path_rule.proofs.log.FilingStays.{filing_stays}
 use Rattle.path_rule.specs.Trails.{TrailTells, ViewTells}
 use Rattle.path_rule.proofs.log.KeptStays.{kept_stays}
+use Rattle.path_rule.proofs.log.TrailMemtables.{ToldTrue}
 use Rattle.path_rule.proofs.log.TrailsTell.{tells_more, view_still}
 use Rattle.path_rule.proofs.moves.LeavesWrites.{
   LeavesLive,
@@ -338,12 +339,13 @@ module _ {K : Type 0} (shows : K → Lasting) (o : Beside) (size : PathSize) (s 
           )
 
       -- the seat's trail tells of this step too, and those that it took in tell what they did
-      own_tells : ViewTells size.capacity x' v'
-      own_tells = let old = r.tells id v at in record {
+      own_tells : ToldTrue r.core e found filed → ViewTells size.capacity x' v'
+      own_tells true_told = let old = r.tells id v at in record {
         own = tells_more size.capacity r.core core_lawful capacity_is e may
             (keeps_lawful r.core core_lawful e may whole) v.part found (told_by filed h)
-            (told_of r.core e) told filed v.trail old.own;
+            (told_of r.core e) told filed true_told v.trail old.own;
         returned = (view_still size.capacity r.core core_lawful capacity_is e may v old).returned;
+        free = old.free;
       }
 
       abbrev MemtablesThen : List (ℕ × Slot K) → Act (Slot K) → Type 0
@@ -442,12 +444,13 @@ module _ {K : Type 0} (shows : K → Lasting) (o : Beside) (size : PathSize) (s 
           leaves_turn d leaves q has = tt
 
       -- with what the keeper may have kept up to a key, and what is in the boxes
-      pub plays_all : (key : ℕ) → MayBeKept x' key → (put : Filed) (gone : List ℕ)
-          → HasFiled size x' put gone → (cs : List (ℕ × Slot K)) (a : Act (Slot K))
+      pub plays_all : ToldTrue r.core e found filed → (key : ℕ) → MayBeKept x' key
+          → (put : Filed) (gone : List ℕ) → HasFiled size x' put gone
+          → (cs : List (ℕ × Slot K)) (a : Act (Slot K))
           → Boxed shows size.seats x'.notes (shown o size.at_open key put gone x') x'.claims
           x'.append (homes_after s.homes cs a) (set s.views id v') → MemtablesThen cs a → ReadsThen
           → Ruled shows o size (stepped s (word_at (place_of e)) n id cs v' a)
-      plays_all key may_be put gone filing cs a boxed memtables reads = record {
+      plays_all true_told key may_be put gone filing cs a boxed memtables reads = record {
         core = x';
         events = es';
         owner = r.owner;
@@ -506,7 +509,7 @@ module _ {K : Type 0} (shows : K → Lasting) (o : Beside) (size : PathSize) (s 
             (at_set s.views id j v' u p);
         tells = λ j u p. ⊎_elim
             (λ (t : (j ≡ id) × (v' ≡ u)). subst (λ (y : View). ViewTells size.capacity x' y) t.1
-            own_tells)
+            (own_tells true_told))
             (λ (t : (j ≢ id) × (get_elem? s.views j ≡ some u)). view_still size.capacity r.core
             core_lawful capacity_is e may u (r.tells j u t.1))
             (at_set s.views id j v' u p);
@@ -517,41 +520,44 @@ module _ {K : Type 0} (shows : K → Lasting) (o : Beside) (size : PathSize) (s 
       filing_now same = filing_stays r.core core_lawful size r.filed r.dropped e may same r.filing
 
       -- where no box of a memtable moves, and the seat's write stays
-      pub plays_filed : (key : ℕ) → MayBeKept x' key → (put : Filed) (gone : List ℕ)
-          → HasFiled size x' put gone → (cs : List (ℕ × Slot K)) (a : Act (Slot K))
+      pub plays_filed : ToldTrue r.core e found filed → (key : ℕ) → MayBeKept x' key
+          → (put : Filed) (gone : List ℕ) → HasFiled size x' put gone
+          → (cs : List (ℕ × Slot K)) (a : Act (Slot K))
           → Boxed shows size.seats x'.notes (shown o size.at_open key put gone x') x'.claims
           x'.append (homes_after s.homes cs a) (set s.views id v') → LeavesWrite e
           → SameHeld v.hands h → MovesBelow (boxes size.seats) cs a → LeavesReading v.hands e
           → Ruled shows o size (stepped s (word_at (place_of e)) n id cs v' a)
-      plays_filed key may_be put gone filing cs a boxed leaves held below quiet =
-          plays_all key may_be put gone filing cs a boxed
+      plays_filed true_told key may_be put gone filing cs a boxed leaves held below quiet =
+          plays_all true_told key may_be put gone filing cs a boxed
           (memtables_still cs a leaves held below) (reads_still quiet held.3)
 
       -- and nothing was filed or dropped
-      pub plays_to : (key : ℕ) → MayBeKept x' key → (cs : List (ℕ × Slot K)) (a : Act (Slot K))
+      pub plays_to : ToldTrue r.core e found filed → (key : ℕ) → MayBeKept x' key
+          → (cs : List (ℕ × Slot K)) (a : Act (Slot K))
           → Boxed shows size.seats x'.notes (shown o size.at_open key r.filed r.dropped x')
           x'.claims x'.append (homes_after s.homes cs a) (set s.views id v') → LeavesWrite e
           → SameHeld v.hands h → MovesBelow (boxes size.seats) cs a → LeavesReading v.hands e
           → Ruled shows o size (stepped s (word_at (place_of e)) n id cs v' a)
-      plays_to key may_be cs a boxed leaves held below quiet = plays_filed key may_be r.filed
-          r.dropped (filing_now (files_left r.core v.hands e quiet)) cs a boxed leaves held below
-          quiet
+      plays_to true_told key may_be cs a boxed leaves held below quiet = plays_filed true_told key
+          may_be r.filed r.dropped (filing_now (files_left r.core v.hands e quiet)) cs a boxed
+          leaves held below quiet
 
       kept_now : MayBeKept x' r.kept_to
       kept_now = kept_stays r.core core_lawful e may r.kept_to r.may_be_kept
 
       -- with what it may have kept before
-      pub plays : (cs : List (ℕ × Slot K)) (a : Act (Slot K))
+      pub plays : ToldTrue r.core e found filed → (cs : List (ℕ × Slot K)) (a : Act (Slot K))
           → Boxed shows size.seats x'.notes (shown o size.at_open r.kept_to r.filed r.dropped x') x'.claims x'.append
           (homes_after s.homes cs a) (set s.views id v') → LeavesWrite e → SameHeld v.hands h
           → MovesBelow (boxes size.seats) cs a → LeavesReading v.hands e
           → Ruled shows o size (stepped s (word_at (place_of e)) n id cs v' a)
-      plays cs a boxed = plays_to r.kept_to kept_now cs a boxed
+      plays true_told cs a boxed = plays_to true_told r.kept_to kept_now cs a boxed
 
       -- and what is in the boxes of memtables
-      pub plays_with : x'.files ≡ r.core.files → (cs : List (ℕ × Slot K)) (a : Act (Slot K))
+      pub plays_with : ToldTrue r.core e found filed → x'.files ≡ r.core.files
+          → (cs : List (ℕ × Slot K)) (a : Act (Slot K))
           → Boxed shows size.seats x'.notes (shown o size.at_open r.kept_to r.filed r.dropped x') x'.claims x'.append
           (homes_after s.homes cs a) (set s.views id v') → MemtablesThen cs a → ReadsThen
           → Ruled shows o size (stepped s (word_at (place_of e)) n id cs v' a)
-      plays_with same cs a boxed memtables reads = plays_all r.kept_to kept_now r.filed r.dropped
-          (filing_now same) cs a boxed memtables reads
+      plays_with true_told same cs a boxed memtables reads = plays_all true_told r.kept_to kept_now
+          r.filed r.dropped (filing_now same) cs a boxed memtables reads

@@ -171,7 +171,7 @@ module _ {K : Type 0} (shows : K → Lasting) (o : Beside) (size : PathSize) (sl
         tt,
         plays_filed shows o size s r id w m.0 there mine e refl may tt tt tt
             (rows_stay x e may (λ q. q) r.rows) n n false h found
-            (ap (λ q. seat_after m.0.part e (Number q) (told_by false h)) found) r.kept_to
+            (ap (λ q. seat_after m.0.part e (Number q) (told_by false h)) found) found r.kept_to
             (kept_stays x L e may r.kept_to r.may_be_kept) (put s r there) dropped
             (filing_stays x L size (put s r there) dropped e may refl (filed_now s r there)) m.1
             keeps
@@ -223,7 +223,7 @@ module _ {K : Type 0} (shows : K → Lasting) (o : Beside) (size : PathSize) (sl
         keeps,
         tt,
         plays_filed shows o size s r id w m.0 there mine e refl may tt built tt
-            (rows_stay x e may (λ q. q) r.rows) value value false h refl refl r.kept_to
+            (rows_stay x e may (λ q. q) r.rows) value value false h refl refl tt r.kept_to
             (kept_stays x L e may r.kept_to r.may_be_kept) (put s r there) dropped
             (filing_stays x L size (put s r there) dropped e may refl (filed_now s r there)) m.1
             keeps

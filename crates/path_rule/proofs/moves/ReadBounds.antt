@@ -76,6 +76,7 @@ module _ {K : Type 0} (shows : K → Lasting) (o : Beside) (size : PathSize) (sl
       (rows_stay x e may (λ q. q) r.rows) n n word
       (ap (λ z. seat_after m.0.part e z (told_by false m.0.hands))
       (ap (reading_at (Bound t k)) word ∙ read_back x L (Bound t k)))
+      word
       (λ C. boxed_stay shows size.seats x.notes
       (shown o size.at_open r.kept_to r.filed r.dropped x) x.claims x.claims x.append x.append
       s.homes s.views r.boxed id w m.0 (view_after m.0 e n false) there mine refl refl refl

@@ -135,7 +135,7 @@ module _ {K : Type 0} (shows : K → Lasting) (o : Beside) (size : PathSize) (sl
         let C = columns_now shows o size s r id w m.0 there mine e refl may tt tt spot rows n n
         false h found told in (
           plays_with shows o size s r id w m.0 there mine e refl may tt tt spot rows n n false h
-              found told refl m.1 a
+              found told found refl m.1 a
               (boxed_other shows size.seats x.notes (shown o size.at_open r.kept_to r.filed r.dropped x) x.claims
               x.append s.homes s.views r.boxed id m.0 v' there refl (homes_after s.homes m.1 a)
               below C.append C.issue m.0.hands.memtable_box m.0.hands.held m.0.hands.applied q refl)

@@ -222,7 +222,7 @@ module _ {K : Type 0} (shows : K → Lasting) (o : Beside) (size : PathSize) (sl
         tt,
         plays_to shows o size s r id w m.0 there mine e refl may tt tt tt
             (rows_stay x e may (λ q. q) r.rows) n n false h found
-            (ap (λ q. seat_after m.0.part e (Number q) (told_by false h)) found) k.0
+            (ap (λ q. seat_after m.0.part e (Number q) (told_by false h)) found) found k.0
             (kept_stays x (core_lawful shows o size s r) e may k.0 k.1) m.1 keeps
             (boxed_now s r there stopped (shown o size.at_open k.0 r.filed r.dropped x) v' refl
             (outside shows o size slots id m w mine s r there held)
@@ -273,7 +273,7 @@ module _ {K : Type 0} (shows : K → Lasting) (o : Beside) (size : PathSize) (sl
         keeps,
         tt,
         plays_to shows o size s r id w m.0 there mine e refl may tt built tt
-            (rows_stay x e may (λ q. q) r.rows) value value false h refl refl k.0
+            (rows_stay x e may (λ q. q) r.rows) value value false h refl refl tt k.0
             (kept_stays x (core_lawful shows o size s r) e may k.0 k.1) m.1 keeps
             (boxed_now s r there (Some value) (shown o size.at_open k.0 r.filed r.dropped (next_of x e)) v' refl
             (outside shows o size slots id m w mine s r there held)

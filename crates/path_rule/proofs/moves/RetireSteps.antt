@@ -137,7 +137,7 @@ module _ {K : Type 0} (shows : K → Lasting) (o : Beside) (size : PathSize) (sl
         keeps,
         tt,
         plays_with shows o size s r id w m.0 there mine e refl may tt tt few rows f
-            f false h refl told (none_filed_now x w t f empty) m.1 keeps
+            f false h refl told (sym (ap not empty)) (none_filed_now x w t f empty) m.1 keeps
             (boxed_other shows size.seats x.notes (shown o size.at_open r.kept_to r.filed r.dropped x) x.claims
             x.append s.homes s.views r.boxed id m.0 v' there refl s.homes (λ b l. refl) C.append
             C.issue m.0.hands.memtable_box m.0.hands.held m.0.hands.applied None refl)

@@ -174,7 +174,7 @@ module _ {K : Type 0} (shows : K → Lasting) (o : Beside) (size : PathSize) (sl
         row = (held, sym old ∙ new, up ∙ ap suc new);
       } in
       acts shows o size slots id m w mine s r there e refl may tt tt few
-      (rows_opened x w t f r.rows within_tables (omega arith)) f f refl refl
+      (rows_opened x w t f r.rows within_tables (omega arith)) f f refl refl tt
       (λ C. boxed_stay shows size.seats x.notes
       (shown o size.at_open r.kept_to r.filed r.dropped x) x.claims x.claims x.append x.append s.homes s.views r.boxed
       id w m.0 v' there mine refl refl refl (λ i g l _ _. (l, refl)) refl C.append C.issue refl)
@@ -207,7 +207,7 @@ module _ {K : Type 0} (shows : K → Lasting) (o : Beside) (size : PathSize) (sl
         );
       } in
       acts shows o size slots id m w mine s r there e refl may tt tt (few, small)
-      (rows_stay x e may (λ q. q) r.rows) (2 ^ 62) (2 ^ 62) refl refl
+      (rows_stay x e may (λ q. q) r.rows) (2 ^ 62) (2 ^ 62) refl refl tt
       (λ C. boxed_stay shows size.seats x.notes
       (shown o size.at_open r.kept_to r.filed r.dropped x) x.claims x.claims x.append x.append s.homes s.views r.boxed
       id w m.0 v' there mine refl refl refl (λ i g l _ _. (l, refl)) refl C.append C.issue refl)
@@ -272,6 +272,7 @@ module _ {K : Type 0} (shows : K → Lasting) (o : Beside) (size : PathSize) (sl
       (ap (λ z. (z + 2 ^ 62) % 2 ^ 64) found ∙ final_word b M.bound.0 M.raising low)
       (ap (λ k. seat_after m.0.part e k (told_by false m.0.hands))
       (ap (reading_at (Bound t f)) found ∙ read_back x L (Bound t f)))
+      found
       (λ C. boxed_stay shows size.seats x.notes
       (shown o size.at_open r.kept_to r.filed r.dropped x) x.claims x.claims x.append x.append s.homes s.views r.boxed
       id w m.0 v' there mine refl refl refl (λ i g l _ _. (l, refl)) refl C.append C.issue refl)

@@ -164,7 +164,7 @@ module _ {K : Type 0} (shows : K → Lasting) (o : Beside) (size : PathSize) (sl
         keeps,
         tt,
         plays_to shows o size s r id w m.0 there mine e refl may tt tt tt
-            (rows_stay x e may (λ q. q) r.rows) value value false h refl refl value
+            (rows_stay x e may (λ q. q) r.rows) value value false h refl refl tt value
             (inl (omega arith)) m.1 keeps
             (subst (λ q. Boxed shows size.seats x.notes q x.claims x.append s.homes
             (set s.views id v')) now_is boxed) tt (refl, refl, refl, refl) tt tt,

@@ -129,7 +129,7 @@ module _ {K : Type 0} (shows : K → Lasting) (o : Beside) (size : PathSize) (sl
         row = (subst IsIdle is idle, free);
       } in
       acts shows o size slots id m w mine s r there e refl may tt tt few
-      (rows_stay x e may (λ q. q) r.rows) 1 1 refl refl
+      (rows_stay x e may (λ q. q) r.rows) 1 1 refl refl tt
       (λ C. boxed_stay shows size.seats x.notes
       (shown o size.at_open r.kept_to r.filed r.dropped x) x.claims x.claims x.append x.append s.homes s.views r.boxed
       id w m.0 v' there mine refl refl refl (λ i g l _ _. (l, refl)) refl C.append C.issue refl)
@@ -238,7 +238,7 @@ module _ {K : Type 0} (shows : K → Lasting) (o : Beside) (size : PathSize) (sl
         row = settled_now s r there t.0 through;
       } in
       acts shows o size slots id m w mine s r there e refl may tt tt few
-      (rows_stay x e may (λ q. q) r.rows) 0 0 refl refl
+      (rows_stay x e may (λ q. q) r.rows) 0 0 refl refl tt
       (λ C. boxed_stay shows size.seats x.notes
       (shown o size.at_open r.kept_to r.filed r.dropped x) x.claims x.claims x.append x.append s.homes s.views r.boxed
       id w m.0 v' there mine refl refl refl (λ i g l _ _. (l, refl)) refl C.append C.issue refl)

@@ -98,7 +98,7 @@ module _ {K : Type 0} (shows : K → Lasting) (o : Beside) (size : PathSize) (sl
         plays shows o size s r id w m.0 there mine e refl may tt tt tt
             (rows_stay x e may (λ q. q) r.rows) 1 1 false h refl
             (ap (λ k. seat_after m.0.part e (Number 1) (record { files = false; marker = k }))
-            (sym r.boxed.marked)) m.1 (takes desk_box home.0)
+            (sym r.boxed.marked)) tt m.1 (takes desk_box home.0)
             (boxed_desk_take shows size.seats x.notes
             (shown o size.at_open r.kept_to r.filed r.dropped x) x.claims x.append s.homes s.views r.boxed id w m.0 v'
             there mine
@@ -170,7 +170,7 @@ module _ {K : Type 0} (shows : K → Lasting) (o : Beside) (size : PathSize) (sl
         gives,
         tt,
         plays shows o size s r id w m.0 there mine e refl may tt tt tt
-            (rows_stay x e may (λ q. q) r.rows) 0 0 false h refl refl m.1 gives
+            (rows_stay x e may (λ q. q) r.rows) 0 0 false h refl refl tt m.1 gives
             (subst
             (λ l. Boxed shows size.seats x.notes (shown o size.at_open r.kept_to r.filed r.dropped x) x.claims
             x.append

@@ -102,8 +102,8 @@ module _ {K : Type 0} (shows : K → Lasting) (o : Beside) (size : PathSize) (sl
         keeps,
         tt,
         plays shows o size s r id w m.0 there mine e refl may tt tt fits
-            (rows s r g (let q = up ∙ ap suc now in omega arith)) 0 0 false m.0.hands told refl m.1
-            keeps
+            (rows s r g (let q = up ∙ ap suc now in omega arith)) 0 0 false m.0.hands told refl tt
+            m.1 keeps
             (unseen shows o size slots id m w mine s r there held
             (next_of x e).append v' refl refl refl out
             (still _ m.0.part.sync held) refl empty) tt (refl, refl, refl, refl) tt tt,
@@ -150,7 +150,8 @@ module _ {K : Type 0} (shows : K → Lasting) (o : Beside) (size : PathSize) (sl
         tt,
         plays shows o size s r id w m.0 there mine e refl may tt tt tt
             (rows_stay x e may (λ q. q) r.rows) g c false m.0.hands refl
-            (ap (λ k. seat_after m.0.part e (Number k) (told_by false m.0.hands)) now) m.1 keeps
+            (ap (λ k. seat_after m.0.part e (Number k) (told_by false m.0.hands)) now) tt m.1
+            keeps
             (unseen shows o size slots id m w mine s r there held x.append v' refl refl refl out
             (still _ m.0.part.sync held) refl empty) tt (refl, refl, refl, refl) tt tt,
         (λ z c' role saw'. let same : c ≡ c' = now
@@ -195,7 +196,7 @@ module _ {K : Type 0} (shows : K → Lasting) (o : Beside) (size : PathSize) (sl
         tt,
         plays shows o size s r id w m.0 there mine e refl may tt tt fits
             (rows_stay x e may (λ q. q) r.rows)
-            ((n + 2 ^ 63) % 2 ^ 64) n false m.0.hands told refl m.1 keeps
+            ((n + 2 ^ 63) % 2 ^ 64) n false m.0.hands told refl tt m.1 keeps
             (unseen shows o size slots id m w mine s r there held x.append v' refl refl refl out
             (still _ m.0.part.sync held) refl empty) tt (refl, refl, refl, refl) tt tt,
         (λ z q role _ word. each_name shows o size slots id m w mine 72 g
@@ -231,7 +232,7 @@ module _ {K : Type 0} (shows : K → Lasting) (o : Beside) (size : PathSize) (sl
         keeps,
         tt,
         plays shows o size s r id w m.0 there mine e refl may tt tt tt
-            (rows_stay x e may (λ q. q) r.rows) g g false m.0.hands refl refl m.1 keeps
+            (rows_stay x e may (λ q. q) r.rows) g g false m.0.hands refl refl tt m.1 keeps
             (unseen shows o size slots id m w mine s r there held x.append v' refl refl refl out
             (still _ m.0.part.sync held) refl empty) tt (refl, refl, refl, refl) tt tt,
         each_seat_name shows o size slots id m w mine (λ z. Made z (Advance z Write g) g m

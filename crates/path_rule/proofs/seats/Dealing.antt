@@ -286,7 +286,7 @@ module _ {K : Type 0} (shows : K → Lasting) (o : Beside) (size : PathSize) (id
               (λ old. ⊎_elim
               (λ (t : (j ≡ id) × (handing v ≡ u)). subst (λ (y : View).
               ViewTells size.capacity r.core y) t.1 (let V = r.tells id v at in
-              record { own = V.own; returned = V.returned }))
+              record { own = V.own; returned = V.returned; free = V.free }))
               (λ (t : (j ≢ id) × (get_elem? s.views j ≡ some u)). r.tells j u t.1)
               (at_set s.views id j (handing v) u old))
               (λ (t : (handed v ≡ u) × (j ≡ new)). subst (λ (y : View).

@@ -14,6 +14,7 @@ use Rattle.std.proofs.Common.{
   [],
   ◌∷◌,
   map,
+  Option,
   None,
   is_some,
   eq-eqb,
@@ -26,12 +27,16 @@ use Rattle.std.proofs.Common.{
   arith,
 }
 use Rattle.std.specs.Prelude.{slice_index}
+use mathlib.Core.Logic.{dite}
 use mathlib.Core.Option.{some, none, some-injective, some-ne-none}
 use mathlib.Core.Option as maybe
+use native.Mathlib.Decide.{dec_lt}
 use lib.ListN.{get_elem?}
 use Rattle.atomic_table.specs.Table.{State, Final, Seen}
 use Rattle.path_core.specs.declared.event.Event.{Event}
 use Rattle.path_core.specs.declared.event.Place.TheVariants.{Log}
+use Rattle.path_core.specs.declared.seat.Seat.{Seat}
+use Rattle.path_core.specs.declared.seat.SyncTurn.{SyncTurn}
 use Rattle.path_core.specs.declared.state.PathState.{PathState}
 use Rattle.path_core.specs.Words.{by_of}
 use Rattle.path_core.specs.Keeper.{Holding, HasRisen}
@@ -55,6 +60,7 @@ use Rattle.path_rule.specs.Rule.{AreBuilt, IsFit, start_of, Knows, Ruled, event_
 use Rattle.path_rule.specs.Sharing.{Ended, EndsUnused, HasAll}
 use Rattle.path_rule.specs.Trails.{TrailTells, ViewTells}
 use Rattle.path_rule.proofs.boxes.SameBoxes.{holds_none}
+use Rattle.path_rule.proofs.log.FilingStays.{dropped_at_home}
 use Rattle.path_rule.proofs.moves.Moving.{core_lawful}
 use Rattle.path_rule.proofs.seats.Untaken.{untaken}
 
@@ -134,12 +140,35 @@ module _ {K : Type 0} (shows : K → Lasting) (o : Beside) where
             own (sym kn.0.1 ∙ (ap r.owner (sym t.3) ∙ (mine.1 t.0 t.1 t.2).0.1)))
             (all z (let a = kn.0.0 in let c = r.enough in omega arith))
 
+  -- Where a seat that does not hold the Sync turn took in all others, nobody holds it.
+  pub none_holds : (key : PathSize) (id w : ℕ) (v : View) → v.role ≡ Steps w
+      → HasAll key.seats w v.returned → v.part.sync ≡ None → (s : State (Slot K) View)
+      (r : Ruled shows o key s) → get_elem? s.views id ≡ some v → (z : ℕ)
+      → is_some (seat_of r.core z).sync ≡ false
+  none_holds key id w v role all unheld s r at z = dite (dec_lt z key.seats)
+      (λ low. ⊎_elim (λ same. subst (λ (k : ℕ). is_some (seat_of r.core k).sync ≡ false)
+      (sym same) (ap (λ (p : Seat). is_some p.sync) (sym mine.0.2)
+      ∙ ap (λ (turn : Option SyncTurn). is_some turn) unheld))
+      (λ (t : (n : ℕ) × (c : Returned) × (get_elem? v.returned n ≡ some c) × (c.number ≡ z)).
+      subst (λ (k : ℕ). is_some (seat_of r.core k).sync ≡ false) t.3
+      (ap (λ (p : Seat). is_some p.sync) (sym (mine.1 t.0 t.1 t.2).0.2)
+      ∙ ap (λ (turn : Option SyncTurn). is_some turn)
+      ((r.tells id v at).free t.0 t.1 t.2).sync))
+      (all z low))
+      (λ high. ap (λ (p : Seat). is_some p.sync)
+      (r.fresh z (let few = r.enough in omega arith)).1)
+    where
+      mine : Knows r.core r.events r.owner r.made r.boss id (Steps w) v.part v.trail v.returned
+      mine = subst (λ ρ. Knows r.core r.events r.owner r.made r.boss id ρ v.part v.trail
+          v.returned) role (r.each_seat id v at).1
+
   pub ends_by : (size key : PathSize) (id w log : ℕ) (keeper : Holding) (v : View) (ws : List ℕ)
-      (xs : List (Slot K)) → key ≡ size → v.role ≡ Steps w
-      → (f : Final (Seen (Ruled shows o key) id v) ws xs) → get_elem? ws 4 ≡ some log
+      (xs : List (Slot K)) → key ≡ size → v.role ≡ Steps w → HasAll key.seats w v.returned
+      → v.part.sync ≡ None → (f : Final (Seen (Ruled shows o key) id v) ws xs)
+      → get_elem? ws 4 ≡ some log
       → lasting_of keeper ≡ shown o key.at_open f.1.0.kept_to f.1.0.filed f.1.0.dropped f.1.0.core
       → Ended o size (record { number = w; part = v.part; trail = v.trail } ∷ v.returned) log keeper
-  ends_by size key id w log keeper v ws xs same role f e kept = let s = f.0 in
+  ends_by size key id w log keeper v ws xs same role all unheld f e kept = let s = f.0 in
       let r : Ruled shows o key s = f.1.0 in
       let k = subst (λ ρ. Knows r.core r.events r.owner r.made r.boss id ρ v.part v.trail
       v.returned) role (r.each_seat id v f.1.1).1 in
@@ -158,6 +187,8 @@ module _ {K : Type 0} (shows : K → Lasting) (o : Beside) where
         filed = r.filed;
         dropped = r.dropped;
         filing = subst (λ (z : PathSize). HasFiled z r.core r.filed r.dropped) same r.filing;
+        gone = dropped_at_home r.core key r.filed r.dropped r.filing
+            (none_holds key id w v role all unheld s r f.1.1);
         lasting_is = kept ∙ ap (λ (z : PathSize). shown o z.at_open r.kept_to r.filed r.dropped r.core) same;
         risen = subst (λ (z : PathSize). 0 < r.core.stopped → HasRisen z.at_open r.core.stopped)
             same r.risen;

@@ -29,7 +29,7 @@ use Rattle.atomic_table.specs.Table.{State, Joins}
 use Rattle.path_core.specs.declared.seat.FlushTurn.{FlushTurn}
 use Rattle.path_core.specs.declared.seat.Range.{Range}
 use Rattle.path_core.specs.declared.seat.Seat.{Seat}
-use Rattle.path_core.specs.Parts.{seat_of, seat_table}
+use Rattle.path_core.specs.Parts.{HoldsNoTurn, seat_of, seat_table}
 use Rattle.path_core.proofs.lists.Options.{none_is_not_some}
 use Rattle.path_core.proofs.log.OwnNotes.{no_note}
 use Rattle.path_rule.specs.declared.lasting.Beside.{Beside}
@@ -282,6 +282,13 @@ module _ {K : Type 0} (shows : K → Lasting) (o : Beside) (size : PathSize) (id
             (λ (l : (record { number = w; part = u.part; trail = u.trail } ≡ b)
             × (n ≡ length v.returned)). subst (λ (c : Returned).
             TrailTells size.capacity r.core c.trail) l.0 U.own)
+            (at_end v.returned (record { number = w; part = u.part; trail = u.trail }) b n q)) h;
+        free = λ n b h. subst (λ (ρ : Role). get_elem? (v.returned
+            ++ told_by ρ u.part u.trail) n ≡ some b → HoldsNoTurn b.part) (sym seat_is)
+            (λ q. ⊎_elim (λ old. V.free n b old)
+            (λ (l : (record { number = w; part = u.part; trail = u.trail } ≡ b)
+            × (n ≡ length v.returned)). subst (λ (c : Returned). HoldsNoTurn c.part) l.0
+            (record { sync = free; flush = unheld }))
             (at_end v.returned (record { number = w; part = u.part; trail = u.trail }) b n q)) h;
       }
 

@@ -35,5 +35,7 @@ returns g c = let t = c.args.self in let b = c.args.member in
     ends_by (shows_of g.K.Keeper.holds) o t.size k b.seat.id b.number
     c.keeper_and_log.result.1 (g.K.Keeper.holds c.keeper_and_log.result.0) b.seat.me.0
     (slots_items closed.words) (slots_items closed.slots) t.keyed b.role
+    (subst (λ (z : PathSize). HasAll z.seats b.number b.seat.me.0.returned) (sym t.keyed)
+    c.requires.all) i.1
     c.close_with.ensures.values.2 c.keeper_and_log.ensures.log
     (ap (shows_of g.K.Keeper.holds) (c.keeper_and_log.ensures.keeper d.0 d.1) ∙ d.2)
