@@ -61,7 +61,7 @@ use Rattle.path_core.specs.Parts.{
 }
 use Rattle.path_core.specs.Runs.{Past}
 use Rattle.path_core.specs.Words.{by_of}
-use Rattle.path_core.proofs.files.Retires.{Retires as RetiresOne, files_retired, files_same, next_file}
+use Rattle.path_core.proofs.files.Retires.{files_retired, next_file}
 use Rattle.path_core.proofs.frame.Runs.{past_sizes}
 use Rattle.path_core.proofs.lists.Inserted.{map_from}
 use Rattle.path_core.proofs.lists.Passing.{any_to}
@@ -124,13 +124,13 @@ module _ (x : PathState) (L : IsLawfulPath x) (t m : ℕ) (B : HasPassedBarrier 
 
 -- Of so many seats one made the step, and an entry is placed in the memtable.
 record IsGiven (count : ℕ) (events : List Event) (x : PathState) (f : WrittenFile) : Type 0 where
-  by : ℕ
-  inside : by < count
-  table : Table
-  of_table : table.0 ≡ f.table
-  among : Contains events (Put by (OldestLive table) (suc f.memtable))
-  entry : ℕ
-  placed : Contains x.placed (record {
+  pub by : ℕ
+  pub inside : by < count
+  pub table : Table
+  pub of_table : table.0 ≡ f.table
+  pub among : Contains events (Put by (OldestLive table) (suc f.memtable))
+  pub entry : ℕ
+  pub placed : Contains x.placed (record {
     table = table.0;
     entry = entry;
     memtable = f.memtable;
