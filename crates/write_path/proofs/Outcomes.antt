@@ -59,6 +59,8 @@ use Rattle.path_rule.specs.declared.lasting.Lasting.{Lasting}
 use Rattle.path_rule.specs.declared.lasting.PutTable.{PutTable}
 use Rattle.path_rule.specs.declared.trying.PathSeat.{PathSeat}
 use Rattle.path_rule.specs.declared.view.PathSize.{PathSize}
+use Rattle.path_rule.specs.declared.bounds.TableBounds.{TableBounds}
+use Rattle.path_rule.specs.ClosedBounds.{TellsBounds}
 use Rattle.path_rule.specs.Filing.{file_range, put_range}
 use Rattle.path_rule.specs.Lasts.{
   beside_of,
@@ -195,10 +197,11 @@ module _ {K : Type 0} (size : PathSize) where
       (sym (ap (λ (p : Seat). p.claim) (All-contains P seats s parts one.1)) ∙ s.unclaimed)
 
   pub outcome : (o : Beside) (seats : List (PathSeat K)) (end : ℕ) (h : Holding)
-      → EndsBy o size seats end h
-      → IsPermutation (range_with_len 0 size.seats) (numbers_of seats)
-      → IsOutcome size seats end h
-  outcome o seats end h E all = let e = E.ended in let x = e.core in let L = e.lawful in
+      → (E : EndsBy o size seats end h)
+      → IsPermutation (range_with_len 0 size.seats) (numbers_of seats) → (bounds : TableBounds)
+      → TellsBounds E.ended.core bounds
+      → (a : IsOutcome size seats end h) × TellsBounds a.core bounds
+  outcome o seats end h E all bounds told = let e = E.ended in let x = e.core in let L = e.lawful in
       let z = past_sizes e.events (start_of size) x e.run in
       let same = e.lasting_is in
       let synced : h.synced ≡ x.synced = ap (λ (k : Lasting). k.synced) same in
@@ -214,7 +217,7 @@ module _ {K : Type 0} (size : PathSize) where
       let files_are : map held_range h.files ≡ map file_range x.files = ranges_shown h.files
       ∙ (ap (λ (l : List PutTable). map put_range l) files_shown ∙ e.filing.ranged) in
       let idle = λ (w : ℕ) (l : w < length x.seats). idle_all x seats E.parts all w
-      (let long = z.seats in omega (arith, l, long, many)) in record {
+      (let long = z.seats in omega (arith, l, long, many)) in (record {
         fit = e.fit;
         core = x;
         events = e.events;
@@ -332,21 +335,22 @@ module _ {K : Type 0} (size : PathSize) where
             (ap (λ (k : Lasting). k.stopped) same) in
             subst (λ (q : ℕ × ℕ). HasRisen q.0 q.1)
             (λ i. (sym (ap (λ (k : Lasting). k.at_open) same) i, t.1 i)) (e.risen t.0);
-        sized = sized_as size (shown o size.at_open e.kept_to e.filed e.dropped x) h same z.base z.capacity z.ordinals
-            refl;
-      }
+        sized = sized_as size (shown o size.at_open e.kept_to e.filed e.dropped x) h same z.base
+            z.capacity z.ordinals refl;
+      }, told)
 
   no_seat : (seats : List (PathSeat K)) → numbers_of seats ≡ [] → seats ≡ []
   no_seat [] e = refl
   no_seat (s ∷ seats) e = absurd (let q = ap (λ (l : List ℕ). length l) e in omega arith)
 
   pub unused_outcome : (o : Beside) (seats : List (PathSeat K)) (end : ℕ) (h : Holding)
-      → IsFit size → numbers_of seats ≡ [] → EndsUnused o size end h
-      → IsOutcome size seats end h
-  unused_outcome o seats end h fit none_there U = let same = U.1 in
+      → IsFit size → numbers_of seats ≡ [] → EndsUnused o size end h → (bounds : TableBounds)
+      → TellsBounds (start_of size) bounds
+      → (a : IsOutcome size seats end h) × TellsBounds a.core bounds
+  unused_outcome o seats end h fit none_there U bounds told = let same = U.1 in
       let synced : h.synced ≡ 0 = ap (λ (k : Lasting). k.synced) same in
       let no_files : h.files ≡ [] = none_shown h.files (ap (λ (k : Lasting). k.filed.files) same) in
-      let dropped : h.dropped ≡ [] = ap (λ (k : Lasting). k.dropped) same in record {
+      let dropped : h.dropped ≡ [] = ap (λ (k : Lasting). k.dropped) same in (record {
         fit = fit;
         core = start_of size;
         events = [];
@@ -413,7 +417,7 @@ module _ {K : Type 0} (size : PathSize) where
         stopped = λ is. absurd (none_told h.stopped h.faults is
             (ap (λ (k : Lasting). k.stopped) same));
         sized = sized_as size (none_lasting o size) h same refl refl refl refl;
-      }
+      }, told)
 
 -- ---- what a keeper has beside its log
 

@@ -123,7 +123,7 @@ impl<K: Keeper + Drop> WritePath<K, Global> {
                 mode,
             }),
             Err(opener) => {
-                let (keeper, _log) = table.finish_unused(opener);
+                let (keeper, _log, _bounds) = table.finish_unused(opener);
                 Err((keeper, OutOfMemory))
             }
         }
