@@ -17,10 +17,8 @@ use Rattle.std.proofs.Common.{
   ◌++◌,
   map,
   length,
-  Option,
   Some,
   None,
-  is_some,
   refl,
   sym,
   ap,
@@ -31,7 +29,7 @@ use Rattle.std.proofs.Common.{
 use Rattle.std.specs.List.{All, Contains, filter, range_with_len}
 use Rattle.std.specs.List.Sorted.{IsPermutation}
 use Rattle.std.proofs.lemmas.Bool.{false≢true}
-use Rattle.std.proofs.lemmas.List.{get_or_default, length-map, length-replicate}
+use Rattle.std.proofs.lemmas.List.{get_or_default, length-replicate}
 use Rattle.std.proofs.lemmas.List.Elements.{All-nil, All-cons, All-contains, All-head, All-tail}
 use Rattle.std.proofs.lemmas.List.Sorted.{
   IsPermutation-refl,
@@ -61,10 +59,7 @@ use Rattle.path_rule.specs.declared.trying.PathSeat.{PathSeat}
 use Rattle.path_rule.specs.declared.view.PathSize.{PathSize}
 use Rattle.path_rule.specs.Filing.{file_range, put_range}
 use Rattle.path_rule.specs.Lasts.{
-  beside_of,
-  filed_of,
   lasting_of,
-  none_filed,
   put_table,
   shown,
   none_lasting,
@@ -79,7 +74,6 @@ use Rattle.write_path.specs.ClosedFiles.{CoversFlushed, IsAskedBy, held_range}
 use Rattle.write_path.specs.Closed.{
   IsOfSize,
   IsOutcome,
-  StaysBeside,
   IsStoppedFor,
   IsSyncedFor,
   AreStoppedFor,
@@ -94,6 +88,7 @@ use Rattle.write_path.specs.Opened.{numbers_of}
 use Rattle.write_path.specs.Sealed.{AreSealed, AreSealedApart}
 use Rattle.write_path.proofs.Accounted.{each_once, each_there}
 use Rattle.write_path.proofs.AskedFiles.{each_asked}
+use Rattle.write_path.proofs.BesideStays.{none_of, none_shown}
 use Rattle.write_path.proofs.CoveredFiles.{covers, ranges_shown, true_as_shown}
 use Rattle.write_path.proofs.FewGroups.{few_groups}
 use Rattle.write_path.proofs.FewSegments.{few_segments}
@@ -140,15 +135,6 @@ sized_as size l h same base capacity ordinals at_open = record {
   ordinals_are = ap (λ (k : Lasting). k.ordinals) same ∙ ordinals;
   at_open_is = ap (λ (k : Lasting). k.at_open) same ∙ at_open;
 }
-
--- no file where it shows none
-none_shown : (files : List PutFile) → map put_table files ≡ [] → files ≡ []
-none_shown [] is = refl
-none_shown (f ∷ fs) is = absurd (let l = ap (λ (l : List PutTable). length l) is in omega arith)
-
--- and nothing among nothing
-none_of : {T : Type 0} {xs : List T} → xs ≡ [] → (x : T) → Contains xs x → ⊥
-none_of {T} is x h = absurd (let l = (subst (λ (l : List T). Contains l x) is h).1 in omega arith)
 
 module _ {K : Type 0} (size : PathSize) where
   -- what the seats wrote is what steps of their numbers deposited
@@ -265,9 +251,10 @@ module _ {K : Type 0} (size : PathSize) where
         true_files = true_as_shown x.notes h.files e.filed.files files_shown e.filing.merged;
         dropped_in = λ o gone. e.gone o (subst (λ (l : List ℕ). Contains l o) dropped gone);
         droppable = λ o gone. let in_run = e.gone o
-            (subst (λ (l : List ℕ). Contains l o) dropped gone) in
-            (L.dropped_was_droppable.droppable o in_run,
-            L.dropped_was_droppable.below_synced o in_run);
+            (subst (λ (l : List ℕ). Contains l o) dropped gone) in (
+              L.dropped_was_droppable.droppable o in_run,
+              L.dropped_was_droppable.below_synced o in_run,
+            );
         covered = known_of x
             (λ (s : PathSeat K). TrailTells size.capacity x (view_of s.member).trail)
             (λ (s : PathSeat K). CoversFlushed x.notes h.files (view_of s.member).trail)
@@ -332,8 +319,8 @@ module _ {K : Type 0} (size : PathSize) where
             (ap (λ (k : Lasting). k.stopped) same) in
             subst (λ (q : ℕ × ℕ). HasRisen q.0 q.1)
             (λ i. (sym (ap (λ (k : Lasting). k.at_open) same) i, t.1 i)) (e.risen t.0);
-        sized = sized_as size (shown o size.at_open e.kept_to e.filed e.dropped x) h same z.base z.capacity z.ordinals
-            refl;
+        sized = sized_as size (shown o size.at_open e.kept_to e.filed e.dropped x) h same z.base
+            z.capacity z.ordinals refl;
       }
 
   no_seat : (seats : List (PathSeat K)) → numbers_of seats ≡ [] → seats ≡ []
@@ -414,51 +401,3 @@ module _ {K : Type 0} (size : PathSize) where
             (ap (λ (k : Lasting). k.stopped) same));
         sized = sized_as size (none_lasting o size) h same refl refl refl refl;
       }
-
--- ---- what a keeper has beside its log
-
--- None where the other is none.
-none_too : {T : Type 0} (a b : Option T) → is_some b ≡ is_some a → a ≡ None → b ≡ None
-none_too None None same is = refl
-none_too None (Some y) same is = absurd (false≢true (sym same))
-none_too (Some x) b same is = absurd (let q : Some x ≡ None = is in cc)
-
--- nothing where there was nothing
-void_too : {T : Type 0} (a b : List T) → length b ≡ length a → a ≡ [] → b ≡ []
-void_too [] [] same is = refl
-void_too [] (y ∷ b) same is = absurd (omega arith)
-void_too (x ∷ a) b same is = absurd (let q = ap (λ (l : List _). length l) is in omega arith)
-
--- as many files
-as_many : (first h : Holding) → filed_of h ≡ filed_of first → length h.files ≡ length first.files
-as_many first h same = sym (length-map h.files put_table)
-    ∙ (ap (λ (f : Filed). length f.files) same ∙ length-map first.files put_table)
-
-pub stays_beside : (size : PathSize) (first h : Holding) → beside_of h ≡ beside_of first
-    → filed_of h ≡ filed_of first → StaysBeside size first h
-stays_beside size first h same filed = record {
-  disk_is = ap (λ (b : Beside). b.disk) same;
-  archives_are = ap (λ (b : Beside). b.archives) same;
-  tables_are = ap (λ (b : Beside). b.tables) same;
-  writers_are = ap (λ (b : Beside). b.writers) same;
-  no_file = λ plain. void_too first.files h.files (as_many first h filed);
-  none_refused = λ plain. none_too first.refused h.refused
-      (ap (λ (f : Filed). f.refused) filed);
-  none_archived = λ plain. void_too first.archived h.archived
-      (ap (λ (f : Filed). f.archived) filed);
-}
-
--- and where it has done nothing beside its log, if it was opened for no table files
-pub plain_beside : (size : PathSize) (first h : Holding) → beside_of h ≡ beside_of first
-    → (size.files ≡ false → filed_of h ≡ none_filed) → StaysBeside size first h
-plain_beside size first h same filed = record {
-  disk_is = ap (λ (b : Beside). b.disk) same;
-  archives_are = ap (λ (b : Beside). b.archives) same;
-  tables_are = ap (λ (b : Beside). b.tables) same;
-  writers_are = ap (λ (b : Beside). b.writers) same;
-  no_file = λ plain none. none_shown h.files (ap (λ (f : Filed). f.files) (filed plain));
-  none_refused = λ plain none. none_too None h.refused
-      (ap (λ (f : Filed). f.refused) (filed plain)) refl;
-  none_archived = λ plain none. void_too [] h.archived
-      (ap (λ (f : Filed). f.archived) (filed plain)) refl;
-}
