@@ -43,8 +43,8 @@ use Rattle.write_path.specs.Closed.{
   all_writes,
 }
 use Rattle.write_path.specs.Opened.{ShowsAsBefore, numbers_of, size_of}
+use Rattle.write_path.proofs.BesideStays.{stays_beside}
 use Rattle.write_path.proofs.NonePassed.{logged_passes_none}
-use Rattle.write_path.proofs.Outcomes.{stays_beside}
 use Rattle.write_path.proofs.Spending.{segments_spent}
 use Rattle.clog_writers.specs.declared.fault.WriteFault.{WriteFault}
 use Rattle.clog_writers.specs.declared.fault.WriteFault.TheVariants.{

@@ -10,7 +10,7 @@ use clog_base::{Key, Table};
 use std::alloc::Global;
 
 /// Of each table the bound of the memtable below its newest one, key 0 where there is none.
-#[derive(Clone, Copy, Drop)]
+#[derive(Clone, Copy, Debug, PartialEq, Eq)]
 pub struct TableBounds {
     /// By the table's number.
     keys: [u64; 16],

@@ -16,7 +16,9 @@ pub mod FewGroups
 pub mod NonePassed
 pub mod Parted
 pub mod CoveredFiles
+pub mod FilesGiven
 pub mod AskedFiles
+pub mod BesideStays
 pub mod Outcomes
 pub mod SyncLists
 pub mod ClaimBehind

@@ -199,27 +199,30 @@ module _ {K : Type 0} (shows : K → Lasting) (o : Beside) where
       let k = subst (λ ρ. Knows r.core r.events r.owner r.made r.boss id ρ v.part v.trail
       v.returned) role (r.each_seat id v f.1.1).1 in
       let ran = subst (λ (z : PathSize). (p : Past (start_of z) r.events r.core)
-      × AreBuilt z.at_open (start_of z) r.events r.core p) same (r.run, r.built) in (record {
-        core = r.core;
-        events = r.events;
-        fit = subst IsFit same r.fit;
-        run = ran.0;
-        built = ran.1;
-        lawful = core_lawful shows o key s r;
-        log_is = sym (at_four ws 4 log e) ∙
-            (ap (λ (l : List ℕ). slice_index l 4) (sym f.2) ∙ r.words Log tt);
-        kept_to = r.kept_to;
-        may_be_kept = r.may_be_kept;
-        filed = r.filed;
-        dropped = r.dropped;
-        filing = subst (λ (z : PathSize). HasFiled z r.core r.filed r.dropped) same r.filing;
-        gone = dropped_at_home r.core key r.filed r.dropped r.filing
-            (none_holds key id w v role all unheld s r f.1.1);
-        lasting_is = kept ∙ ap (λ (z : PathSize). shown o z.at_open r.kept_to r.filed r.dropped r.core) same;
-        risen = subst (λ (z : PathSize). 0 < r.core.stopped → HasRisen z.at_open r.core.stopped)
-            same r.risen;
-        each = one s r k (r.tells id v f.1.1);
-      }, tells_them key id v ws xs f bounds told)
+      × AreBuilt z.at_open (start_of z) r.events r.core p) same (r.run, r.built) in (
+        record {
+          core = r.core;
+          events = r.events;
+          fit = subst IsFit same r.fit;
+          run = ran.0;
+          built = ran.1;
+          lawful = core_lawful shows o key s r;
+          log_is = sym (at_four ws 4 log e) ∙
+              (ap (λ (l : List ℕ). slice_index l 4) (sym f.2) ∙ r.words Log tt);
+          kept_to = r.kept_to;
+          may_be_kept = r.may_be_kept;
+          filed = r.filed;
+          dropped = r.dropped;
+          filing = subst (λ (z : PathSize). HasFiled z r.core r.filed r.dropped) same r.filing;
+          gone = dropped_at_home r.core key r.filed r.dropped r.filing
+              (none_holds key id w v role all unheld s r f.1.1);
+          lasting_is = kept ∙ ap (λ (z : PathSize). shown o z.at_open r.kept_to r.filed r.dropped r.core) same;
+          risen = subst (λ (z : PathSize). 0 < r.core.stopped → HasRisen z.at_open r.core.stopped)
+              same r.risen;
+          each = one s r k (r.tells id v f.1.1);
+        },
+        tells_them key id v ws xs f bounds told,
+      )
     where
       sized : (x : PathState) (ts : List OwnStep) → TrailTells key.capacity x ts
           → TrailTells size.capacity x ts

@@ -40,7 +40,7 @@ key_back (Final k) small = omega arith
 
 module _ (x : PathState) (L : IsLawfulPath x) (rows : HasRows x) (words : List ℕ)
     (reads : (at : Place) → IsWord at
-      → slice_index words (word_at at) ≡ word_of (reading x at)) where
+    → slice_index words (word_at at) ≡ word_of (reading x at)) where
   -- there is a word for each memtable
   few_made : (t : ℕ) → suc (table_of x t).newest ≤ 256
   few_made t = let made = (L.switches.tables t).bounds_rise.made in

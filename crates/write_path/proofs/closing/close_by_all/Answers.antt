@@ -41,24 +41,26 @@ returns g c = let s = c.in-Some.field-0 in let j = c.join_all-member.ensures in
     let R : Returned → Type 0 = λ b. TrailTells c.args.table.size.capacity e.core b.trail in
     let same : returned_of c.join_all-member.result ∷ (view_of c.join_all-member.result).returned
     ≡ returned_of s.member ∷ (first ++ returned_by (reverse xs)) =
-    λ i. record { number = j.same.1 i; part = j.same.3 i; trail = j.same.2 i } ∷ j.returned i in
-    (record {
-      returned = returned_of c.join_all-member.result
-          ∷ (view_of c.join_all-member.result).returned;
-      ended = e;
-      own = subst (λ (l : List (PathSeat g.row.K.Denot)).
-          All (λ (p : PathSeat g.row.K.Denot). Q (returned_of p.member)) l)
-          (sym c.in-Some.ensures.items)
-          (all_own Q first xs s (λ n b q. (e.each n b
-          (ap (λ (l : List Returned). get_elem? l n) same ∙ q)).1));
-      tell = subst (λ (l : List (PathSeat g.row.K.Denot)).
-          All (λ (p : PathSeat g.row.K.Denot). R (returned_of p.member)) l)
-          (sym c.in-Some.ensures.items)
-          (all_own R first xs s (λ n b q. (e.each n b
-          (ap (λ (l : List Returned). get_elem? l n) same ∙ q)).2));
-      parts = subst (λ (l : List (PathSeat g.row.K.Denot)).
-          All (λ (p : PathSeat g.row.K.Denot). S (returned_of p.member)) l)
-          (sym c.in-Some.ensures.items)
-          (all_own S first xs s (λ n b q. (e.each n b
-          (ap (λ (l : List Returned). get_elem? l n) same ∙ q)).0));
-    }, c.finish.ensures.1)
+    λ i. record { number = j.same.1 i; part = j.same.3 i; trail = j.same.2 i } ∷ j.returned i in (
+      record {
+        returned = returned_of c.join_all-member.result
+            ∷ (view_of c.join_all-member.result).returned;
+        ended = e;
+        own = subst (λ (l : List (PathSeat g.row.K.Denot)).
+            All (λ (p : PathSeat g.row.K.Denot). Q (returned_of p.member)) l)
+            (sym c.in-Some.ensures.items)
+            (all_own Q first xs s (λ n b q. (e.each n b
+            (ap (λ (l : List Returned). get_elem? l n) same ∙ q)).1));
+        tell = subst (λ (l : List (PathSeat g.row.K.Denot)).
+            All (λ (p : PathSeat g.row.K.Denot). R (returned_of p.member)) l)
+            (sym c.in-Some.ensures.items)
+            (all_own R first xs s (λ n b q. (e.each n b
+            (ap (λ (l : List Returned). get_elem? l n) same ∙ q)).2));
+        parts = subst (λ (l : List (PathSeat g.row.K.Denot)).
+            All (λ (p : PathSeat g.row.K.Denot). S (returned_of p.member)) l)
+            (sym c.in-Some.ensures.items)
+            (all_own S first xs s (λ n b q. (e.each n b
+            (ap (λ (l : List Returned). get_elem? l n) same ∙ q)).0));
+      },
+      c.finish.ensures.1,
+    )

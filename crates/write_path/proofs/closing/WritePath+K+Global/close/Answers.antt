@@ -5,7 +5,8 @@ use Rattle.path_rule.specs.ClosedBounds.{TellsBounds}
 use Rattle.path_rule.specs.Lasts.{beside_of}
 use Rattle.write_path.specs.Closed.{AreAll, IsOutcome, StaysBeside}
 use Rattle.write_path.specs.Opened.{numbers_of}
-use Rattle.write_path.proofs.Outcomes.{outcome, plain_beside, unused_outcome}
+use Rattle.write_path.proofs.BesideStays.{plain_beside}
+use Rattle.write_path.proofs.Outcomes.{outcome, unused_outcome}
 use Rattle.write_path.proofs.closing.WritePath+K+Global.close.Goals.{in-Some, in-None}
 use Rattle.write_path.proofs.closing.WritePath+K+Global.close.Goals as goal
 
