@@ -1,14 +1,18 @@
 -- The words of a closed table tell the bounds below the newest memtables.
 use Rattle.std.proofs.Common.{
   ◌≡◌,
+  ◌≢◌,
   ℕ,
   zero,
   suc,
   ◌+◌,
+  ◌-◌,
   ◌*◌,
   ◌<◌,
   ◌≤◌,
   List,
+  [],
+  ◌∷◌,
   length,
   refl,
   sym,
@@ -17,7 +21,9 @@ use Rattle.std.proofs.Common.{
   subst,
   arith,
 }
-use Rattle.std.specs.Prelude.{◌%◌, ◌^◌, slice_index}
+use Rattle.std.specs.Prelude.{◌%◌, ◌^◌, slice_index, slice_set}
+use mathlib.Core.Option.{some, some-injective, some-ne-none}
+use lib.ListN.{get_elem?}
 use Rattle.path_core.specs.declared.event.Place.{Place}
 use Rattle.path_core.specs.declared.event.Place.TheVariants.{Bound, Newest}
 use Rattle.path_core.specs.declared.state.Bound.{Bound as BoundOf}
@@ -31,6 +37,48 @@ use Rattle.path_rule.specs.ClosedBounds.{key_below, last_key}
 use Rattle.path_rule.specs.Layout.{IsWord, bound_word, word_at, word_of}
 use Rattle.path_rule.specs.Rule.{HasRows}
 use Rattle.path_rule.proofs.places.ReadBack.{log_small}
+
+-- ---- words and rows of numbers
+
+-- what stands at a place
+pub stands : (words : List ℕ) (i a : ℕ) → get_elem? words i ≡ some a → slice_index words i ≡ a
+stands [] i a e = absurd (some-ne-none a (sym e))
+stands (x ∷ xs) zero a e = some-injective x a e
+stands (x ∷ xs) (suc i) a e = stands xs i a e
+
+-- a number that is written to a row, and the others of the row
+
+pub set_long : (xs : List ℕ) (i v : ℕ) → length (slice_set xs i v) ≡ length xs
+set_long [] i v = refl
+set_long (x ∷ xs) zero v = refl
+set_long (x ∷ xs) (suc i) v = ap suc (set_long xs i v)
+
+pub set_here : (xs : List ℕ) (i v : ℕ) → i < length xs → slice_index (slice_set xs i v) i ≡ v
+set_here [] i v inside = absurd (omega arith)
+set_here (x ∷ xs) zero v inside = refl
+set_here (x ∷ xs) (suc i) v inside = set_here xs i v (omega arith)
+
+pub set_there : (xs : List ℕ) (i j v : ℕ) → j ≢ i
+    → slice_index (slice_set xs i v) j ≡ slice_index xs j
+set_there [] i j v apart = refl
+set_there (x ∷ xs) zero zero v apart = absurd (apart refl)
+set_there (x ∷ xs) zero (suc j) v apart = refl
+set_there (x ∷ xs) (suc i) zero v apart = refl
+set_there (x ∷ xs) (suc i) (suc j) v apart = set_there xs i j v (λ e. apart (ap suc e))
+
+-- ---- the key below the newest memtable, as words tell it
+
+pub at_first : (words : List ℕ) (t n : ℕ) → slice_index words (8 + 4 * t) ≡ n → n ≡ 0
+    → 0 ≡ last_key words t
+at_first words t n is none = sym (ap (λ (k : ℕ). key_below words t k) (is ∙ none))
+
+pub at_later : (words : List ℕ) (t n w : ℕ) → slice_index words (8 + 4 * t) ≡ n → n ≢ 0
+    → slice_index words (131144 + 16 * (n - 1) + t) ≡ w → w % 2 ^ 62 ≡ last_key words t
+at_later words t zero w is made at = absurd (made refl)
+at_later words t (suc m) w is made at =
+    let place : 131144 + 16 * (suc m - 1) + t ≡ 131144 + 16 * m + t = omega arith in
+    sym (ap (λ (k : ℕ). key_below words t k) is
+    ∙ ap (λ (k : ℕ). k % 2 ^ 62) (ap (λ (k : ℕ). slice_index words k) (sym place) ∙ at))
 
 -- the key of a bound is what its word has below the marks
 key_back : (b : BoundOf) → key_of_bound b < 2 ^ 62 → bound_word b % 2 ^ 62 ≡ key_of_bound b
