@@ -14,7 +14,7 @@ pub returns-clause-outcome : goal.returns-clause-outcome
 returns-clause-outcome g c = let size = c.args.self.table.size in
     let seats = c.args.seats.items in
     let o = beside_of (g.K.Keeper.holds c.args.self.table.table.shared.key.first.value) in
-    let P : g.row.K.Denot × (ℕ × TableBounds) → Type 0 =
+    let P : g.row.K.Denot × ℕ × TableBounds → Type 0 =
     λ r. (o : IsOutcome size seats r.1 (g.K.Keeper.holds r.0)) × TellsBounds o.core r.2 in
     elim c.match-opener.branch [
       | in-Some w ↦ subst P (sym w.keeper-is) (unused_outcome size o seats w.finish_unused.result.1
@@ -30,7 +30,7 @@ returns-clause-outcome g c = let size = c.args.self.table.size in
 pub returns-clause-beside : goal.returns-clause-beside
 returns-clause-beside g c = let size = c.args.self.table.size in
     let first = g.K.Keeper.holds c.args.self.table.table.shared.key.first.value in
-    let P : g.row.K.Denot × (ℕ × TableBounds) → Type 0 =
+    let P : g.row.K.Denot × ℕ × TableBounds → Type 0 =
     λ r. StaysBeside size first (g.K.Keeper.holds r.0) in
     elim c.match-opener.branch [
       | in-Some w ↦ subst P (sym w.keeper-is)
