@@ -5,6 +5,7 @@ use Rattle.std.proofs.Common.{
   suc,
   ◌+◌,
   ◌<◌,
+  false,
   List,
   [],
   ◌∷◌,
@@ -42,8 +43,8 @@ use Rattle.write_path.specs.Closed.{
   all_writes,
 }
 use Rattle.write_path.specs.Opened.{ShowsAsBefore, numbers_of, size_of}
+use Rattle.write_path.proofs.BesideStays.{stays_beside}
 use Rattle.write_path.proofs.NonePassed.{logged_passes_none}
-use Rattle.write_path.proofs.Outcomes.{stays_beside}
 use Rattle.write_path.proofs.Spending.{segments_spent}
 use Rattle.clog_writers.specs.declared.fault.WriteFault.{WriteFault}
 use Rattle.clog_writers.specs.declared.fault.WriteFault.TheVariants.{
@@ -143,16 +144,16 @@ not_stopped at_open n is =
     same_Some OutOfMemory (Stopped at_open n) is in cc)
 
 module _ (sizes : Sizes) (base : ℕ) (before now : Holding) (fresh : IsFresh base sizes before) where
-  alone_by : now.base ≡ before.base → StaysBeside before now → now.dropped ≡ []
-      → GoesOnAlone before now
-  alone_by same beside none = record {
+  alone_by : (size : PathSize) → size.files ≡ false → now.base ≡ before.base
+      → StaysBeside size before now → now.dropped ≡ [] → GoesOnAlone before now
+  alone_by size plain same beside none = record {
     disk_is = beside.disk_is;
     base_is = same;
     archives_are = beside.archives_are;
     tables_are = beside.tables_are;
-    no_file = beside.no_file fresh.no_file;
+    no_file = beside.no_file plain fresh.no_file;
     none_dropped = none;
-    none_archived = beside.none_archived fresh.none_archived;
+    none_archived = beside.none_archived plain fresh.none_archived;
   }
 
 module _ {K : Type 0} (sizes : Sizes) (base : ℕ) (before now : Holding)
@@ -175,33 +176,39 @@ module _ {K : Type 0} (sizes : Sizes) (base : ℕ) (before now : Holding)
       → EndsShares sizes base before now workers (Some OutOfMemory)
   unopened workers same =
       refused workers
-      (alone_by sizes base before now fresh (ap (λ (l : Lasting). l.base) same)
-      (stays_beside before now (ap (λ (l : Lasting). l.beside) same)
+      (alone_by sizes base before now fresh (size_of sizes base 0) refl
+      (ap (λ (l : Lasting). l.base) same)
+      (stays_beside (size_of sizes base 0) before now (ap (λ (l : Lasting). l.beside) same)
       (ap (λ (l : Lasting). l.filed) same))
       (ap (λ (l : Lasting). l.dropped) same ∙ fresh.none_dropped))
       (ap (λ (l : Lasting). l.logged ++ l.kept) same
       ∙ ap (λ (l : List EntryNote). l ++ before.kept) fresh.nothing_logged ∙ fresh.nothing_kept)
 
   pub unseated : (size : PathSize) (seats : List (PathSeat K)) (end : ℕ)
-      → size.base ≡ base → IsOutcome size seats end now → StaysBeside before now → seats ≡ []
-      → (workers : List (Worker K)) → EndsShares sizes base before now workers (Some OutOfMemory)
-  unseated size seats end is o beside none workers =
+      → size.base ≡ base → size.files ≡ false → IsOutcome size seats end now
+      → StaysBeside size before now → seats ≡ [] → (workers : List (Worker K))
+      → EndsShares sizes base before now workers (Some OutOfMemory)
+  unseated size seats end is plain o beside none workers =
       refused workers
-      (alone_by sizes base before now fresh (o.sized.base_is ∙ is ∙ sym fresh.base_is) beside
-      o.none_dropped)
+      (alone_by sizes base before now fresh size plain
+      (o.sized.base_is ∙ is ∙ sym fresh.base_is) beside (o.unfiled plain).none_dropped)
       (none_written size seats end now o none)
 
   module _ (id : TableId) (size : PathSize) (at_open : ℕ) (is : size ≡ size_of sizes base at_open)
       (seats : List (PathSeat K)) (end : ℕ) (o : IsOutcome size seats end now)
-      (beside : StaysBeside before now) where
+      (beside : StaysBeside size before now) where
+    -- it was opened for no table files
+    plain : size.files ≡ false
+    plain = ap (λ (z : PathSize). z.files) is
+
     pub ran : (workers : List (Worker K)) (fault : Option WriteFault) (some : List Mutation)
         → AreDealt sizes some workers
         → ((ms : List Mutation) → AreDealt sizes ms workers → HaveEnded id size ms fault seats)
         → EndsShares sizes base before now workers fault
     ran workers fault some dealt ended = record {
-      alone = alone_by sizes base before now fresh
+      alone = alone_by sizes base before now fresh size plain
           (o.sized.base_is ∙ ap (λ (z : PathSize). z.base) is ∙ sym fresh.base_is) beside
-          o.none_dropped;
+          (o.unfiled plain).none_dropped;
       logs = λ ms given none.
           let all = subst (λ (f : Option WriteFault). HaveEnded id size ms f seats) none
           (ended ms given) in

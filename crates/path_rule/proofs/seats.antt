@@ -8,6 +8,7 @@ pub mod Staying
 pub mod Untaken
 pub mod Merging
 pub mod FirstWords
+pub mod LastBounds
 pub mod Ends
 pub mod HolderLooks
 pub mod RoundsGo

@@ -38,6 +38,7 @@ pub mod Reached
 pub mod Marks
 pub mod Switched
 pub mod Sharing
+pub mod ClosedBounds
 pub mod FirstBoxes
 pub mod Stopped
 pub mod InBoxes

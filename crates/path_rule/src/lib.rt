@@ -12,6 +12,7 @@ mod answer;
 mod append_barrier;
 mod appending;
 mod applying;
+mod bounds;
 mod claiming;
 mod closing;
 mod desk;
@@ -56,6 +57,7 @@ mod writing;
 
 pub use advancing::Advance;
 pub use answer::SyncAnswer;
+pub use bounds::TableBounds;
 pub use lasting::{Beside, Filed, Lasting, PutTable};
 pub use laws::{
     a_stopped_log_takes_nothing, a_stopped_log_tells_a_count_that_has_risen,

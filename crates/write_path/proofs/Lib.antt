@@ -15,6 +15,10 @@ pub mod FewSegments
 pub mod FewGroups
 pub mod NonePassed
 pub mod Parted
+pub mod CoveredFiles
+pub mod FilesGiven
+pub mod AskedFiles
+pub mod BesideStays
 pub mod Outcomes
 pub mod SyncLists
 pub mod ClaimBehind
@@ -27,6 +31,7 @@ pub mod Rooms
 pub mod Growing
 pub mod Acknowledged
 pub mod Promises
+pub mod FlushPromises
 pub mod Spending
 pub mod FlushHeld
 pub mod FlushGoes

@@ -17,10 +17,8 @@ use Rattle.std.proofs.Common.{
   ◌++◌,
   map,
   length,
-  Option,
   Some,
   None,
-  is_some,
   refl,
   sym,
   ap,
@@ -28,10 +26,10 @@ use Rattle.std.proofs.Common.{
   subst,
   arith,
 }
-use Rattle.std.specs.List.{All, filter, range_with_len}
+use Rattle.std.specs.List.{All, Contains, filter, range_with_len}
 use Rattle.std.specs.List.Sorted.{IsPermutation}
 use Rattle.std.proofs.lemmas.Bool.{false≢true}
-use Rattle.std.proofs.lemmas.List.{get_or_default, length-map, length-replicate}
+use Rattle.std.proofs.lemmas.List.{get_or_default, length-replicate}
 use Rattle.std.proofs.lemmas.List.Elements.{All-nil, All-cons, All-contains, All-head, All-tail}
 use Rattle.std.proofs.lemmas.List.Sorted.{
   IsPermutation-refl,
@@ -42,7 +40,7 @@ use Rattle.path_core.specs.declared.event.Event.{Event}
 use Rattle.path_core.specs.declared.note.EntryNote.{EntryNote}
 use Rattle.path_core.specs.declared.state.Claim.{Claim}
 use Rattle.path_core.specs.History.{IsHistory}
-use Rattle.path_core.specs.Keeper.{Holding, HasRisen}
+use Rattle.path_core.specs.Keeper.{Holding, HasRisen, PutFile}
 use Rattle.path_core.specs.LawfulLog.{claim_in, entry_claim, is_at_most}
 use Rattle.path_core.specs.Next.{is_between}
 use Rattle.path_core.specs.declared.state.PathState.{PathState}
@@ -50,19 +48,20 @@ use Rattle.path_core.specs.declared.seat.Seat.{Seat}
 use Rattle.path_core.specs.Parts.{fresh_seat, no_claim, seat_of}
 use Rattle.path_core.specs.Keys.{ordinal_of}
 use Rattle.path_core.proofs.frame.Runs.{past_sizes}
-use Rattle.path_core.proofs.lists.Inserted.{map_from}
+use Rattle.path_core.proofs.lists.Inserted.{map_from, map_old}
 use Rattle.path_core.proofs.log.History.{is_history}
 use Rattle.path_core.proofs.runs.EveryRun.{opening_lawful}
 use Rattle.path_rule.specs.declared.lasting.Beside.{Beside}
 use Rattle.path_rule.specs.declared.lasting.Filed.{Filed}
 use Rattle.path_rule.specs.declared.lasting.Lasting.{Lasting}
+use Rattle.path_rule.specs.declared.lasting.PutTable.{PutTable}
 use Rattle.path_rule.specs.declared.trying.PathSeat.{PathSeat}
 use Rattle.path_rule.specs.declared.view.PathSize.{PathSize}
+use Rattle.path_rule.specs.declared.bounds.TableBounds.{TableBounds}
+use Rattle.path_rule.specs.ClosedBounds.{TellsBounds}
+use Rattle.path_rule.specs.Filing.{file_range, put_range}
 use Rattle.path_rule.specs.Lasts.{
-  beside_of,
-  filed_of,
   lasting_of,
-  none_filed,
   put_table,
   shown,
   none_lasting,
@@ -73,11 +72,10 @@ use Rattle.path_rule.specs.Members.{view_of, part_of}
 use Rattle.path_rule.specs.Rule.{IsFit, start_of, event_of, steps_by}
 use Rattle.path_rule.specs.Sharing.{EndsUnused}
 use Rattle.path_rule.specs.Trails.{TrailTells}
+use Rattle.write_path.specs.ClosedFiles.{CoversFlushed, IsAskedBy, held_range}
 use Rattle.write_path.specs.Closed.{
-  EndsBy,
   IsOfSize,
   IsOutcome,
-  StaysBeside,
   IsStoppedFor,
   IsSyncedFor,
   AreStoppedFor,
@@ -87,9 +85,13 @@ use Rattle.write_path.specs.Closed.{
   HasComeFor,
   all_writes,
 }
+use Rattle.write_path.specs.OneRun.{EndsBy}
 use Rattle.write_path.specs.Opened.{numbers_of}
 use Rattle.write_path.specs.Sealed.{AreSealed, AreSealedApart}
 use Rattle.write_path.proofs.Accounted.{each_once, each_there}
+use Rattle.write_path.proofs.AskedFiles.{each_asked}
+use Rattle.write_path.proofs.BesideStays.{none_of, none_shown}
+use Rattle.write_path.proofs.CoveredFiles.{covers, ranges_shown, true_as_shown}
 use Rattle.write_path.proofs.FewGroups.{few_groups}
 use Rattle.write_path.proofs.FewSegments.{few_segments}
 use Rattle.path_rule.proofs.log.NoneDropped.{none_dropped}
@@ -181,12 +183,11 @@ module _ {K : Type 0} (size : PathSize) where
       (sym (ap (λ (p : Seat). p.claim) (All-contains P seats s parts one.1)) ∙ s.unclaimed)
 
   pub outcome : (o : Beside) (seats : List (PathSeat K)) (end : ℕ) (h : Holding)
-      → size.files ≡ false → EndsBy o size seats end h
-      → IsPermutation (range_with_len 0 size.seats) (numbers_of seats)
-      → IsOutcome size seats end h
-  outcome o seats end h plain E all = let e = E.ended in let x = e.core in let L = e.lawful in
-      let P = e.filing.plain plain in
-      let none_gone = none_dropped x L P.0 in
+      → (E : EndsBy o size seats end h)
+      → IsPermutation (range_with_len 0 size.seats) (numbers_of seats) → (bounds : TableBounds)
+      → TellsBounds E.ended.core bounds
+      → (a : IsOutcome size seats end h) × TellsBounds a.core bounds
+  outcome o seats end h E all bounds told = let e = E.ended in let x = e.core in let L = e.lawful in
       let z = past_sizes e.events (start_of size) x e.run in
       let same = e.lasting_is in
       let synced : h.synced ≡ x.synced = ap (λ (k : Lasting). k.synced) same in
@@ -194,213 +195,219 @@ module _ {K : Type 0} (size : PathSize) where
       ap (λ (k : Lasting). k.stopped) same in
       let many : length (start_of size).seats ≡ size.seats = length-replicate size.seats fresh_seat
       in
+      let first = opening_lawful size.tables size.seats size.capacity size.ordinals size.base e.fit
+      in
+      let files_shown : map put_table h.files ≡ e.filed.files =
+      ap (λ (k : Lasting). k.filed.files) same in
+      let dropped : h.dropped ≡ e.dropped = ap (λ (k : Lasting). k.dropped) same in
+      let files_are : map held_range h.files ≡ map file_range x.files = ranges_shown h.files
+      ∙ (ap (λ (l : List PutTable). map put_range l) files_shown ∙ e.filing.ranged) in
       let idle = λ (w : ℕ) (l : w < length x.seats). idle_all x seats E.parts all w
-      (let long = z.seats in omega (arith, l, long, many)) in record {
-        fit = e.fit;
-        core = x;
-        events = e.events;
-        run = e.run;
-        built = e.built;
-        own = E.own;
-        end_is = e.log_is;
-        of_writes = subst (λ (l : List EntryNote). IsPermutation l x.notes)
-            (sym (writes_as e.events seats E.own))
-            (IsPermutation-trans (by_all (numbers_of seats) e.events) (noted e.events) x.notes
-            (IsPermutation-sym (noted e.events) (by_all (numbers_of seats) e.events)
-            (all_noted (numbers_of seats) e.events (start_of size) x e.run
-            (λ w l. each_once size.seats (numbers_of seats) all w (omega arith))))
-            (run_notes e.events (start_of size) x refl e.run));
-        lawful = subst (λ c. IsHistory c x.notes) z.capacity
-            (is_history x L.claims_tile_the_log L.notes_are_claims);
-        whole = λ n m. (L.notes_are_claims.each n m).whole;
-        below = λ n m. let c = (L.notes_are_claims.each n m).claim in
-            let read : claim_in x.claims c.0 ≡ entry_claim n.writer.0 n.start.0 n.end.0 =
-            get_or_default x.claims c.0 no_claim _ c.1 ∙ c.2 in
-            let low = L.claims_tile_the_log.below_log c.0 c.1 in
-            let ends = ap (λ (d : Claim). d.end) read in let log = e.log_is in omega arith;
-        synced_below = let low = L.synced_below_the_log.below_log in let log = e.log_is in
-            omega arith;
-        found_log = known_of x
-            (λ (s : PathSeat K). TrailTells size.capacity x (view_of s.member).trail)
-            (HasComeFor end) (λ s T key F. let low = T.come key F in let log = e.log_is in
-            omega (arith, low, log)) seats E.tell;
-        few_segments = subst (λ k. ordinal_of k ≤ 2 * length x.notes - 1) (sym e.log_is)
-            (few_segments x L idle);
-        few_groups = let most = few_groups size size.at_open e.events x
-            (opening_lawful size.tables size.seats size.capacity size.ordinals size.base e.fit)
-            e.run e.built idle in known_of x
-            (λ (s : PathSeat K). TrailTells size.capacity x (view_of s.member).trail)
-            (FindsGroupsTo (length x.notes)) (λ s T g F. let low = T.current g F in
-            omega (arith, low, most)) seats E.tell;
-        none_passed = λ key. first_part x.capacity L.sized.limits.greatest_capacity key x.notes
-            (is_history x L.claims_tile_the_log L.notes_are_claims) (none_passed x L idle);
-        synced_is = synced;
-        dropped_are = ap (λ (k : Lasting). k.dropped) same ∙ (P.2 ∙ sym none_gone);
-        unfiled = P.0;
-        none_dropped = ap (λ (k : Lasting). k.dropped) same ∙ P.2;
-        stops = stops;
-        found_synced = known_of x
-            (λ (s : PathSeat K). part_of s.member ≡ seat_of x s.member.number) (IsSyncedFor h)
-            (λ s is key found. let low = (L.seats_know s.member.number).words.synced key
-            (ap (λ (p : Seat). p.found.synced) (sym is) ∙ found) in
-            omega (arith, low, synced)) seats E.parts;
-        found_stopped = known_of x
-            (λ (s : PathSeat K). part_of s.member ≡ seat_of x s.member.number) (IsStoppedFor h)
-            (λ s is n found some. let one = (L.seats_know s.member.number).words.stopped n
-            (ap (λ (p : Seat). p.found.stopped) (sym is) ∙ found) some in
-            stopped_by h.stopped h.faults n some
-            (stops ∙ ap fault_count (sym one))) seats E.parts;
-        all_synced = known_of x
-            (λ (s : PathSeat K). TrailTells size.capacity x (view_of s.member).trail)
-            (AreSyncedFor h) (λ s T key F. let low = (T.synced key F).lasting in
-            omega (arith, low, synced)) seats E.tell;
-        all_stopped = known_of x
-            (λ (s : PathSeat K). TrailTells size.capacity x (view_of s.member).trail)
-            (AreStoppedFor h) (λ s T n F some. stopped_by h.stopped h.faults n some
-            (stops ∙ ap fault_count (sym (T.stopped n F some)))) seats E.tell;
-        parted = known_of x
-            (λ (s : PathSeat K). TrailTells size.capacity x (view_of s.member).trail)
-            (ArePartedFor size.capacity x.notes) (λ s T key F n m.
-            parts_at size.capacity x L z.capacity key (T.synced key F) n m) seats E.tell;
-        sealed = of_both (λ (s : PathSeat K). map event_of (view_of s.member).trail
-            ≡ steps_by s.member.number e.events)
-            (λ (s : PathSeat K). TrailTells size.capacity x (view_of s.member).trail)
-            (λ (s : PathSeat K). AreSealed size.capacity x.notes h.synced
-            (view_of s.member).trail)
-            (λ s own T. subst (λ k. AreSealed size.capacity x.notes k
-            (view_of s.member).trail) (sym synced)
-            (behind_sealed size.capacity s.member.number (start_of size) x e.events
-            (view_of s.member).trail (opening_lawful size.tables size.seats size.capacity
-            size.ordinals size.base e.fit) refl e.run z.capacity own T)) seats E.own E.tell;
-        apart = of_both (λ (s : PathSeat K). map event_of (view_of s.member).trail
-            ≡ steps_by s.member.number e.events)
-            (λ (s : PathSeat K). TrailTells size.capacity x (view_of s.member).trail)
-            (λ (s : PathSeat K). AreSealedApart size.capacity x.notes h.synced
-            (view_of s.member).trail)
-            (λ s own T. subst (λ k. AreSealedApart size.capacity x.notes k
-            (view_of s.member).trail) (sym synced)
-            (sealed_apart size.capacity s.member.number (start_of size) x e.events
-            (view_of s.member).trail (opening_lawful size.tables size.seats size.capacity
-            size.ordinals size.base e.fit) refl e.run z.capacity own T)) seats E.own E.tell;
-        logged = subst (λ k. h.logged ≡ filter (is_at_most k) x.notes) (sym synced)
-            (ap (λ (k : Lasting). k.logged) same);
-        kept_to = e.kept_to;
-        kept = subst (λ k. h.kept ≡ filter (is_between k e.kept_to) x.notes) (sym synced)
-            (ap (λ (k : Lasting). k.kept) same);
-        stopped = λ is. let t = told_count h.stopped h.faults x.stopped is
-            (ap (λ (k : Lasting). k.stopped) same) in
-            subst (λ (q : ℕ × ℕ). HasRisen q.0 q.1)
-            (λ i. (sym (ap (λ (k : Lasting). k.at_open) same) i, t.1 i)) (e.risen t.0);
-        sized = sized_as size (shown o size.at_open e.kept_to e.filed e.dropped x) h same z.base z.capacity z.ordinals
-            refl;
-      }
+      (let long = z.seats in omega (arith, l, long, many)) in (
+        record {
+          fit = e.fit;
+          core = x;
+          events = e.events;
+          run = e.run;
+          built = e.built;
+          own = E.own;
+          end_is = e.log_is;
+          of_writes = subst (λ (l : List EntryNote). IsPermutation l x.notes)
+              (sym (writes_as e.events seats E.own))
+              (IsPermutation-trans (by_all (numbers_of seats) e.events) (noted e.events) x.notes
+              (IsPermutation-sym (noted e.events) (by_all (numbers_of seats) e.events)
+              (all_noted (numbers_of seats) e.events (start_of size) x e.run
+              (λ w l. each_once size.seats (numbers_of seats) all w (omega arith))))
+              (run_notes e.events (start_of size) x refl e.run));
+          lawful = subst (λ c. IsHistory c x.notes) z.capacity
+              (is_history x L.claims_tile_the_log L.notes_are_claims);
+          whole = λ n m. (L.notes_are_claims.each n m).whole;
+          below = λ n m. let c = (L.notes_are_claims.each n m).claim in
+              let read : claim_in x.claims c.0 ≡ entry_claim n.writer.0 n.start.0 n.end.0 =
+              get_or_default x.claims c.0 no_claim _ c.1 ∙ c.2 in
+              let low = L.claims_tile_the_log.below_log c.0 c.1 in
+              let ends = ap (λ (d : Claim). d.end) read in let log = e.log_is in omega arith;
+          synced_below = let low = L.synced_below_the_log.below_log in let log = e.log_is in
+              omega arith;
+          found_log = known_of x
+              (λ (s : PathSeat K). TrailTells size.capacity x (view_of s.member).trail)
+              (HasComeFor end) (λ s T key F. let low = T.come key F in let log = e.log_is in
+              omega (arith, low, log)) seats E.tell;
+          few_segments = subst (λ k. ordinal_of k ≤ 2 * length x.notes - 1) (sym e.log_is)
+              (few_segments x L idle);
+          few_groups = let most = few_groups size size.at_open e.events x
+              (opening_lawful size.tables size.seats size.capacity size.ordinals size.base e.fit)
+              e.run e.built idle in known_of x
+              (λ (s : PathSeat K). TrailTells size.capacity x (view_of s.member).trail)
+              (FindsGroupsTo (length x.notes)) (λ s T g F. let low = T.current g F in
+              omega (arith, low, most)) seats E.tell;
+          none_passed = λ key. first_part x.capacity L.sized.limits.greatest_capacity key x.notes
+              (is_history x L.claims_tile_the_log L.notes_are_claims) (none_passed x L idle);
+          synced_is = synced;
+          unfiled = λ plain. let P = e.filing.plain plain in record {
+            none_written = P.0;
+            no_file = none_shown h.files
+                (files_shown ∙ ap (λ (f : Filed). f.files) P.1);
+            none_gone = none_dropped x L P.0;
+            none_dropped = dropped ∙ P.2;
+          };
+          files_are = files_are;
+          true_files = true_as_shown x.notes h.files e.filed.files files_shown e.filing.merged;
+          dropped_in = λ o gone. e.gone o (subst (λ (l : List ℕ). Contains l o) dropped gone);
+          droppable = λ o gone. let in_run = e.gone o
+              (subst (λ (l : List ℕ). Contains l o) dropped gone) in (
+                L.dropped_was_droppable.droppable o in_run,
+                L.dropped_was_droppable.below_synced o in_run,
+              );
+          covered = known_of x
+              (λ (s : PathSeat K). TrailTells size.capacity x (view_of s.member).trail)
+              (λ (s : PathSeat K). CoversFlushed x.notes h.files (view_of s.member).trail)
+              (λ s T. covers x h.files files_are L idle size.capacity (view_of s.member).trail T)
+              seats E.tell;
+          asked = λ f put. let g = map_from file_range x.files (held_range f)
+              (subst (λ (l : List (ℕ × (ℕ × ℕ))). Contains l (held_range f)) files_are
+              (map_old held_range h.files f put)) in
+              subst (IsAskedBy seats) (ap (λ (r : ℕ × (ℕ × ℕ)). r.0) g.2)
+              (each_asked size x e.events seats all E.own E.tell (start_of size) first refl many
+              e.run g.0 g.1);
+          stops = stops;
+          found_synced = known_of x
+              (λ (s : PathSeat K). part_of s.member ≡ seat_of x s.member.number) (IsSyncedFor h)
+              (λ s is key found. let low = (L.seats_know s.member.number).words.synced key
+              (ap (λ (p : Seat). p.found.synced) (sym is) ∙ found) in
+              omega (arith, low, synced)) seats E.parts;
+          found_stopped = known_of x
+              (λ (s : PathSeat K). part_of s.member ≡ seat_of x s.member.number) (IsStoppedFor h)
+              (λ s is n found some. let one = (L.seats_know s.member.number).words.stopped n
+              (ap (λ (p : Seat). p.found.stopped) (sym is) ∙ found) some in
+              stopped_by h.stopped h.faults n some
+              (stops ∙ ap fault_count (sym one))) seats E.parts;
+          all_synced = known_of x
+              (λ (s : PathSeat K). TrailTells size.capacity x (view_of s.member).trail)
+              (AreSyncedFor h) (λ s T key F. let low = (T.synced key F).lasting in
+              omega (arith, low, synced)) seats E.tell;
+          all_stopped = known_of x
+              (λ (s : PathSeat K). TrailTells size.capacity x (view_of s.member).trail)
+              (AreStoppedFor h) (λ s T n F some. stopped_by h.stopped h.faults n some
+              (stops ∙ ap fault_count (sym (T.stopped n F some)))) seats E.tell;
+          parted = known_of x
+              (λ (s : PathSeat K). TrailTells size.capacity x (view_of s.member).trail)
+              (ArePartedFor size.capacity x.notes) (λ s T key F n m.
+              parts_at size.capacity x L z.capacity key (T.synced key F) n m) seats E.tell;
+          sealed = of_both (λ (s : PathSeat K). map event_of (view_of s.member).trail
+              ≡ steps_by s.member.number e.events)
+              (λ (s : PathSeat K). TrailTells size.capacity x (view_of s.member).trail)
+              (λ (s : PathSeat K). AreSealed size.capacity x.notes h.synced
+              (view_of s.member).trail)
+              (λ s own T. subst (λ k. AreSealed size.capacity x.notes k
+              (view_of s.member).trail) (sym synced)
+              (behind_sealed size.capacity s.member.number (start_of size) x e.events
+              (view_of s.member).trail (opening_lawful size.tables size.seats size.capacity
+              size.ordinals size.base e.fit) refl e.run z.capacity own T)) seats E.own E.tell;
+          apart = of_both (λ (s : PathSeat K). map event_of (view_of s.member).trail
+              ≡ steps_by s.member.number e.events)
+              (λ (s : PathSeat K). TrailTells size.capacity x (view_of s.member).trail)
+              (λ (s : PathSeat K). AreSealedApart size.capacity x.notes h.synced
+              (view_of s.member).trail)
+              (λ s own T. subst (λ k. AreSealedApart size.capacity x.notes k
+              (view_of s.member).trail) (sym synced)
+              (sealed_apart size.capacity s.member.number (start_of size) x e.events
+              (view_of s.member).trail (opening_lawful size.tables size.seats size.capacity
+              size.ordinals size.base e.fit) refl e.run z.capacity own T)) seats E.own E.tell;
+          logged = subst (λ k. h.logged ≡ filter (is_at_most k) x.notes) (sym synced)
+              (ap (λ (k : Lasting). k.logged) same);
+          kept_to = e.kept_to;
+          kept = subst (λ k. h.kept ≡ filter (is_between k e.kept_to) x.notes) (sym synced)
+              (ap (λ (k : Lasting). k.kept) same);
+          stopped = λ is. let t = told_count h.stopped h.faults x.stopped is
+              (ap (λ (k : Lasting). k.stopped) same) in
+              subst (λ (q : ℕ × ℕ). HasRisen q.0 q.1)
+              (λ i. (sym (ap (λ (k : Lasting). k.at_open) same) i, t.1 i)) (e.risen t.0);
+          sized = sized_as size (shown o size.at_open e.kept_to e.filed e.dropped x) h same z.base
+              z.capacity z.ordinals refl;
+        },
+        told,
+      )
 
   no_seat : (seats : List (PathSeat K)) → numbers_of seats ≡ [] → seats ≡ []
   no_seat [] e = refl
   no_seat (s ∷ seats) e = absurd (let q = ap (λ (l : List ℕ). length l) e in omega arith)
 
   pub unused_outcome : (o : Beside) (seats : List (PathSeat K)) (end : ℕ) (h : Holding)
-      → IsFit size → numbers_of seats ≡ [] → EndsUnused o size end h
-      → IsOutcome size seats end h
-  unused_outcome o seats end h fit none_there U = let same = U.1 in
-      let synced : h.synced ≡ 0 = ap (λ (k : Lasting). k.synced) same in record {
-        fit = fit;
-        core = start_of size;
-        events = [];
-        run = refl;
-        built = tt;
-        own = subst (λ (l : List (PathSeat K)). All (λ (s : PathSeat K).
-            map event_of (view_of s.member).trail ≡ steps_by s.member.number []) l)
-            (sym (no_seat seats none_there)) (All-nil (λ (s : PathSeat K).
-            map event_of (view_of s.member).trail ≡ steps_by s.member.number []));
-        end_is = U.0;
-        of_writes = subst (λ (l : List (PathSeat K)). IsPermutation (all_writes l) [])
-            (sym (no_seat seats none_there)) (IsPermutation-refl []);
-        lawful = record {
-          each = λ n m. absurd (let l = m.1 in omega arith);
-          apart = λ i j d l m. absurd (omega arith);
-        };
-        whole = λ n m. absurd (let l = m.1 in omega arith);
-        below = λ n m. absurd (let l = m.1 in omega arith);
-        synced_below = omega arith;
-        found_log = subst (λ (l : List (PathSeat K)). All (HasComeFor end) l)
-            (sym (no_seat seats none_there)) (All-nil (HasComeFor end));
-        few_segments = let log = U.0 in omega (arith, log);
-        none_passed = λ key n m. absurd (let l = m.1 in omega arith);
-        synced_is = synced;
-        dropped_are = ap (λ (k : Lasting). k.dropped) same;
-        unfiled = refl;
-        none_dropped = ap (λ (k : Lasting). k.dropped) same;
-        stops = ap (λ (k : Lasting). k.stopped) same;
-        found_synced = subst (λ (l : List (PathSeat K)). All (IsSyncedFor h) l)
-            (sym (no_seat seats none_there)) (All-nil (IsSyncedFor h));
-        found_stopped = subst (λ (l : List (PathSeat K)). All (IsStoppedFor h) l)
-            (sym (no_seat seats none_there)) (All-nil (IsStoppedFor h));
-        all_synced = subst (λ (l : List (PathSeat K)). All (AreSyncedFor h) l)
-            (sym (no_seat seats none_there)) (All-nil (AreSyncedFor h));
-        all_stopped = subst (λ (l : List (PathSeat K)). All (AreStoppedFor h) l)
-            (sym (no_seat seats none_there)) (All-nil (AreStoppedFor h));
-        few_groups = subst (λ (l : List (PathSeat K)). All (FindsGroupsTo 0) l)
-            (sym (no_seat seats none_there)) (All-nil (FindsGroupsTo 0));
-        parted = subst (λ (l : List (PathSeat K)). All (ArePartedFor size.capacity []) l)
-            (sym (no_seat seats none_there)) (All-nil (ArePartedFor size.capacity []));
-        sealed = subst (λ (l : List (PathSeat K)). All (λ (s : PathSeat K).
-            AreSealed size.capacity [] h.synced (view_of s.member).trail) l)
-            (sym (no_seat seats none_there)) (All-nil (λ (s : PathSeat K).
-            AreSealed size.capacity [] h.synced (view_of s.member).trail));
-        apart = subst (λ (l : List (PathSeat K)). All (λ (s : PathSeat K).
-            AreSealedApart size.capacity [] h.synced (view_of s.member).trail) l)
-            (sym (no_seat seats none_there)) (All-nil (λ (s : PathSeat K).
-            AreSealedApart size.capacity [] h.synced (view_of s.member).trail));
-        logged = ap (λ (k : Lasting). k.logged) same;
-        kept_to = 0;
-        kept = ap (λ (k : Lasting). k.kept) same;
-        stopped = λ is. absurd (none_told h.stopped h.faults is
-            (ap (λ (k : Lasting). k.stopped) same));
-        sized = sized_as size (none_lasting o size) h same refl refl refl refl;
-      }
-
--- ---- what a keeper has beside its log
-
--- None where the other is none.
-none_too : {T : Type 0} (a b : Option T) → is_some b ≡ is_some a → a ≡ None → b ≡ None
-none_too None None same is = refl
-none_too None (Some y) same is = absurd (false≢true (sym same))
-none_too (Some x) b same is = absurd (let q : Some x ≡ None = is in cc)
-
--- nothing where there was nothing
-void_too : {T : Type 0} (a b : List T) → length b ≡ length a → a ≡ [] → b ≡ []
-void_too [] [] same is = refl
-void_too [] (y ∷ b) same is = absurd (omega arith)
-void_too (x ∷ a) b same is = absurd (let q = ap (λ (l : List _). length l) is in omega arith)
-
--- as many files
-as_many : (first h : Holding) → filed_of h ≡ filed_of first → length h.files ≡ length first.files
-as_many first h same = sym (length-map h.files put_table)
-    ∙ (ap (λ (f : Filed). length f.files) same ∙ length-map first.files put_table)
-
-pub stays_beside : (first h : Holding) → beside_of h ≡ beside_of first
-    → filed_of h ≡ filed_of first → StaysBeside first h
-stays_beside first h same filed = record {
-  disk_is = ap (λ (b : Beside). b.disk) same;
-  archives_are = ap (λ (b : Beside). b.archives) same;
-  tables_are = ap (λ (b : Beside). b.tables) same;
-  writers_are = ap (λ (b : Beside). b.writers) same;
-  no_file = void_too first.files h.files (as_many first h filed);
-  none_refused = none_too first.refused h.refused (ap (λ (f : Filed). f.refused) filed);
-  none_archived = void_too first.archived h.archived (ap (λ (f : Filed). f.archived) filed);
-}
-
--- and where it has done nothing beside its log
-pub plain_beside : (first h : Holding) → beside_of h ≡ beside_of first → filed_of h ≡ none_filed
-    → StaysBeside first h
-plain_beside first h same filed = record {
-  disk_is = ap (λ (b : Beside). b.disk) same;
-  archives_are = ap (λ (b : Beside). b.archives) same;
-  tables_are = ap (λ (b : Beside). b.tables) same;
-  writers_are = ap (λ (b : Beside). b.writers) same;
-  no_file = λ _. void_too [] h.files (sym (length-map h.files put_table)
-      ∙ ap (λ (f : Filed). length f.files) filed) refl;
-  none_refused = λ _. none_too None h.refused (ap (λ (f : Filed). f.refused) filed) refl;
-  none_archived = λ _. void_too [] h.archived (ap (λ (f : Filed). f.archived) filed) refl;
-}
+      → IsFit size → numbers_of seats ≡ [] → EndsUnused o size end h → (bounds : TableBounds)
+      → TellsBounds (start_of size) bounds
+      → (a : IsOutcome size seats end h) × TellsBounds a.core bounds
+  unused_outcome o seats end h fit none_there U bounds told = let same = U.1 in
+      let synced : h.synced ≡ 0 = ap (λ (k : Lasting). k.synced) same in
+      let no_files : h.files ≡ [] = none_shown h.files (ap (λ (k : Lasting). k.filed.files) same) in
+      let dropped : h.dropped ≡ [] = ap (λ (k : Lasting). k.dropped) same in (
+        record {
+          fit = fit;
+          core = start_of size;
+          events = [];
+          run = refl;
+          built = tt;
+          own = subst (λ (l : List (PathSeat K)). All (λ (s : PathSeat K).
+              map event_of (view_of s.member).trail ≡ steps_by s.member.number []) l)
+              (sym (no_seat seats none_there)) (All-nil (λ (s : PathSeat K).
+              map event_of (view_of s.member).trail ≡ steps_by s.member.number []));
+          end_is = U.0;
+          of_writes = subst (λ (l : List (PathSeat K)). IsPermutation (all_writes l) [])
+              (sym (no_seat seats none_there)) (IsPermutation-refl []);
+          lawful = record {
+            each = λ n m. absurd (let l = m.1 in omega arith);
+            apart = λ i j d l m. absurd (omega arith);
+          };
+          whole = λ n m. absurd (let l = m.1 in omega arith);
+          below = λ n m. absurd (let l = m.1 in omega arith);
+          synced_below = omega arith;
+          found_log = subst (λ (l : List (PathSeat K)). All (HasComeFor end) l)
+              (sym (no_seat seats none_there)) (All-nil (HasComeFor end));
+          few_segments = let log = U.0 in omega (arith, log);
+          none_passed = λ key n m. absurd (let l = m.1 in omega arith);
+          synced_is = synced;
+          unfiled = λ plain. record {
+            none_written = refl;
+            no_file = no_files;
+            none_gone = refl;
+            none_dropped = dropped;
+          };
+          files_are = ap (λ (l : List PutFile). map held_range l) no_files;
+          true_files = λ f put. absurd (none_of no_files f put);
+          dropped_in = λ o gone. absurd (none_of dropped o gone);
+          droppable = λ o gone. absurd (none_of dropped o gone);
+          covered = subst (λ (l : List (PathSeat K)). All (λ (s : PathSeat K).
+              CoversFlushed [] h.files (view_of s.member).trail) l)
+              (sym (no_seat seats none_there)) (All-nil (λ (s : PathSeat K).
+              CoversFlushed [] h.files (view_of s.member).trail));
+          asked = λ f put. absurd (none_of no_files f put);
+          stops = ap (λ (k : Lasting). k.stopped) same;
+          found_synced = subst (λ (l : List (PathSeat K)). All (IsSyncedFor h) l)
+              (sym (no_seat seats none_there)) (All-nil (IsSyncedFor h));
+          found_stopped = subst (λ (l : List (PathSeat K)). All (IsStoppedFor h) l)
+              (sym (no_seat seats none_there)) (All-nil (IsStoppedFor h));
+          all_synced = subst (λ (l : List (PathSeat K)). All (AreSyncedFor h) l)
+              (sym (no_seat seats none_there)) (All-nil (AreSyncedFor h));
+          all_stopped = subst (λ (l : List (PathSeat K)). All (AreStoppedFor h) l)
+              (sym (no_seat seats none_there)) (All-nil (AreStoppedFor h));
+          few_groups = subst (λ (l : List (PathSeat K)). All (FindsGroupsTo 0) l)
+              (sym (no_seat seats none_there)) (All-nil (FindsGroupsTo 0));
+          parted = subst (λ (l : List (PathSeat K)). All (ArePartedFor size.capacity []) l)
+              (sym (no_seat seats none_there)) (All-nil (ArePartedFor size.capacity []));
+          sealed = subst (λ (l : List (PathSeat K)). All (λ (s : PathSeat K).
+              AreSealed size.capacity [] h.synced (view_of s.member).trail) l)
+              (sym (no_seat seats none_there)) (All-nil (λ (s : PathSeat K).
+              AreSealed size.capacity [] h.synced (view_of s.member).trail));
+          apart = subst (λ (l : List (PathSeat K)). All (λ (s : PathSeat K).
+              AreSealedApart size.capacity [] h.synced (view_of s.member).trail) l)
+              (sym (no_seat seats none_there)) (All-nil (λ (s : PathSeat K).
+              AreSealedApart size.capacity [] h.synced (view_of s.member).trail));
+          logged = ap (λ (k : Lasting). k.logged) same;
+          kept_to = 0;
+          kept = ap (λ (k : Lasting). k.kept) same;
+          stopped = λ is. absurd (none_told h.stopped h.faults is
+              (ap (λ (k : Lasting). k.stopped) same));
+          sized = sized_as size (none_lasting o size) h same refl refl refl refl;
+        },
+        told,
+      )

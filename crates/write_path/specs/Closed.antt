@@ -8,6 +8,7 @@ use Rattle.std.specs.Prelude.{
   ◌<◌,
   ◌≤◌,
   true,
+  false,
   List,
   [],
   length,
@@ -19,32 +20,32 @@ use Rattle.std.specs.Prelude.{
 use Rattle.std.specs.List.{All, Contains, filter, flat_map, range_with_len}
 use Rattle.std.specs.List.Sorted.{IsPermutation}
 use Rattle.atomic_table.specs.Seated.{TableId}
+use Rattle.clog_cells.specs.Merge.{IsMergeOf}
 use Rattle.op_core.specs.declared.count.Order.TheVariants.{Append}
 use Rattle.path_core.specs.declared.event.Cursor.TheVariants.{Synced, Stopped}
 use Rattle.path_core.specs.declared.event.Event.{Event}
 use Rattle.path_core.specs.declared.event.Place.TheVariants.{Current, CursorWord, Log}
 use Rattle.path_core.specs.declared.note.EntryNote.{EntryNote}
 use Rattle.path_core.specs.declared.state.PathState.{PathState}
+use Rattle.path_core.specs.Droppable.{IsDroppable}
 use Rattle.path_core.specs.History.{IsHistory}
-use Rattle.path_core.specs.Keeper.{Holding, HasRisen}
+use Rattle.path_core.specs.Keeper.{Holding, HasRisen, PutFile}
 use Rattle.path_core.specs.Keys.{after, ordinal_of}
 use Rattle.path_core.specs.LawfulLog.{is_at_most}
 use Rattle.path_core.specs.Next.{is_between}
-use Rattle.path_core.specs.Parts.{seat_of}
 use Rattle.path_core.specs.Runs.{Past}
 use Rattle.path_core.specs.Whole.{IsWhole}
-use Rattle.path_rule.specs.declared.lasting.Beside.{Beside}
 use Rattle.path_rule.specs.declared.table.Opener.{Opener}
 use Rattle.path_rule.specs.declared.trying.PathSeat.{PathSeat}
 use Rattle.path_rule.specs.declared.view.PathSize.{PathSize}
 use Rattle.path_rule.specs.declared.view.Returned.{Returned}
+use Rattle.path_rule.specs.Filing.{IsCellBetween, file_range}
 use Rattle.path_rule.specs.Finds.{Finds}
 use Rattle.path_rule.specs.Lasts.{fault_count, stopped_with}
 use Rattle.path_rule.specs.Members.{view_of, part_of, IsOf, returned_of}
 use Rattle.path_rule.specs.Rule.{AreBuilt, IsFit, start_of, event_of, steps_by}
-use Rattle.path_rule.specs.Sharing.{Ended}
-use Rattle.path_rule.specs.Trails.{TrailTells}
 use Rattle.write_path.specs.declared.resting.Resting.{Resting}
+use Rattle.write_path.specs.ClosedFiles.{CoversFlushed, IsAskedBy, IsUnfiled, held_range}
 use Rattle.write_path.specs.Ends.{writes_of}
 use Rattle.write_path.specs.Sealed.{AreSealed, AreSealedApart}
 
@@ -66,20 +67,6 @@ module _ {K : Type 0} where
   -- the seats' lists of their own writes, together
   abbrev pub all_writes : List (PathSeat K) → List EntryNote
   all_writes seats = flat_map (λ (s : PathSeat K). writes_of s.member.seat.me.0.trail) seats
-
--- The path ended in one run of the machine, in which each of these seats' steps are its own.
-pub record EndsBy {K : Type 0} (beside : Beside) (size : PathSize) (seats : List (PathSeat K))
-    (end : ℕ) (h : Holding) : Type 0 where
-  pub returned : List Returned
-  pub ended : Ended beside size returned end h
-  pub own : All (λ (s : PathSeat K). map event_of (view_of s.member).trail
-      ≡ steps_by s.member.number ended.events) seats
-  -- and tell what is so of the state that it ended in
-  pub tell : All (λ (s : PathSeat K). TrailTells size.capacity ended.core
-      (view_of s.member).trail) seats
-  -- and each seat's part is the machine's
-  pub parts : All (λ (s : PathSeat K). part_of s.member
-      ≡ seat_of ended.core s.member.number) seats
 
 -- A seat last found or put this synced key, or none, and the keeper has at least so much.
 abbrev pub IsSyncedFor : {K : Type 0} → Holding → PathSeat K → Type 0
@@ -108,15 +95,16 @@ abbrev pub FindsGroupsTo : {K : Type 0} → ℕ → PathSeat K → Type 0
 FindsGroupsTo last s = (g : ℕ) → Finds (Current Append) g (view_of s.member).trail → g ≤ last
 
 -- The keeper that a path gives back has beside its log what the one had over which it was opened:
--- the same disk at the opening, and no table file and no archive name where there was none.
-pub record StaysBeside (first h : Holding) : Type 0 where
+-- the same disk at the opening. Where the path was opened for no table files it has none, and no
+-- archive name, where there was none.
+pub record StaysBeside (size : PathSize) (first h : Holding) : Type 0 where
   pub disk_is : h.opening.disk ≡ first.opening.disk
   pub archives_are : h.opening.archives ≡ first.opening.archives
   pub tables_are : h.sizes.tables ≡ first.sizes.tables
   pub writers_are : h.sizes.writers ≡ first.sizes.writers
-  pub no_file : first.files ≡ [] → h.files ≡ []
-  pub none_refused : first.refused ≡ None → h.refused ≡ None
-  pub none_archived : first.archived ≡ [] → h.archived ≡ []
+  pub no_file : size.files ≡ false → first.files ≡ [] → h.files ≡ []
+  pub none_refused : size.files ≡ false → first.refused ≡ None → h.refused ≡ None
+  pub none_archived : size.files ≡ false → first.archived ≡ [] → h.archived ≡ []
 
 -- Each entry ends at or below a synced key that the seat found, or put, or behind the key at which
 -- the log goes on behind it.
@@ -167,13 +155,25 @@ pub record IsOutcome {K : Type 0} (size : PathSize) (seats : List (PathSeat K)) 
   pub few_groups : All (FindsGroupsTo (length core.notes)) seats
   -- its first entries pass over no segment, up to whatever key
   pub none_passed : (key : ℕ) → PassesNoSegment (filter (is_at_most key) core.notes)
-  -- the keeper has what the run made lasting, dropped and stopped
+  -- the keeper has what the run made lasting
   pub synced_is : h.synced ≡ core.synced
-  pub dropped_are : h.dropped ≡ core.dropped
-  -- no memtable has a table file
-  pub unfiled : core.files ≡ []
-  -- no segment has gone, since the path was opened for no table files
-  pub none_dropped : h.dropped ≡ []
+  -- no memtable has a table file, and no segment has gone, where it was opened for no table files
+  pub unfiled : size.files ≡ false → IsUnfiled core h
+  -- the keeper's table files and those of the run stand for the same intervals, in one order
+  pub files_are : map held_range h.files ≡ map file_range core.files
+  -- each has the newest cells of what the history has in its interval
+  pub true_files : (f : PutFile) → Contains h.files f
+      → IsMergeOf (IsCellBetween core.notes f.table f.lower f.upper) f.cells
+  -- each segment that the keeper dropped has gone in the run, in which it may go
+  pub dropped_in : (o : ℕ) → Contains h.dropped o → Contains core.dropped o
+  pub droppable : (o : ℕ) → Contains h.dropped o
+      → IsDroppable core o × (o < ordinal_of core.synced)
+  -- what a seat knows to be flushed lies in the keeper's files
+  pub covered : All (λ (s : PathSeat K). CoversFlushed core.notes h.files
+      (view_of s.member).trail) seats
+  -- each file is of a table of which a seat has retired a memtable with a file
+  pub asked : (f : PutFile) → Contains h.files f → IsAskedBy seats f.table
+  -- and the keeper has stopped as the run has
   pub stops : stopped_with h.stopped h.faults ≡ fault_count core.stopped
   -- so it has all that a seat knows to be synced, and has stopped where a seat knows that
   pub found_synced : All (IsSyncedFor h) seats

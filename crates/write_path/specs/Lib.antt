@@ -7,7 +7,9 @@ pub mod Grown
 pub mod Sealed
 pub mod SealedRows
 pub mod Opened
+pub mod ClosedFiles
 pub mod Closed
+pub mod OneRun
 pub mod Turned
 pub mod Syncs
 pub mod Commits
@@ -16,6 +18,7 @@ pub mod Promised
 pub mod FlushSteps
 pub mod Switched
 pub mod SwitchedRows
+pub mod FlushedRows
 pub mod FlushTurns
 pub mod FlushSwitches
 pub mod FlushReads

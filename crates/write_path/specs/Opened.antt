@@ -1,5 +1,5 @@
 -- A path that was opened, and its seats when they are handed out.
-use Rattle.std.specs.Prelude.{◌≡◌, ℕ, false, List, map}
+use Rattle.std.specs.Prelude.{◌≡◌, ℕ, Bool, true, false, List, map}
 use Rattle.std.specs.List.{All, range_with_len}
 use Rattle.atomic_table.specs.Seated.{TableId}
 use Rattle.clog_base.specs.declared.sizes.Sizes.{Sizes}
@@ -11,17 +11,25 @@ use Rattle.path_rule.specs.Lasts.{lasting_of}
 use Rattle.path_rule.specs.Members.{view_of, IsOf}
 use Rattle.path_rule.specs.Rule.{new_seat}
 
--- what a path is told of its sizes and of its keeper's
-abbrev pub size_of : Sizes → ℕ → ℕ → PathSize
-size_of sizes base at_open = record {
+-- What a path is told of its sizes and of its keeper's, and whether its memtables may go to table
+-- files.
+abbrev pub sized_for : Bool → Sizes → ℕ → ℕ → PathSize
+sized_for files sizes base at_open = record {
   tables = sizes.tables;
   seats = sizes.writers;
   capacity = sizes.capacity;
   ordinals = sizes.ordinals;
   base = base;
   at_open = at_open;
-  files = false;
+  files = files;
 }
+
+-- where they may not, and where they may
+abbrev pub size_of : Sizes → ℕ → ℕ → PathSize
+size_of sizes base at_open = sized_for false sizes base at_open
+
+abbrev pub filing_size_of : Sizes → ℕ → ℕ → PathSize
+filing_size_of sizes base at_open = sized_for true sizes base at_open
 
 -- it shows what it did: what is lasting, what is kept, and whether it has stopped
 abbrev pub ShowsAsBefore : Holding → Holding → Type 0

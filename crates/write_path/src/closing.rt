@@ -2,22 +2,23 @@
 ghost use Rattle.std.specs.Prelude.{◌≡◌, ◌++◌, reverse};
 ghost use Rattle.std.specs.List.{range_with_len};
 ghost use Rattle.std.specs.List.Sorted.{IsPermutation};
+ghost use Rattle.path_rule.specs.ClosedBounds.{TellsBounds};
 ghost use Rattle.path_rule.specs.Lasts.{beside_of};
 ghost use Rattle.path_rule.specs.Members.{view_of, part_of, boxes_of, IsOf};
 ghost use Rattle.write_path.specs.Closed.{
   AreAll,
   AreOf,
-  EndsBy,
   StaysBeside,
   returned_by,
   IsOutcome,
 };
+ghost use Rattle.write_path.specs.OneRun.{EndsBy};
 ghost use Rattle.write_path.specs.Opened.{numbers_of};
 
 use crate::seats::WritePath;
 use clog_base::Key;
 use path_core::Keeper;
-use path_rule::{Member, PathSeat, PathTable};
+use path_rule::{Member, PathSeat, PathTable, TableBounds};
 use std::alloc::{Allocator, Global};
 
 /// What a path tells when it is closed, beside its keeper.
@@ -25,6 +26,9 @@ use std::alloc::{Allocator, Global};
 pub struct Outcome {
     /// Where the log ends.
     pub end: Key,
+    /// Of each table up to which key its memtables were switched: the final bound of the one that
+    /// was switched last, key 0 where none was.
+    pub bounds: TableBounds,
 }
 
 // A seat takes in others, the last one first.
@@ -50,11 +54,14 @@ fn join_all<K: Keeper, A: Allocator>(
 }
 
 // Joins all seats into one, and closes the table by it.
-fn close_by_all<K: Keeper + Drop>(table: PathTable<K, Global>, seats: Vec<PathSeat<K>>) -> (K, u64)
+fn close_by_all<K: Keeper + Drop>(
+    table: PathTable<K, Global>,
+    seats: Vec<PathSeat<K>>,
+) -> (K, u64, TableBounds)
     requires seats { AreOf table.table.shared.table_id table.size seats.items }
     requires all { IsPermutation (range_with_len 0 table.size.seats) (numbers_of seats.items) }
-    ensures { EndsBy (beside_of (K.holds table.table.shared.key.first.value)) table.size seats.items
-        result.1 (K.holds result.0) }
+    ensures { (ends : EndsBy (beside_of (K.holds table.table.shared.key.first.value)) table.size
+        seats.items result.1 (K.holds result.0)) × TellsBounds ends.ended.core result.2 }
 {
     let mut seats = seats;
     match seats.pop() {
@@ -69,26 +76,32 @@ fn close_by_all<K: Keeper + Drop>(table: PathTable<K, Global>, seats: Vec<PathSe
 impl<K: Keeper + Drop> WritePath<K, Global> {
     /// Closes the path with all of its seats, or with none where they were not handed out. It gives
     /// the keeper back, and where the log ends: what the seats wrote, together, is a lawful
-    /// history, and the keeper has its part up to the synced key. It goes back to the disk of the
+    /// history, and the keeper has its part up to the synced key; the bounds are those of the
+    /// run's last state. It goes back to the disk of the
     /// keeper over which the path was opened. A marker stands between each write that is sealed in
-    /// its seat's trail and each later one of that seat. What commits and syncs have answered is so
-    /// of the trails at the end too (`what_close_keeps`).
+    /// its seat's trail and each later one of that seat. Of a path that was opened by `open_filing`
+    /// each table file is true of that history, what a seat knows to be flushed lies in files, and
+    /// each dropped segment may go; of one that was opened by `open` there is no file, and no
+    /// segment has gone. What commits and syncs have answered is so of the trails at the end too
+    /// (`what_close_keeps`).
     pub fn close(self, seats: Vec<PathSeat<K>>) -> (K, Outcome)
         requires seats { AreOf self.table.table.shared.table_id self.table.size seats.items }
         requires all { AreAll self.opener self.table.size.seats (numbers_of seats.items) }
-        ensures outcome { IsOutcome self.table.size seats.items result.1.end.0 (K.holds result.0) }
-        ensures beside { StaysBeside (K.holds self.table.table.shared.key.first.value)
-            (K.holds result.0) }
+        ensures outcome { (o : IsOutcome self.table.size seats.items result.1.end.0
+            (K.holds result.0)) × TellsBounds o.core result.1.bounds }
+        ensures beside { StaysBeside self.table.size
+            (K.holds self.table.table.shared.key.first.value) (K.holds result.0) }
     {
         let WritePath {
             table,
             opener,
             mode: _,
         } = self;
-        let (keeper, end) = match opener {
+        let (keeper, end, bounds) = match opener {
             Some(opener) => table.finish_unused(opener.take()),
             None => close_by_all(table, seats),
         };
-        (keeper, Outcome { end: Key(end) })
+        let end = Key(end);
+        (keeper, Outcome { end, bounds })
     }
 }

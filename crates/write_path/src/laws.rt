@@ -16,15 +16,17 @@ ghost use Rattle.std.specs.Prelude.{
   ◌∷◌,
   ◌++◌,
   length,
+  IsTrue,
 };
 ghost use Rattle.std.specs.List.{All, Contains};
+ghost use Rattle.clog_base.specs.declared.cell.Table.{Table};
 ghost use Rattle.clog_base.specs.declared.sizes.Sizes.{Sizes};
 ghost use Rattle.clog_mutation.specs.declared.mutation.Mutation.{Mutation};
 ghost use Rattle.clog_mutation.specs.Limits.{IsWithinLimits};
 ghost use Rattle.path_core.specs.declared.event.ClaimKind.TheVariants.{Entry};
 ghost use Rattle.path_core.specs.declared.note.EntryNote.{EntryNote};
 ghost use Rattle.path_core.specs.History.{IsHistory};
-ghost use Rattle.path_core.specs.Keeper.{Holding};
+ghost use Rattle.path_core.specs.Keeper.{Holding, IsFiledIn};
 ghost use Rattle.path_core.specs.Keys.{
   least_entry,
   ordinal_of,
@@ -32,6 +34,7 @@ ghost use Rattle.path_core.specs.Keys.{
   claimed_size,
   claim_start,
 };
+ghost use Rattle.path_core.specs.Parts.{touches};
 ghost use Rattle.path_core.specs.Whole.{IsWhole};
 ghost use Rattle.path_rule.specs.declared.answer.SyncAnswer.TheVariants.{Done, Rows};
 ghost use Rattle.path_rule.specs.declared.view.OwnStep.{OwnStep};
@@ -44,6 +47,7 @@ ghost use Rattle.write_path.specs.declared.commit.Commit.TheVariants.{Unsynced};
 ghost use Rattle.write_path.specs.declared.commit.Receipt.{Receipt};
 ghost use Rattle.write_path.specs.declared.commit.SyncFault.TheVariants.{Rows as NoRows};
 ghost use Rattle.write_path.specs.declared.prepared.Prepared.{Prepared};
+ghost use Rattle.write_path.specs.ClosedFiles.{HasFlushed};
 ghost use Rattle.write_path.specs.Closed.{IsOutcome, PassesNoSegment, all_writes};
 ghost use Rattle.write_path.specs.Commits.{IsLogged};
 ghost use Rattle.write_path.specs.Ends.{writes_of};
@@ -133,6 +137,15 @@ pub fn what_close_keeps<K: Keeper>()
         → (l : IsLogged before s.member.number start to p after)
         → HasGrown after (view_of s.member).trail
         → HasMarkBetween size.capacity o.core.notes h.synced n.end.0 l.listed.note.start.0 }
+    // Where a seat made a memtable of a table final at a key, or found it so, and retired it, or
+    // found it retired, each write of any seat that touches the table and ends at or below the key
+    // lies in a table file of the keeper.
+    ensures flushed { (size : PathSize) (seats : List (PathSeat K)) (end : ℕ) (h : Holding)
+        → IsOutcome size seats end h → (s : PathSeat K) → Contains seats s
+        → (t : Table) (key : ℕ) (before : List OwnStep) → HasFlushed t key before
+        → HasGrown before (view_of s.member).trail → (other : PathSeat K) → Contains seats other
+        → (n : EntryNote) → Contains (writes_of (view_of other.member).trail) n
+        → IsTrue (touches n.tables t.0) → n.end.0 ≤ key → IsFiledIn h.files t.0 n.end.0 }
 {}
 
 /// A path runs out of segments only under many writes: one whose seat was answered `Spent` has at

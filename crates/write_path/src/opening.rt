@@ -16,7 +16,9 @@ ghost use Rattle.std.specs.Prelude.{
 };
 ghost use Rattle.path_core.specs.Keeper.{IsFresh};
 ghost use Rattle.write_path.specs.Opened.{
+  sized_for,
   size_of,
+  filing_size_of,
   ShowsAsBefore,
   IsUnused,
   IsNewSeat,
@@ -31,9 +33,9 @@ use path_rule::{Opener, PathSeat, PathSize, PathTable};
 use std::alloc::{Allocator, Global};
 use sync_core::SyncCore;
 
-// What a path is told of its sizes and of its keeper's.
-fn size_of(sizes: Sizes, base: u64, at_open: u64) -> PathSize
-    ensures { result ≡ size_of sizes base at_open }
+// What a path is told of its sizes and of its keeper's, and whether its memtables may go to files.
+fn size_for(files: bool, sizes: Sizes, base: u64, at_open: u64) -> PathSize
+    ensures { result ≡ sized_for files sizes base at_open }
 {
     PathSize {
         tables: u64::from(sizes.tables),
@@ -42,7 +44,7 @@ fn size_of(sizes: Sizes, base: u64, at_open: u64) -> PathSize
         ordinals: u64::from(sizes.ordinals),
         base,
         at_open,
-        files: false,
+        files,
     }
 }
 
@@ -50,6 +52,9 @@ impl<K: Keeper + Drop> WritePath<K, Global> {
     /// Opens a path over a keeper of this base and these sizes that was just opened. Its commits
     /// are made lasting in this mode, and its seats are not handed out yet. Where memory is refused
     /// the keeper comes back, and shows what it did.
+    ///
+    /// No memtable of it goes to a table file, and no segment is dropped (Cassandra: tables that
+    /// are not flushed while they are written). Where some are to be flushed, take `open_filing`.
     pub fn open(
         alloc: Global,
         keeper: K,
@@ -65,7 +70,48 @@ impl<K: Keeper + Drop> WritePath<K, Global> {
         ensures first { IfOk result (λ p. p.table.table.shared.key.first.value ≡ keeper) }
         ensures back { IfErr result (λ r. ShowsAsBefore (K.holds keeper) (K.holds r.0)) }
     {
-        let size = size_of(sizes, base, keeper.at_open());
+        Self::open_for(alloc, keeper, sizes, base, mode, false)
+    }
+
+    /// Opens a path as `open` does, whose memtables may go to table files, so that segments of the
+    /// log may be dropped (Cassandra: tables that are flushed while they are written). What its
+    /// close tells of files is then what `IsOutcome` says of both kinds of path.
+    pub fn open_filing(
+        alloc: Global,
+        keeper: K,
+        sizes: Sizes,
+        base: u64,
+        mode: SyncCore,
+    ) -> Result<WritePath<K, Global>, (K, OutOfMemory)>
+        requires fresh { IsFresh base sizes (K.holds keeper) }
+        requires base { base < 2 ^ 62 }
+        ensures opened { IfOk result (λ p. (IsSome p.opener)
+            × (p.table.size ≡ filing_size_of sizes base (K.holds keeper).at_open)
+            × (p.mode ≡ mode)) }
+        ensures first { IfOk result (λ p. p.table.table.shared.key.first.value ≡ keeper) }
+        ensures back { IfErr result (λ r. ShowsAsBefore (K.holds keeper) (K.holds r.0)) }
+    {
+        Self::open_for(alloc, keeper, sizes, base, mode, true)
+    }
+
+    // Opens a path of either kind.
+    fn open_for(
+        alloc: Global,
+        keeper: K,
+        sizes: Sizes,
+        base: u64,
+        mode: SyncCore,
+        files: bool,
+    ) -> Result<WritePath<K, Global>, (K, OutOfMemory)>
+        requires fresh { IsFresh base sizes (K.holds keeper) }
+        requires base { base < 2 ^ 62 }
+        ensures opened { IfOk result (λ p. (IsSome p.opener)
+            × (p.table.size ≡ sized_for files sizes base (K.holds keeper).at_open)
+            × (p.mode ≡ mode)) }
+        ensures first { IfOk result (λ p. p.table.table.shared.key.first.value ≡ keeper) }
+        ensures back { IfErr result (λ r. ShowsAsBefore (K.holds keeper) (K.holds r.0)) }
+    {
+        let size = size_for(files, sizes, base, keeper.at_open());
         let (table, opener) = match path_rule::open(alloc, keeper, size) {
             Ok(opened) => opened,
             Err(refused) => return Err(refused),
@@ -77,7 +123,7 @@ impl<K: Keeper + Drop> WritePath<K, Global> {
                 mode,
             }),
             Err(opener) => {
-                let (keeper, _log) = table.finish_unused(opener);
+                let (keeper, _log, _bounds) = table.finish_unused(opener);
                 Err((keeper, OutOfMemory))
             }
         }

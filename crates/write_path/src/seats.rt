@@ -11,7 +11,6 @@ ghost use Rattle.std.specs.Prelude.{
   ◌≤◌,
   [],
   ◌∷◌,
-  false,
   length,
   Some,
   None,
@@ -49,7 +48,6 @@ pub struct WritePath<K: Keeper, A: Allocator> {
     pub ghost rests: { (o : Resting (Opener K)) → opener ≡ Some o
         → IsUnused table.table.shared.table_id table.size o.table.shared.key.value },
     pub ghost based: { table.size.base < 2 ^ 62 },
-    pub ghost unfiled: { table.size.files ≡ false },
 }
 
 /// A seat in a group of the write order and in one of the append order, before its claim. It has

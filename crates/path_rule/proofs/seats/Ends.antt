@@ -4,7 +4,10 @@ use Rattle.std.proofs.Common.{
   ℕ,
   zero,
   suc,
+  ◌+◌,
+  ◌*◌,
   ◌<◌,
+  ◌≤◌,
   Bool,
   false,
   cond,
@@ -52,7 +55,9 @@ use Rattle.path_rule.specs.declared.view.Returned.{Returned}
 use Rattle.path_rule.specs.declared.view.Role.{Role}
 use Rattle.path_rule.specs.declared.view.Role.TheVariants.{Opener, Steps, Spent}
 use Rattle.path_rule.specs.declared.view.View.{View}
+use Rattle.path_rule.specs.declared.bounds.TableBounds.{TableBounds}
 use Rattle.path_rule.specs.Boxes.{HoldsAs, HoldsBox, IsFree, DeskIs}
+use Rattle.path_rule.specs.ClosedBounds.{TellsBounds, last_key}
 use Rattle.path_rule.specs.Filing.{HasFiled}
 use Rattle.path_rule.specs.FirstBoxes.{HasInFront}
 use Rattle.path_rule.specs.Lasts.{lasting_of, shown}
@@ -62,6 +67,7 @@ use Rattle.path_rule.specs.Trails.{TrailTells, ViewTells}
 use Rattle.path_rule.proofs.boxes.SameBoxes.{holds_none}
 use Rattle.path_rule.proofs.log.FilingStays.{dropped_at_home}
 use Rattle.path_rule.proofs.moves.Moving.{core_lawful}
+use Rattle.path_rule.proofs.seats.LastBounds.{few_newest, last_is}
 use Rattle.path_rule.proofs.seats.Untaken.{untaken}
 
 -- what is set to false, or behind a list's end, reads false
@@ -162,38 +168,61 @@ module _ {K : Type 0} (shows : K → Lasting) (o : Beside) where
       mine = subst (λ ρ. Knows r.core r.events r.owner r.made r.boss id ρ v.part v.trail
           v.returned) role (r.each_seat id v at).1
 
+  -- the words tell of how many memtables there are, and the bounds below the newest ones
+  pub few_words : (key : PathSize) (id : ℕ) (v : View) (ws : List ℕ) (xs : List (Slot K))
+      → Final (Seen (Ruled shows o key) id v) ws xs
+      → (t : ℕ) → t < 16 → slice_index ws (8 + 4 * t) ≤ 256
+  few_words key id v ws xs f t inside = let r : Ruled shows o key f.0 = f.1.0 in
+      subst (λ (l : List ℕ). slice_index l (8 + 4 * t) ≤ 256) f.2
+      (few_newest r.core (core_lawful shows o key f.0 r) r.rows f.0.words r.words t inside)
+
+  tells_them : (key : PathSize) (id : ℕ) (v : View) (ws : List ℕ) (xs : List (Slot K))
+      → (f : Final (Seen (Ruled shows o key) id v) ws xs) → (bounds : TableBounds)
+      → ((t : ℕ) → t < 16 → slice_index bounds.keys t ≡ last_key ws t)
+      → TellsBounds f.1.0.core bounds
+  tells_them key id v ws xs f bounds told t inside = let r : Ruled shows o key f.0 = f.1.0 in
+      told t inside ∙ (ap (λ (l : List ℕ). last_key l t) (sym f.2)
+      ∙ last_is r.core (core_lawful shows o key f.0 r) r.rows f.0.words r.words t inside)
+
   pub ends_by : (size key : PathSize) (id w log : ℕ) (keeper : Holding) (v : View) (ws : List ℕ)
       (xs : List (Slot K)) → key ≡ size → v.role ≡ Steps w → HasAll key.seats w v.returned
       → v.part.sync ≡ None → (f : Final (Seen (Ruled shows o key) id v) ws xs)
       → get_elem? ws 4 ≡ some log
       → lasting_of keeper ≡ shown o key.at_open f.1.0.kept_to f.1.0.filed f.1.0.dropped f.1.0.core
-      → Ended o size (record { number = w; part = v.part; trail = v.trail } ∷ v.returned) log keeper
-  ends_by size key id w log keeper v ws xs same role all unheld f e kept = let s = f.0 in
+      → (bounds : TableBounds)
+      → ((t : ℕ) → t < 16 → slice_index bounds.keys t ≡ last_key ws t)
+      → (ended : Ended o size (record { number = w; part = v.part; trail = v.trail } ∷ v.returned)
+      log keeper) × TellsBounds ended.core bounds
+  ends_by size key id w log keeper v ws xs same role all unheld f e kept bounds told =
+      let s = f.0 in
       let r : Ruled shows o key s = f.1.0 in
       let k = subst (λ ρ. Knows r.core r.events r.owner r.made r.boss id ρ v.part v.trail
       v.returned) role (r.each_seat id v f.1.1).1 in
       let ran = subst (λ (z : PathSize). (p : Past (start_of z) r.events r.core)
-      × AreBuilt z.at_open (start_of z) r.events r.core p) same (r.run, r.built) in record {
-        core = r.core;
-        events = r.events;
-        fit = subst IsFit same r.fit;
-        run = ran.0;
-        built = ran.1;
-        lawful = core_lawful shows o key s r;
-        log_is = sym (at_four ws 4 log e) ∙
-            (ap (λ (l : List ℕ). slice_index l 4) (sym f.2) ∙ r.words Log tt);
-        kept_to = r.kept_to;
-        may_be_kept = r.may_be_kept;
-        filed = r.filed;
-        dropped = r.dropped;
-        filing = subst (λ (z : PathSize). HasFiled z r.core r.filed r.dropped) same r.filing;
-        gone = dropped_at_home r.core key r.filed r.dropped r.filing
-            (none_holds key id w v role all unheld s r f.1.1);
-        lasting_is = kept ∙ ap (λ (z : PathSize). shown o z.at_open r.kept_to r.filed r.dropped r.core) same;
-        risen = subst (λ (z : PathSize). 0 < r.core.stopped → HasRisen z.at_open r.core.stopped)
-            same r.risen;
-        each = one s r k (r.tells id v f.1.1);
-      }
+      × AreBuilt z.at_open (start_of z) r.events r.core p) same (r.run, r.built) in (
+        record {
+          core = r.core;
+          events = r.events;
+          fit = subst IsFit same r.fit;
+          run = ran.0;
+          built = ran.1;
+          lawful = core_lawful shows o key s r;
+          log_is = sym (at_four ws 4 log e) ∙
+              (ap (λ (l : List ℕ). slice_index l 4) (sym f.2) ∙ r.words Log tt);
+          kept_to = r.kept_to;
+          may_be_kept = r.may_be_kept;
+          filed = r.filed;
+          dropped = r.dropped;
+          filing = subst (λ (z : PathSize). HasFiled z r.core r.filed r.dropped) same r.filing;
+          gone = dropped_at_home r.core key r.filed r.dropped r.filing
+              (none_holds key id w v role all unheld s r f.1.1);
+          lasting_is = kept ∙ ap (λ (z : PathSize). shown o z.at_open r.kept_to r.filed r.dropped r.core) same;
+          risen = subst (λ (z : PathSize). 0 < r.core.stopped → HasRisen z.at_open r.core.stopped)
+              same r.risen;
+          each = one s r k (r.tells id v f.1.1);
+        },
+        tells_them key id v ws xs f bounds told,
+      )
     where
       sized : (x : PathState) (ts : List OwnStep) → TrailTells key.capacity x ts
           → TrailTells size.capacity x ts
@@ -228,8 +257,10 @@ module _ {K : Type 0} (shows : K → Lasting) (o : Beside) where
       (xs : List (Slot K)) → key ≡ size → v.role ≡ Opener 0
       → (f : Final (Seen (Ruled shows o key) id v) ws xs) → get_elem? ws 4 ≡ some log
       → lasting_of keeper ≡ shown o key.at_open f.1.0.kept_to f.1.0.filed f.1.0.dropped f.1.0.core
-      → EndsUnused o size log keeper
-  ends_unmade size key id log keeper v ws xs same role f e kept = let s = f.0 in
+      → (bounds : TableBounds)
+      → ((t : ℕ) → t < 16 → slice_index bounds.keys t ≡ last_key ws t)
+      → EndsUnused o size log keeper × TellsBounds (start_of size) bounds
+  ends_unmade size key id log keeper v ws xs same role f e kept bounds told = let s = f.0 in
       let r : Ruled shows o key s = f.1.0 in
       let made : 0 ≡ r.made = (subst (λ ρ. Knows r.core r.events r.owner r.made r.boss id ρ v.part
       v.trail v.returned) role (r.each_seat id v f.1.1).1).0 in
@@ -237,8 +268,12 @@ module _ {K : Type 0} (shows : K → Lasting) (o : Beside) where
       let core_is : start_of key ≡ r.core =
       subst (λ (es : List Event). Past (start_of key) es r.core) no_step r.run in
       let core : r.core ≡ start_of size = sym core_is ∙ ap start_of same in (
-        sym (at_four ws 4 log e) ∙ (ap (λ (l : List ℕ). slice_index l 4) (sym f.2)
-            ∙ (r.words Log tt ∙ ap (λ (x : PathState). x.log) core)),
-        kept ∙ (λ i. shown o ((ap (λ (z : PathSize). z.at_open) same) i) r.kept_to
-            ((r.unstepped no_step).0 i) ((r.unstepped no_step).1 i) (core i)),
+        (
+          sym (at_four ws 4 log e) ∙ (ap (λ (l : List ℕ). slice_index l 4) (sym f.2)
+              ∙ (r.words Log tt ∙ ap (λ (x : PathState). x.log) core)),
+          kept ∙ (λ i. shown o ((ap (λ (z : PathSize). z.at_open) same) i) r.kept_to
+              ((r.unstepped no_step).0 i) ((r.unstepped no_step).1 i) (core i)),
+        ),
+        subst (λ (x : PathState). TellsBounds x bounds) core
+            (tells_them key id v ws xs f bounds told),
       )

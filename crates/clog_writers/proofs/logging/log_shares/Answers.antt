@@ -23,8 +23,10 @@ returns-in-Err-seats-clause-ends g c =
     c.args.room.items _
     (ap (λ (t : PathTable g.row.K.Denot _). t.size.base) c.seats.ensures.path.0
     ∙ ap (λ (z : PathSize). z.base) c.in-Ok.ensures.opened.1)
-    closed.ensures.outcome
-    (subst (λ (h : Holding). StaysBeside h now)
+    (ap (λ (t : PathTable g.row.K.Denot _). t.size.files) c.seats.ensures.path.0
+    ∙ ap (λ (z : PathSize). z.files) c.in-Ok.ensures.opened.1)
+    closed.ensures.outcome.0
+    (subst (λ (h : Holding). StaysBeside c.seats.new.self.table.size h now)
     (ap (λ (t : PathTable g.row.K.Denot _). g.K.Keeper.holds t.table.shared.key.first.value)
     c.seats.ensures.path.0 ∙ ap g.K.Keeper.holds c.in-Ok.ensures.first) closed.ensures.beside)
     c.requires.void c.args.workers.items
@@ -52,7 +54,7 @@ returns-in-Err-seats-clause-apart g c = λ batch.
     let now = g.K.Keeper.holds c.close-keeper.result.0 in
     none_apart c.args.sizes.capacity now.logged
     (first_none now.logged now.kept
-    (none_written _ c.args.room.items _ now c.close-keeper.ensures.outcome c.requires.void))
+    (none_written _ c.args.room.items _ now c.close-keeper.ensures.outcome.0 c.requires.void))
 
 pub returns-in-Ok-seats-clause-apart : goal.returns-in-Ok-seats-clause-apart
 returns-in-Ok-seats-clause-apart g c = λ batch.

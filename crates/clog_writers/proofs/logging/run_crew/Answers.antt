@@ -94,8 +94,8 @@ returns-clause-ends g c = λ base before open_for is fresh.
     let closed = c.close-keeper in
     ran c.args.sizes base before (g.K.Keeper.holds closed.result.0) fresh id t.size
     open_for.at_open open_for.size_is c.end_all-fault.new.seats.items closed.result.1.end.0
-    closed.ensures.outcome
-    (subst (λ (h : Holding). StaysBeside h (g.K.Keeper.holds closed.result.0)) is
+    closed.ensures.outcome.0
+    (subst (λ (h : Holding). StaysBeside t.size h (g.K.Keeper.holds closed.result.0)) is
     closed.ensures.beside)
     c.args.workers.items c.end_all-fault.result d.0 d.1
     (λ ms dealt. c.end_all-fault.ensures.ended ms
@@ -132,4 +132,4 @@ returns-clause-apart g c = λ batch.
     let held = g.K.Keeper.holds c.close-keeper.result.0 in
     subst (λ (k : ℕ). StandApart k held.logged) (sym sized.capacity)
     (stand_apart id t.size d.0 c.end_all-fault.result seats ended
-    c.close-keeper.result.1.end.0 held c.close-keeper.ensures.outcome waited)
+    c.close-keeper.result.1.end.0 held c.close-keeper.ensures.outcome.0 waited)

@@ -34,31 +34,33 @@ unreachable-requires g c = let t = c.args.table in let items = c.args.seats.item
 
 pub returns : goal.returns
 returns g c = let s = c.in-Some.field-0 in let j = c.join_all-member.ensures in
-    let e = c.finish.ensures in let first = (view_of s.member).returned in
+    let e = c.finish.ensures.0 in let first = (view_of s.member).returned in
     let xs = c.pop.new.self.items in
     let Q : Returned → Type 0 = λ b. map event_of b.trail ≡ steps_by b.number e.events in
     let S : Returned → Type 0 = λ b. b.part ≡ seat_of e.core b.number in
     let R : Returned → Type 0 = λ b. TrailTells c.args.table.size.capacity e.core b.trail in
     let same : returned_of c.join_all-member.result ∷ (view_of c.join_all-member.result).returned
     ≡ returned_of s.member ∷ (first ++ returned_by (reverse xs)) =
-    λ i. record { number = j.same.1 i; part = j.same.3 i; trail = j.same.2 i } ∷ j.returned i in
-    record {
-      returned = returned_of c.join_all-member.result
-          ∷ (view_of c.join_all-member.result).returned;
-      ended = e;
-      own = subst (λ (l : List (PathSeat g.row.K.Denot)).
-          All (λ (p : PathSeat g.row.K.Denot). Q (returned_of p.member)) l)
-          (sym c.in-Some.ensures.items)
-          (all_own Q first xs s (λ n b q. (e.each n b
-          (ap (λ (l : List Returned). get_elem? l n) same ∙ q)).1));
-      tell = subst (λ (l : List (PathSeat g.row.K.Denot)).
-          All (λ (p : PathSeat g.row.K.Denot). R (returned_of p.member)) l)
-          (sym c.in-Some.ensures.items)
-          (all_own R first xs s (λ n b q. (e.each n b
-          (ap (λ (l : List Returned). get_elem? l n) same ∙ q)).2));
-      parts = subst (λ (l : List (PathSeat g.row.K.Denot)).
-          All (λ (p : PathSeat g.row.K.Denot). S (returned_of p.member)) l)
-          (sym c.in-Some.ensures.items)
-          (all_own S first xs s (λ n b q. (e.each n b
-          (ap (λ (l : List Returned). get_elem? l n) same ∙ q)).0));
-    }
+    λ i. record { number = j.same.1 i; part = j.same.3 i; trail = j.same.2 i } ∷ j.returned i in (
+      record {
+        returned = returned_of c.join_all-member.result
+            ∷ (view_of c.join_all-member.result).returned;
+        ended = e;
+        own = subst (λ (l : List (PathSeat g.row.K.Denot)).
+            All (λ (p : PathSeat g.row.K.Denot). Q (returned_of p.member)) l)
+            (sym c.in-Some.ensures.items)
+            (all_own Q first xs s (λ n b q. (e.each n b
+            (ap (λ (l : List Returned). get_elem? l n) same ∙ q)).1));
+        tell = subst (λ (l : List (PathSeat g.row.K.Denot)).
+            All (λ (p : PathSeat g.row.K.Denot). R (returned_of p.member)) l)
+            (sym c.in-Some.ensures.items)
+            (all_own R first xs s (λ n b q. (e.each n b
+            (ap (λ (l : List Returned). get_elem? l n) same ∙ q)).2));
+        parts = subst (λ (l : List (PathSeat g.row.K.Denot)).
+            All (λ (p : PathSeat g.row.K.Denot). S (returned_of p.member)) l)
+            (sym c.in-Some.ensures.items)
+            (all_own S first xs s (λ n b q. (e.each n b
+            (ap (λ (l : List Returned). get_elem? l n) same ∙ q)).0));
+      },
+      c.finish.ensures.1,
+    )

@@ -1,3 +1,4 @@
+use Rattle.write_path.proofs.FlushPromises.{flushed_filed}
 use Rattle.write_path.proofs.Promises.{
   done_logged,
   durable_apart,
@@ -21,3 +22,6 @@ returns-clause-reached g c = synced_logged
 
 pub returns-clause-apart : goal.returns-clause-apart
 returns-clause-apart g c = durable_apart
+
+pub returns-clause-flushed : goal.returns-clause-flushed
+returns-clause-flushed g c = flushed_filed

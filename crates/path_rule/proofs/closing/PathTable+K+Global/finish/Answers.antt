@@ -3,7 +3,7 @@ use Rattle.std.specs.Slots.{slots_items}
 use Rattle.path_rule.specs.declared.view.PathSize.{PathSize}
 use Rattle.path_rule.specs.Lasts.{beside_of, shows_of}
 use Rattle.path_rule.specs.Sharing.{HasAll}
-use Rattle.path_rule.proofs.seats.Ends.{ends_by, desk_home, free_all}
+use Rattle.path_rule.proofs.seats.Ends.{ends_by, desk_home, few_words, free_all}
 use Rattle.path_rule.proofs.closing.PathTable+K+Global.finish.Goals as goal
 
 pub keeper_and_log-requires : goal.keeper_and_log-requires
@@ -18,6 +18,8 @@ keeper_and_log-requires g c = let t = c.args.self in let b = c.args.member in
     (slots_items closed.words) (slots_items closed.slots) v.values.2 in record {
       full = (v.values.0, v.values.1);
       words = let w = v.counts.0 in let wide = t.wide in omega arith;
+      few = few_words (shows_of g.K.Keeper.holds) o k b.seat.id b.seat.me.0
+          (slots_items closed.words) (slots_items closed.slots) v.values.2;
       boxes = let n = v.counts.1 in let deep = t.deep in omega arith;
       desk = (d.0, d.1);
     }
@@ -39,3 +41,4 @@ returns g c = let t = c.args.self in let b = c.args.member in
     c.requires.all) i.1
     c.close_with.ensures.values.2 c.keeper_and_log.ensures.log
     (ap (shows_of g.K.Keeper.holds) (c.keeper_and_log.ensures.keeper d.0 d.1) ∙ d.2)
+    c.keeper_and_log.result.2 c.keeper_and_log.ensures.bounds
