@@ -5,6 +5,7 @@ pub mod Marks
 pub mod Behind
 pub mod NotesBehind
 pub mod NoneDropped
+pub mod RestsEmpty
 pub mod TrailMemtables
 pub mod TrailsTell
 pub mod TurnFiled

@@ -9,7 +9,6 @@ use Rattle.std.specs.Prelude.{
   ◌^◌,
   ◌<◌,
   ◌≤◌,
-  false,
   List,
   [],
   ◌∷◌,
@@ -17,6 +16,7 @@ use Rattle.std.specs.Prelude.{
   length,
   Some,
   IsTrue,
+  None,
 }
 use Rattle.std.specs.List.{Contains}
 use Rattle.atomic_table.specs.Table.{Me, Step, rest}
@@ -61,7 +61,7 @@ pub record MayApply (v : View) (w t : ℕ) (note : EntryNote) : Type 0 where
 
 -- a look of seat w at the newest memtable of a table, which found n
 abbrev pub looked : ℕ → Table → ℕ → OwnStep
-looked w t n = record { event = Look w (Newest t); found = n; filed = false }
+looked w t n = record { event = Look w (Newest t); found = n; filed = None }
 
 -- what the seat has put then
 abbrev pub put_there : Table → ℕ → EntryNote → Placed

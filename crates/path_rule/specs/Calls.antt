@@ -36,22 +36,23 @@ use Rattle.path_core.specs.Words.{place_of}
 use Rattle.path_rule.specs.declared.view.Hands.{Hands}
 use Rattle.path_rule.specs.declared.view.OwnStep.{OwnStep}
 use Rattle.path_rule.specs.declared.view.View.{View}
-use Rattle.path_rule.specs.Rule.{view_after, with_hands, Was}
+use Rattle.path_rule.specs.Rule.{view_after, view_filed, with_hands, Was}
 use Rattle.path_rule.specs.Turns.{TurnOld}
 
 -- Seat w made the step e, at which n was found or stored; h is what it knows of its boxes then.
 pub record DidAs (v : View) (w : ℕ) (e : Event) (n : ℕ) (h : Hands) (after : View) : Type 0 where
-  pub view : after ≡ view_after (with_hands h v) e n false
+  pub view : after ≡ view_after (with_hands h v) e n
   pub was : Was v w e
 
--- the same where the step gave a table file
-pub record FiledAs (v : View) (w : ℕ) (e : Event) (n : ℕ) (h : Hands) (after : View) : Type 0 where
-  pub view : after ≡ view_after (with_hands h v) e n true
+-- the same where the step gave a table file, which begins above a key
+pub record FiledAs (v : View) (w : ℕ) (e : Event) (n lower : ℕ) (h : Hands) (after : View)
+    : Type 0 where
+  pub view : after ≡ view_filed (with_hands h v) e n lower
   pub was : Was v w e
 
 -- the same where it knows of them what it knew
 pub record Did (v : View) (w : ℕ) (e : Event) (n : ℕ) (after : View) : Type 0 where
-  pub view : after ≡ view_after v e n false
+  pub view : after ≡ view_after v e n
   pub was : Was v w e
 
 -- whether a step is no look
@@ -72,8 +73,8 @@ FoundSince before at n (t ∷ ts) = ((before ≤ length ts) × (place_of t.event
 
 -- the view after a look at the current group of an order, which found g, and one at its count
 abbrev pub looked_twice : View → ℕ → Order → ℕ → ℕ → View
-looked_twice v w o g k = view_after (view_after v (Look w (Current o)) g false)
-    (Look w (Count o g)) k false
+looked_twice v w o g k = view_after (view_after v (Look w (Current o)) g)
+    (Look w (Count o g)) k
 
 -- Seat w registered in group g, whose count it had found to be `looked`.
 pub record Started (v : View) (w : ℕ) (o : Order) (g : ℕ) (after : View) : Type 0 where
@@ -84,7 +85,7 @@ pub record Started (v : View) (w : ℕ) (o : Order) (g : ℕ) (after : View) : T
 pub record Refused (v : View) (w : ℕ) (o : Order) (looked found : ℕ) (after : View) : Type 0 where
   pub group : ℕ
   pub view : (after ≡ looked_twice v w o group looked)
-      ⊎ (after ≡ view_after (looked_twice v w o group looked) (Look w (Count o group)) found false)
+      ⊎ (after ≡ view_after (looked_twice v w o group looked) (Look w (Count o group)) found)
   pub cause : (2 ^ 63 ≤ looked) ⊎ (found ≢ looked)
 
 -- The seat holds the Sync turn, with no box of another seat, at this issue.

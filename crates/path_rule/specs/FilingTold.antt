@@ -55,7 +55,7 @@ use Rattle.path_rule.specs.declared.view.View.{View}
 use Rattle.path_rule.specs.Filing.{IsCellIn, MayGo, MayPut, more_filed, upper_of}
 use Rattle.path_rule.specs.HandsAfter.{with_desk, with_reading}
 use Rattle.path_rule.specs.Retires.{RetiresFiledIn}
-use Rattle.path_rule.specs.Rule.{view_after, with_hands, Was}
+use Rattle.path_rule.specs.Rule.{view_filed, with_hands, Was}
 use Rattle.path_rule.specs.Told.{Made, MadeAs}
 use Rattle.path_rule.specs.TurnTold.{CarriesAs}
 
@@ -132,9 +132,9 @@ MayBeGone v dropped = (o : ℕ) → Contains dropped o
 
 -- ---- what its steps tell
 
--- the seat w made the step e, which gave a table file
-abbrev pub MadeFiled : ℕ → Event → ℕ → Hands → View → View → Type 0
-MadeFiled w e n h v v' = (v' ≡ view_after (with_hands h v) e n true) × Was v w e
+-- the seat w made the step e, which gave a table file that begins above a key
+abbrev pub MadeFiled : ℕ → Event → ℕ → ℕ → Hands → View → View → Type 0
+MadeFiled w e n lower h v v' = (v' ≡ view_filed (with_hands h v) e n lower) × Was v w e
 
 module _ {K : Type 0} where
   -- The synced key was found. Where the log is lasting up to the bound of a memtable that was seen
@@ -202,13 +202,14 @@ module _ {K : Type 0} (shows : K → Lasting) where
       → MadeNoted (Some st.first) w (Put w StoppedCursor st.first) n m m'
 
   -- The least memtable of the table is retired with the file that the keeper on the desk has put,
-  -- and none is read any more.
+  -- which begins where the table's last file ended. None is read any more.
   abbrev pub RetiredFiled : Step (Slot K) → Me (Slot K) View → ℕ → Me (Slot K) View → Type 0
   RetiredFiled st m n m' = (w : ℕ) (t : Table) (lasting : Lasting) (pending : List EntryNote)
       → m.0.role ≡ Steps w → t.0 < 16 → st.word ≡ 10 + 4 * t.0
       → CarriesAs shows lasting pending m.0.hands.progress m
-      → MadeFiled w (Put w (OldestLive t) n) n (with_reading None
-      (with_desk lasting pending m.0.hands.progress m.0.hands)) m.0 m'.0 × (m'.1 ≡ m.1)
+      → MadeFiled w (Put w (OldestLive t) n) n (upper_of t.0 m.0.hands.lasting.filed.files)
+      (with_reading None (with_desk lasting pending m.0.hands.progress m.0.hands)) m.0 m'.0
+      × (m'.1 ≡ m.1)
       × ((f : PutTable) (k : ℕ) → n ≡ suc k → CarriesFiled f m
       → (was : Was m.0 w (Put w (OldestLive t) n))
       × RetiresFiledIn was.core (Put w (OldestLive t) n) t.0 k f)

@@ -1,5 +1,5 @@
 -- At which key a seat found memtables final, or made them so, and which it retired.
-use Rattle.std.specs.Prelude.{◌≡◌, ◌⊎◌, ℕ, suc, Bool, List, [], ◌∷◌}
+use Rattle.std.specs.Prelude.{◌≡◌, ◌⊎◌, ℕ, suc, List, [], ◌∷◌, Option}
 use Rattle.clog_base.specs.declared.cell.Table.{Table}
 use Rattle.path_core.specs.declared.event.Cursor.TheVariants.{OldestLive}
 use Rattle.path_core.specs.declared.event.Event.{Event}
@@ -23,14 +23,14 @@ abbrev pub FindsFinal : ℕ → ℕ → ℕ → List OwnStep → Type 0
 FindsFinal t m key [] = ⊥
 FindsFinal t m key (s ∷ ss) = FindsFinalBy t m key s.event s.found ⊎ FindsFinal t m key ss
 
--- A step that gave a table file, or gave none, retired memtable m of table t: the next one is the
--- least that is not retired.
-abbrev pub RetiresBy : Table → ℕ → Bool → Event → Bool → Type 0
-RetiresBy t m filed (Put by cursor value) gave =
-    (cursor ≡ OldestLive t) × (value ≡ suc m) × (gave ≡ filed)
-RetiresBy t m filed _ gave = ⊥
+-- A step that gave a table file which begins above a key, or gave none, retired memtable m of
+-- table t: the next one is the least that is not retired.
+abbrev pub RetiresBy : Table → ℕ → Option ℕ → Event → Option ℕ → Type 0
+RetiresBy t m gave (Put by cursor value) filed =
+    (cursor ≡ OldestLive t) × (value ≡ suc m) × (filed ≡ gave)
+RetiresBy t m gave _ filed = ⊥
 
 -- one of these steps did
-abbrev pub Retires : Table → ℕ → Bool → List OwnStep → Type 0
-Retires t m filed [] = ⊥
-Retires t m filed (s ∷ ss) = RetiresBy t m filed s.event s.filed ⊎ Retires t m filed ss
+abbrev pub Retires : Table → ℕ → Option ℕ → List OwnStep → Type 0
+Retires t m gave [] = ⊥
+Retires t m gave (s ∷ ss) = RetiresBy t m gave s.event s.filed ⊎ Retires t m gave ss

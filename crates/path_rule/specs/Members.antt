@@ -66,9 +66,9 @@ module _ {K : Type 0} where
   abbrev pub SteppedAs : Member K → Event → ℕ → Hands → Member K → Type 0
   SteppedAs m e n h m' = DidAs m.seat.me.0 m.number e n h m'.seat.me.0
 
-  -- It made that step, which gave a table file.
-  abbrev pub SteppedFiled : Member K → Event → ℕ → Hands → Member K → Type 0
-  SteppedFiled m e n h m' = FiledAs m.seat.me.0 m.number e n h m'.seat.me.0
+  -- It made that step, which gave a table file that begins above a key.
+  abbrev pub SteppedFiled : Member K → Event → ℕ → ℕ → Hands → Member K → Type 0
+  SteppedFiled m e n lower h m' = FiledAs m.seat.me.0 m.number e n lower h m'.seat.me.0
 
   -- It made that step after the keeper refused a table file, or dropped segments, and may have
   -- stopped with a count of faults. It knows since what the keeper shows.

@@ -1,4 +1,5 @@
--- What is so of the state in which a memtable is retired.
+-- What is so of a state in which a memtable is retired. A seat is told of one that its steps fit
+-- (`Was`), and not which one it stepped in.
 use Rattle.std.specs.Prelude.{◌≡◌, ℕ, true, false, [], ◌∷◌, ◌++◌}
 use Rattle.path_core.specs.declared.event.Event.{Event}
 use Rattle.path_core.specs.declared.state.PathState.{PathState}

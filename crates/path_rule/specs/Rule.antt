@@ -8,7 +8,6 @@ use Rattle.std.specs.Prelude.{
   ◌≤◌,
   ◌==◌,
   cond,
-  Bool,
   false,
   List,
   [],
@@ -16,7 +15,10 @@ use Rattle.std.specs.Prelude.{
   map,
   length,
   slice_index,
+  Option,
+  Some,
   None,
+  is_some,
   IsTrue,
 }
 use mathlib.Core.Option.{some}
@@ -145,16 +147,26 @@ opener made size = fresh_view (Opener made) size
 abbrev pub new_seat : ℕ → PathSize → View
 new_seat w size = fresh_view (Steps w) size
 
--- what a step tells the seat: whether a file was given, and the last marker as the desk tells it
-abbrev pub told_by : Bool → Hands → Told
-told_by filed h = record { files = filed; marker = h.progress.marker }
+-- What a step tells the seat: whether it gave a table file, which begins above a key, and the last
+-- marker as the desk tells it.
+abbrev pub told_by : Option ℕ → Hands → Told
+told_by filed h = record { files = is_some filed; marker = h.progress.marker }
 
--- The view after the step e, at which n was found or stored, and a file was given or not.
-abbrev pub view_after : View → Event → ℕ → Bool → View
-view_after v e n filed = record v {
+-- The view after the step e, at which n was found or stored, and which gave a table file that
+-- begins above a key, or gave none.
+abbrev pub view_with : View → Event → ℕ → Option ℕ → View
+view_with v e n filed = record v {
   part = seat_after v.part e (reading_at (place_of e) n) (told_by filed v.hands);
   trail = record { event = e; found = n; filed = filed } ∷ v.trail;
 }
+
+-- where it gave none
+abbrev pub view_after : View → Event → ℕ → View
+view_after v e n = view_with v e n None
+
+-- where it gave one that begins above this key
+abbrev pub view_filed : View → Event → ℕ → ℕ → View
+view_filed v e n lower = view_with v e n (Some lower)
 
 abbrev pub with_hands : Hands → View → View
 with_hands h v = record v { hands = h }
@@ -257,8 +269,9 @@ pub record Ruled {K : Type 0} (shows : K → Lasting) (o : Beside) (size : PathS
   -- and tells what is so of the state
   pub tells : (j : ℕ) (v : View) → get_elem? s.views j ≡ some v → ViewTells size.capacity core v
 
--- There was a lawful state, reached by steps of which the seat's own were those of its trail. In it
--- the step e was allowed.
+-- There is a lawful state that the seat's steps fit: a run leads there in which its own steps are
+-- those of its trail, and the step e is allowed there. Others may fit them too, and which one the
+-- seat stepped in is not said.
 pub record Was (v : View) (w : ℕ) (e : Event) : Type 0 where
   pub core : PathState
   pub events : List Event

@@ -8,7 +8,6 @@ use Rattle.std.specs.Prelude.{
   ◌^◌,
   ◌<◌,
   ◌≤◌,
-  false,
   List,
   [],
   ◌∷◌,
@@ -41,7 +40,7 @@ use Rattle.path_rule.specs.Rule.{view_after, with_hands, Was}
 
 -- the seat w made the step e, at which n was found or stored, and knows h of its boxes then
 abbrev pub MadeAs : ℕ → Event → ℕ → Hands → View → View → Type 0
-MadeAs w e n h v v' = (v' ≡ view_after (with_hands h v) e n false) × Was v w e
+MadeAs w e n h v v' = (v' ≡ view_after (with_hands h v) e n) × Was v w e
 
 module _ {K : Type 0} where
   -- the same where no box moved

@@ -1,5 +1,5 @@
 -- Worked rows of what a seat's steps tell of memtables: steps of seat 0 on table 0.
-use Rattle.std.specs.Prelude.{ℕ, suc, ◌+◌, ◌^◌, Bool, false, List, [], ◌∷◌}
+use Rattle.std.specs.Prelude.{ℕ, suc, ◌+◌, ◌^◌, List, [], ◌∷◌, Option, None}
 use Rattle.path_core.specs.declared.event.Cursor.TheVariants.{OldestLive}
 use Rattle.path_core.specs.declared.event.Event.TheVariants.{Look, Finalise, Put}
 use Rattle.path_core.specs.declared.event.Place.TheVariants.{Bound}
@@ -10,7 +10,7 @@ abbrev pub made_final_at : ℕ → ℕ → List OwnStep
 made_final_at m key = record {
   event = Finalise 0 (record { 0 = 0 }) m;
   found = key + 2 ^ 62;
-  filed = false;
+  filed = None;
 } ∷ []
 
 -- It looked at the bound of memtable m, and found this word.
@@ -18,11 +18,11 @@ abbrev pub looked_at : ℕ → ℕ → List OwnStep
 looked_at m word = record {
   event = Look 0 (Bound (record { 0 = 0 }) m);
   found = word;
-  filed = false;
+  filed = None;
 } ∷ []
 
--- It retired memtable m, with a table file or without.
-abbrev pub retired : ℕ → Bool → List OwnStep
+-- It retired memtable m, with a table file that begins above a key, or without one.
+abbrev pub retired : ℕ → Option ℕ → List OwnStep
 retired m filed = record {
   event = Put 0 (OldestLive (record { 0 = 0 })) (suc m);
   found = suc m;

@@ -1,5 +1,5 @@
 -- What a seat's trail tells of the machine that it was a part of.
-use Rattle.std.specs.Prelude.{◌≡◌, ℕ, ◌<◌, ◌≤◌, true, false, List, [], ◌∷◌}
+use Rattle.std.specs.Prelude.{◌≡◌, ℕ, ◌<◌, ◌≤◌, true, List, [], ◌∷◌, Some, None}
 use Rattle.std.specs.List.{Contains}
 use mathlib.Core.Option.{some}
 use lib.ListN.{get_elem?}
@@ -12,10 +12,10 @@ use Rattle.path_core.specs.declared.event.Event.TheVariants.{Claim}
 use Rattle.path_core.specs.declared.event.Place.TheVariants.{Current, CursorWord, Log}
 use Rattle.path_core.specs.declared.state.Bound.TheVariants.{Final}
 use Rattle.path_core.specs.declared.state.PathState.{PathState}
+use Rattle.path_core.specs.declared.state.WrittenFile.{WrittenFile}
 use Rattle.path_core.specs.Keys.{after, behind_marker, first_offset}
-use Rattle.path_core.specs.LawfulTables.{HasFile}
 use Rattle.path_core.specs.Markers.{HasMarkerAt}
-use Rattle.path_core.specs.Parts.{HoldsNoTurn, memtable_of, table_of}
+use Rattle.path_core.specs.Parts.{HoldsNoTurn, is_empty, memtable_of, table_of}
 use Rattle.path_rule.specs.declared.view.OwnStep.{OwnStep}
 use Rattle.path_rule.specs.declared.view.Returned.{Returned}
 use Rattle.path_rule.specs.declared.view.View.{View}
@@ -45,10 +45,20 @@ abbrev pub AllClaimPast : ℕ → List OwnStep → Type 0
 AllClaimPast capacity [] = Unit {0}
 AllClaimPast capacity (t ∷ ts) = ClaimsPast capacity t.event ts × AllClaimPast capacity ts
 
--- No closed write placed an entry in the memtable.
-abbrev pub HoldsNothing : PathState → ℕ → ℕ → Type 0
-HoldsNothing x t m = (entry : ℕ)
-    → Contains x.placed (record { table = t; entry = entry; memtable = m }) → ⊥
+-- The state has a table file of the memtable, which begins above a key and ends at the memtable's
+-- final bound.
+pub record HasFileFrom (x : PathState) (t m from : ℕ) : Type 0 where
+  pub file : WrittenFile
+  pub among : Contains x.files file
+  pub table : file.table ≡ t
+  pub memtable : file.memtable ≡ m
+  pub lower : file.lower ≡ from
+  pub upper : (memtable_of x t m).bound ≡ Final (record { 0 = file.upper })
+
+-- A closed write placed an entry in the memtable.
+pub record HoldsSome (x : PathState) (t m : ℕ) : Type 0 where
+  pub entry : ℕ
+  pub placed : Contains x.placed (record { table = t; entry = entry; memtable = m })
 
 -- What these steps of a seat tell of the state that they led to.
 pub record TrailTells (capacity : ℕ) (x : PathState) (trail : List OwnStep) : Type 0 where
@@ -68,10 +78,14 @@ pub record TrailTells (capacity : ℕ) (x : PathState) (trail : List OwnStep) : 
   -- each number that it found, or put, as the least memtable that is not retired is at or below it
   pub retired : (t : Table) (n : ℕ) → Finds (CursorWord (OldestLive t)) n trail
       → n ≤ (table_of x t.0).oldest_live
-  -- each memtable that it retired with a table file has that file, which ends at its final bound
-  pub filed : (t : Table) (m : ℕ) → Retires t m true trail → HasFile x t.0 m
-  -- in each that it retired without one nothing is placed
-  pub emptied : (t : Table) (m : ℕ) → Retires t m false trail → HoldsNothing x t.0 m
+  -- each memtable that it retired with a table file has that file, which begins above the key that
+  -- the step gave and ends at the memtable's final bound
+  pub filed : (t : Table) (m lower : ℕ) → Retires t m (Some lower) trail
+      → HasFileFrom x t.0 m lower
+  -- and something is placed in it
+  pub filled : (t : Table) (m lower : ℕ) → Retires t m (Some lower) trail → HoldsSome x t.0 m
+  -- in each that it retired without one nothing is placed, and no running write has its place there
+  pub emptied : (t : Table) (m : ℕ) → Retires t m None trail → is_empty x t.0 m ≡ true
 
 -- A view's own steps tell it, and those of the seats that it took in, which held no turn then.
 pub record ViewTells (capacity : ℕ) (x : PathState) (v : View) : Type 0 where

@@ -172,7 +172,8 @@ impl<K: Keeper, A: Allocator> PathTable<K, A> {
 
     /// Retires the least memtable of a table that is not retired, once its table file is put on the
     /// desk: the boxes of all seats were seen, something was placed in it, and the log is lasting
-    /// up to its bound. The desk tells of the file then.
+    /// up to its bound. The step gives the key above which the file begins, where the table's last
+    /// file ended. The desk tells of the file then.
     pub fn retire_filed(&self, member: &mut Member<K>, table: Table, memtable: u64, bound: Key)
         requires table { IsOf self.now.table.shared.table_id self.now.size member.old }
         requires there { (table.0 < self.now.size.tables) × (memtable < 256) }
@@ -191,7 +192,8 @@ impl<K: Keeper, A: Allocator> PathTable<K, A> {
             → CarriesAs (shows_of K.holds) lasting pending (hands_of member.old).progress
             member.old.seat.me
             → SteppedFiled member.old (Put member.old.number (OldestLive table) (memtable + 1))
-            (memtable + 1) (with_reading None
+            (memtable + 1) (upper_of table.0 (hands_of member.old).lasting.filed.files)
+            (with_reading None
             (with_desk lasting pending (hands_of member.old).progress (hands_of member.old)))
             member.new }
         ensures was { (f : PutTable) → CarriesFiled (shows_of K.holds) f member.old.seat.me

@@ -1,5 +1,5 @@
 //! What a seat's steps tell of memtables, on worked rows. Nothing here runs.
-ghost use Rattle.std.specs.Prelude.{◌≡◌, ◌<◌, ℕ, ◌+◌, ◌^◌, true, false};
+ghost use Rattle.std.specs.Prelude.{◌≡◌, ◌<◌, ℕ, ◌+◌, ◌^◌, Option, Some, None};
 ghost use Rattle.path_core.specs.declared.event.Cursor.TheVariants.{OldestLive};
 ghost use Rattle.path_core.specs.declared.event.Place.TheVariants.{CursorWord};
 ghost use Rattle.path_rule.specs.Finds.{Finds};
@@ -21,11 +21,17 @@ pub fn what_a_trail_finds_of_memtables()
     ensures raised { (t m key : ℕ) → key < 2 ^ 62
         → FindsFinal t m key (looked_at 1 (68 + 2 ^ 62)) → ⊥ }
     ensures live { (t m key : ℕ) → FindsFinal t m key (looked_at 1 0) → ⊥ }
-    // Memtable 0 is retired with a table file: not without one, and no other memtable is. The next
-    // one is the least that is not retired then.
-    ensures filed { Retires (record { 0 = 0 }) 0 true (retired 0 true) }
-    ensures not_emptied { Retires (record { 0 = 0 }) 0 false (retired 0 true) → ⊥ }
-    ensures no_other { Retires (record { 0 = 0 }) 1 true (retired 0 true) → ⊥ }
-    ensures least { Finds (CursorWord (OldestLive (record { 0 = 0 }))) 1 (retired 0 true) }
-    ensures emptied { Retires (record { 0 = 0 }) 2 false (retired 2 false) }
+    // Memtable 0 is retired with a table file that begins above key 0: not without one, not with
+    // one that begins above key 7, and no other memtable is. The next one is the least that is not
+    // retired then.
+    ensures filed { Retires (record { 0 = 0 }) 0 (Some 0) (retired 0 (Some 0)) }
+    ensures not_emptied { Retires (record { 0 = 0 }) 0 None (retired 0 (Some 0)) → ⊥ }
+    ensures not_above { Retires (record { 0 = 0 }) 0 (Some 7) (retired 0 (Some 0)) → ⊥ }
+    ensures no_other { (gave : Option ℕ)
+        → Retires (record { 0 = 0 }) 1 gave (retired 0 (Some 0)) → ⊥ }
+    ensures least { Finds (CursorWord (OldestLive (record { 0 = 0 }))) 1 (retired 0 (Some 0)) }
+    // Memtable 2 is retired without one: not with one, above whichever key.
+    ensures emptied { Retires (record { 0 = 0 }) 2 None (retired 2 None) }
+    ensures not_filed { (lower : ℕ)
+        → Retires (record { 0 = 0 }) 2 (Some lower) (retired 2 None) → ⊥ }
 {}

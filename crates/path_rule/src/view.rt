@@ -50,8 +50,8 @@ pub struct OwnStep {
     pub event: Event,
     /// What it found at its word, or put there where it found nothing.
     pub found: u64,
-    /// Whether it gave a table file.
-    pub filed: bool,
+    /// The key above which its table file begins, where the step gave one.
+    pub filed: Option<u64>,
 }
 
 /// What a seat knew when another took it in.

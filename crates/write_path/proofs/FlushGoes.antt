@@ -1,5 +1,5 @@
 -- What the steps of a flush leave, one by one and together.
-use Rattle.std.proofs.Common.{◌≡◌, ℕ, false, List, [], ◌∷◌, ◌++◌, refl, sym, ap, ◌∙◌, subst}
+use Rattle.std.proofs.Common.{◌≡◌, ℕ, List, [], ◌∷◌, ◌++◌, refl, sym, ap, ◌∙◌, subst, None}
 use Rattle.std.proofs.lemmas.List.{append_assoc}
 use Rattle.path_core.specs.declared.event.ClaimKind.TheVariants.{Entry, Marker}
 use Rattle.path_core.specs.declared.event.Cursor.TheVariants.{Synced, OldestLive, Stopped}
@@ -102,7 +102,7 @@ still_wrote w key v after S B =
 abbrev pub one : (w : ℕ) (e : Event) (n : ℕ) (h : Hands) (v after : View) → IsFlushStep w e
     → DidAs v w e n h after → FlushSteps w v after
 one w e n h v after is d = record {
-  steps = record { event = e; found = n; filed = false } ∷ [];
+  steps = record { event = e; found = n; filed = None } ∷ [];
   trail = ap (λ (u : View). u.trail) d.view;
   are = (is, tt);
   returned = ap (λ (u : View). u.returned) d.view;

@@ -75,7 +75,7 @@ newest_leaves s u n t told = at_table_keeps t.0 u
 abbrev pub on_read : (w t n : ℕ) (u : Table) (q : Option FlushRead) (v after : View)
     → DidAs v w (Look w (Newest u)) n (with_reading q v.hands) after → ReadSteps w t v after
 on_read w t n u q v after d = let e = Look w (Newest u) in let P = is_small e tt in
-    let told = told_by false (with_reading q v.hands) in
+    let told = told_by None (with_reading q v.hands) in
     let same = ap (λ (x : View). x.hands) d.view in record {
       made = one w e n (with_reading q v.hands) v after refl d;
       sync = ap (λ (x : View). x.part.sync) d.view ∙ P.sync v.part n told;
@@ -118,7 +118,7 @@ bound_leaves s u n m t told = let b = bound_in n in let st = seat_table s t.0 in
 abbrev pub on_bound : (w t n : ℕ) (u : Table) (k : ℕ) (q : Option FlushRead) (v after : View)
     → DidAs v w (Look w (BoundOf u k)) n (with_reading q v.hands) after → ReadSteps w t v after
 on_bound w t n u k q v after d = let e = Look w (BoundOf u k) in let P = is_small e tt in
-    let told = told_by false (with_reading q v.hands) in
+    let told = told_by None (with_reading q v.hands) in
     let same = ap (λ (x : View). x.hands) d.view in record {
       made = one w e n (with_reading q v.hands) v after refl d;
       sync = ap (λ (x : View). x.part.sync) d.view ∙ P.sync v.part n told;

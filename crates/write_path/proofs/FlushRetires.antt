@@ -49,7 +49,7 @@ module _ (v after : View) (w n : ℕ) (t : Table) (value : ℕ) (q : Option Flus
   cols : Columns (Put w (OldestLive t) value) v.part after.part
   cols = let e = Put w (OldestLive t) value in
       subst (λ (u : View). Columns e v.part u.part) (sym d.view)
-      (columns e v.part (reading_at (place_of e) n) (told_by false (with_reading q v.hands)) tt)
+      (columns e v.part (reading_at (place_of e) n) (told_by None (with_reading q v.hands)) tt)
 
   pub holder_put : (k : ℕ) → IsHolder k v → IsHolder k after
   holder_put k H = record {

@@ -1,5 +1,5 @@
 -- What steps on the words of a table, and looks at the log key, leave of its Flush turn's holder.
-use Rattle.std.proofs.Common.{◌≡◌, ℕ, ◌<◌, Bool, false, Option, is_some, refl, sym, ap, ◌∙◌, subst}
+use Rattle.std.proofs.Common.{◌≡◌, ℕ, ◌<◌, Bool, Option, is_some, refl, sym, ap, ◌∙◌, subst, None}
 use Rattle.path_core.specs.declared.event.Cursor.TheVariants.{Synced, OldestLive, Stopped}
 use Rattle.path_core.specs.declared.event.Event.{Event}
 use Rattle.path_core.specs.declared.event.Event.TheVariants.{
@@ -144,7 +144,7 @@ holder_still t e v after P C size H = record {
 abbrev pub on_table : (w t : ℕ) (e : Event) (n : ℕ) (v after : View) → IsTableStep e
     → IsFlushStep w e → Did v w e n after → TableSteps w t v after
 on_table w t e n v after kind is d = let P = is_small e kind in
-    let told = told_by false v.hands in record {
+    let told = told_by None v.hands in record {
       made = one w e n v.hands v after is (record { view = d.view; was = d.was });
       sync = ap (λ (u : View). u.part.sync) d.view ∙ P.sync v.part n told;
       hands = ap (λ (u : View). u.hands) d.view;

@@ -4,7 +4,6 @@ use Rattle.std.proofs.Common.{
   ℕ,
   ◌+◌,
   ◌≤◌,
-  false,
   List,
   [],
   ◌∷◌,
@@ -16,6 +15,7 @@ use Rattle.std.proofs.Common.{
   ◌∙◌,
   ⊎_elim,
   arith,
+  None,
 }
 use Rattle.std.proofs.lemmas.List.{append_assoc, length-append}
 use Rattle.atomic_table.specs.Seated.{TableId}
@@ -51,7 +51,7 @@ both a b c G H = record {
 pub one_step : (v : View) (w : ℕ) (e : Event) (n : ℕ) (after : View) → Did v w e n after
     → HasGrown v.trail after.trail
 one_step v w e n after D = record {
-  newer = record { event = e; found = n; filed = false } ∷ [];
+  newer = record { event = e; found = n; filed = None } ∷ [];
   is = ap (λ (u : View). u.trail) D.view;
 }
 
@@ -61,7 +61,7 @@ no_shorter a b G = let long = ap (λ (l : List OwnStep). length l) G.is in
     let sum = length-append G.newer a in omega arith
 
 abbrev step : Event → ℕ → OwnStep
-step e n = record { event = e; found = n; filed = false }
+step e n = record { event = e; found = n; filed = None }
 
 -- a write that ends, by its looks and its last step
 pub ended : {K : Type 0} (s : Deposited K) (after : Member K) → EndsWrite s after

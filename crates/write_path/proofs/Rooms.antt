@@ -3,7 +3,6 @@ use Rattle.std.proofs.Common.{
   ◌≡◌,
   ℕ,
   ◌≤◌,
-  false,
   List,
   [],
   ◌∷◌,
@@ -60,7 +59,7 @@ room_behind size bytes since key w g n o v after D R =
       looked = inr R.looked;
     })
   where
-    by_order : (o : Order) → (view_after v (Close w o g Nothing) n false).part.found.log ≡ Some key
+    by_order : (o : Order) → (view_after v (Close w o g Nothing) n).part.found.log ≡ Some key
     by_order Write = R.found
     by_order Append = R.found
 

@@ -1,5 +1,5 @@
 -- What a try to claim answers.
-use Rattle.std.specs.Prelude.{◌≡◌, ◌≢◌, ℕ, ◌<◌, ◌≤◌, false}
+use Rattle.std.specs.Prelude.{◌≡◌, ◌≢◌, ℕ, ◌<◌, ◌≤◌}
 use Rattle.path_core.specs.declared.event.ClaimKind.TheVariants.{Entry}
 use Rattle.path_core.specs.declared.event.Event.TheVariants.{Look, Claim}
 use Rattle.path_core.specs.declared.event.Place.TheVariants.{Log}
@@ -24,7 +24,7 @@ MatchClaim (Spent a key) P Q R = R a key
 -- Seat w looked at the log key, and moved the log from there to another.
 pub record IsClaim (v : View) (w to : ℕ) (after : View) : Type 0 where
   pub looked : ℕ
-  pub did : Did (view_after v (Look w Log) looked false) w
+  pub did : Did (view_after v (Look w Log) looked) w
       (Claim w (record { 0 = looked }) (record { 0 = to }) Entry) to after
 
 -- Seat w only looked: it found the log key, at which an entry of so many bytes has a segment, and
@@ -33,9 +33,9 @@ pub record IsAgain (size : PathSize) (v : View) (w bytes looked found : ℕ) (af
     Type 0 where
   pub room : ordinal_of (entry_end size.capacity looked bytes) < size.ordinals
   pub moved : found ≢ looked
-  pub view : after ≡ view_after (view_after v (Look w Log) looked false) (Look w Log) found false
+  pub view : after ≡ view_after (view_after v (Look w Log) looked) (Look w Log) found
 
 -- Seat w only looked: at the key that it found, an entry of so many bytes has no segment.
 pub record IsSpent (size : PathSize) (v : View) (w bytes key : ℕ) (after : View) : Type 0 where
   pub none : size.ordinals ≤ ordinal_of (entry_end size.capacity key bytes)
-  pub view : after ≡ view_after v (Look w Log) key false
+  pub view : after ≡ view_after v (Look w Log) key

@@ -1,5 +1,5 @@
 -- The steps of a flush, and what its seat makes by them.
-use Rattle.std.specs.Prelude.{◌≡◌, ◌⊎◌, ℕ, suc, List, [], ◌∷◌, ◌++◌, Bool, false}
+use Rattle.std.specs.Prelude.{◌≡◌, ◌⊎◌, ℕ, suc, List, [], ◌∷◌, ◌++◌, None, Option}
 use Rattle.path_core.specs.declared.event.ClaimKind.TheVariants.{Entry}
 use Rattle.path_core.specs.declared.event.Cursor.TheVariants.{OldestLive}
 use Rattle.path_core.specs.declared.event.Event.{Event}
@@ -72,8 +72,8 @@ pub record QuietSteps (w : ℕ) (v after : View) : Type 0 where
 
 -- ---- a memtable is retired
 
--- the step by which seat w retires it, with a table file or without
-abbrev pub retiring : ℕ → ℕ → ℕ → Bool → OwnStep
+-- the step by which seat w retires it, with a table file that begins above a key or without one
+abbrev pub retiring : ℕ → ℕ → ℕ → Option ℕ → OwnStep
 retiring w t m filed = record {
   event = Put w (OldestLive (record { 0 = t })) (suc m);
   found = suc m;
@@ -81,7 +81,7 @@ retiring w t m filed = record {
 }
 
 -- Behind one view seat w read the memtable, in the boxes of all seats, and retired it.
-pub record Retires (w t m : ℕ) (filed : Bool) (v after : View) : Type 0 where
+pub record Retires (w t m : ℕ) (filed : Option ℕ) (v after : View) : Type 0 where
   -- what it knew before it did so
   pub before : View
   pub since : HasGrown v.trail before.trail
@@ -91,4 +91,4 @@ pub record Retires (w t m : ℕ) (filed : Bool) (v after : View) : Type 0 where
 
 -- It saw nothing in it, and gave no table file.
 abbrev pub RetiresEmpty : ℕ → ℕ → ℕ → View → View → Type 0
-RetiresEmpty w t m v after = (r : Retires w t m false v after) × (r.read.seen ≡ [])
+RetiresEmpty w t m v after = (r : Retires w t m None v after) × (r.read.seen ≡ [])

@@ -1,5 +1,5 @@
 -- Worked rows of sealed writes: short trails, the newest step first.
-use Rattle.std.specs.Prelude.{ℕ, false, List, [], ◌∷◌}
+use Rattle.std.specs.Prelude.{ℕ, List, [], ◌∷◌, None}
 use Rattle.op_core.specs.declared.count.Order.TheVariants.{Append}
 use Rattle.path_core.specs.declared.event.Carried.TheVariants.{Deposit}
 use Rattle.path_core.specs.declared.event.ClaimKind.TheVariants.{Entry}
@@ -11,7 +11,7 @@ use Rattle.path_core.specs.declared.note.EntryNote.{EntryNote}
 use Rattle.path_rule.specs.declared.view.OwnStep.{OwnStep}
 
 abbrev pub step_of : Event → ℕ → OwnStep
-step_of e found = record { event = e; found = found; filed = false }
+step_of e found = record { event = e; found = found; filed = None }
 
 -- seat 0 logged a write
 abbrev pub logged : EntryNote → OwnStep

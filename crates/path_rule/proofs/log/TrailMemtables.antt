@@ -14,6 +14,10 @@ use Rattle.std.proofs.Common.{
   false,
   not,
   List,
+  Option,
+  Some,
+  None,
+  is_some,
   [],
   ◌∷◌,
   sym,
@@ -54,13 +58,13 @@ use Rattle.path_core.specs.declared.state.TableState.{TableState}
 use Rattle.path_core.specs.declared.state.WrittenFile.{WrittenFile}
 use Rattle.path_core.specs.Allowed.{IsStep}
 use Rattle.path_core.specs.Lawful.{IsLawfulPath, IsLawfulPlacing}
-use Rattle.path_core.specs.LawfulTables.{HasFile}
 use Rattle.path_core.specs.Next.{gives_file, next_of, with_bound, with_memtable}
 use Rattle.path_core.specs.Parts.{
   fresh_memtable,
   fresh_table,
   is_empty,
   key_of_bound,
+  last_upper,
   memtable_at,
   memtable_of,
   table_of,
@@ -68,24 +72,33 @@ use Rattle.path_core.specs.Parts.{
 use Rattle.path_core.specs.SeatParts.{made_final}
 use Rattle.path_core.specs.Words.{reading}
 use Rattle.path_core.proofs.files.KeepsLast.{new_is_retired}
-use Rattle.path_core.proofs.files.LastFile.{before_stays, final_stays, oldest_grows}
-use Rattle.path_core.proofs.files.RetiredStay.{file_stays, not_empty, placed_before}
+use Rattle.path_core.proofs.files.LastFile.{final_stays, oldest_grows}
+use Rattle.path_core.proofs.files.RetiredStay.{not_empty, placed_before}
 use Rattle.path_core.proofs.files.Retires.{files_retired, next_file}
+use Rattle.path_core.proofs.log.LoggedStay.{files_stay}
 use Rattle.path_core.proofs.runs.EveryRun.{placing_of}
 use Rattle.path_rule.specs.declared.view.OwnStep.{OwnStep}
 use Rattle.path_rule.specs.Finds.{Finds, FindsBy}
 use Rattle.path_rule.specs.FindsBounds.{FindsFinalBy, Retires, RetiresBy}
 use Rattle.path_rule.specs.Layout.{bound_word, word_at, word_of}
-use Rattle.path_rule.specs.Trails.{HoldsNothing}
+use Rattle.path_rule.specs.Trails.{HasFileFrom, HoldsSome}
+use Rattle.path_rule.proofs.log.RestsEmpty.{holds_some, rests_empty, retired_passed}
+use Rattle.path_rule.proofs.moves.LeavesWrites.{placed_stays}
 use Rattle.path_rule.proofs.places.ReadBack.{log_small}
 
+-- A seat gave a table file of a table's least memtable exactly where that is not empty, and the
+-- file begins where the table's last file ends.
+abbrev pub GaveTrue : PathState → Event → ℕ → Option ℕ → Type 0
+GaveTrue x e t filed = (is_some filed ≡ gives_file x e)
+    × ((lower : ℕ) → filed ≡ Some lower → lower ≡ last_upper x.files t)
+
 -- What a seat was told at a step is so: at a look, and where it makes a memtable final, what stood
--- there; where it retires one, whether that gives a table file.
-abbrev pub ToldTrue : PathState → Event → ℕ → Bool → Type 0
+-- there; where it retires one, whether that gives a table file, and above which key that begins.
+abbrev pub ToldTrue : PathState → Event → ℕ → Option ℕ → Type 0
 ToldTrue x (Look by at) found filed = found ≡ word_of (reading x at)
 ToldTrue x (Finalise by t m) found filed = found ≡ bound_word (memtable_of x t.0 m).bound
 ToldTrue x (Put by (OldestLive t) value) found filed =
-    filed ≡ gives_file x (Put by (OldestLive t) value)
+    GaveTrue x (Put by (OldestLive t) value) t.0 filed
 ToldTrue x _ found filed = Unit {0}
 
 -- A word of a final bound stands for that one alone, among bounds below the marks.
@@ -98,16 +111,16 @@ final_is (Final k) key small e = let is : k.0 + 2 ^ 63 ≡ key + 2 ^ 63 = e in
     ap (λ (n : ℕ). Final (record { 0 = n })) (omega arith)
 
 -- a memtable that the seat retired is one that it put the next one behind
-pub finds_next : (t : Table) (m : ℕ) (filed : Bool) (ts : List OwnStep) → Retires t m filed ts
+pub finds_next : (t : Table) (m : ℕ) (gave : Option ℕ) (ts : List OwnStep) → Retires t m gave ts
     → Finds (CursorWord (OldestLive t)) (suc m) ts
-finds_next t m filed [] R = absurd R
-finds_next t m filed (s ∷ ss) R = ⊎_elim (λ now. inl (by s.event s.found s.filed now))
-    (λ old. inr (finds_next t m filed ss old)) R
+finds_next t m gave [] R = absurd R
+finds_next t m gave (s ∷ ss) R = ⊎_elim (λ now. inl (by s.event s.found s.filed now))
+    (λ old. inr (finds_next t m gave ss old)) R
   where
-    by : (e : Event) (found : ℕ) (gave : Bool) → RetiresBy t m filed e gave
+    by : (e : Event) (found : ℕ) (filed : Option ℕ) → RetiresBy t m gave e filed
         → FindsBy (CursorWord (OldestLive t)) (suc m) e found
-    by (Put w cursor value) found gave F = (ap (λ (c : Cursor). CursorWord c) F.0, F.1)
-    by e found gave F = absurd F
+    by (Put w cursor value) found filed F = (ap (λ (c : Cursor). CursorWord c) F.0, F.1)
+    by e found filed F = absurd F
 
 -- the word of the least memtable that is not retired tells its table
 same_table : (u t : Table) → CursorWord (OldestLive u) ≡ CursorWord (OldestLive t) → u.0 ≡ t.0
@@ -132,14 +145,29 @@ module _ (x : PathState) (L : IsLawfulPath x) where
         → n ≤ (table_of (next_of x e) t).oldest_live
     retired_still t n low = let up = oldest_grows x Z e a t in omega arith
 
-    pub filed_still : (t m : ℕ) → suc m ≤ (table_of x t).oldest_live → HasFile x t m
-        → HasFile (next_of x e) t m
-    filed_still t m low H = file_stays x Z e a t m (omega arith) H
+    pub filed_still : (t m from : ℕ) → HasFileFrom x t m from → HasFileFrom (next_of x e) t m from
+    filed_still t m from H = record {
+      file = H.file;
+      among = files_stay x e H.file H.among;
+      table = H.table;
+      memtable = H.memtable;
+      lower = H.lower;
+      upper = final_stays x Z e a t m _ H.upper;
+    }
 
-    pub emptied_still : (t m : ℕ) → suc m ≤ (table_of x t).oldest_live → HoldsNothing x t m
-        → HoldsNothing (next_of x e) t m
-    emptied_still t m low none entry h = none entry
-        (placed_before x Z e t m entry (omega arith) h)
+    pub filled_still : (t m : ℕ) → HoldsSome x t m → HoldsSome (next_of x e) t m
+    filled_still t m H = record {
+      entry = H.entry;
+      placed = placed_stays x e (record { table = t; entry = H.entry; memtable = m }) H.placed;
+    }
+
+    -- a memtable that is retired stays empty, since nothing is placed in it any more
+    pub emptied_still : IsLawfulPath (next_of x e) → (t m : ℕ)
+        → suc m ≤ (table_of x t).oldest_live → is_empty x t m ≡ true
+        → is_empty (next_of x e) t m ≡ true
+    emptied_still N t m low empty = let still = retired_still t (suc m) low in
+        rests_empty (next_of x e) N t m (retired_passed (next_of x e) N t m (omega arith))
+        (λ entry h. not_empty x Z t m entry (placed_before x Z e t m entry (omega arith) h) empty)
 
   -- ---- what a step tells
 
@@ -157,7 +185,7 @@ module _ (x : PathState) (L : IsLawfulPath x) where
       ∙ ap (λ (mt : Memtable). mt.bound) (get_or-set_same (table_of x u.0).memtables k
       (with_bound made_final (memtable_of x u.0 k)) fresh_memtable a.is_there.1)
 
-  module _ (found : ℕ) (filed : Bool) where
+  module _ (found : ℕ) (filed : Option ℕ) where
     pub new_final : (e : Event) → IsStep x e → ToldTrue x e found filed → (t m key : ℕ)
         → FindsFinalBy t m key e found
         → (memtable_of (next_of x e) t m).bound ≡ Final (record { 0 = key })
@@ -206,9 +234,9 @@ module _ (x : PathState) (L : IsLawfulPath x) where
     was_least by u value a m is = let up = a.row.1 in omega arith
 
     pub new_filed : (e : Event) → IsStep x e → ToldTrue x e found filed → (t : Table) (m : ℕ)
-        → RetiresBy t m true e filed → HasFile (next_of x e) t.0 m
-    new_filed (Put by (OldestLive u) value) a told t m F = subst
-        (λ (y : ℕ × ℕ). HasFile (next_of x (Put by (OldestLive u) value)) y.0 y.1)
+        (lower : ℕ) → RetiresBy t m (Some lower) e filed → HasFileFrom (next_of x e) t.0 m lower
+    new_filed (Put by (OldestLive u) value) a told t m lower F = subst
+        (λ (y : ℕ × ℕ). HasFileFrom (next_of x (Put by (OldestLive u) value)) y.0 y.1 lower)
         (λ i. (
           same_table u t (ap (λ (c : Cursor). CursorWord c) F.0) i,
           was_least by u value a m F.1 i,
@@ -216,34 +244,57 @@ module _ (x : PathState) (L : IsLawfulPath x) where
           file = next_file x u.0;
           among = files_retired x by u value (λ (fs : List WrittenFile).
               Contains fs (next_file x u.0))
-              (λ empty. absurd (false≢true (sym (ap not empty) ∙ (sym told ∙ F.2))))
+              (λ empty. absurd (false≢true (sym (ap not empty) ∙ (sym told.0 ∙ ap is_some F.2))))
               (λ _. Contains-push x.files (next_file x u.0));
           table = refl;
           memtable = refl;
-          lower = subst (λ k. (next_file x u.0).lower ≤ k)
-              (sym (before_stays x Z (Put by (OldestLive u) value) a u.0
-              (table_of x u.0).oldest_live (omega arith)))
-              (L.last_file_is_retired.below u.0 a.is_there);
+          lower = sym (told.1 lower F.2);
           upper = (new_is_retired x Z L.last_file_is_retired by u value a).upper;
         })
-    new_filed (Put by Synced value) a told t m F = absurd (let q = F.0 in cc)
-    new_filed (Put by Stopped value) a told t m F = absurd (let q = F.0 in cc)
-    new_filed e a told t m F = absurd F
+    new_filed (Put by Synced value) a told t m lower F = absurd (let q = F.0 in cc)
+    new_filed (Put by Stopped value) a told t m lower F = absurd (let q = F.0 in cc)
+    new_filed e a told t m lower F = absurd F
 
-    pub new_emptied : (e : Event) → IsStep x e → ToldTrue x e found filed → (t : Table) (m : ℕ)
-        → RetiresBy t m false e filed → HoldsNothing (next_of x e) t.0 m
-    new_emptied (Put by (OldestLive u) value) a told t m F = subst
-        (λ (y : ℕ × ℕ). HoldsNothing x y.0 y.1)
+    pub new_filled : (e : Event) → IsStep x e → ToldTrue x e found filed → (t : Table) (m : ℕ)
+        (lower : ℕ) → RetiresBy t m (Some lower) e filed → HoldsSome (next_of x e) t.0 m
+    new_filled (Put by (OldestLive u) value) a told t m lower F = subst
+        (λ (y : ℕ × ℕ). HoldsSome (next_of x (Put by (OldestLive u) value)) y.0 y.1)
+        (λ i. (
+          same_table u t (ap (λ (c : Cursor). CursorWord c) F.0) i,
+          was_least by u value a m F.1 i,
+        ))
+        (let some_there = holds_some x L u.0 (table_of x u.0).oldest_live a.row.2
+        (is_false (is_empty x u.0 (table_of x u.0).oldest_live) (sym told.0 ∙ ap is_some F.2)) in
+        record { entry = some_there.entry; placed = some_there.placed })
+      where
+        is_false : (b : Bool) → not b ≡ true → b ≡ false
+        is_false true e = absurd (false≢true e)
+        is_false false e = refl
+    new_filled (Put by Synced value) a told t m lower F = absurd (let q = F.0 in cc)
+    new_filled (Put by Stopped value) a told t m lower F = absurd (let q = F.0 in cc)
+    new_filled e a told t m lower F = absurd F
+
+    pub new_emptied : (e : Event) → IsStep x e → IsLawfulPath (next_of x e)
+        → ToldTrue x e found filed → (t : Table) (m : ℕ) → RetiresBy t m None e filed
+        → is_empty (next_of x e) t.0 m ≡ true
+    new_emptied (Put by (OldestLive u) value) a N told t m F =
+        let y = next_of x (Put by (OldestLive u) value) in
+        let up : suc m ≤ (table_of y t.0).oldest_live =
+        new_retired (Put by (OldestLive u) value) a told t (suc m)
+        (ap (λ (c : Cursor). CursorWord c) F.0, F.1) in
+        rests_empty y N t.0 m (retired_passed y N t.0 m (omega arith))
+        (subst (λ (q : ℕ × ℕ). (entry : ℕ)
+        → Contains x.placed (record { table = q.0; entry = entry; memtable = q.1 }) → ⊥)
         (λ i. (
           same_table u t (ap (λ (c : Cursor). CursorWord c) F.0) i,
           was_least by u value a m F.1 i,
         ))
         (λ entry h. not_empty x Z u.0 (table_of x u.0).oldest_live entry h
-        (is_true (is_empty x u.0 (table_of x u.0).oldest_live) (sym told ∙ F.2)))
+        (is_true (is_empty x u.0 (table_of x u.0).oldest_live) (sym told.0 ∙ ap is_some F.2))))
       where
         is_true : (b : Bool) → not b ≡ false → b ≡ true
         is_true true e = refl
         is_true false e = absurd (false≢true (sym e))
-    new_emptied (Put by Synced value) a told t m F = absurd (let q = F.0 in cc)
-    new_emptied (Put by Stopped value) a told t m F = absurd (let q = F.0 in cc)
-    new_emptied e a told t m F = absurd F
+    new_emptied (Put by Synced value) a N told t m F = absurd (let q = F.0 in cc)
+    new_emptied (Put by Stopped value) a N told t m F = absurd (let q = F.0 in cc)
+    new_emptied e a N told t m F = absurd F

@@ -5,9 +5,8 @@ use Rattle.std.proofs.Common.{
   suc,
   ◌<◌,
   ◌≤◌,
-  Bool,
-  true,
-  false,
+  Option,
+  None,
   List,
   [],
   ◌∷◌,
@@ -73,10 +72,12 @@ use Rattle.path_rule.proofs.log.TrailMemtables.{
   ToldTrue,
   emptied_still,
   filed_still,
+  filled_still,
   final_still,
   finds_next,
   new_emptied,
   new_filed,
+  new_filled,
   new_final,
   new_retired,
   retired_still,
@@ -92,7 +93,8 @@ nothing_tells capacity x = record {
   past = tt;
   final = λ t m key F. absurd F;
   retired = λ t n F. absurd F;
-  filed = λ t m F. absurd F;
+  filed = λ t m lower F. absurd F;
+  filled = λ t m lower F. absurd F;
   emptied = λ t m F. absurd F;
 }
 
@@ -143,9 +145,9 @@ module _ (capacity : ℕ) (x : PathState) (L : IsLawfulPath x) (fits : x.capacit
   stays_stopped (Put by (OldestLive t) value) a n above is = is
   stays_stopped e a n above is = is
 
-  pub tells_still : (ts : List OwnStep) → TrailTells capacity x ts
+  pub tells_still : IsLawfulPath (next_of x e) → (ts : List OwnStep) → TrailTells capacity x ts
       → TrailTells capacity (next_of x e) ts
-  tells_still ts T = record {
+  tells_still N ts T = record {
     synced = λ key F. mark_stays x e a key (T.synced key F);
     come = λ key F. let low = T.come key F in
         let up = log_grows x L.sized L.claims_tile_the_log e a in omega arith;
@@ -155,16 +157,17 @@ module _ (capacity : ℕ) (x : PathState) (L : IsLawfulPath x) (fits : x.capacit
     past = T.past;
     final = λ t m key F. final_still x L e a t m key (T.final t m key F);
     retired = λ t n F. retired_still x L e a t.0 n (T.retired t n F);
-    filed = λ t m F. filed_still x L e a t.0 m (T.retired t (suc m) (finds_next t m true ts F))
-        (T.filed t m F);
-    emptied = λ t m F. emptied_still x L e a t.0 m
-        (T.retired t (suc m) (finds_next t m false ts F)) (T.emptied t m F);
+    filed = λ t m lower F. filed_still x L e a t.0 m lower (T.filed t m lower F);
+    filled = λ t m lower F. filled_still x L e a t.0 m (T.filled t m lower F);
+    emptied = λ t m F. emptied_still x L e a N t.0 m
+        (T.retired t (suc m) (finds_next t m None ts F)) (T.emptied t m F);
   }
 
-  pub view_still : (v : View) → ViewTells capacity x v → ViewTells capacity (next_of x e) v
-  view_still v V = record {
-    own = tells_still v.trail V.own;
-    returned = λ n b h. tells_still b.trail (V.returned n b h);
+  pub view_still : IsLawfulPath (next_of x e) → (v : View) → ViewTells capacity x v
+      → ViewTells capacity (next_of x e) v
+  view_still N v V = record {
+    own = tells_still N v.trail V.own;
+    returned = λ n b h. tells_still N b.trail (V.returned n b h);
     free = V.free;
   }
 
@@ -279,10 +282,10 @@ module _ (capacity : ℕ) (x : PathState) (L : IsLawfulPath x) (fits : x.capacit
     new_past (Claim by from to Marker) a ts T = tt
     new_past e a ts T = tt
 
-    pub tells_more : (filed : Bool) → ToldTrue x e found filed → (ts : List OwnStep)
+    pub tells_more : (filed : Option ℕ) → ToldTrue x e found filed → (ts : List OwnStep)
         → TrailTells capacity x ts → TrailTells capacity (next_of x e)
         (record { event = e; found = found; filed = filed } ∷ ts)
-    tells_more filed true_told ts T = let S = tells_still ts T in record {
+    tells_more filed true_told ts T = let S = tells_still N ts T in record {
       synced = λ key F. ⊎_elim (λ now. new_synced e a N same key now) (λ old. S.synced key old) F;
       come = λ key F. ⊎_elim (λ now. new_come e same key now) (λ old. S.come key old) F;
       stopped = λ n F above. ⊎_elim (λ now. new_stopped e same n now)
@@ -294,8 +297,12 @@ module _ (capacity : ℕ) (x : PathState) (L : IsLawfulPath x) (fits : x.capacit
           (λ old. S.final t m key old) F;
       retired = λ t n F. ⊎_elim (λ now. new_retired x L found filed e a true_told t n now)
           (λ old. S.retired t n old) F;
-      filed = λ t m F. ⊎_elim (λ now. new_filed x L found filed e a true_told t m now)
-          (λ old. S.filed t m old) F;
-      emptied = λ t m F. ⊎_elim (λ now. new_emptied x L found filed e a true_told t m now)
+      filed = λ t m lower F. ⊎_elim
+          (λ now. new_filed x L found filed e a true_told t m lower now)
+          (λ old. S.filed t m lower old) F;
+      filled = λ t m lower F. ⊎_elim
+          (λ now. new_filled x L found filed e a true_told t m lower now)
+          (λ old. S.filled t m lower old) F;
+      emptied = λ t m F. ⊎_elim (λ now. new_emptied x L found filed e a N true_told t m now)
           (λ old. S.emptied t m old) F;
     }

@@ -10,7 +10,6 @@ use Rattle.std.proofs.Common.{
   ◌^◌,
   ◌<◌,
   ◌≤◌,
-  false,
   length,
   Option,
   Some,
@@ -80,7 +79,7 @@ module _ {K : Type 0} (shows : K → Lasting) (o : Beside) (size : PathSize) (sl
   expires g c doing saw up empty fits s r _ there low = let n = slice_index s.words (73 + 2 * g) in
       let x = r.core in let k = tally_of x Append g in
       let found : n ≡ tally_word k = r.words (Count Append g) fits in
-      let e = Expire w Append g in let v' = view_after m.0 e n false in
+      let e = Expire w Append g in let v' = view_after m.0 e n in
       let law = core_lawful shows o size s r in
       let t = at_issue m.0.part (Moved Append) (λ q. cc) doing in
       let held = is_held m.0.part.sync t.0 t.1 in
@@ -108,7 +107,7 @@ module _ {K : Type 0} (shows : K → Lasting) (o : Beside) (size : PathSize) (sl
         keeps,
         tt,
         plays shows o size s r id w m.0 there mine e refl may tt tt fits rows
-            ((n + 2 ^ 63) % 2 ^ 64) n false m.0.hands told refl tt m.1 keeps
+            ((n + 2 ^ 63) % 2 ^ 64) n None m.0.hands told refl tt m.1 keeps
             (boxed_goes shows size.seats x.notes (shown o size.at_open r.kept_to r.filed r.dropped x) x.claims
             x.claims
             x.append
@@ -152,7 +151,7 @@ module _ {K : Type 0} (shows : K → Lasting) (o : Beside) (size : PathSize) (sl
       → Allows (Ruled shows o size) slots id m 3 (λ _. g)
       (λ _. AppendAdvanced (step slots 3 g 0 none) m g)
   advances g d c t sync saw old gone up le empty s r _ there _ = let x = r.core in
-      let e = Advance w Append g in let v' = view_after m.0 e g false in
+      let e = Advance w Append g in let v' = view_after m.0 e g in
       let law = core_lawful shows o size s r in let held = is_held m.0.part.sync t sync in
       let X = exact shows o size slots id m w mine s r there held t sync in
       let now = X.current c saw in
@@ -175,7 +174,7 @@ module _ {K : Type 0} (shows : K → Lasting) (o : Beside) (size : PathSize) (sl
         keeps,
         tt,
         plays shows o size s r id w m.0 there mine e refl may tt tt tt
-            (rows_stay x e may (λ q. q) r.rows) g g false m.0.hands refl refl tt m.1 keeps
+            (rows_stay x e may (λ q. q) r.rows) g g None m.0.hands refl refl tt m.1 keeps
             (boxed_goes shows size.seats x.notes (shown o size.at_open r.kept_to r.filed r.dropped x) x.claims
             x.claims
             x.append

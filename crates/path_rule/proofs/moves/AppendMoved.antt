@@ -134,7 +134,7 @@ module _ {K : Type 0} (shows : K → Lasting) (o : Beside) (size : PathSize) (sl
   moves g c start waits doing saw up all empty s r _ there _ = let x = r.core in
       let e = MoveCurrent w Append g in
       let h = with_desk m.0.hands.lasting m.0.hands.pending
-      (barred c m.0.hands.progress) m.0.hands in let v' = view_after (with_hands h m.0) e c false in
+      (barred c m.0.hands.progress) m.0.hands in let v' = view_after (with_hands h m.0) e c in
       let law = core_lawful shows o size s r in
       let t = at_issue m.0.part (Opened Append) (λ q. cc) doing in
       let held = is_held m.0.part.sync t.0 t.1 in
@@ -166,8 +166,8 @@ module _ {K : Type 0} (shows : K → Lasting) (o : Beside) (size : PathSize) (sl
         keeps,
         tt,
         plays shows o size s r id w m.0 there mine e refl may tt tt tt
-            (rows_stay x e may (λ q. q) r.rows) g c false h refl
-            (ap (λ k. seat_after m.0.part e (Number k) (told_by false h)) now) tt m.1 keeps
+            (rows_stay x e may (λ q. q) r.rows) g c None h refl
+            (ap (λ k. seat_after m.0.part e (Number k) (told_by None h)) now) tt m.1 keeps
             (boxed_goes shows size.seats x.notes (shown o size.at_open r.kept_to r.filed r.dropped x) x.claims
             (next_of
             x e).claims

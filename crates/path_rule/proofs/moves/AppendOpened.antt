@@ -7,7 +7,6 @@ use Rattle.std.proofs.Common.{
   ◌*◌,
   ◌<◌,
   ◌≤◌,
-  false,
   [],
   ◌∷◌,
   length,
@@ -60,7 +59,7 @@ module _ {K : Type 0} (shows : K → Lasting) (o : Beside) (size : PathSize) (sl
       → Allows (Ruled shows o size) slots id m (73 + 2 * g) (λ _. 0)
       (λ _. AppendOpened (step slots (73 + 2 * g) 0 0 none) m 0)
   opens_append g c start waits held calm saw up empty runs fits s r _ there _ = let x = r.core in
-      let e = OpenGroup w Append g in let v' = view_after m.0 e 0 false in
+      let e = OpenGroup w Append g in let v' = view_after m.0 e 0 in
       let law = core_lawful shows o size s r in
       let now = now_is shows o size slots id m w mine s r there held Append c saw in
       let t = at_rest m.0.part held calm in
@@ -89,7 +88,7 @@ module _ {K : Type 0} (shows : K → Lasting) (o : Beside) (size : PathSize) (sl
         tt,
         plays shows o size s r id w m.0 there mine e refl may tt (wants, running)
             fits
-            (rows s r g (let q = up ∙ ap suc now in omega arith)) 0 0 false m.0.hands told refl tt
+            (rows s r g (let q = up ∙ ap suc now in omega arith)) 0 0 None m.0.hands told refl tt
             m.1 keeps
             (unseen shows o size slots id m w mine s r there held
             (next_of x e).append v' refl refl refl out

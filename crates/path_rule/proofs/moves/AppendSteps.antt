@@ -11,7 +11,6 @@ use Rattle.std.proofs.Common.{
   ◌<◌,
   ◌≤◌,
   eqb,
-  false,
   List,
   ◌∷◌,
   set,
@@ -141,7 +140,7 @@ module _ {K : Type 0} (shows : K → Lasting) (o : Beside) (size : PathSize) (sl
       let is = as_part shows o size slots id m w mine s r there in
       let more = more_word c (omega arith) in let box = box_of w g in
       let ns = r.boxed.contents box in let h = with_notes ns m.0.hands in
-      let v' = view_after (with_hands h m.0) e (k + 1) false in
+      let v' = view_after (with_hands h m.0) e (k + 1) in
       let made = below shows o size slots id m w mine s r there (Count Append g) (inl saw) in
       let under = (known_groups x (core_lawful shows o size s r) Append w).current g
       (own_part shows o size slots id m w mine s r there (λ (p : SeatOf).
@@ -174,12 +173,12 @@ module _ {K : Type 0} (shows : K → Lasting) (o : Beside) (size : PathSize) (sl
       (shown o size.at_open r.kept_to r.filed r.dropped x)
       x.claims x.append s.homes s.views r.boxed box in omega arith) in
       let C = columns_now shows o size s r id w m.0 there mine e refl may tt tt fits rows (k + 1)
-      (k + 1) false h now refl in (
+      (k + 1) None h now refl in (
         v',
         takes box home.0,
         home.1,
         plays shows o size s r id w m.0 there mine e refl may tt tt fits rows (k + 1)
-            (k + 1) false h now refl tt m.1 (takes box home.0)
+            (k + 1) None h now refl tt m.1 (takes box home.0)
             (boxed_take shows size.seats x.notes (shown o size.at_open r.kept_to r.filed r.dropped x) x.claims
             x.claims
             x.append
@@ -199,7 +198,7 @@ module _ {K : Type 0} (shows : K → Lasting) (o : Beside) (size : PathSize) (sl
             ) z q role
             word),
       ))
-      (λ miss. let v' = view_after m.0 (Look w (Count Append g)) n false in
+      (λ miss. let v' = view_after m.0 (Look w (Count Append g)) n in
       look_owes shows o size slots id m w mine s r there (Count Append g) fits (inl saw) then
       (λ made _ z h role _ word.
       each_name shows o size slots id m w mine 73 g (λ z q. (n ≡ k → ((notes : List EntryNote)
@@ -219,7 +218,7 @@ module _ {K : Type 0} (shows : K → Lasting) (o : Beside) (size : PathSize) (sl
       let here = own_part shows o size slots id m w mine s r there (λ (p : SeatOf). p.append)
       (Some g) append in
       let made = group_made x (core_lawful shows o size s r) Append w g here in
-      let v' = view_after m.0 e n false in
+      let v' = view_after m.0 e n in
       let may : IsStep x e = record {
         seat = within shows o size slots id m w mine s r there;
         is_there = made;
@@ -234,12 +233,12 @@ module _ {K : Type 0} (shows : K → Lasting) (o : Beside) (size : PathSize) (sl
       (subst (λ z. z < 2 ^ 64) found low) in
       let rows = rows_stay x e may (λ q. q) r.rows in
       let C = columns_now shows o size s r id w m.0 there mine e refl may tt tt fits rows
-      ((n + (2 ^ 64 - 1)) % 2 ^ 64) n false m.0.hands now refl in (
+      ((n + (2 ^ 64 - 1)) % 2 ^ 64) n None m.0.hands now refl in (
         v',
         gives,
         tt,
         plays shows o size s r id w m.0 there mine e refl may tt tt fits rows
-            ((n + (2 ^ 64 - 1)) % 2 ^ 64) n false m.0.hands now refl tt m.1 gives
+            ((n + (2 ^ 64 - 1)) % 2 ^ 64) n None m.0.hands now refl tt m.1 gives
             (subst (λ l. Boxed shows size.seats x.notes (shown o size.at_open r.kept_to r.filed r.dropped x) x.claims
             (next_of x
             e).append

@@ -11,7 +11,6 @@ use Rattle.std.proofs.Common.{
   ◌≤◌,
   max,
   length,
-  false,
   Option,
   Some,
   None,
@@ -111,7 +110,7 @@ module _ {K : Type 0} (shows : K → Lasting) (o : Beside) (size : PathSize) (sl
       let L = core_lawful shows o size s r in let R = now s r there in
       let b = (memtable_of x t.0 f).bound in
       let found : n ≡ bound_word b = r.words (Bound t f) (few, small) in
-      let e = Raise w t f (record { 0 = to }) in let v' = view_after m.0 e n false in
+      let e = Raise w t f (record { 0 = to }) in let v' = view_after m.0 e n in
       let low = log_small x L in let below = R.low in
       let may : IsStep x e = record {
         seat = within shows o size slots id m w mine s r there;
@@ -121,7 +120,7 @@ module _ {K : Type 0} (shows : K → Lasting) (o : Beside) (size : PathSize) (sl
       acts shows o size slots id m w mine s r there e refl may tt tt (few, small)
       (rows_stay x e may (λ q. q) r.rows) (max n (to + 2 ^ 62)) n
       (ap (λ z. max z (to + 2 ^ 62)) found ∙ raised_word b to R.above (omega arith))
-      (ap (λ k. seat_after m.0.part e k (told_by false m.0.hands))
+      (ap (λ k. seat_after m.0.part e k (told_by None m.0.hands))
       (ap (reading_at (Bound t f)) found ∙ read_back x L (Bound t f)))
       tt
       (λ C. boxed_stay shows size.seats x.notes

@@ -5,7 +5,6 @@ use Rattle.std.proofs.Common.{
   ℕ,
   ◌<◌,
   eqb,
-  false,
   Some,
   None,
   refl,
@@ -79,7 +78,7 @@ module _ {K : Type 0} (shows : K → Lasting) (o : Beside) (size : PathSize) (sl
       exchanged n from to (λ z. Owes shows o size slots id m w mine s 4 z then)
       (λ hit. let e = Claim w (record { 0 = from }) (record { 0 = to }) Entry in
       let is = as_part shows o size slots id m w mine s r there in
-      let v' = view_after m.0 e to false in
+      let v' = view_after m.0 e to in
       let may : IsStep x e = record {
         seat = within shows o size slots id m w mine s r there;
         is_there = tt;
@@ -99,7 +98,7 @@ module _ {K : Type 0} (shows : K → Lasting) (o : Beside) (size : PathSize) (sl
       (ap (option_map kept_of) (last_marker_stays x e (λ b. b))) C.append C.issue refl)
       (λ C. claimed_puts r.memtables.contents size.seats w m.0.part v'.part m.0.hands C.note
       (place_still shows o size s r id w m.0 there mine e (reading_at Log to)
-      (told_by false m.0.hands) tt)
+      (told_by None m.0.hands) tt)
       (λ q t k c few. none_there s r t k few may q (sym C.claim ∙ c))
       (λ q a c put. unput s r there may q (sym C.claim ∙ c) a put)
       (puts_now shows o size s r id w m.0 there mine)) (still_kept shows o size s r e may tt refl)
@@ -108,7 +107,7 @@ module _ {K : Type 0} (shows : K → Lasting) (o : Beside) (size : PathSize) (sl
       → Made z (Claim z (record { 0 = from }) (record { 0 = to }) Entry) to m (v', m.1))
       × (n ≢ from → Made z (Look z Log) n m (v', m.1)))
       ((λ _. ((refl, u), refl)), (λ miss. absurd (miss hit)))))
-      (λ miss. let v' = view_after m.0 (Look w Log) n false in
+      (λ miss. let v' = view_after m.0 (Look w Log) n in
       look_owes shows o size slots id m w mine s r there Log tt tt then (λ made _.
       each_seat_name shows o size slots id m w mine (λ z. (n ≡ from → Made z
       (Claim z (record { 0 = from }) (record { 0 = to }) Entry) to m (v', m.1))

@@ -115,7 +115,7 @@ module _ {K : Type 0} (shows : K → Lasting) (o : Beside) (size : PathSize) (sl
       (Some g) append in
       let range = own_part shows o size slots id m w mine s r there (λ (p : SeatOf). p.claim)
       (Some (record { start = note.start.0; end = note.end.0 })) claim in
-      let made = group_made x law Append w g here in let v' = view_after m.0 e n false in
+      let made = group_made x law Append w g here in let v' = view_after m.0 e n in
       let may : IsStep x e = record {
         seat = within shows o size slots id m w mine s r there;
         is_there = made;
@@ -133,7 +133,7 @@ module _ {K : Type 0} (shows : K → Lasting) (o : Beside) (size : PathSize) (sl
       ∙ less_word c (some_left x law Append w g here) (subst (λ z. z < 2 ^ 64) found low) in
       let rows = rows_stay x e may (λ q. q) r.rows in
       let C = columns_now shows o size s r id w m.0 there mine e refl may whole tt fits rows
-      ((n + (2 ^ 64 - 1)) % 2 ^ 64) n false m.0.hands now refl in
+      ((n + (2 ^ 64 - 1)) % 2 ^ 64) n None m.0.hands now refl in
       let P = puts_now shows o size s r id w m.0 there mine in
       let is = as_part shows o size slots id m w mine s r there in
       let rests = P.rests (ap (λ (p : SeatOf). p.note) is ∙ not_yet x law.orders w g here) in
@@ -143,7 +143,7 @@ module _ {K : Type 0} (shows : K → Lasting) (o : Beside) (size : PathSize) (sl
         gives,
         tt,
         plays_with shows o size s r id w m.0 there mine e refl may whole tt fits rows
-            ((n + (2 ^ 64 - 1)) % 2 ^ 64) n false m.0.hands now refl tt refl m.1 gives
+            ((n + (2 ^ 64 - 1)) % 2 ^ 64) n None m.0.hands now refl tt refl m.1 gives
             (subst (λ (q : Lasting × List (ℕ × Slot K)). Boxed shows size.seats (next_of x e).notes
             q.0 x.claims (next_of x e).append (put_back s.homes q.1) (set s.views id v'))
             (λ i. (
@@ -173,14 +173,14 @@ module _ {K : Type 0} (shows : K → Lasting) (o : Beside) (size : PathSize) (sl
             u.returned) is (r.each_seat j u at).1).0.1
             ∙ (ap r.owner same ∙ (known shows o size s r id w m.0 there mine).1.1)))))
             (memtables_then shows o size s r id w m.0 there mine e refl may whole tt fits rows
-            ((n + (2 ^ 64 - 1)) % 2 ^ 64) n false m.0.hands now refl m.1 gives below refl refl refl
+            ((n + (2 ^ 64 - 1)) % 2 ^ 64) n None m.0.hands now refl m.1 gives below refl refl refl
             (noted_puts r.memtables.contents size.seats w m.0.part v'.part m.0.hands rests C.claim
             (place_still shows o size s r id w m.0 there mine e (reading_at (Count Append g) n)
-            (told_by false m.0.hands) tt) P)
+            (told_by None m.0.hands) tt) P)
             (still_kept shows o size s r e may tt refl)
             (λ z t k q few h R. inr (runs_still s.views id m.0 v' there refl C.claim z q.end.0 R)))
             (reads_still shows o size s r id w m.0 there mine e refl may whole tt fits rows
-            ((n + (2 ^ 64 - 1)) % 2 ^ 64) n false m.0.hands now refl tt refl),
+            ((n + (2 ^ 64 - 1)) % 2 ^ 64) n None m.0.hands now refl tt refl),
         (λ z q other role _ word has. let same : note
             ≡ other = last_same m.0.hands.notes note other (ap notes_first (sym holds ∙ has)) in
             subst (λ p. MadeAs z (Close z Append q (Deposit p)) n m.0.hands m.0 v'

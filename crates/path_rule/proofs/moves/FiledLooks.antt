@@ -5,7 +5,6 @@ use Rattle.std.proofs.Common.{
   ℕ,
   ◌<◌,
   ◌≤◌,
-  false,
   List,
   [],
   Some,
@@ -46,7 +45,7 @@ module _ {K : Type 0} (shows : K → Lasting) (o : Beside) (size : PathSize) (sl
   pub looks_filed : (t : SyncTurn) → m.0.part.sync ≡ Some t → t.stopped ≡ Some 0
       → Allows (Ruled shows o size) slots id m 5 (λ n. n) (FiledFound (step slots 5 0 0 none) m)
   looks_filed turn sync runs s r _ there _ = let n = slice_index s.words 5 in let x = r.core in
-      let e = Look w (CursorWord Synced) in let v' = view_after m.0 e n false in
+      let e = Look w (CursorWord Synced) in let v' = view_after m.0 e n in
       let found : n ≡ x.synced = r.words (CursorWord Synced) tt in
       let L = core_lawful shows o size s r in
       let is = (known shows o size s r id w m.0 there mine).0 in

@@ -61,7 +61,7 @@ use Rattle.path_core.specs.Allowed.{IsStep}
 use Rattle.path_core.specs.Keys.{after}
 use Rattle.path_core.specs.Lawful.{IsLawfulPath}
 use Rattle.path_core.specs.Next.{next_of}
-use Rattle.path_core.specs.Parts.{fresh_table, is_empty, table_of}
+use Rattle.path_core.specs.Parts.{fresh_table, is_empty, last_upper, table_of}
 use Rattle.path_core.specs.SeatAfter.{seat_after}
 use Rattle.path_core.proofs.files.LastFile.{oldest_grows}
 use Rattle.path_core.proofs.runs.EveryRun.{placing_of}
@@ -83,6 +83,7 @@ use Rattle.path_rule.specs.Filing.{
   more_filed,
   put_range,
   retired_in,
+  upper_of,
 }
 use Rattle.clog_cells.specs.Merge.{IsMergeOf}
 use Rattle.path_rule.specs.FilingTold.{
@@ -98,7 +99,7 @@ use Rattle.path_rule.specs.HandsAfter.{with_desk, with_reading}
 use Rattle.path_rule.specs.Lasts.{shown}
 use Rattle.path_rule.specs.Memtables.{HasMemtables, PutsAre, PutsAs}
 use Rattle.path_rule.specs.Retires.{RetiresFiledIn, written_as}
-use Rattle.path_rule.specs.Rule.{Ruled, Was, told_by, view_after, with_hands}
+use Rattle.path_rule.specs.Rule.{Ruled, Was, told_by, view_filed, with_hands}
 use Rattle.path_rule.specs.TurnTold.{CarriesAs}
 use Rattle.path_rule.proofs.boxes.AtHome.{inside_list}
 use Rattle.path_rule.proofs.boxes.DeskChanged.{boxed_desk_turns}
@@ -178,7 +179,7 @@ module _ {K : Type 0} (shows : K → Lasting) (o : Beside) (size : PathSize) (sl
   h = with_reading None told_desk
 
   abbrev v' : View
-  v' = view_after (with_hands h m.0) e (suc k) true
+  v' = view_filed (with_hands h m.0) e (suc k) put_now.lower
 
   abbrev held : IsTrue (is_some m.0.part.sync)
   held = is_held m.0.part.sync turn sync
@@ -213,6 +214,10 @@ module _ {K : Type 0} (shows : K → Lasting) (o : Beside) (size : PathSize) (sl
     lower_now : put_now.lower ≡ written.lower
     lower_now = ends_at shows o size slots id m w mine s r there t k bound q inside sees some_seen
         final turn sync runs lasting
+
+    -- the key that the step gives is where the state's last file of the table ends
+    lower_given : (lower : ℕ) → Some put_now.lower ≡ Some lower → lower ≡ last_upper x.files t.0
+    lower_given lower gave = sym (same_Some put_now.lower lower gave) ∙ lower_now
 
     upper_now : written.upper ≡ bound
     upper_now = upper_is shows o size slots id m w mine s r there t k bound q inside sees some_seen
@@ -313,13 +318,13 @@ module _ {K : Type 0} (shows : K → Lasting) (o : Beside) (size : PathSize) (sl
       let told = ap (λ (b : Bool). seat_after m.0.part e (Number 0)
       (record { files = b; marker = None })) (sym (ap not gives)) in
       let columns = columns_now shows o size s r id w m.0 there mine e refl may tt tt few rows
-      (suc k) (suc k) true h refl told in
+      (suc k) (suc k) (Some put_now.lower) h refl told in
       let out = outside shows o size slots id m w mine s r there held in (
         v',
         keeps,
         tt,
         plays_all shows o size s r id w m.0 there mine e refl may tt tt few rows (suc k) (suc k)
-            true h refl told (sym (ap not gives)) r.kept_to
+            (Some put_now.lower) h refl told (sym (ap not gives), lower_given s r there) r.kept_to
             (kept_stays (x s r there) (L s r there) e may r.kept_to r.may_be_kept)
             (put s r there) r.dropped (filed_now s r there) m.1 keeps
             (boxed_desk_turns shows size.seats r.core.notes
@@ -339,25 +344,27 @@ module _ {K : Type 0} (shows : K → Lasting) (o : Beside) (size : PathSize) (sl
             (told_view s r there) v'
             (set_here s.views id (told_view s r there) (inside_list s.views id m.0 there)) mine refl
             columns.note columns.claim
-            (place_still shows o size s r id w m.0 there mine e (Number 0) (told_by true h) tt)
+            (place_still shows o size s r id w m.0 there mine e (Number 0)
+            (told_by (Some put_now.lower) h) tt)
             None refl (λ z b is taken. absurd (none-some z is))
             (λ b Q. none-some b (sym (ap (λ (z : FlushRead). z.taken)
             (same_reading Q.0 q Q.1 sees.0) ∙ sees.3) ∙ Q.2)))
             (kept_before shows o size s r e may tt)))
             (reads_then shows o size s r id w m.0 there mine e refl may tt tt few rows (suc k)
-            (suc k) true h refl told (λ z is. absurd (none-some z is))),
+            (suc k) (Some put_now.lower) h refl told (λ z is. absurd (none-some z is))),
         λ z u lasting pending role _ word C'. let d = desk_same shows C.0 C'.0
             (more_filed put_now m.0.hands.lasting) lasting m.0.hands.pending pending
             m.0.hands.progress (ap (top_box C.0) (sym C.1 ∙ C'.1)) C.2 C'.2 in
             each_table_name shows o size slots id m w mine 10 t
-            (λ z u. MadeFiled z (Put z (OldestLive u) (suc k)) (suc k) (with_reading None
+            (λ z u. MadeFiled z (Put z (OldestLive u) (suc k)) (suc k)
+            (upper_of u.0 m.0.hands.lasting.filed.files) (with_reading None
             (with_desk lasting pending m.0.hands.progress m.0.hands)) m.0 v' × (m.1 ≡ m.1)
             × ((f : PutTable) (j : ℕ) → suc k ≡ suc j → CarriesFiled shows f m
             → (was : Was m.0 z (Put z (OldestLive u) (suc k)))
             × RetiresFiledIn was.core (Put z (OldestLive u) (suc k)) u.0 j f)) (
               (
-                (λ i. view_after (with_hands (with_reading None (with_desk (d.0 i) (d.1 i)
-                    m.0.hands.progress m.0.hands)) m.0) e (suc k) true),
+                (λ i. view_filed (with_hands (with_reading None (with_desk (d.0 i) (d.1 i)
+                    m.0.hands.progress m.0.hands)) m.0) e (suc k) put_now.lower),
                 was shows o size s r id w m.0 there mine e may tt,
               ),
               refl,

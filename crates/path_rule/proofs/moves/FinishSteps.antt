@@ -8,7 +8,6 @@ use Rattle.std.proofs.Common.{
   ◌%◌,
   ◌^◌,
   ◌<◌,
-  false,
   true,
   Option,
   Some,
@@ -125,7 +124,7 @@ module _ {K : Type 0} (shows : K → Lasting) (o : Beside) (size : PathSize) (sl
       let is = as_part shows o size slots id m w mine s r there in
       let here = ap (λ (p : SeatOf). p.write) (sym is) ∙ write in
       let made = group_made x (core_lawful shows o size s r) Write w g here in
-      let v' = view_after m.0 e n false in
+      let v' = view_after m.0 e n in
       let may : IsStep x e = record {
         seat = within shows o size slots id m w mine s r there;
         is_there = made;

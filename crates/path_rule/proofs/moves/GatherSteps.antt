@@ -10,7 +10,6 @@ use Rattle.std.proofs.Common.{
   ◌^◌,
   ◌<◌,
   ◌≤◌,
-  false,
   List,
   [],
   ◌∷◌,
@@ -147,7 +146,7 @@ module _ {K : Type 0} (shows : K → Lasting) (o : Beside) (size : PathSize) (sl
 
     -- a look at the oldest group, with what a box tells
     looked : (n : ℕ) → n ≡ r.core.append.oldest → (h : Hands) (a : Act (Slot K)) → let e =
-        Look w (Oldest Append) in let v' = view_after (with_hands h m.0) e n false in
+        Look w (Oldest Append) in let v' = view_after (with_hands h m.0) e n in
         (Columns e m.0.part v'.part → Boxed shows size.seats r.core.notes
         (shown o size.at_open r.kept_to r.filed r.dropped r.core) r.core.claims r.core.append (homes_after s.homes m.1
         a)
@@ -161,11 +160,11 @@ module _ {K : Type 0} (shows : K → Lasting) (o : Beside) (size : PathSize) (sl
           is_there = tt;
           row = tt;
         } in let rows = rows_stay x e may (λ q. q) r.rows in (
-          plays shows o size s r id w m.0 there mine e refl may tt tt tt rows n n false h found
-              (ap (λ k. seat_after m.0.part e (Number k) (told_by false h)) found) found m.1 a
+          plays shows o size s r id w m.0 there mine e refl may tt tt tt rows n n None h found
+              (ap (λ k. seat_after m.0.part e (Number k) (told_by None h)) found) found m.1 a
               (boxed (columns_now shows o size s r id w m.0 there mine e refl may tt tt tt rows n n
-              false
-              h found (ap (λ k. seat_after m.0.part e (Number k) (told_by false h)) found))) tt
+              None
+              h found (ap (λ k. seat_after m.0.part e (Number k) (told_by None h)) found))) tt
               same below tt,
           was shows o size s r id w m.0 there mine e may tt,
         )
@@ -184,7 +183,7 @@ module _ {K : Type 0} (shows : K → Lasting) (o : Beside) (size : PathSize) (sl
       (λ hit. let passed : x.append.oldest ≡ x.append.current = sym found ∙ (hit ∙ now) in
       let box = box_of k (suc x.append.current) in let ns = r.boxed.contents box in
       let h = with_taken (Some box) ns m.0.hands in
-      let v' = view_after (with_hands h m.0) e n false in
+      let v' = view_after (with_hands h m.0) e n in
       let home = r.boxed.at_home box (omega arith) (other_free s r there held k empty passed) in
       let few = subst (λ (l : List EntryNote). length l + length ns ≤ 2 ^ 62)
       (sym ((hands_now shows o size slots id m w mine s r there).desk held).1)
@@ -227,7 +226,7 @@ module _ {K : Type 0} (shows : K → Lasting) (o : Beside) (size : PathSize) (sl
               (λ miss. absurd (miss (hit ∙ now))),
             )),
       ))
-      (λ miss. let v' = view_after m.0 e n false in
+      (λ miss. let v' = view_after m.0 e n in
       look_owes shows o size slots id m w mine s r there (Oldest Append) tt tt
       (Gathered (step slots 3 0 0 none) m n) (λ made _.
       each_pair c saw (λ z d. (n ≡ d → ((taken : List EntryNote)
@@ -264,7 +263,7 @@ module _ {K : Type 0} (shows : K → Lasting) (o : Beside) (size : PathSize) (sl
       let out = outside shows o size slots id m w mine s r there held in
       let k = m.0.hands.swept in
       let h = with_swept m.0.size.seats m.0.hands in
-      let v' = view_after (with_hands h m.0) e n false in
+      let v' = view_after (with_hands h m.0) e n in
       let sized = (known shows o size s r id w m.0 there mine).0 in
       let box : ℕ → ℕ = λ d. box_of k (suc d) in
       let did = looked s r there held n found h gives

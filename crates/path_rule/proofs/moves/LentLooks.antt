@@ -6,7 +6,6 @@ use Rattle.std.proofs.Common.{
   ◌<◌,
   ◌≤◌,
   true,
-  false,
   List,
   Some,
   sym,
@@ -137,7 +136,7 @@ module _ {K : Type 0} (shows : K → Lasting) (o : Beside) (size : PathSize) (sl
       → m.0.hands.progress.gathered ≡ true
       → Allows (Ruled shows o size) slots id m 5 (λ n. n) (LentFound (step slots 5 0 0 none) m)
   looks_lent t sync runs all s r _ there _ = let n = slice_index s.words 5 in let x = r.core in
-      let e = Look w (CursorWord Synced) in let v' = view_after m.0 e n false in
+      let e = Look w (CursorWord Synced) in let v' = view_after m.0 e n in
       let found : n ≡ x.synced = r.words (CursorWord Synced) tt in
       let may : IsStep x e = record {
         seat = within shows o size slots id m w mine s r there;

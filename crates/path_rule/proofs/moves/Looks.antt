@@ -6,7 +6,6 @@ use Rattle.std.proofs.Common.{
   ◌+◌,
   ◌*◌,
   ◌<◌,
-  false,
   length,
   set,
   Some,
@@ -17,6 +16,7 @@ use Rattle.std.proofs.Common.{
   subst,
   ⊎_elim,
   arith,
+  None,
 }
 use Rattle.std.specs.Prelude.{slice_index}
 use Rattle.std.specs.List.{Contains}
@@ -184,37 +184,37 @@ module _ {K : Type 0} (shows : K → Lasting) (o : Beside) (size : PathSize) (sl
         → IsBuilt size.at_open x e → IsWord (place_of e)
         → HasRows (next_of x e) → (n found : ℕ)
         → n ≡ word_of (left_by e (reading x (place_of e)))
-        → seat_after m.0.part e (reading_at (place_of e) found) (told_by false m.0.hands)
+        → seat_after m.0.part e (reading_at (place_of e) found) (told_by None m.0.hands)
         ≡ seat_after m.0.part e (reading x (place_of e)) (told_of x e)
-        → ToldTrue x e found false
-        → (Columns e m.0.part (view_after m.0 e found false).part
+        → ToldTrue x e found None
+        → (Columns e m.0.part (view_after m.0 e found).part
         → Boxed shows size.seats (next_of x e).notes (shown o size.at_open r.kept_to r.filed r.dropped (next_of x e))
         (next_of x
         e).claims
-        (next_of x e).append s.homes (set s.views id (view_after m.0 e found false)))
-        → (Columns e m.0.part (view_after m.0 e found false).part
-        → PutsAre r.memtables.contents size.seats w (view_after m.0 e found false).part m.0.hands)
+        (next_of x e).append s.homes (set s.views id (view_after m.0 e found)))
+        → (Columns e m.0.part (view_after m.0 e found).part
+        → PutsAre r.memtables.contents size.seats w (view_after m.0 e found).part m.0.hands)
         → ((p : Placed) → Contains (next_of x e).placed p → IsKeptAt (next_of x e).tables p
         → LiesPlaced shows o size s r p)
-        → (Columns e m.0.part (view_after m.0 e found false).part
-        → RunsOn shows o size s r id w m.0 there mine e (view_after m.0 e found false))
+        → (Columns e m.0.part (view_after m.0 e found).part
+        → RunsOn shows o size s r id w m.0 there mine e (view_after m.0 e found))
         → LeavesReading m.0.hands e → (then : Me (Slot K) View → Type 0)
-        → (Was m.0 w e → then (view_after m.0 e found false, m.1))
+        → (Was m.0 w e → then (view_after m.0 e found, m.1))
         → Owes s (word_at (place_of e)) n then
     acts_with e by may whole built spot rows n found now told true_told boxed puts kept runs quiet
         then ok =
         let C = columns_now shows o size s r id w m.0 there mine e by may whole
-        built spot rows n found false m.0.hands now told in (
-          view_after m.0 e found false,
+        built spot rows n found None m.0.hands now told in (
+          view_after m.0 e found,
           keeps,
           tt,
           plays_with shows o size s r id w m.0 there mine e by may whole built spot rows n found
-              false m.0.hands now told true_told (files_left x m.0.hands e quiet) m.1 keeps
+              None m.0.hands now told true_told (files_left x m.0.hands e quiet) m.1 keeps
               (boxed C)
               (memtables_then shows o size s r id w m.0 there mine e by may whole built spot rows n
-              found false m.0.hands now told m.1 keeps tt refl refl refl (puts C) kept (runs C))
+              found None m.0.hands now told m.1 keeps tt refl refl refl (puts C) kept (runs C))
               (reads_still shows o size s r id w m.0 there mine e by may whole built spot rows n
-              found false m.0.hands now told quiet refl),
+              found None m.0.hands now told quiet refl),
           ok (was shows o size s r id w m.0 there mine e may whole),
         )
 
@@ -223,36 +223,36 @@ module _ {K : Type 0} (shows : K → Lasting) (o : Beside) (size : PathSize) (sl
         → IsBuilt size.at_open x e → IsWord (place_of e)
         → HasRows (next_of x e) → (n found : ℕ)
         → n ≡ word_of (left_by e (reading x (place_of e)))
-        → seat_after m.0.part e (reading_at (place_of e) found) (told_by false m.0.hands)
+        → seat_after m.0.part e (reading_at (place_of e) found) (told_by None m.0.hands)
         ≡ seat_after m.0.part e (reading x (place_of e)) (told_of x e)
-        → ToldTrue x e found false
-        → (Columns e m.0.part (view_after m.0 e found false).part
+        → ToldTrue x e found None
+        → (Columns e m.0.part (view_after m.0 e found).part
         → Boxed shows size.seats (next_of x e).notes (shown o size.at_open r.kept_to r.filed r.dropped (next_of x e))
         (next_of x
         e).claims
-        (next_of x e).append s.homes (set s.views id (view_after m.0 e found false)))
+        (next_of x e).append s.homes (set s.views id (view_after m.0 e found)))
         → LeavesWrite e → LeavesReading m.0.hands e → (then : Me (Slot K) View → Type 0)
-        → (Was m.0 w e → then (view_after m.0 e found false, m.1))
+        → (Was m.0 w e → then (view_after m.0 e found, m.1))
         → Owes s (word_at (place_of e)) n then
     acts e by may whole built spot rows n found now told true_told boxed leaves quiet then ok =
         acts_with e by may whole built spot rows n found now told true_told boxed
         (λ C. puts_stay r.memtables.contents size.seats w m.0.part
-        (view_after m.0 e found false).part m.0.hands m.0.hands
+        (view_after m.0 e found).part m.0.hands m.0.hands
         (C.note ∙ note_left m.0.part.note e leaves)
         (C.claim ∙ claim_left m.0.part.claim e leaves)
         (place_still shows o size s r id w m.0 there mine e (reading_at (place_of e) found)
-        (told_by false m.0.hands) (leaves_places e leaves)) (refl, refl, refl, refl)
+        (told_by None m.0.hands) (leaves_places e leaves)) (refl, refl, refl, refl)
         (puts_now shows o size s r id w m.0 there mine))
         (still_kept shows o size s r e may built (placed_left x e leaves))
-        (λ C z t k n few q R. inr (runs_still s.views id m.0 (view_after m.0 e found false) there
+        (λ C z t k n few q R. inr (runs_still s.views id m.0 (view_after m.0 e found) there
         refl (C.claim ∙ claim_left m.0.part.claim e leaves) z n.end.0 R)) quiet then ok
 
     pub look_owes : (at : Place) → IsWord at → Sighted m.0 at → (then : Me (Slot K) View → Type 0)
         → (Made w (Look w at) (slice_index s.words (word_at at)) m
-        (view_after m.0 (Look w at) (slice_index s.words (word_at at)) false, m.1)
+        (view_after m.0 (Look w at) (slice_index s.words (word_at at)), m.1)
         → ((was : Was m.0 w (Look w at)) ×
         (word_of (reading was.core at) ≡ slice_index s.words (word_at at)))
-        → then (view_after m.0 (Look w at) (slice_index s.words (word_at at)) false, m.1))
+        → then (view_after m.0 (Look w at) (slice_index s.words (word_at at)), m.1))
         → Owes s (word_at at) (slice_index s.words (word_at at)) then
     look_owes at spot sighted then give = let n = slice_index s.words (word_at at) in
         let found : n ≡ word_of (reading x at) = r.words at spot in
@@ -262,14 +262,14 @@ module _ {K : Type 0} (shows : K → Lasting) (o : Beside) (size : PathSize) (sl
           row = tt;
         } in
         acts (Look w at) refl may tt tt spot (rows_stay x (Look w at) may (λ q. q) r.rows) n n found
-        (ap (λ k. seat_after m.0.part (Look w at) k (told_by false m.0.hands))
+        (ap (λ k. seat_after m.0.part (Look w at) k (told_by None m.0.hands))
         (ap (reading_at at) found ∙ read_back x L at))
         found
         (λ C. boxed_stay shows size.seats x.notes
         (shown o size.at_open r.kept_to r.filed r.dropped x) x.claims x.claims x.append x.append s.homes s.views
         r.boxed
         id w m.0
-        (view_after m.0 (Look w at) n false) there mine refl refl refl
+        (view_after m.0 (Look w at) n) there mine refl refl refl
         (λ i g l _ _. (l, refl)) refl C.append C.issue refl)
         tt tt then (λ u. give ((refl, u), refl)
         (was shows o size s r id w m.0 there mine (Look w at) may tt, sym found))
@@ -281,7 +281,7 @@ module _ {K : Type 0} (shows : K → Lasting) (o : Beside) (size : PathSize) (sl
       look_owes s r there at spot sighted (Looked (step slots (word_at at) 0 0 none) m n)
       (λ made seen z at' role word is.
       let P : ℕ × Place → Type 0 = λ q. Made q.0 (Look q.0 q.1) n m
-      (view_after m.0 (Look w at) n false, m.1)
+      (view_after m.0 (Look w at) n, m.1)
       × ((was : Was m.0 q.0 (Look q.0 q.1)) × (word_of (reading was.core q.1) ≡ n)) in
       subst P (λ i. (same_seat m.0.role w z mine role i, same_place at at' spot word is i))
       (made, seen))

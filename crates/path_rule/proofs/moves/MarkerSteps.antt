@@ -4,7 +4,6 @@ use Rattle.std.proofs.Common.{
   ◌≢◌,
   ℕ,
   eqb,
-  false,
   Some,
   None,
   is_some,
@@ -73,7 +72,7 @@ module _ {K : Type 0} (shows : K → Lasting) (o : Beside) (size : PathSize) (sl
       exchanged n from to (λ z. Owes shows o size slots id m w mine s 4 z then)
       (λ hit. let e = Claim w (record { 0 = from }) (record { 0 = to }) Marker in
       let c = claim_of x.capacity w from to Marker in let law = core_lawful shows o size s r in
-      let h = with_marker w from m.0.hands in let v' = view_after (with_hands h m.0) e to false in
+      let h = with_marker w from m.0.hands in let v' = view_after (with_hands h m.0) e to in
       let H = hands_now shows o size slots id m w mine s r there in let D = H.desk held in
       let out = outside shows o size slots id m w mine s r there held in
       let z = past_sizes r.events (start_of size) x r.run in
@@ -103,7 +102,7 @@ module _ {K : Type 0} (shows : K → Lasting) (o : Beside) (size : PathSize) (sl
         keeps,
         tt,
         plays shows o size s r id w m.0 there mine e refl may tt running tt
-            (rows_stay x e may (λ q. q) r.rows) to to false h refl refl tt m.1 keeps
+            (rows_stay x e may (λ q. q) r.rows) to to None h refl refl tt m.1 keeps
             (boxed_goes shows size.seats x.notes (shown o size.at_open r.kept_to r.filed r.dropped x) x.claims
             (next_of x e).claims x.append x.append s.homes s.views B id w m.0 v' there mine refl
             out out held (still _ m.0.part.sync held)
@@ -141,7 +140,7 @@ module _ {K : Type 0} (shows : K → Lasting) (o : Beside) (size : PathSize) (sl
               (λ miss. absurd (miss hit)),
             ),
       ))
-      (λ miss. let v' = view_after m.0 (Look w Log) n false in
+      (λ miss. let v' = view_after m.0 (Look w Log) n in
       look_owes shows o size slots id m w mine s r there Log tt tt then (λ made _.
       each_seat_name shows o size slots id m w mine
       (λ z. (n ≡ from → MadeAs z (Claim z (record { 0 = from }) (record { 0 = to }) Marker) to

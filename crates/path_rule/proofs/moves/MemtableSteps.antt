@@ -10,7 +10,6 @@ use Rattle.std.proofs.Common.{
   ◌<◌,
   ◌≤◌,
   ⊎_elim,
-  false,
   List,
   [],
   ◌∷◌,
@@ -172,7 +171,7 @@ module _ {K : Type 0} (shows : K → Lasting) (o : Beside) (size : PathSize) (sl
     looked : (t : Table) → t.0 < 16 → t.0 < m.0.size.tables → (h : Hands) (a : Act (Slot K))
         → h.reading ≡ m.0.hands.reading
         → let e = Look w (Newest t) in let n = slice_index s.words (8 + 4 * t.0) in
-        let v' = view_after (with_hands h m.0) e n false in
+        let v' = view_after (with_hands h m.0) e n in
         (Columns e m.0.part v'.part → Boxed shows size.seats r.core.notes
         (shown o size.at_open r.kept_to r.filed r.dropped r.core) r.core.claims r.core.append
         (homes_after s.homes m.1 a) (set s.views id v'))
@@ -187,12 +186,12 @@ module _ {K : Type 0} (shows : K → Lasting) (o : Beside) (size : PathSize) (sl
           is_there = few_tables shows o size slots id m w mine s r there t.0 inside;
           row = tt;
         } in let rows = rows_stay x e may (λ q. q) r.rows in
-        let told = ap (λ k. seat_after m.0.part e (Number k) (told_by false h)) found in
-        let C = columns_now shows o size s r id w m.0 there mine e refl may tt tt few rows n n false
+        let told = ap (λ k. seat_after m.0.part e (Number k) (told_by None h)) found in
+        let C = columns_now shows o size s r id w m.0 there mine e refl may tt tt few rows n n None
         h found told in (
-          plays_with shows o size s r id w m.0 there mine e refl may tt tt few rows n n false h
+          plays_with shows o size s r id w m.0 there mine e refl may tt tt few rows n n None h
               found told found refl m.1 a (boxed C) (memtables C)
-              (reads_still shows o size s r id w m.0 there mine e refl may tt tt few rows n n false
+              (reads_still shows o size s r id w m.0 there mine e refl may tt tt few rows n n None
               h found told tt reading),
           was shows o size s r id w m.0 there mine e may tt,
         )
@@ -206,7 +205,7 @@ module _ {K : Type 0} (shows : K → Lasting) (o : Beside) (size : PathSize) (sl
       let n = slice_index s.words (8 + 4 * t.0) in let x = r.core in let e = Look w (Newest t) in
       let M = r.memtables in let law = core_lawful shows o size s r in
       let box = memtable_box size.seats w t.0 k in let held = M.contents box in
-      let h = with_held box held m.0.hands in let v' = view_after (with_hands h m.0) e n false in
+      let h = with_held box held m.0.hands in let v' = view_after (with_hands h m.0) e n in
       let low = low_seat shows o size slots id m w mine s r there in
       let home = M.at_home box (omega arith) (omega arith)
       (own_home s r there t.0 k small rests place) in
@@ -222,7 +221,7 @@ module _ {K : Type 0} (shows : K → Lasting) (o : Beside) (size : PathSize) (sl
       held m.0.hands.applied m.0.hands.reading refl)
       (λ C. memtable_taken size.seats x.notes x.placed x.tables s.homes s.views M id m.0 v' there
       box w t.0 k refl small mine refl rests refl refl refl refl note.0 (C.note ∙ note.1) C.claim
-      (place_still shows o size s r id w m.0 there mine e (Number n) (told_by false h) tt) place)
+      (place_still shows o size s r id w m.0 there mine e (Number n) (told_by None h) tt) place)
       in (
         v',
         takes box home.0,
@@ -259,7 +258,7 @@ module _ {K : Type 0} (shows : K → Lasting) (o : Beside) (size : PathSize) (sl
       let n = slice_index s.words (8 + 4 * t.0) in let x = r.core in let e = Look w (Newest t) in
       let M = r.memtables in let new = put_there t k note in
       let box = memtable_box size.seats w t.0 k in let y = Notes (m.0.hands.held ++ note ∷ []) in
-      let h = with_applied new m.0.hands in let v' = view_after (with_hands h m.0) e n false in
+      let h = with_applied new m.0.hands in let v' = view_after (with_hands h m.0) e n in
       let low = low_seat shows o size slots id m w mine s r there in
       let same : memtable_box m.0.size.seats w t.0 k ≡ box =
       ap (λ (z : PathSize). memtable_box z.seats w t.0 k) (sized s r there) in
@@ -275,7 +274,7 @@ module _ {K : Type 0} (shows : K → Lasting) (o : Beside) (size : PathSize) (sl
       (set s.views id v')) (sym carried)
       (memtable_given size.seats x.notes x.placed x.tables s.homes s.views M id m.0 v' there w t.0 k
       small low r.deep mine refl note (has ∙ ap (λ (b : ℕ). Some b) same) refl C.claim
-      (place_still shows o size s r id w m.0 there mine e (Number n) (told_by false h) tt) place
+      (place_still shows o size s r id w m.0 there mine e (Number n) (told_by None h) tt) place
       note.start.0 applies.range applies.fresh (belongs s r there) (others_are s r there)
       (never_read s r there t.0 k small place))) in (
         v',

@@ -4,9 +4,9 @@ use Rattle.std.proofs.Common.{
   ◌≢◌,
   ℕ,
   ◌<◌,
-  Bool,
   true,
   cond,
+  Option,
   List,
   [],
   ◌∷◌,
@@ -113,7 +113,7 @@ use Rattle.path_rule.specs.Rule.{
   HasRows,
   Ruled,
   told_by,
-  view_after,
+  view_with,
   with_hands,
   Was,
 }
@@ -274,7 +274,7 @@ module _ {K : Type 0} (shows : K → Lasting) (o : Beside) (size : PathSize) (s 
     module _ (e : Event) (by : by_of e ≡ w) (may : IsStep r.core e) (whole : CarriesWhole e)
         (built : IsBuilt size.at_open r.core e) (spot : IsWord (place_of e))
         (rows : HasRows (next_of r.core e)) (n found : ℕ)
-        (filed : Bool) (h : Hands)
+        (filed : Option ℕ) (h : Hands)
         (now : n ≡ word_of (left_by e (reading r.core (place_of e))))
         (told : seat_after v.part e (reading_at (place_of e) found) (told_by filed h)
         ≡ seat_after v.part e (reading r.core (place_of e)) (told_of r.core e)) where
@@ -282,7 +282,7 @@ module _ {K : Type 0} (shows : K → Lasting) (o : Beside) (size : PathSize) (s 
       x' = next_of r.core e
 
       abbrev v' : View
-      v' = view_after (with_hands h v) e found filed
+      v' = view_with (with_hands h v) e found filed
 
       abbrev es' : List Event
       es' = e ∷ r.events
@@ -344,7 +344,8 @@ module _ {K : Type 0} (shows : K → Lasting) (o : Beside) (size : PathSize) (s 
         own = tells_more size.capacity r.core core_lawful capacity_is e may
             (keeps_lawful r.core core_lawful e may whole) v.part found (told_by filed h)
             (told_of r.core e) told filed true_told v.trail old.own;
-        returned = (view_still size.capacity r.core core_lawful capacity_is e may v old).returned;
+        returned = (view_still size.capacity r.core core_lawful capacity_is e may
+            (keeps_lawful r.core core_lawful e may whole) v old).returned;
         free = old.free;
       }
 
@@ -511,7 +512,7 @@ module _ {K : Type 0} (shows : K → Lasting) (o : Beside) (size : PathSize) (s 
             (λ (t : (j ≡ id) × (v' ≡ u)). subst (λ (y : View). ViewTells size.capacity x' y) t.1
             (own_tells true_told))
             (λ (t : (j ≢ id) × (get_elem? s.views j ≡ some u)). view_still size.capacity r.core
-            core_lawful capacity_is e may u (r.tells j u t.1))
+            core_lawful capacity_is e may next_lawful u (r.tells j u t.1))
             (at_set s.views id j v' u p);
       }
 

@@ -8,7 +8,6 @@ use Rattle.std.proofs.Common.{
   ◌≤◌,
   Bool,
   true,
-  false,
   List,
   set,
   Option,
@@ -154,7 +153,7 @@ module _ {K : Type 0} (shows : K → Lasting) (o : Beside) (size : PathSize) (sl
   notes_filing C s r _ there _ = let n = slice_index s.words 6 in let x = r.core in
       let e = Look w (CursorWord Stopped) in
       let stopped = m.0.hands.lasting.stopped in let h = hands_with stopped in
-      let v' = view_after (with_hands h m.0) e n false in
+      let v' = view_after (with_hands h m.0) e n in
       let found : n ≡ x.stopped = r.words (CursorWord Stopped) tt in
       let L = core_lawful shows o size s r in
       let may : IsStep x e = record {
@@ -170,8 +169,8 @@ module _ {K : Type 0} (shows : K → Lasting) (o : Beside) (size : PathSize) (sl
         keeps,
         tt,
         plays_filed shows o size s r id w m.0 there mine e refl may tt tt tt
-            (rows_stay x e may (λ q. q) r.rows) n n false h found
-            (ap (λ q. seat_after m.0.part e (Number q) (told_by false h)) found) found r.kept_to
+            (rows_stay x e may (λ q. q) r.rows) n n None h found
+            (ap (λ q. seat_after m.0.part e (Number q) (told_by None h)) found) found r.kept_to
             (kept_stays x L e may r.kept_to r.may_be_kept) (put s r there) dropped
             (filing_stays x L size (put s r there) dropped e may refl (filed_now s r there)) m.1
             keeps
@@ -207,7 +206,7 @@ module _ {K : Type 0} (shows : K → Lasting) (o : Beside) (size : PathSize) (sl
   halts_filing value risen C s r _ there _ = let x = r.core in let e = Put w Stopped value in
       let above = risen_above m.0.hands.lasting.at_open value risen in
       let h = hands_with (Some value) in let L = core_lawful shows o size s r in
-      let v' = view_after (with_hands h m.0) e value false in
+      let v' = view_after (with_hands h m.0) e value in
       let X = turn_exact shows o size slots id m w mine s r there turn sync in
       let may : IsStep x e = record {
         seat = within shows o size slots id m w mine s r there;
@@ -228,7 +227,7 @@ module _ {K : Type 0} (shows : K → Lasting) (o : Beside) (size : PathSize) (sl
         keeps,
         tt,
         plays_filed shows o size s r id w m.0 there mine e refl may tt built tt
-            (rows_stay x e may (λ q. q) r.rows) value value false h refl refl tt r.kept_to
+            (rows_stay x e may (λ q. q) r.rows) value value None h refl refl tt r.kept_to
             (kept_stays x L e may r.kept_to r.may_be_kept) (put s r there) dropped
             (filing_stays x L size (put s r there) dropped e may refl (filed_now s r there)) m.1
             keeps

@@ -6,7 +6,6 @@ use Rattle.std.proofs.Common.{
   ◌+◌,
   ◌*◌,
   ◌<◌,
-  false,
   List,
   Some,
   refl,
@@ -15,6 +14,7 @@ use Rattle.std.proofs.Common.{
   ◌∙◌,
   subst,
   arith,
+  None,
 }
 use Rattle.std.specs.Prelude.{slice_index}
 use mathlib.Core.Option.{none}
@@ -74,15 +74,15 @@ module _ {K : Type 0} (shows : K → Lasting) (o : Beside) (size : PathSize) (sl
       } in
       acts shows o size slots id m w mine s r there e refl may tt tt (few, small)
       (rows_stay x e may (λ q. q) r.rows) n n word
-      (ap (λ z. seat_after m.0.part e z (told_by false m.0.hands))
+      (ap (λ z. seat_after m.0.part e z (told_by None m.0.hands))
       (ap (reading_at (Bound t k)) word ∙ read_back x L (Bound t k)))
       word
       (λ C. boxed_stay shows size.seats x.notes
       (shown o size.at_open r.kept_to r.filed r.dropped x) x.claims x.claims x.append x.append
-      s.homes s.views r.boxed id w m.0 (view_after m.0 e n false) there mine refl refl refl
+      s.homes s.views r.boxed id w m.0 (view_after m.0 e n) there mine refl refl refl
       (λ i g l _ _. (l, refl)) refl C.append C.issue refl) tt tt
       (BoundRead (step slots (131144 + 16 * k + t.0) 0 0 none) m n)
       (λ it z k' u role low below at_word. each_bound_name shows o size slots id m w mine t k 0
       (λ z u k' key. (bound : ℕ) × (n ≡ bound_word (Final (record { 0 = bound })))
-      × Made z (Look z (Bound u k')) n m (view_after m.0 e n false, m.1))
+      × Made z (Look z (Bound u k')) n m (view_after m.0 e n, m.1))
       (f.0.0, found, ((refl, it), refl)) z u k' 0 role few low at_word refl)

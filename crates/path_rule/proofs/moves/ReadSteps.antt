@@ -1,5 +1,5 @@
 -- The holder of a Flush turn reads the boxes of a memtable behind its barrier.
-use Rattle.std.proofs.Common.{◌≡◌, ◌≢◌, ℕ, suc, ◌+◌, ◌*◌, ◌<◌, ⊎_elim, false, List, ◌∷◌, Option, set, Some, None, is_some, refl, sym, ap, ◌∙◌, subst, arith}
+use Rattle.std.proofs.Common.{◌≡◌, ◌≢◌, ℕ, suc, ◌+◌, ◌*◌, ◌<◌, ⊎_elim, List, ◌∷◌, Option, set, Some, None, is_some, refl, sym, ap, ◌∙◌, subst, arith}
 use Rattle.std.specs.Prelude.{slice_index}
 use Rattle.std.specs.List.{filter, Contains}
 use Rattle.std.proofs.lemmas.Bool.{lt-ltb, ltb-true}
@@ -113,7 +113,7 @@ module _ {K : Type 0} (shows : K → Lasting) (o : Beside) (size : PathSize) (sl
     looked : (at : Place) → IsWord at → IsPlace r.core at → (q : Option FlushRead)
         → (a : Act (Slot K)) → let e = Look w at in
         let n = slice_index s.words (word_at at) in let h = with_reading q m.0.hands in
-        let v' = view_after (with_hands h m.0) e n false in
+        let v' = view_after (with_hands h m.0) e n in
         ((b : ℕ) → b < boxes size.seats → get_elem? (homes_after s.homes m.1 a) b
         ≡ get_elem? s.homes b)
         → (Columns e m.0.part v'.part → HasMemtables size.seats r.core.notes r.core.placed
@@ -122,7 +122,7 @@ module _ {K : Type 0} (shows : K → Lasting) (o : Beside) (size : PathSize) (sl
         → Ruled shows o size (stepped s (word_at at) n id m.1 v' a) × Was m.0 w e
     looked at spot is_there q a below memtables reads = let x = r.core in let e = Look w at in
         let n = slice_index s.words (word_at at) in let h = with_reading q m.0.hands in
-        let v' = view_after (with_hands h m.0) e n false in
+        let v' = view_after (with_hands h m.0) e n in
         let law = core_lawful shows o size s r in
         let found : n ≡ word_of (reading x at) = r.words at spot in
         let may : IsStep x e = record {
@@ -130,17 +130,17 @@ module _ {K : Type 0} (shows : K → Lasting) (o : Beside) (size : PathSize) (sl
           is_there = is_there;
           row = tt;
         } in let rows = rows_stay x e may (λ q. q) r.rows in
-        let told = ap (λ k. seat_after m.0.part e k (told_by false h))
+        let told = ap (λ k. seat_after m.0.part e k (told_by None h))
         (ap (reading_at at) found ∙ read_back x law at) in
         let C = columns_now shows o size s r id w m.0 there mine e refl may tt tt spot rows n n
-        false h found told in (
-          plays_with shows o size s r id w m.0 there mine e refl may tt tt spot rows n n false h
+        None h found told in (
+          plays_with shows o size s r id w m.0 there mine e refl may tt tt spot rows n n None h
               found told found refl m.1 a
               (boxed_other shows size.seats x.notes (shown o size.at_open r.kept_to r.filed r.dropped x) x.claims
               x.append s.homes s.views r.boxed id m.0 v' there refl (homes_after s.homes m.1 a)
               below C.append C.issue m.0.hands.memtable_box m.0.hands.held m.0.hands.applied q refl)
               (memtables C)
-              (reads_then shows o size s r id w m.0 there mine e refl may tt tt spot rows n n false
+              (reads_then shows o size s r id w m.0 there mine e refl may tt tt spot rows n n None
               h found told (λ z is. let R = reads z is in
               reads_on x law e may (keeps_lawful x law e may tt) size.seats m.0.part v'.part z R
               (held_stays e m.0.part v'.part C z.table tt R.held)
@@ -153,15 +153,15 @@ module _ {K : Type 0} (shows : K → Lasting) (o : Beside) (size : PathSize) (sl
         → TakesNone m.0.hands → ((z : FlushRead) → q ≡ Some z → z.taken ≡ None)
         → ((z : FlushRead) → q ≡ Some z → ReadsAre size.seats r.core m.0.part z)
         → let e = Look w at in let n = slice_index s.words (word_at at) in
-        let v' = view_after (with_hands (with_reading q m.0.hands) m.0) e n false in
+        let v' = view_after (with_hands (with_reading q m.0.hands) m.0) e n in
         Ruled shows o size (stepped s (word_at at) n id m.1 v' keeps) × Was m.0 w e
     looked_still at spot is_there q unread empty reads = let x = r.core in let e = Look w at in
         let n = slice_index s.words (word_at at) in let h = with_reading q m.0.hands in
-        let v' = view_after (with_hands h m.0) e n false in
+        let v' = view_after (with_hands h m.0) e n in
         looked at spot is_there q keeps (λ b l. refl)
         (λ C. read_still size.seats x.notes x.placed x.tables s.homes s.views r.memtables id w m.0
         v' there mine refl C.note C.claim
-        (place_still shows o size s r id w m.0 there mine e (reading_at at n) (told_by false h) tt)
+        (place_still shows o size s r id w m.0 there mine e (reading_at at n) (told_by None h) tt)
         q refl (λ z b is taken. absurd (none-some b (sym (empty z is) ∙ taken)))
         (takes_none m.0.hands unread)) reads
 
@@ -320,7 +320,7 @@ module _ {K : Type 0} (shows : K → Lasting) (o : Beside) (size : PathSize) (sl
   begins_first t may oldest unread few inside s r _ there _ =
       let n = slice_index s.words (8 + 4 * t.0) in let e = Look w (Newest t) in
       let q = first_read t.0 0 0 in let h = with_reading (Some q) m.0.hands in
-      let v' = view_after (with_hands h m.0) e n false in
+      let v' = view_after (with_hands h m.0) e n in
       let did = looked_still s r there (Newest t) few
       (few_tables shows o size slots id m w mine s r there t.0 inside) (Some q) unread
       (λ z is. ap (λ (y : FlushRead). y.taken) (sym (same_Some q z is)))
@@ -350,7 +350,7 @@ module _ {K : Type 0} (shows : K → Lasting) (o : Beside) (size : PathSize) (sl
       let found : n ≡ bound_word (Final f.0) = r.words (Bound t k) (few, small)
       ∙ ap bound_word f.1 in
       let q = first_read t.0 (suc k) f.0.0 in let h = with_reading (Some q) m.0.hands in
-      let v' = view_after (with_hands h m.0) e n false in
+      let v' = view_after (with_hands h m.0) e n in
       let did = looked_still s r there (Bound t k) (few, small)
       (few_tables shows o size slots id m w mine s r there t.0 inside, omega arith) (Some q) unread
       (λ z is. ap (λ (y : FlushRead). y.taken) (sym (same_Some q z is)))
@@ -374,7 +374,7 @@ module _ {K : Type 0} (shows : K → Lasting) (o : Beside) (size : PathSize) (sl
   ends_read t unread few inside s r _ there _ =
       let n = slice_index s.words (8 + 4 * t.0) in let e = Look w (Newest t) in
       let h = with_reading None m.0.hands in
-      let v' = view_after (with_hands h m.0) e n false in
+      let v' = view_after (with_hands h m.0) e n in
       let did = looked_still s r there (Newest t) few
       (few_tables shows o size slots id m w mine s r there t.0 inside) None unread
       (λ z is. absurd (none-some z is)) (λ z is. absurd (none-some z is)) in (
@@ -395,7 +395,7 @@ module _ {K : Type 0} (shows : K → Lasting) (o : Beside) (size : PathSize) (sl
       let n = slice_index s.words (8 + 4 * t.0) in let x = r.core in let e = Look w (Newest t) in
       let M = r.memtables in let box = next_box size.seats q in let held = M.contents box in
       let z = box_read box held q in let h = with_reading (Some z) m.0.hands in
-      let v' = view_after (with_hands h m.0) e n false in
+      let v' = view_after (with_hands h m.0) e n in
       let R = reads_now shows o size s r id w m.0 there mine q reads.0 in let few = R.few in
       let more = reads.3 in
       let whole : (k : EntryNote) → Contains held k → IsWhole k =
@@ -410,7 +410,7 @@ module _ {K : Type 0} (shows : K → Lasting) (o : Beside) (size : PathSize) (sl
       (λ b l. set_else s.homes box b none (λ q. absurd (omega arith)))
       (λ C. read_taken size.seats x.notes x.placed x.tables s.homes s.views M id w m.0 v'
       there mine refl C.note C.claim
-      (place_still shows o size s r id w m.0 there mine e (Number n) (told_by false h) tt)
+      (place_still shows o size s r id w m.0 there mine e (Number n) (told_by None h) tt)
       (Some z) refl
       (λ y b is taken. let one : z ≡ y = same_Some z y is in
       ap (λ (k : FlushRead). k.held) (sym one) ∙ ap M.contents (same_Some box b
@@ -453,7 +453,7 @@ module _ {K : Type 0} (shows : K → Lasting) (o : Beside) (size : PathSize) (sl
   gives_read t q b left y cs is taken trimmed holds kept small inside s r _ there _ =
       let n = slice_index s.words (8 + 4 * t.0) in let x = r.core in let e = Look w (Newest t) in
       let z = box_seen q in let h = with_reading (Some z) m.0.hands in
-      let v' = view_after (with_hands h m.0) e n false in
+      let v' = view_after (with_hands h m.0) e n in
       let R = reads_now shows o size s r id w m.0 there mine q is in let few = R.few in
       let N = R.next b taken in let box = N.0 in let low = N.1 in let deep = r.deep in
       let did = looked s r there (Newest t) small
@@ -464,7 +464,7 @@ module _ {K : Type 0} (shows : K → Lasting) (o : Beside) (size : PathSize) (sl
       (set s.views id v')) (sym holds)
       (read_trimmed size.seats x.notes x.placed x.tables s.homes s.views r.memtables id w m.0 v'
       there mine refl C.note C.claim
-      (place_still shows o size s r id w m.0 there mine e (Number n) (told_by false h) tt)
+      (place_still shows o size s r id w m.0 there mine e (Number n) (told_by None h) tt)
       q z refl refl is b taken left trimmed
       (λ j i u e steps t k few place same. unplaced s r there q is j i u e steps t k few place
       (same ∙ N.0))

@@ -8,7 +8,6 @@ use Rattle.std.proofs.Common.{
   suc,
   ◌<◌,
   true,
-  false,
   cond,
   List,
   set,
@@ -206,7 +205,7 @@ module _ {K : Type 0} (shows : K → Lasting) (o : Beside) (size : PathSize) (sl
       let e = Look w (CursorWord Stopped) in
       let stopped = m.0.hands.lasting.stopped in
       let h = hands_with stopped in
-      let v' = view_after (with_hands h m.0) e n false in
+      let v' = view_after (with_hands h m.0) e n in
       let found : n ≡ x.stopped = r.words (CursorWord Stopped) tt in
       let D = (hands_now shows o size slots id m w mine s r there).desk held in
       let k = kept_key s r there in
@@ -221,8 +220,8 @@ module _ {K : Type 0} (shows : K → Lasting) (o : Beside) (size : PathSize) (sl
         keeps,
         tt,
         plays_to shows o size s r id w m.0 there mine e refl may tt tt tt
-            (rows_stay x e may (λ q. q) r.rows) n n false h found
-            (ap (λ q. seat_after m.0.part e (Number q) (told_by false h)) found) found k.0
+            (rows_stay x e may (λ q. q) r.rows) n n None h found
+            (ap (λ q. seat_after m.0.part e (Number q) (told_by None h)) found) found k.0
             (kept_stays x (core_lawful shows o size s r) e may k.0 k.1) m.1 keeps
             (boxed_now s r there stopped (shown o size.at_open k.0 r.filed r.dropped x) v' refl
             (outside shows o size slots id m w mine s r there held)
@@ -253,7 +252,7 @@ module _ {K : Type 0} (shows : K → Lasting) (o : Beside) (size : PathSize) (sl
   halts value risen C s r _ there _ = let x = r.core in let e = Put w Stopped value in
       let above = risen_above m.0.hands.lasting.at_open value risen in
       let h = hands_with (Some value) in
-      let v' = view_after (with_hands h m.0) e value false in
+      let v' = view_after (with_hands h m.0) e value in
       let D = (hands_now shows o size slots id m w mine s r there).desk held in
       let k = kept_key s r there in
       let may : IsStep x e = record {
@@ -273,7 +272,7 @@ module _ {K : Type 0} (shows : K → Lasting) (o : Beside) (size : PathSize) (sl
         keeps,
         tt,
         plays_to shows o size s r id w m.0 there mine e refl may tt built tt
-            (rows_stay x e may (λ q. q) r.rows) value value false h refl refl tt k.0
+            (rows_stay x e may (λ q. q) r.rows) value value None h refl refl tt k.0
             (kept_stays x (core_lawful shows o size s r) e may k.0 k.1) m.1 keeps
             (boxed_now s r there (Some value) (shown o size.at_open k.0 r.filed r.dropped (next_of x e)) v' refl
             (outside shows o size slots id m w mine s r there held)

@@ -1,9 +1,7 @@
 -- The holder of a Flush turn retires a memtable in which nothing was placed.
-use Rattle.std.proofs.Common.{◌≡◌, ℕ, suc, ◌+◌, ◌*◌, ◌<◌, Bool, false, true, cond, List, [], ◌∷◌, ◌++◌, Option, Some, None, is_some, refl, sym, ap, ◌∙◌, subst, arith}
-use Rattle.std.specs.Prelude.{◌&&◌, ◌==◌, not}
-use Rattle.std.specs.List.{list_any, Contains}
-use Rattle.std.proofs.lemmas.Bool.{and_parts, eqb-true, false≢true}
-use Rattle.std.proofs.lemmas.List.{get_or_default}
+use Rattle.std.proofs.Common.{◌≡◌, ℕ, suc, ◌+◌, ◌*◌, ◌<◌, Bool, true, cond, List, [], ◌∷◌, ◌++◌, Option, Some, None, is_some, refl, sym, ap, ◌∙◌, subst, arith}
+use Rattle.std.specs.Prelude.{not}
+use Rattle.std.specs.List.{Contains}
 use Rattle.std.proofs.lemmas.Option.{none-some, same_Some}
 use mathlib.Core.Logic.{inl}
 use mathlib.Core.Option.{none}
@@ -18,12 +16,9 @@ use Rattle.path_core.specs.declared.state.PathState.{PathState}
 use Rattle.path_core.specs.Allowed.{IsStep}
 use Rattle.path_core.specs.Lawful.{IsLawfulPath}
 use Rattle.path_core.specs.Next.{next_of}
-use Rattle.path_core.specs.Parts.{fresh_seat, has_place, is_at, is_empty, is_placed_in, seat_table, table_of, HasPassedBarrier}
+use Rattle.path_core.specs.Parts.{is_empty, seat_table, table_of, HasPassedBarrier}
 use Rattle.path_core.specs.SeatAfter.{seat_after}
 use Rattle.path_core.proofs.files.Retires.{next_file as file_next}
-use Rattle.path_core.proofs.lists.Passing.{any_to}
-use Rattle.path_core.proofs.places.AtRest.{none_runs}
-use Rattle.path_core.proofs.runs.EveryRun.{placing_of}
 use Rattle.path_rule.specs.declared.lasting.Beside.{Beside}
 use Rattle.path_rule.specs.declared.lasting.Lasting.{Lasting}
 use Rattle.path_rule.specs.declared.slot.Slot.{Slot}
@@ -40,6 +35,7 @@ use Rattle.path_rule.specs.Told.{MadeAs}
 use Rattle.path_rule.proofs.boxes.MemtableReads.{read_still, retabled}
 use Rattle.path_rule.proofs.boxes.OtherBoxes.{boxed_other}
 use Rattle.path_rule.proofs.boxes.SeenInterval.{all_seen}
+use Rattle.path_rule.proofs.log.RestsEmpty.{rests_empty}
 use Rattle.path_rule.proofs.moves.Looks.{few_tables, within}
 use Rattle.path_rule.proofs.moves.Moving.{
   columns_now,
@@ -55,37 +51,7 @@ use Rattle.path_rule.proofs.moves.Moving.{
 use Rattle.path_rule.proofs.moves.TableTurns.{each_table_name}
 use Rattle.path_rule.proofs.places.ReadBack.{rows_stay}
 
--- none of a list passes
-none_pass : {A : Type 0} (p : A → Bool) (l : List A) → ((a : A) → Contains l a → p a ≡ true → ⊥)
-    → list_any p l ≡ false
-none_pass p l never = by (list_any p l) refl
-  where
-    by : (b : Bool) → list_any p l ≡ b → list_any p l ≡ false
-    by false e = e
-    by true e = let a = any_to p l e in absurd (never a.0 a.1 a.2)
-
-is_there : (o : Option ℕ) (m : ℕ) → is_at o m ≡ true → o ≡ Some m
-is_there None m e = absurd (false≢true e)
-is_there (Some k) m e = ap (λ (n : ℕ). Some n) (eqb-true k m e)
-
--- A memtable whose barrier is passed, and in which nothing was placed, is empty.
-rests_empty : (x : PathState) → IsLawfulPath x → (t m : ℕ) → HasPassedBarrier x t m
-    → ((entry : ℕ) → Contains x.placed (record { table = t; entry = entry; memtable = m }) → ⊥)
-    → is_empty x t m ≡ true
-rests_empty x L t m passed never =
-    let bare = none_pass (is_placed_in t m) x.placed (λ p h is.
-    let both = and_parts (p.table == t) (p.memtable == m) is in
-    never p.entry (subst (λ (y : ℕ × ℕ).
-    Contains x.placed (record { table = y.0; entry = p.entry; memtable = y.1 }))
-    (λ i. (eqb-true p.table t both.0 i, eqb-true p.memtable m both.1 i)) h)) in
-    let quiet = none_pass (has_place t m) x.seats (λ p h is.
-    none_runs x (placing_of x L) t m passed h.0
-    (ap (λ (z : SeatOf). (seat_table z t).place)
-    (get_or_default x.seats h.0 fresh_seat p h.1 ∙ h.2)
-    ∙ is_there (seat_table p t).place m is)) in
-    (λ i. not (bare i) && not (quiet i))
-
--- such a one gives no file
+-- an empty memtable gives no file when it is retired
 none_filed_now : (x : PathState) (w : ℕ) (t : Table) (f : ℕ)
     → is_empty x t.0 (table_of x t.0).oldest_live ≡ true
     → (next_of x (Put w (OldestLive t) f)).files ≡ x.files
@@ -102,7 +68,7 @@ module _ {K : Type 0} (shows : K → Lasting) (o : Beside) (size : PathSize) (sl
   retires_empty t k f up sees few inside s r _ there _ = let x = r.core in
       let q = sees.0 in let e = Put w (OldestLive t) f in
       let h = with_reading None m.0.hands in
-      let v' = view_after (with_hands h m.0) e f false in
+      let v' = view_after (with_hands h m.0) e f in
       let law = core_lawful shows o size s r in
       let R = reads_now shows o size s r id w m.0 there mine q sees.1 in
       let live : (table_of x t.0).oldest_live ≡ k =
@@ -133,25 +99,27 @@ module _ {K : Type 0} (shows : K → Lasting) (o : Beside) (size : PathSize) (sl
       let told = ap (λ (b : Bool). seat_after m.0.part e (Number 0)
       (record { files = b; marker = None })) (sym (ap not empty)) in
       let C = columns_now shows o size s r id w m.0 there mine e refl may tt tt few rows f
-      f false h refl told in (
+      f None h refl told in (
         v',
         keeps,
         tt,
         plays_with shows o size s r id w m.0 there mine e refl may tt tt few rows f
-            f false h refl told (sym (ap not empty)) (none_filed_now x w t f empty) m.1 keeps
+            f None h refl told
+            (sym (ap not empty), λ lower gave. absurd (none-some lower gave))
+            (none_filed_now x w t f empty) m.1 keeps
             (boxed_other shows size.seats x.notes (shown o size.at_open r.kept_to r.filed r.dropped x) x.claims
             x.append s.homes s.views r.boxed id m.0 v' there refl s.homes (λ b l. refl) C.append
             C.issue m.0.hands.memtable_box m.0.hands.held m.0.hands.applied None refl)
             (retabled size.seats x.notes x.placed x.tables (next_of x e).tables s.homes _
             (read_still size.seats x.notes x.placed x.tables s.homes s.views r.memtables id w m.0 v'
             there mine refl C.note C.claim
-            (place_still shows o size s r id w m.0 there mine e (Number 0) (told_by false h) tt)
+            (place_still shows o size s r id w m.0 there mine e (Number 0) (told_by None h) tt)
             None refl (λ z b is taken. absurd (none-some z is))
             (λ b Q. none-some b (sym (ap (λ (z : FlushRead). z.taken)
             (same_reading Q.0 q Q.1 sees.1) ∙ sees.4) ∙ Q.2)))
             (kept_before shows o size s r e may tt))
             (reads_then shows o size s r id w m.0 there mine e refl may tt tt few rows f
-            f false h refl told (λ z is. absurd (none-some z is))),
+            f None h refl told (λ z is. absurd (none-some z is))),
         λ z u role _ word. each_table_name shows o size slots id m w mine 10 t
             (λ z u. MadeAs z (Put z (OldestLive u) f) f
             (with_reading None m.0.hands) m.0 v' × (m.1 ≡ m.1)

@@ -12,7 +12,6 @@ use Rattle.std.proofs.Common.{
   ◌≤◌,
   Bool,
   true,
-  false,
   [],
   ◌∷◌,
   length,
@@ -159,7 +158,7 @@ module _ {K : Type 0} (shows : K → Lasting) (o : Beside) (size : PathSize) (sl
       → Allows (Ruled shows o size) slots id m (8 + 4 * t.0) (λ _. f)
       (λ _. MemtableOpened (step slots (8 + 4 * t.0) f 0 none) m f)
   opens_memtable t f n few inside newest oldest up small s r _ there _ = let x = r.core in
-      let e = Switch w t f Open in let v' = view_after m.0 e f false in
+      let e = Switch w t f Open in let v' = view_after m.0 e f in
       let L = core_lawful shows o size s r in
       let new = newest_is s r there t.0 n newest in
       let old = oldest_is s r there t.0 n oldest in
@@ -187,7 +186,7 @@ module _ {K : Type 0} (shows : K → Lasting) (o : Beside) (size : PathSize) (sl
       → Allows (Ruled shows o size) slots id m (131144 + 16 * f + t.0) (λ _. 2 ^ 62)
       (λ _. MemtableMarked (step slots (131144 + 16 * f + t.0) (2 ^ 62) 0 none) m (2 ^ 62))
   marks_memtable t f few small inside at s r _ there _ = let x = r.core in
-      let e = Switch w t f Mark in let v' = view_after m.0 e (2 ^ 62) false in
+      let e = Switch w t f Mark in let v' = view_after m.0 e (2 ^ 62) in
       let L = core_lawful shows o size s r in
       let now = stage_now s r there t.0 (Begun (suc f)) at in
       let B = stage_exact x L w t.0 (Begun (suc f)) now in
@@ -250,7 +249,7 @@ module _ {K : Type 0} (shows : K → Lasting) (o : Beside) (size : PathSize) (sl
       let M = marked_now s r there t.0 k at in
       let b = (memtable_of x t.0 f).bound in
       let found : n ≡ bound_word b = r.words (Bound t f) (few, small) in
-      let e = Finalise w t f in let v' = view_after m.0 e n false in
+      let e = Finalise w t f in let v' = view_after m.0 e n in
       let long = (L.switches.tables t.0).bounds_rise.made in let next = M.below_newest in
       let below = (L.switches.tables t.0).bounds_rise.below_log f in
       let top = log_small x L in
@@ -270,7 +269,7 @@ module _ {K : Type 0} (shows : K → Lasting) (o : Beside) (size : PathSize) (sl
       acts shows o size slots id m w mine s r there e refl may tt tt (few, small)
       (rows_stay x e may (λ q. q) r.rows) ((n + 2 ^ 62) % 2 ^ 64) n
       (ap (λ z. (z + 2 ^ 62) % 2 ^ 64) found ∙ final_word b M.bound.0 M.raising low)
-      (ap (λ k. seat_after m.0.part e k (told_by false m.0.hands))
+      (ap (λ k. seat_after m.0.part e k (told_by None m.0.hands))
       (ap (reading_at (Bound t f)) found ∙ read_back x L (Bound t f)))
       found
       (λ C. boxed_stay shows size.seats x.notes

@@ -5,7 +5,6 @@ use Rattle.std.proofs.Common.{
   ◌<◌,
   ◌≤◌,
   true,
-  false,
   List,
   [],
   ◌∷◌,
@@ -130,7 +129,7 @@ module _ {K : Type 0} (shows : K → Lasting) (o : Beside) (size : PathSize) (sl
       =
       sym now_is ∙ (λ j. more_lasting run value (sym D.0 j)) in
       let h = with_desk (more_lasting run value m.0.hands.lasting) left m.0.hands.progress
-      m.0.hands in let v' = view_after (with_hands h m.0) e value false in
+      m.0.hands in let v' = view_after (with_hands h m.0) e value in
       let out = outside shows o size slots id m w mine s r there held in
       let grown : (q : EntryNote) → Contains (ends (old ++ run)) q.end.0
       → Contains (lasting_ends x) q.end.0 ⊎ (q.end.0 ≤ value) = λ q h. ⊎_elim (λ a. inl a)
@@ -164,7 +163,7 @@ module _ {K : Type 0} (shows : K → Lasting) (o : Beside) (size : PathSize) (sl
         keeps,
         tt,
         plays_to shows o size s r id w m.0 there mine e refl may tt tt tt
-            (rows_stay x e may (λ q. q) r.rows) value value false h refl refl tt value
+            (rows_stay x e may (λ q. q) r.rows) value value None h refl refl tt value
             (inl (omega arith)) m.1 keeps
             (subst (λ q. Boxed shows size.seats x.notes q x.claims x.append s.homes
             (set s.views id v')) now_is boxed) tt (refl, refl, refl, refl) tt tt,

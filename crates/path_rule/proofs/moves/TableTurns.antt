@@ -118,7 +118,7 @@ module _ {K : Type 0} (shows : K → Lasting) (o : Beside) (size : PathSize) (sl
       let then = FlushTaken (step slots i 0 1 none) m n in
       exchanged n 0 1 (λ z. Owes shows o size slots id m w mine s i z then)
       (λ hit. let e = TakeTurn w (Flush t) in
-      let v' = view_after m.0 e 1 false in
+      let v' = view_after m.0 e 1 in
       let is = as_part shows o size slots id m w mine s r there in
       let reads : ReadsHeld m.0 = λ q has.
       (reads_now shows o size s r id w m.0 there mine q has).held in
@@ -137,7 +137,7 @@ module _ {K : Type 0} (shows : K → Lasting) (o : Beside) (size : PathSize) (sl
       (λ z q. (n ≡ 0 → Made z (TakeTurn z (Flush q)) 1 m (v', m.1) × ReadsHeld m.0)
       × (n ≢ 0 → Made z (Look z (TurnWord (Flush q))) n m (v', m.1) × (n ≡ 1)))
       ((λ _. (((refl, u), refl), reads)), (λ miss. absurd (miss hit))) z q role word))
-      (λ miss. let v' = view_after m.0 (Look w (TurnWord (Flush t))) n false in
+      (λ miss. let v' = view_after m.0 (Look w (TurnWord (Flush t))) n in
       look_owes shows o size slots id m w mine s r there (TurnWord (Flush t)) few inside then
       (λ made _ z q role _ word. each_table_name 9 t
       (λ z q. (n ≡ 0 → Made z (TakeTurn z (Flush q)) 1 m (v', m.1) × ReadsHeld m.0)
@@ -231,7 +231,7 @@ module _ {K : Type 0} (shows : K → Lasting) (o : Beside) (size : PathSize) (sl
       → Allows (Ruled shows o size) slots id m (9 + 4 * t.0) (λ _. 0)
       (λ _. FlushGiven (step slots (9 + 4 * t.0) 0 0 none) m 0)
   gives_flush t few inside through s r _ there _ = let x = r.core in
-      let e = GiveTurn w (Flush t) in let v' = view_after m.0 e 0 false in
+      let e = GiveTurn w (Flush t) in let v' = view_after m.0 e 0 in
       let may : IsStep x e = record {
         seat = within shows o size slots id m w mine s r there;
         is_there = few_tables shows o size slots id m w mine s r there t.0 inside;

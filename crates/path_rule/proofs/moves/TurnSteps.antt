@@ -82,7 +82,7 @@ module _ {K : Type 0} (shows : K → Lasting) (o : Beside) (size : PathSize) (sl
       let h = with_desk (shown o size.at_open r.kept_to r.filed r.dropped x) r.boxed.pending r.boxed.progress
       m.0.hands
       in
-      let v' = view_after (with_hands h m.0) e 1 false in
+      let v' = view_after (with_hands h m.0) e 1 in
       let free = unheld x Sync (ap Number (sym (r.words (TurnWord Sync) tt) ∙ hit)) in
       let in_it = within shows o size slots id m w mine s r there in
       let may : IsStep x e = record {
@@ -96,7 +96,7 @@ module _ {K : Type 0} (shows : K → Lasting) (o : Beside) (size : PathSize) (sl
         takes desk_box home.0,
         home.1,
         plays shows o size s r id w m.0 there mine e refl may tt tt tt
-            (rows_stay x e may (λ q. q) r.rows) 1 1 false h refl
+            (rows_stay x e may (λ q. q) r.rows) 1 1 None h refl
             (ap (λ k. seat_after m.0.part e (Number 1) (record { files = false; marker = k }))
             (sym r.boxed.marked)) tt m.1 (takes desk_box home.0)
             (boxed_desk_take shows size.seats x.notes
@@ -128,7 +128,7 @@ module _ {K : Type 0} (shows : K → Lasting) (o : Beside) (size : PathSize) (sl
               (λ miss. absurd (miss hit)),
             ),
       ))
-      (λ miss. let v' = view_after m.0 (Look w (TurnWord Sync)) n false in
+      (λ miss. let v' = view_after m.0 (Look w (TurnWord Sync)) n in
       look_owes shows o size slots id m w mine s r there (TurnWord Sync) tt tt then (λ made _.
       each_seat_name shows o size slots id m w mine
       (λ z. (m.0.hands.box_taken ≡ None)
@@ -154,7 +154,7 @@ module _ {K : Type 0} (shows : K → Lasting) (o : Beside) (size : PathSize) (sl
       (step slots 7 0 0 none) m 0)
   gives_sync y cs held rest_now empty holds fits s r _ there _ = let x = r.core in
       let law = core_lawful shows o size s r in let e = GiveTurn w Sync in
-      let h = unswept_hands m.0.hands in let v' = view_after (with_hands h m.0) e 0 false in
+      let h = unswept_hands m.0.hands in let v' = view_after (with_hands h m.0) e 0 in
       let in_it = within shows o size slots id m w mine s r there in
       let has = own_part shows o size slots id m w mine s r there
       (λ (p : Seat). is_some p.sync) true held in
@@ -170,7 +170,7 @@ module _ {K : Type 0} (shows : K → Lasting) (o : Beside) (size : PathSize) (sl
         gives,
         tt,
         plays shows o size s r id w m.0 there mine e refl may tt tt tt
-            (rows_stay x e may (λ q. q) r.rows) 0 0 false h refl refl tt m.1 gives
+            (rows_stay x e may (λ q. q) r.rows) 0 0 None h refl refl tt m.1 gives
             (subst
             (λ l. Boxed shows size.seats x.notes (shown o size.at_open r.kept_to r.filed r.dropped x) x.claims
             x.append

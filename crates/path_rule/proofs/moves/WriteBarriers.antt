@@ -9,7 +9,6 @@ use Rattle.std.proofs.Common.{
   ◌^◌,
   ◌<◌,
   ◌≤◌,
-  false,
   [],
   ◌∷◌,
   length,
@@ -79,7 +78,7 @@ module _ {K : Type 0} (shows : K → Lasting) (o : Beside) (size : PathSize) (sl
       → Allows (Ruled shows o size) slots id m (72 + 2 * g) (λ _. 0)
       (λ _. WriteOpened (step slots (72 + 2 * g) 0 0 none) m 0)
   opens_write g c held calm saw up empty fits s r _ there _ = let x = r.core in
-      let e = OpenGroup w Write g in let v' = view_after m.0 e 0 false in
+      let e = OpenGroup w Write g in let v' = view_after m.0 e 0 in
       let law = core_lawful shows o size s r in
       let now = now_is shows o size slots id m w mine s r there held Write c saw in
       let t = at_rest m.0.part held calm in
@@ -102,7 +101,7 @@ module _ {K : Type 0} (shows : K → Lasting) (o : Beside) (size : PathSize) (sl
         keeps,
         tt,
         plays shows o size s r id w m.0 there mine e refl may tt tt fits
-            (rows s r g (let q = up ∙ ap suc now in omega arith)) 0 0 false m.0.hands told refl tt
+            (rows s r g (let q = up ∙ ap suc now in omega arith)) 0 0 None m.0.hands told refl tt
             m.1 keeps
             (unseen shows o size slots id m w mine s r there held
             (next_of x e).append v' refl refl refl out
@@ -126,7 +125,7 @@ module _ {K : Type 0} (shows : K → Lasting) (o : Beside) (size : PathSize) (sl
       → Allows (Ruled shows o size) slots id m 0 (λ _. g)
       (λ _. WriteMoved (step slots 0 g 0 none) m g)
   moves_write g c doing saw up empty s r _ there _ = let x = r.core in
-      let e = MoveCurrent w Write g in let v' = view_after m.0 e c false in
+      let e = MoveCurrent w Write g in let v' = view_after m.0 e c in
       let law = core_lawful shows o size s r in
       let t = at_issue m.0.part (Opened Write) (λ q. cc) doing in
       let held = is_held m.0.part.sync t.0 t.1 in
@@ -149,8 +148,8 @@ module _ {K : Type 0} (shows : K → Lasting) (o : Beside) (size : PathSize) (sl
         keeps,
         tt,
         plays shows o size s r id w m.0 there mine e refl may tt tt tt
-            (rows_stay x e may (λ q. q) r.rows) g c false m.0.hands refl
-            (ap (λ k. seat_after m.0.part e (Number k) (told_by false m.0.hands)) now) tt m.1
+            (rows_stay x e may (λ q. q) r.rows) g c None m.0.hands refl
+            (ap (λ k. seat_after m.0.part e (Number k) (told_by None m.0.hands)) now) tt m.1
             keeps
             (unseen shows o size slots id m w mine s r there held x.append v' refl refl refl out
             (still _ m.0.part.sync held) refl empty) tt (refl, refl, refl, refl) tt tt,
@@ -158,7 +157,7 @@ module _ {K : Type 0} (shows : K → Lasting) (o : Beside) (size : PathSize) (sl
             ∙ sym (now_is shows o size slots id m w mine s r there held Write c' saw') in
             each_seat_name shows o size slots id m w mine
             (λ z. Made z (MoveCurrent z Write g) c' m (v', m.1))
-            (subst (λ k. Made w (MoveCurrent w Write g) k m (view_after m.0 e c false, m.1)) same
+            (subst (λ k. Made w (MoveCurrent w Write g) k m (view_after m.0 e c, m.1)) same
             ((refl, was shows o size s r id w m.0 there mine e may tt), refl)) z role),
       )
 
@@ -169,7 +168,7 @@ module _ {K : Type 0} (shows : K → Lasting) (o : Beside) (size : PathSize) (sl
   expires_write g c doing saw up empty fits s r _ there low = let n =
       slice_index s.words (72 + 2 * g) in let x = r.core in let k = tally_of x Write g in
       let found : n ≡ tally_word k = r.words (Count Write g) fits in
-      let e = Expire w Write g in let v' = view_after m.0 e n false in
+      let e = Expire w Write g in let v' = view_after m.0 e n in
       let law = core_lawful shows o size s r in
       let t = at_issue m.0.part (Moved Write) (λ q. cc) doing in
       let held = is_held m.0.part.sync t.0 t.1 in
@@ -196,7 +195,7 @@ module _ {K : Type 0} (shows : K → Lasting) (o : Beside) (size : PathSize) (sl
         tt,
         plays shows o size s r id w m.0 there mine e refl may tt tt fits
             (rows_stay x e may (λ q. q) r.rows)
-            ((n + 2 ^ 63) % 2 ^ 64) n false m.0.hands told refl tt m.1 keeps
+            ((n + 2 ^ 63) % 2 ^ 64) n None m.0.hands told refl tt m.1 keeps
             (unseen shows o size slots id m w mine s r there held x.append v' refl refl refl out
             (still _ m.0.part.sync held) refl empty) tt (refl, refl, refl, refl) tt tt,
         (λ z q role _ word. each_name shows o size slots id m w mine 72 g
@@ -210,7 +209,7 @@ module _ {K : Type 0} (shows : K → Lasting) (o : Beside) (size : PathSize) (sl
       → Allows (Ruled shows o size) slots id m 2 (λ _. g)
       (λ _. WriteAdvanced (step slots 2 g 0 none) m g)
   advances_write g d c t sync saw old gone up le empty s r _ there _ = let x = r.core in
-      let e = Advance w Write g in let v' = view_after m.0 e g false in
+      let e = Advance w Write g in let v' = view_after m.0 e g in
       let law = core_lawful shows o size s r in let held = is_held m.0.part.sync t sync in
       let X = exact_of shows o size slots id m w mine s r there held Write t sync in
       let now = X.current c saw in
@@ -232,7 +231,7 @@ module _ {K : Type 0} (shows : K → Lasting) (o : Beside) (size : PathSize) (sl
         keeps,
         tt,
         plays shows o size s r id w m.0 there mine e refl may tt tt tt
-            (rows_stay x e may (λ q. q) r.rows) g g false m.0.hands refl refl tt m.1 keeps
+            (rows_stay x e may (λ q. q) r.rows) g g None m.0.hands refl refl tt m.1 keeps
             (unseen shows o size slots id m w mine s r there held x.append v' refl refl refl out
             (still _ m.0.part.sync held) refl empty) tt (refl, refl, refl, refl) tt tt,
         each_seat_name shows o size slots id m w mine (λ z. Made z (Advance z Write g) g m

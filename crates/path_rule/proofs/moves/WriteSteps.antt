@@ -10,7 +10,6 @@ use Rattle.std.proofs.Common.{
   ◌^◌,
   ◌<◌,
   eqb,
-  false,
   Some,
   None,
   refl,
@@ -74,7 +73,7 @@ module _ {K : Type 0} (shows : K → Lasting) (o : Beside) (size : PathSize) (sl
       exchanged n k (k + 1) (λ z. Owes shows o size slots id m w mine s (72 + 2 * g) z then)
       (λ hit. let e = Register w Write g in
       let is = as_part shows o size slots id m w mine s r there in
-      let more = more_word c (omega arith) in let v' = view_after m.0 e (k + 1) false in
+      let more = more_word c (omega arith) in let v' = view_after m.0 e (k + 1) in
       let made = below shows o size slots id m w mine s r there (Count Write g) (inl saw) in
       let may : IsStep x e = record {
         seat = within shows o size slots id m w mine s r there;
@@ -99,7 +98,7 @@ module _ {K : Type 0} (shows : K → Lasting) (o : Beside) (size : PathSize) (sl
       (λ z h. (n ≡ k → Made z (Register z Write h) (k + 1) m (v', m.1))
       × (n ≢ k → Made z (Look z (Count Write h)) n m (v', m.1)))
       ((λ _. ((refl, u), refl)), (λ miss. absurd (miss hit))) z h role word))
-      (λ miss. let v' = view_after m.0 (Look w (Count Write g)) n false in
+      (λ miss. let v' = view_after m.0 (Look w (Count Write g)) n in
       look_owes shows o size slots id m w mine s r there (Count Write g) fits (inl saw) then
       (λ made _ z h role _ word.
       each_name shows o size slots id m w mine 72 g
@@ -118,7 +117,7 @@ module _ {K : Type 0} (shows : K → Lasting) (o : Beside) (size : PathSize) (sl
       in
       let here = ap (λ (p : SeatOf). p.write) (sym is) ∙ write in
       let made = group_made x (core_lawful shows o size s r) Write w g here in
-      let v' = view_after m.0 e n false in
+      let v' = view_after m.0 e n in
       let may : IsStep x e = record {
         seat = within shows o size slots id m w mine s r there;
         is_there = made;

@@ -184,7 +184,7 @@ module _ (v : View) (w : ℕ) where
 
   pub tries_oldest : (t : Table) (n : ℕ) (was : Was v w (Look w (CursorWord (OldestLive t))))
       → t.0 < 16 → IsTrue (has_note_of v.part t.0) → (seat_table v.part t.0).trying ≡ None
-      → (seat_table (view_after v (Look w (CursorWord (OldestLive t))) n false).part t.0).trying
+      → (seat_table (view_after v (Look w (CursorWord (OldestLive t))) n).part t.0).trying
       ≡ Some n
   tries_oldest t n was low note none_yet = ap (λ (st : SeatTable). st.trying)
       (get_or-set_same v.part.tables t.0 _ untouched (table_inside _ was t.0 low))
@@ -230,7 +230,7 @@ module _ (v : View) (w : ℕ) where
 
   looked_part : (t : Table) (m n end : ℕ) → Was v w (Look w (Bound t m)) → t.0 < 16
       → deposited_end v.part ≡ Some end → (seat_table v.part t.0).trying ≡ Some m
-      → seat_table (view_after v (Look w (Bound t m)) n false).part t.0
+      → seat_table (view_after v (Look w (Bound t m)) n).part t.0
       ≡ tried end m (bound_in n) (bound_found m (bound_in n) (seat_table v.part t.0))
   looked_part t m n end was low ends trying =
       let b = bound_in n in let st = bound_found m b (seat_table v.part t.0) in
@@ -247,7 +247,7 @@ module _ (v : View) (w : ℕ) where
       → word_of (reading was.core (Bound t m)) ≡ n
       → deposited_end v.part ≡ Some end → (seat_table v.part t.0).trying ≡ Some m
       → TriesBound end m (bound_in n)
-      (seat_table (view_after v (Look w (Bound t m)) n false).part t.0)
+      (seat_table (view_after v (Look w (Bound t m)) n).part t.0)
   looked_tries t m n end was low found ends trying =
       let b = bound_in n in let st = bound_found m b (seat_table v.part t.0) in
       let part = looked_part t m n end was low ends trying in record {
@@ -278,12 +278,12 @@ module _ (v : View) (w : ℕ) where
       → t.0 < 16 → word_of (reading was.core (Bound t m)) ≡ n
       → RaisesAsWriter v.part t.0 m key.0
       → RaisesBound m (bound_in n)
-      (seat_table (view_after v (Raise w t m key) n false).part t.0)
+      (seat_table (view_after v (Raise w t m key) n).part t.0)
   raised_tries t m n key was low found W =
       let b = bound_in n in
       let st = bound_found m (raised_to key.0 b) (seat_table v.part t.0) in
       let d = is_some v.part.note in let c = d && is_at st.trying m && is_raising b in
-      let part : seat_table (view_after v (Raise w t m key) n false).part t.0
+      let part : seat_table (view_after v (Raise w t m key) n).part t.0
       ≡ raised_as_holder m key.0 (raised_as_writer d m b st) =
       get_or-set_same v.part.tables t.0 _ untouched (table_inside _ was t.0 low) in record {
         not_live = subst (λ (k : BoundOf). k ≢ Live) (sym (bound_is t m n _ was found))
@@ -311,14 +311,14 @@ module _ (v : View) (w : ℕ) where
   -- at other tables nothing changes
 
   pub oldest_leaves : (t : Table) (n u : ℕ) → u ≢ t.0
-      → seat_table (view_after v (Look w (CursorWord (OldestLive t))) n false).part u
+      → seat_table (view_after v (Look w (CursorWord (OldestLive t))) n).part u
       ≡ seat_table v.part u
   oldest_leaves t n u apart = get_or-set_other v.part.tables t.0 u _ untouched apart
 
   pub raised_leaves : (t : Table) (m n : ℕ) (key : Key) (u : ℕ) → u ≢ t.0
-      → seat_table (view_after v (Raise w t m key) n false).part u ≡ seat_table v.part u
+      → seat_table (view_after v (Raise w t m key) n).part u ≡ seat_table v.part u
   raised_leaves t m n key u apart = get_or-set_other v.part.tables t.0 u _ untouched apart
 
   pub bound_leaves : (t : Table) (m n u : ℕ) → u ≢ t.0
-      → seat_table (view_after v (Look w (Bound t m)) n false).part u ≡ seat_table v.part u
+      → seat_table (view_after v (Look w (Bound t m)) n).part u ≡ seat_table v.part u
   bound_leaves t m n u apart = get_or-set_other v.part.tables t.0 u _ untouched apart

@@ -6,7 +6,6 @@ use Rattle.std.proofs.Common.{
   [],
   ◌∷◌,
   ◌++◌,
-  false,
   Option,
   Some,
   None,
@@ -47,7 +46,7 @@ in_no_flush f st free = ap (λ (o : Option FlushTurn). record st { flush = optio
 module _ (v : View) (w : ℕ) (t : Table) (n : ℕ) (h : Hands) where
   -- So a look at a table's newest memtable leaves the part of a seat that holds no turn.
   pub leaves_part : HoldsNoTurn v.part
-      → (view_after (with_hands h v) (Look w (Newest t)) n false).part ≡ v.part
+      → (view_after (with_hands h v) (Look w (Newest t)) n).part ≡ v.part
   leaves_part free = ap (λ (l : List SeatTable). record v.part { tables = l })
       (ap (λ (st : SeatTable). set v.part.tables t.0 st)
       (in_no_flush (λ (turn : FlushTurn). record turn { newest = Some n }) (seat_table v.part t.0)
@@ -55,7 +54,7 @@ module _ (v : View) (w : ℕ) (t : Table) (n : ℕ) (h : Hands) where
 
   -- The write may be put into the box still.
   pub may_still : (note : EntryNote) (after : View) → HoldsNoTurn v.part
-      → after ≡ view_after (with_hands h v) (Look w (Newest t)) n false
+      → after ≡ view_after (with_hands h v) (Look w (Newest t)) n
       → h.applied ≡ v.hands.applied → MayApply v w t.0 note → MayApply after w t.0 note
   may_still note after free is same A = subst (λ (u : View). MayApply u w t.0 note) (sym is)
       (record {
@@ -69,14 +68,14 @@ module _ (v : View) (w : ℕ) (t : Table) (n : ℕ) (h : Hands) where
 -- Both looks together.
 pub puts_note : (v mid after : View) (w : ℕ) (t : Table) (k first last b : ℕ)
     (held : List EntryNote) (note : EntryNote) → HoldsNoTurn v.part
-    → mid ≡ view_after (with_hands (with_held b held v.hands) v) (Look w (Newest t)) first false
+    → mid ≡ view_after (with_hands (with_held b held v.hands) v) (Look w (Newest t)) first
     → after ≡ view_after (with_hands (with_applied (put_there t k note) mid.hands) mid)
-    (Look w (Newest t)) last false → PutsNote v w t k note after
+    (Look w (Newest t)) last → PutsNote v w t k note after
 puts_note v mid after w t k first last b held note free is then = record {
   first = first;
   last = last;
   trail = ap (λ (u : View). u.trail) then
-      ∙ ap (λ (u : View). record { event = Look w (Newest t); found = last; filed = false }
+      ∙ ap (λ (u : View). record { event = Look w (Newest t); found = last; filed = None }
       ∷ u.trail) is;
   part = ap (λ (u : View). u.part) then ∙ (leaves_part mid w t last
       (with_applied (put_there t k note) mid.hands)

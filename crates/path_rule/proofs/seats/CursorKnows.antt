@@ -1,5 +1,5 @@
 -- What the holder of the Sync turn knows of the cursors after a look.
-use Rattle.std.proofs.Common.{◌≡◌, ℕ, ◌<◌, false, Some, is_some, IsTrue, refl, ap}
+use Rattle.std.proofs.Common.{◌≡◌, ℕ, ◌<◌, Some, is_some, IsTrue, refl, ap}
 use Rattle.std.specs.Option.{option_map}
 use Rattle.path_core.specs.declared.event.Cursor.TheVariants.{Synced, Stopped}
 use Rattle.path_core.specs.declared.event.Event.TheVariants.{Look}
@@ -15,12 +15,12 @@ abbrev pub StoppedSeen : Seat → ℕ → Type 0
 StoppedSeen p n = (t : SyncTurn) × (p.sync ≡ Some t) × (t.stopped ≡ Some n)
 
 pub stopped_seen : (v : View) (w n : ℕ) → IsTrue (is_some v.part.sync)
-    → StoppedSeen (view_after v (Look w (CursorWord Stopped)) n false).part n
+    → StoppedSeen (view_after v (Look w (CursorWord Stopped)) n).part n
 stopped_seen v w n h = let t = the_turn v.part h in (_, ap (option_map _) t.1, refl)
 
 pub synced_seen : (v : View) (w n value : ℕ) (t : SyncTurn) → v.part.sync ≡ Some t
     → t.stopped ≡ Some 0 → n < value → TurnRuns
-    (view_after v (Look w (CursorWord Synced)) n false).part value
+    (view_after v (Look w (CursorWord Synced)) n).part value
 synced_seen v w n value t sync runs low = (
   record t { synced = Some n },
   n,

@@ -26,71 +26,71 @@ use Rattle.path_rule.proofs.seats.HolderKnows.{
 
 module _ (v : View) (w n : ℕ) where
   pub current_held : (o : Order) (i : Issue) → Holds i v
-      → Holds i (view_after v (Look w (Current o)) n false)
+      → Holds i (view_after v (Look w (Current o)) n)
   current_held Write i H = changes _ i i (λ t e. e) v
-      (view_after v (Look w (Current Write)) n false) refl refl H
+      (view_after v (Look w (Current Write)) n) refl refl H
   current_held Append i H = changes _ i i (λ t e. e) v
-      (view_after v (Look w (Current Append)) n false) refl refl H
+      (view_after v (Look w (Current Append)) n) refl refl H
 
   pub current_saw : (o : Order) → IsTrue (is_some v.part.sync)
-      → TurnSaw o (view_after v (Look w (Current o)) n false).part n
+      → TurnSaw o (view_after v (Look w (Current o)) n).part n
   current_saw Write h = let t = the_turn v.part h in (_, ap (option_map _) t.1, refl)
   current_saw Append h = let t = the_turn v.part h in (_, ap (option_map _) t.1, refl)
 
   pub current_runs : (o : Order) → FoundRunning v.part
-      → FoundRunning (view_after v (Look w (Current o)) n false).part
+      → FoundRunning (view_after v (Look w (Current o)) n).part
   current_runs Write r = (_, ap (option_map _) r.1, r.2)
   current_runs Append r = (_, ap (option_map _) r.1, r.2)
 
   pub oldest_held : (o : Order) (i : Issue) → Holds i v
-      → Holds i (view_after v (Look w (Oldest o)) n false)
+      → Holds i (view_after v (Look w (Oldest o)) n)
   oldest_held Write i H = changes _ i i (λ t e. e) v
-      (view_after v (Look w (Oldest Write)) n false) refl refl H
+      (view_after v (Look w (Oldest Write)) n) refl refl H
   oldest_held Append i H = changes _ i i (λ t e. e) v
-      (view_after v (Look w (Oldest Append)) n false) refl refl H
+      (view_after v (Look w (Oldest Append)) n) refl refl H
 
   pub oldest_saw : (o : Order) (c : ℕ) → TurnSaw o v.part c
-      → TurnSaw o (view_after v (Look w (Oldest o)) n false).part c
+      → TurnSaw o (view_after v (Look w (Oldest o)) n).part c
   oldest_saw Write c s = saw_after _ Write v.part
-      (view_after v (Look w (Oldest Write)) n false).part c
+      (view_after v (Look w (Oldest Write)) n).part c
       (λ t. refl) refl s
   oldest_saw Append c s = saw_after _ Append v.part
-      (view_after v (Look w (Oldest Append)) n false).part c
+      (view_after v (Look w (Oldest Append)) n).part c
       (λ t. refl) refl s
 
   pub oldest_old : (o : Order) → IsTrue (is_some v.part.sync)
-      → TurnOld o (view_after v (Look w (Oldest o)) n false).part n
+      → TurnOld o (view_after v (Look w (Oldest o)) n).part n
   oldest_old Write h = let t = the_turn v.part h in (_, ap (option_map _) t.1, refl)
   oldest_old Append h = let t = the_turn v.part h in (_, ap (option_map _) t.1, refl)
 
   pub oldest_seen : (o : Order)
-      → (found_of o (view_after v (Look w (Oldest o)) n false).part).oldest ≡ Some n
+      → (found_of o (view_after v (Look w (Oldest o)) n).part).oldest ≡ Some n
   oldest_seen Write = refl
   oldest_seen Append = refl
 
   pub count_held : (o : Order) (g : ℕ) (i : Issue) → Holds i v
-      → Holds i (view_after v (Look w (Count o g)) n false)
+      → Holds i (view_after v (Look w (Count o g)) n)
   count_held Write g i H = by (is_finished (tally_in n))
     where
       by : (b : Bool) → Holds i (record
-          (view_after v (Look w (Count Write g)) n false)
+          (view_after v (Look w (Count Write g)) n)
           { part = if b then keeps Write (finished_found g) v.part else v.part })
       by true = changes _ i i (λ t e. e) v
-          (record (view_after v (Look w (Count Write g)) n false)
+          (record (view_after v (Look w (Count Write g)) n)
           { part = keeps Write (finished_found g) v.part }) refl refl H
       by false = record { held = H.held; issue = H.issue; empty = H.empty }
   count_held Append g i H = by (is_finished (tally_in n))
     where
       by : (b : Bool) → Holds i (record
-          (view_after v (Look w (Count Append g)) n false)
+          (view_after v (Look w (Count Append g)) n)
           { part = if b then keeps Append (finished_found g) v.part else v.part })
       by true = changes _ i i (λ t e. e) v
-          (record (view_after v (Look w (Count Append g)) n false)
+          (record (view_after v (Look w (Count Append g)) n)
           { part = keeps Append (finished_found g) v.part }) refl refl H
       by false = record { held = H.held; issue = H.issue; empty = H.empty }
 
   pub count_saw : (o : Order) (g c : ℕ) → TurnSaw o v.part c
-      → TurnSaw o (view_after v (Look w (Count o g)) n false).part c
+      → TurnSaw o (view_after v (Look w (Count o g)) n).part c
   count_saw Write g c s = by (is_finished (tally_in n))
     where
       by : (b : Bool) → TurnSaw Write (if b then keeps Write (finished_found g) v.part else v.part)
@@ -108,7 +108,7 @@ module _ (v : View) (w n : ℕ) where
       by false = s
 
   pub count_old : (o : Order) (g c : ℕ) → TurnOld o v.part c
-      → TurnOld o (view_after v (Look w (Count o g)) n false).part c
+      → TurnOld o (view_after v (Look w (Count o g)) n).part c
   count_old Write g c s = by (is_finished (tally_in n))
     where
       by : (b : Bool) → TurnOld Write (if b then keeps Write (finished_found g) v.part else v.part)
@@ -126,7 +126,7 @@ module _ (v : View) (w n : ℕ) where
       by false = s
 
   pub count_gone : (o : Order) (g : ℕ) → n ≡ 2 ^ 63 → IsTrue (is_some v.part.sync)
-      → TurnGone o (view_after v (Look w (Count o g)) n false).part g
+      → TurnGone o (view_after v (Look w (Count o g)) n).part g
   count_gone Write g e h = subst (λ b. TurnGone Write
       (if b then keeps Write (finished_found g) v.part else v.part) g) (sym (is_gone n e))
       (let t = the_turn v.part h in (_, ap (option_map _) t.1, refl))
@@ -135,6 +135,6 @@ module _ (v : View) (w n : ℕ) where
       (let t = the_turn v.part h in (_, ap (option_map _) t.1, refl))
 
   pub current_marker : (o : Order)
-      → marker_of (view_after v (Look w (Current o)) n false).part ≡ marker_of v.part
+      → marker_of (view_after v (Look w (Current o)) n).part ≡ marker_of v.part
   current_marker Write = marker_stays _ v.part.sync (λ t. refl)
   current_marker Append = marker_stays _ v.part.sync (λ t. refl)

@@ -4,7 +4,6 @@ use Rattle.std.proofs.Common.{
   ℕ,
   ◌≤◌,
   true,
-  false,
   Option,
   Some,
   None,
@@ -78,7 +77,7 @@ pub marked_keeps : (u after : View) (w from to : ℕ) → DidAs u w (Claim w (re
     → KeepsCurrent Append u.part after.part
 marked_keeps u after w from to D =
     let v = view_after (with_hands (with_marker w from u.hands) u)
-    (Claim w (record { 0 = from }) (record { 0 = to }) Marker) to false in
+    (Claim w (record { 0 = from }) (record { 0 = to }) Marker) to in
     λ k saw. subst (λ (z : View). TurnSaw Append z.part k) (sym D.view)
     (saw_after (marker_claimed w from) Append u.part v.part k (λ t. refl) refl saw)
 
@@ -88,7 +87,7 @@ pub marked_runs : (u after : View) (w from to : ℕ) → DidAs u w (Claim w (rec
     → FoundRunning u.part → FoundRunning after.part
 marked_runs u after w from to D runs =
     let v = view_after (with_hands (with_marker w from u.hands) u)
-    (Claim w (record { 0 = from }) (record { 0 = to }) Marker) to false in
+    (Claim w (record { 0 = from }) (record { 0 = to }) Marker) to in
     subst (λ (z : View). FoundRunning z.part) (sym D.view)
     (runs_after (marker_claimed w from) u.part v.part (λ t. refl) refl runs)
 

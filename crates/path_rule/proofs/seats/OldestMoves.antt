@@ -1,5 +1,5 @@
 -- A try to move the oldest group on: what it found at its three looks, and its step behind them.
-use Rattle.std.proofs.Common.{◌≡◌, ◌≢◌, ℕ, suc, ◌^◌, false, List, ◌∷◌, length, refl, sym, ap, ◌∙◌, subst, arith}
+use Rattle.std.proofs.Common.{◌≡◌, ◌≢◌, ℕ, suc, ◌^◌, List, ◌∷◌, length, refl, sym, ap, ◌∙◌, subst, arith, None}
 use mathlib.Core.Logic.{inl, inr}
 use Rattle.op_core.specs.declared.count.Order.{Order}
 use Rattle.path_core.specs.declared.event.Event.{Event}
@@ -11,7 +11,7 @@ use Rattle.path_rule.specs.Calls.{Did, FoundSince, acts}
 use Rattle.path_rule.specs.Passes.{HasMovedOn, RunsStill}
 
 abbrev step : Event → ℕ → OwnStep
-step e n = record { event = e; found = n; filed = false }
+step e n = record { event = e; found = n; filed = None }
 
 -- one step more in front
 grown : (v : View) (w : ℕ) (e : Event) (n : ℕ) (after : View) (ts : List OwnStep)

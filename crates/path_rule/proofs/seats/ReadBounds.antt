@@ -72,7 +72,7 @@ try_leaves (Some end) m b st = by (is_at st.trying m) (takes end b) (is_final_be
 
 pub bound_after : (v : View) (w : ℕ) (t : Table) (k n b : ℕ) → Was v w (Look w (Bound t k))
     → t.0 < 16 → n ≡ b + 2 ^ 63
-    → FoundFinal t.0 (view_after v (Look w (Bound t k)) n false).part k b
+    → FoundFinal t.0 (view_after v (Look w (Bound t k)) n).part k b
 bound_after v w t k n b was few is =
     let long : length v.part.tables ≡ 16 =
     ap (λ (p : Seat). length p.tables) was.part ∙ was.lawful.sized.seats w in

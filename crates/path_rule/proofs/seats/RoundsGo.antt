@@ -348,8 +348,8 @@ idle_still e p q P C I free = (
 abbrev pub one_as : (w : ℕ) (e : Event) (n : ℕ) (h : Hands) (v after : View) → IsRoundStep w e
     → DidAs v w e n h after → h.reading ≡ v.hands.reading → RoundSteps w (with_put e []) v after
 one_as w e n h v after is d reads = let P = is_plain w e is in
-    let r = reading_at (place_of e) n in let told = told_by false h in record {
-      steps = record { event = e; found = n; filed = false } ∷ [];
+    let r = reading_at (place_of e) n in let told = told_by None h in record {
+      steps = record { event = e; found = n; filed = None } ∷ [];
       trail = ap (λ (u : View). u.trail) d.view;
       are = (is, tt);
       puts_are = refl;

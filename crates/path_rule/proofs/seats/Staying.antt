@@ -14,8 +14,8 @@ use Rattle.path_rule.specs.Rule.{told_by, view_after}
 use Rattle.path_rule.proofs.places.ReadBack.{is_some_held}
 
 pub view_columns : (v : View) (e : Event) (n : ℕ) → FitsSeat e v.part
-    → Columns e v.part (view_after v e n false).part
-view_columns v e n fits = columns e v.part (reading_at (place_of e) n) (told_by false v.hands) fits
+    → Columns e v.part (view_after v e n).part
+view_columns v e n fits = columns e v.part (reading_at (place_of e) n) (told_by None v.hands) fits
 
 pub none_is : {A : Type 0} (o : Option A) → is_some o ≡ false → o ≡ None
 none_is None e = refl

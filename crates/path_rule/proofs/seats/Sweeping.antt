@@ -50,15 +50,15 @@ pub holds_swept : (v u after : View) (w z n k : ℕ) (h i : Hands)
     → i.box_taken ≡ None → Holds Rest v → Holds Rest after
 holds_swept v u after w z n k h i D E none H =
     let once = know.oldest_held v w n Append Rest H in
-    let before = view_after (with_hands h v) (Look w (Oldest Append)) n false in
-    let twice : Holds Rest (view_after (with_hands i before) (Look z (Oldest Append)) k false) =
+    let before = view_after (with_hands h v) (Look w (Oldest Append)) n in
+    let twice : Holds Rest (view_after (with_hands i before) (Look z (Oldest Append)) k) =
     know.oldest_held (with_hands i before) z k Append Rest (record {
       held = once.held;
       issue = once.issue;
       empty = none;
     }) in
     subst (Holds Rest) (sym E.view)
-    (subst (λ (y : View). Holds Rest (view_after (with_hands i y) (Look z (Oldest Append)) k false))
+    (subst (λ (y : View). Holds Rest (view_after (with_hands i y) (Look z (Oldest Append)) k))
     (sym D.view) twice)
 
 -- what it knows of its boxes after a step

@@ -159,17 +159,17 @@ keeps_tables Append f s = refl
 
 -- and so the stages of switches
 pub current_stages : (v : View) (w n : ℕ) (o : Order) (t : ℕ)
-    → stage_of (view_after v (Look w (Current o)) n false).part t ≡ stage_of v.part t
+    → stage_of (view_after v (Look w (Current o)) n).part t ≡ stage_of v.part t
 current_stages v w n o t = ap (λ ts. stage_in (get_or ts t untouched).flush)
     (keeps_tables o (current_found n) v.part)
 
 pub oldest_stages : (v : View) (w n : ℕ) (o : Order) (t : ℕ)
-    → stage_of (view_after v (Look w (Oldest o)) n false).part t ≡ stage_of v.part t
+    → stage_of (view_after v (Look w (Oldest o)) n).part t ≡ stage_of v.part t
 oldest_stages v w n o t = ap (λ ts. stage_in (get_or ts t untouched).flush)
     (keeps_tables o (oldest_found n) v.part)
 
 pub count_stages : (v : View) (w n : ℕ) (o : Order) (g t : ℕ)
-    → stage_of (view_after v (Look w (Count o g)) n false).part t ≡ stage_of v.part t
+    → stage_of (view_after v (Look w (Count o g)) n).part t ≡ stage_of v.part t
 count_stages v w n o g t = by (is_finished (tally_in n))
   where
     by : (b : Bool) → stage_in (get_or (if b then keeps o (finished_found g) v.part
@@ -180,7 +180,7 @@ count_stages v w n o g t = by (is_finished (tally_in n))
 
 -- a memtable that waits has its barrier, once the next group is current
 pub barrier_stage : (v : View) (w t g current f : ℕ) → stage_of v.part t ≡ Some (Waiting f)
-    → stage_of (view_after v (MoveCurrent w Write g) current false).part t
+    → stage_of (view_after v (MoveCurrent w Write g) current).part t
     ≡ Some (WithBarrier f current)
 barrier_stage v w t g current f waits =
     ap (λ (st : SeatTable). stage_in st.flush)
@@ -196,7 +196,7 @@ module _ (v : View) (w : ℕ) (t : Table) (few : t.0 < 16) where
 
   pub newest_found : (n : ℕ) → Was v w (Look w (Newest t))
       → IsTrue (is_some (seat_table v.part t.0).flush)
-      → FlushNewest t.0 (view_after v (Look w (Newest t)) n false).part n
+      → FlushNewest t.0 (view_after v (Look w (Newest t)) n).part n
   newest_found n was held = let k = held_turn (seat_table v.part t.0).flush held in (
     record k.0 { newest = Some n },
     ap (λ (st : SeatTable). st.flush)
@@ -207,7 +207,7 @@ module _ (v : View) (w : ℕ) (t : Table) (few : t.0 < 16) where
   )
 
   pub newest_keeps : (n k : ℕ) → Was v w (Look w (Newest t)) → FlushOldest t.0 v.part k
-      → FlushOldest t.0 (view_after v (Look w (Newest t)) n false).part k
+      → FlushOldest t.0 (view_after v (Look w (Newest t)) n).part k
   newest_keeps n k was F = (
     record F.0 { newest = Some n },
     ap (λ (st : SeatTable). st.flush)
@@ -223,12 +223,12 @@ module _ (v : View) (w : ℕ) (t : Table) (few : t.0 < 16) where
       let rows = was.rows.memtables t.0 in omega arith
 
   pub newest_leaves : (n u : ℕ) → u ≢ t.0
-      → seat_table (view_after v (Look w (Newest t)) n false).part u ≡ seat_table v.part u
+      → seat_table (view_after v (Look w (Newest t)) n).part u ≡ seat_table v.part u
   newest_leaves n u apart = get_or-set_other v.part.tables t.0 u _ untouched apart
 
   pub least_found : (n : ℕ) → Was v w (Look w (CursorWord (OldestLive t)))
       → IsTrue (is_some (seat_table v.part t.0).flush)
-      → FlushOldest t.0 (view_after v (Look w (CursorWord (OldestLive t))) n false).part n
+      → FlushOldest t.0 (view_after v (Look w (CursorWord (OldestLive t))) n).part n
   least_found n was held = let k = held_turn (seat_table v.part t.0).flush held in (
     record k.0 { oldest_live = Some n },
     ap (λ (st : SeatTable). st.flush)
@@ -243,7 +243,7 @@ module _ (v : View) (w : ℕ) (t : Table) (few : t.0 < 16) where
 
   pub opened_stage : (f : ℕ) → Was v w (Switch w t f Open) → (turn : FlushTurn)
       → (seat_table v.part t.0).flush ≡ Some turn
-      → stage_of (view_after v (Switch w t f Open) f false).part t.0 ≡ Some (Begun f)
+      → stage_of (view_after v (Switch w t f Open) f).part t.0 ≡ Some (Begun f)
   opened_stage f was turn is =
       ap (λ (st : SeatTable). stage_in st.flush)
       (get_or-set_same v.part.tables t.0 _ untouched (inside _ was))
@@ -253,7 +253,7 @@ module _ (v : View) (w : ℕ) (t : Table) (few : t.0 < 16) where
 
   pub marked_stage : (f n : ℕ) → Was v w (Switch w t f Mark) → (k : Switching)
       → stage_of v.part t.0 ≡ Some k
-      → stage_of (view_after v (Switch w t f Mark) n false).part t.0
+      → stage_of (view_after v (Switch w t f Mark) n).part t.0
       ≡ Some (MarkedStage (record { memtable = f; key = None; raised = false }))
   marked_stage f n was k is =
       let next : Switching = MarkedStage (record { memtable = f; key = None; raised = false }) in
@@ -267,7 +267,7 @@ module _ (v : View) (w : ℕ) (t : Table) (few : t.0 < 16) where
   pub found_stage : (f n : ℕ) (key : Option ℕ) (raised : Bool)
       → stage_of v.part t.0
       ≡ Some (MarkedStage (record { memtable = f; key = key; raised = raised }))
-      → stage_of (view_after v (Look w Log) n false).part t.0
+      → stage_of (view_after v (Look w Log) n).part t.0
       ≡ Some (MarkedStage (record { memtable = f; key = Some n; raised = raised }))
   found_stage f n key raised is =
       ap (λ (st : SeatTable). stage_in st.flush)
@@ -278,7 +278,7 @@ module _ (v : View) (w : ℕ) (t : Table) (few : t.0 < 16) where
   pub raised_stage_now : (f n : ℕ) (key : Key) (raised : Bool) → Was v w (Raise w t f key)
       → stage_of v.part t.0
       ≡ Some (MarkedStage (record { memtable = f; key = Some key.0; raised = raised }))
-      → stage_of (view_after v (Raise w t f key) n false).part t.0
+      → stage_of (view_after v (Raise w t f key) n).part t.0
       ≡ Some (MarkedStage (record { memtable = f; key = Some key.0; raised = true }))
   raised_stage_now f n key raised was is =
       let b = bound_in n in let st = bound_found f (raised_to key.0 b) (seat_table v.part t.0) in
@@ -299,7 +299,7 @@ module _ (v : View) (w : ℕ) (t : Table) (few : t.0 < 16) where
       → word_of (reading was.core (Bound t f)) ≡ n
       → stage_of v.part t.0
       ≡ Some (MarkedStage (record { memtable = f; key = Some key.0; raised = raised }))
-      → FlushRaised t.0 (view_after v (Raise w t f key) n false).part f key.0
+      → FlushRaised t.0 (view_after v (Raise w t f key) n).part f key.0
   raised_above f n key raised was found is =
       let k : Marked = record { memtable = f; key = Some key.0; raised = raised } in
       let M = stage_exact was.core was.lawful w t.0 (MarkedStage k)
@@ -344,7 +344,7 @@ module _ (v : View) (w : ℕ) (t : Table) (few : t.0 < 16) where
 
   pub final_stage : (f n : ℕ) → Was v w (Finalise w t f) → (k : Switching)
       → stage_of v.part t.0 ≡ Some k
-      → stage_of (view_after v (Finalise w t f) n false).part t.0 ≡ Some (Waiting f)
+      → stage_of (view_after v (Finalise w t f) n).part t.0 ≡ Some (Waiting f)
   final_stage f n was k is =
       ap (λ (st : SeatTable). stage_in st.flush)
       (get_or-set_same v.part.tables t.0 _ untouched (inside _ was))
@@ -359,7 +359,7 @@ module _ (v : View) (w : ℕ) (t : Table) (few : t.0 < 16) where
       → stage_of v.part t.0
       ≡ Some (MarkedStage (record { memtable = f; key = key; raised = true }))
       → (n ≡ n - 2 ^ 62 + 2 ^ 62)
-      × ((seat_table (view_after v (Finalise w t f) n false).part t.0).bound
+      × ((seat_table (view_after v (Finalise w t f) n).part t.0).bound
       ≡ Some (record { memtable = f; bound = Final (record { 0 = n - 2 ^ 62 }) }))
   final_found f n key was found is =
       let x = was.core in
@@ -380,9 +380,9 @@ module _ (v : View) (w : ℕ) (t : Table) (few : t.0 < 16) where
   -- at other tables nothing changes
 
   pub switch_leaves : (f n u : ℕ) → u ≢ t.0
-      → (seat_table (view_after v (Switch w t f Open) n false).part u ≡ seat_table v.part u)
-      × (seat_table (view_after v (Switch w t f Mark) n false).part u ≡ seat_table v.part u)
-      × (seat_table (view_after v (Finalise w t f) n false).part u ≡ seat_table v.part u)
+      → (seat_table (view_after v (Switch w t f Open) n).part u ≡ seat_table v.part u)
+      × (seat_table (view_after v (Switch w t f Mark) n).part u ≡ seat_table v.part u)
+      × (seat_table (view_after v (Finalise w t f) n).part u ≡ seat_table v.part u)
   switch_leaves f n u apart = (
     get_or-set_other v.part.tables t.0 u _ untouched apart,
     get_or-set_other v.part.tables t.0 u _ untouched apart,

@@ -1,5 +1,5 @@
 use Rattle.std.proofs.Common.{⊎_elim, inl, refl, sym, arith}
-use Rattle.std.proofs.lemmas.Bool.{false≢true}
+use Rattle.std.proofs.lemmas.Option.{none-some, same_Some}
 use Rattle.path_rule.proofs.trail_laws.what_a_trail_finds_of_memtables.Goals as goal
 
 pub returns-clause-made : goal.returns-clause-made
@@ -28,10 +28,14 @@ pub returns-clause-filed : goal.returns-clause-filed
 returns-clause-filed c = inl (refl, refl, refl)
 
 pub returns-clause-not_emptied : goal.returns-clause-not_emptied
-returns-clause-not_emptied c = λ F. ⊎_elim (λ f. absurd (false≢true (sym f.2))) (λ x. absurd x) F
+returns-clause-not_emptied c = λ F. ⊎_elim (λ f. absurd (none-some 0 (sym f.2))) (λ x. absurd x) F
+
+pub returns-clause-not_above : goal.returns-clause-not_above
+returns-clause-not_above c = λ F. ⊎_elim
+    (λ f. let is = same_Some 0 7 f.2 in absurd (omega (arith, is))) (λ x. absurd x) F
 
 pub returns-clause-no_other : goal.returns-clause-no_other
-returns-clause-no_other c = λ F. ⊎_elim (λ f. let is = f.1 in absurd (omega (arith, is)))
+returns-clause-no_other c = λ gave F. ⊎_elim (λ f. let is = f.1 in absurd (omega (arith, is)))
     (λ x. absurd x) F
 
 pub returns-clause-least : goal.returns-clause-least
@@ -39,3 +43,6 @@ returns-clause-least c = inl (refl, refl)
 
 pub returns-clause-emptied : goal.returns-clause-emptied
 returns-clause-emptied c = inl (refl, refl, refl)
+
+pub returns-clause-not_filed : goal.returns-clause-not_filed
+returns-clause-not_filed c = λ lower F. ⊎_elim (λ f. absurd (none-some lower f.2)) (λ x. absurd x) F

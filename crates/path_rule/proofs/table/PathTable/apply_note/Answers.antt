@@ -1,4 +1,4 @@
-use Rattle.std.proofs.Common.{◌≡◌, ℕ, false, Some, refl, sym, ap, ◌∙◌, subst, arith}
+use Rattle.std.proofs.Common.{◌≡◌, ℕ, Some, refl, sym, ap, ◌∙◌, subst, arith}
 use Rattle.path_core.specs.declared.event.Event.TheVariants.{Look}
 use Rattle.path_core.specs.declared.event.Place.TheVariants.{Newest}
 use Rattle.path_rule.specs.declared.view.View.{View}
@@ -41,4 +41,4 @@ returns-clause-puts g c = λ note one.
     c.args.memtable c.take_memtable.result G.result _ _ note c.requires.free view
     (subst (λ (w : ℕ). G.new.member.seat.me.0 ≡ view_after (with_hands
     (with_applied (put_there c.args.table c.args.memtable note) P.result.seat.me.0.hands)
-    P.result.seat.me.0) (Look w (Newest c.args.table)) G.result false) number did.view)
+    P.result.seat.me.0) (Look w (Newest c.args.table)) G.result) number did.view)

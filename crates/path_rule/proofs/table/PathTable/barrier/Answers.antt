@@ -1,4 +1,4 @@
-use Rattle.std.proofs.Common.{◌≡◌, suc, ◌+◌, false, List, [], ◌∷◌, refl, ap, ◌∙◌, arith}
+use Rattle.std.proofs.Common.{◌≡◌, suc, ◌+◌, List, [], ◌∷◌, refl, ap, ◌∙◌, arith, None}
 use Rattle.op_core.specs.declared.count.Order.TheVariants.{Write}
 use Rattle.path_core.specs.declared.event.Event.TheVariants.{
   Look,
@@ -63,13 +63,13 @@ returns-clause-issues g c =
     let E = c.expire_write in let o = O.ensures.same.1 ∙ S.ensures.same.1 in
     let m = M.ensures.same.1 ∙ o in let more : cur + 1 ≡ suc cur = omega arith in
     issues Write w cur
-    (record { event = MoveCurrent O.new.member.number Write (cur + 1); found = cur; filed = false })
-    (record { event = Expire M.new.member.number Write cur; found = E.result; filed = false })
+    (record { event = MoveCurrent O.new.member.number Write (cur + 1); found = cur; filed = None })
+    (record { event = Expire M.new.member.number Write cur; found = E.result; filed = None })
     (record {
       event = OpenGroup S.new.member.number Write (cur + 1);
       found = 0;
-      filed = false;
-    } ∷ record { event = Look w (Current Write); found = cur; filed = false } ∷ [])
+      filed = None;
+    } ∷ record { event = Look w (Current Write); found = cur; filed = None } ∷ [])
     c.advance_to-holder.ensures.steps.steps (λ i. MoveCurrent (o i) Write (more i))
     (λ i. Expire (m i) Write cur)
     _ O.new.member.seat.me.0 M.new.member.seat.me.0 E.new.member.seat.me.0 _
@@ -77,7 +77,7 @@ returns-clause-issues g c =
     ∙ ap (λ (l : List OwnStep). record {
       event = OpenGroup S.new.member.number Write (cur + 1);
       found = 0;
-      filed = false;
+      filed = None;
     } ∷ l) (ap (λ (v : View). v.trail) S.ensures.step.view))
     (ap (λ (v : View). v.trail) M.ensures.step.view)
     (ap (λ (v : View). v.trail) E.ensures.step.view)

@@ -1,4 +1,4 @@
-use Rattle.std.proofs.Common.{◌≡◌, suc, ◌+◌, false, [], ◌∷◌, refl, ap, ◌∙◌, arith}
+use Rattle.std.proofs.Common.{◌≡◌, suc, ◌+◌, [], ◌∷◌, refl, ap, ◌∙◌, arith, None}
 use Rattle.op_core.specs.declared.count.Order.TheVariants.{Append}
 use Rattle.path_core.specs.declared.event.Event.TheVariants.{OpenGroup, MoveCurrent, Expire}
 use Rattle.path_rule.specs.declared.view.View.{View}
@@ -37,10 +37,10 @@ returns-clause-issues g c =
     (record {
       event = MoveCurrent O.new.member.number Append (cur + 1);
       found = cur;
-      filed = false;
+      filed = None;
     })
-    (record { event = Expire M.new.member.number Append cur; found = E.result; filed = false })
-    (record { event = OpenGroup w Append (cur + 1); found = 0; filed = false } ∷ [])
+    (record { event = Expire M.new.member.number Append cur; found = E.result; filed = None })
+    (record { event = OpenGroup w Append (cur + 1); found = 0; filed = None } ∷ [])
     c.advance_to.ensures.steps.steps (λ i. MoveCurrent (O.ensures.same.1 i) Append (more i))
     (λ i. Expire (m i) Append cur)
     _ O.new.member.seat.me.0 M.new.member.seat.me.0 E.new.member.seat.me.0 _

@@ -1,4 +1,4 @@
-use Rattle.std.proofs.Common.{◌≡◌, suc, ◌+◌, false, [], ◌∷◌, refl, ap, ◌∙◌, arith}
+use Rattle.std.proofs.Common.{◌≡◌, suc, ◌+◌, [], ◌∷◌, refl, ap, ◌∙◌, arith, None}
 use Rattle.op_core.specs.declared.count.Order.TheVariants.{Write}
 use Rattle.path_core.specs.declared.event.Event.TheVariants.{OpenGroup, MoveCurrent, Expire}
 use Rattle.path_core.specs.Parts.{seat_table}
@@ -48,10 +48,10 @@ returns-clause-issues g c =
     (record {
       event = MoveCurrent O.new.member.number Write (cur + 1);
       found = cur;
-      filed = false;
+      filed = None;
     })
-    (record { event = Expire M.new.member.number Write cur; found = E.result; filed = false })
-    (record { event = OpenGroup w Write (cur + 1); found = 0; filed = false } ∷ [])
+    (record { event = Expire M.new.member.number Write cur; found = E.result; filed = None })
+    (record { event = OpenGroup w Write (cur + 1); found = 0; filed = None } ∷ [])
     c.advance_to.ensures.steps.steps (λ i. MoveCurrent (O.ensures.same.1 i) Write (more i))
     (λ i. Expire (m i) Write cur)
     _ O.new.member.seat.me.0 M.new.member.seat.me.0 E.new.member.seat.me.0 _

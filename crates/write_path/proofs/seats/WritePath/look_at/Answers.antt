@@ -1,4 +1,4 @@
-use Rattle.std.proofs.Common.{ℕ, ◌<◌, ◌^◌, [], ◌∷◌, false, refl, sym, ap, ◌∙◌, subst}
+use Rattle.std.proofs.Common.{ℕ, ◌<◌, ◌^◌, [], ◌∷◌, refl, sym, ap, ◌∙◌, subst, None}
 use mathlib.Core.Logic.{inr}
 use Rattle.path_core.specs.declared.event.Event.TheVariants.{Look}
 use Rattle.path_core.specs.declared.event.Place.TheVariants.{Bound}
@@ -51,7 +51,7 @@ returns-clause-same g c =
         tries = record {
           event = Look c.args.seat.now.member.number (Bound c.args.table c.args.memtable);
           found = (bound_word c.look_bound.result);
-          filed = false;
+          filed = None;
         } ∷ [];
         are = (refl, tt);
         trail = ap (λ (v : View). v.trail) d.view;

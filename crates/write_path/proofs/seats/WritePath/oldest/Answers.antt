@@ -1,4 +1,4 @@
-use Rattle.std.proofs.Common.{ℕ, ◌<◌, ◌^◌, [], ◌∷◌, Option, false, refl, sym, ap, ◌∙◌, subst}
+use Rattle.std.proofs.Common.{ℕ, ◌<◌, ◌^◌, [], ◌∷◌, Option, false, refl, sym, ap, ◌∙◌, subst, None}
 use Rattle.path_core.specs.declared.event.Event.TheVariants.{Look}
 use Rattle.path_core.specs.declared.event.Cursor.TheVariants.{OldestLive}
 use Rattle.path_core.specs.declared.event.Place.TheVariants.{CursorWord}
@@ -47,7 +47,7 @@ returns-clause-same g c =
         tries = record {
           event = Look c.args.seat.now.member.number (CursorWord (OldestLive c.args.table));
           found = c.look_oldest_live.result;
-          filed = false;
+          filed = None;
         } ∷ [];
         are = (refl, tt);
         trail = ap (λ (v : View). v.trail) d.view;

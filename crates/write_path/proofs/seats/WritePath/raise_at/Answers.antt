@@ -4,7 +4,6 @@ use Rattle.std.proofs.Common.{
   ◌^◌,
   [],
   ◌∷◌,
-  false,
   Option,
   is_some,
   refl,
@@ -12,6 +11,7 @@ use Rattle.std.proofs.Common.{
   ap,
   ◌∙◌,
   subst,
+  None,
 }
 use Rattle.path_core.specs.declared.event.Event.TheVariants.{Raise}
 use Rattle.path_core.specs.Parts.{HoldsNoTurn}
@@ -68,7 +68,7 @@ returns-clause-same g c =
           event = Raise c.args.seat.now.member.number c.args.table c.args.memtable
               c.args.seat.now.end;
           found = (bound_word c.raise_bound.result);
-          filed = false;
+          filed = None;
         } ∷ [];
         are = (refl, tt);
         trail = ap (λ (v : View). v.trail) d.view;

@@ -1,4 +1,4 @@
-use Rattle.std.proofs.Common.{◌≡◌, ◌+◌, ℕ, suc, [], ◌∷◌, false, refl, sym, ap, ◌∙◌, arith}
+use Rattle.std.proofs.Common.{◌≡◌, ◌+◌, ℕ, suc, [], ◌∷◌, refl, sym, ap, ◌∙◌, arith, None}
 use Rattle.path_core.specs.declared.event.Cursor.TheVariants.{OldestLive}
 use Rattle.path_core.specs.declared.event.Event.TheVariants.{Put}
 use Rattle.path_rule.specs.declared.view.View.{View}
@@ -56,7 +56,7 @@ returns-clause-retires g c = let m = c.args.member in let S = c.requires.sees in
               ∙ ap (λ (n : ℕ). record {
                 event = Put w (OldestLive t) n;
                 found = n;
-                filed = false;
+                filed = None;
               } ∷ m.seat.me.0.trail) more;
         };
       },

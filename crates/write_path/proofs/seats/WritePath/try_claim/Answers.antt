@@ -11,7 +11,6 @@ use Rattle.std.proofs.Common.{
   length,
   Option,
   Some,
-  false,
   refl,
   sym,
   ap,
@@ -153,5 +152,5 @@ returns-else-found-looked-clause-step g c =
           ∙ ap (λ (n : ℕ). entry_end c.size.result.capacity from n) moves.1) moves.0.3);
       moved = λ e. omega arith;
       view = D.view ∙ (λ i. view_after (L.step.view i) (Look (L.same.1 i) Log)
-          c.claim-found.result false);
+          c.claim-found.result);
     }
