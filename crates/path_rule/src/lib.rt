@@ -73,4 +73,4 @@ pub use table::{Member, Opener, PathTable};
 pub use trail_laws::what_a_trail_finds_of_memtables;
 pub use trying::{Begun, PathSeat, Seen};
 pub use view::{FlushRead, Hands, OwnStep, PathKey, PathSize, Progress, Returned, Role, View};
-pub use waiting::{Holder, Passed};
+pub use waiting::Holder;
