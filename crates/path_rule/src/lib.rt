@@ -37,7 +37,6 @@ mod rule;
 mod seeking;
 mod slot;
 mod sweeping;
-mod switches;
 mod switching;
 mod syncing;
 mod table;
@@ -68,7 +67,6 @@ pub use laws::{
 pub use opening::open;
 pub use rule::PathRule;
 pub use slot::{Desk, Slot};
-pub use switches::Switched;
 pub use table::{Member, Opener, PathTable};
 pub use trail_laws::what_a_trail_finds_of_memtables;
 pub use trying::{Begun, PathSeat, Seen};
