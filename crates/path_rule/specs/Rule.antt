@@ -238,7 +238,7 @@ pub record Ruled {K : Type 0} (shows : K → Lasting) (o : Beside) (size : PathS
   -- what the keeper has filed and dropped
   pub filed : Filed
   pub dropped : List ℕ
-  pub filing : HasFiled size core filed dropped
+  pub filing : HasFiled o size core filed dropped
   -- and nothing before the first step
   pub unstepped : events ≡ [] → (filed ≡ none_filed) × (dropped ≡ [])
   -- it has as many tables

@@ -388,7 +388,8 @@ stays_beside first h same filed = record {
   writers_are = ap (λ (b : Beside). b.writers) same;
   no_file = void_too first.files h.files (as_many first h filed);
   none_refused = none_too first.refused h.refused (ap (λ (f : Filed). f.refused) filed);
-  none_archived = void_too first.archived h.archived (ap (λ (f : Filed). f.archived) filed);
+  none_archived = void_too first.archived h.archived
+      (ap (λ (f : Filed). length f.archived) filed);
 }
 
 -- and where it has done nothing beside its log
@@ -402,5 +403,5 @@ plain_beside first h same filed = record {
   no_file = λ _. void_too [] h.files (sym (length-map h.files put_table)
       ∙ ap (λ (f : Filed). length f.files) filed) refl;
   none_refused = λ _. none_too None h.refused (ap (λ (f : Filed). f.refused) filed) refl;
-  none_archived = λ _. void_too [] h.archived (ap (λ (f : Filed). f.archived) filed) refl;
+  none_archived = λ _. ap (λ (f : Filed). f.archived) filed;
 }

@@ -131,9 +131,9 @@ module _ (v after : View) (w u : ℕ) where
       least_of (ap (λ (x : View). least_at (seat_table x.part u)) d.view
       ∙ at_table_keeps t.0 u (λ (st : SeatTable). reaches (Begun m) (in_flush set st)) v.part
       least_at (
-        kept _ (λ (turn : FlushTurn). record turn { stage = Begun m }) (λ turn. refl)
-            (in_flush set (seat_table v.part t.0)).flush
-            ∙ kept _ set (λ turn. refl) (seat_table v.part t.0).flush))
+      kept _ (λ (turn : FlushTurn). record turn { stage = Begun m }) (λ turn. refl)
+      (in_flush set (seat_table v.part t.0)).flush
+      ∙ kept _ set (λ turn. refl) (seat_table v.part t.0).flush))
 
   -- a bound is found, and a stage is reached
   reached : (read : FlushTurn → Option ℕ) (k : Switching) (m : ℕ) (b : Bound)
