@@ -35,6 +35,7 @@ use Rattle.path_core.specs.Keys.{ordinal_of}
 use Rattle.path_core.specs.Next.{has_filed}
 use Rattle.path_core.specs.Parts.{seat_of, table_of}
 use Rattle.path_core.specs.Whole.{IsWhole}
+use Rattle.path_rule.specs.declared.lasting.Beside.{Beside}
 use Rattle.path_rule.specs.declared.lasting.Filed.{Filed}
 use Rattle.path_rule.specs.declared.lasting.Lasting.{Lasting}
 use Rattle.path_rule.specs.declared.lasting.PutTable.{PutTable}
@@ -121,17 +122,23 @@ abbrev pub retired_in : PathState → ℕ → ℕ
 retired_in x zero = 0
 retired_in x (suc t) = retired_in x t + (table_of x t).oldest_live
 
--- What a keeper has filed and dropped is what the state has: its files stand for the same
--- intervals, each holds what the state's notes have in its own, and what it dropped is dropped, or
--- is when the Sync turn is given back. There are no more files than retired memtables. Where
--- memtables may not go to files, nothing is filed or dropped.
-pub record HasFiled (size : PathSize) (x : PathState) (filed : Filed) (dropped : List ℕ)
-    : Type 0 where
+-- What a keeper that has this beside its log has filed and dropped is what the state has: its files
+-- stand for the same intervals, each holds what the state's notes have in its own, and what it
+-- dropped is dropped, or is when the Sync turn is given back. There are no more files than retired
+-- memtables. Where memtables may not go to files, nothing is filed or dropped. A keeper that gives
+-- no archive names has given none; one that gives them has given each segment that it dropped its
+-- own. Each is of a segment that is droppable, below that of the synced key.
+pub record HasFiled (o : Beside) (size : PathSize) (x : PathState) (filed : Filed)
+    (dropped : List ℕ) : Type 0 where
   pub ranged : map put_range filed.files ≡ map file_range x.files
   pub merged : (f : PutTable) → Contains filed.files f → IsFileOf x.notes f
-  pub gone : (o : ℕ) → Contains dropped o → Contains x.dropped o ⊎ IsGoing x o
+  pub gone : (n : ℕ) → Contains dropped n → Contains x.dropped n ⊎ IsGoing x n
   pub few : length x.files ≤ retired_in x 16
   pub plain : size.files ≡ false → (x.files ≡ []) × (filed ≡ none_filed) × (dropped ≡ [])
+  pub none_archived : o.archives ≡ false → filed.archived ≡ []
+  pub all_archived : o.archives ≡ true → (n : ℕ) → Contains dropped n → Contains filed.archived n
+  pub archived_may : (n : ℕ) → Contains filed.archived n
+      → IsDroppable x n × (n < ordinal_of x.synced)
 
 -- ---- what a keeper may be asked
 
@@ -145,11 +152,4 @@ MayPut lasting f = (h : Holding) → lasting_of h ≡ lasting → MayPublish h (
 abbrev pub more_filed : PutTable → Lasting → Lasting
 more_filed f l = record l {
   filed = record l.filed { files = l.filed.files ++ f ∷ []; refused = false };
-}
-
--- these segments were dropped behind the others, and so many have their archive names
-abbrev pub more_dropped : List ℕ → ℕ → Lasting → Lasting
-more_dropped ordinals archived l = record l {
-  dropped = l.dropped ++ ordinals;
-  filed = record l.filed { archived = archived };
 }

@@ -103,9 +103,9 @@ pub record GoesNow (v : View) (o : ℕ) : Type 0 where
 
 -- ---- what the keeper shows then
 
--- A file was refused or not, so many segments have their archive names, these were dropped, and the
+-- A file was refused or not, these segments have their archive names, these were dropped, and the
 -- keeper has stopped with a count, or not.
-abbrev pub noted : Bool → ℕ → List ℕ → Option ℕ → Lasting → Lasting
+abbrev pub noted : Bool → List ℕ → List ℕ → Option ℕ → Lasting → Lasting
 noted refused archived dropped stopped l = record l {
   dropped = dropped;
   stopped = stopped;
@@ -121,9 +121,19 @@ pub record AreGone (v : View) (key : ℕ) (ordinals : List ℕ) : Type 0 where
   pub first : (o p : ℕ) → o < ordinal_of key → MayGo v.hands.lasting o
       → ¬ Contains v.hands.lasting.dropped o → Contains ordinals p → o < p → Contains ordinals o
 
--- So many segments have their archive names: as many as before, where a keeper gives none.
-abbrev pub AreArchived : Lasting → ℕ → Type 0
-AreArchived l archived = l.beside.archives ≡ false → archived ≡ l.filed.archived
+-- Which archive names came, where these segments are dropped since, and these have their names: none
+-- where the keeper gives none. Where it gives them, each segment that was dropped since has its own.
+-- Each is of a segment that may go now, and was not dropped before. It was dropped since, but for
+-- one, whose removal was refused.
+pub record AreArchived (v : View) (dropped archived : List ℕ) : Type 0 where
+  pub names : List ℕ
+  pub behind : archived ≡ v.hands.lasting.filed.archived ++ names
+  pub none_given : v.hands.lasting.beside.archives ≡ false → names ≡ []
+  pub all_named : v.hands.lasting.beside.archives ≡ true → (n : ℕ) → Contains dropped n
+      → Contains v.hands.lasting.dropped n ⊎ Contains names n
+  pub each : (n : ℕ) → Contains names n → GoesNow v n × (¬ Contains v.hands.lasting.dropped n)
+  pub one_stays : (n k : ℕ) → Contains names n → Contains names k → ¬ Contains dropped n
+      → ¬ Contains dropped k → n ≡ k
 
 -- each of these was dropped before, or may go now
 abbrev pub MayBeGone : View → List ℕ → Type 0
@@ -156,8 +166,8 @@ module _ {K : Type 0} (shows : K → Lasting) where
 
   -- It shows that it refused a file, or has dropped segments, or has stopped with a count.
   abbrev pub CarriesNoted : Option ℕ → Me (Slot K) View → Type 0
-  CarriesNoted stopped m = (refused : Bool) × (archived : ℕ) × (dropped : List ℕ)
-      × MayBeGone m.0 dropped
+  CarriesNoted stopped m = (refused : Bool) × (archived : List ℕ) × (dropped : List ℕ)
+      × (MayBeGone m.0 dropped × AreArchived m.0 dropped archived)
       × CarriesAs shows (noted refused archived dropped stopped m.0.hands.lasting)
       m.0.hands.pending m.0.hands.progress m
 
@@ -169,7 +179,8 @@ module _ {K : Type 0} (shows : K → Lasting) where
 
   -- It has dropped these segments behind those that had gone, and has stopped with a count, or not.
   abbrev pub CarriesDropped : Option ℕ → ℕ → List ℕ → Me (Slot K) View → Type 0
-  CarriesDropped stopped key ordinals m = (archived : ℕ) × AreArchived m.0.hands.lasting archived
+  CarriesDropped stopped key ordinals m = (archived : List ℕ)
+      × AreArchived m.0 (m.0.hands.lasting.dropped ++ ordinals) archived
       × AreGone m.0 key ordinals
       × CarriesAs shows (noted m.0.hands.lasting.filed.refused archived
       (m.0.hands.lasting.dropped ++ ordinals) stopped m.0.hands.lasting) m.0.hands.pending
@@ -183,8 +194,8 @@ module _ {K : Type 0} (shows : K → Lasting) where
 
   -- The seat made a step, and knows since what the keeper shows.
   abbrev pub MadeNoted : Option ℕ → ℕ → Event → ℕ → Me (Slot K) View → Me (Slot K) View → Type 0
-  MadeNoted stopped w e n m m' = ((refused : Bool) × (archived : ℕ) × (dropped : List ℕ)
-      × MayBeGone m.0 dropped
+  MadeNoted stopped w e n m m' = ((refused : Bool) × (archived : List ℕ) × (dropped : List ℕ)
+      × (MayBeGone m.0 dropped × AreArchived m.0 dropped archived)
       × MadeAs w e n (with_desk (noted refused archived dropped stopped m.0.hands.lasting)
       m.0.hands.pending m.0.hands.progress m.0.hands) m.0 m'.0
       × CarriesAs shows (noted refused archived dropped stopped m.0.hands.lasting)

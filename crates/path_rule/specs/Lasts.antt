@@ -10,7 +10,6 @@ use Rattle.std.specs.Prelude.{
   List,
   [],
   ◌++◌,
-  length,
   map,
   Option,
   Some,
@@ -61,12 +60,12 @@ abbrev pub filed_of : Holding → Filed
 filed_of h = record {
   files = map put_table h.files;
   refused = is_some h.refused;
-  archived = length h.archived;
+  archived = h.archived;
 }
 
 -- of one that was just opened
 abbrev pub none_filed : Filed
-none_filed = record { files = []; refused = false; archived = 0 }
+none_filed = record { files = []; refused = false; archived = [] }
 
 -- what a keeper shows by what it holds
 abbrev pub lasting_of : Holding → Lasting

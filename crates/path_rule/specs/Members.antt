@@ -16,7 +16,7 @@ use Rattle.path_rule.specs.declared.view.Returned.{Returned}
 use Rattle.path_rule.specs.declared.view.View.{View}
 use Rattle.path_rule.specs.Boxes.{box_of, memtable_box}
 use Rattle.path_rule.specs.Calls.{Did, DidAs, FiledAs}
-use Rattle.path_rule.specs.FilingTold.{MayBeGone, noted}
+use Rattle.path_rule.specs.FilingTold.{AreArchived, MayBeGone, noted}
 use Rattle.path_rule.specs.HandsAfter.{with_desk}
 use Rattle.path_rule.specs.Lasts.{refused_lasting}
 use Rattle.path_rule.specs.TurnTold.{IsKeptNow}
@@ -73,8 +73,8 @@ module _ {K : Type 0} where
   -- It made that step after the keeper refused a table file, or dropped segments, and may have
   -- stopped with a count of faults. It knows since what the keeper shows.
   abbrev pub SteppedNoted : Option ℕ → Member K → Event → ℕ → Member K → Type 0
-  SteppedNoted stopped m e n m' = (refused : Bool) × (archived : ℕ) × (dropped : List ℕ)
-      × MayBeGone m.seat.me.0 dropped
+  SteppedNoted stopped m e n m' = (refused : Bool) × (archived : List ℕ) × (dropped : List ℕ)
+      × (MayBeGone m.seat.me.0 dropped × AreArchived m.seat.me.0 dropped archived)
       × SteppedAs m e n (with_desk (noted refused archived dropped stopped
       m.seat.me.0.hands.lasting) m.seat.me.0.hands.pending m.seat.me.0.hands.progress
       m.seat.me.0.hands) m'

@@ -1,4 +1,4 @@
--- What a barrier answers, and a try to move the oldest group on.
+-- What a barrier is issued by, and what a try to move the oldest group on answers.
 use Rattle.std.specs.Prelude.{◌≡◌, ◌≢◌, ℕ, suc, ◌^◌, List, ◌++◌, map, length}
 use Rattle.std.specs.List.{Contains}
 use Rattle.op_core.specs.declared.count.Order.{Order}
@@ -12,14 +12,8 @@ use Rattle.path_rule.specs.declared.advancing.Advance.{Advance}
 use Rattle.path_rule.specs.declared.advancing.Advance.TheVariants.{Moved, Running}
 use Rattle.path_rule.specs.declared.view.OwnStep.{OwnStep}
 use Rattle.path_rule.specs.declared.view.View.{View}
-use Rattle.path_rule.specs.declared.waiting.Passed.{Passed as PassedOf}
-use Rattle.path_rule.specs.declared.waiting.Passed.TheVariants.{Passed, Rows}
 use Rattle.path_rule.specs.Calls.{Did, FoundSince, acts}
 use Rattle.path_rule.specs.Rule.{event_of}
-
-abbrev pub MatchPassed : PassedOf → (ℕ → Type 0) → (ℕ → Type 0) → Type 0
-MatchPassed (Passed g) P Q = P g
-MatchPassed (Rows n) P Q = Q n
 
 -- Seat w issued a barrier of an order, that of this group: behind its earlier steps it made the
 -- next group the current one, and expired this one.

@@ -27,7 +27,7 @@ use base.Stored.{gnil}
 use Rattle.atomic_table.specs.Table.{State}
 use Rattle.clog_base.specs.Sizes.{IsWithinLimits}
 use Rattle.op_core.specs.declared.count.Order.{Order}
-use Rattle.op_core.specs.declared.count.Order.TheVariants.{Append}
+use Rattle.op_core.specs.declared.count.Order.TheVariants.{Append, Write}
 use Rattle.path_core.specs.declared.event.ClaimKind.TheVariants.{Marker}
 use Rattle.path_core.specs.declared.event.Cursor.TheVariants.{Synced, OldestLive, Stopped}
 use Rattle.path_core.specs.declared.event.Event.{Event}
@@ -197,11 +197,13 @@ IsSized size v = SizedAs size v.role v.size
 
 -- A step of a kind that is built: the log is stopped only with a count of faults that has risen, a
 -- marker is claimed only while the log runs, and so is a group of the append order made, where a
--- marker of the seat wants a barrier.
+-- marker of the seat wants a barrier. One of the write order is made where a final memtable of a
+-- table whose turn the seat holds has no barrier.
 abbrev pub IsBuilt : ℕ → PathState → Event → Type 0
 IsBuilt opened x (Put by Synced value) = Unit {0}
 IsBuilt opened x (Put by Stopped value) = HasRisen opened value
 IsBuilt opened x (OpenGroup by Append group) = WantsBarrier Append x by × (x.stopped ≡ 0)
+IsBuilt opened x (OpenGroup by Write group) = WantsBarrier Write x by
 IsBuilt opened x (Claim by from to Marker) = x.stopped ≡ 0
 IsBuilt opened x _ = Unit {0}
 
@@ -248,7 +250,7 @@ pub record Ruled {K : Type 0} (shows : K → Lasting) (o : Beside) (size : PathS
   -- what the keeper has filed and dropped
   pub filed : Filed
   pub dropped : List ℕ
-  pub filing : HasFiled size core filed dropped
+  pub filing : HasFiled o size core filed dropped
   -- and nothing before the first step
   pub unstepped : events ≡ [] → (filed ≡ none_filed) × (dropped ≡ [])
   -- it has as many tables

@@ -100,7 +100,7 @@ pub record Ended (o : Beside) (size : PathSize) (returned : List Returned) (log 
   -- what it has filed and dropped is what the state has
   pub filed : Filed
   pub dropped : List ℕ
-  pub filing : HasFiled size core filed dropped
+  pub filing : HasFiled o size core filed dropped
   -- what it dropped is dropped there, and not only about to go: no seat holds the Sync turn
   pub gone : (ordinal : ℕ) → Contains dropped ordinal → Contains core.dropped ordinal
   pub lasting_is : lasting_of keeper ≡ shown o size.at_open kept_to filed dropped core

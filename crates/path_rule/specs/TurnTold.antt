@@ -107,10 +107,11 @@ module _ {K : Type 0} where
   SyncGiven st m n m' = (w : ℕ) → m.0.role ≡ Steps w
       → MadeAs w (GiveTurn w Sync) n (unswept_hands m.0.hands) m.0 m'.0 × (m'.1 ≡ rest m.1)
 
-  -- A barrier is issued: the next group is made.
+  -- A barrier is issued: the next group is made, where a switched memtable waits for it.
   abbrev pub WriteOpened : Step (Slot K) → Me (Slot K) View → ℕ → Me (Slot K) View → Type 0
   WriteOpened st m n m' = (w g : ℕ) → m.0.role ≡ Steps w → g < 65536 → st.word ≡ 72 + 2 * g
       → Made w (OpenGroup w Write g) n m m'
+      × ((was : Was m.0 w (OpenGroup w Write g)) × IsAllowed was.core (OpenGroup w Write g))
 
   -- A barrier of the write order goes on.
   abbrev pub WriteMoved : Step (Slot K) → Me (Slot K) View → ℕ → Me (Slot K) View → Type 0

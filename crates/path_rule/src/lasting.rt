@@ -47,9 +47,9 @@ pub struct Filed {
     pub files: LinkedList<PutTable>,
     /// Whether the keeper has a refused table file in mind.
     pub refused: bool,
-    /// How many archive names were given: a segment's counts again where its removal was refused
-    /// behind the first.
-    pub archived: u64,
+    /// The ordinals of the segments that got their archive names: one counts again where its
+    /// removal was refused behind the name.
+    pub archived: LinkedList<u64>,
 }
 
 /// What a keeper has made of the log.

@@ -84,6 +84,19 @@ pub fn what_was_dropped_is_droppable<K: Keeper>()
         → IsDroppable r.core ordinal × (ordinal < ordinal_of r.core.synced) }
 {}
 
+/// So is each segment that got its archive name. Where the keeper gives archive names each segment
+/// that it dropped has its own, and where it gives none there is none.
+pub fn what_was_archived_is_droppable<K: Keeper>()
+    ensures each { (o : Beside) (size : PathSize) (s : State (Slot K) View)
+        (r : Ruled (shows_of K.holds) o size s) (ordinal : ℕ) → Contains r.filed.archived ordinal
+        → IsDroppable r.core ordinal × (ordinal < ordinal_of r.core.synced) }
+    ensures all { (o : Beside) (size : PathSize) (s : State (Slot K) View)
+        (r : Ruled (shows_of K.holds) o size s) → o.archives ≡ true
+        → (ordinal : ℕ) → Contains r.dropped ordinal → Contains r.filed.archived ordinal }
+    ensures nothing { (o : Beside) (size : PathSize) (s : State (Slot K) View)
+        (r : Ruled (shows_of K.holds) o size s) → o.archives ≡ false → r.filed.archived ≡ [] }
+{}
+
 /// Where memtables may not go to table files there is none, and no segment is dropped.
 pub fn without_files_nothing_goes<K: Keeper>()
     ensures { (o : Beside) (size : PathSize) (s : State (Slot K) View)

@@ -38,7 +38,6 @@ mod rule;
 mod seeking;
 mod slot;
 mod sweeping;
-mod switches;
 mod switching;
 mod syncing;
 mod table;
@@ -64,15 +63,15 @@ pub use laws::{
     each_box_has_one_holder, each_memtable_box_has_one_holder, each_table_file_holds_its_interval,
     gathering_reaches_the_last_marker, the_keeper_at_home_shows_what_is_lasting,
     the_table_shows_a_lawful_state, what_lies_in_memtables_was_placed,
-    what_was_dropped_is_droppable, what_was_placed_lies_in_memtables,
-    what_was_seen_is_the_memtables_interval, without_files_nothing_goes,
+    what_was_archived_is_droppable, what_was_dropped_is_droppable,
+    what_was_placed_lies_in_memtables, what_was_seen_is_the_memtables_interval,
+    without_files_nothing_goes,
 };
 pub use opening::open;
 pub use rule::PathRule;
 pub use slot::{Desk, Slot};
-pub use switches::Switched;
 pub use table::{Member, Opener, PathTable};
 pub use trail_laws::what_a_trail_finds_of_memtables;
 pub use trying::{Begun, PathSeat, Seen};
 pub use view::{FlushRead, Hands, OwnStep, PathKey, PathSize, Progress, Returned, Role, View};
-pub use waiting::{Holder, Passed};
+pub use waiting::Holder;

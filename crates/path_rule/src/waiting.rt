@@ -5,8 +5,9 @@ ghost use Rattle.op_core.specs.declared.count.Order.TheVariants.{Write, Append};
 ghost use Rattle.path_core.specs.declared.event.Event.TheVariants.{Advance};
 ghost use Rattle.path_core.specs.declared.seat.Issue.TheVariants.{Rest};
 ghost use Rattle.path_core.specs.declared.seat.Switching.TheVariants.{Waiting, WithBarrier};
+ghost use Rattle.path_core.specs.Holders.{HasWaiting};
 ghost use Rattle.path_core.specs.Parts.{found_of, stage_of};
-ghost use Rattle.path_rule.specs.Calls.{acts, Holds, IsPast};
+ghost use Rattle.path_rule.specs.Calls.{Holds, IsPast};
 ghost use Rattle.path_rule.specs.HandsAfter.{issued_hands};
 ghost use Rattle.path_rule.specs.Members.{
   view_of,
@@ -16,7 +17,7 @@ ghost use Rattle.path_rule.specs.Members.{
   KeepsSizes,
   Stepped,
 };
-ghost use Rattle.path_rule.specs.Passes.{HasIssued, MatchPassed};
+ghost use Rattle.path_rule.specs.Passes.{HasIssued};
 ghost use Rattle.path_rule.specs.Rounds.{RoundSteps};
 ghost use Rattle.path_rule.specs.Switches.{FlushOldest};
 ghost use Rattle.path_rule.specs.Turns.{
@@ -30,7 +31,7 @@ ghost use Rattle.path_rule.specs.Turns.{
 };
 
 use crate::table::{Member, PathTable};
-use crate::words::{EXPIRED, LAST_GROUP};
+use crate::words::EXPIRED;
 use op_core::Order;
 use path_core::Keeper;
 use std::alloc::Allocator;
@@ -43,16 +44,6 @@ pub struct Holder<K> {
     /// The seat.
     pub member: Member<K>,
     pub ghost holds: { Holds Rest member.seat.me.0 },
-}
-
-/// What a barrier answers.
-#[derive(Drop)]
-pub enum Passed {
-    /// The barrier of this group is passed: all its operations and those of earlier groups are
-    /// closed.
-    Passed(u64),
-    /// All groups that there are words for were made: this many. Nothing was issued.
-    Rows(u64),
 }
 
 impl<K: Keeper, A: Allocator> PathTable<K, A> {
@@ -125,50 +116,14 @@ impl<K: Keeper, A: Allocator> PathTable<K, A> {
         unreachable!()
     }
 
-    /// Issues a barrier of the write order, and waits until it is passed. A memtable that waits for
-    /// its barrier has this one then. Where the last group that there is a word for is the current
-    /// one, it answers `Rows`, and only looked. No clause says that it returns.
-    pub fn barrier<R: Wait>(&self, rt: &R, holder: Holder<K>) -> (Holder<K>, Passed)
-        requires { IsOf self.now.table.shared.table_id self.now.size holder.member }
-        ensures same { KeepsSizes holder.member result.0.member }
-        ensures steps { RoundSteps holder.member.number [] (view_of holder.member)
-            (view_of result.0.member) }
-        ensures passed { MatchPassed result.1
-            (λ g. IsPast Write (view_of result.0.member) g)
-            (λ n. (n ≡ 65536) × TurnSaw Write (part_of result.0.member) 65535) }
-        ensures found { MatchPassed result.1 (λ g. FoundPast (part_of result.0.member) g)
-            (λ n. n ≡ 65536) }
-        ensures hands { hands_of result.0.member ≡ hands_of holder.member }
-        ensures issues { MatchPassed result.1
-            (λ g. HasIssued Write holder.member.number g (view_of holder.member)
-            (view_of result.0.member))
-            (λ n. acts (view_of result.0.member).trail ≡ acts (view_of holder.member).trail) }
-        ensures issued { (t memtable : ℕ)
-            → stage_of (part_of holder.member) t ≡ Some (Waiting memtable)
-            → MatchPassed result.1
-            (λ g. stage_of (part_of result.0.member) t ≡ Some (WithBarrier memtable g))
-            (λ n. stage_of (part_of result.0.member) t ≡ Some (Waiting memtable)) }
-        ensures oldest { (t least : ℕ) → FlushOldest t (part_of holder.member) least
-            → FlushOldest t (part_of result.0.member) least }
-    {
-        let Holder { mut member } = holder;
-        let current = self.seek_current(&mut member, Order::Write);
-        if current == LAST_GROUP {
-            return (Holder { member }, Passed::Rows(LAST_GROUP + 1));
-        }
-        self.open_write(&mut member, current + 1, current);
-        self.move_write(&mut member, current + 1, current);
-        self.expire_write(&mut member, current, current + 1);
-        let holder = self.advance_to(rt, Holder { member }, Order::Write, current + 1);
-        (holder, Passed::Passed(current))
-    }
-
     /// Issues a barrier of the write order behind the group that the member found current, and
-    /// waits until it is passed. A memtable that waits for its barrier has this one then. There is
-    /// a word for the next group. No clause says that it returns.
+    /// waits until it is passed. A switched memtable of a table whose turn the member has waits for
+    /// its barrier: it has this one then. There is a word for the next group. No clause says that
+    /// it returns.
     pub fn write_barrier<R: Wait>(&self, rt: &R, holder: Holder<K>, current: u64) -> Holder<K>
         requires table { IsOf self.now.table.shared.table_id self.now.size holder.member }
         requires current { TurnSaw Write (part_of holder.member) current × (current < 65535) }
+        requires waiting { HasWaiting (part_of holder.member) }
         ensures same { KeepsSizes holder.member result.member }
         ensures steps { RoundSteps holder.member.number [] (view_of holder.member)
             (view_of result.member) }

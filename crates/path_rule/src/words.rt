@@ -31,9 +31,6 @@ pub(crate) const SYNC_TURN: usize = 7;
 /// The newest memtable of table 0: four words on for each next table.
 pub(crate) const NEWEST: usize = 8;
 
-/// How many memtables of a table there are words for.
-pub(crate) const MEMTABLES: u64 = 256;
-
 /// The Flush turn of table 0, 1 while a seat holds it: four words on for each next table.
 pub(crate) const FLUSH_TURN: usize = 9;
 

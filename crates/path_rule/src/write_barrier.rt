@@ -10,7 +10,7 @@ ghost use Rattle.path_core.specs.declared.event.Event.TheVariants.{
 };
 ghost use Rattle.path_core.specs.declared.seat.Issue.TheVariants.{Rest, Opened, Moved};
 ghost use Rattle.path_core.specs.declared.seat.Switching.TheVariants.{Waiting, WithBarrier};
-ghost use Rattle.path_core.specs.Allowed.{WantsBarrier};
+ghost use Rattle.path_core.specs.Allowed.{IsAllowed};
 ghost use Rattle.path_core.specs.Holders.{HasWaiting};
 ghost use Rattle.path_core.specs.Parts.{stage_of};
 ghost use Rattle.path_rule.specs.Calls.{Holds};
@@ -25,21 +25,21 @@ use path_core::Keeper;
 use std::alloc::Allocator;
 
 impl<K: Keeper, A: Allocator> PathTable<K, A> {
-    /// Makes the next group of the write order, for a barrier behind the current one. Where a
-    /// switched memtable waits for its barrier, the barrier is for it.
+    /// Makes the next group of the write order, for a barrier behind the current one. A switched
+    /// memtable of a table whose turn the member has waits for its barrier: the barrier is for it.
     pub fn open_write(&self, member: &mut Member<K>, group: u64, current: u64)
         requires table { IsOf self.now.table.shared.table_id self.now.size member.old }
         requires turn { Holds Rest (view_of member.old)
             × TurnSaw Write (part_of member.old) current × (group ≡ suc current)
             × (group < 65536) }
+        requires waiting { HasWaiting (part_of member.old) }
         ensures same { KeepsSizes member.old member.new }
         ensures step { Stepped member.old (OpenGroup member.old.number Write group) 0 member.new }
         ensures turn { Holds (Opened Write) (view_of member.new)
             × KeepsCurrent Write (part_of member.old) (part_of member.new) }
-        ensures wanted { HasWaiting (part_of member.old)
-            → (was : Was (view_of member.old) member.old.number
+        ensures allowed { (was : Was (view_of member.old) member.old.number
             (OpenGroup member.old.number Write group))
-            × WantsBarrier Write was.core member.old.number }
+            × IsAllowed was.core (OpenGroup member.old.number Write group) }
         ensures stages { (t : ℕ) → stage_of (part_of member.new) t
             ≡ stage_of (part_of member.old) t }
     {

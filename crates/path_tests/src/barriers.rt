@@ -1,12 +1,20 @@
 //! Two seats and a barrier, its steps one by one by hand, and that a table and its seats go between
 //! threads.
-ghost use Rattle.std.specs.Prelude.{◌≡◌, IfOk};
+ghost use Rattle.std.specs.Prelude.{◌≡◌, ◌<◌, None, Some, IfOk};
+ghost use Rattle.op_core.specs.declared.count.Order.TheVariants.{Write};
+ghost use Rattle.path_core.specs.declared.seat.Issue.TheVariants.{Rest};
+ghost use Rattle.path_core.specs.declared.seat.Switching.TheVariants.{Waiting};
+ghost use Rattle.path_core.specs.Holders.{HasWaiting};
+ghost use Rattle.path_core.specs.Parts.{IsIdle, stage_of};
+ghost use Rattle.path_rule.specs.Calls.{Holds};
+ghost use Rattle.path_rule.specs.Members.{view_of, part_of, IsOf};
+ghost use Rattle.path_rule.specs.Turns.{TurnSaw};
 
-use clog_base::Sizes;
+use clog_base::{Sizes, Table};
 use op_core::Order;
 use path_core::Keeper;
 use path_machine::ListKeeper;
-use path_rule::{Advance, Holder, Member, Opener, Passed, PathSeat, PathSize, PathTable, open};
+use path_rule::{Advance, Holder, Member, Opener, PathSeat, PathSize, PathTable, open};
 use std::alloc::Global;
 use std::test::*;
 
@@ -32,7 +40,8 @@ pub(crate) fn opened(
 ) -> Result<(PathTable<ListKeeper, Global>, Opener<ListKeeper>), Fail>
     ensures of { IfOk result (λ r. (r.1.seat.table_id ≡ r.0.table.shared.table_id)
         × (r.1.seat.me.0.size ≡ r.0.size)) }
-    ensures seats { IfOk result (λ r. (r.1.made ≡ 0) × (r.0.size.seats ≡ 2)) }
+    ensures seats { IfOk result (λ r. (r.1.made ≡ 0) × (r.0.size.seats ≡ 2)
+        × (r.0.size.tables ≡ 1)) }
 {
     let Some(sizes) = Sizes::make(1, 2, 4096, 4) else {
         return Err(Fail::new("no sizes"));
@@ -53,40 +62,77 @@ pub(crate) fn opened(
     }
 }
 
+// An idle seat takes the turn of table 0, and makes its first memtable final.
+fn switched<K: Keeper>(table: &PathTable<K, Global>, member: Member<K>) -> Result<Member<K>, Fail>
+    requires table { IsOf table.now.table.shared.table_id table.now.size member }
+    requires there { 0 < table.now.size.tables }
+    requires idle { IsIdle (part_of member) × ((part_of member).sync ≡ None) }
+    ensures of { IfOk result (λ m. IsOf table.now.table.shared.table_id table.now.size m) }
+    ensures idle { IfOk result (λ m. IsIdle (part_of m) × ((part_of m).sync ≡ None)) }
+    ensures waits { IfOk result (λ m. stage_of (part_of m) 0 ≡ Some (Waiting 0)) }
+{
+    let mut member = member;
+    let first = Table(0);
+    if table.take_flush(&mut member, first) != 0 {
+        return Err(Fail::new("the table's turn is taken"));
+    }
+    let oldest = table.look_oldest_live(&mut member, first);
+    let newest = table.look_newest(&mut member, first);
+    if oldest != 0 || newest != 0 {
+        return Err(Fail::new("the table was switched"));
+    }
+    table.open_memtable(&mut member, first, 1);
+    table.mark_memtable(&mut member, first, 0);
+    let key = table.look_marked(&mut member, first, 0);
+    table.raise_marked(&mut member, first, 0, key);
+    let _bound = table.finalise_memtable(&mut member, first, 0);
+    Ok(member)
+}
+
+// The same with the Sync turn: the memtable waits for its barrier, of the first group.
+pub(crate) fn waiting<K: Keeper>(
+    table: &PathTable<K, Global>,
+    member: Member<K>,
+) -> Result<Member<K>, Fail>
+    requires table { IsOf table.now.table.shared.table_id table.now.size member }
+    requires there { 0 < table.now.size.tables }
+    requires idle { IsIdle (part_of member) × ((part_of member).sync ≡ None) }
+    ensures of { IfOk result (λ m. IsOf table.now.table.shared.table_id table.now.size m) }
+    ensures holds { IfOk result (λ m. Holds Rest (view_of m) × TurnSaw Write (part_of m) 0) }
+    ensures waits { IfOk result (λ m. HasWaiting (part_of m)) }
+{
+    let mut member = switched(table, member)?;
+    if table.take_sync(&mut member) != 0 {
+        return Err(Fail::new("the turn is taken"));
+    }
+    if table.seek_current(&mut member, Order::Write) != 0 {
+        return Err(Fail::new("a group was opened"));
+    }
+    Ok(member)
+}
+
 #[test]
 fn a_barrier_passes(rt: HostRuntime) -> Result<(), Fail> {
     let (table, mut opener) = opened(rt.alloc())?;
-    let mut zero = table.seat(&mut opener);
+    let zero = table.seat(&mut opener);
     let one = crosses(&table, table.seat(&mut opener));
-    if table.take_sync(&mut zero) != 0 {
-        return Err(Fail::new("the turn is taken"));
-    }
+    let zero = waiting(&table, zero)?;
     let Ok(begun) = table.try_start(PathSeat { member: one }) else {
         return Err(Fail::new("the other seat did not start"));
     };
     let _one = table.stop(begun);
-    let (_zero, passed) = table.barrier(&rt, Holder { member: zero });
-    match passed {
-        Passed::Passed(group) => assert_eq!(&rt; group, 0),
-        Passed::Rows(_) => return Err(Fail::new("no group is left")),
-    }
+    let Holder { mut member } = table.write_barrier(&rt, Holder { member: zero }, 0);
+    assert_eq!(&rt; table.seek_current(&mut member, Order::Write), 1);
     Ok(())
 }
 
 #[test]
 fn the_oldest_group_moves_on(rt: HostRuntime) -> Result<(), Fail> {
     let (table, mut opener) = opened(rt.alloc())?;
-    let mut zero = table.seat(&mut opener);
-    if table.take_sync(&mut zero) != 0 {
-        return Err(Fail::new("the turn is taken"));
-    }
-    let current = table.seek_current(&mut zero, Order::Write);
-    if current != 0 {
-        return Err(Fail::new("a group was opened"));
-    }
-    table.open_write(&mut zero, 1, current);
-    table.move_write(&mut zero, 1, current);
-    let found = table.expire_write(&mut zero, current, 1);
+    let mut zero = waiting(&table, table.seat(&mut opener))?;
+    table.open_write(&mut zero, 1, 0);
+    table.move_write(&mut zero, 1, 0);
+    let found = table.expire_write(&mut zero, 0, 1);
     assert_eq!(&rt; found, 0);
     let moved = table.try_advance(&mut zero, Order::Write);
     assert_eq!(&rt; moved, Advance::Moved(1));

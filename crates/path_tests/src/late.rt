@@ -4,7 +4,7 @@ ghost use Rattle.op_core.specs.declared.count.Order.TheVariants.{Write};
 ghost use Rattle.path_core.specs.Parts.{found_of};
 ghost use Rattle.path_rule.specs.Members.{part_of, IsOf};
 
-use crate::barriers::opened;
+use crate::barriers::{opened, waiting};
 use op_core::Order;
 use path_core::Keeper;
 use path_rule::{Advance, PathSeat, PathTable};
@@ -31,25 +31,21 @@ fn look_twice<K: Keeper>(table: &PathTable<K, Global>, seat: PathSeat<K>) -> (Pa
 // and what tries to move the oldest group on answer while the seat is in it, and behind that.
 fn register_late(alloc: Global) -> Result<(u64, u64, Advance, Advance), Fail> {
     let (table, mut opener) = opened(alloc)?;
-    let mut zero = table.seat(&mut opener);
+    let zero = table.seat(&mut opener);
     let member = table.seat(&mut opener);
     let (seat, group, looked) = look_twice(&table, PathSeat { member });
-    let turn = table.take_sync(&mut zero);
-    if turn != 0 || looked != 0 {
+    if looked != 0 {
         return Err(Fail::new("the table is in use"));
     }
-    let current = table.seek_current(&mut zero, Order::Write);
-    if current != 0 {
-        return Err(Fail::new("a group was opened"));
-    }
-    table.open_write(&mut zero, 1, current);
-    table.move_write(&mut zero, 1, current);
+    let mut zero = waiting(&table, zero)?;
+    table.open_write(&mut zero, 1, 0);
+    table.move_write(&mut zero, 1, 0);
     let PathSeat { mut member } = seat;
     let found = table.register(&mut member, group, looked);
     if found != looked {
         return Err(Fail::new("it did not register"));
     }
-    let expired = table.expire_write(&mut zero, current, 1);
+    let expired = table.expire_write(&mut zero, 0, 1);
     let runs = table.try_advance(&mut zero, Order::Write);
     let _left = table.leave(&mut member, group);
     let moved = table.try_advance(&mut zero, Order::Write);
@@ -91,20 +87,16 @@ fn refuse_register<K: Keeper>(
 // once it has looked again.
 fn register_stale(alloc: Global) -> Result<(u64, u64), Fail> {
     let (table, mut opener) = opened(alloc)?;
-    let mut zero = table.seat(&mut opener);
+    let zero = table.seat(&mut opener);
     let member = table.seat(&mut opener);
     let (seat, group, looked) = look_twice(&table, PathSeat { member });
-    let turn = table.take_sync(&mut zero);
-    if turn != 0 || looked != 0 {
+    if looked != 0 {
         return Err(Fail::new("the table is in use"));
     }
-    let current = table.seek_current(&mut zero, Order::Write);
-    if current != 0 {
-        return Err(Fail::new("a group was opened"));
-    }
-    table.open_write(&mut zero, 1, current);
-    table.move_write(&mut zero, 1, current);
-    let _expired = table.expire_write(&mut zero, current, 1);
+    let mut zero = waiting(&table, zero)?;
+    table.open_write(&mut zero, 1, 0);
+    table.move_write(&mut zero, 1, 0);
+    let _expired = table.expire_write(&mut zero, 0, 1);
     let (seat, found) = refuse_register(&table, seat, group, looked)?;
     let Ok(begun) = table.try_start(seat) else {
         return Err(Fail::new("it did not start"));

@@ -6,8 +6,6 @@
 #[cfg(test)]
 mod applying;
 #[cfg(test)]
-mod barrier_rows;
-#[cfg(test)]
 mod barriers;
 #[cfg(test)]
 mod commits;

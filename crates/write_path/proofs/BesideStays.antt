@@ -66,7 +66,7 @@ stays_beside size first h same filed = record {
   none_refused = λ plain. none_too first.refused h.refused
       (ap (λ (f : Filed). f.refused) filed);
   none_archived = λ plain. void_too first.archived h.archived
-      (ap (λ (f : Filed). f.archived) filed);
+      (ap (λ (f : Filed). length f.archived) filed);
 }
 
 -- and where it has done nothing beside its log, if it was opened for no table files
@@ -80,6 +80,5 @@ plain_beside size first h same filed = record {
   no_file = λ plain none. none_shown h.files (ap (λ (f : Filed). f.files) (filed plain));
   none_refused = λ plain none. none_too None h.refused
       (ap (λ (f : Filed). f.refused) (filed plain)) refl;
-  none_archived = λ plain none. void_too [] h.archived
-      (ap (λ (f : Filed). f.archived) (filed plain)) refl;
+  none_archived = λ plain none. ap (λ (f : Filed). f.archived) (filed plain);
 }

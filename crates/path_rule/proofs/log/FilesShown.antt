@@ -129,8 +129,9 @@ retired_few x L rows (suc n) = let few = retired_few x L rows n in
     let B = (L.switches.tables n).bounds_rise in let made = B.made in let low = B.oldest_is_made in
     let long = rows.memtables n in omega arith
 
-pub few_files : (x : PathState) → IsLawfulPath x → HasRows x → (size : PathSize) (filed : Filed)
-    (dropped : List ℕ) → HasFiled size x filed dropped → length filed.files ≤ 4096
+pub few_files : {b : Beside} (x : PathState) → IsLawfulPath x → HasRows x → (size : PathSize)
+    (filed : Filed) (dropped : List ℕ) → HasFiled b size x filed dropped
+    → length filed.files ≤ 4096
 few_files x L rows size filed dropped F = let same = as_many filed.files x.files F.ranged in
     let few = F.few in let most = retired_few x L rows 16 in omega arith
 
@@ -197,8 +198,8 @@ module _ (x : PathState) (L : IsLawfulPath x) where
       → Contains (filter (is_at_most x.synced) x.notes) n
   among_logged n h low = kept_in (is_at_most x.synced) x.notes n h (le-leb n.end.0 x.synced low)
 
-  module _ (size : PathSize) (filed : Filed) (dropped : List ℕ)
-      (F : HasFiled size x filed dropped) (o : Beside) (opened key : ℕ) (z : ℕ)
+  module _ {b : Beside} (size : PathSize) (filed : Filed) (dropped : List ℕ)
+      (F : HasFiled b size x filed dropped) (o : Beside) (opened key : ℕ) (z : ℕ)
       (M : MayGo (shown o opened key filed dropped x) z) (below : z < ordinal_of x.synced) where
     in_files : (t k : ℕ) → IsPutIn filed.files t k → IsTrue (is_filed x.files t k)
     in_files t k P = let g = written_of filed.files x.files F.ranged P.file P.among in

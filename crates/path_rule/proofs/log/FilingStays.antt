@@ -91,6 +91,7 @@ use Rattle.path_core.proofs.log.OwnNotes.{not_yet, notes_stay}
 use Rattle.path_core.proofs.log.StaysDroppable.{stays_droppable}
 use Rattle.path_core.proofs.runs.EveryRun.{log_of, placing_of}
 use Rattle.path_core.proofs.seats.Columns.{each_seat}
+use Rattle.path_rule.specs.declared.lasting.Beside.{Beside}
 use Rattle.path_rule.specs.declared.lasting.Filed.{Filed}
 use Rattle.path_rule.specs.declared.lasting.PutTable.{PutTable}
 use Rattle.path_rule.specs.declared.view.PathSize.{PathSize}
@@ -214,7 +215,19 @@ module _ (x : PathState) (L : IsLawfulPath x) where
         }),
       )) merged
 
-  -- a segment that may go goes with the Sync turn, or may go still
+  -- a segment that may go may go still
+  pub may_still : (e : Event) → IsStep x e → (o : ℕ) → IsDroppable x o → o < ordinal_of x.synced
+      → IsDroppable (next_of x e) o × (o < ordinal_of (next_of x e).synced)
+  may_still e a o droppable below = (
+    stays_droppable x L.sized L.claims_tile_the_log L.orders L.own_claim L.each_claim_noted_once
+        L.notes_are_claims (log_of x L).logged_are_notes e a o droppable,
+    higher x.synced (next_of x e).synced (synced_grows x e a) below,
+  )
+    where
+      higher : (low high : ℕ) → low ≤ high → o < ordinal_of low → o < ordinal_of high
+      higher low high le l = omega arith
+
+  -- it goes with the Sync turn, or may go still
   pub still_going : (e : Event) → IsStep x e → (o : ℕ) → Contains x.dropped o ⊎ IsGoing x o
       → Contains (next_of x e).dropped o ⊎ IsGoing (next_of x e) o
   still_going e a o (inl gone) = inl (dropped_stays e gone)
@@ -237,14 +250,9 @@ module _ (x : PathState) (L : IsLawfulPath x) where
             (subst (λ (z : ℕ). has_filed (seat_of x z) ≡ true) (sym is) G.filed))
             (λ z apart is. subst (λ (k : ℕ). has_filed (seat_of x k) ≡ true) (sym is) G.filed)
             G.by refl;
-        droppable = stays_droppable x L.sized L.claims_tile_the_log L.orders L.own_claim
-            L.each_claim_noted_once L.notes_are_claims (log_of x L).logged_are_notes e a o
-            G.droppable;
-        below = higher x.synced (next_of x e).synced (synced_grows x e a) G.below;
+        droppable = (may_still e a o G.droppable G.below).0;
+        below = (may_still e a o G.droppable G.below).1;
       }
-        where
-          higher : (low high : ℕ) → low ≤ high → o < ordinal_of low → o < ordinal_of high
-          higher low high le l = omega arith
 
       held : is_some (seat_of x G.by).sync ≡ true
       held = holds_filed (seat_of x G.by).sync G.filed
@@ -278,9 +286,9 @@ module _ (x : PathState) (L : IsLawfulPath x) where
   retired_grows e a (suc n) = let more = retired_grows e a n in
       let up = oldest_grows x (placing_of x L) e a n in omega arith
 
-  pub filing_stays : (size : PathSize) (filed : Filed) (dropped : List ℕ) (e : Event) → IsStep x e
-      → (next_of x e).files ≡ x.files → HasFiled size x filed dropped
-      → HasFiled size (next_of x e) filed dropped
+  pub filing_stays : {b : Beside} (size : PathSize) (filed : Filed) (dropped : List ℕ) (e : Event)
+      → IsStep x e → (next_of x e).files ≡ x.files → HasFiled b size x filed dropped
+      → HasFiled b size (next_of x e) filed dropped
   filing_stays size filed dropped e a same F = record {
     ranged = F.ranged ∙ ap (λ (l : List WrittenFile). map file_range l) (sym same);
     merged = λ f h. let g = written_of filed.files x.files F.ranged f h in
@@ -289,25 +297,28 @@ module _ (x : PathState) (L : IsLawfulPath x) where
     few = let more = retired_grows e a 16 in let few = F.few in
         let long = ap (λ (l : List WrittenFile). length l) same in omega arith;
     plain = λ is. let P = F.plain is in (same ∙ P.0, P.1, P.2);
+    none_archived = F.none_archived;
+    all_archived = F.all_archived;
+    archived_may = λ o h. let M = F.archived_may o h in may_still e a o M.0 M.1;
   }
 
 -- what was dropped lies below the segment of the synced key
-pub dropped_below : (x : PathState) → IsLawfulPath x → (size : PathSize) (filed : Filed)
-    (dropped : List ℕ) → HasFiled size x filed dropped → (o : ℕ) → Contains dropped o
-    → o < ordinal_of x.synced
+pub dropped_below : {b : Beside} (x : PathState) → IsLawfulPath x → (size : PathSize)
+    (filed : Filed) (dropped : List ℕ) → HasFiled b size x filed dropped → (o : ℕ)
+    → Contains dropped o → o < ordinal_of x.synced
 dropped_below x L size filed dropped F o h = ⊎_elim
     (λ gone. L.dropped_was_droppable.below_synced o gone) (λ G. G.below) (F.gone o h)
 
 -- and is droppable
-pub dropped_is_droppable : (x : PathState) → IsLawfulPath x → (size : PathSize) (filed : Filed)
-    (dropped : List ℕ) → HasFiled size x filed dropped → (o : ℕ) → Contains dropped o
-    → IsDroppable x o
+pub dropped_is_droppable : {b : Beside} (x : PathState) → IsLawfulPath x → (size : PathSize)
+    (filed : Filed) (dropped : List ℕ) → HasFiled b size x filed dropped → (o : ℕ)
+    → Contains dropped o → IsDroppable x o
 dropped_is_droppable x L size filed dropped F o h = ⊎_elim
     (λ gone. L.dropped_was_droppable.droppable o gone) (λ G. G.droppable) (F.gone o h)
 
 -- While nobody holds the Sync turn, it is dropped in the machine.
-pub dropped_at_home : (x : PathState) (size : PathSize) (filed : Filed) (dropped : List ℕ)
-    → HasFiled size x filed dropped → ((w : ℕ) → is_some (seat_of x w).sync ≡ false)
+pub dropped_at_home : {b : Beside} (x : PathState) (size : PathSize) (filed : Filed)
+    (dropped : List ℕ) → HasFiled b size x filed dropped → ((w : ℕ) → is_some (seat_of x w).sync ≡ false)
     → (o : ℕ) → Contains dropped o → Contains x.dropped o
 dropped_at_home x size filed dropped F free o h = ⊎_elim (λ gone. gone)
     (λ G. absurd (false≢true (sym (free G.by) ∙ holds_filed (seat_of x G.by).sync G.filed)))

@@ -105,7 +105,7 @@ use Rattle.path_rule.proofs.boxes.AtHome.{inside_list}
 use Rattle.path_rule.proofs.boxes.DeskChanged.{boxed_desk_turns}
 use Rattle.path_rule.proofs.boxes.MemtableReads.{read_still, retabled}
 use Rattle.path_rule.proofs.boxes.MemtablesStay.{memtables_stay, puts_stay, runs_still}
-use Rattle.path_rule.proofs.log.FilingStays.{retired_grows, still_going}
+use Rattle.path_rule.proofs.log.FilingStays.{may_still, retired_grows, still_going}
 use Rattle.path_rule.proofs.log.KeptStays.{kept_stays}
 use Rattle.path_rule.proofs.moves.FilingFacts.{
   ends_at,
@@ -231,7 +231,7 @@ module _ {K : Type 0} (shows : K → Lasting) (o : Beside) (size : PathSize) (sl
         (sym lower_now) (file_of_seen shows o size slots id m w mine s r there t k bound q inside
         sees some_seen final turn sync runs lasting cells seen)
 
-    filed_now : HasFiled size (next_of x e) put r.dropped
+    filed_now : HasFiled o size (next_of x e) put r.dropped
     filed_now = record {
       ranged = map-append put_range r.filed.files (put_now ∷ [])
           ∙ ((λ i. r.filing.ranged i ++ (t.0, (lower_now i, sym upper_now i)) ∷ [])
@@ -246,6 +246,9 @@ module _ {K : Type 0} (shows : K → Lasting) (o : Beside) (size : PathSize) (sl
           let few = r.filing.few in
           let up = retired_more x L w t (suc k) may_now 16 few_now in omega arith);
       plain = λ none. absurd (false≢true (sym none ∙ files));
+      none_archived = r.filing.none_archived;
+      all_archived = r.filing.all_archived;
+      archived_may = λ z h. let M = r.filing.archived_may z h in may_still x L e may_now z M.0 M.1;
     }
       where
         few_now : t.0 < 16

@@ -446,7 +446,7 @@ module _ {K : Type 0} (shows : K → Lasting) (o : Beside) (size : PathSize) (s 
 
       -- with what the keeper may have kept up to a key, and what is in the boxes
       pub plays_all : ToldTrue r.core e found filed → (key : ℕ) → MayBeKept x' key
-          → (put : Filed) (gone : List ℕ) → HasFiled size x' put gone
+          → (put : Filed) (gone : List ℕ) → HasFiled o size x' put gone
           → (cs : List (ℕ × Slot K)) (a : Act (Slot K))
           → Boxed shows size.seats x'.notes (shown o size.at_open key put gone x') x'.claims
           x'.append (homes_after s.homes cs a) (set s.views id v') → MemtablesThen cs a → ReadsThen
@@ -517,12 +517,12 @@ module _ {K : Type 0} (shows : K → Lasting) (o : Beside) (size : PathSize) (s 
       }
 
       -- what was filed and dropped is what the state has still, where it gives no file
-      filing_now : x'.files ≡ r.core.files → HasFiled size x' r.filed r.dropped
+      filing_now : x'.files ≡ r.core.files → HasFiled o size x' r.filed r.dropped
       filing_now same = filing_stays r.core core_lawful size r.filed r.dropped e may same r.filing
 
       -- where no box of a memtable moves, and the seat's write stays
       pub plays_filed : ToldTrue r.core e found filed → (key : ℕ) → MayBeKept x' key
-          → (put : Filed) (gone : List ℕ) → HasFiled size x' put gone
+          → (put : Filed) (gone : List ℕ) → HasFiled o size x' put gone
           → (cs : List (ℕ × Slot K)) (a : Act (Slot K))
           → Boxed shows size.seats x'.notes (shown o size.at_open key put gone x') x'.claims
           x'.append (homes_after s.homes cs a) (set s.views id v') → LeavesWrite e

@@ -9,6 +9,7 @@ use Rattle.std.proofs.Common.{
   Bool,
   true,
   List,
+  ◌++◌,
   set,
   Option,
   Some,
@@ -26,6 +27,11 @@ use Rattle.std.proofs.Common.{
 use Rattle.std.specs.Prelude.{slice_index}
 use Rattle.std.specs.List.{Contains}
 use Rattle.std.proofs.lemmas.Bool.{false≢true}
+use Rattle.std.proofs.lemmas.List.Elements.{
+  Contains-append_cases,
+  Contains-append_left,
+  Contains-append_right,
+}
 use mathlib.Core.Logic.{inl, inr}
 use mathlib.Core.Option.{none, some}
 use lib.ListN.{get_elem?}
@@ -53,6 +59,7 @@ use Rattle.path_rule.specs.declared.view.View.{View}
 use Rattle.path_rule.specs.Boxed.{Boxed, IsKept, IsSomewhere}
 use Rattle.path_rule.specs.Filing.{HasFiled, IsGoing, MayGo}
 use Rattle.path_rule.specs.FilingTold.{
+  AreArchived,
   FilingNoted,
   FilingStopped,
   GoesNow,
@@ -81,7 +88,8 @@ module _ {K : Type 0} (shows : K → Lasting) (o : Beside) (size : PathSize) (sl
     (m : Me (Slot K) View) (w : ℕ) (mine : m.0.role ≡ Steps w) (turn : SyncTurn)
     (sync : m.0.part.sync ≡ Some turn) (runs : turn.stopped ≡ Some 0)
     (empty : m.0.hands.box_taken ≡ None) (files : size.files ≡ true) (refused : Bool)
-    (archived : ℕ) (dropped : List ℕ) (gone : MayBeGone m.0 dropped) where
+    (archived dropped : List ℕ)
+    (gone : MayBeGone m.0 dropped × AreArchived m.0 dropped archived) where
   abbrev hands_with : Option ℕ → Hands
   hands_with stopped = with_desk (noted refused archived dropped stopped m.0.hands.lasting)
       m.0.hands.pending m.0.hands.progress m.0.hands
@@ -109,14 +117,38 @@ module _ {K : Type 0} (shows : K → Lasting) (o : Beside) (size : PathSize) (sl
           below = omega arith;
         }
 
-    filed_now : HasFiled size r.core put dropped
+    -- which archive names there were, and whether the keeper gives them
+    were : m.0.hands.lasting.filed.archived ≡ r.filed.archived
+    were = ap (λ (l : Lasting). l.filed.archived) lasting_is
+
+    gives : m.0.hands.lasting.beside.archives ≡ o.archives
+    gives = ap (λ (l : Lasting). l.beside.archives) lasting_is
+
+    abbrev A : AreArchived m.0 dropped archived
+    A = gone.1
+
+    filed_now : HasFiled o size r.core put dropped
     filed_now = record {
       ranged = r.filing.ranged;
       merged = r.filing.merged;
       gone = λ k h. ⊎_elim (λ old. r.filing.gone k (subst (λ (l : List ℕ). Contains l k)
-          (ap (λ (l : Lasting). l.dropped) lasting_is) old)) (λ G. inr (going k G)) (gone k h);
+          (ap (λ (l : Lasting). l.dropped) lasting_is) old)) (λ G. inr (going k G)) (gone.0 k h);
       few = r.filing.few;
       plain = λ none. absurd (false≢true (sym none ∙ files));
+      none_archived = λ none. A.behind ∙ (λ i. (were ∙ r.filing.none_archived none) i
+          ++ A.none_given (gives ∙ none) i);
+      all_archived = λ all n h. subst (λ (l : List ℕ). Contains l n) (sym A.behind)
+          (⊎_elim (λ old. Contains-append_left m.0.hands.lasting.filed.archived A.names n
+          (subst (λ (l : List ℕ). Contains l n) (sym were) (r.filing.all_archived all n
+          (subst (λ (l : List ℕ). Contains l n) (ap (λ (l : Lasting). l.dropped) lasting_is)
+          old))))
+          (Contains-append_right m.0.hands.lasting.filed.archived A.names n)
+          (A.all_named (gives ∙ all) n h));
+      archived_may = λ n h. ⊎_elim (λ old. r.filing.archived_may n
+          (subst (λ (l : List ℕ). Contains l n) were old))
+          (λ new. let G = going n (A.each n new).0 in (G.droppable, G.below))
+          (Contains-append_cases m.0.hands.lasting.filed.archived A.names n
+          (subst (λ (l : List ℕ). Contains l n) A.behind h));
     }
 
     boxed_noted : (after : Lasting) (v' : View) → v'.role ≡ m.0.role

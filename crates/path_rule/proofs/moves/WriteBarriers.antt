@@ -40,12 +40,14 @@ use Rattle.path_core.specs.declared.event.Place.TheVariants.{Count}
 use Rattle.path_core.specs.declared.event.Reading.TheVariants.{Number}
 use Rattle.path_core.specs.declared.seat.Issue.TheVariants.{Rest, Opened, Moved}
 use Rattle.path_core.specs.declared.seat.SyncTurn.{SyncTurn}
-use Rattle.path_core.specs.Allowed.{IsStep}
+use Rattle.path_core.specs.Allowed.{IsStep, IsAllowed, WantsBarrier}
+use Rattle.path_core.specs.Holders.{HasWaiting}
 use Rattle.path_core.specs.LawfulOrders.{made_at}
 use Rattle.path_core.specs.Next.{next_of}
 use Rattle.path_core.specs.Parts.{groups_of, tally_of, issue_of}
 use Rattle.path_core.specs.SeatAfter.{seat_after}
 use Rattle.path_core.proofs.frame.Seats.{current_is_made, at_rest}
+use Rattle.path_core.proofs.tables.BarrierTells.{wanted_by_stage}
 use Rattle.path_rule.specs.declared.lasting.Beside.{Beside}
 use Rattle.path_rule.specs.declared.lasting.Lasting.{Lasting}
 use Rattle.path_rule.specs.declared.slot.Slot.{Slot}
@@ -53,7 +55,7 @@ use Rattle.path_rule.specs.declared.view.PathSize.{PathSize}
 use Rattle.path_rule.specs.declared.view.Role.TheVariants.{Steps}
 use Rattle.path_rule.specs.declared.view.View.{View}
 use Rattle.path_rule.specs.Layout.{tally_word}
-use Rattle.path_rule.specs.Rule.{Ruled, told_by, view_after, HasRows}
+use Rattle.path_rule.specs.Rule.{Ruled, told_by, view_after, HasRows, Was}
 use Rattle.path_rule.specs.Told.{Made}
 use Rattle.path_rule.specs.TurnTold.{WriteOpened, WriteMoved, WriteExpired, WriteAdvanced}
 use Rattle.path_rule.specs.Turns.{TurnSaw, TurnOld, TurnGone}
@@ -73,11 +75,12 @@ use Rattle.path_rule.proofs.seats.HolderKnows.{still}
 
 module _ {K : Type 0} (shows : K → Lasting) (o : Beside) (size : PathSize) (slots id : ℕ)
     (m : Me (Slot K) View) (w : ℕ) (mine : m.0.role ≡ Steps w) where
-  pub opens_write : (g c : ℕ) → IsTrue (is_some m.0.part.sync) → issue_of m.0.part ≡ Rest
-      → TurnSaw Write m.0.part c → g ≡ suc c → m.0.hands.box_taken ≡ None → g < 65536
+  pub opens_write : (g c : ℕ) → HasWaiting m.0.part → IsTrue (is_some m.0.part.sync)
+      → issue_of m.0.part ≡ Rest → TurnSaw Write m.0.part c → g ≡ suc c
+      → m.0.hands.box_taken ≡ None → g < 65536
       → Allows (Ruled shows o size) slots id m (72 + 2 * g) (λ _. 0)
       (λ _. WriteOpened (step slots (72 + 2 * g) 0 0 none) m 0)
-  opens_write g c held calm saw up empty fits s r _ there _ = let x = r.core in
+  opens_write g c waits held calm saw up empty fits s r _ there _ = let x = r.core in
       let e = OpenGroup w Write g in let v' = view_after m.0 e 0 in
       let law = core_lawful shows o size s r in
       let now = now_is shows o size slots id m w mine s r there held Write c saw in
@@ -96,19 +99,32 @@ module _ {K : Type 0} (shows : K → Lasting) (o : Beside) (size : PathSize) (sl
         );
       } in
       let told = refl in
+      let wants : WantsBarrier Write x w = (wanted_by_stage x law w).1 (subst HasWaiting
+      (sym (own_part shows o size slots id m w mine s r there (λ p. p) m.0.part refl)) waits) in
       let out = outside shows o size slots id m w mine s r there held in (
         v',
         keeps,
         tt,
-        plays shows o size s r id w m.0 there mine e refl may tt tt fits
+        plays shows o size s r id w m.0 there mine e refl may tt wants fits
             (rows s r g (let q = up ∙ ap suc now in omega arith)) 0 0 None m.0.hands told refl tt
             m.1 keeps
             (unseen shows o size slots id m w mine s r there held
             (next_of x e).append v' refl refl refl out
             (still _ m.0.part.sync held) refl empty) tt (refl, refl, refl, refl) tt tt,
         (λ z q role _ word. each_name shows o size slots id m w mine 72 g
-            (λ z q. Made z (OpenGroup z Write q) 0 m (v', m.1))
-            ((refl, was shows o size s r id w m.0 there mine e may tt), refl) z q role word),
+            (λ z q. Made z (OpenGroup z Write q) 0 m (v', m.1)
+            × ((was : Was m.0 z (OpenGroup z Write q))
+            × IsAllowed was.core (OpenGroup z Write q))) (
+              ((refl, was shows o size s r id w m.0 there mine e may tt), refl),
+              (
+                was shows o size s r id w m.0 there mine e may tt,
+                record {
+                  seat = may.seat;
+                  is_there = tt;
+                  row = (may.row, wants);
+                },
+              ),
+            ) z q role word),
       )
     where
       rows : (s : State (Slot K) View) (r : Ruled shows o size s) (g : ℕ)

@@ -105,6 +105,9 @@ module _ {K : Type 0} (shows : K → Lasting) (o : Beside) where
       gone = λ k h. absurd (let l = h.1 in omega arith);
       few = omega arith;
       plain = λ _. (refl, refl, refl);
+      none_archived = λ _. refl;
+      all_archived = λ _ n h. h;
+      archived_may = λ n h. absurd (let l = h.1 in omega arith);
     };
     unstepped = λ _. (refl, refl);
     tabled = tabled;
@@ -230,7 +233,7 @@ new_lasting size h n = let f = n.1 in λ i. record {
   filed = record {
     files = map put_table (f.no_file i);
     refused = is_some (f.none_refused i);
-    archived = length (f.none_archived i);
+    archived = f.none_archived i;
   };
   beside = beside_of h;
 }

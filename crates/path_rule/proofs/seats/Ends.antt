@@ -213,7 +213,7 @@ module _ {K : Type 0} (shows : K → Lasting) (o : Beside) where
           may_be_kept = r.may_be_kept;
           filed = r.filed;
           dropped = r.dropped;
-          filing = subst (λ (z : PathSize). HasFiled z r.core r.filed r.dropped) same r.filing;
+          filing = subst (λ (z : PathSize). HasFiled o z r.core r.filed r.dropped) same r.filing;
           gone = dropped_at_home r.core key r.filed r.dropped r.filing
               (none_holds key id w v role all unheld s r f.1.1);
           lasting_is = kept ∙ ap (λ (z : PathSize). shown o z.at_open r.kept_to r.filed r.dropped r.core) same;

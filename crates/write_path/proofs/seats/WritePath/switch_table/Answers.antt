@@ -85,3 +85,13 @@ returns-clause-switched g c = let m = c.args.member in
         oldest = W.ensures.oldest t k k M.stage M.oldest;
       };
     }
+
+-- the memtable that was made final waits for the barrier
+pub write_barrier-holder-requires-clause-waiting :
+    goal.write_barrier-holder-requires-clause-waiting
+write_barrier-holder-requires-clause-waiting g c =
+    let F = c.make_final-bound in record {
+      table = c.args.table.0;
+      memtable = c.args.newest;
+      waits = F.ensures.made.stage;
+    }
