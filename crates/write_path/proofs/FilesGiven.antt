@@ -102,7 +102,7 @@ module _ (x : PathState) (L : IsLawfulPath x) (t m : ℕ) (B : HasPassedBarrier 
 -- ---- each file came by a step that retired its memtable
 
 -- Of so many seats one made the step, and an entry is placed in the memtable.
-pub record IsGiven (count : ℕ) (events : List Event) (x : PathState) (f : WrittenFile) :
+pub record CameBy (count : ℕ) (events : List Event) (x : PathState) (f : WrittenFile) :
     Type 0 where
   pub by : ℕ
   pub inside : by < count
@@ -118,8 +118,8 @@ pub record IsGiven (count : ℕ) (events : List Event) (x : PathState) (f : Writ
 
 module _ (x : PathState) (L : IsLawfulPath x) (es : List Event) (count : ℕ)
     (long : length x.seats ≡ count) where
-  still_given : (e : Event) (f : WrittenFile) → IsGiven count es x f
-      → IsGiven count (e ∷ es) (next_of x e) f
+  still_given : (e : Event) (f : WrittenFile) → CameBy count es x f
+      → CameBy count (e ∷ es) (next_of x e) f
   still_given e f G = record {
     by = G.by;
     inside = G.inside;
@@ -133,7 +133,7 @@ module _ (x : PathState) (L : IsLawfulPath x) (es : List Event) (count : ℕ)
   given_now : (by : ℕ) (table : Table) (value : ℕ)
       → IsStep x (Put by (OldestLive table) value)
       → is_empty x table.0 (table_of x table.0).oldest_live ≡ false
-      → IsGiven count (Put by (OldestLive table) value ∷ es)
+      → CameBy count (Put by (OldestLive table) value ∷ es)
       (next_of x (Put by (OldestLive table) value)) (next_file x table.0)
   given_now by table value a filled =
       let p = one_placed x L table.0 (table_of x table.0).oldest_live a.row.2 filled in record {
@@ -147,16 +147,16 @@ module _ (x : PathState) (L : IsLawfulPath x) (es : List Event) (count : ℕ)
       }
 
   step_gives : (e : Event) → IsStep x e → (f : WrittenFile)
-      → (Contains x.files f → IsGiven count es x f) → Contains (next_of x e).files f
-      → IsGiven count (e ∷ es) (next_of x e) f
+      → (Contains x.files f → CameBy count es x f) → Contains (next_of x e).files f
+      → CameBy count (e ∷ es) (next_of x e) f
   step_gives (Put by (OldestLive table) value) a f old h =
       let e = Put by (OldestLive table) value in
       files_retired x by table value
-      (λ fs. Contains fs f → IsGiven count (e ∷ es) (next_of x e) f)
+      (λ fs. Contains fs f → CameBy count (e ∷ es) (next_of x e) f)
       (λ empty h. still_given e f (old h))
       (λ filled h. elim (Contains-push_cases x.files (next_file x table.0) f h) [
         | inl was ↦ still_given e f (old was)
-        | inr new ↦ subst (λ (g : WrittenFile). IsGiven count (e ∷ es) (next_of x e) g) new
+        | inr new ↦ subst (λ (g : WrittenFile). CameBy count (e ∷ es) (next_of x e) g) new
             (given_now by table value a filled)
       ]) h
   step_gives (Put by Synced value) a f old h = still_given (Put by Synced value) f (old h)
@@ -165,13 +165,13 @@ module _ (x : PathState) (L : IsLawfulPath x) (es : List Event) (count : ℕ)
 
 pub files_given : (es : List Event) (start x : PathState) → IsLawfulPath start → start.files ≡ []
     → Past start es x → (f : WrittenFile) → Contains x.files f
-    → IsGiven (length start.seats) es x f
+    → CameBy (length start.seats) es x f
 files_given [] start x law none past f h = absurd (let l = (subst
     (λ (fs : List WrittenFile). Contains fs f) (ap (λ (y : PathState). y.files) (sym past) ∙ none)
     h).1 in omega arith)
 files_given (e ∷ es) start x law none past f h =
     subst (λ (y : PathState). Contains y.files f
-    → IsGiven (length start.seats) (e ∷ es) y f) past.4
+    → CameBy (length start.seats) (e ∷ es) y f) past.4
     (step_gives past.0 (past_lawful es start past.0 law past.1) es (length start.seats)
     (past_sizes es start past.0 past.1).seats e past.3 f
     (files_given es start past.0 law none past.1 f)) h

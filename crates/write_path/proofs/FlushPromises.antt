@@ -44,7 +44,7 @@ use Rattle.write_path.specs.SwitchedRows.{switched_at}
 
 -- ---- on a trail that has grown
 
-final_before : (t m key : ℕ) (newer older : List OwnStep) → FindsFinal t m key older
+pub final_before : (t m key : ℕ) (newer older : List OwnStep) → FindsFinal t m key older
     → FindsFinal t m key (newer ++ older)
 final_before t m key [] older F = F
 final_before t m key (s ∷ ss) older F = inr (final_before t m key ss older F)

@@ -18,6 +18,7 @@ pub mod Parted
 pub mod CoveredFiles
 pub mod FilesGiven
 pub mod AskedFiles
+pub mod ToldFiles
 pub mod BesideStays
 pub mod Outcomes
 pub mod SyncLists
@@ -32,6 +33,7 @@ pub mod Growing
 pub mod Acknowledged
 pub mod Promises
 pub mod FlushPromises
+pub mod RetirePromises
 pub mod Spending
 pub mod FlushHeld
 pub mod FlushGoes

@@ -44,6 +44,7 @@ use Rattle.path_core.specs.Keeper.{Holding, HasRisen, PutFile}
 use Rattle.path_core.specs.LawfulLog.{claim_in, entry_claim, is_at_most}
 use Rattle.path_core.specs.Next.{is_between}
 use Rattle.path_core.specs.declared.state.PathState.{PathState}
+use Rattle.path_core.specs.declared.state.WrittenFile.{WrittenFile}
 use Rattle.path_core.specs.declared.seat.Seat.{Seat}
 use Rattle.path_core.specs.Parts.{fresh_seat, no_claim, seat_of}
 use Rattle.path_core.specs.Keys.{ordinal_of}
@@ -72,7 +73,14 @@ use Rattle.path_rule.specs.Members.{view_of, part_of}
 use Rattle.path_rule.specs.Rule.{IsFit, start_of, event_of, steps_by}
 use Rattle.path_rule.specs.Sharing.{EndsUnused}
 use Rattle.path_rule.specs.Trails.{TrailTells}
-use Rattle.write_path.specs.ClosedFiles.{CoversFlushed, IsAskedBy, held_range}
+use Rattle.write_path.specs.ClosedFiles.{
+  AreEmpty,
+  AreFinal,
+  AreGiven,
+  CoversFlushed,
+  IsAskedBy,
+  held_range,
+}
 use Rattle.write_path.specs.Closed.{
   IsOfSize,
   IsOutcome,
@@ -89,11 +97,13 @@ use Rattle.write_path.specs.OneRun.{EndsBy}
 use Rattle.write_path.specs.Opened.{numbers_of}
 use Rattle.write_path.specs.Sealed.{AreSealed, AreSealedApart}
 use Rattle.write_path.proofs.Accounted.{each_once, each_there}
-use Rattle.write_path.proofs.AskedFiles.{each_asked}
+use Rattle.write_path.proofs.AskedFiles.{asked_by}
 use Rattle.write_path.proofs.BesideStays.{none_of, none_shown}
 use Rattle.write_path.proofs.CoveredFiles.{covers, ranges_shown, true_as_shown}
 use Rattle.write_path.proofs.FewGroups.{few_groups}
 use Rattle.write_path.proofs.FewSegments.{few_segments}
+use Rattle.write_path.proofs.FilesGiven.{CameBy, files_given}
+use Rattle.write_path.proofs.ToldFiles.{are_given, stand_for_some}
 use Rattle.path_rule.proofs.log.NoneDropped.{none_dropped}
 use Rattle.write_path.proofs.NonePassed.{first_part, none_passed}
 use Rattle.write_path.proofs.Parted.{parts_at}
@@ -202,6 +212,13 @@ module _ {K : Type 0} (size : PathSize) where
       let dropped : h.dropped ≡ e.dropped = ap (λ (k : Lasting). k.dropped) same in
       let files_are : map held_range h.files ≡ map file_range x.files = ranges_shown h.files
       ∙ (ap (λ (l : List PutTable). map put_range l) files_shown ∙ e.filing.ranged) in
+      let archived : h.archived ≡ e.filed.archived =
+      ap (λ (k : Lasting). k.filed.archived) same in
+      let archives : h.opening.archives ≡ o.archives =
+      ap (λ (k : Lasting). k.beside.archives) same in
+      let came = λ (f : WrittenFile) (there : Contains x.files f). subst
+      (λ (k : ℕ). CameBy k e.events x f) many
+      (files_given e.events (start_of size) x first refl e.run f there) in
       let idle = λ (w : ℕ) (l : w < length x.seats). idle_all x seats E.parts all w
       (let long = z.seats in omega (arith, l, long, many)) in (
         record {
@@ -259,6 +276,12 @@ module _ {K : Type 0} (size : PathSize) where
                 L.dropped_was_droppable.droppable o in_run,
                 L.dropped_was_droppable.below_synced o in_run,
               );
+          archived_may = λ n there. e.filing.archived_may n
+              (subst (λ (l : List ℕ). Contains l n) archived there);
+          all_archived = λ gives n gone. subst (λ (l : List ℕ). Contains l n) (sym archived)
+              (e.filing.all_archived (sym archives ∙ gives) n
+              (subst (λ (l : List ℕ). Contains l n) dropped gone));
+          none_archived = λ gives. archived ∙ e.filing.none_archived (sym archives ∙ gives);
           covered = known_of x
               (λ (s : PathSeat K). TrailTells size.capacity x (view_of s.member).trail)
               (λ (s : PathSeat K). CoversFlushed x.notes h.files (view_of s.member).trail)
@@ -268,8 +291,21 @@ module _ {K : Type 0} (size : PathSize) where
               (subst (λ (l : List (ℕ × (ℕ × ℕ))). Contains l (held_range f)) files_are
               (map_old held_range h.files f put)) in
               subst (IsAskedBy seats) (ap (λ (r : ℕ × (ℕ × ℕ)). r.0) g.2)
-              (each_asked size x e.events seats all E.own E.tell (start_of size) first refl many
-              e.run g.0 g.1);
+              (asked_by size x L e.events seats all E.own E.tell g.0 (came g.0 g.1));
+          for_some = stand_for_some x h.files files_are L size.seats e.events came;
+          finals = known_of x
+              (λ (s : PathSeat K). TrailTells size.capacity x (view_of s.member).trail)
+              (λ (s : PathSeat K). AreFinal x (view_of s.member).trail)
+              (λ s T. T.final) seats E.tell;
+          emptied = known_of x
+              (λ (s : PathSeat K). TrailTells size.capacity x (view_of s.member).trail)
+              (λ (s : PathSeat K). AreEmpty x (view_of s.member).trail)
+              (λ s T. T.emptied) seats E.tell;
+          given = known_of x
+              (λ (s : PathSeat K). TrailTells size.capacity x (view_of s.member).trail)
+              (λ (s : PathSeat K). AreGiven x h.files (view_of s.member).trail)
+              (λ s T. are_given x h.files files_are size.capacity (view_of s.member).trail T)
+              seats E.tell;
           stops = stops;
           found_synced = known_of x
               (λ (s : PathSeat K). part_of s.member ≡ seat_of x s.member.number) (IsSyncedFor h)
@@ -340,7 +376,8 @@ module _ {K : Type 0} (size : PathSize) where
   unused_outcome o seats end h fit none_there U bounds told = let same = U.1 in
       let synced : h.synced ≡ 0 = ap (λ (k : Lasting). k.synced) same in
       let no_files : h.files ≡ [] = none_shown h.files (ap (λ (k : Lasting). k.filed.files) same) in
-      let dropped : h.dropped ≡ [] = ap (λ (k : Lasting). k.dropped) same in (
+      let dropped : h.dropped ≡ [] = ap (λ (k : Lasting). k.dropped) same in
+      let archived : h.archived ≡ [] = ap (λ (k : Lasting). k.filed.archived) same in (
         record {
           fit = fit;
           core = start_of size;
@@ -376,11 +413,27 @@ module _ {K : Type 0} (size : PathSize) where
           true_files = λ f put. absurd (none_of no_files f put);
           dropped_in = λ o gone. absurd (none_of dropped o gone);
           droppable = λ o gone. absurd (none_of dropped o gone);
+          archived_may = λ n there. absurd (none_of archived n there);
+          all_archived = λ gives n gone. absurd (none_of dropped n gone);
+          none_archived = λ gives. archived;
           covered = subst (λ (l : List (PathSeat K)). All (λ (s : PathSeat K).
               CoversFlushed [] h.files (view_of s.member).trail) l)
               (sym (no_seat seats none_there)) (All-nil (λ (s : PathSeat K).
               CoversFlushed [] h.files (view_of s.member).trail));
           asked = λ f put. absurd (none_of no_files f put);
+          for_some = λ f put. absurd (none_of no_files f put);
+          finals = subst (λ (l : List (PathSeat K)). All (λ (s : PathSeat K).
+              AreFinal (start_of size) (view_of s.member).trail) l)
+              (sym (no_seat seats none_there)) (All-nil (λ (s : PathSeat K).
+              AreFinal (start_of size) (view_of s.member).trail));
+          emptied = subst (λ (l : List (PathSeat K)). All (λ (s : PathSeat K).
+              AreEmpty (start_of size) (view_of s.member).trail) l)
+              (sym (no_seat seats none_there)) (All-nil (λ (s : PathSeat K).
+              AreEmpty (start_of size) (view_of s.member).trail));
+          given = subst (λ (l : List (PathSeat K)). All (λ (s : PathSeat K).
+              AreGiven (start_of size) h.files (view_of s.member).trail) l)
+              (sym (no_seat seats none_there)) (All-nil (λ (s : PathSeat K).
+              AreGiven (start_of size) h.files (view_of s.member).trail));
           stops = ap (λ (k : Lasting). k.stopped) same;
           found_synced = subst (λ (l : List (PathSeat K)). All (IsSyncedFor h) l)
               (sym (no_seat seats none_there)) (All-nil (IsSyncedFor h));

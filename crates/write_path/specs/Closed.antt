@@ -45,7 +45,16 @@ use Rattle.path_rule.specs.Lasts.{fault_count, stopped_with}
 use Rattle.path_rule.specs.Members.{view_of, part_of, IsOf, returned_of}
 use Rattle.path_rule.specs.Rule.{AreBuilt, IsFit, start_of, event_of, steps_by}
 use Rattle.write_path.specs.declared.resting.Resting.{Resting}
-use Rattle.write_path.specs.ClosedFiles.{CoversFlushed, IsAskedBy, IsUnfiled, held_range}
+use Rattle.write_path.specs.ClosedFiles.{
+  AreEmpty,
+  AreFinal,
+  AreGiven,
+  CoversFlushed,
+  HasEntryBetween,
+  IsAskedBy,
+  IsUnfiled,
+  held_range,
+}
 use Rattle.write_path.specs.Ends.{writes_of}
 use Rattle.write_path.specs.Sealed.{AreSealed, AreSealedApart}
 
@@ -168,11 +177,29 @@ pub record IsOutcome {K : Type 0} (size : PathSize) (seats : List (PathSeat K)) 
   pub dropped_in : (o : ℕ) → Contains h.dropped o → Contains core.dropped o
   pub droppable : (o : ℕ) → Contains h.dropped o
       → IsDroppable core o × (o < ordinal_of core.synced)
+  -- so may each segment that got its archive name
+  pub archived_may : (o : ℕ) → Contains h.archived o
+      → IsDroppable core o × (o < ordinal_of core.synced)
+  -- a keeper that gives archive names has given one to each segment that it dropped, and one that
+  -- gives none has given none
+  pub all_archived : h.opening.archives ≡ true → (o : ℕ) → Contains h.dropped o
+      → Contains h.archived o
+  pub none_archived : h.opening.archives ≡ false → h.archived ≡ []
   -- what a seat knows to be flushed lies in the keeper's files
   pub covered : All (λ (s : PathSeat K). CoversFlushed core.notes h.files
       (view_of s.member).trail) seats
   -- each file is of a table of which a seat has retired a memtable with a file
   pub asked : (f : PutFile) → Contains h.files f → IsAskedBy seats f.table
+  -- and stands for an entry: one of the history touches its table, and ends within its interval
+  pub for_some : (f : PutFile) → Contains h.files f
+      → HasEntryBetween core.notes f.table f.lower f.upper
+  -- each memtable that a seat found final at a key, or made final there, is final at that key
+  pub finals : All (λ (s : PathSeat K). AreFinal core (view_of s.member).trail) seats
+  -- in each that a seat retired without a table file nothing is placed
+  pub emptied : All (λ (s : PathSeat K). AreEmpty core (view_of s.member).trail) seats
+  -- in each that it retired with one something is placed, and the keeper has the file, from the key
+  -- that the step gave to the memtable's final bound
+  pub given : All (λ (s : PathSeat K). AreGiven core h.files (view_of s.member).trail) seats
   -- and the keeper has stopped as the run has
   pub stops : stopped_with h.stopped h.faults ≡ fault_count core.stopped
   -- so it has all that a seat knows to be synced, and has stopped where a seat knows that

@@ -80,9 +80,11 @@ impl<K: Keeper + Drop> WritePath<K, Global> {
     /// run's last state. It goes back to the disk of the
     /// keeper over which the path was opened. A marker stands between each write that is sealed in
     /// its seat's trail and each later one of that seat. Of a path that was opened by `open_filing`
-    /// each table file is true of that history, what a seat knows to be flushed lies in files, and
-    /// each dropped segment may go; of one that was opened by `open` there is no file, and no
-    /// segment has gone. What commits and syncs have answered is so of the trails at the end too
+    /// each table file is true of that history and stands for an entry of it, what a seat knows to
+    /// be flushed lies in files, a memtable that a seat retired with a table file has that file,
+    /// one that it retired without holds nothing, and each segment that was dropped, or has its
+    /// archive name, may go; of one that was opened by `open` there is no file, and no segment has
+    /// gone. What commits and syncs have answered is so of the trails at the end too
     /// (`what_close_keeps`).
     pub fn close(self, seats: Vec<PathSeat<K>>) -> (K, Outcome)
         requires seats { AreOf self.table.table.shared.table_id self.table.size seats.items }

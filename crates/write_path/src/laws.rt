@@ -16,6 +16,9 @@ ghost use Rattle.std.specs.Prelude.{
   ◌∷◌,
   ◌++◌,
   length,
+  true,
+  Some,
+  None,
   IsTrue,
 };
 ghost use Rattle.std.specs.List.{All, Contains};
@@ -25,6 +28,7 @@ ghost use Rattle.clog_mutation.specs.declared.mutation.Mutation.{Mutation};
 ghost use Rattle.clog_mutation.specs.Limits.{IsWithinLimits};
 ghost use Rattle.path_core.specs.declared.event.ClaimKind.TheVariants.{Entry};
 ghost use Rattle.path_core.specs.declared.note.EntryNote.{EntryNote};
+ghost use Rattle.path_core.specs.declared.state.Bound.TheVariants.{Final};
 ghost use Rattle.path_core.specs.History.{IsHistory};
 ghost use Rattle.path_core.specs.Keeper.{Holding, IsFiledIn};
 ghost use Rattle.path_core.specs.Keys.{
@@ -34,20 +38,22 @@ ghost use Rattle.path_core.specs.Keys.{
   claimed_size,
   claim_start,
 };
-ghost use Rattle.path_core.specs.Parts.{touches};
+ghost use Rattle.path_core.specs.Parts.{is_empty, memtable_of, touches};
 ghost use Rattle.path_core.specs.Whole.{IsWhole};
 ghost use Rattle.path_rule.specs.declared.answer.SyncAnswer.TheVariants.{Done, Rows};
 ghost use Rattle.path_rule.specs.declared.view.OwnStep.{OwnStep};
 ghost use Rattle.path_rule.specs.declared.view.PathSize.{PathSize};
 ghost use Rattle.path_rule.specs.declared.view.View.{View};
+ghost use Rattle.path_rule.specs.FindsBounds.{FindsFinal, Retires};
 ghost use Rattle.path_rule.specs.Members.{view_of};
 ghost use Rattle.path_rule.specs.Reached.{Reaches};
+ghost use Rattle.path_rule.specs.Trails.{HoldsSome};
 ghost use Rattle.sync_core.specs.declared.SyncCore.TheVariants.{Batch};
 ghost use Rattle.write_path.specs.declared.commit.Commit.TheVariants.{Unsynced};
 ghost use Rattle.write_path.specs.declared.commit.Receipt.{Receipt};
 ghost use Rattle.write_path.specs.declared.commit.SyncFault.TheVariants.{Rows as NoRows};
 ghost use Rattle.write_path.specs.declared.prepared.Prepared.{Prepared};
-ghost use Rattle.write_path.specs.ClosedFiles.{HasFlushed};
+ghost use Rattle.write_path.specs.ClosedFiles.{HasFlushed, IsGiven};
 ghost use Rattle.write_path.specs.Closed.{IsOutcome, PassesNoSegment, all_writes};
 ghost use Rattle.write_path.specs.Commits.{IsLogged};
 ghost use Rattle.write_path.specs.Ends.{writes_of};
@@ -146,6 +152,24 @@ pub fn what_close_keeps<K: Keeper>()
         → HasGrown before (view_of s.member).trail → (other : PathSeat K) → Contains seats other
         → (n : EntryNote) → Contains (writes_of (view_of other.member).trail) n
         → IsTrue (touches n.tables t.0) → n.end.0 ≤ key → IsFiledIn h.files t.0 n.end.0 }
+    // Where it made a memtable final at a key, or found it so, the memtable is final at that key.
+    ensures finals { (size : PathSize) (seats : List (PathSeat K)) (end : ℕ) (h : Holding)
+        → (o : IsOutcome size seats end h) → (s : PathSeat K) → Contains seats s
+        → (t m key : ℕ) (before : List OwnStep) → FindsFinal t m key before
+        → HasGrown before (view_of s.member).trail
+        → (memtable_of o.core t m).bound ≡ Final (record { 0 = key }) }
+    // In a memtable that it retired without a table file nothing is placed.
+    ensures emptied { (size : PathSize) (seats : List (PathSeat K)) (end : ℕ) (h : Holding)
+        → (o : IsOutcome size seats end h) → (s : PathSeat K) → Contains seats s
+        → (t : Table) (m : ℕ) (before : List OwnStep) → Retires t m None before
+        → HasGrown before (view_of s.member).trail → is_empty o.core t.0 m ≡ true }
+    // In one that it retired with a table file something is placed, and the keeper has that file,
+    // from the key that the step gave to the memtable's final bound.
+    ensures given { (size : PathSize) (seats : List (PathSeat K)) (end : ℕ) (h : Holding)
+        → (o : IsOutcome size seats end h) → (s : PathSeat K) → Contains seats s
+        → (t : Table) (m lower : ℕ) (before : List OwnStep) → Retires t m (Some lower) before
+        → HasGrown before (view_of s.member).trail
+        → HoldsSome o.core t.0 m × IsGiven o.core h.files t.0 m lower }
 {}
 
 /// A path runs out of segments only under many writes: one whose seat was answered `Spent` has at

@@ -37,7 +37,7 @@ mod writing;
 pub use accepting::Accept;
 pub use claimed::Claimed;
 pub use claiming::TryClaim;
-pub use closed_laws::what_a_flush_covers;
+pub use closed_laws::{what_a_flush_covers, what_a_retired_memtable_leaves};
 pub use closing::Outcome;
 pub use commit::{Commit, Receipt, SyncFault};
 pub use deposited::Deposited;

@@ -6,6 +6,7 @@ use Rattle.write_path.proofs.Promises.{
   durable_marked,
   synced_logged,
 }
+use Rattle.write_path.proofs.RetirePromises.{emptied_kept, final_kept, given_kept}
 use Rattle.write_path.proofs.laws.what_close_keeps.Goals as goal
 
 pub returns-clause-durable : goal.returns-clause-durable
@@ -25,3 +26,12 @@ returns-clause-apart g c = durable_apart
 
 pub returns-clause-flushed : goal.returns-clause-flushed
 returns-clause-flushed g c = flushed_filed
+
+pub returns-clause-finals : goal.returns-clause-finals
+returns-clause-finals g c = final_kept
+
+pub returns-clause-emptied : goal.returns-clause-emptied
+returns-clause-emptied g c = emptied_kept
+
+pub returns-clause-given : goal.returns-clause-given
+returns-clause-given g c = given_kept
