@@ -10,6 +10,8 @@ mod barriers;
 #[cfg(test)]
 mod commits;
 #[cfg(test)]
+mod flushes;
+#[cfg(test)]
 mod late;
 #[cfg(test)]
 mod machine;

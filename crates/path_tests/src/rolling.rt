@@ -31,7 +31,7 @@ fn payload_for(alloc: Global, entry: u32) -> Result<Vec<u8>, Fail> {
 }
 
 // The write of a line whose entry has so many bytes.
-fn write_of(alloc: Global, sizes: Sizes, line: u32, entry: u32) -> Result<Prepared, Fail>
+pub(crate) fn write_of(alloc: Global, sizes: Sizes, line: u32, entry: u32) -> Result<Prepared, Fail>
     requires { sizes.tables ≡ 16 }
     ensures { IfOk result (λ p. (m : Mutation) × IsPrepared sizes line m p) }
 {

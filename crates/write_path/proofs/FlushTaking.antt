@@ -1,15 +1,36 @@
 -- What a seat knows that has just taken a table's Flush turn, or the Sync turn beside it.
-use Rattle.std.proofs.Common.{◌≡◌, ◌≢◌, ℕ, ◌<◌, [], Option, Some, None, IsTrue, is_some, refl, sym, ap, ◌∙◌, subst, get_or-set_same}
+use Rattle.std.proofs.Common.{
+  ◌≡◌,
+  ◌≢◌,
+  ℕ,
+  ◌<◌,
+  ◌≤◌,
+  [],
+  Option,
+  Some,
+  None,
+  IsTrue,
+  is_some,
+  refl,
+  sym,
+  ap,
+  ◌∙◌,
+  subst,
+  get_or-set_same,
+  arith,
+}
 use mathlib.Core.Logic.{dite}
 use native.Mathlib.Decide.{ℕ_discrete}
 use Rattle.std.proofs.lemmas.Bool.{false≢true}
 use Rattle.std.specs.Option.{option_map}
 use Rattle.atomic_table.specs.Table.{Me}
 use Rattle.clog_base.specs.declared.cell.Table.{Table}
+use Rattle.path_core.specs.declared.event.Event.{Event}
 use Rattle.path_core.specs.declared.event.Event.TheVariants.{GiveTurn, Look, TakeTurn}
 use Rattle.path_core.specs.declared.event.Place.TheVariants.{TurnWord}
 use Rattle.path_core.specs.declared.event.Turn.TheVariants.{Sync, Flush}
 use Rattle.path_core.specs.declared.seat.FlushTurn.{FlushTurn}
+use Rattle.path_core.specs.declared.seat.Seat.{Seat}
 use Rattle.path_core.specs.declared.seat.SeatTable.{SeatTable}
 use Rattle.path_core.specs.declared.seat.Switching.TheVariants.{Settled}
 use Rattle.path_core.specs.Parts.{seat_table, stage_of, untouched, HoldsNoTurn, IsIdle}
@@ -21,10 +42,12 @@ use Rattle.path_rule.specs.declared.view.Hands.{Hands}
 use Rattle.path_rule.specs.declared.view.View.{View}
 use Rattle.path_rule.specs.Calls.{Did, DidAs, MayGive}
 use Rattle.path_rule.specs.Rounds.{IsAtRest}
+use Rattle.path_rule.specs.Rule.{Was}
+use Rattle.path_rule.specs.Switches.{FlushNewest, FlushOldest}
 use Rattle.path_rule.specs.TurnTold.{TookDesk}
 use Rattle.path_rule.proofs.seats.Accepting.{table_inside}
 use Rattle.path_rule.proofs.seats.SyncTaken.{taken_desk}
-use Rattle.write_path.specs.FlushTurns.{HoldsBoth, HoldsTable, IsHolder}
+use Rattle.write_path.specs.FlushTurns.{HasTable, HoldsBoth, HoldsTable, IsHolder}
 
 none_read : (o : Option FlushRead) → ((q : FlushRead) → o ≡ Some q → ⊥) → o ≡ None
 none_read None not = refl
@@ -65,10 +88,14 @@ module _ {K : Type 0} where
     ap (λ (o : Option FlushTurn). option_map (λ (turn : FlushTurn). turn.stage) o) held,
   )
 
+  -- it may have read a memtable
+  pub of_table : (t : ℕ) (m : Me (Slot K) View) → HoldsTable t m → HasTable t m
+  of_table t m H = record { holder = H.holder; unsynced = H.unsynced; bare = H.bare }
+
   -- a look that found the Sync turn taken leaves all that
   pub holds_still : (m m' : Me (Slot K) View) (w t n : ℕ)
-      → Did m.0 w (Look w (TurnWord Sync)) n m'.0 → m'.1 ≡ m.1 → HoldsTable t m
-      → HoldsTable t m'
+      → Did m.0 w (Look w (TurnWord Sync)) n m'.0 → m'.1 ≡ m.1 → HasTable t m
+      → HasTable t m'
   holds_still m m' w t n d same H = record {
     holder = record {
       there = subst (λ z. t < z.tables) (sym (ap (λ (u : View). u.size) d.view)) H.holder.there;
@@ -83,12 +110,11 @@ module _ {K : Type 0} where
     };
     unsynced = ap (λ (u : View). u.part.sync) d.view ∙ H.unsynced;
     bare = same ∙ H.bare;
-    unread = ap (λ (u : View). u.hands.reading) d.view ∙ H.unread;
   }
 
   -- the Sync turn was taken beside it
   pub holds_both : (shows : K → Lasting) (m m' : Me (Slot K) View) (w t : ℕ) (h : Hands)
-      → DidAs m.0 w (TakeTurn w Sync) 1 h m'.0 → HoldsTable t m → MayGive m'.0
+      → DidAs m.0 w (TakeTurn w Sync) 1 h m'.0 → HasTable t m → MayGive m'.0
       → TookDesk shows m m' → HoldsBoth shows t m'
   holds_both shows m m' w t h d H gives desk = record {
     holder = record {
@@ -123,3 +149,12 @@ rests_given v after w t few H step apart = record {
       (table_inside v w _ step.was t.0 few))))
       (λ other. ap (λ (st : SeatTable). st.flush) (apart u other) ∙ H.others u other);
 }
+
+-- the least memtable that is not retired is at or below the newest
+pub oldest_below : (v : View) (w : ℕ) (e : Event) (t m n : ℕ) → Was v w e
+    → FlushOldest t v.part m → FlushNewest t v.part n → m ≤ n
+oldest_below v w e t m n was O N = let L = was.lawful in
+    let at = ap (λ (q : Seat). (seat_table q t).flush) (sym was.part) in
+    let m_is = ((L.seats_know w).flush t O.0 (at ∙ O.1)).oldest_live m O.2 in
+    let n_is = ((L.seats_know w).flush t N.0 (at ∙ N.1)).newest n N.2 in
+    let low = (L.switches.tables t).bounds_rise.oldest_is_made in omega (arith, m_is, n_is, low)

@@ -46,3 +46,10 @@ pub mod FlushBarring
 pub mod FlushReading
 pub mod FlushRetires
 pub mod SwitchGoes
+pub mod FilingGoes
+pub mod FilingTurns
+pub mod FilingGathers
+pub mod FilingPuts
+pub mod FilingRounds
+pub mod FinalKeys
+pub mod FlushAnswers

@@ -1,12 +1,34 @@
 -- A switch of a table's memtable, put together from the steps of its parts.
-use Rattle.std.proofs.Common.{◌≡◌, inl, ℕ, ◌+◌, ◌≤◌, length, false, List, [], ◌∷◌, ◌++◌, Option, Some, None, is_some, refl, sym, ap, ◌∙◌, subst, arith}
+use Rattle.std.proofs.Common.{
+  ◌≡◌,
+  inl,
+  ℕ,
+  ◌+◌,
+  ◌≤◌,
+  length,
+  false,
+  List,
+  [],
+  ◌∷◌,
+  ◌++◌,
+  Option,
+  Some,
+  None,
+  is_some,
+  refl,
+  sym,
+  ap,
+  ◌∙◌,
+  subst,
+  arith,
+}
 use Rattle.std.proofs.lemmas.List.{append_assoc}
 use Rattle.std.proofs.lemmas.Option.{same_Some}
 use Rattle.std.specs.List.{Contains}
 use Rattle.std.specs.Option.{MatchOption, option_map, option_map_or}
 use Rattle.atomic_table.specs.Table.{Me}
 use Rattle.clog_base.specs.declared.cell.Table.{Table}
-use Rattle.op_core.specs.declared.count.Order.TheVariants.{Write}
+use Rattle.op_core.specs.declared.count.Order.TheVariants.{Write, Append}
 use Rattle.path_core.specs.declared.event.Cursor.TheVariants.{OldestLive}
 use Rattle.path_core.specs.declared.event.Event.{Event}
 use Rattle.path_core.specs.declared.event.Event.TheVariants.{
@@ -59,7 +81,11 @@ use Rattle.path_rule.specs.Rounds.{
 use Rattle.path_rule.specs.Switches.{FlushNewest, FlushOldest}
 use Rattle.path_rule.proofs.seats.Answering.{found_after, found_before}
 use Rattle.write_path.specs.declared.flush_turn.Memtables.TheVariants.{Left as LeftOne, Full}
-use Rattle.write_path.specs.declared.switch.Row.TheVariants.{Memtables, WriteGroups}
+use Rattle.write_path.specs.declared.switch.Row.TheVariants.{
+  Memtables,
+  WriteGroups,
+  AppendGroups,
+}
 use Rattle.write_path.specs.declared.switch.Switch.{Switch}
 use Rattle.write_path.specs.declared.switch.Switch.TheVariants.{Empty, Left, Waits, Busy, Rows}
 use Rattle.write_path.specs.Ends.{writes_of}
@@ -192,12 +218,14 @@ retires_behind w z t m v u after same S R =
         };
         read = E.0.read;
         sees = E.0.sees;
+        was = E.0.was;
         put = E.0.put;
       },
       E.1,
+      E.2,
     )
 
-bound_set : (w t m key found : ℕ) (newer older : List OwnStep) (after : View) → found ≡ key
+pub bound_set : (w t m key found : ℕ) (newer older : List OwnStep) (after : View) → found ≡ key
     → Finalises w t m key older → WroteBelow key after.trail
     → SetsBound w t m found (newer ++ older) after
 bound_set w t m key found newer older after is F W = record {
@@ -224,7 +252,7 @@ settled_is w z t m key v u after (Rows row made) newer S same F W I = absurd I
 
 -- ---- an answer behind steps that switched nothing
 
-bound_behind : (w t m key : ℕ) (newer older : List OwnStep) (after : View)
+pub bound_behind : (w t m key : ℕ) (newer older : List OwnStep) (after : View)
     → SetsBound w t m key newer after → SetsBound w t m key (newer ++ older) after
 bound_behind w t m key newer older after B = record {
   set = final_before w t m key newer older B.set;
@@ -264,6 +292,8 @@ is_behind w t v u after (Rows WriteGroups made) steps Q had I = (
     found_after (Current Write) I.0 steps Q.made.steps I.2.2,
   ),
 )
+is_behind w t v u after (Rows AppendGroups made) steps Q had I =
+    (I.0, I.1, (I.2.0, found_after (Current Append) I.0 steps Q.made.steps I.2.1))
 
 pub behind : (w z t : ℕ) (v u after : View) (a : Switch) → z ≡ w → QuietSteps w v u → HadTurn a
     → Switches z t u a after → Switches w t v a after

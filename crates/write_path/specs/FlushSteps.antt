@@ -1,5 +1,18 @@
 -- The steps of a flush, and what its seat makes by them.
-use Rattle.std.specs.Prelude.{◌≡◌, ◌⊎◌, ℕ, suc, List, [], ◌∷◌, ◌++◌, None, Option}
+use Rattle.std.specs.Prelude.{
+  ◌≡◌,
+  ◌≢◌,
+  ◌⊎◌,
+  ℕ,
+  suc,
+  List,
+  [],
+  ◌∷◌,
+  ◌++◌,
+  Option,
+  Some,
+  None,
+}
 use Rattle.path_core.specs.declared.event.ClaimKind.TheVariants.{Entry}
 use Rattle.path_core.specs.declared.event.Cursor.TheVariants.{OldestLive}
 use Rattle.path_core.specs.declared.event.Event.{Event}
@@ -13,11 +26,14 @@ use Rattle.path_core.specs.declared.event.Event.TheVariants.{
 }
 use Rattle.path_core.specs.declared.state.Bound.TheVariants.{Raising}
 use Rattle.path_core.specs.Words.{by_of}
+use Rattle.path_rule.specs.declared.lasting.PutTable.{PutTable}
 use Rattle.path_rule.specs.declared.view.FlushRead.{FlushRead}
 use Rattle.path_rule.specs.declared.view.OwnStep.{OwnStep}
 use Rattle.path_rule.specs.declared.view.View.{View}
-use Rattle.path_rule.specs.FilingTold.{SeesAll}
+use Rattle.path_rule.specs.FilingTold.{FoundFinal, SeesAll}
 use Rattle.path_rule.specs.Layout.{bound_word}
+use Rattle.path_rule.specs.Retires.{RetiresEmptyIn, RetiresFiledIn}
+use Rattle.path_rule.specs.Rule.{Was}
 use Rattle.write_path.specs.Grown.{HasGrown}
 
 -- Seat w makes the step, by which it neither joins nor leaves an order, and claims no entry.
@@ -87,8 +103,24 @@ pub record Retires (w t m : ℕ) (filed : Option ℕ) (v after : View) : Type 0 
   pub since : HasGrown v.trail before.trail
   pub read : FlushRead
   pub sees : SeesAll before.size.seats before.hands t m read
+  pub was : Was before w (Put w (OldestLive (record { 0 = t })) (suc m))
   pub put : HasGrown (retiring w t m filed ∷ before.trail) after.trail
 
--- It saw nothing in it, and gave no table file.
+-- It saw nothing in it, and gave no table file: in a state that its steps led to the memtable was
+-- the least one not retired, and nothing is placed in it.
 abbrev pub RetiresEmpty : ℕ → ℕ → ℕ → View → View → Type 0
 RetiresEmpty w t m v after = (r : Retires w t m None v after) × (r.read.seen ≡ [])
+    × RetiresEmptyIn r.was.core t m
+
+-- It saw something in it, and gave a table file, whose interval begins above the lower key and ends
+-- at the memtable's final bound.
+pub record RetiresFiled (w t m lower upper : ℕ) (v after : View) : Type 0 where
+  pub retires : Retires w t m (Some lower) v after
+  pub some : retires.read.seen ≢ []
+  pub final : FoundFinal t retires.before.part m upper
+  -- the file as the keeper put it
+  pub file : PutTable
+  pub state : RetiresFiledIn retires.was.core (Put w (OldestLive (record { 0 = t })) (suc m)) t m
+      file
+  pub begins : file.lower ≡ lower
+  pub ends : file.upper ≡ upper

@@ -34,6 +34,12 @@ module _ {K : Type 0} where
     pub bare : m.1 ≡ []
     pub unread : m.0.hands.reading ≡ None
 
+  -- The same where it may have read a memtable.
+  pub record HasTable (t : ℕ) (m : Me (Slot K) View) : Type 0 where
+    pub holder : IsHolder t m.0
+    pub unsynced : m.0.part.sync ≡ None
+    pub bare : m.1 ≡ []
+
   -- It has the Sync turn beside it, with the desk as its only box.
   pub record HoldsBoth (shows : K → Lasting) (t : ℕ) (m : Me (Slot K) View) : Type 0 where
     pub holder : IsHolder t m.0
@@ -51,6 +57,13 @@ FindsMemtables t (Full n) v after w = (s : QuietSteps w v after) × (n + 1 ≡ m
     × Finds (Newest (record { 0 = t })) n s.made.steps
 FindsMemtables t (Free n) v after w = FlushOldest t after.part n × FlushNewest t after.part n
     × (n + 1 < memtable_rows)
+
+-- Where one was left, it is known as the least that is not retired, and another as the newest.
+abbrev pub KnowsLeft : ℕ → Memtables → View → Type 0
+KnowsLeft t (Left m) v = (m < memtable_rows) × FlushOldest t v.part m
+    × ((n : ℕ) × FlushNewest t v.part n × (m ≢ n))
+KnowsLeft t (Full n) v = Unit {0}
+KnowsLeft t (Free n) v = Unit {0}
 
 -- A memtable of the table is final at a key and its barrier is passed: nothing more is placed in
 -- it.

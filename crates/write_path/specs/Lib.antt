@@ -22,3 +22,6 @@ pub mod FlushedRows
 pub mod FlushTurns
 pub mod FlushSwitches
 pub mod FlushReads
+pub mod FlushGathers
+pub mod FlushFilings
+pub mod Flushed

@@ -1,7 +1,7 @@
 -- What a switch answers, and what is so then of its seat and the seat's list.
 use Rattle.std.specs.Prelude.{◌≡◌, ◌≢◌, ℕ, suc, ◌≤◌, List, length}
 use Rattle.std.specs.List.{Contains}
-use Rattle.op_core.specs.declared.count.Order.TheVariants.{Write}
+use Rattle.op_core.specs.declared.count.Order.TheVariants.{Write, Append}
 use Rattle.path_core.specs.declared.event.Cursor.TheVariants.{OldestLive}
 use Rattle.path_core.specs.declared.event.Place.TheVariants.{
   Current,
@@ -17,7 +17,11 @@ use Rattle.path_rule.specs.Calls.{FoundSince, acts}
 use Rattle.path_rule.specs.Finds.{Finds}
 use Rattle.path_rule.specs.Layout.{group_rows, memtable_rows}
 use Rattle.write_path.specs.declared.switch.Row.{Row}
-use Rattle.write_path.specs.declared.switch.Row.TheVariants.{Memtables, WriteGroups}
+use Rattle.write_path.specs.declared.switch.Row.TheVariants.{
+  Memtables,
+  WriteGroups,
+  AppendGroups,
+}
 use Rattle.write_path.specs.declared.switch.Switch.{Switch}
 use Rattle.write_path.specs.declared.switch.Switch.TheVariants.{Empty, Left, Waits, Busy, Rows}
 use Rattle.write_path.specs.Ends.{writes_of}
@@ -29,13 +33,15 @@ pub record SetsBound (w t m key : ℕ) (steps : List OwnStep) (v : View) : Type 
   pub set : Finalises w t m key steps
   pub covers : (n : EntryNote) → Contains (writes_of v.trail) n → n.end.0 ≤ key
 
--- The last word of a row was found in use at one of these steps, which switch nothing: that of the
--- number before the one that is wanted.
+-- The last word of a row was found in use at one of these steps: that of the number before the one
+-- that is wanted. Where it is a word that a switch wants, they switch nothing.
 abbrev pub FindsLast : Row → ℕ → ℕ → List OwnStep → Type 0
 FindsLast Memtables t last steps = (suc last ≡ memtable_rows) × SwitchesNone steps
     × Finds (Newest (record { 0 = t })) last steps
 FindsLast WriteGroups t last steps = (suc last ≡ group_rows) × SwitchesNone steps
     × Finds (Current Write) last steps
+FindsLast AppendGroups t last steps = (suc last ≡ group_rows)
+    × Finds (Current Append) last steps
 
 -- At these steps, which switch nothing, m was found as the least memtable of table t that is not
 -- retired, and another one as the newest.

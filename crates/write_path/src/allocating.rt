@@ -1,12 +1,24 @@
-//! Where the log goes on behind a claim: the rule of allocation.
-ghost use Rattle.std.specs.Prelude.{◌≡◌, ◌/◌, ◌≤◌, IfSome, IsNone};
+//! Where the log goes on behind a claim: the rule of allocation. And where it goes on behind the
+//! synced key.
+ghost use Rattle.std.specs.Prelude.{◌≡◌, ◌/◌, ◌<◌, ◌≤◌, ◌^◌, IfSome, IsNone};
 ghost use Rattle.path_core.specs.declared.event.ClaimKind.TheVariants.{Entry};
-ghost use Rattle.path_core.specs.Keys.{MovesLog, claimed_size, entry_end, ordinal_of};
+ghost use Rattle.path_core.specs.Keys.{
+  MovesLog,
+  after,
+  claimed_size,
+  entry_end,
+  fits,
+  marker_size,
+  ordinal_of,
+};
 
 use path_rule::PathSize;
 
 /// The bytes of a segment's header and of its first marker.
 const FIRST_OFFSET: u64 = 28;
+
+/// The bytes of a marker.
+const MARKER_SIZE: u64 = 8;
 
 /// How many keys a segment has.
 const SEGMENT_KEYS: u64 = 0x8000_0000;
@@ -34,4 +46,27 @@ pub(crate) fn log_after(size: &PathSize, key: u64, bytes: u64) -> Option<u64>
         return None;
     }
     Some((ordinal + 1) * SEGMENT_KEYS + FIRST_OFFSET + bytes)
+}
+
+// Whether a marker fits the segment of a key.
+fn fits_marker(capacity: u64, key: u64) -> bool
+    ensures { result ≡ fits capacity key marker_size }
+{
+    key % SEGMENT_KEYS + MARKER_SIZE < capacity
+}
+
+/// The log key at which the log goes on behind a synced key, which is 0 before the first marker:
+/// all that is lasting ends at or below it.
+pub(crate) fn key_behind(capacity: u64, synced: u64) -> u64
+    requires { synced < 2 ^ 62 }
+    ensures { result ≡ after capacity synced }
+{
+    if synced == 0 {
+        return FIRST_OFFSET;
+    }
+    if fits_marker(capacity, synced) {
+        synced + MARKER_SIZE
+    } else {
+        (synced / SEGMENT_KEYS + 1) * SEGMENT_KEYS + FIRST_OFFSET
+    }
 }

@@ -42,7 +42,7 @@ fn begins_below(notes: &LinkedList<EntryNote>, above: Key) -> bool
 }
 
 // Lets those in front go that end at or below a key: a retired memtable left them.
-fn trim(notes: &mut LinkedList<EntryNote>, above: Key)
+pub(crate) fn trim(notes: &mut LinkedList<EntryNote>, above: Key)
     ensures { IsTrimmed above.0 notes.old notes.new }
 {
     for _ in 0..notes.len() {
@@ -54,7 +54,7 @@ fn trim(notes: &mut LinkedList<EntryNote>, above: Key)
 }
 
 // Which box a seat has for a table and the parity of a memtable.
-fn box_number(seats: u64, seat: u64, table: Table, memtable: u64) -> usize
+pub(crate) fn box_number(seats: u64, seat: u64, table: Table, memtable: u64) -> usize
     requires { (seats ≤ 64) × (seat < seats) × (table.0 < 16) }
     ensures { result ≡ memtable_box seats seat table.0 memtable }
 {

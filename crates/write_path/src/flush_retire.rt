@@ -20,7 +20,7 @@ use std::alloc::Allocator;
 
 impl<K: Keeper, A: Allocator> WritePath<K, A> {
     // Retires a memtable in which nothing was seen.
-    fn retire_read(&self, member: Member<K>, table: Table, memtable: u64) -> Member<K>
+    pub(crate) fn retire_read(&self, member: Member<K>, table: Table, memtable: u64) -> Member<K>
         requires table { IsOf self.now.table.table.shared.table_id self.now.table.size member }
         requires there { memtable < 256 }
         requires holds { HoldsBoth (shows_of K.holds) table.0 member.seat.me }

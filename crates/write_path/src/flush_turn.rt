@@ -1,6 +1,6 @@
 //! The turns that a flush holds: its table's Flush turn, taken by one try, and beside it the Sync
 //! turn, for which it waits. With the first it finds which memtables the table has.
-ghost use Rattle.std.specs.Prelude.{◌≡◌, ℕ, ◌<◌, [], None, Some, IfOk, MatchResult};
+ghost use Rattle.std.specs.Prelude.{◌≡◌, ℕ, ◌<◌, ◌≤◌, [], None, Some, IfOk, MatchResult};
 ghost use Rattle.path_core.specs.declared.event.Event.TheVariants.{Look};
 ghost use Rattle.path_core.specs.declared.event.Place.TheVariants.{TurnWord};
 ghost use Rattle.path_core.specs.declared.event.Turn.TheVariants.{Flush};
@@ -9,10 +9,16 @@ ghost use Rattle.path_core.specs.Parts.{seat_table, stage_of};
 ghost use Rattle.path_rule.specs.Lasts.{shows_of};
 ghost use Rattle.path_rule.specs.Members.{view_of, part_of, hands_of, IsOf, Stepped};
 ghost use Rattle.path_rule.specs.Rounds.{RoundSteps};
-ghost use Rattle.path_rule.specs.Switches.{MayGiveFlush};
+ghost use Rattle.path_rule.specs.Switches.{FlushNewest, FlushOldest, MayGiveFlush};
 ghost use Rattle.path_rule.specs.SyncAnswers.{KnowsMarker};
 ghost use Rattle.write_path.specs.FlushSteps.{QuietSteps};
-ghost use Rattle.write_path.specs.FlushTurns.{FindsMemtables, HoldsBoth, HoldsTable};
+ghost use Rattle.write_path.specs.FlushTurns.{
+  FindsMemtables,
+  HasTable,
+  HoldsBoth,
+  HoldsTable,
+  KnowsLeft,
+};
 ghost use Rattle.write_path.specs.Tries.{Stays};
 
 use crate::seats::WritePath;
@@ -80,6 +86,7 @@ impl<K: Keeper, A: Allocator> WritePath<K, A> {
             ≡ stage_of (part_of member.old) table.0 }
         ensures found { FindsMemtables table.0 result (view_of member.old) (view_of member.new)
             member.old.number }
+        ensures left { KnowsLeft table.0 result (view_of member.new) }
     {
         let oldest = self.table.look_oldest_live(member, table);
         let newest = self.table.look_newest(member, table);
@@ -101,13 +108,14 @@ impl<K: Keeper, A: Allocator> WritePath<K, A> {
         table: Table,
     ) -> Member<K>
         requires table { IsOf self.now.table.table.shared.table_id self.now.table.size member }
-        requires holds { HoldsTable table.0 member.seat.me }
+        requires holds { HasTable table.0 member.seat.me }
         ensures same { Stays self.now.table.table.shared.table_id self.now.table.size member
             result }
         ensures steps { RoundSteps member.number [] (view_of member) (view_of result) }
         ensures holds { HoldsBoth (shows_of K.holds) table.0 result.seat.me }
         ensures tables { (t : ℕ) → seat_table (part_of result) t ≡ seat_table (part_of member) t }
-        ensures reading { (hands_of result).reading ≡ None }
+        ensures order { (m n : ℕ) → FlushOldest table.0 (part_of member) m
+            → FlushNewest table.0 (part_of member) n → m ≤ n }
         ensures knows { KnowsMarker (view_of result) × ((hands_of result).swept ≡ 0)
             × ((hands_of result).lasting.at_open ≡ self.now.table.size.at_open) }
     {

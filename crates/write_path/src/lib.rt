@@ -1,6 +1,6 @@
 //! The write path as its callers use it: a path is opened, its seats are handed out, and it is
 //! closed; what a write takes before it commits, so that a periodic commit takes no memory; commits
-//! and syncs; switches of a table's memtable; and the single tries of a write.
+//! and syncs; switches and flushes of a table's memtable; and the single tries of a write.
 #![tactic(auto)]
 
 mod accepting;
@@ -18,10 +18,18 @@ mod deposited;
 mod depositing;
 mod fault;
 mod finishing;
+mod flush;
+mod flush_ending;
+mod flush_filing;
+mod flush_gathering;
+mod flush_lasting;
+mod flush_noting;
 mod flush_reading;
 mod flush_retire;
+mod flush_retiring;
 mod flush_switch;
 mod flush_turn;
+mod flushing;
 mod laws;
 mod opening;
 mod prepared;
@@ -42,6 +50,7 @@ pub use closing::Outcome;
 pub use commit::{Commit, Receipt, SyncFault};
 pub use deposited::Deposited;
 pub use fault::PrepareFault;
+pub use flush::Flush;
 pub use laws::{
     note_laws, rows_need_many_writes, what_a_sync_reaches, what_close_keeps, what_seals_a_write,
     what_spends_a_path, where_a_log_begins,

@@ -8,6 +8,8 @@ pub enum Row {
     Memtables,
     /// That of the groups of the write order, one for each barrier that a switch issues.
     WriteGroups,
+    /// That of the groups of the append order, one for each marker's barrier that a sync issues.
+    AppendGroups,
 }
 
 /// What a switch of a table's memtable answers. Keys are those of the log.

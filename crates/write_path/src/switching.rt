@@ -27,7 +27,7 @@ const GROUPS: u64 = 65_536;
 
 impl<K: Keeper, A: Allocator> WritePath<K, A> {
     // Gives the table's turn back, where no switch was begun.
-    fn leave_table(&self, member: Member<K>, table: Table) -> PathSeat<K>
+    pub(crate) fn leave_table(&self, member: Member<K>, table: Table) -> PathSeat<K>
         requires table { IsOf self.now.table.table.shared.table_id self.now.table.size member }
         requires holds { HoldsTable table.0 member.seat.me }
         requires settled { stage_of (part_of member) table.0 ≡ Some Settled }

@@ -28,6 +28,7 @@ returns-clause-retires g c = let E = c.retire_read-member.ensures.retires in let
         since = R.since;
         read = R.read;
         sees = R.sees;
+        was = R.was;
         put = record {
           newer = L.steps ++ R.put.newer;
           is = L.trail ∙ (ap (λ (l : List OwnStep). L.steps ++ l) R.put.is
@@ -35,4 +36,5 @@ returns-clause-retires g c = let E = c.retire_read-member.ensures.retires in let
         };
       },
       E.1,
+      E.2,
     )

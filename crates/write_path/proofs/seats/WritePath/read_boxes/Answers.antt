@@ -1,7 +1,16 @@
-use Rattle.std.proofs.Common.{◌≡◌, ◌+◌, ℕ, suc, ◌∙◌, subst, arith}
+use Rattle.std.proofs.Common.{◌≡◌, ◌+◌, ℕ, suc, refl, ◌∙◌, subst, arith}
 use Rattle.write_path.specs.FlushReads.{HasRead}
-use Rattle.write_path.proofs.FlushReadSteps.{then_read}
+use Rattle.write_path.proofs.FlushReadSteps.{none_read_yet, then_read}
 use Rattle.write_path.proofs.seats.WritePath.read_boxes.Goals as goal
+
+pub loop-seat-init : goal.loop-seat-init
+loop-seat-init g c = let m = c.args.member in record {
+  stays = ((c.requires.table.0, c.requires.table.1), refl);
+  boxes = refl;
+  steps = none_read_yet m.number c.args.table.0 m.seat.me.0;
+  reads = c.requires.reads;
+  void = c.requires.void;
+}
 
 pub returns-then-not-empty-clause-steps : goal.returns-then-not-empty-clause-steps
 returns-then-not-empty-clause-steps g c = let I = c.loop-seat.invariant in

@@ -1,8 +1,10 @@
-use Rattle.std.proofs.Common.{◌≡◌, ◌+◌, ℕ, suc, [], ◌∷◌, refl, sym, ap, ◌∙◌, arith, None}
+use Rattle.std.proofs.Common.{◌≡◌, ◌+◌, ℕ, suc, [], ◌∷◌, None, refl, sym, ap, ◌∙◌, subst, arith}
 use Rattle.path_core.specs.declared.event.Cursor.TheVariants.{OldestLive}
 use Rattle.path_core.specs.declared.event.Event.TheVariants.{Put}
 use Rattle.path_rule.specs.declared.view.View.{View}
 use Rattle.path_rule.specs.Lasts.{shows_of}
+use Rattle.path_rule.specs.Retires.{RetiresEmptyIn}
+use Rattle.path_rule.specs.Rule.{Was}
 use Rattle.write_path.proofs.FlushGoes.{one}
 use Rattle.write_path.proofs.FlushRetires.{both_put, past_put, stage_put}
 use Rattle.write_path.proofs.seats.WritePath.retire_read.Goals as goal
@@ -44,12 +46,15 @@ returns-clause-unread g c = ap (λ (u : View). u.hands.reading) c.retire_empty.e
 pub returns-clause-retires : goal.returns-clause-retires
 returns-clause-retires g c = let m = c.args.member in let S = c.requires.sees in
     let w = m.number in let t = c.args.table in let k = c.args.memtable in
-    let more : k + 1 ≡ suc k = omega arith in (
+    let more : k + 1 ≡ suc k = omega arith in
+    let W = subst (λ (n : ℕ). (was : Was m.seat.me.0 w (Put w (OldestLive t) n))
+    × RetiresEmptyIn was.core t.0 k) more c.retire_empty.ensures.was in (
       record {
         before = m.seat.me.0;
         since = record { newer = []; is = refl };
         read = S.0;
         sees = (S.1, S.2, S.3, S.4, S.5 ∙ sym (ap (λ z. z.seats) c.requires.table.1));
+        was = W.0;
         put = record {
           newer = [];
           is = ap (λ (u : View). u.trail) c.retire_empty.ensures.step.view
@@ -61,4 +66,5 @@ returns-clause-retires g c = let m = c.args.member in let S = c.requires.sees in
         };
       },
       S.6,
+      W.1,
     )

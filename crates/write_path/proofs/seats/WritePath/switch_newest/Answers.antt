@@ -42,7 +42,8 @@ leave_both-requires-clause-through g c = let t = c.args.table.0 in
     inl (inl (
       stage_same t u.part x.part (N.steps.tables t (settled_quiet t u.part settled)) ∙ settled,
       λ q has. absurd (none-some q
-          (sym (ap (λ (h : Hands). h.reading) N.hands ∙ T.ensures.reading) ∙ has)),
+          (sym (ap (λ (h : Hands). h.reading) N.hands
+          ∙ (T.ensures.steps.reading ∙ c.requires.holds.unread)) ∙ has)),
     ))
 
 pub returns-in-Some-clause-switches : goal.returns-in-Some-clause-switches

@@ -7,7 +7,8 @@ use Rattle.path_rule.specs.declared.view.View.{View}
 use Rattle.path_rule.specs.Lasts.{shows_of}
 use Rattle.path_rule.proofs.seats.RoundsGo.{next, none_yet, one, one_as}
 use Rattle.path_rule.proofs.seats.SyncTaken.{taken_gives, taken_knows, taken_unswept}
-use Rattle.write_path.proofs.FlushTaking.{holds_both, holds_still}
+use Rattle.write_path.proofs.FlushTaking.{holds_both, holds_still, oldest_below}
+use Rattle.write_path.proofs.SwitchGoes.{newest_same, oldest_same}
 use Rattle.write_path.proofs.seats.WritePath.take_sync_beside.Goals as goal
 
 pub loop-init : goal.loop-init
@@ -52,10 +53,12 @@ returns-then-take_sync-eq0-clause-tables g c =
     let h = (c.take_sync.ensures.hit c.if-take_sync-eq0.true).0 in
     λ t. ap (λ (u : View). seat_table u.part t) h.3.view ∙ c.loop.invariant.tables t
 
-pub returns-then-take_sync-eq0-clause-reading : goal.returns-then-take_sync-eq0-clause-reading
-returns-then-take_sync-eq0-clause-reading g c =
-    let h = (c.take_sync.ensures.hit c.if-take_sync-eq0.true).0 in
-    ap (λ (u : View). u.hands.reading) h.3.view ∙ c.loop.invariant.holds.unread
+pub returns-then-take_sync-eq0-clause-order : goal.returns-then-take_sync-eq0-clause-order
+returns-then-take_sync-eq0-clause-order g c = let I = c.loop.invariant in
+    let h = (c.take_sync.ensures.hit c.if-take_sync-eq0.true).0 in let t = c.args.table.0 in
+    let p = c.args.member.seat.me.0.part in let v = c.loop.member.seat.me.0 in
+    λ m n O N. oldest_below v c.loop.member.number _ t m n h.3.was
+    (oldest_same t m p v.part (I.tables t) O) (newest_same t n p v.part (I.tables t) N)
 
 pub returns-then-take_sync-eq0-clause-knows : goal.returns-then-take_sync-eq0-clause-knows
 returns-then-take_sync-eq0-clause-knows g c =

@@ -1,7 +1,7 @@
 use Rattle.std.specs.Prelude.{◌≡◌, ℕ, []}
 use Rattle.path_core.specs.Parts.{seat_table}
 use Rattle.path_rule.specs.Rounds.{RoundSteps}
-use Rattle.write_path.specs.FlushTurns.{HoldsTable}
+use Rattle.write_path.specs.FlushTurns.{HasTable}
 use Rattle.write_path.specs.Tries.{Stays}
 use Rattle.write_path.proofs.seats.WritePath.take_sync_beside.Given as goal
 
@@ -12,5 +12,5 @@ invariant-loop g l = let first = l.fn.member in record {
   stays : Stays l.self.table.table.shared.table_id l.self.table.size first l.member;
   steps : RoundSteps first.number [] first.seat.me.0 l.member.seat.me.0;
   tables : (t : ℕ) → seat_table l.member.seat.me.0.part t ≡ seat_table first.seat.me.0.part t;
-  holds : HoldsTable l.fn.table.0 l.member.seat.me;
+  holds : HasTable l.fn.table.0 l.member.seat.me;
 }

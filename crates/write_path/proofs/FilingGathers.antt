@@ -1,0 +1,150 @@
+-- What a flush has gathered behind the reading of one box.
+use Rattle.std.proofs.Common.{
+  ◌≡◌,
+  ℕ,
+  ◌||◌,
+  cond,
+  Bool,
+  true,
+  false,
+  List,
+  [],
+  ◌∷◌,
+  ◌++◌,
+  Option,
+  Some,
+  None,
+  refl,
+  sym,
+  ap,
+  ◌∙◌,
+  subst,
+  length,
+  arith,
+  Result,
+  Ok,
+  Err,
+  OnOk,
+  IfSome,
+}
+use Rattle.std.proofs.lemmas.List.{append-nil}
+use Rattle.std.specs.List.{filter, list_any}
+use Rattle.clog_base.specs.declared.cell.Cell.{Cell}
+use Rattle.clog_base.specs.declared.cell.CellKey.{CellKey}
+use Rattle.clog_base.specs.declared.cell.Table.{Table}
+use Rattle.clog_cells.proofs.Merging.{of_same}
+use Rattle.clog_memtable.specs.Gathering.{IsCellOf, IsGathered}
+use Rattle.clog_memtable.proofs.Gathered.{gathered_is, gathered_none}
+use Rattle.path_core.specs.declared.note.EntryNote.{EntryNote}
+use Rattle.path_rule.specs.declared.view.FlushRead.{FlushRead}
+use Rattle.path_rule.specs.declared.view.Hands.{Hands}
+use Rattle.path_rule.specs.Filing.{IsCellIn}
+use Rattle.path_rule.specs.FilingTold.{AreSeen}
+use Rattle.write_path.specs.declared.flush_gathering.Gathered.{Gathered}
+use Rattle.write_path.specs.declared.flush_gathering.Gathered.TheVariants.{
+  Nothing,
+  Cells,
+  OutOfMemory,
+}
+use Rattle.write_path.specs.FlushGathers.{
+  AreSome,
+  HasGathered,
+  HasGatheredAll,
+  HoldsGathered,
+  ReadsIt,
+  gathered_of,
+  told_some,
+}
+
+-- ---- something or nothing
+
+-- the entries that pass a test are some where one does
+pub kept_some : (p : EntryNote → Bool) (l : List EntryNote)
+    → AreSome (list_any p l) (filter p l)
+kept_some p [] = refl
+kept_some p (x ∷ xs) = by (p x) (kept_some p xs)
+  where
+    by : (b : Bool) → AreSome (list_any p xs) (filter p xs)
+        → AreSome (b || list_any p xs) (cond b (x ∷ filter p xs) (filter p xs))
+    by true older = λ none. let long = ap length none in omega (arith, long)
+    by false older = older
+
+right_none : (l r : List EntryNote) → l ++ r ≡ [] → r ≡ []
+right_none [] r is = is
+right_none (x ∷ xs) r is = let long = ap length is in absurd (omega (arith, long))
+
+-- both together
+pub joined_some : (a b : Bool) (l r : List EntryNote) → AreSome a l → AreSome b r
+    → AreSome (b || a) (l ++ r)
+joined_some a true l r A B = λ none. B (right_none l r none)
+joined_some a false l r A B = subst (AreSome a) (sym (ap (λ k. l ++ k) B ∙ append-nil l)) A
+
+-- ---- the cells of what was seen
+
+cell_in : (notes : List EntryNote) (t : ℕ) (pair : CellKey × Cell) → IsCellOf notes t pair
+    → IsCellIn notes t pair
+cell_in notes t pair C = record {
+  note = C.note;
+  among = C.among;
+  whole = C.whole;
+  listed = C.listed;
+  of_table = C.of_table;
+}
+
+cell_of : (notes : List EntryNote) (t : ℕ) (pair : CellKey × Cell) → IsCellIn notes t pair
+    → IsCellOf notes t pair
+cell_of notes t pair C = record {
+  note = C.note;
+  among = C.among;
+  whole = C.whole;
+  listed = C.listed;
+  of_table = C.of_table;
+}
+
+-- what is gathered of all that was seen is what a file of it has to hold
+pub gathered_seen : (t : Table) (q : FlushRead) (cells : List (CellKey × Cell))
+    → IsGathered t q.seen cells → AreSeen q t.0 cells
+gathered_seen t q cells G = of_same (IsCellOf q.seen t.0) (IsCellIn q.seen t.0) cells
+    (λ pair. (cell_in q.seen t.0 pair, cell_of q.seen t.0 pair)) (gathered_is t q.seen cells G)
+
+-- a further box was read, whose rest holds these notes
+pub box_gathered : {E : Type 0} (t : Table) (seen left : List EntryNote)
+    (p : EntryNote → Bool) (new : List (CellKey × Cell)) (some more : Bool) (after : Hands)
+    (done : Result (Unit {0}) E)
+    → ((q : FlushRead) → after.reading ≡ Some q → seen ++ filter p left ≡ q.seen)
+    → OnOk done (IsGathered t (seen ++ filter p left) new) → AreSome some seen
+    → more ≡ (list_any p left || some)
+    → IfSome (told_some done more) (λ b. HoldsGathered t new b after)
+box_gathered t seen left p new some more after (Ok u) is G S same = λ q has. (
+  subst (λ l. IsGathered t l new) (is q has) G,
+  subst (λ l. AreSome more l) (is q has) (subst (λ b. AreSome b (seen ++ filter p left)) (sym same)
+      (joined_some some (list_any p left) seen (filter p left) S (kept_some p left))),
+)
+box_gathered t seen left p new some more after (Err e) is G S same = tt
+
+-- no box was read yet
+pub none_gathered : (t : Table) (cells : List (CellKey × Cell)) (h : Hands)
+    → ((q : FlushRead) → h.reading ≡ Some q → q.seen ≡ []) → cells ≡ []
+    → HoldsGathered t cells false h
+none_gathered t cells h void none = λ q has. (
+  subst (λ l. IsGathered t l cells) (sym (void q has))
+      (subst (λ (k : List (CellKey × Cell)). IsGathered t [] k) (sym none) (gathered_none t)),
+  void q has,
+)
+
+-- all boxes were
+pub all_gathered : (seats : ℕ) (t : Table) (m : ℕ) (cells : List (CellKey × Cell))
+    (some : Option Bool) (h : Hands) → HasGatheredAll seats t m cells some h
+    → HasGathered seats t m (gathered_of some cells) h
+all_gathered seats t m cells (Some true) h A =
+    (A.0, A.1, A.3, gathered_seen t A.0 cells A.2)
+all_gathered seats t m cells (Some false) h A =
+    (A.0, A.1.0, A.1.1, A.1.2, A.1.3, A.1.4, A.3)
+all_gathered seats t m cells None h A = A
+
+-- it is what is read of the memtable
+pub reads_it : (seats : ℕ) (t : Table) (m : ℕ) (g : Gathered) (h : Hands)
+    → HasGathered seats t m g h → (q : FlushRead) × ReadsIt t.0 m h q
+reads_it seats t m Nothing h A = (A.0, (A.1, A.2, A.3, A.4))
+reads_it seats t m (Cells cells) h A = (A.0, (A.1.0, A.1.1, A.1.2, A.1.3))
+reads_it seats t m OutOfMemory h A = A

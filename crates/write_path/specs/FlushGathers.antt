@@ -1,0 +1,71 @@
+-- What a flush has gathered of a memtable.
+use Rattle.std.specs.Prelude.{
+  ◌≡◌,
+  ◌≢◌,
+  ℕ,
+  Bool,
+  true,
+  false,
+  List,
+  [],
+  Option,
+  Some,
+  None,
+  Result,
+  Ok,
+  Err,
+}
+use Rattle.clog_base.specs.declared.cell.Cell.{Cell}
+use Rattle.clog_base.specs.declared.cell.CellKey.{CellKey}
+use Rattle.clog_base.specs.declared.cell.Table.{Table}
+use Rattle.clog_memtable.specs.Gathering.{IsGathered}
+use Rattle.path_core.specs.declared.note.EntryNote.{EntryNote}
+use Rattle.path_rule.specs.declared.view.FlushRead.{FlushRead}
+use Rattle.path_rule.specs.declared.view.Hands.{Hands}
+use Rattle.path_rule.specs.FilingTold.{AreSeen, SeesAll}
+use Rattle.path_rule.specs.Flushes.{SeesNone}
+use Rattle.write_path.specs.declared.flush_gathering.Gathered.{Gathered}
+use Rattle.write_path.specs.declared.flush_gathering.Gathered.TheVariants.{
+  Nothing,
+  Cells,
+  OutOfMemory,
+}
+
+-- these are some entries, or none
+abbrev pub AreSome : Bool → List EntryNote → Type 0
+AreSome true notes = notes ≢ []
+AreSome false notes = notes ≡ []
+
+-- These are the newest cells of a table in what it has read, which is something, or nothing.
+abbrev pub HoldsGathered : Table → List (CellKey × Cell) → Bool → Hands → Type 0
+HoldsGathered table cells some h = (q : FlushRead) → h.reading ≡ Some q
+    → IsGathered table q.seen cells × AreSome some q.seen
+
+-- It reads memtable m of a table, and has no box in hand.
+abbrev pub ReadsIt : ℕ → ℕ → Hands → FlushRead → Type 0
+ReadsIt t m h q = (h.reading ≡ Some q) × (q.table ≡ t) × (q.memtable ≡ m) × (q.taken ≡ None)
+
+-- The boxes of all seats of a memtable were seen: these are the cells in them, and something lay
+-- there or not. Or memory was refused, and no box is in hand.
+abbrev pub HasGatheredAll : ℕ → Table → ℕ → List (CellKey × Cell) → Option Bool → Hands → Type 0
+HasGatheredAll seats table m cells None h = (q : FlushRead) × ReadsIt table.0 m h q
+HasGatheredAll seats table m cells (Some some) h = (q : FlushRead) × SeesAll seats h table.0 m q
+    × IsGathered table q.seen cells × AreSome some q.seen
+
+-- the same by what is gathered
+abbrev pub HasGathered : ℕ → Table → ℕ → Gathered → Hands → Type 0
+HasGathered seats table m Nothing h = SeesNone seats h table.0 m
+HasGathered seats table m (Cells cells) h = (q : FlushRead) × SeesAll seats h table.0 m q
+    × (q.seen ≢ []) × AreSeen q table.0 cells
+HasGathered seats table m OutOfMemory h = (q : FlushRead) × ReadsIt table.0 m h q
+
+-- what is answered behind a box: whether something was found, unless memory was refused
+abbrev pub told_some : {T E : Type 0} → Result T E → Bool → Option Bool
+told_some (Ok done) some = Some some
+told_some (Err fault) some = None
+
+-- what is gathered, by whether something was found
+abbrev pub gathered_of : Option Bool → List (CellKey × Cell) → Gathered
+gathered_of (Some true) cells = Cells cells
+gathered_of (Some false) cells = Nothing
+gathered_of None cells = OutOfMemory

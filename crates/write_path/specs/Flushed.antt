@@ -1,0 +1,54 @@
+-- What a flush answers, and what is so then of its seat and the seat's list.
+use Rattle.std.specs.Prelude.{◌≡◌, ℕ, suc, List, length}
+use Rattle.path_core.specs.declared.event.Cursor.TheVariants.{Stopped as StoppedCursor}
+use Rattle.path_core.specs.declared.event.Place.TheVariants.{CursorWord, TurnWord}
+use Rattle.path_core.specs.declared.event.Turn.TheVariants.{Flush as FlushTurn}
+use Rattle.path_core.specs.Keeper.{HasRisen}
+use Rattle.path_rule.specs.declared.view.OwnStep.{OwnStep}
+use Rattle.path_rule.specs.declared.view.View.{View}
+use Rattle.path_rule.specs.Calls.{FoundSince, acts}
+use Rattle.path_rule.specs.Finds.{Finds}
+use Rattle.write_path.specs.declared.flush.Flush.{Flush}
+use Rattle.write_path.specs.declared.flush.Flush.TheVariants.{
+  Flushed,
+  Empty,
+  Busy,
+  Rows,
+  Stopped,
+  OutOfMemory,
+}
+use Rattle.write_path.specs.Ends.{writes_of}
+use Rattle.write_path.specs.FlushSteps.{FlushSteps, RetiresEmpty, RetiresFiled}
+use Rattle.write_path.specs.Switched.{FindsLast, SetsBound}
+
+-- What is so behind an answer to seat w, which made these steps, for a table t. Flushed, Empty: the
+-- upper key was set in this call as the memtable's final bound, at or above each write of the
+-- seat's list, and the seat saw the boxes of all seats and retired the memtable. Flushed: something
+-- was in them, and it gave a table file with the interval. Busy: the seat only looked, and found
+-- the turn's word so. Rows, Stopped: the word was found so, or put so, in this call.
+abbrev pub IsFlush : ℕ → ℕ → View → Flush → List OwnStep → View → Type 0
+IsFlush w t v (Flushed lower upper) steps after =
+    (m : ℕ) × SetsBound w t m upper.0 steps after × RetiresFiled w t m lower.0 upper.0 v after
+IsFlush w t v (Empty key) steps after =
+    (m : ℕ) × SetsBound w t m key.0 steps after × RetiresEmpty w t m v after
+IsFlush w t v (Busy found) steps after = (found ≡ 1)
+    × FoundSince (length v.trail) (TurnWord (FlushTurn (record { 0 = t }))) found after.trail
+    × (acts after.trail ≡ acts v.trail)
+IsFlush w t v (Rows row made) steps after =
+    (last : ℕ) × (suc last ≡ made) × FindsLast row t last steps
+IsFlush w t v (Stopped at_open now) steps after =
+    (at_open ≡ v.size.at_open) × HasRisen at_open now
+    × Finds (CursorWord StoppedCursor) now steps
+IsFlush w t v OutOfMemory steps after = Unit {0}
+
+-- A flush of table t by seat w answered this. The seat made steps of a flush alone, and its list is
+-- as it was.
+pub record Flushes (w t : ℕ) (v : View) (answer : Flush) (after : View) : Type 0 where
+  pub steps : FlushSteps w v after
+  pub list : writes_of after.trail ≡ writes_of v.trail
+  pub is : IsFlush w t v answer steps.steps after
+
+-- It was not found that another seat has the turn.
+abbrev pub GotTurn : Flush → Type 0
+GotTurn (Busy found) = ⊥
+GotTurn _ = Unit {0}

@@ -1,0 +1,185 @@
+//! What was written to a memtable is gathered behind its barrier, from the boxes of all seats, into
+//! the cells of a table file.
+ghost use Rattle.std.specs.List.{list_any};
+ghost use Rattle.std.specs.Prelude.{
+  ◌≡◌,
+  ℕ,
+  suc,
+  ◌<◌,
+  ◌||◌,
+  [],
+  None,
+  Some,
+  nat_lt,
+  IfSome,
+};
+ghost use Rattle.path_core.specs.declared.note.EntryNote.{EntryNote};
+ghost use Rattle.path_rule.specs.declared.view.FlushRead.{FlushRead};
+ghost use Rattle.path_rule.specs.Members.{view_of, part_of, hands_of, boxes_of, IsOf};
+ghost use Rattle.path_rule.specs.Switches.{FlushOldest, MayBeginRead};
+ghost use Rattle.write_path.specs.FlushGathers.{
+  HasGathered,
+  HasGatheredAll,
+  HoldsGathered,
+  gathered_of,
+  told_some,
+};
+ghost use Rattle.write_path.specs.FlushReads.{HasRead, ReadSteps};
+ghost use Rattle.write_path.specs.Tries.{Stays};
+
+use crate::flush_reading::{box_number, trim};
+use crate::seats::WritePath;
+use clog_base::{Key, OutOfMemory, Table};
+use clog_cells::CellMap;
+use clog_memtable::gather;
+use path_core::{EntryNote, Keeper};
+use path_rule::Member;
+use std::alloc::{Allocator, Global};
+use std::collections::LinkedList;
+
+/// What the boxes of all seats had of a memtable.
+#[derive(Drop)]
+pub enum Gathered {
+    /// Nothing.
+    Nothing,
+    /// Entries with these cells.
+    Cells(CellMap),
+    /// Memory was refused.
+    OutOfMemory,
+}
+
+// Whether one of these ends above a key.
+fn ends_above(notes: &LinkedList<EntryNote>, above: Key) -> bool
+    ensures { result ≡ list_any (λ (n : EntryNote). nat_lt above.0 n.end.0) notes.now }
+{
+    notes.iter().any(|note| note.end.0 > above.0)
+}
+
+// Whether something was found so far: in this box, or before.
+fn found_some(here: bool, before: bool) -> bool
+    ensures { result ≡ (here || before) }
+{
+    here || before
+}
+
+// What is answered behind a box, by whether memory was refused.
+fn told_some(done: Result<(), OutOfMemory>, some: bool) -> Option<bool>
+    ensures { result ≡ told_some done some }
+{
+    match done {
+        Ok(()) => Some(some),
+        Err(_) => None,
+    }
+}
+
+// What was gathered, by whether something was found.
+fn gathered_of(some: Option<bool>, cells: CellMap) -> Gathered
+    ensures { result ≡ gathered_of some cells }
+{
+    match some {
+        Some(true) => Gathered::Cells(cells),
+        Some(false) => Gathered::Nothing,
+        None => Gathered::OutOfMemory,
+    }
+}
+
+impl<K: Keeper, A: Allocator> WritePath<K, A> {
+    // Gathers what the box of the next seat has of the memtable, where something was found before,
+    // or nothing. It answers whether something was found so far, and `None` where memory was
+    // refused.
+    fn gather_box(
+        &self,
+        alloc: Global,
+        member: Member<K>,
+        table: Table,
+        memtable: u64,
+        above: Key,
+        seat: u64,
+        cells: &mut CellMap,
+        some: bool,
+    ) -> (Member<K>, Option<bool>)
+        requires table { IsOf self.now.table.table.shared.table_id self.now.table.size member }
+        requires there { (table.0 < self.now.table.size.tables) × (memtable < 256)
+            × (seat < self.now.table.size.seats) }
+        requires reads { HasRead table.0 memtable above.0 seat (hands_of member) }
+        requires gathered { HoldsGathered table cells.old some (hands_of member) }
+        ensures same { Stays self.now.table.table.shared.table_id self.now.table.size member
+            result.0 × (boxes_of result.0 ≡ boxes_of member) }
+        ensures steps { ReadSteps member.number table.0 (view_of member) (view_of result.0) }
+        ensures reads { HasRead table.0 memtable above.0 (suc seat) (hands_of result.0) }
+        ensures gathered { IfSome result.1 (λ some. HoldsGathered table cells.new some
+            (hands_of result.0)) }
+    {
+        let mut member = member;
+        self.table.take_read(&mut member, table);
+        let number = box_number(self.table.size().seats, seat, table, memtable);
+        let (member, mut notes) = self.table.lend_read(alloc, member, number);
+        trim(&mut notes, above);
+        let done = gather(alloc, cells, table, above, &notes);
+        let some = found_some(ends_above(&notes, above), some);
+        let mut member = self.table.return_read(member, number, notes);
+        self.table.give_read(&mut member, table);
+        (member, told_some(done, some))
+    }
+
+    // Gathers what the boxes of all seats have of the memtable.
+    fn gather_boxes(
+        &self,
+        alloc: Global,
+        member: Member<K>,
+        table: Table,
+        memtable: u64,
+        above: Key,
+        cells: &mut CellMap,
+    ) -> (Member<K>, Option<bool>)
+        requires table { IsOf self.now.table.table.shared.table_id self.now.table.size member }
+        requires there { (table.0 < self.now.table.size.tables) × (memtable < 256) }
+        requires reads { HasRead table.0 memtable above.0 0 (hands_of member) }
+        requires void { ((q : FlushRead) → (hands_of member).reading ≡ Some q → q.seen ≡ [])
+            × (cells.old ≡ []) }
+        ensures same { Stays self.now.table.table.shared.table_id self.now.table.size member
+            result.0 × (boxes_of result.0 ≡ boxes_of member) }
+        ensures steps { ReadSteps member.number table.0 (view_of member) (view_of result.0) }
+        ensures all { HasGatheredAll self.now.table.size.seats table memtable cells.new result.1
+            (hands_of result.0) }
+    {
+        let mut member = member;
+        let mut some = false;
+        for seat in 0..self.table.size().seats {
+            let (next, more) = self.gather_box(
+                alloc, member, table, memtable, above, seat, cells, some,
+            );
+            member = next;
+            match more {
+                Some(more) => some = more,
+                None => return (member, None),
+            }
+        }
+        (member, Some(some))
+    }
+
+    // Reads a memtable whole, behind its passed barrier.
+    pub(crate) fn read_whole(
+        &self,
+        alloc: Global,
+        member: Member<K>,
+        table: Table,
+        memtable: u64,
+    ) -> (Member<K>, Gathered)
+        requires table { IsOf self.now.table.table.shared.table_id self.now.table.size member }
+        requires there { (table.0 < self.now.table.size.tables) × (memtable < 256) }
+        requires stage { MayBeginRead table.0 (view_of member) memtable }
+        requires oldest { FlushOldest table.0 (part_of member) memtable }
+        requires unread { (hands_of member).reading ≡ None }
+        ensures same { Stays self.now.table.table.shared.table_id self.now.table.size member
+            result.0 × (boxes_of result.0 ≡ boxes_of member) }
+        ensures steps { ReadSteps member.number table.0 (view_of member) (view_of result.0) }
+        ensures gathered { HasGathered self.now.table.size.seats table memtable result.1
+            (hands_of result.0) }
+    {
+        let (member, above) = self.start_read(member, table, memtable);
+        let mut cells = CellMap::new(alloc);
+        let (member, some) = self.gather_boxes(alloc, member, table, memtable, above, &mut cells);
+        (member, gathered_of(some, cells))
+    }
+}

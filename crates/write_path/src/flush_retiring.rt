@@ -1,0 +1,56 @@
+//! A memtable is read whole behind its passed barrier, with both turns in hand, and retired: with a
+//! table file where something was seen.
+ghost use Rattle.std.specs.Prelude.{◌≡◌, ◌<◌, true, None};
+ghost use Rattle.path_rule.specs.Lasts.{shows_of};
+ghost use Rattle.path_rule.specs.Members.{view_of, part_of, hands_of, IsOf};
+ghost use Rattle.path_rule.specs.Switches.{FlushOldest, MayBeginRead};
+ghost use Rattle.write_path.specs.FlushFilings.{HasBoth, Retired};
+ghost use Rattle.write_path.specs.FlushTurns.{HoldsBoth};
+ghost use Rattle.write_path.specs.Tries.{Stays};
+
+use crate::flush::Flush;
+use crate::flush_gathering::Gathered;
+use crate::seats::WritePath;
+use clog_base::Table;
+use path_core::Keeper;
+use path_rule::Member;
+use std::alloc::{Allocator, Global};
+use std::sync::Wait;
+
+impl<K: Keeper, A: Allocator> WritePath<K, A> {
+    // Reads a memtable whole, behind its passed barrier, and retires it: with a file where
+    // something was seen. Both turns are held still.
+    pub(crate) fn retire_memtable<R: Wait>(
+        &self,
+        rt: &R,
+        alloc: Global,
+        member: Member<K>,
+        table: Table,
+        memtable: u64,
+    ) -> (Member<K>, Flush)
+        requires table { IsOf self.now.table.table.shared.table_id self.now.table.size member }
+        requires there { memtable < 256 }
+        requires files { self.now.table.size.files ≡ true }
+        requires holds { HoldsBoth (shows_of K.holds) table.0 member.seat.me }
+        requires stage { MayBeginRead table.0 (view_of member) memtable }
+        requires oldest { FlushOldest table.0 (part_of member) memtable }
+        requires unread { (hands_of member).reading ≡ None }
+        requires opened { (hands_of member).lasting.at_open ≡ self.now.table.size.at_open }
+        ensures same { Stays self.now.table.table.shared.table_id self.now.table.size member
+            result.0 }
+        ensures holds { HasBoth (shows_of K.holds) table.0 result.0.seat.me }
+        ensures unread { (hands_of result.0).reading ≡ None }
+        ensures retired { Retired member.number table.0 memtable (view_of member) result.1
+            (view_of result.0) }
+    {
+        let (mut member, read) = self.read_whole(alloc, member, table, memtable);
+        let bound = self.table.look_read_bound(&mut member, table, memtable);
+        match read {
+            Gathered::Nothing => self.retire_void(member, table, memtable, bound),
+            Gathered::Cells(cells) => {
+                self.file_memtable(rt, alloc, member, table, memtable, bound, cells)
+            }
+            Gathered::OutOfMemory => (self.end_reading(member, table), Flush::OutOfMemory),
+        }
+    }
+}
