@@ -36,7 +36,7 @@ use Rattle.path_core.specs.Keeper.{IsFiledIn, PutFile, upper_from}
 use Rattle.clog_store.specs.OnDisk.{file_on}
 use Rattle.clog_applied.specs.Filed.{FollowFrom, files_of, first_of, is_of}
 use Rattle.clog_applied.proofs.Lists.{kept_one, left_one}
-use Rattle.clog_layout.proofs.Standing.{pairs_cons, pairs_none}
+use Rattle.clog_layout.proofs.Pairs.{pairs_cons, pairs_none}
 use Rattle.clog_closing.specs.Sequence.{AreInSequence}
 use Rattle.clog_closing.proofs.Tables.{up_to_from}
 

@@ -1,15 +1,25 @@
 pub mod Apart
+pub mod Begins
+pub mod Begun
+pub mod Brought
+pub mod Dropped
 pub mod Dropping
 pub mod Ends
 pub mod Entries
+pub mod Filing
 pub mod Followed
 pub mod Following
+pub mod Fresh
+pub mod Going
+pub mod Leaving
 pub mod LogAlone
 pub mod Logs
 pub mod NextNames
 pub mod Openings
+pub mod Reaches
 mod RoomFor
 pub mod Segments
+pub mod Showing
 mod StoreLeft
 pub mod StoreNames
 pub mod StoreOnly

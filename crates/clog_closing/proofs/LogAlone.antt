@@ -68,7 +68,7 @@ use Rattle.clog_applied.specs.History.{LoggedLine, entry_of}
 use Rattle.clog_applied.proofs.Changes.{in_appends}
 use Rattle.clog_applied.proofs.Merged.{of_entry}
 use Rattle.clog_layout.specs.Logged.{AreNotesOf}
-use Rattle.clog_layout.proofs.Standing.{pairs_none}
+use Rattle.clog_layout.proofs.Pairs.{pairs_none}
 use Rattle.clog_closing.specs.Logs.{AreStoredInOrder, written_ids}
 use Rattle.clog_closing.proofs.Entries.{above_base as from_base, an_entry as entry_at}
 use Rattle.clog_closing.proofs.Logs.{are_files, is_appended, of_log, written}

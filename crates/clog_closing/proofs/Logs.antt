@@ -61,7 +61,7 @@ use Rattle.clog_applied.specs.History.{LoggedLine, entry_of}
 use Rattle.clog_applied.proofs.Lists.{from_filter, in_filter}
 use Rattle.clog_layout.specs.Logged.{AreNotesOf, IsNoteOf}
 use Rattle.clog_layout.proofs.Lines.{is_entry}
-use Rattle.clog_layout.proofs.Standing.{pairs_cons, pairs_none}
+use Rattle.clog_layout.proofs.Pairs.{pairs_cons, pairs_none}
 use Rattle.clog_closing.specs.Logs.{AreStoredInOrder, has_sections, id_of, written_ids}
 use Rattle.clog_closing.proofs.Segments.{
   at_history,

@@ -63,7 +63,7 @@ use Rattle.clog_applied.specs.Closed.{IsPut}
 use Rattle.clog_applied.specs.Filed.{StandsBefore, files_of, is_of as is_of_table}
 use Rattle.clog_applied.specs.History.{LoggedLine}
 use Rattle.clog_applied.proofs.Lists.{from_filter}
-use Rattle.clog_layout.proofs.Standing.{pairs_cons, pairs_none}
+use Rattle.clog_layout.proofs.Pairs.{pairs_cons, pairs_none}
 use Rattle.clog_closing.specs.Stores.{HasEnded, dropped_ids, files_by, ids_in}
 use Rattle.clog_closing.proofs.Dropping.{droppable_note, filed_droppable, is_filed_key}
 use Rattle.clog_closing.proofs.Entries.{an_entry}

@@ -1,11 +1,16 @@
-//! What an opening and a log of notes tell, as parts of a run of `apply` whose path is closed.
+//! What an opening and a log of notes tell, as parts of a run of `apply` whose path is closed; what
+//! appends have brought of lines; and how a store is drained.
 #![tactic(auto)]
 
+mod draining;
 mod laws;
+mod rows;
 
+pub use draining::drain;
 pub use laws::{
     a_run_may_follow, entries_apart_are_in_two_sections, logs_of_notes_are_appended,
     openings_are_those_of_runs, put_files_are_true, put_files_follow_one_another,
     segments_may_go_that_are_droppable, stores_are_left, stores_go_in_order,
     stores_that_only_logged_are_left,
 };
+pub use rows::the_last_segment_alone_is_torn;

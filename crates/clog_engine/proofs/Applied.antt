@@ -52,7 +52,7 @@ use Rattle.clog_engine.specs.declared.status.Status.TheVariants.{
 use Rattle.clog_engine.specs.Apply.{Applies, ApplyRefuses, LeavesPart, ReadsGood}
 use Rattle.clog_engine.specs.Before.{FolderRefuses}
 use Rattle.clog_engine.specs.Input.{IsSized, MayWantGroups}
-use Rattle.clog_engine.specs.Laying.{FileRefused}
+use Rattle.clog_engine.specs.Planning.{FileRefused}
 use Rattle.clog_engine.specs.Limits.{group_limit}
 use Rattle.clog_engine.specs.Logged.{AppliesLines, KeepsAll, LeavesSome, LinesRefuse}
 use Rattle.clog_engine.specs.Outside.{IsLeftAlone, Outside}

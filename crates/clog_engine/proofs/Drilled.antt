@@ -31,7 +31,7 @@ use Rattle.clog_mutation.specs.declared.mutation.Mutation.{Mutation}
 use Rattle.clog_words.specs.declared.request.ApplyOptions.{ApplyOptions}
 use Rattle.clog_crash.specs.Folder.{IsFirstBad}
 use Rattle.clog_folder.specs.Folder.{HasDamage, HasLongSegment}
-use Rattle.clog_lines.specs.Fitting.{HasFittingEntry}
+use Rattle.clog_writers.specs.Fitting.{HasFittingEntry}
 use Rattle.clog_engine.specs.Completes.{IsReplayable}
 use Rattle.clog_engine.specs.declared.status.Status.{Status}
 use Rattle.clog_engine.specs.declared.status.Status.TheVariants.{
@@ -56,7 +56,7 @@ use Rattle.clog_engine.specs.Drill.{
   TellsFolder,
   drill_options,
 }
-use Rattle.clog_engine.specs.Laying.{LinesRefused}
+use Rattle.clog_engine.specs.Planning.{LinesRefused}
 use Rattle.clog_engine.specs.Logged.{AppliesLines, AreApplied, LinesRefuse}
 use Rattle.clog_engine.specs.Outside.{Outside}
 use Rattle.clog_engine.specs.Quiet.{IsRefusedBefore, TellsEach}

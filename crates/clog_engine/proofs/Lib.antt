@@ -6,14 +6,12 @@ pub mod Drilled
 pub mod FewMutations
 pub mod GoodInput
 pub mod Images
-pub mod LinesLaid
 pub mod MadeLines
 pub mod Merged
 pub mod Onward
 pub mod Opened
 pub mod Quiet
 pub mod Readable
-pub mod ReceiptLines
 mod Replays
 pub mod ScanReports
 pub mod SegmentFiles

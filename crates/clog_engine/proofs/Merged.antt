@@ -1,18 +1,5 @@
 -- Mutations are merged one after another.
-use Rattle.std.proofs.Common.{
-  ◌≡◌,
-  ℕ,
-  List,
-  [],
-  ◌∷◌,
-  ◌++◌,
-  map,
-  sym,
-  ap,
-  subst,
-  ◌∙◌,
-  append_assoc,
-}
+use Rattle.std.proofs.Common.{ℕ, List, [], ◌∷◌, ◌++◌, map, sym, ap, subst, ◌∙◌, append_assoc}
 use Rattle.std.specs.List.{flat_map}
 use Rattle.std.proofs.lemmas.List.{map-append, append-nil}
 use Rattle.std.proofs.lemmas.Grind.{flat_map-append}
@@ -47,8 +34,3 @@ mutation_more before merged new front last so_far step =
     (sym (append-nil (cells_of last)))
     ∙ sym (flat_map-append cells_of front (last ∷ []))))
     (continues (before ++ flat_map cells_of front) merged (cells_of last) new so_far step)
-
-pub all_parts : {A : Type 0} (whole part left : List A) → whole ≡ part ++ left → left ≡ []
-    → part ≡ whole
-all_parts whole part left so_far e =
-    sym (append-nil part) ∙ ap (λ l. part ++ l) (sym e) ∙ sym so_far

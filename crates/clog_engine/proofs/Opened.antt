@@ -9,9 +9,6 @@ use Rattle.std.proofs.Common.{
   Option,
   Some,
   None,
-  Result,
-  Ok as ok,
-  Err as err,
   true,
   inl,
   inr,
@@ -23,7 +20,7 @@ use Rattle.std.proofs.Common.{
   append_assoc,
   arith,
 }
-use Rattle.std.specs.Prelude.{IfSome, OnOk, ⊤}
+use Rattle.std.specs.Prelude.{IfSome, ⊤}
 use Rattle.std.specs.FinMap as finmap
 use Rattle.clog_base.specs.declared.cell.Cell.{Cell}
 use Rattle.clog_base.specs.declared.cell.CellKey.{CellKey}
@@ -38,12 +35,8 @@ use Rattle.clog_crash.specs.Log.{Write}
 use Rattle.clog_crash.specs.Restore.{IsRestored}
 use Rattle.clog_folder.specs.Passing.{IsUntouched as IsDiskUntouched}
 use Rattle.clog_folder.proofs.Passing.{both, no_call}
-use Rattle.clog_applied.specs.Asked.{IsBatch}
 use Rattle.clog_applied.specs.Filed.{BringsNoOther, IsNewName, KeepsOthers}
 use Rattle.clog_applied.specs.History.{LoggedLine}
-use Rattle.path_core.specs.declared.keeper.KeeperFault.{KeeperFault}
-use Rattle.path_core.specs.declared.keeper.KeeperFault.TheVariants.{OutOfMemory, Stopped}
-use Rattle.path_core.specs.declared.note.EntryNote.{EntryNote}
 use Rattle.clog_store.specs.Opened.{
   IsOpened,
   IsRecovered,
@@ -56,23 +49,12 @@ use Rattle.clog_store.specs.StoreFailed.{AllStay}
 use Rattle.clog_store.proofs.OpenedWhole.{keeps_same, lasts_on}
 use Rattle.clog_closing.specs.Logs.{id_of}
 use Rattle.clog_closing.proofs.Openings.{recovery_changes}
-use Rattle.clog_base.specs.declared.sizes.Sizes.{Sizes}
-use Rattle.clog_lines.specs.Written.{
-  AreLaidFor,
-  BringsOnly,
-  HasBrought,
-  HasWriteCause,
-  TellsWritten,
-  least_of,
-}
+use Rattle.clog_closing.specs.Written.{BringsOnly, HasBrought}
 use Rattle.clog_writers.specs.Left.{LeavesShares, SaysShares, WritesShares, said_by}
 use Rattle.clog_writers.specs.Written.{TellsWrittenShares}
 use Rattle.write_path.specs.declared.commit.Receipt.{Receipt}
 use Rattle.clog_engine.specs.Logged.{
-  AppliesLines,
-  Becomes,
   HasWrittenLog,
-  IsReported,
   IsRun,
   KeepsAll,
   LastsFirst,
@@ -81,9 +63,7 @@ use Rattle.clog_engine.specs.Logged.{
   Wrote,
 }
 use Rattle.clog_engine.specs.Outside.{IsLeftAlone, Outside, outside_with}
-use Rattle.clog_engine.specs.Refusal.{ended_as}
-use Rattle.clog_engine.specs.Report.{IsReport, head_of, head_with}
-use Rattle.clog_engine.proofs.Closed.{run_of}
+use Rattle.clog_engine.specs.Report.{IsReport, head_with}
 use Rattle.clog_engine.proofs.Images.{adds_lines, while_opened, while_written}
 use Rattle.clog_engine.proofs.SharesApplied.{run_of_shares}
 
@@ -125,42 +105,6 @@ brings_over base first then after ids recovered brings name absent held =
     by (Some bytes) is =
         let put = recovered.came name bytes is absent in
         inr (inr (put.file.table.0, put.sequence, put.named))
-
--- ---- how a run ends whose lines were to be written
-
-pub turns_where : {T E : Type 0} (outcome : Result T E) (o : Outside)
-    (P : Files → Files → List Change → Type 0)
-    → ((before : Files) (made : List Change) → o.files ≡ Some before → o.changes ≡ Some made
-    → OnOk outcome (Becomes o made (P before)))
-    → OnOk outcome (Turns o P)
-turns_where (ok done) o P each = each
-turns_where (err fault) o P each = tt
-
-pub on_ok : {T E : Type 0} (outcome : Result T E) (A B : Type 0) → OnOk outcome A
-    → (A → B) → OnOk outcome B
-on_ok (ok done) A B has then = then has
-on_ok (err fault) A B has then = tt
-
--- at the end all lines are applied, or the first of them have come
-pub ended_applies : {T : Type 0} (outcome : Result T KeeperFault) (options : ApplyOptions)
-    (o : Outside) (report : List ℕ) (ms : List Mutation) → IsReported options ms report
-    → OnOk outcome (Turns o (IsRun o options ms report)) → Wrote o options ms
-    → IfSome o.files (λ before. Told o.files_now (KeepsOthers before))
-    → LastsFirst o options ms (least_of outcome ms)
-    → HasWriteCause o.disk_faults o.disk_faults_now outcome → SameTold o.files o.files_now
-    → AppliesLines options ms o (ended_as report outcome)
-ended_applies (ok done) options o report ms reported run wrote others lasts cause told = record {
-  reported = reported;
-  logged = record { told = told; wrote = wrote; others = others; lasts = lasts };
-  run = run;
-}
-ended_applies (err (Stopped at_open now)) options o report ms reported run wrote others lasts cause
-    told = (
-      cause.1,
-      inr (inr (record { told = told; wrote = wrote; others = others; lasts = lasts })),
-    )
-ended_applies (err OutOfMemory) options o report ms reported run wrote others lasts cause told =
-    inr (inr (record { told = told; wrote = wrote; others = others; lasts = lasts }))
 
 -- ---- by a disk
 
@@ -360,44 +304,7 @@ module _ {D C : Type 0} (disk : DiskTells D) (clock : ClockTells C)
               (lines.at_drain beyond image left chance);
         })
 
-    -- and where all are written, the run's promises are kept
-    pub turns_run : {T : Type 0} (outcome : Result T KeeperFault) (now : D)
-        (options : ApplyOptions) (sizes : Sizes) (ms : List Mutation) (notes : List EntryNote)
-        (cells : List (CellKey × Cell)) (report : List ℕ) → (IsBatch options → ⊥)
-        → clock.tells at moment → AreLaidFor sizes ms notes → length notes ≡ length ms
-        → (options.dump ≡ true → IfSome (disk.files start) (λ first. IsRestored first cells))
-        → IsReport options.dump (head_of options.receipts base notes) cells ms report
-        → ((then : Files) (made : List Change) → disk.files opened ≡ Some then
-        → disk.changes opened ≡ Some made
-        → OnOk outcome (TellsWritten options base then made (disk.files now) (disk.changes now) ms
-        notes))
-        → OnOk outcome (Turns (outside_at now) (IsRun (outside_at now) options ms report))
-    turns_run outcome now options sizes ms notes cells report not_batch tells laid many restored is
-        told = turns_where outcome (outside_at now) (IsRun (outside_at now) options ms report)
-        (λ first made files_are changes_are.
-        let there : disk.files looked ≡ Some first = still.same.files ∙ files_are in
-        let then = opened_as (disk.files looked) (disk.files opened) moment base first there opens
-        in
-        let recovery = recovery_changes first made (disk.changes opened)
-        (subst (λ (c : Option (List Change)). RecoversAll first c (disk.changes opened))
-        (still.changes_are ∙ changes_are) (recovers first there)) in
-        on_ok outcome (TellsWritten options base then.0 (made ++ recovery.0) (disk.files now)
-        (disk.changes now) ms notes)
-        (Becomes (outside_at now) made (IsRun (outside_at now) options ms report first))
-        (told then.0 (made ++ recovery.0) then.1 recovery.1) (λ all.
-        record {
-          after = all.after;
-          added = recovery.0 ++ all.later;
-          files_are = all.files_are;
-          changes_are = all.changes_are ∙ ap Some (append_assoc made recovery.0 all.later);
-          is = run_of (outside_at now) options first then.0 all.after recovery.0 all.later sizes ms
-              notes moment base cells report not_batch tells laid then.2 recovery.2 all.written many
-              (λ dumped.
-              subst (λ (o : Option Files). IfSome o (λ held. IsRestored held cells)) files_are
-              (restored dumped)) is;
-        }))
-
-    -- and where several writers have logged them
+    -- and where all are logged, the run's promises are kept
     pub turns_shares : (now : D) (options : ApplyOptions) (ms : List Mutation)
         (receipts : List Receipt) (cells : List (CellKey × Cell)) (report : List ℕ)
         → clock.tells at moment → length receipts ≡ length ms

@@ -8,7 +8,7 @@ use Rattle.clog_text.specs.declared.refusal.BadLine.{BadLine}
 use Rattle.clog_text.specs.declared.refusal.BadLine.TheVariants.{OutOfMemory as no_memory}
 use Rattle.clog_text.specs.FileLines.{lines_of, line_limit}
 use Rattle.clog_text.specs.FileMutations.{file_mutations}
-use Rattle.clog_lines.specs.Fitting.{HasFittingEntry, HasLargeMutation}
+use Rattle.clog_writers.specs.Fitting.{HasFittingEntry, HasLargeMutation}
 use Rattle.clog_engine.specs.Limits.{group_limit}
 
 -- The file is not too long, and has not too many lines.

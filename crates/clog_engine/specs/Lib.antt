@@ -5,7 +5,6 @@ pub mod Completes
 pub mod Drill
 pub mod Faults
 pub mod Input
-pub mod Laying
 pub mod Limits
 pub mod Logged
 pub mod Outside

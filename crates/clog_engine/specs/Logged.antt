@@ -7,7 +7,6 @@ use Rattle.std.specs.Prelude.{
   ◌+◌,
   ◌<◌,
   ◌≤◌,
-  ◌^◌,
   List,
   ◌++◌,
   length,
@@ -26,7 +25,6 @@ use Rattle.std.specs.List.{AllPairs, flat_map}
 use Rattle.clog_base.specs.declared.cell.Cell.{Cell}
 use Rattle.clog_base.specs.declared.cell.CellKey.{CellKey}
 use Rattle.clog_base.specs.declared.sizes.Sizes.{Sizes}
-use Rattle.path_core.specs.declared.note.EntryNote.{EntryNote}
 use Rattle.clog_base.specs.declared.fault.Quantity.TheVariants.{SegmentBytes, Ids, TableFiles}
 use Rattle.clog_io.specs.Causes.{Rose}
 use Rattle.clog_disk.specs.declared.change.Change.{Change}
@@ -60,7 +58,7 @@ use Rattle.clog_applied.specs.Onward.{ReachesNoFurther}
 use Rattle.clog_applied.specs.Printed.{ReportIsPrinted}
 use Rattle.clog_closing.specs.Logs.{id_of}
 use Rattle.clog_closing.specs.NextNames.{HaveNextNames}
-use Rattle.clog_lines.specs.Written.{AreLaidFor, AreMadeFor, GoesBeyond, IsWrittenBy}
+use Rattle.clog_closing.specs.Written.{AreMadeFor, GoesBeyond, IsWrittenBy}
 use Rattle.clog_writers.specs.Left.{SaysShares, said_by}
 use Rattle.clog_writers.specs.Written.{BeginsIn, HasReceipts}
 use Rattle.write_path.specs.declared.commit.Receipt.{Receipt}
@@ -75,8 +73,8 @@ use Rattle.clog_engine.specs.declared.status.Status.TheVariants.{
 }
 use Rattle.clog_engine.specs.Limits.{group_limit}
 use Rattle.clog_engine.specs.Outside.{Outside, IsLeftAlone}
-use Rattle.clog_engine.specs.Report.{IsReport, head_of, head_with}
-use Rattle.clog_engine.specs.Request.{AreSizesOf, IsForOne, IsForWriters}
+use Rattle.clog_engine.specs.Report.{IsReport, head_with}
+use Rattle.clog_engine.specs.Request.{AreSizesOf}
 
 -- ---- what a crash leaves
 
@@ -173,21 +171,9 @@ abbrev pub Turns : Outside → (Files → Files → List Change → Type 0) → 
 Turns o P = (before : Files) (made : List Change) → o.files ≡ Some before
     → o.changes ≡ Some made → Becomes o made (P before)
 
--- The report of lines that are laid out from some base on, over some cells.
-pub record IsLaidReport (options : ApplyOptions) (mutations : List Mutation) (report : List ℕ)
-    : Type 0 where
-  pub sizes : Sizes
-  pub sizes_are : AreSizesOf options sizes
-  pub notes : List EntryNote
-  pub laid : AreLaidFor sizes mutations notes
-  pub base : ℕ
-  pub low : base < 2 ^ 62
-  pub cells : List (CellKey × Cell)
-  pub text : IsReport options.dump (head_of options.receipts base notes) cells mutations report
-
 -- The report of lines that writers of a path have logged from some base on, over some cells: each
 -- writer its share, in order.
-pub record IsSharesReport (options : ApplyOptions) (mutations : List Mutation) (report : List ℕ)
+pub record IsReported (options : ApplyOptions) (mutations : List Mutation) (report : List ℕ)
     : Type 0 where
   pub sizes : Sizes
   pub sizes_are : AreSizesOf options sizes
@@ -196,12 +182,6 @@ pub record IsSharesReport (options : ApplyOptions) (mutations : List Mutation) (
   pub logged : HasReceipts sizes base mutations receipts
   pub cells : List (CellKey × Cell)
   pub text : IsReport options.dump (head_with options.receipts receipts) cells mutations report
-
--- what the report says, by who logs the lines
-pub record IsReported (options : ApplyOptions) (mutations : List Mutation) (report : List ℕ)
-    : Type 0 where
-  pub by_one : IsForOne options → IsLaidReport options mutations report
-  pub by_several : IsForWriters options → IsSharesReport options mutations report
 
 -- The lines of each writer's share came up to some place, of which a crash leaves at least so many.
 -- Each file of before that is no segment stands as it was.

@@ -19,8 +19,6 @@ use Rattle.clog_disk.specs.declared.disk.DiskFault.{DiskFault}
 use Rattle.clog_disk.specs.declared.disk.DiskFault.TheVariants as fault
 use Rattle.clog_folder.specs.declared.fault.OpenFault.{OpenFault}
 use Rattle.clog_folder.specs.declared.fault.OpenFault.TheVariants as refusal
-use Rattle.path_core.specs.declared.keeper.KeeperFault.{KeeperFault}
-use Rattle.path_core.specs.declared.keeper.KeeperFault.TheVariants as keeper
 use Rattle.write_path.specs.declared.commit.Receipt.{Receipt}
 use Rattle.clog_writers.specs.declared.fault.WriteFault.{WriteFault}
 use Rattle.clog_writers.specs.declared.fault.WriteFault.TheVariants.{Rows, Spent, Stopped}
@@ -48,12 +46,6 @@ folder_status (refusal.BadTable name fault) = BadTable name fault
 folder_status (refusal.Limit what number) = Limit what number
 folder_status refusal.OutOfMemory = OutOfMemory
 
--- a report, where all lines were written
-abbrev pub ended_as : {T : Type 0} → List ℕ → Result T KeeperFault → Result (List ℕ) Status
-ended_as report (result.Ok done) = result.Ok report
-ended_as report (result.Err (keeper.Stopped at_open now)) = result.Err HasDiskFault
-ended_as report (result.Err keeper.OutOfMemory) = result.Err OutOfMemory
-
 -- lines were not refused for want of segments
 abbrev pub IsUnspent : {T : Type 0} → Result T WriteFault → Type 0
 IsUnspent outcome = outcome ≡ result.Err Spent → ⊥
@@ -63,7 +55,7 @@ abbrev pub HasRoomFor : ℕ → PendingReport → Type 0
 HasRoomFor lines pending =
     longest_receipt * (lines + 1) + length pending.rows.items ≤ vec_capacity pending.room
 
--- A report whose head was to come, where several writers logged all lines; else why they did not.
+-- A report whose head was to come, where writers logged all lines; else why they did not.
 abbrev pub IsToldAs : Bool → PendingReport → Result (Vec Receipt Global) WriteFault
     → Result (List ℕ) Status → Type 0
 IsToldAs receipts pending (result.Ok logged) told =

@@ -15,12 +15,10 @@ use Rattle.std.specs.Prelude.{
 use Rattle.std.specs.List.{flat_map}
 use Rattle.clog_base.specs.declared.cell.Cell.{Cell}
 use Rattle.clog_base.specs.declared.cell.CellKey.{CellKey}
-use Rattle.clog_base.specs.Positions.{position_of}
 use Rattle.clog_cells.specs.Merge.{IsMerge}
 use Rattle.clog_mutation.specs.declared.mutation.Mutation.{Mutation}
 use Rattle.clog_mutation.specs.Payload.{cells_of}
 use Rattle.clog_text.specs.CellTexts.{row_line}
-use Rattle.path_core.specs.declared.note.EntryNote.{EntryNote}
 use Rattle.clog_applied.specs.Printed.{applied_line, line, receipt_line}
 use Rattle.write_path.specs.declared.commit.Receipt.{Receipt}
 
@@ -29,15 +27,6 @@ abbrev pub numbered_line : List ℕ → ℕ → List ℕ
 numbered_line word number = line (word ++ 32 ∷ decimal number)
 
 -- ---- receipts
-
--- the receipt of a note's line, where the segment of ordinal 0 has the id `base`: the position of
--- its entry
-abbrev pub receipt_at : ℕ → EntryNote → List ℕ
-receipt_at base n =
-    receipt_line n.line (position_of base n.end.0).id (position_of base n.end.0).offset
-
-abbrev pub receipts_of : ℕ → List EntryNote → List ℕ
-receipts_of base notes = flat_map (receipt_at base) notes
 
 -- the receipt of a line by its position, and those of lines
 abbrev pub receipt_told : Receipt → List ℕ
@@ -53,12 +42,8 @@ receipts_told receipts = flat_map receipt_told receipts
 
 -- ---- the report
 
--- how many lines were applied, with their receipts where they are asked for
-abbrev pub head_of : Bool → ℕ → List EntryNote → List ℕ
-head_of false base notes = applied_line (length notes)
-head_of true base notes = applied_line (length notes) ++ receipts_of base notes
-
--- the same by the receipts of all lines, in the order of the lines
+-- how many lines were applied, with the receipts of all of them, in the order of the lines, where
+-- they are asked for
 abbrev pub head_with : Bool → List Receipt → List ℕ
 head_with false receipts = applied_line (length receipts)
 head_with true receipts = applied_line (length receipts) ++ receipts_told receipts

@@ -1,20 +1,8 @@
 -- What the words of the command line ask for, of what the program does.
-use Rattle.std.specs.Prelude.{
-  ◌≡◌,
-  ◌≢◌,
-  ◌⊎◌,
-  ◌<◌,
-  ◌≤◌,
-  List,
-  ℕ,
-  Option,
-  MatchOption,
-  String,
-}
+use Rattle.std.specs.Prelude.{◌≡◌, ◌≤◌, List, ℕ, Option, MatchOption, String}
 use Rattle.std.specs.declared.alloc.Global.{Global}
 use Rattle.clog_spec.specs.Sizes.{most_segments, most_tables}
 use Rattle.clog_base.specs.declared.sizes.Sizes.{Sizes}
-use Rattle.sync_core.specs.declared.SyncCore.TheVariants.{Periodic}
 use Rattle.clog_words.specs.declared.built.Built.{Built}
 use Rattle.clog_words.specs.declared.request.ApplyOptions.{ApplyOptions}
 use Rattle.clog_words.specs.Built.{AsksBuilt, plain_options}
@@ -29,16 +17,6 @@ pub record IsDoable (options : ApplyOptions) : Type 0 where
   pub few_writers : options.writers ≤ 64
   pub least : 4 ≤ options.segment_kib
   pub most : options.segment_kib ≤ 32768
-
--- Its lines are logged by one writer with one sync behind all of them: it asks for one writer, and
--- for the mode and the period that there are where none are given.
-pub record IsForOne (options : ApplyOptions) : Type 0 where
-  pub one_writer : options.writers ≡ 1
-  pub periodic : options.sync ≡ Periodic 10000
-
--- Else its lines are logged by writers of a path.
-abbrev pub IsForWriters : ApplyOptions → Type 0
-IsForWriters options = (1 < options.writers) ⊎ (options.sync ≢ Periodic 10000)
 
 -- How large a log is that has as many writers as are asked for, and whose segments have the capacity
 -- that is asked for, and are as many as there may be, of as many tables.

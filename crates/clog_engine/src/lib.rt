@@ -6,12 +6,10 @@
 
 mod applying;
 mod before;
-mod cells;
 mod copies;
 mod drilling;
 mod fault_line;
 mod input;
-mod lines;
 mod receipts;
 mod refusal;
 mod replaying;

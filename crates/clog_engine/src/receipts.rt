@@ -3,9 +3,7 @@ ghost use Rattle.std.specs.Prelude.{
   ◌≡◌,
   ◌+◌,
   ◌*◌,
-  ◌<◌,
   ◌≤◌,
-  ◌^◌,
   ◌++◌,
   length,
   vec_capacity,
@@ -13,13 +11,11 @@ ghost use Rattle.std.specs.Prelude.{
   IsOk,
   OnOk,
 };
-ghost use Rattle.clog_base.specs.Positions.{position_of};
 ghost use Rattle.clog_applied.specs.Printed.{receipt_line};
-ghost use Rattle.clog_engine.specs.Report.{longest_receipt, receipts_of, receipts_told};
+ghost use Rattle.clog_engine.specs.Report.{longest_receipt, receipts_told};
 
-use clog_base::{Key, Position};
+use clog_base::Position;
 use itoa::Buffer;
-use path_core::EntryNote;
 use std::alloc::AllocError;
 use write_path::Receipt;
 
@@ -57,15 +53,6 @@ fn put_receipt(out: &mut Vec<u8>, number: u32, at: Position) -> Result<(), Alloc
     put_pieces(out, number, at)
 }
 
-// Puts the receipt of a line whose entry ends at a key.
-fn put_receipt_at(out: &mut Vec<u8>, base: u64, number: u32, end: Key) -> Result<(), AllocError>
-    requires { base < 2 ^ 62 }
-    ensures { OnOk result (out.new.items ≡ out.old.items
-        ++ receipt_line number (position_of base end.0).id (position_of base end.0).offset) }
-{
-    put_receipt(out, number, end.position(base))
-}
-
 /// Puts receipts. It is not refused where there is room for as many of the longest.
 pub(crate) fn put_told(out: &mut Vec<u8>, told: &[Receipt]) -> Result<(), AllocError>
     ensures items { OnOk result (out.new.items ≡ out.old.items ++ receipts_told told.now) }
@@ -77,21 +64,6 @@ pub(crate) fn put_told(out: &mut Vec<u8>, told: &[Receipt]) -> Result<(), AllocE
 {
     for receipt in told {
         put_receipt(out, receipt.line, receipt.position)?;
-    }
-    Ok(())
-}
-
-/// Puts the receipts of laid notes, where the segment of ordinal 0 has the id `base`.
-pub(crate) fn put_receipts(
-    out: &mut Vec<u8>,
-    base: u64,
-    notes: &[EntryNote],
-) -> Result<(), AllocError>
-    requires { base < 2 ^ 62 }
-    ensures { OnOk result (out.new.items ≡ out.old.items ++ receipts_of base notes.now) }
-{
-    for note in notes {
-        put_receipt_at(out, base, note.line, note.end)?;
     }
     Ok(())
 }

@@ -1,4 +1,4 @@
-//! The lines of a mutation file, planned for several writers before the folder is called. All
+//! The lines of a mutation file, planned for their writers before the folder is called. All
 //! memory for their writes is taken here. No line is too large for a segment.
 ghost use Rattle.std.specs.Prelude.{◌≡◌, ◌≤◌, length, IfOk};
 ghost use Rattle.std.specs.List.{AllByRecursion};

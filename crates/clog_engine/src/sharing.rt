@@ -1,5 +1,5 @@
-//! Planned lines are applied by writers of a path, several, in batch mode or with a period: the
-//! folder is opened, the writers log the lines, and the report tells where each stands.
+//! Planned lines are applied by writers of a path, 1 to 64: the folder is opened, the writers log
+//! the lines, and the report tells where each stands.
 //!
 //! The rows of the report, and room for all of it, are there before the folder is opened; its head
 //! is put into that room behind the lines, since where they stand is known then.
@@ -7,23 +7,21 @@ ghost use Rattle.std.specs.Prelude.{◌≡◌, ◌<◌, ◌≤◌, [], ℕ, List
 ghost use Rattle.clog_disk.specs.Files.{Files};
 ghost use Rattle.clog_disk.specs.Images.{IsImage};
 ghost use Rattle.clog_mutation.specs.declared.mutation.Mutation.{Mutation};
-ghost use Rattle.clog_engine.specs.Apply.{Applies};
 ghost use Rattle.clog_engine.specs.Logged.{AppliesLines};
-ghost use Rattle.clog_engine.specs.Outside.{outside_of, outside_with};
+ghost use Rattle.clog_engine.specs.Outside.{outside_with};
 ghost use Rattle.clog_engine.specs.Planning.{ArePlanned};
 ghost use Rattle.clog_engine.specs.Quiet.{IsRefusedBefore, TellsEach};
 ghost use Rattle.clog_engine.specs.Refusal.{HasRoomFor, IsToldAs, IsUnspent};
-ghost use Rattle.clog_engine.specs.Request.{AreSizesOf, IsDoable, IsForWriters};
+ghost use Rattle.clog_engine.specs.Request.{AreSizesOf, IsDoable};
 
 use crate::before::cells_before;
 use crate::refusal::folder_status;
 use crate::report::{PendingReport, finished, pending};
-use crate::shares::{PlannedLines, read_plan};
+use crate::shares::PlannedLines;
 use crate::status::Status;
-use crate::words::sizes_of;
 use clog_base::{Bytes, OutOfMemory, Sizes};
 use clog_disk::Disk;
-use clog_io::{Clock, Gate, Source};
+use clog_io::{Clock, Gate};
 use clog_store::Store;
 use clog_words::ApplyOptions;
 use clog_writers::{Syncing, WriteFault, write_plan};
@@ -58,11 +56,13 @@ pub(crate) fn disks_leave_now<D: Disk>(_disk: &D)
     ensures { (d : D) (image : Files) → D.since d (D.moment d) image → IsImage (D.leaves d) image }
 {}
 
-/// Applies planned lines, however they came.
+/// Applies planned lines, however they came. One clock tells the moment of the opening, the other
+/// one when a period has passed.
 pub(crate) fn apply_shares<
     T: Threads + Wait + Sync,
     D: Disk + Send + Drop,
-    C: Clock + Sync,
+    C: Clock,
+    P: Clock + Sync,
     G: Gate + Sync,
 >(
     rt: &T,
@@ -72,10 +72,10 @@ pub(crate) fn apply_shares<
     lines: PlannedLines<D>,
     disk: D,
     clock: &C,
+    periods: &P,
     gate: &G,
 ) -> (D, Result<Bytes, Status>)
     requires doable { IsDoable options }
-    requires writers { IsForWriters options }
     requires sizes { AreSizesOf options sizes }
     requires planned { (mutations : List Mutation)
         × ArePlanned options.dump sizes mutations lines }
@@ -114,41 +114,9 @@ pub(crate) fn apply_shares<
         sizes,
         syncing,
         gate,
-        clock,
+        periods,
         plan,
         options.drain,
     );
     (disk, told(pending, options.receipts, outcome))
-}
-
-/// Applies the source's lines by writers of a path, each in a thread of its own where one can be
-/// started. Where the folder is not refused before, the clock is asked at its opening, and in
-/// periodic mode behind each line.
-pub(crate) fn apply_by_several<
-    T: Threads + Wait + Sync,
-    S: Source,
-    D: Disk + Send + Drop,
-    C: Clock + Sync,
-    G: Gate + Sync,
->(
-    rt: &T,
-    alloc: Global,
-    options: ApplyOptions,
-    source: &mut S,
-    disk: D,
-    clock: &C,
-    gate: &G,
-) -> (D, Result<Bytes, Status>)
-    requires doable { IsDoable options }
-    requires writers { IsForWriters options }
-    ensures applies { Applies options (outside_of S.Source D.Disk C.Clock source.old source.new
-        disk result.0 clock.now) result.1 }
-    ensures quiet { TellsEach (D.faults disk) (D.faults result.0) result.1 }
-    ensures uncalled { IsRefusedBefore result.1 → result.0 ≡ disk }
-{
-    let sizes = sizes_of(&options);
-    match read_plan(rt, alloc, sizes, source, options.dump) {
-        Ok(lines) => apply_shares(rt, alloc, options, sizes, lines, disk, clock, gate),
-        Err(status) => (disk, Err(status)),
-    }
 }

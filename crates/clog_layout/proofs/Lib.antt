@@ -1,4 +1,3 @@
 pub mod Lines
-pub mod Places
+pub mod Pairs
 pub mod Reaching
-pub mod Standing

@@ -3,7 +3,6 @@ use Rattle.std.proofs.Common.{
   ◌≡◌,
   ℕ,
   ◌+◌,
-  ◌%◌,
   ◌≤◌,
   inl,
   inr,
@@ -11,8 +10,6 @@ use Rattle.std.proofs.Common.{
   [],
   ◌∷◌,
   length,
-  map,
-  true,
   IsTrue,
   refl,
   sym,
@@ -21,15 +18,13 @@ use Rattle.std.proofs.Common.{
   subst,
   arith,
 }
-use Rattle.std.specs.Prelude.{Contains, ◌↔◌, ◌==◌}
-use Rattle.std.specs.List.{AllPairs, filter}
+use Rattle.std.specs.Prelude.{Contains, ◌↔◌}
+use Rattle.std.specs.List.{AllPairs}
 use Rattle.std.proofs.lemmas.Bool.{cases_lt}
-use Rattle.std.proofs.lemmas.Bool.Decides.{nat_tests}
 use Rattle.clog_spec.specs.Segment.{entry_bytes}
 use Rattle.clog_spec.specs.Sizes.{frame_size, greatest_capacity}
 use Rattle.clog_spec.proofs.Lengths.{length-entry_bytes}
 use Rattle.clog_base.specs.declared.cell.Table.{Table}
-use Rattle.clog_base.specs.declared.sizes.Sizes.{Sizes}
 use Rattle.clog_base.specs.Positions.{position_of}
 use Rattle.clog_base.proofs.Members.{first_or_further, further, here, nothing_there}
 use Rattle.clog_mutation.specs.declared.mutation.Mutation.{Mutation}
@@ -39,34 +34,20 @@ use Rattle.clog_scan.specs.Segment.{entry_from}
 use Rattle.clog_crash.specs.Droppable.{Touches}
 use Rattle.path_core.specs.declared.note.EntryNote.{EntryNote}
 use Rattle.path_core.specs.History.{IsHistory, IsInSegment}
-use Rattle.path_core.specs.Keys.{first_offset, offset_of, ordinal_of}
+use Rattle.path_core.specs.Keys.{offset_of, ordinal_of}
 use Rattle.path_core.specs.Parts.{touches}
-use Rattle.path_core.specs.Whole.{IsWhole, Updates}
+use Rattle.path_core.specs.Whole.{IsWhole}
 use Rattle.path_core.proofs.lists.Heads.{ahead, behind}
 use Rattle.clog_applied.specs.History.{
   IsBefore,
   IsLawful,
   IsPlaced,
-  Line,
   LoggedLine,
   entry_of,
-  is_by,
-  is_for,
-  line_of,
   logged_at,
-  numbered,
-  written_by,
 }
-use Rattle.clog_applied.proofs.Lists.{kept_one}
-use Rattle.clog_layout.specs.Laid.{AreLaid}
-use Rattle.clog_layout.specs.Logged.{
-  AreEntriesOf,
-  AreLaidLines,
-  AreNotesOf,
-  IsEntryOf,
-  IsNoteOf,
-}
-use Rattle.clog_layout.proofs.Standing.{pairs_cons, pairs_none}
+use Rattle.clog_layout.specs.Logged.{AreNotesOf, IsNoteOf}
+use Rattle.clog_layout.proofs.Pairs.{pairs_cons, pairs_none}
 
 -- ---- a line of a note
 
@@ -251,99 +232,3 @@ module _ (base capacity : ℕ) (few : capacity ≤ greatest_capacity) where
     each = each_placed notes history is.each are;
     apart = apart_so notes history is.each is.apart are;
   }
-
--- ---- one writer's notes
-
-module _ (sizes : Sizes) (base : ℕ) where
-  -- lines by writer 0, which say these mutations under numbers from one on
-  record SaysFrom (number : ℕ) (mutations : List Mutation) (laid : List EntryNote)
-      (history : List LoggedLine) : Type 0 where
-    pub notes : AreNotesOf base laid history
-    pub by_one : (w : LoggedLine) → Contains history w → w.writer ≡ 0
-    pub lines : written_by 0 history ≡ numbered number mutations
-
-  says_from : (key number : ℕ) (mutations : List Mutation) (notes laid : List EntryNote)
-      → AreEntriesOf mutations notes → AreLaid sizes key number notes laid
-      → (history : List LoggedLine) × SaysFrom number mutations laid history
-  says_from key number [] [] [] are all = (
-    [],
-    record { notes = tt; by_one = λ w h. absurd (nothing_there w h); lines = refl },
-  )
-  says_from key number [] [] (l ∷ ls) are all = absurd all
-  says_from key number [] (n ∷ ns) laid are all = absurd are
-  says_from key number (m ∷ ms) [] laid are all = absurd are
-  says_from key number (m ∷ ms) (n ∷ ns) [] are all = absurd all
-  says_from key number (m ∷ ms) (n ∷ ns) (l ∷ ls) are all =
-      let e = are.0 in
-      let laid = all.0 in
-      let rest = says_from l.end.0 (number + 1) ms ns ls are.1 all.1 in
-      let w = line_for base l m in
-      let r = rest.1 in
-      let same_bytes : l.bytes ≡ n.bytes = ap (λ (x : EntryNote). x.bytes) laid.is in
-      let same_tables : l.tables ≡ n.tables = ap (λ (x : EntryNote). x.tables) laid.is in
-      let is_number : l.line ≡ number = ap (λ (x : EntryNote). x.line) laid.is in
-      let is_zero : l.writer.0 ≡ 0 = ap (λ (x : EntryNote). x.writer.0) laid.is in
-      let test : (l.writer.0 == 0) ≡ true = grind (arith, nat_tests, is_zero) in (
-        w ∷ rest.0,
-        record {
-          notes = (
-            record {
-              writer = refl;
-              number = refl;
-              id = refl;
-              start = refl;
-              end = refl;
-              bytes = same_bytes ∙ e.bytes;
-              stored = e.stored;
-              tables = subst (λ (b : ℕ). (t : ℕ) → IsTrue (touches b t) ↔ Updates m t)
-                  (sym same_tables) e.tables;
-            },
-            r.notes,
-          );
-          by_one = λ v h. elim (first_or_further w rest.0 v h) [
-            | inl same ↦ subst (λ (x : LoggedLine). x.writer ≡ 0) same is_zero
-            | inr more ↦ r.by_one v more
-          ];
-          lines = ap (map line_of) (kept_one (is_by 0) w rest.0 test)
-              ∙ ap (λ (ls : List Line). line_of w ∷ ls) r.lines
-              ∙ ap (λ (k : ℕ). record { number = k; mutation = m } ∷ numbered (number + 1) ms)
-              is_number;
-        },
-      )
-
-  -- the share of the only writer is all lines
-  all_share : (number : ℕ) (ms : List Mutation)
-      → filter (is_for 1 0) (numbered number ms) ≡ numbered number ms
-  all_share number [] = refl
-  all_share number (m ∷ ms) =
-      let line : Line = record { number = number; mutation = m } in
-      let test : (number % 1 == 0) ≡ true = grind (arith, nat_tests) in
-      kept_one (is_for 1 0) line (numbered (number + 1) ms) test
-      ∙ ap (λ (ls : List Line). line ∷ ls) (all_share (number + 1) ms)
-
-  pub laid_lines : (mutations : List Mutation) (notes laid : List EntryNote)
-      → AreEntriesOf mutations notes → AreLaid sizes first_offset 1 notes laid
-      → (history : List LoggedLine) × AreLaidLines base mutations laid history
-  laid_lines mutations notes laid are all =
-      let found = says_from first_offset 1 mutations notes laid are all in
-      let s = found.1 in (
-        found.0,
-        record {
-          notes = s.notes;
-          by_one = s.by_one;
-          lines = s.lines ∙ sym (all_share 1 mutations);
-        },
-      )
-
--- notes with the entries of mutations are whole once they have their ranges
-pub entries_are_whole : (m : Mutation) (n : EntryNote) → IsEntryOf m n
-    → n.end.0 ≡ n.start.0 + length n.bytes → IsWhole n
-entries_are_whole m n is long = record {
-  mutation = m;
-  limits = is.limits;
-  stored = is.stored;
-  bytes = is.bytes;
-  long = long;
-  tables = is.tables;
-  some_table = is.some_table;
-}

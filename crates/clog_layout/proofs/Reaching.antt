@@ -1,7 +1,6 @@
 -- How far laid notes reach: no segment is passed over, and the last line is where the last note is.
 use Rattle.std.proofs.Common.{
   ◌≡◌,
-  ◌⊎◌,
   ℕ,
   ◌+◌,
   ◌<◌,
@@ -14,30 +13,17 @@ use Rattle.std.proofs.Common.{
   ◌++◌,
   length,
   refl,
-  sym,
   ◌∙◌,
   ap,
-  subst,
   arith,
 }
-use Rattle.std.specs.Prelude.{Bool, true, Contains, if◌then◌else◌}
+use Rattle.std.specs.Prelude.{Contains}
 use Rattle.std.specs.List.{AllPairs, range_with_len}
-use Rattle.std.proofs.lemmas.Bool.{cases_lt, lt-ltb}
-use Rattle.clog_spec.specs.Sizes.{greatest_capacity, least_capacity}
-use Rattle.clog_base.specs.declared.sizes.Sizes.{Sizes}
 use Rattle.clog_base.proofs.Members.{first_or_further, further, here, nothing_there}
 use Rattle.path_core.specs.declared.note.EntryNote.{EntryNote}
-use Rattle.path_core.specs.Keys.{
-  first_offset,
-  fits,
-  next_segment,
-  offset_of,
-  ordinal_of,
-}
 use Rattle.path_core.proofs.lists.Heads.{ahead, behind}
-use Rattle.clog_layout.specs.Laid.{AreLaid, IsLaidAt, end_behind, synced_to}
+use Rattle.clog_layout.specs.Ends.{end_behind, synced_to}
 use Rattle.clog_layout.specs.Logged.{AreNotesOf, IsNoteOf}
-use Rattle.clog_layout.proofs.Places.{stands_well}
 use Rattle.clog_applied.specs.History.{LoggedLine}
 
 -- ---- numbers without a gap
@@ -67,61 +53,9 @@ is_range base (x ∷ xs) rise low down =
     ]))
     ∙ ap (λ (n : ℕ). n ∷ range_with_len (base + 1) (length xs)) first
 
--- ---- segments
-
-module _ (sizes : Sizes) (large : least_capacity ≤ sizes.capacity)
-    (few : sizes.capacity ≤ greatest_capacity) where
-  -- of a segment up to that of a note, but for the one of the key, there is a note
-  no_gap : (key number : ℕ) (ns ls : List EntryNote) → first_offset ≤ offset_of key
-      → AreLaid sizes key number ns ls → (l : EntryNote) → Contains ls l → (o : ℕ)
-      → ordinal_of key < o → o ≤ ordinal_of l.start.0
-      → (m : EntryNote) × Contains ls m × (ordinal_of m.start.0 ≡ o)
-  no_gap key number [] [] front all l h o above upto = absurd (nothing_there l h)
-  no_gap key number [] (m ∷ ls) front all l h o above upto = absurd all
-  no_gap key number (n ∷ ns) [] front all l h o above upto = absurd all
-  no_gap key number (n ∷ ns) (m ∷ ls) front all l h o above upto =
-      let s = stands_well sizes key number n m large few front all.0 in
-      elim (cases_lt (ordinal_of m.start.0) o) [
-        | inr low ↦ (m, here m ls, omega (arith, s.near, above, low))
-        | inl high ↦ elim (first_or_further m ls l h) [
-          | inl same ↦
-              let up = subst (λ (x : EntryNote). o ≤ ordinal_of x.start.0) (sym same) upto in
-              absurd (omega (arith, high, up))
-          | inr more ↦
-              let found = no_gap m.end.0 (number + 1) ns ls
-              (omega (arith, s.end_offset, s.behind_front)) all.1 l more o
-              (omega (arith, s.end_ordinal, high)) upto in
-              (found.0, further m ls found.0 found.1, found.2)
-        ]
-      ]
-
-  -- the first one is in the first segment
-  first_there : (n l : EntryNote) → IsLaidAt sizes first_offset 1 n l
-      → ordinal_of l.start.0 ≡ 0
-  first_there n l laid =
-      let fit : fits sizes.capacity first_offset (length n.bytes) ≡ true =
-      lt-ltb (first_offset + length n.bytes) sizes.capacity (omega (arith, laid.fits, large)) in
-      let start : l.start.0 ≡ first_offset =
-      ap (λ (x : EntryNote). x.start.0) laid.is
-      ∙ ap (λ (b : Bool). if b then first_offset else next_segment first_offset) fit in
-      omega (arith, start)
-
-  -- of each segment up to that of a note there is one
-  pub each_segment : (ns ls : List EntryNote) → AreLaid sizes first_offset 1 ns ls
-      → (l : EntryNote) → Contains ls l → (o : ℕ) → o ≤ ordinal_of l.start.0
-      → (m : EntryNote) × Contains ls m × (ordinal_of m.start.0 ≡ o)
-  each_segment ns [] all l h o upto = absurd (nothing_there l h)
-  each_segment [] (m ∷ ls) all l h o upto = absurd all
-  each_segment (n ∷ ns) (m ∷ ls) all l h o upto = elim (cases_lt 0 o) [
-    | inl some ↦
-        no_gap first_offset 1 (n ∷ ns) (m ∷ ls) (omega arith) all l h o (omega (arith, some)) upto
-    | inr none ↦
-        let first = first_there n m all.0 in (m, here m ls, omega (arith, first, none))
-  ]
-
 -- ---- the last line
-
 -- a last line stands where notes end
+
 pub record HasLast (base : ℕ) (laid : List EntryNote) (history : List LoggedLine) (key : ℕ)
     : Type 0 where
   pub front : List LoggedLine

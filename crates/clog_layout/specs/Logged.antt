@@ -1,18 +1,5 @@
 -- Notes of entries as lines that are logged: what each says, and where it stands.
-use Rattle.std.specs.Prelude.{
-  ◌≡◌,
-  ◌↔◌,
-  ℕ,
-  ◌+◌,
-  ◌<◌,
-  List,
-  [],
-  ◌∷◌,
-  length,
-  Contains,
-  IsTrue,
-  ⊤,
-}
+use Rattle.std.specs.Prelude.{◌≡◌, ◌↔◌, ℕ, ◌+◌, ◌<◌, List, [], ◌∷◌, length, IsTrue, ⊤}
 use Rattle.clog_spec.specs.Segment.{entry_bytes}
 use Rattle.clog_mutation.specs.declared.mutation.Mutation.{Mutation}
 use Rattle.clog_mutation.specs.Limits.{IsWithinLimits}
@@ -22,7 +9,7 @@ use Rattle.path_core.specs.declared.note.EntryNote.{EntryNote}
 use Rattle.path_core.specs.Keys.{offset_of, ordinal_of}
 use Rattle.path_core.specs.Parts.{touches}
 use Rattle.path_core.specs.Whole.{Updates}
-use Rattle.clog_applied.specs.History.{LoggedLine, share_of, written_by}
+use Rattle.clog_applied.specs.History.{LoggedLine}
 
 -- The note is the one of a logged line, where the segment of ordinal 0 has the id `base`.
 pub record IsNoteOf (base : ℕ) (n : EntryNote) (w : LoggedLine) : Type 0 where
@@ -56,10 +43,3 @@ AreEntriesOf [] [] = ⊤
 AreEntriesOf [] (n ∷ ns) = ⊥
 AreEntriesOf (m ∷ ms) [] = ⊥
 AreEntriesOf (m ∷ ms) (n ∷ ns) = IsEntryOf m n × AreEntriesOf ms ns
-
--- A history of notes of one writer that were laid: its lines are those of the mutations, in order.
-pub record AreLaidLines (base : ℕ) (mutations : List Mutation) (laid : List EntryNote)
-    (history : List LoggedLine) : Type 0 where
-  pub notes : AreNotesOf base laid history
-  pub by_one : (w : LoggedLine) → Contains history w → w.writer ≡ 0
-  pub lines : written_by 0 history ≡ share_of 1 0 mutations

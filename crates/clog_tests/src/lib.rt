@@ -7,6 +7,8 @@ mod engine;
 #[cfg(test)]
 mod lines;
 #[cfg(test)]
+mod logged;
+#[cfg(test)]
 mod payloads;
 #[cfg(test)]
 mod writers;

@@ -1,16 +1,14 @@
-//! Lines over a disk in memory. The bytes were worked out by hand and by Python's struct and zlib.
-ghost use Rattle.std.specs.List.{AllByRecursion};
-ghost use Rattle.clog_mutation.specs.Limits.{IsWithinLimits};
-
+//! Lines of one writer over a disk in memory. The bytes were worked out by hand and by Python's
+//! struct and zlib.
+use crate::logged::{Way, logged};
 use crate::payloads::{DELETION, lines_of};
-use clog_base::{Sizes, Table, archive_name, segment_name, table_name};
+use clog_base::{Table, archive_name, segment_name, table_name};
 use clog_disk::{Disk, MemDisk};
-use clog_layout::lay_out;
-use clog_lines::{notes_of, write_lines};
-use clog_mutation::Mutation;
-use clog_store::Store;
 use std::alloc::Global;
+use std::sync::Wait;
 use std::test::Fail;
+use std::thread::Threads;
+use sync_core::SyncCore;
 
 /// Key `ab`, one update: table 1, column `cd`, timestamp 5, a deletion.
 const OTHER: &[u8] = b"\x00\x02ab\x00\x01\x01\x00\x02cd\x00\x00\x00\x00\x00\x00\x00\x05\x00";
@@ -54,51 +52,42 @@ fn value_of(alloc: Global, count: u16) -> Result<Vec<u8>, Fail> {
     Ok(payload)
 }
 
-// Writes lines to an empty disk, at 1000 ms and with segments of a capacity, and drains it or not.
-fn written_to(
+// One writer logs lines with these payloads in periodic mode, to segments of a capacity, and drains
+// them or not.
+fn written_to<R: Threads + Wait + Sync>(
+    rt: &R,
     alloc: Global,
-    lines: &[Mutation],
+    payloads: &[&[u8]],
     capacity: u32,
     archives: bool,
     drain: bool,
-) -> Result<MemDisk, Fail>
-    requires { AllByRecursion IsWithinLimits lines.now }
-{
-    let Some(sizes) = Sizes::make(16, 1, capacity, 2147483647) else {
-        return Err(Fail::new("no sizes"));
+) -> Result<MemDisk, Fail> {
+    let way = Way {
+        writers: 1,
+        mode: SyncCore::Periodic { period_ms: 10_000 },
+        capacity,
+        archives,
+        drain,
     };
-    if lines.len() > 1000 {
-        return Err(Fail::new("many lines"));
-    }
-    let Ok(mut notes) = notes_of(alloc, lines, sizes.capacity) else {
-        return Err(Fail::new("no notes"));
-    };
-    if notes.len() > 1000 {
-        return Err(Fail::new("many notes"));
-    }
-    let Ok(end) = lay_out(sizes, notes.as_mut_slice()) else {
-        return Err(Fail::new("no places"));
-    };
-    let Ok(store) = Store::open(alloc, MemDisk::new(alloc), 1000, sizes, archives) else {
-        return Err(Fail::new("no store"));
-    };
-    match write_lines(alloc, store, notes, end, drain) {
-        (disk, Ok(())) => Ok(disk),
-        (_, Err(_)) => Err(Fail::new("not written")),
-    }
+    let lines = lines_of(alloc, payloads)?;
+    let (disk, _receipts) = logged(rt, alloc, way, lines)?;
+    Ok(disk)
 }
 
 // The same, and neither archives nor drains.
-fn written(alloc: Global, lines: &[Mutation], capacity: u32) -> Result<MemDisk, Fail>
-    requires { AllByRecursion IsWithinLimits lines.now }
-{
-    written_to(alloc, lines, capacity, false, false)
+fn written<R: Threads + Wait + Sync>(
+    rt: &R,
+    alloc: Global,
+    payloads: &[&[u8]],
+    capacity: u32,
+) -> Result<MemDisk, Fail> {
+    written_to(rt, alloc, payloads, capacity, false, false)
 }
 
 #[test]
 fn two_lines_are_one_section(rt: HostRuntime) -> Result<(), Fail> {
-    let lines = lines_of(rt.alloc(), [DELETION, DELETION].as_slice())?;
-    let mut disk = written(rt.alloc(), lines.as_slice(), 33554432)?;
+    let two = [DELETION, DELETION];
+    let mut disk = written(&rt, rt.alloc(), two.as_slice(), 33554432)?;
     assert_eq!(rt; disk.list()?.as_slice(), [segment_name(1000)].as_slice());
     let bytes = disk.read(&segment_name(1000), 0, 1000)?;
     assert_eq!(rt; bytes.as_slice(), BOTH.as_slice());
@@ -111,9 +100,8 @@ fn an_entry_that_does_not_fit_is_in_the_next_segment(rt: HostRuntime) -> Result<
     let second = value_of(rt.alloc(), 1936)?;
     let third = value_of(rt.alloc(), 60)?;
     let payloads = [first.as_slice(), second.as_slice(), third.as_slice()];
-    let lines = lines_of(rt.alloc(), payloads.as_slice())?;
     // Entries of 2000, 1972 and 96 bytes: the third would end at the capacity.
-    let mut disk = written(rt.alloc(), lines.as_slice(), 4096)?;
+    let mut disk = written(&rt, rt.alloc(), payloads.as_slice(), 4096)?;
     assert_eq!(rt; disk.len(&segment_name(1000))?, 4000);
     assert_eq!(rt; disk.len(&segment_name(1001))?, 124);
     let front = disk.read(&segment_name(1001), 0, 28)?;
@@ -123,16 +111,15 @@ fn an_entry_that_does_not_fit_is_in_the_next_segment(rt: HostRuntime) -> Result<
 
 #[test]
 fn no_lines_make_no_segment(rt: HostRuntime) -> Result<(), Fail> {
-    let lines = lines_of(rt.alloc(), [].as_slice())?;
-    let mut disk = written(rt.alloc(), lines.as_slice(), 4096)?;
+    let mut disk = written(&rt, rt.alloc(), [].as_slice(), 4096)?;
     assert_eq!(rt; disk.list()?.len(), 0);
     Ok(())
 }
 
 #[test]
 fn a_drain_leaves_a_table_file(rt: HostRuntime) -> Result<(), Fail> {
-    let lines = lines_of(rt.alloc(), [DELETION, DELETION].as_slice())?;
-    let mut disk = written_to(rt.alloc(), lines.as_slice(), 33554432, false, true)?;
+    let two = [DELETION, DELETION];
+    let mut disk = written_to(&rt, rt.alloc(), two.as_slice(), 33554432, false, true)?;
     assert_eq!(rt;
         disk.list()?.as_slice(),
         [table_name(Table(0), 1)].as_slice()
@@ -144,8 +131,8 @@ fn a_drain_leaves_a_table_file(rt: HostRuntime) -> Result<(), Fail> {
 
 #[test]
 fn a_drain_that_archives_leaves_the_segment_besides(rt: HostRuntime) -> Result<(), Fail> {
-    let lines = lines_of(rt.alloc(), [DELETION, DELETION].as_slice())?;
-    let mut disk = written_to(rt.alloc(), lines.as_slice(), 33554432, true, true)?;
+    let two = [DELETION, DELETION];
+    let mut disk = written_to(&rt, rt.alloc(), two.as_slice(), 33554432, true, true)?;
     let names = [archive_name(1000), table_name(Table(0), 1)];
     assert_eq!(rt; disk.list()?.as_slice(), names.as_slice());
     let bytes = disk.read(&archive_name(1000), 0, 1000)?;
@@ -157,8 +144,8 @@ fn a_drain_that_archives_leaves_the_segment_besides(rt: HostRuntime) -> Result<(
 fn a_drained_segment_of_two_tables_goes_behind_both_their_files(
     rt: HostRuntime,
 ) -> Result<(), Fail> {
-    let lines = lines_of(rt.alloc(), [DELETION, OTHER].as_slice())?;
-    let mut disk = written_to(rt.alloc(), lines.as_slice(), 33554432, false, true)?;
+    let two = [DELETION, OTHER];
+    let mut disk = written_to(&rt, rt.alloc(), two.as_slice(), 33554432, false, true)?;
     let names = [table_name(Table(0), 1), table_name(Table(1), 1)];
     assert_eq!(rt; disk.list()?.as_slice(), names.as_slice());
     Ok(())

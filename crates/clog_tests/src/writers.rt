@@ -1,11 +1,9 @@
 //! Writers over a disk in memory. The lines are equal, so that the bytes are the same whoever
 //! claims first; they were worked out by hand and by Python's struct and zlib.
+use crate::logged::{Way, logged};
 use crate::payloads::{DELETION, lines_of};
-use clog_base::{Sizes, Table, segment_name, table_name};
+use clog_base::{Table, segment_name, table_name};
 use clog_disk::{Disk, MemDisk};
-use clog_io::{FixedClock, OpenGate};
-use clog_store::Store;
-use clog_writers::{Syncing, make_plan, write_plan};
 use std::alloc::Global;
 use std::sync::Wait;
 use std::test::Fail;
@@ -35,8 +33,7 @@ const TABLE: [u8; 58] = [
     0x00, 0x00, 0x00, 0x00, 0x05, 0x00, 0x58, 0x4f, 0x3f, 0xb8,
 ];
 
-// So many writers log three deletions to an empty disk in a mode, and drain it or not. It is opened
-// at 1000 ms, and the clock stands at 1010 ms.
+// So many writers log three deletions in a mode, and drain them or not.
 fn three_by<R: Threads + Wait + Sync>(
     rt: &R,
     alloc: Global,
@@ -44,29 +41,15 @@ fn three_by<R: Threads + Wait + Sync>(
     mode: SyncCore,
     drain: bool,
 ) -> Result<(MemDisk, Vec<Receipt>), Fail> {
-    let lines = lines_of(alloc, [DELETION, DELETION, DELETION].as_slice())?;
-    let Some(sizes) = Sizes::make(16, writers, 4096, 2147483647) else {
-        return Err(Fail::new("no sizes"));
-    };
-    if lines.len() > 1000 {
-        return Err(Fail::new("many lines"));
-    }
-    let Ok(store) = Store::open(alloc, MemDisk::new(alloc), 1000, sizes, false) else {
-        return Err(Fail::new("no store"));
-    };
-    let Ok(plan) = make_plan(alloc, sizes, lines) else {
-        return Err(Fail::new("no plan"));
-    };
-    let syncing = Syncing {
+    let way = Way {
+        writers,
         mode,
-        since_ms: 1000,
+        capacity: 4096,
+        archives: false,
+        drain,
     };
-    let gate = OpenGate::new();
-    let clock = FixedClock::new(1010);
-    match write_plan(rt, alloc, store, sizes, syncing, &gate, &clock, plan, drain) {
-        (disk, Ok(receipts)) => Ok((disk, receipts)),
-        (_, Err(_)) => Err(Fail::new("not written")),
-    }
+    let lines = lines_of(alloc, [DELETION, DELETION, DELETION].as_slice())?;
+    logged(rt, alloc, way, lines)
 }
 
 // Where the lines' entries end, and which lines they are of.

@@ -41,12 +41,12 @@ use Rattle.clog_store.specs.StoreState.{
   holding_of,
   store_over,
 }
-use Rattle.clog_layout.specs.Laid.{synced_to}
+use Rattle.clog_layout.specs.Ends.{synced_to}
 use Rattle.clog_closing.specs.Stores.{files_by, ids_in}
 use Rattle.clog_closing.proofs.StoreNames.{brings_but_one}
-use Rattle.clog_lines.specs.Drained.{HasBegun, HasNoDeeds, KeepsLog}
-use Rattle.clog_lines.specs.Written.{AreMadeFor, BringsOnly, HasBrought, HasGoneInOrder}
-use Rattle.clog_lines.proofs.Begun.{
+use Rattle.clog_closing.specs.Drained.{HasBegun, HasNoDeeds, KeepsLog}
+use Rattle.clog_closing.specs.Written.{AreMadeFor, BringsOnly, HasBrought, HasGoneInOrder}
+use Rattle.clog_closing.proofs.Begun.{
   are_true,
   brings,
   comes_last,
@@ -54,9 +54,9 @@ use Rattle.clog_lines.proofs.Begun.{
   run_changes,
   stands,
 }
-use Rattle.clog_lines.proofs.Brought.{written_by}
-use Rattle.clog_lines.proofs.Synced.{none_done}
-use Rattle.clog_lines.proofs.Written.{told_of}
+use Rattle.clog_closing.proofs.Brought.{written_by}
+use Rattle.clog_closing.proofs.Fresh.{none_done}
+use Rattle.clog_closing.proofs.Leaving.{told_of}
 use Rattle.write_path.specs.Closed.{PassesNoSegment}
 use Rattle.clog_writers.specs.Logged.{GoesOnAlone, HoldFirsts, HoldShares, LogsShares}
 use Rattle.clog_writers.proofs.LastEnd.{up_to_last}

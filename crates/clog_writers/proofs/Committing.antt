@@ -51,7 +51,7 @@ use Rattle.path_rule.specs.declared.answer.SyncAnswer.{SyncAnswer}
 use Rattle.path_rule.specs.declared.answer.SyncAnswer.TheVariants as sync
 use Rattle.path_rule.specs.declared.trying.PathSeat.{PathSeat}
 use Rattle.path_rule.specs.declared.view.OwnStep.{OwnStep}
-use Rattle.clog_layout.proofs.Standing.{pairs_none}
+use Rattle.clog_layout.proofs.Pairs.{pairs_none}
 use Rattle.path_rule.specs.declared.view.PathSize.{PathSize}
 use Rattle.path_rule.specs.declared.view.View.{View}
 use Rattle.path_rule.specs.Finds.{Finds}

@@ -69,8 +69,8 @@ use Rattle.clog_layout.specs.Logged.{AreEntriesOf, AreNotesOf}
 use Rattle.clog_layout.proofs.Lines.{are_notes, lines_for}
 use Rattle.clog_closing.proofs.Logs.{payload_is, places_are}
 use Rattle.clog_closing.proofs.Tables.{note_of_line}
-use Rattle.clog_lines.specs.Written.{GoesBeyond, HasBrought}
-use Rattle.clog_lines.proofs.Showing.{
+use Rattle.clog_closing.specs.Written.{GoesBeyond, HasBrought}
+use Rattle.clog_closing.proofs.Showing.{
   noted_payload,
   of_log,
   of_places,

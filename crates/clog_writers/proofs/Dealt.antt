@@ -39,7 +39,7 @@ use Rattle.clog_base.proofs.Members.{all_more}
 use Rattle.clog_mutation.specs.declared.mutation.Mutation.{Mutation}
 use Rattle.clog_applied.specs.History.{Line, is_for, numbered, share_of}
 use Rattle.clog_applied.proofs.Lists.{kept_one, left_one}
-use Rattle.clog_lines.specs.Fitting.{HasFittingEntry}
+use Rattle.clog_writers.specs.Fitting.{HasFittingEntry}
 use Rattle.write_path.specs.declared.prepared.Prepared.{Prepared}
 use Rattle.write_path.specs.Writes.{IsPrepared}
 use Rattle.clog_writers.specs.declared.fault.PlanFault.{PlanFault}

@@ -41,9 +41,9 @@ use Rattle.clog_store.specs.StoreState.{
   holding_of,
 }
 use Rattle.clog_closing.specs.Gaps.{StandApart}
-use Rattle.clog_lines.specs.Drained.{IsDrainedAs}
-use Rattle.clog_lines.proofs.Dropped.{StoresAreLeft}
-use Rattle.clog_lines.proofs.Synced.{none_done}
+use Rattle.clog_closing.specs.Drained.{IsDrainedAs}
+use Rattle.clog_closing.proofs.Dropped.{StoresAreLeft}
+use Rattle.clog_closing.proofs.Fresh.{none_done}
 use Rattle.write_path.specs.declared.commit.Receipt.{Receipt}
 use Rattle.clog_writers.specs.Logged.{LogsShares}
 use Rattle.clog_writers.specs.Placed.{AreAtTheirLines}

@@ -24,7 +24,7 @@ use Rattle.clog_base.proofs.Members.{first_or_further, further, here, nothing_th
 use Rattle.path_core.specs.declared.note.EntryNote.{EntryNote}
 use Rattle.path_core.specs.History.{IsHistory}
 use Rattle.path_core.proofs.lists.Heads.{ahead, behind}
-use Rattle.clog_layout.specs.Laid.{end_behind, synced_to}
+use Rattle.clog_layout.specs.Ends.{end_behind, synced_to}
 
 abbrev Before : EntryNote → EntryNote → Type 0
 Before a b = a.end.0 ≤ b.start.0

@@ -53,7 +53,7 @@ use Rattle.clog_applied.specs.Asked.{capacity_of}
 use Rattle.clog_applied.specs.Closed.{IsClosedPath, IsStoreLeft}
 use Rattle.clog_applied.specs.History.{IsLawful, LoggedLine, share_of, written_by}
 use Rattle.clog_applied.specs.Onward.{ReachesNoFurther}
-use Rattle.clog_layout.specs.Laid.{synced_to}
+use Rattle.clog_layout.specs.Ends.{synced_to}
 use Rattle.clog_layout.specs.Logged.{AreNotesOf}
 use Rattle.clog_layout.proofs.Lines.{are_notes, lawful, lines_for}
 use Rattle.clog_closing.specs.Stores.{dropped_ids, files_by, ids_in}
@@ -63,10 +63,10 @@ use Rattle.clog_closing.proofs.Apart.{synced_apart}
 use Rattle.clog_closing.proofs.LogAlone.{is_left}
 use Rattle.clog_closing.proofs.NextNames.{next_names}
 use Rattle.clog_closing.proofs.Tables.{note_of_line}
-use Rattle.clog_lines.specs.Drained.{HasDrained}
-use Rattle.clog_lines.proofs.Dropped.{StoresAreLeft, store_files, store_left}
-use Rattle.clog_lines.proofs.Filing.{AreFileable, AreFilesFor, no_files}
-use Rattle.clog_lines.proofs.Leaving.{all_brought, in_order, tells_now}
+use Rattle.clog_closing.specs.Drained.{HasDrained}
+use Rattle.clog_closing.proofs.Dropped.{StoresAreLeft, store_files, store_left}
+use Rattle.clog_closing.proofs.Filing.{AreFileable, AreFilesFor, no_files}
+use Rattle.clog_closing.proofs.Leaving.{all_brought, in_order, tells_now}
 use Rattle.write_path.specs.declared.commit.Receipt.{Receipt}
 use Rattle.write_path.specs.Closed.{PassesNoSegment}
 use Rattle.clog_writers.specs.Logged.{HoldShares, is_note_of}

@@ -27,7 +27,7 @@ use Rattle.clog_store.specs.Grows.{segments_with}
 use Rattle.clog_store.specs.Life.{LastsNow, ShownSince, lasting_in}
 use Rattle.clog_store.specs.NoteLog.{IsNoteLog, NoteState}
 use Rattle.clog_store.specs.StoreState.{StoreState}
-use Rattle.clog_lines.specs.Written.{GoesBeyond, HasBrought}
+use Rattle.clog_closing.specs.Written.{GoesBeyond, HasBrought}
 use Rattle.clog_writers.specs.declared.fault.WriteFault.{WriteFault}
 use Rattle.clog_writers.specs.Left.{LeavesShares, least_of}
 use Rattle.clog_writers.specs.Logged.{HoldFirsts, HoldShares}

@@ -26,7 +26,7 @@ use Rattle.std.proofs.Common.{
   inl,
   inr,
 }
-use Rattle.std.specs.Prelude.{Bool, Contains, Option}
+use Rattle.std.specs.Prelude.{Contains}
 use Rattle.std.specs.List.{filter, flat_map}
 use Rattle.std.proofs.lemmas.Bool.Decides.{nat_tests}
 use Rattle.std.proofs.lemmas.List.{
@@ -39,13 +39,11 @@ use Rattle.std.proofs.lemmas.List.{
 }
 use Rattle.std.proofs.lemmas.List.Elements.{Contains-append_left, filter-append}
 use Rattle.clog_base.proofs.Members.{first_or_further, nothing_there}
-use Rattle.clog_disk.specs.declared.change.Change.{Change}
 use Rattle.clog_disk.specs.Files.{Files, bytes_at}
-use Rattle.clog_disk.proofs.Moments.{weakened}
 use Rattle.clog_mutation.specs.declared.mutation.Mutation.{Mutation}
 use Rattle.clog_mutation.specs.Payload.{cells_of, payload_of}
 use Rattle.clog_crash.specs.Covering.{Either, SameMerge}
-use Rattle.clog_crash.specs.Log.{NoChances, Write, entries_in}
+use Rattle.clog_crash.specs.Log.{Write, entries_in}
 use Rattle.clog_crash.specs.Readings.{Reading, RestoresIn}
 use Rattle.clog_crash.specs.Runs.{Placed, placed_of}
 use Rattle.clog_applied.specs.History.{
@@ -59,17 +57,9 @@ use Rattle.clog_applied.specs.History.{
   written_by,
 }
 use Rattle.clog_closing.proofs.Segments.{placed_line}
-use Rattle.clog_lines.specs.Written.{LeavesLines, RestoresLines, SaysFirst, WritesLines}
-use Rattle.clog_lines.proofs.Showing.{of_log, payload_at, placed_payload}
-use Rattle.clog_writers.specs.Left.{
-  AreFirstLines,
-  HoldsFirsts,
-  LeavesShares,
-  RestoresShares,
-  SaysShares,
-  WritesShares,
-  said_by,
-}
+use Rattle.clog_closing.specs.Written.{RestoresLines, SaysFirst}
+use Rattle.clog_closing.proofs.Showing.{of_log, payload_at, placed_payload}
+use Rattle.clog_writers.specs.Left.{AreFirstLines, HoldsFirsts, RestoresShares, SaysShares, said_by}
 use Rattle.clog_writers.proofs.Firsts.{all_pass}
 
 -- ---- the first of a history
@@ -277,44 +267,3 @@ by_one_writer ms log said =
       record { holds = holds; says = sym (placed_back 1 ps first is) },
       said_back 1 ps first is,
     )
-
--- What one writer's lines leave, as of a history.
-pub shares_of_lines : {D : Type 0} (changes : D → Option (List Change)) (moment : D → ℕ)
-    (since : D → ℕ → Files → Type 0) (leaves : D → List ℕ → Option (List ℕ) → Type 0)
-    (before now : D) (r : Reading) (base : ℕ) (archives drain : Bool) (ms : List Mutation)
-    (least : ℕ) → LeavesLines changes moment since leaves before now r base archives drain ms least
-    → LeavesShares changes moment since leaves before now r base archives drain 1 ms least
-shares_of_lines changes moment since leaves before now r base archives drain ms least lines =
-    let said = take lines.says.count ms in
-    let by = by_one_writer ms lines.log lines.says in
-    let history = by.0 in
-    let back = λ (n : ℕ) (image : Files) (has : RestoresLines r said n image).
-    subst (λ (l : List Mutation). RestoresLines r l n image) (sym by.2) has in
-    record {
-      log = lines.log;
-      history = history;
-      wrote = lines.wrote;
-      says = by.1;
-      meanwhile = weakened moment since before now
-          (λ image. NoChances lines.log image → RestoresLines r said 0 image)
-          (λ image. NoChances lines.log image → RestoresShares r history 0 image)
-          lines.meanwhile (λ image has none. back 0 image (has none));
-      at_last = λ image left none. back least image (lines.at_last image left none);
-      at_drain = λ beyond image left none.
-          back (length ms) image (lines.at_drain beyond image left none);
-    }
-
--- What one writer's lines were appended as, of a history, whatever was answered.
-pub shares_written : {D : Type 0} (files : D → Option Files) (changes : D → Option (List Change))
-    (before now : D) (base : ℕ) (archives drain : Bool) (ms : List Mutation)
-    → WritesLines files changes before now base archives drain ms
-    → WritesShares files changes before now base archives drain 1 ms
-shares_written files changes before now base archives drain ms lines =
-    let by = by_one_writer ms lines.log lines.says in
-    record {
-      log = lines.log;
-      history = by.0;
-      wrote = lines.wrote;
-      says = by.1;
-      only = lines.only;
-    }

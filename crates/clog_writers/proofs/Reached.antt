@@ -21,13 +21,13 @@ use Rattle.clog_memtable.specs.Touched.{AreMemtablesOf}
 use Rattle.clog_applied.specs.Asked.{capacity_of}
 use Rattle.clog_applied.specs.History.{IsLawful, LoggedLine}
 use Rattle.clog_applied.specs.Onward.{ReachesNoFurther}
-use Rattle.clog_layout.specs.Laid.{synced_to}
+use Rattle.clog_layout.specs.Ends.{synced_to}
 use Rattle.clog_layout.specs.Logged.{AreNotesOf}
 use Rattle.clog_closing.specs.Stores.{ids_in}
 use Rattle.clog_closing.proofs.Ends.{ends_with, ids_rise}
 use Rattle.clog_closing.proofs.Logs.{is_appended}
-use Rattle.clog_lines.proofs.Leaving.{in_order}
-use Rattle.clog_lines.proofs.Reaches.{reaches, reaches_drained}
+use Rattle.clog_closing.proofs.Leaving.{in_order}
+use Rattle.clog_closing.proofs.Reaches.{reaches, reaches_drained}
 use Rattle.write_path.specs.Closed.{PassesNoSegment}
 use Rattle.write_path.proofs.NonePassed.{begins_first}
 use Rattle.clog_writers.specs.Written.{BeginsIn}

@@ -23,7 +23,7 @@ use Rattle.clog_crash.specs.Log.{NoChances, Write}
 use Rattle.clog_crash.specs.Readings.{Reading}
 use Rattle.clog_crash.specs.Runs.{placed_of}
 use Rattle.clog_applied.specs.History.{Line, LoggedLine, entry_of, share_of, written_by}
-use Rattle.clog_lines.specs.Written.{BringsOnly, GoesBeyond, HasBrought, RestoresLines}
+use Rattle.clog_closing.specs.Written.{BringsOnly, GoesBeyond, HasBrought, RestoresLines}
 use Rattle.clog_writers.specs.declared.fault.WriteFault.{WriteFault}
 
 -- The first of these lines, in order.

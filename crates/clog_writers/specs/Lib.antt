@@ -1,3 +1,4 @@
+pub mod Fitting
 pub mod Shares
 pub mod Crews
 pub mod Sealing

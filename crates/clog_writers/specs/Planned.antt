@@ -18,7 +18,7 @@ use Rattle.std.specs.List.{AllByRecursion}
 use Rattle.clog_base.specs.declared.sizes.Sizes.{Sizes}
 use Rattle.clog_mutation.specs.declared.mutation.Mutation.{Mutation}
 use Rattle.clog_notes.specs.Entries.{IsTooLarge}
-use Rattle.clog_lines.specs.Fitting.{HasFittingEntry, HasLargeMutation}
+use Rattle.clog_writers.specs.Fitting.{HasFittingEntry, HasLargeMutation}
 use Rattle.write_path.specs.declared.prepared.Prepared.{Prepared}
 use Rattle.write_path.specs.Writes.{IsPrepared}
 use Rattle.clog_writers.specs.declared.fault.PlanFault.{PlanFault}

@@ -3,8 +3,8 @@
 //! by the path alone, so the memory for their cells is asked for behind them.
 ghost use Rattle.std.specs.Prelude.{◌≡◌, ◌⊎◌, ℕ, None, OnOk, Some, false, true};
 ghost use Rattle.clog_io.specs.Causes.{Rose};
-ghost use Rattle.clog_layout.specs.Laid.{synced_to};
-ghost use Rattle.clog_lines.specs.Drained.{
+ghost use Rattle.clog_layout.specs.Ends.{synced_to};
+ghost use Rattle.clog_closing.specs.Drained.{
   EndsAs,
   HasBegun,
   HasDrained,
@@ -23,8 +23,8 @@ ghost use Rattle.clog_writers.specs.Written.{refused_as};
 
 use crate::fault::WriteFault;
 use clog_base::{Key, OutOfMemory};
+use clog_closing::drain;
 use clog_disk::Disk;
-use clog_lines::drain;
 use clog_memtable::memtables_of;
 use clog_store::Store;
 use path_core::{EntryNote, KeeperFault};

@@ -1,11 +1,11 @@
-//! What a crash leaves of lines that several writers log, said of one writer.
+//! What a crash leaves of lines that writers log, said of one writer.
 ghost use Rattle.std.specs.Prelude.{◌≡◌, ◌<◌, ◌≤◌, ℕ, List, take};
 ghost use Rattle.std.specs.List.{AllPairs};
 ghost use Rattle.clog_disk.specs.Files.{Files, bytes_at};
 ghost use Rattle.clog_mutation.specs.declared.mutation.Mutation.{Mutation};
 ghost use Rattle.clog_applied.specs.History.{LoggedLine};
 ghost use Rattle.clog_crash.specs.Log.{Write};
-ghost use Rattle.clog_lines.specs.Written.{RestoresLines, SaysFirst};
+ghost use Rattle.clog_closing.specs.Written.{RestoresLines, SaysFirst};
 ghost use Rattle.clog_writers.specs.Left.{HoldsFirsts, RestoresShares, SaysShares, said_by};
 
 /// What an image restores of a history are again the first of each writer's lines.

@@ -5,7 +5,6 @@ use Rattle.std.proofs.Common.{
   Option,
   arith,
   inl,
-  inr,
   length,
   sym,
   subst,
@@ -129,19 +128,13 @@ returns-clause-applies g c left left_now f h ms planned =
     before c.args.lines.cells ms c.in-Ok.ensures.gives.ordered planned.cells
     c.in-Ok-pending.ensures.rows text in (
       record {
-        by_one = λ one. elim c.requires.writers [
-          | inl several ↦ absurd (let alone = one.one_writer in omega (arith, alone, several))
-          | inr other ↦ absurd (other one.periodic)
-        ];
-        by_several = λ writers_are. record {
-          sizes = sizes;
-          sizes_are = c.requires.sizes;
-          base = base;
-          receipts = receipts.items;
-          logged = logged;
-          cells = before;
-          text = is;
-        };
+        sizes = sizes;
+        sizes_are = c.requires.sizes;
+        base = base;
+        receipts = receipts.items;
+        logged = logged;
+        cells = before;
+        text = is;
       },
       turns_shares g.D.Disk g.C.Clock left left_now f h start looked at only still opened
           c.now_ms-opened_ms.result base opening.opens opening.any_moment opening.recovers now options ms

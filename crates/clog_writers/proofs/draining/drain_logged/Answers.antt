@@ -8,9 +8,9 @@ use Rattle.clog_memtable.specs.declared.flushing.Memtable.{Memtable}
 use Rattle.clog_memtable.specs.Flushing.{MayFlush}
 use Rattle.clog_memtable.specs.Touched.{AreMemtablesOf}
 use Rattle.clog_store.specs.StoreState.{holding_of}
-use Rattle.clog_layout.specs.Laid.{synced_to}
-use Rattle.clog_lines.specs.Drained.{ReachTo}
-use Rattle.clog_lines.proofs.Begins.{begun_of_none, reach_of}
+use Rattle.clog_layout.specs.Ends.{synced_to}
+use Rattle.clog_closing.specs.Drained.{ReachTo}
+use Rattle.clog_closing.proofs.Begins.{begun_of_none, reach_of}
 use Rattle.clog_writers.proofs.LastEnd.{last_below}
 use Rattle.clog_writers.proofs.MayFlush.{may_flush_to}
 use Rattle.clog_writers.proofs.draining.drain_logged.Goals as goal

@@ -10,7 +10,7 @@ use Rattle.path_core.specs.Keeper.{Holding, IsFresh}
 use Rattle.clog_closing.specs.Gaps.{StandApart}
 use Rattle.clog_store.specs.Life.{lasting_in}
 use Rattle.clog_store.specs.StoreState.{holding_of}
-use Rattle.clog_lines.proofs.Synced.{is_fresh}
+use Rattle.clog_closing.proofs.Fresh.{is_fresh}
 use Rattle.write_path.specs.declared.commit.Receipt.{Receipt}
 use Rattle.clog_writers.specs.Left.{WritesShares, least_of}
 use Rattle.clog_writers.specs.Placed.{AreAtTheirLines}

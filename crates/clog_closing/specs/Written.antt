@@ -1,0 +1,126 @@
+-- What is left where lines were written to a store.
+use Rattle.std.specs.Prelude.{
+  ◌≡◌,
+  ◌⊎◌,
+  ◌<◌,
+  ◌≤◌,
+  ℕ,
+  ◌++◌,
+  List,
+  [],
+  ◌∷◌,
+  length,
+  map,
+  take,
+  Bool,
+  true,
+  Contains,
+  Option,
+  Some,
+  option_map,
+}
+use Rattle.std.specs.List.{AllPairs, flat_map}
+use Rattle.clog_spec.specs.Names.{segment_name_of}
+use Rattle.clog_disk.specs.declared.change.Change.{Change}
+use Rattle.clog_disk.specs.Files.{Files, bytes_at}
+use Rattle.clog_mutation.specs.declared.mutation.Mutation.{Mutation}
+use Rattle.clog_mutation.specs.Payload.{cells_of, payload_of}
+use Rattle.clog_scan.specs.Cut.{Section}
+use Rattle.clog_scan.specs.Segment.{Entry}
+use Rattle.clog_table.specs.declared.table_file.TableFile.{TableFile}
+use Rattle.clog_crash.specs.Covering.{Either, SameMerge}
+use Rattle.clog_crash.specs.Grown.{Append, appends_of, grown}
+use Rattle.clog_crash.specs.Log.{Write, entries_in}
+use Rattle.clog_crash.specs.Readings.{Reading, RestoresIn}
+use Rattle.clog_crash.specs.Restore.{IsUndamaged}
+use Rattle.clog_crash.specs.Sections.{segment_bytes}
+use Rattle.clog_store.specs.Grows.{AreAppends, IsAppend}
+use Rattle.clog_applied.specs.Appended.{IsAppended}
+use Rattle.clog_applied.specs.Closed.{IsAnyFile}
+use Rattle.clog_applied.specs.Early.{AreInOrder, AreRunChanges, ComeLast}
+use Rattle.clog_applied.specs.Filed.{BringsNoOther, IsTrueFor}
+use Rattle.clog_applied.specs.History.{LoggedLine, share_of, written_by}
+use Rattle.clog_closing.specs.Logs.{id_of}
+
+-- The entries of a log are those of the first of these lines, in order.
+pub record SaysFirst (log : List Write) (mutations : List Mutation) : Type 0 where
+  pub count : ℕ
+  pub says : map (λ (e : Entry). e.payload) (entries_in log)
+      ≡ map payload_of (take count mutations)
+
+-- The image restores what was restored before, and the first of these lines, at least so many. It
+-- is not damaged.
+pub record RestoresLines (r : Reading) (mutations : List Mutation) (least : ℕ) (image : Files)
+    : Type 0 where
+  pub n : ℕ
+  pub enough : least ≤ n
+  pub some : n ≤ length mutations
+  pub restores :
+      SameMerge (RestoresIn (bytes_at image))
+      (Either (RestoresIn r) (Contains (flat_map cells_of (take n mutations))))
+  pub undamaged : IsUndamaged image
+
+-- These bytes are those of a segment of a log but for its last section, and no other segment of the
+-- log has a greater id.
+pub record LacksLast (log : List Write) (w : Write) (bytes : List ℕ) : Type 0 where
+  pub front : List Section
+  pub torn : Section
+  pub sections_are : w.sections ≡ front ++ torn ∷ []
+  pub bytes_are : bytes ≡ segment_bytes w.id front
+  pub last : (other : Write) → Contains log other → other.id ≤ w.id
+
+-- The appends have brought these segments, the last of them perhaps but for its last section, and
+-- nothing else.
+pub record IsWrittenBy (appends : List Append) (log : List Write) : Type 0 where
+  pub each : (w : Write) → Contains log w
+      → (grown appends (segment_name_of 6 w.id) ≡ segment_bytes w.id w.sections)
+      ⊎ LacksLast log w (grown appends (segment_name_of 6 w.id))
+  pub only : (a : Append) → Contains appends a
+      → (w : Write) × Contains log w × (0 < length w.sections) × (a.0 ≡ segment_name_of 6 w.id)
+
+-- Changes by which a drain has begun: the entries of all lines were appended, each by its writer and
+-- each writer's in order, and then some table files have come, which are true, and segments gone,
+-- each in its turn. Nothing else was changed.
+pub record HasGoneInOrder (archives : Bool) (writers : ℕ) (mutations : List Mutation)
+    (changes : List Change) : Type 0 where
+  pub ids : List ℕ
+  pub history : List LoggedLine
+  pub files : List TableFile
+  pub known : (w : LoggedLine) → Contains history w → w.writer < writers
+  pub shares : (writer : ℕ) → writer < writers
+      → written_by writer history ≡ share_of writers writer mutations
+  pub is_appended : IsAppended changes ids history
+  pub order : AreInOrder IsAnyFile archives changes ids history files
+  pub only : AreRunChanges archives ids files changes
+  pub last : ComeLast changes history
+  pub are_true : (file : TableFile) → Contains files file → IsTrueFor history file
+
+-- Changes by which writers log lines: appends alone, or those of a drain that has begun.
+abbrev pub AreMadeFor : Bool → Bool → ℕ → List Mutation → List Change → Type 0
+AreMadeFor archives drain writers mutations changes =
+    AreAppends changes ⊎ ((drain ≡ true) × HasGoneInOrder archives writers mutations changes)
+
+-- The appends among a disk's further changes since it was so have brought these segments, in the
+-- order of their ids, which begin at a base. The changes are those by which so many writers log the
+-- lines.
+pub record HasBrought {D : Type 0} (changes : D → Option (List Change)) (before now : D) (base : ℕ)
+    (archives drain : Bool) (writers : ℕ) (mutations : List Mutation) (log : List Write) : Type 0
+  where
+    pub added : List Change
+    pub changes_are : changes now ≡ option_map (λ made. made ++ added) (changes before)
+    pub made_for : AreMadeFor archives drain writers mutations added
+    pub brought : IsWrittenBy (appends_of added) log
+    pub rise : AllPairs (λ (a b : Write). a.id < b.id) log
+    pub above : (w : Write) → Contains log w → base ≤ w.id
+
+-- Where a disk tells its files, no other name has come since than those of these segments, their
+-- archive names and table files.
+abbrev pub BringsOnly : {D : Type 0} → (D → Option Files) → D → D → List Write → Type 0
+BringsOnly files before now log = (opened after : Files) → files before ≡ Some opened
+    → files now ≡ Some after → BringsNoOther (map id_of log) opened after
+
+-- one of the changes is no append
+pub record GoesBeyond (changes : List Change) : Type 0 where
+  pub change : Change
+  pub listed : Contains changes change
+  pub other : IsAppend change → ⊥

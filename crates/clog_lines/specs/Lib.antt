@@ -1,4 +1,0 @@
-pub mod Drained
-pub mod Fitting
-pub mod Worked
-pub mod Written
