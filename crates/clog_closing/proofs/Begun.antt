@@ -68,7 +68,6 @@ use Rattle.clog_applied.specs.Filed.{IsTrueFor}
 use Rattle.clog_applied.specs.History.{LoggedLine}
 use Rattle.clog_layout.specs.Ends.{synced_to}
 use Rattle.clog_layout.specs.Logged.{AreNotesOf}
-use Rattle.clog_layout.proofs.Pairs.{parted}
 use Rattle.clog_closing.specs.Stores.{GoesInOrder, files_by, ids_in}
 use Rattle.clog_closing.proofs.Logs.{is_appended}
 use Rattle.clog_closing.proofs.StoreOnly.{come_last, only}
