@@ -26,8 +26,8 @@ use std::alloc::{Allocator, Global};
 pub struct Outcome {
     /// Where the log ends.
     pub end: Key,
-    /// Of each table up to which key its memtables were switched: the final bound of the one that
-    /// was switched last, key 0 where none was.
+    /// Of each table up to which key its memtables were switched: the bound of the memtable below
+    /// the newest one, key 0 where there is none.
     pub bounds: TableBounds,
 }
 
