@@ -9,7 +9,8 @@ use crate::rolling::write_of;
 use clog_base::{Key, Position, Sizes, Table};
 use clog_cells::CellMap;
 use clog_io::OpenGate;
-use path_core::{EntryNote, Keeper, KeeperFault, ListKeeper, Turn};
+use path_core::{EntryNote, Keeper, KeeperFault, Turn};
+use path_machine::ListKeeper;
 use std::alloc::Global;
 use std::sync::Wait;
 use std::test::*;
@@ -55,11 +56,7 @@ impl Keeper for Unwilling {
 
 // A path in periodic mode, whose memtables may go to table files, over a keeper that refuses so
 // many.
-fn filing(
-    alloc: Global,
-    sizes: Sizes,
-    refusals: u32,
-) -> Result<WritePath<Unwilling, Global>, Fail>
+fn filing(alloc: Global, sizes: Sizes, refusals: u32) -> Result<WritePath<Unwilling, Global>, Fail>
     ensures sized { IfOk result (λ p. (sizes.tables ≡ p.table.size.tables)
         × (sizes.capacity ≡ p.table.size.capacity) × (p.table.size.files ≡ true)
         × IsSome p.opener) }
@@ -95,7 +92,14 @@ fn one_filing(
 fn two_filing(
     alloc: Global,
     sizes: Sizes,
-) -> Result<(WritePath<Unwilling, Global>, PathSeat<Unwilling>, PathSeat<Unwilling>), Fail>
+) -> Result<
+    (
+        WritePath<Unwilling, Global>,
+        PathSeat<Unwilling>,
+        PathSeat<Unwilling>,
+    ),
+    Fail,
+>
     ensures zero { IfOk result (λ r. IsOf r.0.table.table.shared.table_id r.0.table.size
         r.1.member) }
     ensures one { IfOk result (λ r. IsOf r.0.table.table.shared.table_id r.0.table.size
