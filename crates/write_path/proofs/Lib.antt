@@ -40,6 +40,7 @@ pub mod FlushGoes
 pub mod FlushTables
 pub mod FlushReadSteps
 pub mod FlushTrims
+pub mod FlushWaits
 pub mod FlushSwitching
 pub mod FlushTaking
 pub mod FlushBarring
