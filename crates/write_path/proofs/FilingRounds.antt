@@ -31,13 +31,13 @@ use Rattle.write_path.specs.declared.flush.Flush.TheVariants.{
 use Rattle.write_path.specs.FlushFilings.{
   AwaitsFile,
   FilingSteps,
+  IsFault,
   MayRefuse,
+  MayStop,
   Refused,
-  Retired,
   TriesFile,
   refused_round,
   unless_memory,
-  unless_retired,
 }
 use Rattle.write_path.specs.FlushGathers.{ReadsIt}
 use Rattle.write_path.proofs.FilingGoes.{none_retired, of_quiet, refused_behind, then_filing}
@@ -71,7 +71,7 @@ round_refuses w t opened v after (Some SyncOutOfMemory) is quiet A = record {
 }
 round_refuses w t opened v after (Some (SyncRows n)) is quiet A = record {
   steps = of_round w t A.puts v after quiet A.steps;
-  is = (A.now.0, A.now.1, (A.now.1 ∙ A.is.0.all, A.now.2));
+  is = (A.now.0, A.now.1, (A.now.1 ∙ A.is.0.all, A.now.2, A.now.3));
 }
 round_refuses w t opened v after None is quiet A = of_round w t [] v after quiet A
 
@@ -88,26 +88,17 @@ it_takes_none t m h q S r has =
 pub reads_none : (h : Hands) → h.reading ≡ None → TakesNone h
 reads_none h none q has = absurd (none-some q (sym none ∙ has))
 
--- ---- a memtable that was left
+-- ---- a drop of segments
 
-pub left_is : (w t m : ℕ) (v after : View) (a : Flush) → Retired w t m v a after
-    → MayRefuse w t v (unless_retired a) after
-left_is w t m v after (Flushed lower upper) R = R.steps
-left_is w t m v after (Empty key) R = R.steps
-left_is w t m v after (Busy found) R = absurd R.is
-left_is w t m v after (Rows row made) R = record { steps = R.steps; is = R.is }
-left_is w t m v after (Stopped at_open now) R = record { steps = R.steps; is = R.is }
-left_is w t m v after OutOfMemory R = record { steps = R.steps; is = tt }
-
--- a drop that the keeper wants memory for is not answered
-pub dropped_is : (w t : ℕ) (v after : View) (a : Flush) → Refused w t v a after
-    → MayRefuse w t v (unless_memory a) after
-dropped_is w t v after (Flushed lower upper) R = R
-dropped_is w t v after (Empty key) R = R
-dropped_is w t v after (Busy found) R = R
-dropped_is w t v after (Rows row made) R = R
-dropped_is w t v after (Stopped at_open now) R = R
-dropped_is w t v after OutOfMemory R = R.steps
+-- one that the keeper wants memory for is not answered
+pub dropped_is : (w t : ℕ) (v after : View) (a : Flush) → Refused w t v a after → IsFault a
+    → MayStop w t v (unless_memory a) after
+dropped_is w t v after (Flushed lower upper) R fault = absurd fault
+dropped_is w t v after (Empty key) R fault = absurd fault
+dropped_is w t v after (Busy found) R fault = absurd fault
+dropped_is w t v after (Rows row made) R fault = absurd fault
+dropped_is w t v after (Stopped at_open now) R fault = R
+dropped_is w t v after OutOfMemory R fault = R.steps
 
 -- ---- a try to file behind looks at the cursors
 

@@ -1,8 +1,9 @@
 -- What a flush answers, put together from the steps of its parts.
-use Rattle.std.proofs.Common.{◌≡◌, ℕ, ◌+◌, length, List, ◌++◌, inl, refl, sym, ap, ◌∙◌, subst, arith}
+use Rattle.std.proofs.Common.{◌≡◌, ℕ, ◌+◌, length, List, ◌++◌, Some, inl, inr, ⊎_elim, refl, sym, ap, ◌∙◌, subst, arith}
+use Rattle.std.proofs.lemmas.Option.{none-some, same_Some}
 use Rattle.clog_base.specs.declared.cell.Table.{Table}
 use Rattle.op_core.specs.declared.count.Order.TheVariants.{Append, Write}
-use Rattle.path_core.specs.declared.event.Cursor.TheVariants.{Stopped as StoppedCursor}
+use Rattle.path_core.specs.declared.event.Cursor.TheVariants.{OldestLive, Stopped as StoppedCursor}
 use Rattle.path_core.specs.declared.event.Event.TheVariants.{Look}
 use Rattle.path_core.specs.declared.event.Place.TheVariants.{
   Current,
@@ -34,20 +35,29 @@ use Rattle.write_path.specs.declared.switch.Row.TheVariants.{
 }
 use Rattle.write_path.specs.Flushed.{Flushes, GotTurn, IsFlush}
 use Rattle.write_path.specs.FlushFilings.{
-  IsRefused,
   IsRetired,
-  Refused,
   Retired,
+  unless_retired,
 }
-use Rattle.write_path.specs.FlushSteps.{Finalises, FlushSteps, QuietSteps, RetiresFiled}
+use Rattle.write_path.specs.FlushSteps.{
+  Finalises,
+  FlushSteps,
+  QuietSteps,
+  RetiresFiled,
+  RetiresNone,
+  SwitchesNone,
+  UnswitchedSteps,
+}
 use Rattle.write_path.specs.FlushTurns.{FindsMemtables}
-use Rattle.write_path.proofs.FilingGoes.{filed_behind, is_before, refused_on}
+use Rattle.write_path.proofs.FilingGoes.{filed_behind, is_before, one_newer}
 use Rattle.write_path.proofs.FinalKeys.{same_final}
 use Rattle.write_path.proofs.FlushBarring.{final_before, final_behind}
 use Rattle.write_path.proofs.FlushGoes.{next, one, same_list, still_wrote}
+use Rattle.write_path.proofs.FlushWaits.{waits_all, waits_behind, waits_none}
 use Rattle.write_path.proofs.SwitchGoes.{
   bound_behind,
   bound_set,
+  kept_both,
   none_both,
   retires_behind,
   then_quiet,
@@ -71,31 +81,49 @@ filed_is w t m lower upper key v u after newer S F E = let r = E.retires in
     (set_since w t m key v u r.since.newer r.before.trail S r.since.is F) E.final
 
 flushed_is : (w t m key : ℕ) (v u after : View) (a : Flush) (newer : List OwnStep)
-    (S : FlushSteps w v u) → Finalises w t m key S.steps → WroteBelow key after.trail
-    → IsRetired w t m u a newer after → IsFlush w t v a (newer ++ S.steps) after
-flushed_is w t m key v u after (Flushed lower upper) newer S F W I = (
+    (S : FlushSteps w v u) → Finalises w t m key S.steps → RetiresNone S.steps
+    → WroteBelow key after.trail → IsRetired w t m u a newer after
+    → IsFlush w t v a (newer ++ S.steps) after
+flushed_is w t m key v u after (Flushed lower upper) newer S F K W I = (
   m,
   bound_set w t m key upper.0 newer S.steps after
       (filed_is w t m lower.0 upper.0 key v u after newer S F I) F W,
   filed_behind w w t m lower.0 upper.0 v u after refl S I,
 )
-flushed_is w t m key v u after (Empty found) newer S F W I = let r = I.0.0 in (
+flushed_is w t m key v u after (Empty found) newer S F K W I = let r = I.0.0 in (
   m,
   bound_set w t m key found.0 newer S.steps after (same_final r.before w _ t m key found.0 r.was
       (set_since w t m key v u r.since.newer r.before.trail S r.since.is F) I.1) F W,
   retires_behind w w t m v u after refl S I.0,
 )
-flushed_is w t m key v u after (Busy found) newer S F W I = absurd I
-flushed_is w t m key v u after (Rows Memtables made) newer S F W I = absurd I
-flushed_is w t m key v u after (Rows WriteGroups made) newer S F W I = absurd I
-flushed_is w t m key v u after (Rows AppendGroups made) newer S F W I =
-    (I.0, I.1, (I.2.0, found_after (Current Append) I.0 newer S.steps I.2.1))
-flushed_is w t m key v u after (Stopped at_open now) newer S F W I = (
-  I.0 ∙ ap (λ (z : PathSize). z.at_open) S.size,
-  I.1,
-  found_after (CursorWord StoppedCursor) now newer S.steps I.2,
+flushed_is w t m key v u after (Busy found) newer S F K W I = absurd I
+flushed_is w t m key v u after (Rows Memtables made) newer S F K W I = absurd I.0
+flushed_is w t m key v u after (Rows WriteGroups made) newer S F K W I = absurd I.0
+flushed_is w t m key v u after (Rows AppendGroups made) newer S F K W I = (
+  I.0.0,
+  I.0.1,
+  (
+    I.0.2.0,
+    found_after (Current Append) I.0.0 newer S.steps I.0.2.1,
+    found_after (CursorWord StoppedCursor) 0 newer S.steps I.0.2.2,
+  ),
+  waits_all w t (newer ++ S.steps) (kept_both newer S.steps I.1 K),
 )
-flushed_is w t m key v u after OutOfMemory newer S F W I = tt
+flushed_is w t m key v u after (Stopped at_open now) newer S F K W I = (
+  I.0.0 ∙ ap (λ (z : PathSize). z.at_open) S.size,
+  I.0.1,
+  found_after (CursorWord StoppedCursor) now newer S.steps I.0.2,
+  ⊎_elim (λ none. inl (waits_all w t (newer ++ S.steps) (kept_both newer S.steps none K)))
+      (λ filed. inr (
+        m,
+        key,
+        filed.0,
+        final_behind w t m key newer S.steps F,
+        one_newer (record { 0 = t }) m (Some filed.0) newer S.steps filed.1,
+      )) I.1,
+)
+flushed_is w t m key v u after OutOfMemory newer S F K W I =
+    waits_all w t (newer ++ S.steps) (kept_both newer S.steps I K)
 
 pub got_turn : (w t m : ℕ) (v after : View) (a : Flush) → Retired w t m v a after → GotTurn a
 got_turn w t m v after (Flushed lower upper) R = tt
@@ -115,58 +143,73 @@ retired_on : (r z t m : ℕ) (u x after : View) (a : Flush) → r ≡ z → Reti
     → QuietSteps r x after → RetiredBy z t m u a after
 retired_on r z t m u x after a same R L = record {
   made = next z r u x after same R.steps.made.made L.made;
-  is = is_before z r t m u x after a R.steps.made.made.steps R.is L.made;
+  is = is_before z r t m u x after a R.steps.made.made.steps R.is L.made L.kept;
 }
 
 pub flushed : (w z t m key : ℕ) (v u x after : View) (a : Flush) → z ≡ w → (r : ℕ) → r ≡ z
-    → (S : FlushSteps w v u) → Finalises w t m key S.steps → WroteBelow key u.trail
-    → Retired z t m u a x → QuietSteps r x after → Flushes w t v a after
-flushed w z t m key v u x after a same r number S F W R L =
+    → (S : FlushSteps w v u) → Finalises w t m key S.steps → RetiresNone S.steps
+    → WroteBelow key u.trail → Retired z t m u a x → QuietSteps r x after → Flushes w t v a after
+flushed w z t m key v u x after a same r number S F K W R L =
     let B = retired_on r z t m u x after a number R L in
     let E = subst (λ k. RetiredBy k t m u a after) same B in
     let made = next w w v u after refl S E.made in record {
       steps = made;
       list = same_list w v after made;
-      is = flushed_is w t m key v u after a E.made.steps S F
+      is = flushed_is w t m key v u after a E.made.steps S F K
           (still_wrote w key u after E.made W) E.is;
     }
 
 -- ---- refused behind a memtable that was left
 
-refused_is : (w t : ℕ) (v after : View) (a : Flush) (steps : List OwnStep)
-    → IsRefused v.size.at_open a steps → IsFlush w t v a steps after
-refused_is w t v after (Flushed lower upper) steps I = absurd I
-refused_is w t v after (Empty key) steps I = absurd I
-refused_is w t v after (Busy found) steps I = absurd I
-refused_is w t v after (Rows Memtables made) steps I = absurd I
-refused_is w t v after (Rows WriteGroups made) steps I = absurd I
-refused_is w t v after (Rows AppendGroups made) steps I = I
-refused_is w t v after (Stopped at_open now) steps I = I
-refused_is w t v after OutOfMemory steps I = tt
+left_is : (w t m : ℕ) (v u after : View) (a told : Flush) (steps : List OwnStep)
+    → Some a ≡ unless_retired told → SwitchesNone steps → IsRetired w t m v told steps u
+    → IsFlush w t v a steps after
+left_is w t m v u after a (Flushed lower upper) steps is none I = absurd (none-some a (sym is))
+left_is w t m v u after a (Empty key) steps is none I = absurd (none-some a (sym is))
+left_is w t m v u after a (Busy found) steps is none I = absurd I
+left_is w t m v u after a (Rows Memtables made) steps is none I = absurd I.0
+left_is w t m v u after a (Rows WriteGroups made) steps is none I = absurd I.0
+left_is w t m v u after a (Rows AppendGroups made) steps is none I =
+    subst (λ (b : Flush). IsFlush w t v b steps after)
+    (sym (same_Some a (Rows AppendGroups made) is))
+    (I.0.0, I.0.1, I.0.2, waits_none w t steps none)
+left_is w t m v u after a (Stopped at_open now) steps is none I =
+    subst (λ (b : Flush). IsFlush w t v b steps after)
+    (sym (same_Some a (Stopped at_open now) is))
+    (I.0.0, I.0.1, I.0.2, inl (waits_none w t steps none))
+left_is w t m v u after a OutOfMemory steps is none I =
+    subst (λ (b : Flush). IsFlush w t v b steps after) (sym (same_Some a OutOfMemory is))
+    (waits_none w t steps none)
 
-pub refused_then : (w z t : ℕ) (v u after : View) (a : Flush) → z ≡ w → Refused w t v a u
-    → QuietSteps z u after → Flushes w t v a after
-refused_then w z t v u after a same R L = let S = R.steps.made.made in
-    let made = next w z v u after same S L.made in record {
+pub left_then : (w z t m : ℕ) (v u after : View) (a told : Flush) → z ≡ w
+    → Some a ≡ unless_retired told → Retired w t m v told u → QuietSteps z u after
+    → Flushes w t v a after
+left_then w z t m v u after a told same is R L = let S = R.steps.made in
+    let made = next w z v u after same S.made L.made in record {
       steps = made;
       list = same_list w v after made;
-      is = refused_is w t v after a (L.made.steps ++ S.steps)
-          (refused_on v.size.at_open a S.steps (L.made.steps ++ S.steps)
-          (λ at n F. found_before at n L.made.steps S.steps F) R.is);
+      is = left_is w t m v after after a told (L.made.steps ++ S.made.steps) is
+          (none_both L.made.steps S.made.steps L.none S.none)
+          (is_before w z t m v u after told S.made.steps R.is L.made L.kept);
     }
 
-pub refused_turn : (w t : ℕ) (v after : View) (a : Flush) → Refused w t v a after → GotTurn a
-refused_turn w t v after (Flushed lower upper) R = tt
-refused_turn w t v after (Empty key) R = tt
-refused_turn w t v after (Busy found) R = absurd R.is
-refused_turn w t v after (Rows row made) R = tt
-refused_turn w t v after (Stopped at_open now) R = tt
-refused_turn w t v after OutOfMemory R = tt
+pub left_turn : (w t m : ℕ) (v after : View) (a told : Flush) → Some a ≡ unless_retired told
+    → Retired w t m v told after → GotTurn a
+left_turn w t m v after a (Flushed lower upper) is R = absurd (none-some a (sym is))
+left_turn w t m v after a (Empty key) is R = absurd (none-some a (sym is))
+left_turn w t m v after a (Busy found) is R = absurd R.is
+left_turn w t m v after a (Rows row made) is R =
+    subst (λ (b : Flush). GotTurn b) (sym (same_Some a (Rows row made) is)) tt
+left_turn w t m v after a (Stopped at_open now) is R =
+    subst (λ (b : Flush). GotTurn b) (sym (same_Some a (Stopped at_open now) is)) tt
+left_turn w t m v after a OutOfMemory is R =
+    subst (λ (b : Flush). GotTurn b) (sym (same_Some a OutOfMemory is)) tt
 
 -- ---- an answer behind steps that switched nothing
 
-is_later : (w t : ℕ) (v u after : View) (a : Flush) (steps : List OwnStep) (Q : QuietSteps w v u)
-    → GotTurn a → IsFlush w t u a steps after → IsFlush w t v a (steps ++ Q.made.steps) after
+is_later : (w t : ℕ) (v u after : View) (a : Flush) (steps : List OwnStep)
+    (Q : UnswitchedSteps w v u) → GotTurn a → IsFlush w t u a steps after
+    → IsFlush w t v a (steps ++ Q.made.steps) after
 is_later w t v u after (Flushed lower upper) steps Q got I = (
   I.0,
   bound_behind w t I.0 upper.0 steps Q.made.steps after I.1,
@@ -185,7 +228,9 @@ is_later w t v u after (Rows Memtables made) steps Q got I = (
     I.2.0,
     none_both steps Q.made.steps I.2.1 Q.none,
     found_after (Newest (record { 0 = t })) I.0 steps Q.made.steps I.2.2,
+    found_after (CursorWord (OldestLive (record { 0 = t }))) I.0 steps Q.made.steps I.2.3,
   ),
+  waits_behind w t steps Q.made.steps Q.none I.3,
 )
 is_later w t v u after (Rows WriteGroups made) steps Q got I = (
   I.0,
@@ -195,17 +240,34 @@ is_later w t v u after (Rows WriteGroups made) steps Q got I = (
     none_both steps Q.made.steps I.2.1 Q.none,
     found_after (Current Write) I.0 steps Q.made.steps I.2.2,
   ),
+  waits_behind w t steps Q.made.steps Q.none I.3,
 )
-is_later w t v u after (Rows AppendGroups made) steps Q got I =
-    (I.0, I.1, (I.2.0, found_after (Current Append) I.0 steps Q.made.steps I.2.1))
+is_later w t v u after (Rows AppendGroups made) steps Q got I = (
+  I.0,
+  I.1,
+  (
+    I.2.0,
+    found_after (Current Append) I.0 steps Q.made.steps I.2.1,
+    found_after (CursorWord StoppedCursor) 0 steps Q.made.steps I.2.2,
+  ),
+  waits_behind w t steps Q.made.steps Q.none I.3,
+)
 is_later w t v u after (Stopped at_open now) steps Q got I = (
   I.0 ∙ ap (λ (z : PathSize). z.at_open) Q.made.size,
   I.1,
   found_after (CursorWord StoppedCursor) now steps Q.made.steps I.2,
+  ⊎_elim (λ waits. inl (waits_behind w t steps Q.made.steps Q.none waits))
+      (λ filed. inr (
+        filed.0,
+        filed.1,
+        filed.2,
+        final_before w t filed.0 filed.1 steps Q.made.steps filed.3,
+        one_newer (record { 0 = t }) filed.0 (Some filed.2) steps Q.made.steps filed.4,
+      )) I.3,
 )
-is_later w t v u after OutOfMemory steps Q got I = tt
+is_later w t v u after OutOfMemory steps Q got I = waits_behind w t steps Q.made.steps Q.none I
 
-pub later : (w z t : ℕ) (v u after : View) (a : Flush) → z ≡ w → QuietSteps w v u → GotTurn a
+pub later : (w z t : ℕ) (v u after : View) (a : Flush) → z ≡ w → UnswitchedSteps w v u → GotTurn a
     → Flushes z t u a after → Flushes w t v a after
 later w z t v u after a same Q got R = let S = subst (λ k. Flushes k t u a after) same R in
     let made = next w w v u after refl Q.made S.steps in record {
@@ -233,6 +295,7 @@ busy w n t v after d is = let e = Look w (TurnWord (FlushTurn t)) in
 pub full : (w z t n : ℕ) (v u after : View) → z ≡ w → FindsMemtables t (Full n) v u w
     → QuietSteps z u after → Flushes w t v (Rows Memtables (n + 1)) after
 full w z t n v u after same F L = let Q = then_quiet w z v u after same F.0 L in
+    let oldest = CursorWord (OldestLive (record { 0 = t })) in
     let newest = Newest (record { 0 = t }) in let all = F.1 in record {
       steps = Q.made;
       list = same_list w v after Q.made;
@@ -243,6 +306,8 @@ full w z t n v u after same F L = let Q = then_quiet w z v u after same F.0 L in
           omega (arith, all),
           Q.none,
           found_before newest n L.made.steps F.0.made.steps F.2,
+          found_before oldest n L.made.steps F.0.made.steps F.3,
         ),
+        waits_none w t Q.made.steps Q.none,
       );
     }

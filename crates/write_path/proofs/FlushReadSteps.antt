@@ -53,7 +53,7 @@ use Rattle.path_rule.specs.Rule.{told_by}
 use Rattle.write_path.specs.FlushReads.{ReadSteps}
 use Rattle.write_path.proofs.FlushGoes.{next, one}
 use Rattle.write_path.proofs.FlushTables.{holder_still, is_small}
-use Rattle.write_path.proofs.SwitchGoes.{none_both}
+use Rattle.write_path.proofs.SwitchGoes.{kept_both, none_both}
 
 -- the stage of a switch behind a look at the newest memtable
 pub staged : (f : FlushTurn → FlushTurn) → ((turn : FlushTurn) → (f turn).stage ≡ turn.stage)
@@ -80,6 +80,7 @@ on_read w t n u q v after d = let e = Look w (Newest u) in let P = is_small e tt
     let same = ap (λ (x : View). x.hands) d.view in record {
       made = one w e n (with_reading q v.hands) v after refl d;
       none = (tt, tt);
+      kept = (tt, tt);
       sync = ap (λ (x : View). x.part.sync) d.view ∙ P.sync v.part n told;
       holder = holder_still t e v after P
           (subst (λ (x : View). Columns e v.part x.part) (sym d.view)
@@ -124,6 +125,7 @@ on_bound w t n u k q v after d = let e = Look w (BoundOf u k) in let P = is_smal
     let same = ap (λ (x : View). x.hands) d.view in record {
       made = one w e n (with_reading q v.hands) v after refl d;
       none = (tt, tt);
+      kept = (tt, tt);
       sync = ap (λ (x : View). x.part.sync) d.view ∙ P.sync v.part n told;
       holder = holder_still t e v after P
           (subst (λ (x : View). Columns e v.part x.part) (sym d.view)
@@ -146,6 +148,7 @@ abbrev pub then_read : (w z t : ℕ) (v u after : View) → z ≡ w → ReadStep
 then_read w z t v u after same A B = record {
   made = next w z v u after same A.made B.made;
   none = none_both B.made.steps A.made.steps B.none A.none;
+  kept = kept_both B.made.steps A.made.steps B.kept A.kept;
   sync = B.sync ∙ A.sync;
   holder = λ H. B.holder (A.holder H);
   stage = B.stage ∙ A.stage;
@@ -156,6 +159,7 @@ pub none_read_yet : (w t : ℕ) (v : View) → ReadSteps w t v v
 none_read_yet w t v = record {
   made = record { steps = []; trail = refl; are = tt; returned = refl; size = refl };
   none = tt;
+  kept = tt;
   sync = refl;
   holder = λ H. H;
   stage = refl;

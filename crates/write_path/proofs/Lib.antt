@@ -40,6 +40,8 @@ pub mod FlushGoes
 pub mod FlushTables
 pub mod FlushReadSteps
 pub mod FlushTrims
+pub mod FlushWaits
+pub mod AnswerPromises
 pub mod FlushSwitching
 pub mod FlushTaking
 pub mod FlushBarring

@@ -29,7 +29,7 @@ use Rattle.std.specs.Option.{MatchOption, option_map, option_map_or}
 use Rattle.atomic_table.specs.Table.{Me}
 use Rattle.clog_base.specs.declared.cell.Table.{Table}
 use Rattle.op_core.specs.declared.count.Order.TheVariants.{Write, Append}
-use Rattle.path_core.specs.declared.event.Cursor.TheVariants.{OldestLive}
+use Rattle.path_core.specs.declared.event.Cursor.TheVariants.{OldestLive, Stopped as StoppedCursor, Synced}
 use Rattle.path_core.specs.declared.event.Event.{Event}
 use Rattle.path_core.specs.declared.event.Event.TheVariants.{
   Look,
@@ -93,9 +93,11 @@ use Rattle.write_path.specs.FlushReads.{ReadSteps}
 use Rattle.write_path.specs.FlushSteps.{
   Finalises,
   FlushSteps,
-  LeavesMemtables,
+  SwitchesNo,
   QuietSteps,
   RetiresEmpty,
+  RetiresNo,
+  RetiresNone,
   SwitchesNone,
 }
 use Rattle.write_path.specs.FlushTurns.{FindsMemtables, HoldsBoth}
@@ -169,14 +171,19 @@ pub none_both : (ts us : List OwnStep) → SwitchesNone ts → SwitchesNone us �
 none_both [] us A B = B
 none_both (t ∷ ts) us A B = (A.0, none_both ts us A.1 B)
 
+pub kept_both : (ts us : List OwnStep) → RetiresNone ts → RetiresNone us → RetiresNone (ts ++ us)
+kept_both [] us A B = B
+kept_both (t ∷ ts) us A B = (A.0, kept_both ts us A.1 B)
+
 abbrev pub then_quiet : (w z : ℕ) (v u after : View) → z ≡ w → QuietSteps w v u
     → QuietSteps z u after → QuietSteps w v after
 then_quiet w z v u after same A B = record {
   made = next w z v u after same A.made B.made;
   none = none_both B.made.steps A.made.steps B.none A.none;
+  kept = kept_both B.made.steps A.made.steps B.kept A.kept;
 }
 
-round_leaves : (w : ℕ) (e : Event) → IsRoundStep w e → LeavesMemtables e
+round_leaves : (w : ℕ) (e : Event) → IsRoundStep w e → SwitchesNo e
 round_leaves w (Look by at) is = tt
 round_leaves w (OpenGroup by o g) is = tt
 round_leaves w (MoveCurrent by o g) is = tt
@@ -196,11 +203,34 @@ pub round_none : (w : ℕ) (ts : List OwnStep) → AreRoundSteps w ts → Switch
 round_none w [] A = tt
 round_none w (t ∷ ts) A = (round_leaves w t.event A.0, round_none w ts A.1)
 
+round_retires : (w : ℕ) (e : Event) → IsRoundStep w e → RetiresNo e
+round_retires w (Look by at) is = tt
+round_retires w (OpenGroup by o g) is = tt
+round_retires w (MoveCurrent by o g) is = tt
+round_retires w (Expire by o g) is = tt
+round_retires w (Advance by o g) is = tt
+round_retires w (Claim by from to what) is = tt
+round_retires w (TakeTurn by turn) is = tt
+round_retires w (GiveTurn by turn) is = tt
+round_retires w (Put by Synced value) is = tt
+round_retires w (Put by StoppedCursor value) is = tt
+round_retires w (Put by (OldestLive u) value) is = absurd is
+round_retires w (Register by o g) is = tt
+round_retires w (Close by o g carried) is = tt
+round_retires w (SwitchStep by t m part) is = tt
+round_retires w (Raise by t m to) is = tt
+round_retires w (Finalise by t m) is = tt
+
+pub round_kept : (w : ℕ) (ts : List OwnStep) → AreRoundSteps w ts → RetiresNone ts
+round_kept w [] A = tt
+round_kept w (t ∷ ts) A = (round_retires w t.event A.0, round_kept w ts A.1)
+
 abbrev pub quiet_round : (w : ℕ) (puts : List Event) (v after : View) → RoundSteps w puts v after
     → QuietSteps w v after
 quiet_round w puts v after S = record {
   made = of_round w puts v after S;
   none = round_none w S.steps S.are;
+  kept = round_kept w S.steps S.are;
 }
 
 -- ---- a memtable that was retired behind further steps
@@ -281,6 +311,7 @@ is_behind w t v u after (Rows Memtables made) steps Q had I = (
     I.2.0,
     none_both steps Q.made.steps I.2.1 Q.none,
     found_after (Newest (record { 0 = t })) I.0 steps Q.made.steps I.2.2,
+    found_after (CursorWord (OldestLive (record { 0 = t }))) I.0 steps Q.made.steps I.2.3,
   ),
 )
 is_behind w t v u after (Rows WriteGroups made) steps Q had I = (
@@ -292,8 +323,15 @@ is_behind w t v u after (Rows WriteGroups made) steps Q had I = (
     found_after (Current Write) I.0 steps Q.made.steps I.2.2,
   ),
 )
-is_behind w t v u after (Rows AppendGroups made) steps Q had I =
-    (I.0, I.1, (I.2.0, found_after (Current Append) I.0 steps Q.made.steps I.2.1))
+is_behind w t v u after (Rows AppendGroups made) steps Q had I = (
+  I.0,
+  I.1,
+  (
+    I.2.0,
+    found_after (Current Append) I.0 steps Q.made.steps I.2.1,
+    found_after (CursorWord StoppedCursor) 0 steps Q.made.steps I.2.2,
+  ),
+)
 
 pub behind : (w z t : ℕ) (v u after : View) (a : Switch) → z ≡ w → QuietSteps w v u → HadTurn a
     → Switches z t u a after → Switches w t v a after
@@ -346,6 +384,7 @@ pub full_is : (w z y t n : ℕ) (v u x after : View) → z ≡ w → y ≡ w →
     → Switches w t v (Rows Memtables (n + 1)) after
 full_is w z y t n v u x after first second T F L =
     let Q = then_quiet w y v x after second (then_quiet w z v u x first T F.0) L in
+    let oldest = CursorWord (OldestLive (record { 0 = t })) in
     let newest = Newest (record { 0 = t }) in let all = F.1 in record {
       steps = Q.made;
       list = same_list w v after Q.made;
@@ -357,6 +396,8 @@ full_is w z y t n v u x after first second T F L =
           Q.none,
           found_before newest n L.made.steps (F.0.made.steps ++ T.made.steps)
               (found_after newest n F.0.made.steps T.made.steps F.2),
+          found_before oldest n L.made.steps (F.0.made.steps ++ T.made.steps)
+              (found_after oldest n F.0.made.steps T.made.steps F.3),
         ),
       );
     }

@@ -46,7 +46,14 @@ use Rattle.write_path.specs.declared.switch.Row.TheVariants.{
   WriteGroups,
   AppendGroups,
 }
-use Rattle.write_path.specs.FlushSteps.{QuietSteps, RetiresEmpty, RetiresFiled}
+use Rattle.write_path.specs.FlushSteps.{
+  IsLeftOrFiled,
+  QuietSteps,
+  RetiresEmpty,
+  RetiresFiled,
+  RetiresNone,
+  UnswitchedSteps,
+}
 use Rattle.write_path.specs.FlushTurns.{IsHolder}
 use Rattle.write_path.specs.Switched.{FindsLast}
 
@@ -80,9 +87,15 @@ pub record AwaitsFile (seats t m bound : ℕ) (cells : List (CellKey × Cell)) (
   pub barred : IsBarred t v.part
   pub opened : v.hands.lasting.at_open ≡ v.size.at_open
 
--- Seat w made steps by which no memtable is switched, and the stage of its switch is as it was.
+-- Seat w made steps by which no memtable is switched, and none is retired; the stage of its switch
+-- is as it was.
 pub record FilingSteps (w t : ℕ) (v after : View) : Type 0 where
   pub made : QuietSteps w v after
+  pub stage : stage_of after.part t ≡ stage_of v.part t
+
+-- The same where one may be retired.
+pub record RetiringSteps (w t : ℕ) (v after : View) : Type 0 where
+  pub made : UnswitchedSteps w v after
   pub stage : stage_of after.part t ≡ stage_of v.part t
 
 -- ---- what becomes of a memtable
@@ -102,23 +115,25 @@ IsRefused opened (Stopped at_open now) steps =
 IsRefused opened OutOfMemory steps = Unit {0}
 
 -- Memtable m of table t, which seat w read, is retired, with a file of what was seen or without
--- one, and was found final at the key; or the flush is refused.
+-- one, and was found final at the key; or the flush is refused. Then no memtable is retired, unless
+-- the keeper stopped behind its file.
 abbrev pub IsRetired : ℕ → ℕ → ℕ → View → Flush → List OwnStep → View → Type 0
 IsRetired w t m v (Flushed lower upper) steps after = RetiresFiled w t m lower.0 upper.0 v after
 IsRetired w t m v (Empty key) steps after =
     (r : RetiresEmpty w t m v after) × FoundFinal t r.0.before.part m key.0
 IsRetired w t m v (Busy found) steps after = ⊥
-IsRetired w t m v (Rows row made) steps after = IsRefused v.size.at_open (Rows row made) steps
+IsRetired w t m v (Rows row made) steps after =
+    IsRefused v.size.at_open (Rows row made) steps × RetiresNone steps
 IsRetired w t m v (Stopped at_open now) steps after =
-    IsRefused v.size.at_open (Stopped at_open now) steps
-IsRetired w t m v OutOfMemory steps after = Unit {0}
+    IsRefused v.size.at_open (Stopped at_open now) steps × IsLeftOrFiled t m steps
+IsRetired w t m v OutOfMemory steps after = RetiresNone steps
 
 -- That was answered, and no memtable was switched.
 pub record Retired (w t m : ℕ) (v : View) (answer : Flush) (after : View) : Type 0 where
-  pub steps : FilingSteps w t v after
+  pub steps : RetiringSteps w t v after
   pub is : IsRetired w t m v answer steps.made.made.steps after
 
--- It was refused so.
+-- It was refused so, and no memtable was retired.
 pub record Refused (w t : ℕ) (v : View) (answer : Flush) (after : View) : Type 0 where
   pub steps : FilingSteps w t v after
   pub is : IsRefused v.size.at_open answer steps.made.made.steps
@@ -127,6 +142,35 @@ pub record Refused (w t : ℕ) (v : View) (answer : Flush) (after : View) : Type
 abbrev pub MayRefuse : ℕ → ℕ → View → Option Flush → View → Type 0
 MayRefuse w t v (Some answer) after = Refused w t v answer after
 MayRefuse w t v None after = FilingSteps w t v after
+
+-- The keeper stopped, and that is answered; or the flush goes on.
+abbrev pub MayStop : ℕ → ℕ → View → Option Flush → View → Type 0
+MayStop w t v None after = FilingSteps w t v after
+MayStop w t v (Some (Stopped at_open now)) after = Refused w t v (Stopped at_open now) after
+MayStop w t v (Some other) after = ⊥
+
+-- what a keeper's fault is as an answer
+abbrev pub IsFault : Flush → Type 0
+IsFault (Stopped at_open now) = Unit {0}
+IsFault OutOfMemory = Unit {0}
+IsFault other = ⊥
+
+-- what is answered behind a memtable that was left: nothing where it is retired
+abbrev pub unless_retired : Flush → Option Flush
+unless_retired (Flushed lower upper) = None
+unless_retired (Empty key) = None
+unless_retired (Busy found) = Some (Busy found)
+unless_retired (Rows row made) = Some (Rows row made)
+unless_retired (Stopped at_open now) = Some (Stopped at_open now)
+unless_retired OutOfMemory = Some OutOfMemory
+
+-- Memtable m of table t, which was left, is retired, and nothing is answered; or that is answered
+-- for which it was not, or not alone.
+pub record PassesLeft (w t m : ℕ) (v : View) (answer : Option Flush) (after : View) :
+    Type 0 where
+  pub told : Flush
+  pub is : answer ≡ unless_retired told
+  pub retired : Retired w t m v told after
 
 -- What became of a memtable that waits for its file, if that is told already; or it waits still.
 abbrev pub TriesFile : (w seats t m bound : ℕ) → List (CellKey × Cell) → View → Option Flush → View
@@ -145,15 +189,6 @@ refused_round (Some SyncOutOfMemory) = Some OutOfMemory
 refused_round (Some (SyncRows made)) = Some (Rows AppendGroups made)
 refused_round (Some (Done key)) = None
 refused_round None = None
-
--- what is answered behind a memtable that was left: nothing where it is retired
-abbrev pub unless_retired : Flush → Option Flush
-unless_retired (Flushed lower upper) = None
-unless_retired (Empty key) = None
-unless_retired (Busy found) = Some (Busy found)
-unless_retired (Rows row made) = Some (Rows row made)
-unless_retired (Stopped at_open now) = Some (Stopped at_open now)
-unless_retired OutOfMemory = Some OutOfMemory
 
 -- what is answered where segments were not dropped: nothing where the keeper wants memory
 abbrev pub unless_memory : Flush → Option Flush

@@ -5,7 +5,7 @@ use Rattle.path_rule.specs.declared.view.FlushRead.{FlushRead}
 use Rattle.path_rule.specs.declared.view.Hands.{Hands}
 use Rattle.path_rule.specs.declared.view.View.{View}
 use Rattle.path_rule.specs.HandsAfter.{with_reading}
-use Rattle.write_path.specs.FlushSteps.{FlushSteps, SwitchesNone}
+use Rattle.write_path.specs.FlushSteps.{FlushSteps, RetiresNone, SwitchesNone}
 use Rattle.write_path.specs.FlushTurns.{IsHolder}
 
 -- It reads memtable m of table t, whose interval begins above a key, has seen the boxes of the
@@ -23,6 +23,7 @@ pub record HasRead (t m above count : ℕ) (h : Hands) : Type 0 where
 pub record ReadSteps (w t : ℕ) (v after : View) : Type 0 where
   pub made : FlushSteps w v after
   pub none : SwitchesNone made.steps
+  pub kept : RetiresNone made.steps
   pub sync : after.part.sync ≡ v.part.sync
   pub holder : IsHolder t v → IsHolder t after
   pub stage : stage_of after.part t ≡ stage_of v.part t

@@ -31,6 +31,7 @@ use Rattle.path_rule.specs.declared.view.FlushRead.{FlushRead}
 use Rattle.path_rule.specs.declared.view.OwnStep.{OwnStep}
 use Rattle.path_rule.specs.declared.view.View.{View}
 use Rattle.path_rule.specs.FilingTold.{FoundFinal, SeesAll}
+use Rattle.path_rule.specs.FindsBounds.{Retires as RetiresOne}
 use Rattle.path_rule.specs.Layout.{bound_word}
 use Rattle.path_rule.specs.Retires.{RetiresEmptyIn, RetiresFiledIn}
 use Rattle.path_rule.specs.Rule.{Was}
@@ -71,20 +72,57 @@ Finalises w t m key [] = ⊥
 Finalises w t m key (s ∷ ss) =
     FinalisesBy w t m key s.event s.found ⊎ Finalises w t m key ss
 
--- None of these steps is one of a switch.
-abbrev pub LeavesMemtables : Event → Type 0
-LeavesMemtables (Switch by table memtable part) = ⊥
-LeavesMemtables (Finalise by table memtable) = ⊥
-LeavesMemtables _ = Unit {0}
+-- It is no step of a switch.
+abbrev pub SwitchesNo : Event → Type 0
+SwitchesNo (Switch by table memtable part) = ⊥
+SwitchesNo (Finalise by table memtable) = ⊥
+SwitchesNo _ = Unit {0}
 
+-- none of these steps is one
 abbrev pub SwitchesNone : List OwnStep → Type 0
 SwitchesNone [] = Unit {0}
-SwitchesNone (t ∷ ts) = LeavesMemtables t.event × SwitchesNone ts
+SwitchesNone (t ∷ ts) = SwitchesNo t.event × SwitchesNone ts
+
+-- It retires no memtable.
+abbrev pub RetiresNo : Event → Type 0
+RetiresNo (Put by (OldestLive table) value) = ⊥
+RetiresNo _ = Unit {0}
+
+-- none of these steps does
+abbrev pub RetiresNone : List OwnStep → Type 0
+RetiresNone [] = Unit {0}
+RetiresNone (t ∷ ts) = RetiresNo t.event × RetiresNone ts
 
 -- Seat w went from one view to another by steps of a flush, of which none is one of a switch.
+pub record UnswitchedSteps (w : ℕ) (v after : View) : Type 0 where
+  pub made : FlushSteps w v after
+  pub none : SwitchesNone made.steps
+
+-- Nor does one of them retire a memtable.
 pub record QuietSteps (w : ℕ) (v after : View) : Type 0 where
   pub made : FlushSteps w v after
   pub none : SwitchesNone made.steps
+  pub kept : RetiresNone made.steps
+
+-- ---- what waits
+
+-- No memtable of table t that one of these steps made final was retired by a later one: it waits.
+abbrev pub WaitsStill : ℕ → ℕ → List OwnStep → Type 0
+WaitsStill w t [] = Unit {0}
+WaitsStill w t (s ∷ ss) = ((m key : ℕ)
+    → s.event ≡ Put w (OldestLive (record { 0 = t })) (suc m) → Finalises w t m key ss → ⊥)
+    × WaitsStill w t ss
+
+-- One that these steps made final was retired by one of them, with a table file.
+abbrev pub FilesOne : ℕ → ℕ → List OwnStep → Type 0
+FilesOne w t steps = (m key lower : ℕ) × Finalises w t m key steps
+    × RetiresOne (record { 0 = t }) m (Some lower) steps
+
+-- Memtable m of table t is retired by none of these steps, as no other is, or by one of them, with
+-- a table file.
+abbrev pub IsLeftOrFiled : ℕ → ℕ → List OwnStep → Type 0
+IsLeftOrFiled t m steps = RetiresNone steps
+    ⊎ ((lower : ℕ) × RetiresOne (record { 0 = t }) m (Some lower) steps)
 
 -- ---- a memtable is retired
 

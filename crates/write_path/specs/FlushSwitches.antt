@@ -10,7 +10,7 @@ use Rattle.path_rule.specs.Finds.{Finds}
 use Rattle.path_rule.specs.Layout.{group_rows}
 use Rattle.path_rule.specs.Rounds.{RoundSteps, WroteBelow}
 use Rattle.path_rule.specs.Switches.{FlushOldest}
-use Rattle.write_path.specs.FlushSteps.{FlushSteps, Finalises}
+use Rattle.write_path.specs.FlushSteps.{FlushSteps, Finalises, RetiresNone}
 use Rattle.write_path.specs.FlushTurns.{IsDrained, IsHolder}
 
 -- Seat w made memtable m of table t final at a key, at or above which it wrote nothing. What it
@@ -18,6 +18,7 @@ use Rattle.write_path.specs.FlushTurns.{IsDrained, IsHolder}
 pub record MadeFinal (w t m key : ℕ) (v after : View) : Type 0 where
   pub made : FlushSteps w v after
   pub set : Finalises w t m key made.steps
+  pub kept : RetiresNone made.steps
   pub wrote : WroteBelow key after.trail
   pub holder : IsHolder t after
   pub sync : after.part.sync ≡ v.part.sync
@@ -31,6 +32,7 @@ pub record MadeFinal (w t m key : ℕ) (v after : View) : Type 0 where
 pub record SwitchedTo (w t m key : ℕ) (v after : View) : Type 0 where
   pub made : FlushSteps w v after
   pub set : Finalises w t m key made.steps
+  pub kept : RetiresNone made.steps
   pub wrote : WroteBelow key after.trail
   pub hands : after.hands ≡ v.hands
   pub drained : IsDrained t m key after

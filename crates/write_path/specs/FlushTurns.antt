@@ -55,6 +55,7 @@ FindsMemtables t (Left m) v after w = (s : QuietSteps w v after)
     × ((n : ℕ) × Finds (Newest (record { 0 = t })) n s.made.steps × (m ≢ n))
 FindsMemtables t (Full n) v after w = (s : QuietSteps w v after) × (n + 1 ≡ memtable_rows)
     × Finds (Newest (record { 0 = t })) n s.made.steps
+    × Finds (CursorWord (OldestLive (record { 0 = t }))) n s.made.steps
 FindsMemtables t (Free n) v after w = FlushOldest t after.part n × FlushNewest t after.part n
     × (n + 1 < memtable_rows)
 

@@ -1,5 +1,5 @@
 -- What a flush answers, and what is so then of its seat and the seat's list.
-use Rattle.std.specs.Prelude.{◌≡◌, ℕ, suc, List, length}
+use Rattle.std.specs.Prelude.{◌≡◌, ◌⊎◌, ℕ, suc, List, length}
 use Rattle.path_core.specs.declared.event.Cursor.TheVariants.{Stopped as StoppedCursor}
 use Rattle.path_core.specs.declared.event.Place.TheVariants.{CursorWord, TurnWord}
 use Rattle.path_core.specs.declared.event.Turn.TheVariants.{Flush as FlushTurn}
@@ -18,14 +18,22 @@ use Rattle.write_path.specs.declared.flush.Flush.TheVariants.{
   OutOfMemory,
 }
 use Rattle.write_path.specs.Ends.{writes_of}
-use Rattle.write_path.specs.FlushSteps.{FlushSteps, RetiresEmpty, RetiresFiled}
+use Rattle.write_path.specs.FlushSteps.{
+  FilesOne,
+  FlushSteps,
+  RetiresEmpty,
+  RetiresFiled,
+  WaitsStill,
+}
 use Rattle.write_path.specs.Switched.{FindsLast, SetsBound}
 
 -- What is so behind an answer to seat w, which made these steps, for a table t. Flushed, Empty: the
 -- upper key was set in this call as the memtable's final bound, at or above each write of the
 -- seat's list, and the seat saw the boxes of all seats and retired the memtable. Flushed: something
 -- was in them, and it gave a table file with the interval. Busy: the seat only looked, and found
--- the turn's word so. Rows, Stopped: the word was found so, or put so, in this call.
+-- the turn's word so. Rows, Stopped: the word was found so, or put so, in this call. Rows, Stopped,
+-- OutOfMemory: a memtable that was made final in this call waits still, or, where Stopped, it was
+-- retired with a table file, behind which the keeper stopped.
 abbrev pub IsFlush : ℕ → ℕ → View → Flush → List OwnStep → View → Type 0
 IsFlush w t v (Flushed lower upper) steps after =
     (m : ℕ) × SetsBound w t m upper.0 steps after × RetiresFiled w t m lower.0 upper.0 v after
@@ -35,11 +43,12 @@ IsFlush w t v (Busy found) steps after = (found ≡ 1)
     × FoundSince (length v.trail) (TurnWord (FlushTurn (record { 0 = t }))) found after.trail
     × (acts after.trail ≡ acts v.trail)
 IsFlush w t v (Rows row made) steps after =
-    (last : ℕ) × (suc last ≡ made) × FindsLast row t last steps
+    (last : ℕ) × (suc last ≡ made) × FindsLast row t last steps × WaitsStill w t steps
 IsFlush w t v (Stopped at_open now) steps after =
     (at_open ≡ v.size.at_open) × HasRisen at_open now
     × Finds (CursorWord StoppedCursor) now steps
-IsFlush w t v OutOfMemory steps after = Unit {0}
+    × (WaitsStill w t steps ⊎ FilesOne w t steps)
+IsFlush w t v OutOfMemory steps after = WaitsStill w t steps
 
 -- A flush of table t by seat w answered this. The seat made steps of a flush alone, and its list is
 -- as it was.

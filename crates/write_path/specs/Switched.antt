@@ -2,7 +2,7 @@
 use Rattle.std.specs.Prelude.{◌≡◌, ◌≢◌, ℕ, suc, ◌≤◌, List, length}
 use Rattle.std.specs.List.{Contains}
 use Rattle.op_core.specs.declared.count.Order.TheVariants.{Write, Append}
-use Rattle.path_core.specs.declared.event.Cursor.TheVariants.{OldestLive}
+use Rattle.path_core.specs.declared.event.Cursor.TheVariants.{OldestLive, Stopped as StoppedCursor}
 use Rattle.path_core.specs.declared.event.Place.TheVariants.{
   Current,
   CursorWord,
@@ -34,14 +34,17 @@ pub record SetsBound (w t m key : ℕ) (steps : List OwnStep) (v : View) : Type 
   pub covers : (n : EntryNote) → Contains (writes_of v.trail) n → n.end.0 ≤ key
 
 -- The last word of a row was found in use at one of these steps: that of the number before the one
--- that is wanted. Where it is a word that a switch wants, they switch nothing.
+-- that is wanted. Where it is a word that a switch wants, they switch nothing; where one of
+-- memtables, that memtable is the only one not retired. Where a sync wants it, the log was found
+-- running.
 abbrev pub FindsLast : Row → ℕ → ℕ → List OwnStep → Type 0
 FindsLast Memtables t last steps = (suc last ≡ memtable_rows) × SwitchesNone steps
     × Finds (Newest (record { 0 = t })) last steps
+    × Finds (CursorWord (OldestLive (record { 0 = t }))) last steps
 FindsLast WriteGroups t last steps = (suc last ≡ group_rows) × SwitchesNone steps
     × Finds (Current Write) last steps
 FindsLast AppendGroups t last steps = (suc last ≡ group_rows)
-    × Finds (Current Append) last steps
+    × Finds (Current Append) last steps × Finds (CursorWord StoppedCursor) 0 steps
 
 -- At these steps, which switch nothing, m was found as the least memtable of table t that is not
 -- retired, and another one as the newest.

@@ -1,7 +1,8 @@
 -- Worked rows of switches of table 0 by seat 0: the steps, the newest first.
 use Rattle.std.specs.Prelude.{ℕ, ◌+◌, ◌^◌, List, [], ◌∷◌}
+use Rattle.path_core.specs.declared.event.Cursor.TheVariants.{OldestLive}
 use Rattle.path_core.specs.declared.event.Event.TheVariants.{Look, Switch, Raise, Finalise}
-use Rattle.path_core.specs.declared.event.Place.TheVariants.{Log, Newest, TurnWord}
+use Rattle.path_core.specs.declared.event.Place.TheVariants.{CursorWord, Log, Newest, TurnWord}
 use Rattle.path_core.specs.declared.event.SwitchPart.TheVariants.{Open, Mark}
 use Rattle.path_core.specs.declared.event.Turn.TheVariants.{Flush}
 use Rattle.path_rule.specs.declared.view.OwnStep.{OwnStep}
@@ -20,6 +21,8 @@ switched_at m key = step_of (Finalise 0 (record { 0 = 0 }) m) (key + 2 ^ 62)
 abbrev pub found_taken : List OwnStep
 found_taken = step_of (Look 0 (TurnWord (Flush (record { 0 = 0 })))) 1 ∷ []
 
--- The newest memtable is this one.
-abbrev pub found_newest : ℕ → List OwnStep
-found_newest m = step_of (Look 0 (Newest (record { 0 = 0 }))) m ∷ []
+-- The newest memtable is this one, and so is the least one that is not retired.
+abbrev pub found_alone : ℕ → List OwnStep
+found_alone m = step_of (Look 0 (Newest (record { 0 = 0 }))) m
+    ∷ step_of (Look 0 (CursorWord (OldestLive (record { 0 = 0 })))) m
+    ∷ []

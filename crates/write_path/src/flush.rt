@@ -19,7 +19,8 @@ pub enum Flush {
     /// Each word of a row is in use, so many, and a further one is wanted.
     Rows(Row, u64),
     /// The keeper has stopped: its count of faults at its opening, and the one with which the log
-    /// is stopped.
+    /// is stopped. A memtable that was switched is left for the next flush, or its table file was
+    /// put just before.
     Stopped {
         /// The count at its opening.
         at_open: u64,

@@ -14,7 +14,8 @@ ghost use Rattle.write_path.specs.FlushFilings.{
   FilingSteps,
   HasBoth,
   HasTurns,
-  MayRefuse,
+  IsFault,
+  MayStop,
   Refused,
   TellsFault,
   stopped_after,
@@ -103,6 +104,7 @@ impl<K: Keeper, A: Allocator> WritePath<K, A> {
         ensures reading { (hands_of result.0).reading ≡ (hands_of member).reading }
         ensures refused { Refused member.number table.0 (view_of member) result.1
             (view_of result.0) }
+        ensures fault { IsFault result.1 }
     {
         match fault {
             KeeperFault::Stopped { at_open, now } => (
@@ -131,7 +133,7 @@ impl<K: Keeper, A: Allocator> WritePath<K, A> {
             result.0 }
         ensures holds { HasBoth (shows_of K.holds) table.0 result.0.seat.me }
         ensures reading { (hands_of result.0).reading ≡ (hands_of member).reading }
-        ensures refused { MayRefuse member.number table.0 (view_of member) result.1
+        ensures stopped { MayStop member.number table.0 (view_of member) result.1
             (view_of result.0) }
     {
         let (member, done) = self.table.drop_due(member, Key(synced));

@@ -10,9 +10,9 @@ ghost use Rattle.path_core.specs.Parts.{stage_of};
 ghost use Rattle.path_rule.specs.Lasts.{shows_of};
 ghost use Rattle.path_rule.specs.Members.{view_of, part_of, IsOf};
 ghost use Rattle.path_rule.specs.Switches.{FlushNewest, FlushOldest};
-ghost use Rattle.write_path.specs.FlushFilings.{MayRefuse, unless_retired};
+ghost use Rattle.write_path.specs.FlushFilings.{PassesLeft, unless_retired};
 ghost use Rattle.write_path.specs.Flushed.{Flushes, GotTurn};
-ghost use Rattle.write_path.specs.FlushSteps.{QuietSteps};
+ghost use Rattle.write_path.specs.FlushSteps.{UnswitchedSteps};
 ghost use Rattle.write_path.specs.FlushTurns.{HoldsTable};
 ghost use Rattle.write_path.specs.Tries.{Stays};
 
@@ -44,8 +44,8 @@ fn unless_retired(answer: Flush) -> Option<Flush>
 }
 
 impl<K: Keeper, A: Allocator> WritePath<K, A> {
-    // Retires a memtable that an earlier flush or switch left. Where it cannot be, that is
-    // answered.
+    // Retires a memtable that an earlier flush or switch left. Where it cannot be, or the keeper
+    // stops behind its file, that is answered.
     fn flush_left<R: Wait>(
         &self,
         rt: &R,
@@ -65,7 +65,7 @@ impl<K: Keeper, A: Allocator> WritePath<K, A> {
             result.0 }
         ensures holds { HoldsTable table.0 result.0.seat.me }
         ensures settled { stage_of (part_of result.0) table.0 ≡ Some Settled }
-        ensures refused { MayRefuse member.number table.0 (view_of member) result.1
+        ensures passed { PassesLeft member.number table.0 memtable (view_of member) result.1
             (view_of result.0) }
     {
         let member = self.take_sync_beside(rt, member, table);
@@ -129,7 +129,7 @@ impl<K: Keeper, A: Allocator> WritePath<K, A> {
             (λ m. HoldsTable table.0 m.seat.me × (stage_of (part_of m) table.0 ≡ Some Settled))
             (λ r. GotTurn r.1) }
         ensures goes { MatchResult result
-            (λ m. QuietSteps member.number (view_of member) (view_of m))
+            (λ m. UnswitchedSteps member.number (view_of member) (view_of m))
             (λ r. Flushes member.number table.0 (view_of member) r.1 (view_of r.0.member)) }
     {
         let mut member = member;
@@ -189,9 +189,11 @@ impl<K: Keeper, A: Allocator> WritePath<K, A> {
     /// opening and the one that the log tells, as it was found or put in this call. `Busy` has what
     /// was found in the table's turn word; the seat only looked. `Rows` has the row of words of
     /// which a further one is wanted, and how many are in use; where it is one of memtables or of
-    /// the write order, no memtable was switched. No clause says that it returns, nor what is left
-    /// behind a refusal: a memtable that the call had switched waits for the next flush then, which
-    /// begins with it.
+    /// the write order, no memtable was switched. Where it is one of memtables, that memtable was
+    /// found to be the only one in use; where it is one of the append order, the log was found
+    /// running. Behind `Rows` and `OutOfMemory` a memtable that the call had made final waits for
+    /// the next flush, which begins with it; behind `Stopped` it does, or the keeper stopped behind
+    /// its table file. No clause says that it returns.
     pub fn flush<R: Wait>(
         &self,
         rt: &R,

@@ -23,6 +23,7 @@ ghost use Rattle.std.specs.Prelude.{
 };
 ghost use Rattle.std.specs.List.{All, Contains};
 ghost use Rattle.clog_base.specs.declared.cell.Table.{Table};
+ghost use Rattle.clog_base.specs.declared.position.Key.{Key};
 ghost use Rattle.clog_base.specs.declared.sizes.Sizes.{Sizes};
 ghost use Rattle.clog_mutation.specs.declared.mutation.Mutation.{Mutation};
 ghost use Rattle.clog_mutation.specs.Limits.{IsWithinLimits};
@@ -52,13 +53,24 @@ ghost use Rattle.sync_core.specs.declared.SyncCore.TheVariants.{Batch};
 ghost use Rattle.write_path.specs.declared.commit.Commit.TheVariants.{Unsynced};
 ghost use Rattle.write_path.specs.declared.commit.Receipt.{Receipt};
 ghost use Rattle.write_path.specs.declared.commit.SyncFault.TheVariants.{Rows as NoRows};
+ghost use Rattle.write_path.specs.declared.flush.Flush.{Flush};
+ghost use Rattle.write_path.specs.declared.flush.Flush.TheVariants.{Flushed, Empty};
 ghost use Rattle.write_path.specs.declared.prepared.Prepared.{Prepared};
 ghost use Rattle.write_path.specs.ClosedFiles.{HasFlushed, IsGiven};
 ghost use Rattle.write_path.specs.Closed.{IsOutcome, PassesNoSegment, all_writes};
 ghost use Rattle.write_path.specs.Commits.{IsLogged};
 ghost use Rattle.write_path.specs.Ends.{writes_of};
 ghost use Rattle.write_path.specs.Grown.{HasGrown};
-ghost use Rattle.write_path.specs.Promised.{WasDone, WasDurable, WasSpent, WasSynced};
+ghost use Rattle.write_path.specs.Promised.{
+  HasFileFrom,
+  HasVoid,
+  IsUpTo,
+  WasDone,
+  WasDurable,
+  WasFlushed,
+  WasSpent,
+  WasSynced,
+};
 ghost use Rattle.write_path.specs.Receipts.{IsCommitted};
 ghost use Rattle.write_path.specs.Sealed.{HasMarkBehind, HasMarkBetween, IsSealed};
 ghost use Rattle.write_path.specs.SealedRows.{behind_it, before_it, behind_a_claim};
@@ -170,6 +182,28 @@ pub fn what_close_keeps<K: Keeper>()
         → (t : Table) (m lower : ℕ) (before : List OwnStep) → Retires t m (Some lower) before
         → HasGrown before (view_of s.member).trail
         → HoldsSome o.core t.0 m × IsGiven o.core h.files t.0 m lower }
+    // A flush that was answered `Flushed` or `Empty`, whenever it was, has each write of any seat
+    // that touches the table and ends at or below the upper key in a table file of the keeper.
+    ensures covered { (size : PathSize) (seats : List (PathSeat K)) (end : ℕ) (h : Holding)
+        → IsOutcome size seats end h → (s : PathSeat K) → Contains seats s
+        → (t : Table) (answer : Flush) (key : ℕ) → IsUpTo key answer
+        → WasFlushed s.member.number t answer (view_of s.member).trail
+        → (other : PathSeat K) → Contains seats other
+        → (n : EntryNote) → Contains (writes_of (view_of other.member).trail) n
+        → IsTrue (touches n.tables t.0) → n.end.0 ≤ key → IsFiledIn h.files t.0 n.end.0 }
+    // Where it was answered `Flushed`, the keeper has a file of the table with that interval.
+    ensures filed { (size : PathSize) (seats : List (PathSeat K)) (end : ℕ) (h : Holding)
+        → IsOutcome size seats end h → (s : PathSeat K) → Contains seats s
+        → (t : Table) (lower upper : Key)
+        → WasFlushed s.member.number t (Flushed lower upper) (view_of s.member).trail
+        → HasFileFrom h.files t.0 lower.0 upper.0 }
+    // Where it was answered `Empty`, a memtable of the table is final at that key, and nothing is
+    // placed in it.
+    ensures voided { (size : PathSize) (seats : List (PathSeat K)) (end : ℕ) (h : Holding)
+        → (o : IsOutcome size seats end h) → (s : PathSeat K) → Contains seats s
+        → (t : Table) (key : Key)
+        → WasFlushed s.member.number t (Empty key) (view_of s.member).trail
+        → HasVoid o.core t.0 key.0 }
 {}
 
 /// A path runs out of segments only under many writes: one whose seat was answered `Spent` has at

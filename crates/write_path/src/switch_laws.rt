@@ -5,7 +5,7 @@ ghost use Rattle.path_rule.specs.Calls.{acts};
 ghost use Rattle.write_path.specs.Ends.{writes_of};
 ghost use Rattle.write_path.specs.declared.switch.Row.TheVariants.{Memtables};
 ghost use Rattle.write_path.specs.Switched.{FindsLast};
-ghost use Rattle.write_path.specs.SwitchedRows.{found_newest, found_taken, switched_at};
+ghost use Rattle.write_path.specs.SwitchedRows.{found_alone, found_taken, switched_at};
 ghost use Rattle.write_path.specs.FlushSteps.{AreFlushSteps, Finalises, SwitchesNone};
 
 /// What the steps of a switch tell.
@@ -22,7 +22,8 @@ pub fn what_a_switch_tells()
     // is a look.
     ensures looked { (before : List OwnStep) → acts (found_taken ++ before) ≡ acts before }
     ensures acted { acts (switched_at 0 60) ≡ 4 }
-    // The last memtable that has a word is 255, and finding it the newest switches nothing.
-    ensures full { FindsLast Memtables 0 255 (found_newest 255) }
+    // The last memtable that has a word is 255, and finding it the newest and the least one that
+    // is not retired switches nothing.
+    ensures full { FindsLast Memtables 0 255 (found_alone 255) }
     ensures switched { SwitchesNone (switched_at 0 60) → ⊥ }
 {}

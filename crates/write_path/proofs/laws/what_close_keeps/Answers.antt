@@ -1,3 +1,4 @@
+use Rattle.write_path.proofs.AnswerPromises.{answer_covered, answer_filed, answer_voided}
 use Rattle.write_path.proofs.FlushPromises.{flushed_filed}
 use Rattle.write_path.proofs.Promises.{
   done_logged,
@@ -35,3 +36,12 @@ returns-clause-emptied g c = emptied_kept
 
 pub returns-clause-given : goal.returns-clause-given
 returns-clause-given g c = given_kept
+
+pub returns-clause-covered : goal.returns-clause-covered
+returns-clause-covered g c = answer_covered
+
+pub returns-clause-filed : goal.returns-clause-filed
+returns-clause-filed g c = answer_filed
+
+pub returns-clause-voided : goal.returns-clause-voided
+returns-clause-voided g c = answer_voided

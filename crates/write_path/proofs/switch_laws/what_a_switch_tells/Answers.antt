@@ -1,4 +1,4 @@
-use Rattle.std.proofs.Common.{⊎_elim, inl, refl, arith}
+use Rattle.std.proofs.Common.{⊎_elim, inl, inr, refl, arith}
 use Rattle.write_path.proofs.switch_laws.what_a_switch_tells.Goals as goal
 
 pub returns-clause-first : goal.returns-clause-first
@@ -22,7 +22,7 @@ pub returns-clause-acted : goal.returns-clause-acted
 returns-clause-acted c = refl
 
 pub returns-clause-full : goal.returns-clause-full
-returns-clause-full c = (refl, (tt, tt), inl (refl, refl))
+returns-clause-full c = (refl, (tt, (tt, tt)), inl (refl, refl), inr (inl (refl, refl)))
 
 pub returns-clause-switched : goal.returns-clause-switched
 returns-clause-switched c = λ S. S.0

@@ -3,7 +3,7 @@ use Rattle.path_rule.specs.declared.view.View.{View}
 use Rattle.path_rule.specs.FilingTold.{CarriesNoted}
 use Rattle.path_rule.specs.Lasts.{shows_of}
 use Rattle.write_path.specs.declared.flush.Flush.{Flush}
-use Rattle.write_path.specs.FlushFilings.{MayRefuse, Refused, TellsFault, stopped_after}
+use Rattle.write_path.specs.FlushFilings.{MayStop, Refused, TellsFault, stopped_after}
 use Rattle.write_path.proofs.FilingPuts.{stopped_so, tells_so}
 use Rattle.write_path.proofs.FilingRounds.{dropped_is}
 use Rattle.write_path.proofs.seats.WritePath.drop_behind.Goals as goal
@@ -25,11 +25,11 @@ note_fault-member-requires-clause-counts g c = let D = c.drop_due-member in (
       c.requires.opened,
 )
 
-pub returns-in-Err-clause-refused : goal.returns-in-Err-clause-refused
-returns-in-Err-clause-refused g c = let D = c.drop_due-member in let N = c.note_fault-member in
+pub returns-in-Err-clause-stopped : goal.returns-in-Err-clause-stopped
+returns-in-Err-clause-stopped g c = let D = c.drop_due-member in let N = c.note_fault-member in
     let w = c.args.member.number in let t = c.args.table.0 in let v = c.args.member.seat.me.0 in
     let after = N.result.0.seat.me.0 in
-    subst (λ (o : Option Flush). MayRefuse w t v o after) (sym c.unless_memory.ensures)
+    subst (λ (o : Option Flush). MayStop w t v o after) (sym c.unless_memory.ensures)
     (dropped_is w t v after N.result.1 (subst (λ k. Refused k t v N.result.1 after)
     D.ensures.same.0.1 (subst (λ (u : View). Refused D.result.0.number t u N.result.1 after)
-    D.ensures.same.1 N.ensures.refused)))
+    D.ensures.same.1 N.ensures.refused)) N.ensures.fault)

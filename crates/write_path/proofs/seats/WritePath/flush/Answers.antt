@@ -1,3 +1,4 @@
+use Rattle.write_path.proofs.FilingGoes.{unswitched}
 use Rattle.write_path.proofs.FlushAnswers.{busy, later}
 use Rattle.write_path.proofs.seats.WritePath.flush.Goals as goal
 
@@ -9,5 +10,7 @@ returns-in-Err-clause-flushes g c = let step = c.in-Err.ensures.step in
 pub returns-in-Ok-clause-flushes : goal.returns-in-Ok-clause-flushes
 returns-in-Ok-clause-flushes g c = let O = c.in-Ok in let F = c.flush_taken in
     later c.args.seat.member.number O.member.number c.args.table.0 c.args.seat.member.seat.me.0
-    O.member.seat.me.0 F.result.0.member.seat.me.0 F.result.1 O.ensures.same.1 O.ensures.step
+    O.member.seat.me.0 F.result.0.member.seat.me.0 F.result.1 O.ensures.same.1
+    (unswitched c.args.seat.member.number c.args.seat.member.seat.me.0 O.member.seat.me.0
+    O.ensures.step)
     F.ensures.had F.ensures.flushes

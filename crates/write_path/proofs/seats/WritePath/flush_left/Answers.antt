@@ -1,8 +1,5 @@
-use Rattle.std.proofs.Common.{◌≢◌, ℕ, ◌<◌, ◌≤◌, [], Option, inr, sym, ◌∙◌, subst, arith}
-use Rattle.write_path.specs.declared.flush.Flush.{Flush}
-use Rattle.write_path.specs.FlushFilings.{MayRefuse, unless_retired}
-use Rattle.write_path.proofs.FilingGoes.{may_before, may_behind, of_quiet}
-use Rattle.write_path.proofs.FilingRounds.{left_is}
+use Rattle.std.proofs.Common.{◌≢◌, ℕ, ◌<◌, ◌≤◌, [], inr, ◌∙◌, arith}
+use Rattle.write_path.proofs.FilingGoes.{of_quiet, retired_before, retired_behind}
 use Rattle.write_path.proofs.FlushTaking.{of_table}
 use Rattle.write_path.proofs.SwitchGoes.{newest_same, oldest_same, quiet_round, stage_same}
 use Rattle.write_path.proofs.seats.WritePath.flush_left.Goals as goal
@@ -61,16 +58,16 @@ returns-clause-settled g c = let t = c.args.table.0 in let T = c.take_sync_besid
     ∙ (stage_same t c.args.member.seat.me.0.part T.result.seat.me.0.part (T.ensures.tables t)
     ∙ c.requires.settled))
 
-pub returns-clause-refused : goal.returns-clause-refused
-returns-clause-refused g c = let t = c.args.table.0 in let T = c.take_sync_beside-member in
-    let M = c.retire_memtable-member in let G = c.give_sync_beside in
+pub returns-clause-passed : goal.returns-clause-passed
+returns-clause-passed g c = let t = c.args.table.0 in let T = c.take_sync_beside-member in
+    let M = c.retire_memtable-member in let G = c.give_sync_beside in let k = c.args.memtable in
     let w = c.args.member.number in let z = T.result.number in let y = M.result.0.number in
     let v = c.args.member.seat.me.0 in let u = T.result.seat.me.0 in
-    let x = M.result.0.seat.me.0 in let after = G.result.seat.me.0 in
-    let a = unless_retired M.result.1 in
-    subst (λ (o : Option Flush). MayRefuse w t v o after) (sym c.unless_retired.ensures)
-    (may_before w y t v x after a (M.ensures.same.1 ∙ T.ensures.same.1)
-    (may_behind w z t v u x a T.ensures.same.1 (of_quiet w t v u
-    (quiet_round w [] v u T.ensures.steps) (T.ensures.tables t))
-    (left_is z t c.args.memtable u x M.result.1 M.ensures.retired))
-    (of_quiet y t x after G.ensures.steps (G.ensures.tables t)))
+    let x = M.result.0.seat.me.0 in let after = G.result.seat.me.0 in record {
+      told = M.result.1;
+      is = c.unless_retired.ensures;
+      retired = retired_before w y t k v x after M.result.1 (M.ensures.same.1 ∙ T.ensures.same.1)
+          (retired_behind w z t k v u x M.result.1 T.ensures.same.1 (of_quiet w t v u
+          (quiet_round w [] v u T.ensures.steps) (T.ensures.tables t)) M.ensures.retired)
+          (of_quiet y t x after G.ensures.steps (G.ensures.tables t));
+    }

@@ -10,12 +10,15 @@ use Rattle.write_path.proofs.FlushAnswers.{flushed, got_turn}
 use Rattle.write_path.proofs.FlushBarring.{final_before}
 use Rattle.write_path.proofs.FlushGoes.{next, of_round, same_list}
 use Rattle.write_path.proofs.FlushTaking.{of_table}
+use Rattle.write_path.proofs.FlushWaits.{waits_none}
 use Rattle.write_path.proofs.SwitchGoes.{
+  kept_both,
   newest_same,
   oldest_same,
   on_none,
   on_some,
   quiet_round,
+  round_kept,
   settled_quiet,
   stage_same,
   then_quiet,
@@ -75,6 +78,7 @@ returns-in-None-clause-flushes g c = let t = c.args.table.0 in
               (N.steps.steps ++ T.ensures.steps.steps)
               (found_after (Current Write) N.last N.steps.steps T.ensures.steps.steps N.found),
         ),
+        waits_none w t Q.made.steps Q.none,
       );
     }
 
@@ -143,5 +147,7 @@ returns-in-Some-clause-flushes g c = let t = c.args.table.0 in let m = c.args.ne
     let A = next w z v u x first (of_round w [] v u T.ensures.steps) S.made in
     let F = final_before w t m key S.made.steps T.ensures.steps.steps
     (subst (λ k. Finalises k t m key S.made.steps) first S.set) in
-    flushed w y t m key v x e after M.result.1 second r M.ensures.same.1 A F S.wrote
+    let K = kept_both S.made.steps T.ensures.steps.steps S.kept
+    (round_kept w T.ensures.steps.steps T.ensures.steps.are) in
+    flushed w y t m key v x e after M.result.1 second r M.ensures.same.1 A F K S.wrote
     M.ensures.retired L.ensures.steps

@@ -1,7 +1,6 @@
 use Rattle.std.proofs.Common.{refl, ◌∙◌}
-use Rattle.write_path.proofs.FilingGoes.{none_made}
+use Rattle.write_path.proofs.FilingGoes.{none_made, then_unswitched, unswitched}
 use Rattle.write_path.proofs.FlushAnswers.{later}
-use Rattle.write_path.proofs.SwitchGoes.{then_quiet}
 use Rattle.write_path.proofs.seats.WritePath.flush_taken.Goals as goal
 
 pub loop-init : goal.loop-init
@@ -9,7 +8,8 @@ loop-init g c = let m = c.args.member in record {
   next = tt;
   finite = tt;
   stays = ((c.requires.table.0, c.requires.table.1), refl);
-  steps = (none_made m.number c.args.table.0 m.seat.me.0 m.seat.me.0 refl).made;
+  steps = unswitched m.number m.seat.me.0 m.seat.me.0
+      (none_made m.number c.args.table.0 m.seat.me.0 m.seat.me.0 refl).made;
   holds = c.requires.holds;
   settled = c.requires.settled;
 }
@@ -25,7 +25,7 @@ loop-preserved g c = let I = c.loop.invariant in let N = c.in-Ok in record {
   next = tt;
   finite = tt;
   stays = (N.ensures.same.0, N.ensures.same.1 ∙ I.stays.1);
-  steps = then_quiet c.args.member.number c.loop.member.number c.args.member.seat.me.0
+  steps = then_unswitched c.args.member.number c.loop.member.number c.args.member.seat.me.0
       c.loop.member.seat.me.0 N.next.seat.me.0 I.stays.1 I.steps N.ensures.goes;
   holds = N.ensures.holds.0;
   settled = N.ensures.holds.1;

@@ -18,7 +18,7 @@ returns-clause-same g c = let G = c.give_sync.ensures in (
 
 pub returns-clause-steps : goal.returns-clause-steps
 returns-clause-steps g c = let w = c.args.member.number in
-    quiet_one w (GiveTurn w Sync) 0 _ _ _ refl tt c.give_sync.ensures.step
+    quiet_one w (GiveTurn w Sync) 0 _ _ _ refl tt tt c.give_sync.ensures.step
 
 pub returns-clause-holds : goal.returns-clause-holds
 returns-clause-holds g c = let G = c.give_sync.ensures in let d = G.step in

@@ -31,4 +31,5 @@ returns-clause-steps g c = let w = c.args.member.number in let G = c.give_flush.
           (record { view = d.view; was = d.was }))
           (one _ (GiveTurn _ Sync) 0 _ _ _ refl c.give_sync_turn.ensures.step);
       none = (tt, (tt, tt));
+      kept = (tt, (tt, tt));
     }

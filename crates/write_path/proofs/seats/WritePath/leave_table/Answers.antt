@@ -10,4 +10,5 @@ returns-clause-steps g c = let w = c.args.member.number in
       made = one w (GiveTurn w (Flush c.args.table)) 0 _ _ _ refl
           (record { view = d.view; was = d.was });
       none = (tt, tt);
+      kept = (tt, tt);
     }

@@ -17,6 +17,7 @@ looked w z o n t v u after same a b = record {
       (record { view = a.view; was = a.was }))
       (one z (Look z (Newest t)) n _ u after refl (record { view = b.view; was = b.was }));
   none = (tt, (tt, tt));
+  kept = (tt, (tt, tt));
 }
 
 pub returns-then-oldest-newest-clause-steps : goal.returns-then-oldest-newest-clause-steps
@@ -45,11 +46,13 @@ pub returns-then-newest-ge-MEMTABLES-clause-found :
     goal.returns-then-newest-ge-MEMTABLES-clause-found
 returns-then-newest-ge-MEMTABLES-clause-found g c =
     let O = c.look_oldest_live-oldest in let N = c.look_newest-newest in
-    let low = N.ensures.below in let high = c.if-newest-ge-MEMTABLES.true in (
+    let low = N.ensures.below in let high = c.if-newest-ge-MEMTABLES.true in
+    let other = c.if-oldest-newest.false in let same : O.result ≡ N.result = omega (arith, other) in (
       looked c.args.member.now.number _ O.result N.result c.args.table _ _ _ O.ensures.same.1
           O.ensures.step N.ensures.step,
       omega (arith, low, high),
       inl (refl, refl),
+      inr (inl (refl, same)),
     )
 
 pub returns-else-newest-ge-MEMTABLES-clause-steps :

@@ -55,6 +55,7 @@ returns-clause-made g c =
     (then_table z _ t.0 _ _ _ L.ensures.same.1 three four) five in record {
       made = all.made;
       set = inl (n4, refl, refl, refl);
+      kept = (tt, (tt, (tt, (tt, (tt, tt)))));
       wrote = wrote_more L.result F.result.0 (F.ensures.above L.result R.ensures.raised) _
           (still_wrote z L.result _ _ last.made
           (under_log M.new.member.seat.me.0 z L.result L.ensures.found.0 L.ensures.found.1));

@@ -39,6 +39,6 @@ returns-clause-reading g c =
 pub returns-clause-steps : goal.returns-clause-steps
 returns-clause-steps g c = let F = c.note_filing-count in let d = F.ensures.step.4 in
     let w = c.args.member.number in record {
-      made = quiet_one w (Look w (CursorWord Stopped)) F.result _ _ _ refl tt d;
+      made = quiet_one w (Look w (CursorWord Stopped)) F.result _ _ _ refl tt tt d;
       stage = ap (λ (u : View). stage_of u.part c.args.table.0) d.view;
     }

@@ -9,7 +9,7 @@ use Rattle.path_rule.specs.Layout.{bound_word}
 use Rattle.write_path.specs.declared.flush_gathering.Gathered.{Gathered}
 use Rattle.write_path.specs.FlushGathers.{HasGathered}
 use Rattle.write_path.proofs.FilingGathers.{reads_it}
-use Rattle.write_path.proofs.FilingGoes.{of_read, retired_behind, then_filing}
+use Rattle.write_path.proofs.FilingGoes.{may_retire, of_read, retired_behind, then_filing}
 use Rattle.write_path.proofs.FilingRounds.{it_takes_none}
 use Rattle.write_path.proofs.FilingTurns.{barred_same, both_reads, of_both}
 use Rattle.write_path.proofs.FlushReadSteps.{on_bound, then_read}
@@ -180,12 +180,13 @@ returns-in-OutOfMemory-clause-retired g c = let R = c.read_whole-member in
     let L = c.look_read_bound-bound in let d = L.ensures.step in let m = c.args.member in
     let w = m.number in let z = R.result.0.number in let y = L.new.member.number in
     let t = c.args.table.0 in let u = R.result.0.seat.me.0 in
-    let x = L.new.member.seat.me.0 in let V = c.end_reading in record {
-      steps = then_filing w y t m.seat.me.0 x V.result.seat.me.0
-          (L.ensures.same.1 ∙ R.ensures.same.0.1)
-          (of_read w t m.seat.me.0 x (then_read w z t m.seat.me.0 u x R.ensures.same.0.1
-          R.ensures.steps (on_bound z t (bound_word (Final L.result)) c.args.table
-          c.args.memtable u.hands.reading u x (record { view = d.view; was = d.was }))))
-          (of_read y t x V.result.seat.me.0 V.ensures.steps);
-      is = tt;
+    let x = L.new.member.seat.me.0 in let V = c.end_reading in
+    let S = then_filing w y t m.seat.me.0 x V.result.seat.me.0
+    (L.ensures.same.1 ∙ R.ensures.same.0.1)
+    (of_read w t m.seat.me.0 x (then_read w z t m.seat.me.0 u x R.ensures.same.0.1
+    R.ensures.steps (on_bound z t (bound_word (Final L.result)) c.args.table
+    c.args.memtable u.hands.reading u x (record { view = d.view; was = d.was }))))
+    (of_read y t x V.result.seat.me.0 V.ensures.steps) in record {
+      steps = may_retire w t m.seat.me.0 V.result.seat.me.0 S;
+      is = S.made.kept;
     }

@@ -8,6 +8,7 @@ use Rattle.std.proofs.Common.{
   ◌∷◌,
   Option,
   Some,
+  inl,
   refl,
   sym,
   ap,
@@ -25,13 +26,13 @@ use Rattle.path_rule.specs.FilingTold.{SeesAll, next_file}
 use Rattle.path_rule.specs.Retires.{RetiresFiledIn}
 use Rattle.path_rule.specs.Rule.{Was}
 use Rattle.write_path.specs.declared.flush.Flush.{Flush}
-use Rattle.write_path.specs.FlushFilings.{FilingSteps, MayRefuse}
+use Rattle.write_path.specs.FlushFilings.{MayStop, RetiringSteps}
 use Rattle.write_path.proofs.FilingGoes.{
   filed_before,
   filed_one,
-  none_retired,
-  refused_behind,
-  then_filing,
+  may_retire,
+  stopped_behind,
+  then_retiring,
 }
 use Rattle.write_path.proofs.FilingPuts.{holder_filed, stage_filed}
 use Rattle.write_path.proofs.FilingRounds.{reads_none}
@@ -126,10 +127,12 @@ returns-in-Some-clause-retired g c =
     let D = c.drop_behind-member in let u = R.new.member.seat.me.0 in
     let z = R.new.member.number in let after = D.result.0.seat.me.0 in
     let a = c.in-Some.answer in
-    none_retired w t.0 k v after a (refused_behind w z t.0 v u after a R.ensures.same.1 (record {
+    let more : k + 1 ≡ suc k = omega arith in
+    stopped_behind w z t.0 k lo v u after a R.ensures.same.1 (record {
       made = filed_one w (Put w (OldestLive t) (k + 1)) (k + 1) lo _ v u refl tt d;
       stage = stage_filed v u w (k + 1) lo t (k + 1) _ d t.0;
-    }) (subst (λ (o : Option Flush). MayRefuse z t.0 u o after) c.in-Some.is D.ensures.refused))
+    }) (inl (refl, more, refl))
+    (subst (λ (o : Option Flush). MayStop z t.0 u o after) c.in-Some.is D.ensures.stopped)
 
 pub returns-in-None-clause-retired : goal.returns-in-None-clause-retired
 returns-in-None-clause-retired g c =
@@ -143,13 +146,14 @@ returns-in-None-clause-retired g c =
     let f = next_file h.lasting t.0 c.args.bound.0 F.0 in
     let W = subst (λ (n : ℕ). (was : Was v w (Put w (OldestLive t) n))
     × RetiresFiledIn was.core (Put w (OldestLive t) n) t.0 k f) more (R.ensures.was f F.2) in
-    let first : FilingSteps w t.0 v u = record {
+    let first : RetiringSteps w t.0 v u = record {
       made = filed_one w (Put w (OldestLive t) (k + 1)) (k + 1) lo _ v u refl tt d;
       stage = stage_filed v u w (k + 1) lo t (k + 1) _ d t.0;
     } in
-    let then = subst (λ (o : Option Flush). MayRefuse z t.0 u o after) c.in-None.is
-    D.ensures.refused in record {
-      steps = then_filing w z t.0 v u after R.ensures.same.1 first then;
+    let then = subst (λ (o : Option Flush). MayStop z t.0 u o after) c.in-None.is
+    D.ensures.stopped in record {
+      steps = then_retiring w z t.0 v u after R.ensures.same.1 first
+          (may_retire z t.0 u after then);
       is = filed_before w z t.0 k c.args.lower.0 c.args.bound.0 v u after (record {
         retires = record {
           before = v;

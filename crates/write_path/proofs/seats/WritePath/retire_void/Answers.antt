@@ -5,7 +5,7 @@ use Rattle.path_rule.specs.declared.view.View.{View}
 use Rattle.path_rule.specs.Lasts.{shows_of}
 use Rattle.path_rule.specs.Retires.{RetiresEmptyIn}
 use Rattle.path_rule.specs.Rule.{Was}
-use Rattle.write_path.proofs.FilingGoes.{quiet_one}
+use Rattle.write_path.proofs.FilingGoes.{unswitched_one}
 use Rattle.write_path.proofs.FilingTurns.{of_both}
 use Rattle.write_path.proofs.FlushRetires.{both_put, stage_put}
 use Rattle.write_path.proofs.seats.WritePath.retire_void.Goals as goal
@@ -38,7 +38,7 @@ returns-clause-retired g c = let m = c.args.member in let S = c.requires.sees in
     let W = subst (λ (n : ℕ). (was : Was m.seat.me.0 w (Put w (OldestLive t) n))
     × RetiresEmptyIn was.core t.0 k) more R.ensures.was in record {
       steps = record {
-        made = quiet_one w (Put w (OldestLive t) (k + 1)) (k + 1) _ _ _ refl tt R.ensures.step;
+        made = unswitched_one w (Put w (OldestLive t) (k + 1)) (k + 1) _ _ _ refl tt R.ensures.step;
         stage = stage_put m.seat.me.0 R.new.member.seat.me.0 w (k + 1) t (k + 1) _
             R.ensures.step t.0;
       };

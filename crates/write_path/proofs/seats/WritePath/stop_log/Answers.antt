@@ -37,7 +37,7 @@ returns-clause-reading g c = ap (λ (u : View). u.hands.reading) c.stop_filing.e
 pub returns-clause-told : goal.returns-clause-told
 returns-clause-told g c = let d = c.stop_filing.ensures.step.4 in let w = c.args.member.number in (
   record {
-    made = quiet_one w (Put w Stopped c.args.now) c.args.now _ _ _ refl tt d;
+    made = quiet_one w (Put w Stopped c.args.now) c.args.now _ _ _ refl tt tt d;
     stage = ap (λ (u : View). stage_of u.part c.args.table.0) d.view;
   },
   inl (refl, refl),

@@ -16,6 +16,7 @@ use Rattle.write_path.proofs.FlushBarring.{
   final_behind,
 }
 use Rattle.write_path.proofs.FlushGoes.{next, of_round, still_wrote}
+use Rattle.write_path.proofs.SwitchGoes.{kept_both, round_kept}
 use Rattle.write_path.proofs.seats.WritePath.switch_table.Goals as goal
 
 pub returns-then-current-eq-LAST_GROUP-clause-holds :
@@ -76,6 +77,9 @@ returns-clause-switched g c = let m = c.args.member in
       set = final_behind w t k key wait.steps (M.made.steps ++ look.steps)
           (final_before w t k key M.made.steps look.steps
           (subst (λ z. Finalises z t k key M.made.steps) n1 M.set));
+      kept = kept_both wait.steps (M.made.steps ++ look.steps)
+          (round_kept F.new.member.number wait.steps W.ensures.steps.are)
+          (kept_both M.made.steps look.steps M.kept (tt, tt));
       wrote = still_wrote F.new.member.number key _ _ wait M.wrote;
       hands = W.ensures.passed.1 ∙ (M.hands ∙ S.ensures.hands);
       drained = record {

@@ -13,6 +13,7 @@ returns-then-found-eq0-clause-step g c = let w = c.args.seat.member.number in
       made = one w (TakeTurn w (Flush c.args.table)) 1 _ _ _ refl
           (record { view = D.view; was = D.was });
       none = (tt, tt);
+      kept = (tt, tt);
     }
 
 pub returns-then-found-eq0-clause-holds : goal.returns-then-found-eq0-clause-holds

@@ -11,7 +11,7 @@ use Rattle.path_rule.specs.declared.view.View.{View}
 use Rattle.path_rule.specs.Filing.{MayPut}
 use Rattle.path_rule.specs.FilingTold.{next_file}
 use Rattle.path_rule.specs.Lasts.{shows_of}
-use Rattle.write_path.proofs.FilingGoes.{of_quiet, quiet_one, retired_behind, then_filing}
+use Rattle.write_path.proofs.FilingGoes.{may_retire, of_quiet, quiet_one, retired_behind, then_filing}
 use Rattle.write_path.proofs.FilingRounds.{takes_none, tries_round}
 use Rattle.write_path.proofs.FilingTurns.{awaits_still, barred_same, both_stopped, both_synced}
 use Rattle.write_path.proofs.seats.WritePath.try_file.Goals as goal
@@ -33,18 +33,22 @@ returns-then-now-gt0-clause-holds g c = let L = c.look_stopped-now in let m = c.
 pub returns-then-now-gt0-clause-tries : goal.returns-then-now-gt0-clause-tries
 returns-then-now-gt0-clause-tries g c = let L = c.look_stopped-now in let d = L.ensures.step in
     let w = c.args.member.number in let t = c.args.table.0 in let A = c.requires.awaits in
-    let same = sym c.size-at_open.ensures in (
+    let same = sym c.size-at_open.ensures in let v = c.args.member.seat.me.0 in
+    let u = L.new.member.seat.me.0 in (
       record {
-        steps = record {
-          made = quiet_one w (Look w (CursorWord Stopped)) L.result _ _ _ refl tt
+        steps = may_retire w t v u (record {
+          made = quiet_one w (Look w (CursorWord Stopped)) L.result _ v u refl tt tt
               (record { view = d.view; was = d.was });
-          stage = ap (λ (u : View). stage_of u.part t) d.view;
-        };
+          stage = ap (λ (x : View). stage_of x.part t) d.view;
+        });
         is = (
-          ap (λ (k : PathSize). k.at_open) (c.size-at_open.ensures ∙ sym c.requires.table.1),
-          subst (λ (k : PathSize). HasRisen k.at_open L.result) same
-              (L.ensures.risen c.if-now-gt0.true),
-          inl (refl, refl),
+          (
+            ap (λ (k : PathSize). k.at_open) (c.size-at_open.ensures ∙ sym c.requires.table.1),
+            subst (λ (k : PathSize). HasRisen k.at_open L.result) same
+                (L.ensures.risen c.if-now-gt0.true),
+            inl (refl, refl),
+          ),
+          inl (tt, tt),
         );
       },
       takes_none c.args.self.now.table.size.seats t c.args.memtable
@@ -129,9 +133,9 @@ returns-then-bound-key_behind-clause-tries g c = let L = c.look_stopped-now in
       retired_behind w y t c.args.memtable v x P.result.0.seat.me.0 P.result.1
           (F.ensures.same.1 ∙ L.ensures.same.1)
           (then_filing w z t v u x L.ensures.same.1
-          (of_quiet w t v u (quiet_one w (Look w (CursorWord Stopped)) L.result _ v u refl tt
+          (of_quiet w t v u (quiet_one w (Look w (CursorWord Stopped)) L.result _ v u refl tt tt
           (record { view = d.view; was = d.was })) (ap (λ (k : View). seat_table k.part t) d.view))
-          (of_quiet z t u x (quiet_one z (Look z (CursorWord Synced)) F.result _ u x refl tt
+          (of_quiet z t u x (quiet_one z (Look z (CursorWord Synced)) F.result _ u x refl tt tt
           (record { view = e.view; was = e.was }))
           (ap (λ (k : View). seat_table k.part t) e.view)))
           P.ensures.retired,
@@ -164,9 +168,9 @@ returns-clause-tries g c = let L = c.look_stopped-now in
     let b = c.args.bound.0 in let cells = c.args.cells.now in
     tries_round w y seats t k b cells v x after E.result.1 (F.ensures.same.1 ∙ L.ensures.same.1)
     (then_filing w z t v u x L.ensures.same.1
-    (of_quiet w t v u (quiet_one w (Look w (CursorWord Stopped)) L.result _ v u refl tt
+    (of_quiet w t v u (quiet_one w (Look w (CursorWord Stopped)) L.result _ v u refl tt tt
     (record { view = d.view; was = d.was })) (ap (λ (i : View). seat_table i.part t) d.view))
-    (of_quiet z t u x (quiet_one z (Look z (CursorWord Synced)) F.result _ u x refl tt
+    (of_quiet z t u x (quiet_one z (Look z (CursorWord Synced)) F.result _ u x refl tt tt
     (record { view = e.view; was = e.was })) (ap (λ (i : View). seat_table i.part t) e.view)))
     E.ensures.refused
     (awaits_still seats t k b cells v after
