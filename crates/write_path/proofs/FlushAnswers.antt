@@ -57,6 +57,7 @@ use Rattle.write_path.proofs.FlushWaits.{waits_all, waits_behind, waits_none}
 use Rattle.write_path.proofs.SwitchGoes.{
   bound_behind,
   bound_set,
+  free_after,
   kept_both,
   none_both,
   retires_behind,
@@ -239,6 +240,7 @@ is_later w t v u after (Rows WriteGroups made) steps Q got I = (
     I.2.0,
     none_both steps Q.made.steps I.2.1 Q.none,
     found_after (Current Write) I.0 steps Q.made.steps I.2.2,
+    free_after t steps Q.made.steps I.2.3,
   ),
   waits_behind w t steps Q.made.steps Q.none I.3,
 )
