@@ -29,7 +29,11 @@ use Rattle.std.specs.Option.{MatchOption, option_map, option_map_or}
 use Rattle.atomic_table.specs.Table.{Me}
 use Rattle.clog_base.specs.declared.cell.Table.{Table}
 use Rattle.op_core.specs.declared.count.Order.TheVariants.{Write, Append}
-use Rattle.path_core.specs.declared.event.Cursor.TheVariants.{OldestLive, Stopped as StoppedCursor, Synced}
+use Rattle.path_core.specs.declared.event.Cursor.TheVariants.{
+  OldestLive,
+  Stopped as StoppedCursor,
+  Synced,
+}
 use Rattle.path_core.specs.declared.event.Event.{Event}
 use Rattle.path_core.specs.declared.event.Event.TheVariants.{
   Look,

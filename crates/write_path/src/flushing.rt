@@ -193,10 +193,11 @@ impl<K: Keeper, A: Allocator> WritePath<K, A> {
     /// was found in the table's turn word; the seat only looked. `Rows` has the row of words of
     /// which a further one is wanted, and how many are in use; where it is one of memtables or of
     /// the write order, no memtable was switched. Where it is one of memtables, that memtable was
-    /// found to be the only one in use; where it is one of the write order, there was a word for the
-    /// next memtable; where it is one of the append order, the log was found running. Behind `Rows` and `OutOfMemory` a memtable that the call had made final waits for
-    /// the next flush, which begins with it; behind `Stopped` it does, or the keeper stopped behind
-    /// its table file. No clause says that it returns.
+    /// found to be the only one in use; where it is one of the write order, there was a word for
+    /// the next memtable; where it is one of the append order, the log was found running. Behind
+    /// `Rows` and `OutOfMemory` a memtable that the call had made final waits for the next flush,
+    /// which begins with it; behind `Stopped` it does, or the keeper stopped behind its table file.
+    /// No clause says that it returns.
     pub fn flush<R: Wait>(
         &self,
         rt: &R,

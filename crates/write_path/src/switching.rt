@@ -72,8 +72,8 @@ impl<K: Keeper, A: Allocator> WritePath<K, A> {
         }
     }
 
-    // Switches the newest memtable, which was found to be the only one in use, with the table's turn
-    // in hand. No clause says that it returns.
+    // Switches the newest memtable, which was found to be the only one in use, with the table's
+    // turn in hand. No clause says that it returns.
     fn switch_newest<R: Wait>(
         &self,
         rt: &R,
