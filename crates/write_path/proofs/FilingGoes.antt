@@ -1,5 +1,24 @@
 -- What the steps leave by which a flush files a memtable, one by one and together.
-use Rattle.std.proofs.Common.{◌≡◌, ℕ, ◌<◌, List, [], ◌∷◌, ◌++◌, Option, Some, None, is_some, sym, ap, ◌∙◌, subst, inl, inr, ⊎_elim}
+use Rattle.std.proofs.Common.{
+  ◌≡◌,
+  ℕ,
+  ◌<◌,
+  List,
+  [],
+  ◌∷◌,
+  ◌++◌,
+  Option,
+  Some,
+  None,
+  is_some,
+  sym,
+  ap,
+  ◌∙◌,
+  subst,
+  inl,
+  inr,
+  ⊎_elim,
+}
 use Rattle.std.proofs.lemmas.List.{append_assoc}
 use Rattle.clog_base.specs.declared.cell.Table.{Table}
 use Rattle.path_core.specs.declared.event.Event.{Event}

@@ -45,7 +45,8 @@ set_finds w t m key (Close by o g carried) n F = absurd F
 set_finds w t m key (SwitchStep by u k part) n F = absurd F
 set_finds w t m key (Raise by u k to) n F = absurd F
 
-pub final_finds : (w t m key : ℕ) (ts : List OwnStep) → Finalises w t m key ts → FindsFinal t m key ts
+pub final_finds : (w t m key : ℕ) (ts : List OwnStep) → Finalises w t m key ts
+    → FindsFinal t m key ts
 final_finds w t m key [] F = absurd F
 final_finds w t m key (s ∷ ss) F =
     ⊎_elim (λ now. inl (set_finds w t m key s.event s.found now))

@@ -1,5 +1,22 @@
 -- What a flush answers, put together from the steps of its parts.
-use Rattle.std.proofs.Common.{◌≡◌, ℕ, ◌+◌, length, List, ◌++◌, Some, inl, inr, ⊎_elim, refl, sym, ap, ◌∙◌, subst, arith}
+use Rattle.std.proofs.Common.{
+  ◌≡◌,
+  ℕ,
+  ◌+◌,
+  length,
+  List,
+  ◌++◌,
+  Some,
+  inl,
+  inr,
+  ⊎_elim,
+  refl,
+  sym,
+  ap,
+  ◌∙◌,
+  subst,
+  arith,
+}
 use Rattle.std.proofs.lemmas.Option.{none-some, same_Some}
 use Rattle.clog_base.specs.declared.cell.Table.{Table}
 use Rattle.op_core.specs.declared.count.Order.TheVariants.{Append, Write}
@@ -57,6 +74,7 @@ use Rattle.write_path.proofs.FlushWaits.{waits_all, waits_behind, waits_none}
 use Rattle.write_path.proofs.SwitchGoes.{
   bound_behind,
   bound_set,
+  free_after,
   kept_both,
   none_both,
   retires_behind,
@@ -239,6 +257,7 @@ is_later w t v u after (Rows WriteGroups made) steps Q got I = (
     I.2.0,
     none_both steps Q.made.steps I.2.1 Q.none,
     found_after (Current Write) I.0 steps Q.made.steps I.2.2,
+    free_after t steps Q.made.steps I.2.3,
   ),
   waits_behind w t steps Q.made.steps Q.none I.3,
 )

@@ -1,7 +1,6 @@
 -- Which memtables wait still behind the steps of a flush: those that its steps made final, and that
 -- none of the later ones retired.
-use Rattle.std.proofs.Common.{◌≡◌, ℕ, suc, List, [], ◌∷◌, ◌++◌, inl, inr, ⊎_elim, subst}
-use Rattle.path_core.specs.declared.event.Cursor.TheVariants.{OldestLive}
+use Rattle.std.proofs.Common.{ℕ, List, [], ◌∷◌, ◌++◌, inl, inr, ⊎_elim, subst}
 use Rattle.path_core.specs.declared.event.Event.{Event}
 use Rattle.path_core.specs.declared.event.Event.TheVariants.{
   Look,

@@ -29,7 +29,11 @@ use Rattle.std.specs.Option.{MatchOption, option_map, option_map_or}
 use Rattle.atomic_table.specs.Table.{Me}
 use Rattle.clog_base.specs.declared.cell.Table.{Table}
 use Rattle.op_core.specs.declared.count.Order.TheVariants.{Write, Append}
-use Rattle.path_core.specs.declared.event.Cursor.TheVariants.{OldestLive, Stopped as StoppedCursor, Synced}
+use Rattle.path_core.specs.declared.event.Cursor.TheVariants.{
+  OldestLive,
+  Stopped as StoppedCursor,
+  Synced,
+}
 use Rattle.path_core.specs.declared.event.Event.{Event}
 use Rattle.path_core.specs.declared.event.Event.TheVariants.{
   Look,
@@ -101,7 +105,7 @@ use Rattle.write_path.specs.FlushSteps.{
   SwitchesNone,
 }
 use Rattle.write_path.specs.FlushTurns.{FindsMemtables, HoldsBoth}
-use Rattle.write_path.specs.Switched.{HadTurn, IsSettled, IsSwitch, SetsBound, Switches}
+use Rattle.write_path.specs.Switched.{FindsFree, HadTurn, IsSettled, IsSwitch, SetsBound, Switches}
 use Rattle.write_path.proofs.FlushBarring.{final_before, final_behind}
 use Rattle.write_path.proofs.FlushGoes.{next, of_round, one, same_list}
 use Rattle.write_path.proofs.SyncLists.{list_below}
@@ -233,6 +237,34 @@ quiet_round w puts v after S = record {
   kept = round_kept w S.steps S.are;
 }
 
+-- ---- a memtable that was found free, before and behind further steps
+
+pub free_after : (t : ℕ) (newer older : List OwnStep) → FindsFree t newer
+    → FindsFree t (newer ++ older)
+free_after t newer older F = record {
+  memtable = F.memtable;
+  next = F.next;
+  newest = found_after (Newest (record { 0 = t })) F.memtable newer older F.newest;
+  least = found_after (CursorWord (OldestLive (record { 0 = t }))) F.memtable newer older F.least;
+}
+
+pub free_before : (t : ℕ) (newer older : List OwnStep) → FindsFree t older
+    → FindsFree t (newer ++ older)
+free_before t newer older F = record {
+  memtable = F.memtable;
+  next = F.next;
+  newest = found_before (Newest (record { 0 = t })) F.memtable newer older F.newest;
+  least = found_before (CursorWord (OldestLive (record { 0 = t }))) F.memtable newer older F.least;
+}
+
+pub settled_had : (w t m key : ℕ) (v : View) (a : Switch) (after : View)
+    → IsSettled w t m key v a after → HadTurn a
+settled_had w t m key v (Empty found) after I = tt
+settled_had w t m key v (Left found) after I = tt
+settled_had w t m key v (Waits k) after I = absurd I
+settled_had w t m key v (Busy found) after I = absurd I
+settled_had w t m key v (Rows row made) after I = absurd I
+
 -- ---- a memtable that was retired behind further steps
 
 pub retires_behind : (w z t m : ℕ) (v u after : View) → z ≡ w → FlushSteps w v u
@@ -321,6 +353,7 @@ is_behind w t v u after (Rows WriteGroups made) steps Q had I = (
     I.2.0,
     none_both steps Q.made.steps I.2.1 Q.none,
     found_after (Current Write) I.0 steps Q.made.steps I.2.2,
+    free_after t steps Q.made.steps I.2.3,
   ),
 )
 is_behind w t v u after (Rows AppendGroups made) steps Q had I = (

@@ -17,6 +17,7 @@ use Rattle.path_rule.specs.Switches.{FlushNewest, FlushOldest}
 use Rattle.write_path.specs.declared.flush_turn.Memtables.{Memtables}
 use Rattle.write_path.specs.declared.flush_turn.Memtables.TheVariants.{Left, Full, Free}
 use Rattle.write_path.specs.FlushSteps.{QuietSteps}
+use Rattle.write_path.specs.Switched.{FindsFree}
 
 -- It has the Flush turn of a table that there is, and that of no other. It runs no write.
 pub record IsHolder (t : ℕ) (v : View) : Type 0 where
@@ -56,8 +57,15 @@ FindsMemtables t (Left m) v after w = (s : QuietSteps w v after)
 FindsMemtables t (Full n) v after w = (s : QuietSteps w v after) × (n + 1 ≡ memtable_rows)
     × Finds (Newest (record { 0 = t })) n s.made.steps
     × Finds (CursorWord (OldestLive (record { 0 = t }))) n s.made.steps
+    × FlushOldest t after.part n × FlushNewest t after.part n
 FindsMemtables t (Free n) v after w = FlushOldest t after.part n × FlushNewest t after.part n
     × (n + 1 < memtable_rows)
+
+-- Where there is a word for the next one, that was found at these steps.
+abbrev pub FindsNext : ℕ → Memtables → View → View → ℕ → Type 0
+FindsNext t (Left m) v after w = Unit {0}
+FindsNext t (Full n) v after w = Unit {0}
+FindsNext t (Free n) v after w = (s : QuietSteps w v after) × FindsFree t s.made.steps
 
 -- Where one was left, it is known as the least that is not retired, and another as the newest.
 abbrev pub KnowsLeft : ℕ → Memtables → View → Type 0

@@ -1,5 +1,5 @@
 -- What a switch answers, and what is so then of its seat and the seat's list.
-use Rattle.std.specs.Prelude.{◌≡◌, ◌≢◌, ℕ, suc, ◌≤◌, List, length}
+use Rattle.std.specs.Prelude.{◌≡◌, ◌≢◌, ℕ, suc, ◌<◌, ◌≤◌, List, length}
 use Rattle.std.specs.List.{Contains}
 use Rattle.op_core.specs.declared.count.Order.TheVariants.{Write, Append}
 use Rattle.path_core.specs.declared.event.Cursor.TheVariants.{OldestLive, Stopped as StoppedCursor}
@@ -33,16 +33,24 @@ pub record SetsBound (w t m key : ℕ) (steps : List OwnStep) (v : View) : Type 
   pub set : Finalises w t m key steps
   pub covers : (n : EntryNote) → Contains (writes_of v.trail) n → n.end.0 ≤ key
 
+-- At these steps one memtable was found as the newest of table t and as the least that is not
+-- retired, and there is a word for the next one.
+pub record FindsFree (t : ℕ) (steps : List OwnStep) : Type 0 where
+  pub memtable : ℕ
+  pub next : suc memtable < memtable_rows
+  pub newest : Finds (Newest (record { 0 = t })) memtable steps
+  pub least : Finds (CursorWord (OldestLive (record { 0 = t }))) memtable steps
+
 -- The last word of a row was found in use at one of these steps: that of the number before the one
--- that is wanted. Where it is a word that a switch wants, they switch nothing; where one of
--- memtables, that memtable is the only one not retired. Where a sync wants it, the log was found
--- running.
+-- that is wanted. Where it is a word that a switch wants, they switch nothing. Where it is one of
+-- memtables, that memtable is the only one not retired; where it is one of the write order, a
+-- memtable was free. Where a sync wants it, the log was found running.
 abbrev pub FindsLast : Row → ℕ → ℕ → List OwnStep → Type 0
 FindsLast Memtables t last steps = (suc last ≡ memtable_rows) × SwitchesNone steps
     × Finds (Newest (record { 0 = t })) last steps
     × Finds (CursorWord (OldestLive (record { 0 = t }))) last steps
 FindsLast WriteGroups t last steps = (suc last ≡ group_rows) × SwitchesNone steps
-    × Finds (Current Write) last steps
+    × Finds (Current Write) last steps × FindsFree t steps
 FindsLast AppendGroups t last steps = (suc last ≡ group_rows)
     × Finds (Current Append) last steps × Finds (CursorWord StoppedCursor) 0 steps
 

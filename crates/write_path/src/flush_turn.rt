@@ -14,6 +14,7 @@ ghost use Rattle.path_rule.specs.SyncAnswers.{KnowsMarker};
 ghost use Rattle.write_path.specs.FlushSteps.{QuietSteps};
 ghost use Rattle.write_path.specs.FlushTurns.{
   FindsMemtables,
+  FindsNext,
   HasTable,
   HoldsBoth,
   HoldsTable,
@@ -87,6 +88,8 @@ impl<K: Keeper, A: Allocator> WritePath<K, A> {
         ensures found { FindsMemtables table.0 result (view_of member.old) (view_of member.new)
             member.old.number }
         ensures left { KnowsLeft table.0 result (view_of member.new) }
+        ensures free { FindsNext table.0 result (view_of member.old) (view_of member.new)
+            member.old.number }
     {
         let oldest = self.table.look_oldest_live(member, table);
         let newest = self.table.look_newest(member, table);

@@ -7,13 +7,15 @@
 ghost use Rattle.std.specs.Prelude.{◌≡◌, ◌≢◌, ◌+◌, ◌<◌, ℕ, true, Some, MatchResult};
 ghost use Rattle.path_core.specs.declared.seat.Switching.TheVariants.{Settled};
 ghost use Rattle.path_core.specs.Parts.{stage_of};
+ghost use Rattle.path_rule.specs.declared.view.View.{View};
 ghost use Rattle.path_rule.specs.Lasts.{shows_of};
 ghost use Rattle.path_rule.specs.Members.{view_of, part_of, IsOf};
 ghost use Rattle.path_rule.specs.Switches.{FlushNewest, FlushOldest};
 ghost use Rattle.write_path.specs.FlushFilings.{PassesLeft, unless_retired};
 ghost use Rattle.write_path.specs.Flushed.{Flushes, GotTurn};
-ghost use Rattle.write_path.specs.FlushSteps.{UnswitchedSteps};
+ghost use Rattle.write_path.specs.FlushSteps.{QuietSteps, UnswitchedSteps};
 ghost use Rattle.write_path.specs.FlushTurns.{HoldsTable};
+ghost use Rattle.write_path.specs.Switched.{FindsFree};
 ghost use Rattle.write_path.specs.Tries.{Stays};
 
 use crate::flush::Flush;
@@ -73,7 +75,7 @@ impl<K: Keeper, A: Allocator> WritePath<K, A> {
         (self.give_sync_beside(member, table), unless_retired(answer))
     }
 
-    // Switches the newest memtable, which is the only one in use, and retires it.
+    // Switches the newest memtable, which was found to be the only one in use, and retires it.
     fn flush_newest<R: Wait>(
         &self,
         rt: &R,
@@ -91,8 +93,9 @@ impl<K: Keeper, A: Allocator> WritePath<K, A> {
         ensures same { Stays self.now.table.table.shared.table_id self.now.table.size member
             result.0.member }
         ensures had { GotTurn result.1 }
-        ensures flushes { Flushes member.number table.0 (view_of member) result.1
-            (view_of result.0.member) }
+        ensures flushes { (w : ℕ) (v : View) (q : QuietSteps w v (view_of member))
+            → member.number ≡ w → FindsFree table.0 q.made.steps
+            → Flushes w table.0 v result.1 (view_of result.0.member) }
     {
         let member = self.take_sync_beside(rt, member, table);
         let (member, bound) = self.switch_table(rt, member, table, newest);
@@ -190,10 +193,11 @@ impl<K: Keeper, A: Allocator> WritePath<K, A> {
     /// was found in the table's turn word; the seat only looked. `Rows` has the row of words of
     /// which a further one is wanted, and how many are in use; where it is one of memtables or of
     /// the write order, no memtable was switched. Where it is one of memtables, that memtable was
-    /// found to be the only one in use; where it is one of the append order, the log was found
-    /// running. Behind `Rows` and `OutOfMemory` a memtable that the call had made final waits for
-    /// the next flush, which begins with it; behind `Stopped` it does, or the keeper stopped behind
-    /// its table file. No clause says that it returns.
+    /// found to be the only one in use; where it is one of the write order, there was a word for
+    /// the next memtable; where it is one of the append order, the log was found running. Behind
+    /// `Rows` and `OutOfMemory` a memtable that the call had made final waits for the next flush,
+    /// which begins with it; behind `Stopped` it does, or the keeper stopped behind its table file.
+    /// No clause says that it returns.
     pub fn flush<R: Wait>(
         &self,
         rt: &R,

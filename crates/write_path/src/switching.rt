@@ -2,15 +2,16 @@
 //! table's Flush turn, and beside it the Sync turn; it makes the next memtable, and the newest one
 //! so far final; it waits for the barrier, and looks into the boxes of all seats. Then it gives both
 //! turns back, and is idle again.
-ghost use Rattle.std.specs.Prelude.{◌≡◌, ◌+◌, ◌<◌, None, Some};
+ghost use Rattle.std.specs.Prelude.{◌≡◌, ◌+◌, ◌<◌, ℕ, None, Some};
 ghost use Rattle.path_core.specs.declared.seat.Switching.TheVariants.{Settled};
 ghost use Rattle.path_core.specs.Parts.{stage_of};
+ghost use Rattle.path_rule.specs.declared.view.View.{View};
 ghost use Rattle.path_rule.specs.Lasts.{shows_of};
 ghost use Rattle.path_rule.specs.Members.{view_of, part_of, hands_of, IsOf};
 ghost use Rattle.path_rule.specs.Switches.{FlushNewest, FlushOldest};
 ghost use Rattle.write_path.specs.FlushSteps.{FlushSteps, QuietSteps};
 ghost use Rattle.write_path.specs.FlushTurns.{HoldsBoth, HoldsTable, IsDrained};
-ghost use Rattle.write_path.specs.Switched.{HadTurn, IsSettled, Switches};
+ghost use Rattle.write_path.specs.Switched.{FindsFree, HadTurn, IsSettled, Switches};
 ghost use Rattle.write_path.specs.Tries.{Stays};
 
 use crate::flush_turn::Memtables;
@@ -71,8 +72,8 @@ impl<K: Keeper, A: Allocator> WritePath<K, A> {
         }
     }
 
-    // Switches the newest memtable, which is the only one in use, with the table's turn in hand. No
-    // clause says that it returns.
+    // Switches the newest memtable, which was found to be the only one in use, with the table's
+    // turn in hand. No clause says that it returns.
     fn switch_newest<R: Wait>(
         &self,
         rt: &R,
@@ -89,8 +90,9 @@ impl<K: Keeper, A: Allocator> WritePath<K, A> {
         ensures same { Stays self.now.table.table.shared.table_id self.now.table.size member
             result.0.member }
         ensures had { HadTurn result.1 }
-        ensures switches { Switches member.number table.0 (view_of member) result.1
-            (view_of result.0.member) }
+        ensures switches { (w : ℕ) (v : View) (q : QuietSteps w v (view_of member))
+            → member.number ≡ w → FindsFree table.0 q.made.steps
+            → Switches w table.0 v result.1 (view_of result.0.member) }
     {
         let member = self.take_sync_beside(rt, member, table);
         let (member, bound) = self.switch_table(rt, member, table, newest);

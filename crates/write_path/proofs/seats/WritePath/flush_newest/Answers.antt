@@ -6,12 +6,14 @@ use Rattle.path_rule.specs.declared.view.Hands.{Hands}
 use Rattle.path_rule.proofs.seats.Answering.{found_after, found_before}
 use Rattle.write_path.specs.FlushSteps.{Finalises}
 use Rattle.write_path.specs.FlushSwitches.{SwitchedNone, SwitchedTo}
-use Rattle.write_path.proofs.FlushAnswers.{flushed, got_turn}
+use Rattle.write_path.proofs.FilingGoes.{unswitched}
+use Rattle.write_path.proofs.FlushAnswers.{flushed, got_turn, later}
 use Rattle.write_path.proofs.FlushBarring.{final_before}
 use Rattle.write_path.proofs.FlushGoes.{next, of_round, same_list}
 use Rattle.write_path.proofs.FlushTaking.{of_table}
 use Rattle.write_path.proofs.FlushWaits.{waits_none}
 use Rattle.write_path.proofs.SwitchGoes.{
+  free_before,
   kept_both,
   newest_same,
   oldest_same,
@@ -65,20 +67,23 @@ returns-in-None-clause-flushes g c = let t = c.args.table.0 in
     let first = T.ensures.same.1 in let second = W.ensures.same.1 ∙ first in
     let L = c.leave_both.ensures.steps in
     let Q = then_quiet w y v x after second (then_quiet w z v u x first
-    (quiet_round w [] v u T.ensures.steps) (quiet_round z [] u x N.steps)) L in record {
-      steps = Q.made;
-      list = same_list w v after Q.made;
+    (quiet_round w [] v u T.ensures.steps) (quiet_round z [] u x N.steps)) L in
+    λ k b q same free. let A = then_quiet k w b v after same q Q in record {
+      steps = A.made;
+      list = same_list k b after A.made;
       is = (
         N.last,
         N.all,
         (
           N.all,
-          Q.none,
-          found_before (Current Write) N.last L.made.steps
+          A.none,
+          found_after (Current Write) N.last Q.made.steps q.made.steps
+              (found_before (Current Write) N.last L.made.steps
               (N.steps.steps ++ T.ensures.steps.steps)
-              (found_after (Current Write) N.last N.steps.steps T.ensures.steps.steps N.found),
+              (found_after (Current Write) N.last N.steps.steps T.ensures.steps.steps N.found)),
+          free_before t Q.made.steps q.made.steps free,
         ),
-        waits_none w t Q.made.steps Q.none,
+        waits_none k t A.made.steps A.none,
       );
     }
 
@@ -149,5 +154,7 @@ returns-in-Some-clause-flushes g c = let t = c.args.table.0 in let m = c.args.ne
     (subst (λ k. Finalises k t m key S.made.steps) first S.set) in
     let K = kept_both S.made.steps T.ensures.steps.steps S.kept
     (round_kept w T.ensures.steps.steps T.ensures.steps.are) in
-    flushed w y t m key v x e after M.result.1 second r M.ensures.same.1 A F K S.wrote
-    M.ensures.retired L.ensures.steps
+    λ k b q same free. later k w t b v after M.result.1 same (unswitched k b v q)
+    (got_turn y t m x e M.result.1 M.ensures.retired)
+    (flushed w y t m key v x e after M.result.1 second r M.ensures.same.1 A F K S.wrote
+    M.ensures.retired L.ensures.steps)

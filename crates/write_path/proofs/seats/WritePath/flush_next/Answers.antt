@@ -36,8 +36,6 @@ returns-in-Full-clause-goes g c = let L = c.look_memtables in
     c.leave_table-in-Full.ensures.steps
 
 pub returns-in-Free-clause-goes : goal.returns-in-Free-clause-goes
-returns-in-Free-clause-goes g c = let L = c.look_memtables in let E = c.flush_newest in
-    later c.args.member.number L.new.member.number c.args.table.0 c.args.member.seat.me.0
-    L.new.member.seat.me.0 E.result.0.member.seat.me.0 E.result.1 L.ensures.same.1
-    (unswitched c.args.member.number c.args.member.seat.me.0 L.new.member.seat.me.0
-    c.in-Free.ensures.steps) E.ensures.had E.ensures.flushes
+returns-in-Free-clause-goes g c = let free = c.in-Free.ensures.free in
+    c.flush_newest.ensures.flushes c.args.member.number c.args.member.seat.me.0 free.0
+    c.look_memtables.ensures.same.1 free.1

@@ -1,10 +1,12 @@
-use Rattle.std.proofs.Common.{◌≡◌, ℕ, inl, inr, refl, arith}
+use Rattle.std.proofs.Common.{◌≡◌, ℕ, inl, inr, refl, sym, subst, Option, is_some, IsTrue, arith}
 use Rattle.clog_base.specs.declared.cell.Table.{Table}
 use Rattle.path_core.specs.declared.event.Cursor.TheVariants.{OldestLive}
 use Rattle.path_core.specs.declared.event.Event.TheVariants.{Look}
 use Rattle.path_core.specs.declared.event.Place.TheVariants.{CursorWord, Newest}
+use Rattle.path_core.specs.declared.seat.FlushTurn.{FlushTurn}
 use Rattle.path_rule.specs.declared.view.View.{View}
 use Rattle.path_rule.specs.Calls.{Did}
+use Rattle.path_rule.specs.Switches.{FlushOldest}
 use Rattle.write_path.specs.FlushSteps.{QuietSteps}
 use Rattle.write_path.proofs.FlushGoes.{next, one}
 use Rattle.write_path.proofs.seats.WritePath.look_memtables.Goals as goal
@@ -47,12 +49,16 @@ pub returns-then-newest-ge-MEMTABLES-clause-found :
 returns-then-newest-ge-MEMTABLES-clause-found g c =
     let O = c.look_oldest_live-oldest in let N = c.look_newest-newest in
     let low = N.ensures.below in let high = c.if-newest-ge-MEMTABLES.true in
-    let other = c.if-oldest-newest.false in let same : O.result ≡ N.result = omega (arith, other) in (
+    let other = c.if-oldest-newest.false in let same : O.result ≡ N.result = omega (arith, other) in
+    let t = c.args.table.0 in let oldest = O.ensures.turn c.requires.holds.holder.held in (
       looked c.args.member.now.number _ O.result N.result c.args.table _ _ _ O.ensures.same.1
           O.ensures.step N.ensures.step,
       omega (arith, low, high),
       inl (refl, refl),
       inr (inl (refl, same)),
+      subst (λ (n : ℕ). FlushOldest t N.new.member.seat.me.0.part n) same
+          (N.ensures.keeps O.result oldest),
+      N.ensures.turn (subst (λ (o : Option FlushTurn). IsTrue (is_some o)) (sym oldest.1) refl),
     )
 
 pub returns-else-newest-ge-MEMTABLES-clause-steps :
@@ -61,3 +67,19 @@ returns-else-newest-ge-MEMTABLES-clause-steps g c =
     let O = c.look_oldest_live-oldest in let N = c.look_newest-newest in
     looked c.args.member.now.number _ O.result N.result c.args.table _ _ _ O.ensures.same.1
     O.ensures.step N.ensures.step
+
+pub returns-else-newest-ge-MEMTABLES-clause-free :
+    goal.returns-else-newest-ge-MEMTABLES-clause-free
+returns-else-newest-ge-MEMTABLES-clause-free g c =
+    let O = c.look_oldest_live-oldest in let N = c.look_newest-newest in
+    let low = c.if-newest-ge-MEMTABLES.false in let other = c.if-oldest-newest.false in
+    let same : O.result ≡ N.result = omega (arith, other) in (
+      looked c.args.member.now.number _ O.result N.result c.args.table _ _ _ O.ensures.same.1
+          O.ensures.step N.ensures.step,
+      record {
+        memtable = N.result;
+        next = omega (arith, low);
+        newest = inl (refl, refl);
+        least = inr (inl (refl, same));
+      },
+    )

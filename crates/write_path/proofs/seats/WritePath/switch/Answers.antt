@@ -1,5 +1,5 @@
 use Rattle.std.proofs.Common.{◌∙◌}
-use Rattle.write_path.proofs.SwitchGoes.{behind, busy_is, full_is, then_quiet, waits_is}
+use Rattle.write_path.proofs.SwitchGoes.{busy_is, free_after, full_is, then_quiet, waits_is}
 use Rattle.write_path.proofs.seats.WritePath.switch.Goals as goal
 
 pub returns-in-Err-clause-switches : goal.returns-in-Err-clause-switches
@@ -28,7 +28,8 @@ returns-in-Free-clause-switches g c = let O = c.in-Ok in let M = c.look_memtable
     let first = O.ensures.same.1 in let w = c.args.seat.member.number in
     let v = c.args.seat.member.seat.me.0 in let u = O.member.seat.me.0 in
     let x = M.new.member.seat.me.0 in
-    behind w M.new.member.number c.args.table.0 v x c.switch_newest.result.0.member.seat.me.0
-    c.switch_newest.result.1 (M.ensures.same.1 ∙ first)
-    (then_quiet w O.member.number v u x first O.ensures.step c.in-Free.ensures.steps)
-    c.switch_newest.ensures.had c.switch_newest.ensures.switches
+    let free = c.in-Free.ensures.free in
+    c.switch_newest.ensures.switches w v
+    (then_quiet w O.member.number v u x first O.ensures.step free.0)
+    (M.ensures.same.1 ∙ first)
+    (free_after c.args.table.0 free.0.made.steps O.ensures.step.made.steps free.1)

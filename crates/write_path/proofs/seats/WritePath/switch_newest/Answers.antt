@@ -9,11 +9,14 @@ use Rattle.write_path.specs.FlushSwitches.{SwitchedNone, SwitchedTo}
 use Rattle.write_path.proofs.FlushBarring.{final_before}
 use Rattle.write_path.proofs.FlushGoes.{next, of_round, same_list, still_wrote}
 use Rattle.write_path.proofs.SwitchGoes.{
+  behind,
+  free_before,
   newest_same,
   oldest_same,
   on_none,
   on_some,
   quiet_round,
+  settled_had,
   settled_is,
   settled_quiet,
   stage_same,
@@ -59,12 +62,14 @@ returns-in-Some-clause-switches g c = let t = c.args.table.0 in let m = c.args.n
     let A = next w z v u x first (of_round w [] v u T.ensures.steps) S.made in
     let F = final_before w t m key S.made.steps T.ensures.steps.steps
     (subst (λ k. Finalises k t m key S.made.steps) first S.set) in
-    let B = next w y v x after second A E.steps in record {
+    let B = next w y v x after second A E.steps in
+    λ k b q same free. behind k w t b v after c.settle.result.1 same q
+    (settled_had y t m key x c.settle.result.1 after E.settled) (record {
       steps = B;
       list = same_list w v after B;
       is = settled_is w y t m key v x after c.settle.result.1 E.steps.steps A second F
           (still_wrote y key x after E.steps S.wrote) E.settled;
-    }
+    })
 
 pub returns-in-None-clause-switches : goal.returns-in-None-clause-switches
 returns-in-None-clause-switches g c = let t = c.args.table.0 in
@@ -77,18 +82,21 @@ returns-in-None-clause-switches g c = let t = c.args.table.0 in
     let first = T.ensures.same.1 in let second = W.ensures.same.1 ∙ first in
     let L = c.leave_both.ensures.steps in
     let Q = then_quiet w y v x after second (then_quiet w z v u x first
-    (quiet_round w [] v u T.ensures.steps) (quiet_round z [] u x N.steps)) L in record {
-      steps = Q.made;
-      list = same_list w v after Q.made;
+    (quiet_round w [] v u T.ensures.steps) (quiet_round z [] u x N.steps)) L in
+    λ k b q same free. let A = then_quiet k w b v after same q Q in record {
+      steps = A.made;
+      list = same_list k b after A.made;
       is = (
         N.last,
         N.all,
         (
           N.all,
-          Q.none,
-          found_before (Current Write) N.last L.made.steps
+          A.none,
+          found_after (Current Write) N.last Q.made.steps q.made.steps
+              (found_before (Current Write) N.last L.made.steps
               (N.steps.steps ++ T.ensures.steps.steps)
-              (found_after (Current Write) N.last N.steps.steps T.ensures.steps.steps N.found),
+              (found_after (Current Write) N.last N.steps.steps T.ensures.steps.steps N.found)),
+          free_before t Q.made.steps q.made.steps free,
         ),
       );
     }

@@ -11,7 +11,13 @@ use Rattle.path_rule.specs.declared.view.View.{View}
 use Rattle.path_rule.specs.Filing.{MayPut}
 use Rattle.path_rule.specs.FilingTold.{next_file}
 use Rattle.path_rule.specs.Lasts.{shows_of}
-use Rattle.write_path.proofs.FilingGoes.{may_retire, of_quiet, quiet_one, retired_behind, then_filing}
+use Rattle.write_path.proofs.FilingGoes.{
+  may_retire,
+  of_quiet,
+  quiet_one,
+  retired_behind,
+  then_filing,
+}
 use Rattle.write_path.proofs.FilingRounds.{takes_none, tries_round}
 use Rattle.write_path.proofs.FilingTurns.{awaits_still, barred_same, both_stopped, both_synced}
 use Rattle.write_path.proofs.seats.WritePath.try_file.Goals as goal
