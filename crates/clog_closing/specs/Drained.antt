@@ -1,4 +1,4 @@
--- What becomes of a keeper that was just opened, where laid notes are to be logged, and drained.
+-- What becomes of a keeper that is drained.
 use Rattle.std.specs.Prelude.{
   ◌≡◌,
   ◌↔◌,

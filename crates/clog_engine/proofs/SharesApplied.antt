@@ -1,4 +1,4 @@
--- A run whose lines several writers were to log: what it answers, from what its steps answered.
+-- A run whose lines writers were to log: what it answers, from what its steps answered.
 use Rattle.std.proofs.Common.{
   ◌≡◌,
   ℕ,

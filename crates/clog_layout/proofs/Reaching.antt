@@ -1,4 +1,4 @@
--- How far laid notes reach: no segment is passed over, and the last line is where the last note is.
+-- A list of numbers without a gap, and the last line of notes.
 use Rattle.std.proofs.Common.{
   ◌≡◌,
   ℕ,
@@ -54,8 +54,8 @@ is_range base (x ∷ xs) rise low down =
     ∙ ap (λ (n : ℕ). n ∷ range_with_len (base + 1) (length xs)) first
 
 -- ---- the last line
--- a last line stands where notes end
 
+-- a last line stands where notes end
 pub record HasLast (base : ℕ) (laid : List EntryNote) (history : List LoggedLine) (key : ℕ)
     : Type 0 where
   pub front : List LoggedLine

@@ -29,7 +29,7 @@ AreNotesOf base [] (w ∷ ws) = ⊥
 AreNotesOf base (n ∷ ns) [] = ⊥
 AreNotesOf base (n ∷ ns) (w ∷ ws) = IsNoteOf base n w × AreNotesOf base ns ws
 
--- The note, wherever it is to be laid, has the entry of a mutation, and its tables.
+-- The note, wherever it stands, has the entry of a mutation, and its tables.
 pub record IsEntryOf (m : Mutation) (n : EntryNote) : Type 0 where
   pub limits : IsWithinLimits m
   pub stored : IsStored m
