@@ -1,3 +1,4 @@
+pub mod Beside
 pub mod Drained
 pub mod Gaps
 pub mod Logs
