@@ -1,5 +1,6 @@
 pub mod Fitting
 pub mod Shares
+pub mod Tallied
 pub mod Crews
 pub mod Sealing
 pub mod Timed

@@ -82,12 +82,13 @@ fn give<K: Keeper + Drop>(
 pub fn deal<K: Keeper + Drop>(
     alloc: Global,
     sizes: Sizes,
+    flush_at: Option<u32>,
     mutations: Vec<Mutation>,
 ) -> Result<Vec<Worker<K>>, PlanFault>
     requires few { length mutations.items < 2 ^ 32 }
     requires within { AllByRecursion IsWithinLimits mutations.items }
     requires tables { sizes.tables ≡ most_tables }
-    ensures { DealsAll sizes mutations.items result }
+    ensures { DealsAll sizes flush_at mutations.items result }
 {
     let mut workers = idle_crew(alloc, sizes)?;
     let mut line: u32 = 0;

@@ -4,7 +4,7 @@ ghost use Rattle.clog_writers.specs.Shares.{refusal_of};
 ghost use Rattle.path_rule.specs.declared.answer.SyncAnswer.TheVariants.{Done};
 
 use std::alloc::{AllocError, AllocFailed};
-use write_path::SyncAnswer;
+use write_path::{Row, SyncAnswer};
 
 /// Why lines were not all logged by their writers.
 #[derive(Clone, Copy, Debug, PartialEq, Eq)]
@@ -20,8 +20,9 @@ pub enum WriteFault {
         /// The count now.
         now: u64,
     },
-    /// All groups of the append order that there are words for were made: this many.
-    Rows(u64),
+    /// A further word of a row is wanted, of which all are in use: this many. A sync wants one for a
+    /// group of the append order, a flush for a memtable too.
+    Rows(Row, u64),
 }
 
 /// Why no line is written: what is taken before the first of them was refused.
@@ -73,7 +74,7 @@ pub(crate) fn refusal_of(answer: SyncAnswer) -> Option<WriteFault>
         SyncAnswer::Done(_) => None,
         SyncAnswer::Stopped { at_open, now } => Some(WriteFault::Stopped { at_open, now }),
         SyncAnswer::OutOfMemory => Some(WriteFault::OutOfMemory),
-        SyncAnswer::Rows(groups) => Some(WriteFault::Rows(groups)),
+        SyncAnswer::Rows(groups) => Some(WriteFault::Rows(Row::AppendGroups, groups)),
     }
 }
 

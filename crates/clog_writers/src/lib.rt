@@ -14,6 +14,7 @@ mod placing;
 mod planning;
 mod rows;
 mod syncing;
+mod tally;
 mod worker;
 mod writing;
 
@@ -27,5 +28,6 @@ pub use logging::log_shares;
 pub use planning::{Plan, make_plan};
 pub use rows::a_line_comes_behind_the_earlier_ones_of_its_writer;
 pub use syncing::Syncing;
+pub use tally::LineCounts;
 pub use worker::Worker;
 pub use writing::write_plan;

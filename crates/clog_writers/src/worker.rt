@@ -32,7 +32,7 @@ use std::alloc::Global;
 use std::mem;
 use std::sync::Wait;
 use sync_core::SyncCore;
-use write_path::{Commit, PathSeat, Prepared, SyncFault, WritePath};
+use write_path::{Commit, PathSeat, Prepared, Row, SyncFault, WritePath};
 
 /// A writer: its seat of the path, and the writes of its share.
 #[derive(Drop)]
@@ -41,6 +41,8 @@ pub struct Worker<K> {
     pub seat: Option<PathSeat<K>>,
     /// The writes of its lines that are to come, in order.
     pub writes: Vec<Prepared>,
+    /// How many updates of each table they have, where writers flush; else nothing.
+    pub counts: Vec<LineCounts>,
     /// Why it has not logged all of its lines.
     pub fault: Option<WriteFault>,
 }
@@ -52,7 +54,7 @@ fn fault_of(fault: SyncFault) -> WriteFault
     match fault {
         SyncFault::Stopped { at_open, now } => WriteFault::Stopped { at_open, now },
         SyncFault::OutOfMemory => WriteFault::OutOfMemory,
-        SyncFault::Rows(groups) => WriteFault::Rows(groups),
+        SyncFault::Rows(groups) => WriteFault::Rows(Row::AppendGroups, groups),
     }
 }
 
@@ -168,19 +170,23 @@ pub fn commit_share<R: Wait, K: Keeper, G: Gate, C: Clock>(
     path: &WritePath<K, Global>,
     sizes: Sizes,
     syncing: Syncing,
+    flush_at: Option<u32>,
     gate: &G,
     clock: &C,
     worker: &mut Worker<K>,
 )
     requires sized { IsSizedAs path.now.table.size sizes }
     requires ready { (number : ℕ) × (lines : List Line)
-        × IsReady path.now.table.table.shared.table_id path.now.table.size sizes number lines
-        worker.old }
+        × IsReady path.now.table.table.shared.table_id path.now.table.size sizes flush_at number
+        lines worker.old }
     requires mode { path.now.mode ≡ syncing.mode }
+    requires tables { sizes.tables ≡ most_tables }
+    requires files { IsSome flush_at → path.now.table.size.files ≡ true }
+    requires some { (most : ℕ) → flush_at ≡ Some most → 1 ≤ most }
     ensures logged { (number : ℕ) (lines : List Line)
-        → IsReady path.now.table.table.shared.table_id path.now.table.size sizes number lines
-        worker.old
-        → HasLogged path.now.table.table.shared.table_id path.now.table.size number lines
+        → IsReady path.now.table.table.shared.table_id path.now.table.size sizes flush_at number
+        lines worker.old
+        → HasLogged path.now.table.table.shared.table_id path.now.table.size flush_at number lines
         worker.new }
     ensures waited { path.now.mode ≡ Batch → WaitsShare worker.new }
     ensures timed { (period : ℕ) → syncing.mode ≡ Periodic period
