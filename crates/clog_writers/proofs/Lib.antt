@@ -5,6 +5,8 @@ pub mod Firsts
 pub mod Owned
 pub mod FirstLogged
 pub mod Ending
+pub mod FiledWell
+pub mod FlushedShares
 pub mod Apart
 pub mod Totals
 pub mod Dealt
