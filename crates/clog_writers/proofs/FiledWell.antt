@@ -127,7 +127,7 @@ follow_from t k [] rest f (g ∷ gs) same follow of =
     (lower ∙ at, omega (arith, lower, upper, on))
 follow_from t k (p ∷ front) rest f (g ∷ gs) same follow of =
     by (g.table == t) refl
-    (λ j then. follow_from t j front rest f gs (ap rest_of same) then of)
+    (λ j on. follow_from t j front rest f gs (ap rest_of same) on of)
   where
     r : held_range p ≡ file_range g
     r = ap head_of same
