@@ -14,7 +14,7 @@ pub mod Seating
 pub mod Gathering
 pub mod Running
 pub mod Histories
-pub mod Reached
+pub mod FlushedLines
 pub mod Leaving
 pub mod Told
 pub mod Slots
@@ -22,8 +22,6 @@ pub mod Counted
 pub mod Crashing
 pub mod LeftBy
 pub mod OneWriter
-pub mod LastEnd
+pub mod Settling
 pub mod Brought
-pub mod Ended
-pub mod MayFlush
 pub mod SegmentOrder
