@@ -16,6 +16,7 @@ pub mod Running
 pub mod Histories
 pub mod FlushedLines
 pub mod Leaving
+pub mod Ended
 pub mod Told
 pub mod Slots
 pub mod Counted
