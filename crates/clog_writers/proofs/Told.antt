@@ -13,7 +13,7 @@ use Rattle.std.proofs.Common.{
   refl,
   arith,
 }
-use Rattle.std.specs.Prelude.{Err, IfOk, Ok, Result, is_some}
+use Rattle.std.specs.Prelude.{Err, IfOk, Ok, OnOk, Result, is_some}
 use Rattle.std.proofs.lemmas.Bool.{true≢false}
 use Rattle.clog_io.specs.Causes.{Rose}
 
@@ -29,6 +29,10 @@ pub at_ok : {R E : Type 0} (r : Result R E) (P Q : R → Type 0) → IfOk r P
     → ((x : R) → P x → Q x) → IfOk r Q
 at_ok (Ok x) P Q is so = so x is
 at_ok (Err e) P Q is so = tt
+
+pub on_ok : {R E : Type 0} (r : Result R E) (P Q : Type 0) → OnOk r P → (P → Q) → OnOk r Q
+on_ok (Ok x) P Q is so = so is
+on_ok (Err e) P Q is so = tt
 
 -- a store that has not stopped
 pub runs_on : (stopped : Bool) (P : Type 0) → (stopped ≡ true → P) → (P → ⊥) → stopped ≡ false
