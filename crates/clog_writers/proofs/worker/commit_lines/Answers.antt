@@ -32,7 +32,7 @@ use Rattle.clog_writers.proofs.Committing.{
   stopped_with,
 }
 use Rattle.clog_writers.proofs.Timing.{none_timed, one_timed}
-use Rattle.clog_writers.proofs.worker.commit_writes.Goals as goal
+use Rattle.clog_writers.proofs.worker.commit_lines.Goals as goal
 
 pub loop-prepared-init : goal.loop-prepared-init
 loop-prepared-init g c =
@@ -51,11 +51,11 @@ loop-prepared-init g c =
       count = let items = ap length gives.0 in omega (arith, items, gives.1, c.args.writes.ok);
     }
 
-pub commit_one-next-requires-clause-table : goal.commit_one-next-requires-clause-table
-commit_one-next-requires-clause-table g c = c.loop-prepared.invariant.same.0
+pub commit_next-next-requires-clause-table : goal.commit_next-next-requires-clause-table
+commit_next-next-requires-clause-table g c = c.loop-prepared.invariant.same.0
 
-pub commit_one-next-requires-clause-prepared : goal.commit_one-next-requires-clause-prepared
-commit_one-next-requires-clause-prepared g c =
+pub commit_next-next-requires-clause-prepared : goal.commit_next-next-requires-clause-prepared
+commit_next-next-requires-clause-prepared g c =
     let I = c.loop-prepared.invariant in
     let some = c.requires.prepared in
     let w = c.args.seat.member.number in
@@ -78,8 +78,8 @@ loop-prepared-preserved g c =
     let steps = c.in-Some.ensures.steps in
     let rest = c.next.new.self.rest.items in
     let before = (view_of l.seat.member).trail in
-    let after = (view_of c.commit_one-next.result.0.member).trail in
-    let done = c.commit_one-next.ensures in
+    let after = (view_of c.commit_next-next.result.0.member).trail in
+    let done = c.commit_next-next.ensures in
     let none = c.in-None-fault.is in
     record {
       same = (done.same.0, done.same.1 ∙ I.same.1);
@@ -92,33 +92,33 @@ loop-prepared-preserved g c =
       sealed = λ batch. done.sealed batch (I.sealed batch) none;
       timed = λ period periodic.
           one_timed (g.C.Clock.tells c.args.clock.now) c.args.syncing.mode
-          c.args.syncing.since_ms before after l.last_ms c.commit_one-next.result.1
+          c.args.syncing.since_ms before after l.last_ms c.commit_next-next.result.1
           (I.timed period periodic) (done.timed period periodic none);
       count = let short = ap length steps.0 in omega (arith, short, steps.1, I.count);
     }
 
 pub returns-in-Some-fault-clause-same : goal.returns-in-Some-fault-clause-same
 returns-in-Some-fault-clause-same g c =
-    let same = c.commit_one-next.ensures.same in
+    let same = c.commit_next-next.ensures.same in
     (same.0, same.1 ∙ c.loop-prepared.invariant.same.1)
 
 pub returns-in-Some-fault-clause-logs : goal.returns-in-Some-fault-clause-logs
 returns-in-Some-fault-clause-logs g c = λ lines prepared.
     let l = c.loop-prepared in let I = l.invariant in let w = c.args.seat.member.number in
     let before = (view_of l.seat.member).trail in
-    let after = (view_of c.commit_one-next.result.0.member).trail in
+    let after = (view_of c.commit_next-next.result.0.member).trail in
     stopped_with c.args.sizes w lines c.in-Some.prepared c.next.new.self.rest.items before after
     c.in-Some-fault.fault
     (subst (λ (k : ℕ). MayAddWrite k c.in-Some.prepared before after) I.same.1
-    c.commit_one-next.ensures.may)
+    c.commit_next-next.ensures.may)
     (subst (λ (ps : List Prepared). GoesOn c.args.sizes w lines ps (logged_by l.seat.member))
     c.in-Some.ensures.steps.0 (I.goes lines prepared))
 
 pub returns-in-Some-fault-clause-why : goal.returns-in-Some-fault-clause-why
 returns-in-Some-fault-clause-why g c =
     subst (λ (f : Option WriteFault).
-    KnowsWhy c.args.path.now.table.size f c.commit_one-next.result.0) c.in-Some-fault.is
-    c.commit_one-next.ensures.why
+    KnowsWhy c.args.path.now.table.size f c.commit_next-next.result.0) c.in-Some-fault.is
+    c.commit_next-next.ensures.why
 
 pub returns-in-Some-fault-clause-sealed : goal.returns-in-Some-fault-clause-sealed
 returns-in-Some-fault-clause-sealed g c = λ batch none.
@@ -126,7 +126,7 @@ returns-in-Some-fault-clause-sealed g c = λ batch none.
 
 pub returns-in-Some-fault-clause-waited : goal.returns-in-Some-fault-clause-waited
 returns-in-Some-fault-clause-waited g c = λ batch.
-    c.commit_one-next.ensures.waited batch (c.loop-prepared.invariant.sealed batch)
+    c.commit_next-next.ensures.waited batch (c.loop-prepared.invariant.sealed batch)
 
 pub returns-in-Some-fault-clause-timed : goal.returns-in-Some-fault-clause-timed
 returns-in-Some-fault-clause-timed g c = λ period periodic none.
