@@ -9,6 +9,7 @@ use Rattle.std.proofs.Common.{
   inr,
   List,
   [],
+  ◌++◌,
   Option,
   Some,
   None,
