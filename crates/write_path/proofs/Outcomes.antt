@@ -29,7 +29,7 @@ use Rattle.std.proofs.Common.{
 use Rattle.std.specs.List.{All, Contains, filter, range_with_len}
 use Rattle.std.specs.List.Sorted.{IsPermutation}
 use Rattle.std.proofs.lemmas.Bool.{false≢true}
-use Rattle.std.proofs.lemmas.List.{get_or_default, length-replicate}
+use Rattle.std.proofs.lemmas.List.{get_or_default, length-map, length-replicate}
 use Rattle.std.proofs.lemmas.List.Elements.{All-nil, All-cons, All-contains, All-head, All-tail}
 use Rattle.std.proofs.lemmas.List.Sorted.{
   IsPermutation-refl,
@@ -269,6 +269,10 @@ module _ {K : Type 0} (size : PathSize) where
             none_dropped = dropped ∙ P.2;
           };
           files_are = files_are;
+          few_files = let few = e.few_files in
+              let as_many : length h.files ≡ length e.filed.files =
+              sym (length-map h.files put_table)
+              ∙ ap (λ (l : List PutTable). length l) files_shown in omega (arith, few, as_many);
           true_files = true_as_shown x.notes h.files e.filed.files files_shown e.filing.merged;
           dropped_in = λ o gone. e.gone o (subst (λ (l : List ℕ). Contains l o) dropped gone);
           droppable = λ o gone. let in_run = e.gone o
@@ -410,6 +414,8 @@ module _ {K : Type 0} (size : PathSize) where
             none_dropped = dropped;
           };
           files_are = ap (λ (l : List PutFile). map held_range l) no_files;
+          few_files = let none = ap (λ (l : List PutFile). length l) no_files in
+              omega (arith, none);
           true_files = λ f put. absurd (none_of no_files f put);
           dropped_in = λ o gone. absurd (none_of dropped o gone);
           droppable = λ o gone. absurd (none_of dropped o gone);

@@ -42,6 +42,7 @@ use Rattle.path_rule.specs.declared.view.Returned.{Returned}
 use Rattle.path_rule.specs.Filing.{IsCellBetween, file_range}
 use Rattle.path_rule.specs.Finds.{Finds}
 use Rattle.path_rule.specs.Lasts.{fault_count, stopped_with}
+use Rattle.path_rule.specs.Limits.{most_memtables}
 use Rattle.path_rule.specs.Members.{view_of, part_of, IsOf, returned_of}
 use Rattle.path_rule.specs.Rule.{AreBuilt, IsFit, start_of, event_of, steps_by}
 use Rattle.write_path.specs.declared.resting.Resting.{Resting}
@@ -170,6 +171,8 @@ pub record IsOutcome {K : Type 0} (size : PathSize) (seats : List (PathSeat K)) 
   pub unfiled : size.files ≡ false → IsUnfiled core h
   -- the keeper's table files and those of the run stand for the same intervals, in one order
   pub files_are : map held_range h.files ≡ map file_range core.files
+  -- it has at most one for each memtable that there is a word for
+  pub few_files : length h.files ≤ most_memtables
   -- each has the newest cells of what the history has in its interval
   pub true_files : (f : PutFile) → Contains h.files f
       → IsMergeOf (IsCellBetween core.notes f.table f.lower f.upper) f.cells
