@@ -1,19 +1,5 @@
 -- Seats are handed out and taken back, and what is known of a table that was closed.
-use Rattle.std.specs.Prelude.{
-  ◌≡◌,
-  ◌⊎◌,
-  ◌<◌,
-  ◌≤◌,
-  ℕ,
-  suc,
-  false,
-  List,
-  [],
-  ◌∷◌,
-  ◌++◌,
-  length,
-  map,
-}
+use Rattle.std.specs.Prelude.{◌≡◌, ◌⊎◌, ◌<◌, ℕ, suc, false, List, [], ◌∷◌, ◌++◌, map}
 use Rattle.std.specs.List.{Contains}
 use mathlib.Core.Option.{some}
 use lib.ListN.{get_elem?}
@@ -36,9 +22,9 @@ use Rattle.path_rule.specs.declared.view.View.{View}
 use Rattle.path_rule.specs.Filing.{HasFiled}
 use Rattle.path_rule.specs.Kept.{MayBeKept}
 use Rattle.path_rule.specs.Lasts.{lasting_of, none_lasting, shown}
-use Rattle.path_rule.specs.Limits.{most_memtables}
 use Rattle.path_rule.specs.Rule.{
   AreBuilt,
+  HasRows,
   IsFit,
   start_of,
   event_of,
@@ -109,6 +95,8 @@ pub record Ended (o : Beside) (size : PathSize) (returned : List Returned) (log 
   -- each step was of a kind that is built
   pub built : AreBuilt size.at_open (start_of size) events core run
   pub lawful : IsLawfulPath core
+  -- there are words for all groups and memtables that it made
+  pub rows : HasRows core
   pub log_is : log ≡ core.log
   pub kept_to : ℕ
   pub may_be_kept : MayBeKept core kept_to
@@ -116,8 +104,6 @@ pub record Ended (o : Beside) (size : PathSize) (returned : List Returned) (log 
   pub filed : Filed
   pub dropped : List ℕ
   pub filing : HasFiled o size core filed dropped
-  -- it has filed at most one table file for each memtable that there is a word for
-  pub few_files : length filed.files ≤ most_memtables
   -- what it dropped is dropped there, and not only about to go: no seat holds the Sync turn
   pub gone : (ordinal : ℕ) → Contains dropped ordinal → Contains core.dropped ordinal
   pub lasting_is : lasting_of keeper ≡ shown o size.at_open kept_to filed dropped core

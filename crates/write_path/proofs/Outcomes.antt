@@ -104,6 +104,7 @@ use Rattle.write_path.proofs.FewGroups.{few_groups}
 use Rattle.write_path.proofs.FewSegments.{few_segments}
 use Rattle.write_path.proofs.FilesGiven.{CameBy, files_given}
 use Rattle.write_path.proofs.ToldFiles.{are_given, stand_for_some}
+use Rattle.path_rule.proofs.log.FilesShown.{few_files}
 use Rattle.path_rule.proofs.log.NoneDropped.{none_dropped}
 use Rattle.write_path.proofs.NonePassed.{first_part, none_passed}
 use Rattle.write_path.proofs.Parted.{parts_at}
@@ -269,7 +270,7 @@ module _ {K : Type 0} (size : PathSize) where
             none_dropped = dropped ∙ P.2;
           };
           files_are = files_are;
-          few_files = let few = e.few_files in
+          few_files = let few = few_files x L e.rows size e.filed e.dropped e.filing in
               let as_many : length h.files ≡ length e.filed.files =
               sym (length-map h.files put_table)
               ∙ ap (λ (l : List PutTable). length l) files_shown in omega (arith, few, as_many);

@@ -65,7 +65,6 @@ use Rattle.path_rule.specs.Rule.{AreBuilt, IsFit, start_of, Knows, Ruled, event_
 use Rattle.path_rule.specs.Sharing.{Ended, EndsUnused, HasAll}
 use Rattle.path_rule.specs.Trails.{TrailTells, ViewTells}
 use Rattle.path_rule.proofs.boxes.SameBoxes.{holds_none}
-use Rattle.path_rule.proofs.log.FilesShown.{few_files}
 use Rattle.path_rule.proofs.log.FilingStays.{dropped_at_home}
 use Rattle.path_rule.proofs.moves.Moving.{core_lawful}
 use Rattle.path_rule.proofs.seats.LastBounds.{few_newest, last_is}
@@ -208,6 +207,7 @@ module _ {K : Type 0} (shows : K → Lasting) (o : Beside) where
           run = ran.0;
           built = ran.1;
           lawful = core_lawful shows o key s r;
+          rows = r.rows;
           log_is = sym (at_four ws 4 log e) ∙
               (ap (λ (l : List ℕ). slice_index l 4) (sym f.2) ∙ r.words Log tt);
           kept_to = r.kept_to;
@@ -215,8 +215,6 @@ module _ {K : Type 0} (shows : K → Lasting) (o : Beside) where
           filed = r.filed;
           dropped = r.dropped;
           filing = subst (λ (z : PathSize). HasFiled o z r.core r.filed r.dropped) same r.filing;
-          few_files = few_files r.core (core_lawful shows o key s r) r.rows key r.filed r.dropped
-              r.filing;
           gone = dropped_at_home r.core key r.filed r.dropped r.filing
               (none_holds key id w v role all unheld s r f.1.1);
           lasting_is = kept ∙ ap (λ (z : PathSize). shown o z.at_open r.kept_to r.filed r.dropped r.core) same;
