@@ -38,7 +38,7 @@ use Rattle.std.proofs.Common.{
 use Rattle.std.proofs.lemmas.Bool.{and_from, and_parts, eqb-true, false≢true}
 use Rattle.std.proofs.lemmas.List.{get_or_default}
 use Rattle.std.proofs.lemmas.Option.{none-some}
-use mathlib.Core.Logic.{dite}
+use mathlib.Core.Logic.{dite, inl, inr}
 use native.Mathlib.Decide.{ℕ_discrete, dec_lt}
 use Rattle.op_core.specs.declared.count.Order.TheVariants.{Append, Write}
 use Rattle.path_core.specs.declared.event.Event.{Event}
@@ -388,7 +388,7 @@ module _ (rows tables : ℕ) (x : PathState) (L : IsLawfulPath x) where
         taken false held is = is
     own_waits opened (GiveTurn by (Flush t)) a wanted after turns h = let U = P.waits by h in
         still (GiveTurn by (Flush t)) a (λ b. b) (seat_of x by) after U
-        (turns U.table ∙ kept (t.0 == U.table) refl U)
+        (turns U.table ∙ kept (t.0 == U.table) U refl)
       where
         kept : (b : Bool) → (U : Unbarred x (seat_of x by)) → (t.0 == U.table) ≡ b
             → cond b false (is_some (seat_table (seat_of x by) U.table).flush) ≡ true

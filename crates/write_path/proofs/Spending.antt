@@ -142,9 +142,9 @@ module _ {K : Type 0} (size : PathSize) (seats : List (PathSeat K)) (end : ℕ) 
       → Switches w t before (SwitchRows WriteGroups made) after
       → ¬ HasGrown after.trail (view_of s.member).trail
   switched_never s one w t made before after S since = let R = S.is in
-      never_last s one R.0 R.2 after.trail since
+      never_last s one R.0 R.2.0 after.trail since
       (subst (λ (l : List OwnStep). Finds (Current Write) R.0 l) (sym S.steps.trail)
-      (found_after (Current Write) R.0 S.steps.steps before.trail R.4))
+      (found_after (Current Write) R.0 S.steps.steps before.trail R.2.2))
 
   pub synced_many : (s : PathSeat K) → Contains seats s → (w opened groups : ℕ)
       (before after : View) → Syncs w opened before (Rows groups) after
