@@ -4,6 +4,7 @@ use Rattle.std.proofs.Common.{
   ◌≡◌,
   ℕ,
   ◌<◌,
+  ◌≤◌,
   List,
   [],
   ◌∷◌,
@@ -123,7 +124,7 @@ module _ (h : Holding) (capacity : ℕ) (small : capacity ≤ greatest_capacity)
     lines = filter (is_by writer) history
 
     -- a table that is touched by none
-    none_touches : 0 < most → (most_tables ≤ table.0)
+    none_touches : 0 < most → most_tables ≤ table.0
         → HasFlushed most table writer history files
     none_touches some past = record {
       front = lines;

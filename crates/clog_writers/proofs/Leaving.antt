@@ -143,14 +143,14 @@ module _ {D : Type 0} (files : D → Option Files) (changes : D → Option (List
   abbrev Held : Holding
   Held = holding_of files changes moment faults code b
 
-  abbrev base : ℕ
-  base = b.notes.base
+  abbrev first_id : ℕ
+  first_id = b.notes.base
 
   abbrev its : List LoggedLine
-  its = history sizes base mutations b.notes.logged h
+  its = history sizes first_id mutations b.notes.logged h
 
-  are : AreNotesOf base b.notes.logged its
-  are = lines sizes base mutations b.notes.logged h
+  are : AreNotesOf first_id b.notes.logged its
+  are = lines sizes first_id mutations b.notes.logged h
 
   abbrev log : StoreLog
   log = log_of b.notes
@@ -176,10 +176,10 @@ module _ {D : Type 0} (files : D → Option Files) (changes : D → Option (List
         (sym asked.drain_is ∙ parts.1)
 
     lawful_lines : IsLawful (capacity_of options) its
-    lawful_lines = its_lawful sizes base mutations b.notes.logged h (capacity_of options)
+    lawful_lines = its_lawful sizes first_id mutations b.notes.logged h (capacity_of options)
         asked.capacity
 
-    path : IsClosedPath options mutations base its (files_by log deeds)
+    path : IsClosedPath options mutations first_id its (files_by log deeds)
     path =
         let some = sizes.within.some_writer in
         let count = asked.writers in
@@ -188,13 +188,14 @@ module _ {D : Type 0} (files : D → Option Files) (changes : D → Option (List
         record {
           lawful = lawful_lines;
           from_base = λ w among.
-              let n = note_of_line base b.notes.logged its are w among in omega (arith, n.is.id);
+              let n = note_of_line first_id b.notes.logged its are w among in
+              omega (arith, n.is.id);
           writers = omega (arith, some, count);
           known = λ w among.
-              let low = its_writer sizes base mutations b.notes.logged h w among in
+              let low = its_writer sizes first_id mutations b.notes.logged h w among in
               omega (arith, low, count);
           shares = λ writer low.
-              shares sizes base mutations b.notes.logged h options.writers writer count low;
+              shares sizes first_id mutations b.notes.logged h options.writers writer count low;
           follow = put.follow;
           are_true = put.are_true;
           for_some = put.for_some;
@@ -209,21 +210,21 @@ module _ {D : Type 0} (files : D → Option Files) (changes : D → Option (List
     unflushed : flushes options ≡ false → (dropped_ids log deeds ≡ []) × (files_by log deeds ≡ [])
     unflushed flushless =
         let none = no_deeds flushless in (
-          ap (map (λ (o : ℕ). base + o)) none.none_dropped,
-          ap (map (file_on base)) none.no_file,
+          ap (map (λ (o : ℕ). first_id + o)) none.none_dropped,
+          ap (map (file_on first_id)) none.no_file,
         )
 
     pub written : (mode ≡ Batch → StandApart sizes.capacity b.notes.logged)
-        → (receipts : List Receipt) → AreAtTheirLines base b.notes.logged receipts
+        → (receipts : List Receipt) → AreAtTheirLines first_id b.notes.logged receipts
         → length receipts ≡ length mutations → (opened : Files) (made : List Change)
         → files b.first ≡ Some opened → changes b.first ≡ Some made
-        → TellsWrittenShares options base opened made (files b.notes.log.disk)
+        → TellsWrittenShares options first_id opened made (files b.notes.log.disk)
         (changes b.notes.log.disk) mutations receipts
     written apart receipts placed long opened made is made_is =
         let growth = ordered.growth in
         let grows = all_brought changes b.first b.notes.log growth runs in
         let now = tells_now files changes tells b.first b.notes.log growth made made_is in
-        let told = receipts_are sizes base mutations b.notes.logged h receipts placed long in
+        let told = receipts_are sizes first_id mutations b.notes.logged h receipts placed long in
         record {
           after = now.after;
           later = growth.added;
@@ -243,7 +244,7 @@ module _ {D : Type 0} (files : D → Option Files) (changes : D → Option (List
                 sizes its h.lawful are drain done.finished law folder opened now.after is
                 now.files_are);
             unflushed = unflushed;
-            begins = first_there base sizes.capacity b.notes.logged its h.lawful passes are;
+            begins = first_there first_id sizes.capacity b.notes.logged its h.lawful passes are;
             reach = store_reaches files changes moment faults code b runs notes sound none_kept
                 ordered sizes its h.lawful are drain done.finished options lawful_lines passes
                 (λ drained none.
@@ -251,7 +252,7 @@ module _ {D : Type 0} (files : D → Option Files) (changes : D → Option (List
             names = next_names opened now.after log deeds (folder opened now.after is now.files_are)
                 sound.below sound.stored.fits;
             apart = λ batch.
-                synced_apart growth.added base b.notes.log.past b.notes.log.id
+                synced_apart growth.added first_id b.notes.log.past b.notes.log.id
                 b.notes.log.sections b.notes.logged its grows
                 (in_order b.notes.log (appends_of growth.added) grows sound)
                 (all_placed b.notes notes none_kept) are sizes.capacity
