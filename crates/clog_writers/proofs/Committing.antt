@@ -249,7 +249,7 @@ pub sealed_still : (n : EntryNote) (before after : List OwnStep) → HasGrown be
 sealed_still n before after G S = subst (λ (l : List OwnStep). IsSealed n l) (sym G.is)
     (still_sealed n G.newer before S)
 
-risen : (before now : ℕ) → HasRisen before now → 0 < now
+pub risen : (before now : ℕ) → HasRisen before now → 0 < now
 risen before now rose = elim rose [
   | inl more ↦ omega (arith, more)
   | inr most ↦ omega (arith, most)
