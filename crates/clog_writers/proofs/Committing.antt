@@ -249,7 +249,7 @@ pub sealed_still : (n : EntryNote) (before after : List OwnStep) → HasGrown be
 sealed_still n before after G S = subst (λ (l : List OwnStep). IsSealed n l) (sym G.is)
     (still_sealed n G.newer before S)
 
-risen : (before now : ℕ) → HasRisen before now → 0 < now
+pub risen : (before now : ℕ) → HasRisen before now → 0 < now
 risen before now rose = elim rose [
   | inl more ↦ omega (arith, more)
   | inr most ↦ omega (arith, most)
@@ -502,3 +502,16 @@ pub earlier_on : (before after : List OwnStep) → writes_of after ≡ writes_of
     → HasGrown before after → AreEarlierSealed before → AreEarlierSealed after
 earlier_on before after list G all newest earlier is n among =
     sealed_still n before after G (all newest earlier (sym list ∙ is) n among)
+
+-- what was logged is so where none is logged behind it, and no less was refused
+pub logs_on : (w : ℕ) (lines : List Line) (notes now : List EntryNote)
+    (before after : Option WriteFault) → now ≡ notes → (after ≡ None → before ≡ None)
+    → LogsShare w lines notes before → LogsShare w lines now after
+logs_on w lines notes now before after same less L = record {
+  done = L.done;
+  left = L.left;
+  parts = L.parts;
+  are = subst (AreWritesOf w L.done) (sym same) L.are;
+  rise = subst Rise (sym same) L.rise;
+  all = λ none. L.all (less none);
+}

@@ -26,3 +26,8 @@ pub mod OneWriter
 pub mod Settling
 pub mod Brought
 pub mod SegmentOrder
+pub mod UpdateCounts
+pub mod Lacking
+pub mod FlushTold
+pub mod Tallying
+pub mod NextLines

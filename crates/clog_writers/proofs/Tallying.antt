@@ -39,6 +39,7 @@ use Rattle.std.proofs.lemmas.Option.{none-some, same_Some}
 use Rattle.std.proofs.lemmas.List.Sums.{sum_by-append, sum_by-cons}
 use mathlib.Core.Logic.{dite}
 use native.Mathlib.Decide.{ℕ_discrete}
+use Rattle.atomic_table.specs.Seated.{TableId}
 use Rattle.clog_spec.specs.Sizes.{most_tables}
 use Rattle.clog_base.specs.declared.sizes.Sizes.{Sizes}
 use Rattle.clog_applied.specs.Flushed.{updates_in}
@@ -46,11 +47,13 @@ use Rattle.clog_applied.specs.History.{Line}
 use Rattle.path_core.specs.declared.note.EntryNote.{EntryNote}
 use Rattle.path_rule.specs.declared.trying.PathSeat.{PathSeat}
 use Rattle.path_rule.specs.declared.view.OwnStep.{OwnStep}
+use Rattle.path_rule.specs.declared.view.PathSize.{PathSize}
 use Rattle.path_rule.specs.declared.view.View.{View}
 use Rattle.path_rule.specs.Members.{view_of}
 use Rattle.write_path.specs.declared.flush.Flush.{Flush}
 use Rattle.write_path.specs.declared.prepared.Prepared.{Prepared}
 use Rattle.write_path.specs.ClosedFiles.{HasFlushed}
+use Rattle.write_path.specs.Commits.{KeepsList}
 use Rattle.write_path.specs.Ends.{writes_of}
 use Rattle.write_path.specs.Flushed.{Flushes}
 use Rattle.write_path.specs.Grown.{HasGrown}
@@ -58,10 +61,8 @@ use Rattle.write_path.specs.Writes.{IsPrepared}
 use Rattle.write_path.proofs.FlushPromises.{still_flushed}
 use Rattle.clog_writers.specs.declared.tally.LineCounts.{LineCounts}
 use Rattle.clog_writers.specs.declared.tally.Tally.{Tally}
-use Rattle.clog_writers.specs.Shares.{AddsWrite, ArePrepared, is_finished}
+use Rattle.clog_writers.specs.Shares.{AddsWrite, is_finished}
 use Rattle.clog_writers.specs.Tallied.{
-  AreCountedFor,
-  AreCountsOf,
   HasFlushedAll,
   IsCountedFor,
   IsFlushedOver,
@@ -77,7 +78,7 @@ use Rattle.clog_writers.specs.Tallies.{
   limit_of,
 }
 use Rattle.clog_writers.proofs.Committing.{one_write}
-use Rattle.clog_writers.proofs.Flushing.{finished, flush_grows}
+use Rattle.clog_writers.proofs.FlushTold.{finished, flush_grows}
 
 -- ---- of one table
 
@@ -210,6 +211,21 @@ module _ (w t : ℕ) (v after : View) (a : Flush) (tally now : Tally) (F : Flush
       → (is_finished a ≡ false → now ≡ tally) → Tallies w now after.trail
   behind_flush done other = by_whether (is_finished a) refl done other
 
+-- what one call keeps of a tally and a further one keeps, both keep
+pub tallies_then : {K : Type 0} (id : TableId) (size : PathSize) (first then : PathSeat K)
+    (before tally : Tally) (now : List OwnStep) (left : Tally)
+    → KeepsList id size first.member then.member
+    → (Tallies first.member.number before (view_of first.member).trail
+    → Tallies first.member.number tally (view_of then.member).trail)
+    → (Tallies then.member.number tally (view_of then.member).trail
+    → Tallies then.member.number left now)
+    → Tallies first.member.number before (view_of first.member).trail
+    → Tallies first.member.number left now
+tallies_then id size first then before tally now left keeps old new all =
+    subst (λ (k : ℕ). Tallies k left now) keeps.0.1
+    (new (subst (λ (k : ℕ). Tallies k tally (view_of then.member).trail) (sym keeps.0.1)
+    (old all)))
+
 -- ---- where a writer flushes
 
 pub may_on : (w : ℕ) (tally : Option Tally) (before after : List OwnStep)
@@ -259,15 +275,15 @@ module _ (w : ℕ) (sizes : Sizes) (l : Line) (p : Prepared) (before after : Lis
 -- ---- what is flushed in the end
 
 -- no flush is due
-pub all_flushed : {K : Type 0} (w : ℕ) (tally : Tally) (s : PathSeat K) → s.member.number ≡ w
-    → Tallies w tally (view_of s.member).trail
+pub all_flushed : {K : Type 0} (w : ℕ) (tally : Tally) (most : ℕ) (s : PathSeat K)
+    → s.member.number ≡ w → tally.most ≡ most → Tallies w tally (view_of s.member).trail
     → ((t : ℕ) → t < most_tables → get_or tally.counts t 0 < tally.most)
-    → HasFlushedAll (Some tally.most) s
-all_flushed w tally s number all few = λ t low.
+    → HasFlushedAll (Some most) s
+all_flushed w tally most s number same all few = λ t low.
     let T = all t low in
     let is = T.is in let less = few t low in record {
       count = T.count;
-      few = omega (arith, is, less);
+      few = omega (arith, is, less, same);
       tallied = subst (λ (k : ℕ). IsTallied k t T.count
           (reverse (writes_of (view_of s.member).trail)) (view_of s.member).trail)
           (sym number) T.tallied;
@@ -289,63 +305,3 @@ flushed_on (Some most) s u number same G all = λ t low.
           (tallied_on s.member.number t F.count (view_of s.member).trail (view_of u.member).trail
           same G F.tallied);
     }
-
--- ---- line by line
-
--- the counts of the next line come off, where they were taken
-abbrev pub IsNextOf : List LineCounts → Option LineCounts → List LineCounts → Type 0
-IsNextOf counts None now = (counts ≡ []) × (now ≡ [])
-IsNextOf counts (Some c) now = counts ≡ c ∷ now
-
--- no list with an element is empty
-none_there : (c : LineCounts) (cs : List LineCounts) → c ∷ cs ≡ [] → ⊥
-none_there c cs is = absurd (let q : c ∷ cs ≡ [] = is in cc)
-
-next_counted : (flush : Option ℕ) (l : Line) (ls : List Line) (counts now : List LineCounts)
-    (c : Option LineCounts) → IsNextOf counts c now → AreCountedFor flush (l ∷ ls) counts
-    → IsCountedFor flush l.mutation c × AreCountedFor flush ls now
-next_counted None l ls counts now None next are = (refl, next.1)
-next_counted None l ls counts now (Some c) next are = absurd (none_there c now (sym next ∙ are))
-next_counted (Some most) l ls counts now None next are =
-    absurd (subst (AreCountsOf (l ∷ ls)) next.0 are)
-next_counted (Some most) l ls counts now (Some c) next are =
-    subst (AreCountsOf (l ∷ ls)) next are
-
-module _ (sizes : Sizes) (w : ℕ) (flush : Option ℕ) where
-  -- The writes and the counts that are to come are of these lines; the tally is of those before.
-  pub record GoesCounted (rest : List Prepared) (counts : List LineCounts)
-      (tally : Option Tally) (trail : List OwnStep) : Type 0 where
-    pub left : List Line
-    pub prepared : ArePrepared sizes left rest
-    pub counted : AreCountedFor flush left counts
-    pub limit : limit_of tally ≡ flush
-    pub tallies : MayTally w tally trail
-
-  -- The next line, the counts of which come off.
-  pub record IsNextLine (p : Prepared) (rest : List Prepared) (c : Option LineCounts)
-      (now : List LineCounts) : Type 0 where
-    pub line : Line
-    pub others : List Line
-    pub prepared : IsPrepared sizes line.number line.mutation p
-    pub counted : IsCountedFor flush line.mutation c
-    pub prepared_others : ArePrepared sizes others rest
-    pub counted_others : AreCountedFor flush others now
-
-  pub next_line : (p : Prepared) (rest : List Prepared) (counts now : List LineCounts)
-      (c : Option LineCounts) (tally : Option Tally) (trail : List OwnStep)
-      → GoesCounted (p ∷ rest) counts tally trail → IsNextOf counts c now
-      → IsNextLine p rest c now
-  next_line p rest counts now c tally trail g next = by g.left g.prepared g.counted
-    where
-      by : (left : List Line) → ArePrepared sizes left (p ∷ rest)
-          → AreCountedFor flush left counts → IsNextLine p rest c now
-      by [] prepared counted = absurd prepared
-      by (l ∷ ls) prepared counted =
-          let one = next_counted flush l ls counts now c next counted in record {
-            line = l;
-            others = ls;
-            prepared = prepared.0;
-            counted = one.0;
-            prepared_others = prepared.1;
-            counted_others = one.1;
-          }

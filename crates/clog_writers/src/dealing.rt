@@ -121,7 +121,7 @@ fn give<K: Keeper + Drop>(
         → AreDealt sizes flush (lines ++ m ∷ []) workers.new) }
 {
     let number = (line % u32::from(sizes.writers)) as usize;
-    add(&mut workers[number], write, counts)
+    Ok(add(&mut workers[number], write, counts)?)
 }
 
 /// Deals the lines of a file out to workers that have no seats yet. `TooLarge`: of all lines this is

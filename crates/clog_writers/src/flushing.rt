@@ -102,7 +102,7 @@ pub(crate) fn flush_due<R: Wait, K: Keeper>(
     tally: Option<Tally>,
 ) -> (PathSeat<K>, Option<Tally>, Option<WriteFault>)
     requires table { IsOf path.now.table.table.shared.table_id path.now.table.size seat.member }
-    requires files { IsSome tally → path.now.table.size.files ≡ true }
+    requires files { IsSome (limit_of tally) → path.now.table.size.files ≡ true }
     requires tables { path.now.table.size.tables ≡ most_tables }
     ensures keeps { KeepsList path.now.table.table.shared.table_id path.now.table.size seat.member
         result.0.member }
@@ -167,7 +167,7 @@ pub(crate) fn flush_rest<R: Wait, K: Keeper>(
     tally: Option<Tally>,
 ) -> (PathSeat<K>, Option<WriteFault>)
     requires table { IsOf path.now.table.table.shared.table_id path.now.table.size seat.member }
-    requires files { IsSome tally → path.now.table.size.files ≡ true }
+    requires files { IsSome (limit_of tally) → path.now.table.size.files ≡ true }
     requires tables { path.now.table.size.tables ≡ most_tables }
     ensures keeps { KeepsList path.now.table.table.shared.table_id path.now.table.size seat.member
         result.0.member }

@@ -138,7 +138,7 @@ fn commit_next<R: Wait, K: Keeper, G: Gate, C: Clock>(
         × IsPrepared sizes line m prepared × (sizes.tables ≡ path.now.table.size.tables)
         × (sizes.capacity ≡ path.now.table.size.capacity) }
     requires mode { path.now.mode ≡ mode }
-    requires files { IsSome tally → path.now.table.size.files ≡ true }
+    requires files { IsSome (limit_of tally) → path.now.table.size.files ≡ true }
     requires tables { path.now.table.size.tables ≡ most_tables }
     ensures same { Stays path.now.table.table.shared.table_id path.now.table.size seat.member
         result.0.member }

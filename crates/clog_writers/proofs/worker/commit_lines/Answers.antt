@@ -1,4 +1,6 @@
 use Rattle.std.proofs.Common.{
+  ◌≡◌,
+  true,
   ℕ,
   List,
   length,
@@ -12,7 +14,7 @@ use Rattle.std.proofs.Common.{
   refl,
   arith,
 }
-use Rattle.std.specs.Prelude.{Contains}
+use Rattle.std.specs.Prelude.{Contains, IsSome}
 use Rattle.std.proofs.lemmas.List.{nil_from_length}
 use Rattle.std.proofs.lemmas.Option.{none-some}
 use Rattle.clog_base.proofs.Members.{nothing_there}
@@ -20,8 +22,10 @@ use Rattle.path_core.specs.declared.note.EntryNote.{EntryNote}
 use Rattle.path_rule.specs.Members.{view_of}
 use Rattle.write_path.specs.declared.prepared.Prepared.{Prepared}
 use Rattle.clog_writers.specs.declared.fault.WriteFault.{WriteFault}
-use Rattle.clog_writers.specs.Crews.{KnowsWhy}
-use Rattle.clog_writers.specs.Shares.{AddsWrite, MayAddWrite, logged_by}
+use Rattle.clog_writers.specs.Crews.{KnowsWhy, MayLack}
+use Rattle.clog_writers.specs.Shares.{AddsWrite, ArePrepared, MayAddWrite, logged_by}
+use Rattle.clog_writers.specs.Tallied.{AreCountedFor, IsCountedFor}
+use Rattle.clog_writers.specs.Tallies.{MayTally}
 use Rattle.clog_writers.proofs.Committing.{
   GoesOn,
   all_earlier,
@@ -31,6 +35,9 @@ use Rattle.clog_writers.proofs.Committing.{
   next_of,
   stopped_with,
 }
+use Rattle.clog_writers.proofs.Lacking.{no_fault}
+use Rattle.clog_writers.proofs.NextLines.{GoesCounted, next_line, takes_next}
+use Rattle.clog_writers.proofs.Tallying.{none_yet}
 use Rattle.clog_writers.proofs.Timing.{none_timed, one_timed}
 use Rattle.clog_writers.proofs.worker.commit_lines.Goals as goal
 
@@ -48,6 +55,20 @@ loop-prepared-init g c =
       timed = λ period periodic.
           none_timed (g.C.Clock.tells c.args.clock.now) c.args.syncing.mode
           c.args.syncing.since_ms (view_of c.args.seat.member).trail c.requires.unused;
+      counted = record {
+        left = c.requires.prepared.0;
+        prepared = subst (ArePrepared c.args.sizes c.requires.prepared.0) (sym gives.0)
+            c.requires.prepared.1;
+        counted = subst (AreCountedFor c.args.flush_at c.requires.prepared.0)
+            (sym c.into_iter-counts.ensures.rest) c.requires.prepared.2;
+        limit = c.new_tally-tally.ensures.limit;
+        tallies = none_yet w c.new_tally-tally.result (view_of c.args.seat.member).trail
+            c.requires.unused c.new_tally-tally.ensures.none;
+      };
+      left =
+          let items = ap length c.into_iter-counts.ensures.rest in
+          let long = c.into_iter-counts.ensures.len in
+          omega (arith, items, long, c.args.counts.ok);
       count = let items = ap length gives.0 in omega (arith, items, gives.1, c.args.writes.ok);
     }
 
@@ -81,6 +102,15 @@ loop-prepared-preserved g c =
     let after = (view_of c.commit_next-next.result.0.member).trail in
     let done = c.commit_next-next.ensures in
     let none = c.in-None-fault.is in
+    let one = c.next-in-loop-prepared in
+    let counts = l.counts.rest.items in
+    let now = one.new.self.rest.items in
+    let taken = takes_next counts now l.counts.rest.len one.new.self.rest.len one.result I.left
+    one.ensures.items one.ensures.cases in
+    let line = next_line c.args.sizes w c.args.flush_at c.in-Some.prepared rest counts now one.result
+    l.tally before
+    (subst (λ (ps : List Prepared). GoesCounted c.args.sizes w c.args.flush_at ps counts l.tally
+    before) steps.0 I.counted) taken.0 in
     record {
       same = (done.same.0, done.same.1 ∙ I.same.1);
       goes = λ lines prepared.
@@ -94,6 +124,18 @@ loop-prepared-preserved g c =
           one_timed (g.C.Clock.tells c.args.clock.now) c.args.syncing.mode
           c.args.syncing.since_ms before after l.last_ms c.commit_next-next.result.1
           (I.timed period periodic) (done.timed period periodic none);
+      counted = record {
+        left = line.others;
+        prepared = line.prepared_others;
+        counted = line.counted_others;
+        limit = done.limit ∙ I.counted.limit;
+        tallies = subst (λ (k : ℕ). MayTally k c.commit_next-next.result.2 after) I.same.1
+            (done.tallies none c.args.sizes line.line line.prepared
+            (subst (λ (f : Option ℕ). IsCountedFor f line.line.mutation one.result)
+            (sym I.counted.limit) line.counted)
+            (subst (λ (k : ℕ). MayTally k l.tally before) (sym I.same.1) I.counted.tallies));
+      };
+      left = taken.1;
       count = let short = ap length steps.0 in omega (arith, short, steps.1, I.count);
     }
 
@@ -154,3 +196,34 @@ returns-clause-logs g c = λ lines prepared.
     ends c.args.sizes c.args.seat.member.number lines rest (logged_by l.seat.member) None
     (I.goes lines prepared)
     (λ same. nil_from_length rest (omega (arith, c.in-None.ensures.steps.0, I.count)))
+
+pub commit_next-next-requires-clause-files : goal.commit_next-next-requires-clause-files
+commit_next-next-requires-clause-files g c =
+    subst (λ (f : Option ℕ). IsSome f → c.args.path.now.table.size.files ≡ true)
+    (sym c.loop-prepared.invariant.counted.limit) c.requires.files
+
+pub commit_next-next-requires-clause-tables : goal.commit_next-next-requires-clause-tables
+commit_next-next-requires-clause-tables g c = sym c.requires.sized.tables ∙ c.requires.tables
+
+pub returns-in-Some-fault-clause-rows : goal.returns-in-Some-fault-clause-rows
+returns-in-Some-fault-clause-rows g c =
+    subst (MayLack c.args.flush_at) c.in-Some-fault.is
+    (subst (λ (f : Option ℕ). MayLack f c.commit_next-next.result.3)
+    c.loop-prepared.invariant.counted.limit c.commit_next-next.ensures.rows)
+
+pub returns-in-Some-fault-clause-limit : goal.returns-in-Some-fault-clause-limit
+returns-in-Some-fault-clause-limit g c =
+    c.commit_next-next.ensures.limit ∙ c.loop-prepared.invariant.counted.limit
+
+pub returns-in-Some-fault-clause-tallies : goal.returns-in-Some-fault-clause-tallies
+returns-in-Some-fault-clause-tallies g c = λ none.
+    absurd (none-some c.in-Some-fault.fault (sym none))
+
+pub returns-clause-rows : goal.returns-clause-rows
+returns-clause-rows g c = no_fault c.args.flush_at
+
+pub returns-clause-limit : goal.returns-clause-limit
+returns-clause-limit g c = c.loop-prepared.invariant.counted.limit
+
+pub returns-clause-tallies : goal.returns-clause-tallies
+returns-clause-tallies g c = λ none. c.loop-prepared.invariant.counted.tallies
