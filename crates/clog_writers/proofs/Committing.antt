@@ -454,10 +454,11 @@ still_rows WriteGroups made s t G (all, (last, next, found)) = (
     still_found (Current Write) last (view_of s.member).trail (view_of t.member).trail G found,
   ),
 )
-still_rows Memtables made s t G (all, (table, last, next, found)) = (
+still_rows Memtables made s t G (all, (table, low, last, next, found)) = (
   all,
   (
     table,
+    low,
     last,
     next,
     still_found (Newest (record { 0 = table })) last (view_of s.member).trail

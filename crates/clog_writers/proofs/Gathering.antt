@@ -112,6 +112,7 @@ module _ {K : Type 0} (id : TableId) (size : PathSize) (flush : Option ℕ) wher
     };
     synced = λ none. e.synced (less none);
     flushed = λ none. e.flushed (less none);
+    opened = e.opened;
   }
 
   pub one_gathered : (ms : List Mutation) (w : Worker K) (rest : List (Worker K))

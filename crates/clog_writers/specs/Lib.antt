@@ -1,5 +1,6 @@
 pub mod Fitting
 pub mod Shares
+pub mod Opens
 pub mod Tallied
 pub mod Tallies
 pub mod Crews

@@ -29,7 +29,7 @@ limit_of (Some tally) = Some tally.most
 -- number at which the writer flushes, where that is less.
 pub record IsTallyOf (writer : ℕ) (tally : Tally) (trail : List OwnStep) (t : ℕ) : Type 0 where
   pub count : ℕ
-  pub tallied : IsTallied writer t count (reverse (writes_of trail)) trail
+  pub tallied : IsTallied tally.most writer t count (reverse (writes_of trail)) trail
   pub is : slice_index tally.counts t ≡ min tally.most count
 
 -- so it has of each table

@@ -1,11 +1,12 @@
 //! A writer flushes each table of which it has logged so many updates since its last finished flush
 //! of it (Cassandra's memtable cleaner, which flushes once a limit is reached). Where another
-//! writer has the table's turn, the count stays, and the flush stays due.
+//! writer has the table's turn, the count stays, and the flush stays due. So each memtable that is
+//! opened is paid for by as many updates of its table.
 ghost use Rattle.std.specs.Prelude.{◌≡◌, ◌<◌, ℕ, IsSome, Some, None, false, slice_set, true};
 ghost use Rattle.clog_spec.specs.Sizes.{most_tables};
 ghost use Rattle.clog_writers.specs.Crews.{KnowsWhy, MayLack};
 ghost use Rattle.clog_writers.specs.Shares.{is_finished};
-ghost use Rattle.clog_writers.specs.Tallied.{HasFlushedAll};
+ghost use Rattle.clog_writers.specs.Tallied.{ArePaid, HasFlushedAll};
 ghost use Rattle.clog_writers.specs.Tallies.{MayTally, Tallies, limit_of};
 ghost use Rattle.path_rule.specs.Members.{IsOf, view_of};
 ghost use Rattle.write_path.specs.Commits.{KeepsList};
@@ -50,8 +51,11 @@ fn flush_table<R: Wait, K: Keeper>(
         result.0.member }
     ensures why { KnowsWhy path.now.table.size result.2 result.0 }
     ensures most { result.1.most ≡ tally.most }
-    ensures tallies { Tallies seat.member.number tally (view_of seat.member).trail
+    ensures tallies { result.2 ≡ None
+        → Tallies seat.member.number tally (view_of seat.member).trail
         → Tallies seat.member.number result.1 (view_of result.0.member).trail }
+    ensures paid { Tallies seat.member.number tally (view_of seat.member).trail
+        → ArePaid (Some tally.most) seat.member.number (view_of result.0.member).trail }
 {
     if !tally.is_due(table) {
         return (seat, tally, None);
@@ -75,8 +79,11 @@ fn flush_tables<R: Wait, K: Keeper>(
         result.0.member }
     ensures why { KnowsWhy path.now.table.size result.2 result.0 }
     ensures most { result.1.most ≡ tally.most }
-    ensures tallies { Tallies seat.member.number tally (view_of seat.member).trail
+    ensures tallies { result.2 ≡ None
+        → Tallies seat.member.number tally (view_of seat.member).trail
         → Tallies seat.member.number result.1 (view_of result.0.member).trail }
+    ensures paid { Tallies seat.member.number tally (view_of seat.member).trail
+        → ArePaid (Some tally.most) seat.member.number (view_of result.0.member).trail }
 {
     let mut seat = seat;
     let mut tally = tally;
@@ -109,11 +116,17 @@ pub(crate) fn flush_due<R: Wait, K: Keeper>(
     ensures why { KnowsWhy path.now.table.size result.2 result.0 }
     ensures rows { MayLack (limit_of tally) result.2 }
     ensures limit { limit_of result.1 ≡ limit_of tally }
-    ensures tallies { MayTally seat.member.number tally (view_of seat.member).trail
+    ensures tallies { result.2 ≡ None
+        → MayTally seat.member.number tally (view_of seat.member).trail
         → MayTally seat.member.number result.1 (view_of result.0.member).trail }
+    ensures paid { MayTally seat.member.number tally (view_of seat.member).trail
+        → ArePaid (limit_of tally) seat.member.number (view_of result.0.member).trail }
 {
     match tally {
         Some(tally) => {
+            if !tally.is_any_due() {
+                return (seat, Some(tally), None);
+            }
             let (seat, left, fault) = flush_tables(rt, alloc, path, seat, tally);
             (seat, Some(left), fault)
         }
@@ -138,6 +151,8 @@ fn flush_until_none<R: Wait, K: Keeper>(
     ensures flushed { result.1 ≡ None
         → Tallies seat.member.number tally (view_of seat.member).trail
         → HasFlushedAll (Some tally.most) result.0 }
+    ensures paid { Tallies seat.member.number tally (view_of seat.member).trail
+        → ArePaid (Some tally.most) seat.member.number (view_of result.0.member).trail }
 {
     let mut seat = seat;
     let mut tally = tally;
@@ -176,6 +191,8 @@ pub(crate) fn flush_rest<R: Wait, K: Keeper>(
     ensures flushed { result.1 ≡ None
         → MayTally seat.member.number tally (view_of seat.member).trail
         → HasFlushedAll (limit_of tally) result.0 }
+    ensures paid { MayTally seat.member.number tally (view_of seat.member).trail
+        → ArePaid (limit_of tally) seat.member.number (view_of result.0.member).trail }
 {
     match tally {
         Some(tally) => flush_until_none(rt, alloc, path, seat, tally),

@@ -1,7 +1,9 @@
-use Rattle.std.proofs.Common.{refl, ◌∙◌}
+use Rattle.std.proofs.Common.{ℕ, Some, refl, sym, ◌∙◌, subst}
+use Rattle.std.proofs.lemmas.Option.{none-some}
 use Rattle.path_rule.specs.Members.{view_of}
 use Rattle.write_path.proofs.Growing.{keeps_first, keeps_on}
-use Rattle.clog_writers.proofs.Tallying.{tallies_then}
+use Rattle.clog_writers.specs.Tallied.{ArePaid}
+use Rattle.clog_writers.proofs.Tallying.{all_paid, paid_then, tallies_then}
 use Rattle.clog_writers.proofs.flushing.flush_tables.Goals as goal
 
 pub loop-number-init : goal.loop-number-init
@@ -22,7 +24,8 @@ loop-number-preserved g c =
           I.keeps done.keeps;
       most = done.most ∙ I.most;
       tallies = tallies_then t.table.shared.table_id t.size c.args.seat l.seat c.args.tally l.tally
-          (view_of now.0.member).trail now.1 I.keeps I.tallies done.tallies;
+          (view_of now.0.member).trail now.1 I.keeps I.tallies
+          (done.tallies c.in-None.is);
     }
 
 pub returns-in-Some-clause-keeps : goal.returns-in-Some-clause-keeps
@@ -32,8 +35,21 @@ returns-in-Some-clause-keeps g c =
     c.flush_table-next.result.0.member l.invariant.keeps c.flush_table-next.ensures.keeps
 
 pub returns-in-Some-clause-tallies : goal.returns-in-Some-clause-tallies
-returns-in-Some-clause-tallies g c =
+returns-in-Some-clause-tallies g c = λ none. absurd (none-some c.in-Some.fault (sym none))
+
+pub returns-in-Some-clause-paid : goal.returns-in-Some-clause-paid
+returns-in-Some-clause-paid g c =
     let t = c.args.path.now.table in let l = c.loop-number in let I = l.invariant in
-    let now = c.flush_table-next.result in
-    tallies_then t.table.shared.table_id t.size c.args.seat l.seat c.args.tally l.tally
-    (view_of now.0.member).trail now.1 I.keeps I.tallies c.flush_table-next.ensures.tallies
+    paid_then t.table.shared.table_id t.size c.args.seat l.seat c.args.tally l.tally
+    (view_of c.flush_table-next.result.0.member).trail I.keeps I.most I.tallies
+    c.flush_table-next.ensures.paid
+
+pub returns-clause-tallies : goal.returns-clause-tallies
+returns-clause-tallies g c = λ none. c.loop-number.invariant.tallies
+
+pub returns-clause-paid : goal.returns-clause-paid
+returns-clause-paid g c = λ all.
+    let l = c.loop-number in let I = l.invariant in let w = c.args.seat.member.number in
+    let trail = (view_of l.seat.member).trail in
+    subst (λ (k : ℕ). ArePaid (Some k) w trail) I.most
+    (all_paid w l.tally trail (I.tallies all))
