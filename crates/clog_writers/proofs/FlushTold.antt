@@ -1,22 +1,5 @@
 -- What an answer of a flush tells its seat.
-use Rattle.std.proofs.Common.{
-  ◌≡◌,
-  ℕ,
-  suc,
-  ◌<◌,
-  ◌≤◌,
-  true,
-  inr,
-  List,
-  [],
-  ◌++◌,
-  reverse,
-  refl,
-  sym,
-  ◌∙◌,
-  subst,
-  append-nil,
-}
+use Rattle.std.proofs.Common.{◌≡◌, ℕ, suc, ◌≤◌, true, inr, List, [], reverse, refl, sym, ◌∙◌, subst, append-nil}
 use Rattle.std.specs.Prelude.{Contains}
 use Rattle.std.proofs.lemmas.Bool.{false≢true}
 use Rattle.std.proofs.lemmas.List.Sorted.{

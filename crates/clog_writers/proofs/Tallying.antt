@@ -1,39 +1,5 @@
 -- A writer's tally while it logs: one write more, a flush, and what neither adds to nor takes from.
-use Rattle.std.proofs.Common.{
-  ◌≡◌,
-  ◌⊎◌,
-  ℕ,
-  zero,
-  suc,
-  ◌+◌,
-  ◌<◌,
-  ◌≤◌,
-  min,
-  Bool,
-  true,
-  false,
-  inl,
-  inr,
-  List,
-  [],
-  ◌∷◌,
-  ◌++◌,
-  get_or,
-  reverse,
-  set,
-  Option,
-  Some,
-  None,
-  refl,
-  sym,
-  ap,
-  ◌∙◌,
-  subst,
-  arith,
-  append_assoc,
-  get_or-set_other,
-}
-use Rattle.std.specs.List.{sum_by}
+use Rattle.std.proofs.Common.{◌≡◌, ◌⊎◌, ℕ, zero, suc, ◌+◌, ◌<◌, Bool, true, false, inl, inr, List, [], ◌∷◌, ◌++◌, get_or, reverse, set, Option, Some, None, refl, sym, ap, ◌∙◌, subst, arith, append_assoc, get_or-set_other}
 use Rattle.std.proofs.lemmas.List.{reverse-append}
 use Rattle.std.proofs.lemmas.Option.{none-some, same_Some}
 use Rattle.std.proofs.lemmas.List.Sums.{sum_by-append, sum_by-cons}
@@ -69,14 +35,7 @@ use Rattle.clog_writers.specs.Tallied.{
   IsTallied,
   updates_for,
 }
-use Rattle.clog_writers.specs.Tallies.{
-  AddsCounts,
-  HasNone,
-  IsTallyOf,
-  MayTally,
-  Tallies,
-  limit_of,
-}
+use Rattle.clog_writers.specs.Tallies.{AddsCounts, HasNone, MayTally, Tallies, limit_of}
 use Rattle.clog_writers.proofs.Committing.{one_write}
 use Rattle.clog_writers.proofs.FlushTold.{finished, flush_grows}
 
