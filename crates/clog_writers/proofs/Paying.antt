@@ -86,14 +86,16 @@ pub flush_pays : (most w t count : ℕ) (v after : View) (a : Flush) → Flushes
     → most ≤ count → IsTallied most w t count (reverse (writes_of v.trail)) v.trail
     → IsPaid most w t (reverse (writes_of after.trail)) after.trail
 flush_pays most w t count v after a F due T =
-    let P = paid_by_tally most w t count (reverse (writes_of v.trail)) v.trail T in
     let more = flush_opens w t v after a F in
     let one : more.more ≤ 1 = (let few = more.few in let most_one = at_most_one a in
     omega (arith, few, most_one)) in
+    let lines = T.front ++ T.rest in
     record {
-      lines = P.lines;
-      are = subst (λ (l : List EntryNote). AreWritesOf w P.lines (reverse l)) (sym F.list) P.are;
-      opened = subst (λ (k : ℕ). most * k ≤ updates_for t P.lines) (sym more.sum)
+      lines = lines;
+      are = subst (λ (l : List EntryNote). AreWritesOf w lines (reverse l)) (sym F.list)
+          (subst (AreWritesOf w lines) (sym T.parts)
+          (both_writes w T.front T.rest T.early T.late T.are_early T.are_late));
+      opened = subst (λ (k : ℕ). most * k ≤ updates_for t lines) (sym more.sum)
           (let split = mul-add most more.more (opens t v.trail) in
           let up : most * more.more ≤ most * 1 = mul-le-mul_left most one in
           let unit : most * 1 ≡ most = omega arith in

@@ -1,4 +1,4 @@
-use Rattle.std.proofs.Common.{refl, sym, ◌∙◌}
+use Rattle.std.proofs.Common.{refl, ◌∙◌}
 use Rattle.path_rule.specs.Members.{view_of}
 use Rattle.write_path.proofs.Growing.{keeps_first, keeps_on}
 use Rattle.clog_writers.proofs.Tallying.{all_flushed, paid_then, tallies_then}

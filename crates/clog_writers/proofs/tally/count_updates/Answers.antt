@@ -1,19 +1,7 @@
-use Rattle.std.proofs.Common.{
-  ◌+◌,
-  ◌<◌,
-  ◌∙◌,
-  List,
-  get_or,
-  length-set,
-  subst,
-  sym,
-  take_all,
-  arith,
-}
+use Rattle.std.proofs.Common.{◌+◌, ◌∙◌, List, get_or, length-set, subst, sym, take_all, arith}
 use Rattle.clog_base.proofs.Members.{all_have}
 use Rattle.clog_mutation.specs.declared.mutation.Update.{Update}
 use Rattle.clog_mutation.specs.Limits.{UpdateIsWithinLimits}
-use Rattle.clog_spec.specs.Sizes.{most_tables}
 use Rattle.clog_writers.specs.Tallied.{HasCounts}
 use Rattle.clog_writers.proofs.UpdateCounts.{few, one_more}
 use Rattle.clog_writers.proofs.tally.count_updates.Goals as goal

@@ -1,21 +1,4 @@
-use Rattle.std.proofs.Common.{
-  ◌≡◌,
-  ◌+◌,
-  ◌<◌,
-  ◌≤◌,
-  ◌∙◌,
-  ℕ,
-  get_or,
-  length-set,
-  get_or-set_other,
-  get_or-set_same,
-  min,
-  set,
-  sym,
-  ap,
-  arith,
-  rules,
-}
+use Rattle.std.proofs.Common.{◌≡◌, ◌+◌, ◌<◌, ◌∙◌, ℕ, get_or, length-set, get_or-set_other, get_or-set_same, min, set, ap, arith, rules}
 use mathlib.Core.Logic.{dite}
 use native.Mathlib.Decide.{ℕ_discrete}
 use Rattle.clog_writers.proofs.tally.Tally.with_line.Goals as goal
