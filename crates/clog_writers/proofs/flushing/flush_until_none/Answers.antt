@@ -23,7 +23,7 @@ loop-preserved g c =
           I.keeps done.keeps;
       most = done.most ∙ I.most;
       tallies = tallies_then t.table.shared.table_id t.size c.args.seat l.seat c.args.tally l.tally
-          (view_of now.0.member).trail now.1 I.keeps I.tallies (done.tallies c.in-None.is);
+          (view_of now.0.member).trail now.1 I.keeps I.tallies (done.tallies c.in-None-fault.is);
     }
 
 pub returns-in-Some-fault-clause-keeps : goal.returns-in-Some-fault-clause-keeps
@@ -60,5 +60,5 @@ returns-then-not-is_any_due-clause-flushed g c = λ none all.
     all_flushed c.args.seat.member.number now.1 c.args.tally.most now.0
     (done.keeps.0.1 ∙ I.keeps.0.1) (done.most ∙ I.most)
     (tallies_then t.table.shared.table_id t.size c.args.seat l.seat c.args.tally l.tally
-    (view_of now.0.member).trail now.1 I.keeps I.tallies (done.tallies c.in-None.is) all)
+    (view_of now.0.member).trail now.1 I.keeps I.tallies (done.tallies c.in-None-fault.is) all)
     (c.is_any_due.ensures c.if-not-is_any_due.true)
