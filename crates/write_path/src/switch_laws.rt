@@ -16,7 +16,7 @@ pub fn what_a_switch_tells()
     ensures at_no_other { (key : ℕ) → Finalises 0 0 0 key (switched_at 0 60) → key ≡ 60 }
     ensures second { Finalises 0 0 1 68 (switched_at 1 68) }
     // Such steps leave the seat's list as it was.
-    ensures list { (before : List OwnStep) → AreFlushSteps 0 (switched_at 0 60)
+    ensures list { (before : List OwnStep) → AreFlushSteps 0 0 (switched_at 0 60)
         × (writes_of (switched_at 0 60 ++ before) ≡ writes_of before) }
     // A look at a turn that another seat has is no act, and a switch is five steps, of which one
     // is a look.
