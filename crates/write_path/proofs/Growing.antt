@@ -113,11 +113,10 @@ tries_keep w (t ∷ ts) A = (try_keeps w t.event A.0, tries_keep w ts A.1)
 -- a write that ends, by its looks and its last step
 pub ended : {K : Type 0} (s : Deposited K) (after : Member K) → EndsWrite s after
     → GrowsUnretired s.member.seat.me.0.trail after.seat.me.0.trail
-ended s after E = then_kept s.member.seat.me.0.trail E.before.trail after.seat.me.0.trail
-    (
-      record { newer = E.tried.tries; is = E.tried.trail },
-      tries_keep s.member.number E.tried.tries E.tried.are,
-    )
+ended s after E = then_kept s.member.seat.me.0.trail E.before.trail after.seat.me.0.trail (
+  record { newer = E.tried.tries; is = E.tried.trail },
+  tries_keep s.member.number E.tried.tries E.tried.are,
+)
     (one_step E.before s.member.number (Close s.member.number Write s.writing (Applied E.places))
     E.found after.seat.me.0 tt E.did)
 

@@ -18,14 +18,13 @@ use Rattle.write_path.specs.Ends.{writes_of, IsListed}
 use Rattle.write_path.specs.FlushSteps.{RetiresNone}
 use Rattle.write_path.specs.Grown.{HasGrown}
 use Rattle.write_path.specs.Tries.{Stays}
-use Rattle.write_path.specs.Unretired.{GrowsUnretired}
 
 -- It is the same seat of the path, its list is as it was, and its trail has grown by steps that
 -- retire no memtable.
 abbrev pub KeepsList : {K : Type 0} → TableId → PathSize → Member K → Member K → Type 0
 KeepsList id size m m' = Stays id size m m'
     × (writes_of m'.seat.me.0.trail ≡ writes_of m.seat.me.0.trail)
-    × GrowsUnretired m.seat.me.0.trail m'.seat.me.0.trail
+    × (g : HasGrown m.seat.me.0.trail m'.seat.me.0.trail) × RetiresNone g.newer
 
 -- The seat found this log key, at a step behind its first `since` ones. At the key an entry of so
 -- many bytes has no segment.
@@ -56,4 +55,4 @@ IsWritten size w before prepared (Logged start end) v =
     IsLogged before w start.0 end.0 prepared v.trail
 IsWritten size w before prepared (Spent back key) v = (back ≡ prepared)
     × (writes_of v.trail ≡ writes_of before) × HasNoRoom size prepared.size (length before) key.0 v
-    × GrowsUnretired before v.trail
+    × (g : HasGrown before v.trail) × RetiresNone g.newer

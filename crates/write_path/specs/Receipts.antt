@@ -33,6 +33,8 @@ use Rattle.write_path.specs.declared.commit.SyncFault.TheVariants.{
 use Rattle.write_path.specs.declared.prepared.Prepared.{Prepared}
 use Rattle.write_path.specs.Commits.{HasNoRoom, IsLogged}
 use Rattle.write_path.specs.Ends.{writes_of}
+use Rattle.write_path.specs.FlushSteps.{RetiresNone}
+use Rattle.write_path.specs.Grown.{HasGrown}
 use Rattle.write_path.specs.Sealed.{FoundWhileLast, IsSealed}
 use Rattle.write_path.specs.Syncs.{Syncs, CoversList}
 use Rattle.write_path.specs.Writes.{IsPrepared}
@@ -96,7 +98,7 @@ IsCommitted Batch size w before p (Unsynced r fault) v =
     × IsToldBehind h.logged.listed.note fault v.trail
 IsCommitted mode size w before p (Spent back key) v = (back ≡ p)
     × (writes_of v.trail ≡ writes_of before) × HasNoRoom size p.size (length before) key.0 v
-    × GrowsUnretired before v.trail
+    × (g : HasGrown before v.trail) × RetiresNone g.newer
 
 -- the answer of a sync to a write that it did not make lasting
 abbrev pub told_by : SyncFault → SyncAnswer
