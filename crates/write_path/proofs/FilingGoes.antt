@@ -80,8 +80,9 @@ use Rattle.write_path.proofs.SwitchGoes.{kept_both, none_both, stage_same, then_
 
 -- ---- steps
 
-abbrev pub quiet_one : {t : ℕ} (w : ℕ) (e : Event) (n : ℕ) (h : Hands) (v after : View) → IsFlushStep w t e
-    → SwitchesNo e → RetiresNo e → DidAs v w e n h after → QuietSteps w t v after
+abbrev pub quiet_one : {t : ℕ} (w : ℕ) (e : Event) (n : ℕ) (h : Hands) (v after : View)
+    → IsFlushStep w t e → SwitchesNo e → RetiresNo e → DidAs v w e n h after
+    → QuietSteps w t v after
 quiet_one {t} w e n h v after is leaves keeps d = record {
   made = one w e n h v after is d;
   none = (leaves, tt);
@@ -128,7 +129,8 @@ none_made w t v after same = record {
   stage = ap (λ (u : View). stage_of u.part t) same;
 }
 
-abbrev pub unswitched : {t : ℕ} (w : ℕ) (v after : View) → QuietSteps w t v after → UnswitchedSteps w t v after
+abbrev pub unswitched : {t : ℕ} (w : ℕ) (v after : View) → QuietSteps w t v after
+    → UnswitchedSteps w t v after
 unswitched {t} w v after Q = record { made = Q.made; none = Q.none }
 
 abbrev pub may_retire : (w t : ℕ) (v after : View) → FilingSteps w t v after
@@ -246,8 +248,8 @@ grown_behind {t} v u before w S G = record {
       ∙ sym (append_assoc G.newer S.steps v.trail));
 }
 
-abbrev grown_before : {t : ℕ} (older : List OwnStep) (u after : View) (w : ℕ) → HasGrown older u.trail
-    → FlushSteps w t u after → HasGrown older after.trail
+abbrev grown_before : {t : ℕ} (older : List OwnStep) (u after : View) (w : ℕ)
+    → HasGrown older u.trail → FlushSteps w t u after → HasGrown older after.trail
 grown_before {t} older u after w G S = record {
   newer = S.steps ++ G.newer;
   is = S.trail ∙ (ap (λ (l : List OwnStep). S.steps ++ l) G.is

@@ -300,7 +300,8 @@ later w z t v u after a same Q got R = let S = subst (λ k. Flushes k t u a afte
 pub busy : (w n : ℕ) (t : Table) (v after : View)
     → Did v w (Look w (TurnWord (FlushTurn t))) n after → n ≡ 1 → Flushes w t.0 v (Busy n) after
 busy w n t v after d is = let e = Look w (TurnWord (FlushTurn t)) in
-    let made = one {t = t.0} w e n _ v after refl (record { view = d.view; was = d.was }) in record {
+    let made = one {t = t.0} w e n _ v after refl (record { view = d.view; was = d.was }) in
+    record {
       steps = made;
       list = same_list w v after made;
       is = (

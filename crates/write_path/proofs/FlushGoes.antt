@@ -92,15 +92,15 @@ wrote_still w t key [] us A B = B
 wrote_still w t key (s ∷ ts) us A B =
     (ends_still w t key s.event A.0, wrote_still w t key ts us A.1 B)
 
-pub still_wrote : {t : ℕ} (w key : ℕ) (v after : View) → FlushSteps w t v after → WroteBelow key v.trail
-    → WroteBelow key after.trail
+pub still_wrote : {t : ℕ} (w key : ℕ) (v after : View) → FlushSteps w t v after
+    → WroteBelow key v.trail → WroteBelow key after.trail
 still_wrote {t} w key v after S B =
     subst (λ l. WroteBelow key l) (sym S.trail) (wrote_still w t key S.steps v.trail S.are B)
 
 -- ---- steps together
 
-abbrev pub one : {t : ℕ} (w : ℕ) (e : Event) (n : ℕ) (h : Hands) (v after : View) → IsFlushStep w t e
-    → DidAs v w e n h after → FlushSteps w t v after
+abbrev pub one : {t : ℕ} (w : ℕ) (e : Event) (n : ℕ) (h : Hands) (v after : View)
+    → IsFlushStep w t e → DidAs v w e n h after → FlushSteps w t v after
 one {t} w e n h v after is d = record {
   steps = record { event = e; found = n; filed = None } ∷ [];
   trail = ap (λ (u : View). u.trail) d.view;
@@ -173,8 +173,8 @@ pub round_all : (w t : ℕ) (ts : List OwnStep) → AreRoundSteps w ts → AreFl
 round_all w t [] A = tt
 round_all w t (s ∷ ts) A = (round_step w t s.event A.0, round_all w t ts A.1)
 
-abbrev pub of_round : {t : ℕ} (w : ℕ) (puts : List Event) (v after : View) → RoundSteps w puts v after
-    → FlushSteps w t v after
+abbrev pub of_round : {t : ℕ} (w : ℕ) (puts : List Event) (v after : View)
+    → RoundSteps w puts v after → FlushSteps w t v after
 of_round {t} w puts v after S = record {
   steps = S.steps;
   trail = S.trail;

@@ -48,7 +48,7 @@ use Rattle.path_rule.specs.declared.view.View.{View}
 use Rattle.path_rule.specs.Calls.{Did, Started}
 use Rattle.write_path.specs.declared.deposited.Deposited.{Deposited}
 use Rattle.write_path.specs.Claims.{IsClaim, IsAgain, IsSpent}
-use Rattle.write_path.specs.Commits.{KeepsList}
+use Rattle.write_path.specs.Commits.{KeepsMemtables}
 use Rattle.write_path.specs.Ends.{writes_of, AreTries, EndsWrite, IsTry}
 use Rattle.write_path.specs.FlushSteps.{RetiresNo, RetiresNone}
 use Rattle.write_path.specs.Grown.{HasGrown}
@@ -126,7 +126,7 @@ module _ {K : Type 0} (id : TableId) (size : PathSize) (m m' : Member K)
     (stays : Stays id size m m') where
   by : (u : View) (newer : List OwnStep) → m'.seat.me.0 ≡ u → u.trail ≡ newer ++ m.seat.me.0.trail
       → writes_of u.trail ≡ writes_of m.seat.me.0.trail → RetiresNone newer
-      → KeepsList id size m m'
+      → KeepsMemtables id size m m'
   by u newer view trail list kept = (
     stays,
     ap (λ (v : View). writes_of v.trail) view ∙ list,
@@ -139,45 +139,46 @@ module _ {K : Type 0} (id : TableId) (size : PathSize) (m m' : Member K)
   looks o g k = step (Look m.number (Count o g)) k ∷ step (Look m.number (Current o)) g ∷ []
 
   pub started : (g : ℕ) → Started m.seat.me.0 m.number Write g m'.seat.me.0
-      → KeepsList id size m m'
+      → KeepsMemtables id size m m'
   started g S = by _ (step (Register m.number Write g) (S.looked + 1) ∷ looks Write g S.looked)
       S.did.view refl refl (tt, (tt, (tt, tt)))
 
-  pub joined : (g : ℕ) → Joined m.seat.me.0 m.number g m'.seat.me.0 → KeepsList id size m m'
+  pub joined : (g : ℕ) → Joined m.seat.me.0 m.number g m'.seat.me.0 → KeepsMemtables id size m m'
   joined g J = by _ (step (Register m.number Append g) (J.looked + 1) ∷ looks Append g J.looked)
       J.did.view refl refl (tt, (tt, (tt, tt)))
 
   pub only_looked : (o : Order) (k n : ℕ)
-      → OnlyLooked o m.seat.me.0 m.number k n m'.seat.me.0 → KeepsList id size m m'
+      → OnlyLooked o m.seat.me.0 m.number k n m'.seat.me.0 → KeepsMemtables id size m m'
   only_looked o k n L = let g = L.refused.group in ⊎_elim
       (λ once. by _ (looks o g k) once refl refl (tt, (tt, tt)))
       (λ again. by _ (step (Look m.number (Count o g)) n ∷ looks o g k) again refl refl
       (tt, (tt, (tt, tt))))
       L.refused.view
 
-  pub claimed : (to : ℕ) → IsClaim m.seat.me.0 m.number to m'.seat.me.0 → KeepsList id size m m'
+  pub claimed : (to : ℕ) → IsClaim m.seat.me.0 m.number to m'.seat.me.0
+      → KeepsMemtables id size m m'
   claimed to C = by _ (step (Claim m.number (record { 0 = C.looked }) (record { 0 = to }) Entry) to
       ∷ step (Look m.number Log) C.looked ∷ []) C.did.view refl refl (tt, (tt, tt))
 
   pub again : (bytes k n : ℕ) → IsAgain size m.seat.me.0 m.number bytes k n m'.seat.me.0
-      → KeepsList id size m m'
-  again bytes k n A = by _ (step (Look m.number Log) n ∷ step (Look m.number Log) k ∷ []) A.view refl
-      refl (tt, (tt, tt))
+      → KeepsMemtables id size m m'
+  again bytes k n A = by _ (step (Look m.number Log) n ∷ step (Look m.number Log) k ∷ []) A.view
+      refl refl (tt, (tt, tt))
 
   pub spent : (bytes key : ℕ) → IsSpent size m.seat.me.0 m.number bytes key m'.seat.me.0
-      → KeepsList id size m m'
+      → KeepsMemtables id size m m'
   spent bytes key S = by _ (step (Look m.number Log) key ∷ []) S.view refl refl (tt, tt)
 
   -- a seat that leaves an order with nothing
   pub left : (o : Order) (g n : ℕ)
       → Did m.seat.me.0 m.number (Close m.number o g Nothing) n m'.seat.me.0
-      → KeepsList id size m m'
+      → KeepsMemtables id size m m'
   left o g n D = by _ (step (Close m.number o g Nothing) n ∷ []) D.view refl refl (tt, tt)
 
 -- ---- by calls one behind another
 
 pub keeps_on : {K : Type 0} (id : TableId) (size : PathSize) (m m' m'' : Member K)
-    → KeepsList id size m m' → KeepsList id size m' m'' → KeepsList id size m m''
+    → KeepsMemtables id size m m' → KeepsMemtables id size m' m'' → KeepsMemtables id size m m''
 keeps_on id size m m' m'' A B = (
   (B.0.0, B.0.1 ∙ A.0.1),
   B.1 ∙ A.1,
@@ -187,5 +188,5 @@ keeps_on id size m m' m'' A B = (
 
 -- a seat that made no step, as a call begins
 pub keeps_first : {K : Type 0} (id : TableId) (size : PathSize) (m : Member K)
-    → (m.seat.table_id ≡ id) × (m.seat.me.0.size ≡ size) → KeepsList id size m m
+    → (m.seat.table_id ≡ id) × (m.seat.me.0.size ≡ size) → KeepsMemtables id size m m
 keeps_first id size m of = ((of, refl), refl, record { newer = []; is = refl }, tt)

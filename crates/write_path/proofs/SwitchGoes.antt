@@ -229,8 +229,8 @@ pub round_kept : (w : ℕ) (ts : List OwnStep) → AreRoundSteps w ts → Retire
 round_kept w [] A = tt
 round_kept w (t ∷ ts) A = (round_retires w t.event A.0, round_kept w ts A.1)
 
-abbrev pub quiet_round : {t : ℕ} (w : ℕ) (puts : List Event) (v after : View) → RoundSteps w puts v after
-    → QuietSteps w t v after
+abbrev pub quiet_round : {t : ℕ} (w : ℕ) (puts : List Event) (v after : View)
+    → RoundSteps w puts v after → QuietSteps w t v after
 quiet_round {t} w puts v after S = record {
   made = of_round w puts v after S;
   none = round_none w S.steps S.are;
@@ -321,8 +321,9 @@ bound_behind w t m key newer older after B = record {
   covers = B.covers;
 }
 
-is_behind : (w t : ℕ) (v u after : View) (a : Switch) (steps : List OwnStep) (Q : QuietSteps w t v u)
-    → HadTurn a → IsSwitch w t u a steps after → IsSwitch w t v a (steps ++ Q.made.steps) after
+is_behind : (w t : ℕ) (v u after : View) (a : Switch) (steps : List OwnStep)
+    (Q : QuietSteps w t v u) → HadTurn a → IsSwitch w t u a steps after
+    → IsSwitch w t v a (steps ++ Q.made.steps) after
 is_behind w t v u after (Empty key) steps Q had I = (
   I.0,
   bound_behind w t I.0 key.0 steps Q.made.steps after I.1,
@@ -380,7 +381,8 @@ behind w z t v u after a same Q had R = let S = subst (λ k. Switches k t u a af
 pub busy_is : (w n : ℕ) (t : Table) (v after : View) → Did v w (Look w (TurnWord (Flush t))) n after
     → n ≡ 1 → Switches w t.0 v (Busy n) after
 busy_is w n t v after d is = let e = Look w (TurnWord (Flush t)) in
-    let made = one {t = t.0} w e n _ v after refl (record { view = d.view; was = d.was }) in record {
+    let made = one {t = t.0} w e n _ v after refl (record { view = d.view; was = d.was }) in
+    record {
       steps = made;
       list = same_list w v after made;
       is = (

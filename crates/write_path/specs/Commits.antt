@@ -19,10 +19,15 @@ use Rattle.write_path.specs.FlushSteps.{RetiresNone}
 use Rattle.write_path.specs.Grown.{HasGrown}
 use Rattle.write_path.specs.Tries.{Stays}
 
--- It is the same seat of the path, its list is as it was, and its trail has grown by steps that
--- retire no memtable.
+-- It is the same seat of the path, its list is as it was, and its trail has grown.
 abbrev pub KeepsList : {K : Type 0} → TableId → PathSize → Member K → Member K → Type 0
 KeepsList id size m m' = Stays id size m m'
+    × (writes_of m'.seat.me.0.trail ≡ writes_of m.seat.me.0.trail)
+    × HasGrown m.seat.me.0.trail m'.seat.me.0.trail
+
+-- The same by steps that retire no memtable.
+abbrev pub KeepsMemtables : {K : Type 0} → TableId → PathSize → Member K → Member K → Type 0
+KeepsMemtables id size m m' = Stays id size m m'
     × (writes_of m'.seat.me.0.trail ≡ writes_of m.seat.me.0.trail)
     × (g : HasGrown m.seat.me.0.trail m'.seat.me.0.trail) × RetiresNone g.newer
 

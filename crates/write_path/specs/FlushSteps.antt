@@ -42,8 +42,8 @@ use Rattle.path_rule.specs.Rule.{Was}
 use Rattle.write_path.specs.Grown.{HasGrown}
 
 -- Seat w makes the step, by which it neither joins nor leaves an order, and claims no entry. One
--- that switches a memtable, or raises its bound, or retires it, or takes or gives back a Flush turn,
--- is of table t.
+-- that switches a memtable, or raises its bound, or retires it, is of table t, and so is one that
+-- takes a Flush turn or gives it back.
 abbrev pub IsFlushStep : ℕ → ℕ → Event → Type 0
 IsFlushStep w t (Register by order group) = ⊥
 IsFlushStep w t (Close by order group carried) = ⊥

@@ -81,7 +81,8 @@ impl<K: Keeper, A: Allocator> WritePath<K, A> {
         requires holds { HoldsTable table.0 member.old.seat.me }
         ensures same { Stays self.now.table.table.shared.table_id self.now.table.size member.old
             member.new }
-        ensures steps { QuietSteps member.old.number table.0 (view_of member.old) (view_of member.new) }
+        ensures steps { QuietSteps member.old.number table.0 (view_of member.old)
+            (view_of member.new) }
         ensures holds { HoldsTable table.0 member.new.seat.me }
         ensures stage { stage_of (part_of member.new) table.0
             ≡ stage_of (part_of member.old) table.0 }

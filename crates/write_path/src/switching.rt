@@ -56,7 +56,8 @@ impl<K: Keeper, A: Allocator> WritePath<K, A> {
         requires unread { (hands_of member).reading ≡ None }
         ensures same { Stays self.now.table.table.shared.table_id self.now.table.size member
             result.0.member }
-        ensures steps { FlushSteps member.number table.0 (view_of member) (view_of result.0.member) }
+        ensures steps { FlushSteps member.number table.0 (view_of member)
+            (view_of result.0.member) }
         ensures settled { IsSettled member.number table.0 memtable bound.0 (view_of member)
             result.1 (view_of result.0.member) }
     {

@@ -5,19 +5,13 @@ use Rattle.clog_writers.specs.declared.fault.WriteFault.{WriteFault}
 use Rattle.std.specs.Prelude.{Option}
 use Rattle.clog_writers.proofs.Committing.{sync_why}
 use Rattle.clog_writers.proofs.Timing.{knows_synced, seals_last}
-use Rattle.write_path.proofs.SwitchGoes.{round_kept}
 use Rattle.clog_writers.proofs.syncing.sync_seat.Goals as goal
 
 pub returns-clause-keeps : goal.returns-clause-keeps
 returns-clause-keeps g c =
     let syncs = c.sync-seat.ensures.syncs in
     let steps = syncs.answers.steps in
-    (
-      c.sync-seat.ensures.same,
-      syncs.list,
-      record { newer = steps.steps; is = steps.trail },
-      round_kept c.args.seat.member.number steps.steps steps.are,
-    )
+    (c.sync-seat.ensures.same, syncs.list, record { newer = steps.steps; is = steps.trail })
 
 pub returns-clause-why : goal.returns-clause-why
 returns-clause-why g c =

@@ -21,7 +21,7 @@ returns-in-Some-clause-batch g c = λ batch.
 
 pub returns-in-None-clause-keeps : goal.returns-in-None-clause-keeps
 returns-in-None-clause-keeps g c =
-    ((c.requires, refl), refl, record { newer = []; is = refl }, tt)
+    ((c.requires, refl), refl, record { newer = []; is = refl })
 
 pub returns-in-None-clause-due : goal.returns-in-None-clause-due
 returns-in-None-clause-due g c = λ period periodic.

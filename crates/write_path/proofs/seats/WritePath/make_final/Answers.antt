@@ -46,7 +46,8 @@ returns-clause-made g c =
     O.ensures.step in
     let two = on_table _ t.0 (Switch _ t k Mark) (2 ^ 62) _ _ tt (refl, refl) M.ensures.step in
     let three = on_table _ t.0 (Look _ Log) L.result _ _ tt refl L.ensures.step in
-    let four = on_table _ t.0 (Raise _ t k (record { 0 = L.result })) R.ensures.step.0 _ _ tt (refl, refl)
+    let four = on_table _ t.0 (Raise _ t k (record { 0 = L.result })) R.ensures.step.0 _ _ tt
+    (refl, refl)
     R.ensures.step.1 in
     let five = on_table _ t.0 (Finalise _ t k) (F.result.0 + 2 ^ 62) _ _ tt (refl, refl)
     F.ensures.step in
