@@ -26,7 +26,7 @@ use Rattle.write_path.specs.Syncs.{CoversList}
 use Rattle.write_path.specs.Unretired.{GrowsUnretired}
 use Rattle.write_path.proofs.Growing.{both}
 use Rattle.write_path.proofs.Sealing.{found_in, stays_last}
-use Rattle.write_path.proofs.SwitchGoes.{kept_both, round_kept}
+use Rattle.write_path.proofs.SwitchGoes.{kept_both, none_both, round_kept, round_none}
 
 -- A synced key that covers a list covers the list's newest write.
 pub reached : (w s start end tables : ℕ) (before : List OwnStep) (p : Prepared) (v : View)
@@ -40,7 +40,7 @@ reached w s start end tables before p v L covers =
 by_rounds : (w : ℕ) (puts : List Event) (v after : View) → RoundSteps w puts v after
     → GrowsUnretired v.trail after.trail
 by_rounds w puts v after S =
-    (record { newer = S.steps; is = S.trail }, round_kept w S.steps S.are)
+    (record { newer = S.steps; is = S.trail }, round_kept w S.steps S.are, round_none w S.steps S.are)
 
 -- A receipt stands where the list does, and the write is the seat's last.
 abbrev pub stands : (base w : ℕ) (before : List OwnStep) (p : Prepared) (r x : Receipt)
@@ -68,6 +68,7 @@ stands base w before p r x v after H same last grown is =
         };
         grown = both before v.trail after.trail H.logged.grown grown.0;
         kept = kept_both grown.0.newer H.logged.grown.newer grown.1 H.logged.kept;
+        unswitched = none_both grown.0.newer H.logged.grown.newer grown.2 H.logged.unswitched;
       };
       position = ap (λ (y : Receipt). y.position) is ∙ H.position;
       line = λ sizes line m P. ap (λ (y : Receipt). y.line) is ∙ H.line sizes line m P;

@@ -15,6 +15,7 @@ pub mod FewSegments
 pub mod FewGroups
 pub mod BarredMemtables
 pub mod FewWriteGroups
+pub mod SeatsOpen
 pub mod NonePassed
 pub mod Parted
 pub mod CoveredFiles
@@ -50,6 +51,7 @@ pub mod FlushBarring
 pub mod FlushReading
 pub mod FlushRetires
 pub mod SwitchGoes
+pub mod StepsOpen
 pub mod FilingGoes
 pub mod FilingTurns
 pub mod FilingGathers

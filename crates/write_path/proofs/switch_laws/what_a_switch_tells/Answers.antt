@@ -32,3 +32,12 @@ returns-clause-full c = (refl, (tt, (tt, tt)), inl (refl, refl), inr (inl (refl,
 
 pub returns-clause-switched : goal.returns-clause-switched
 returns-clause-switched c = λ S. S.0
+
+pub returns-clause-opened : goal.returns-clause-opened
+returns-clause-opened c = refl
+
+pub returns-clause-opened_other : goal.returns-clause-opened_other
+returns-clause-opened_other c = refl
+
+pub returns-clause-found : goal.returns-clause-found
+returns-clause-found c = refl

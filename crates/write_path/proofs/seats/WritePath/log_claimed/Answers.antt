@@ -12,7 +12,7 @@ returns-clause-logged g c = let L = c.deposit-deposited.ensures.listed in
     let G = then_kept m.seat.me.0.trail D.result.0.member.seat.me.0.trail
     c.end_write-seat.result.member.seat.me.0.trail
     (one_step m.seat.me.0 m.number (Close m.number Append c.args.seat.group (Deposit step.0))
-    step.1 D.result.0.member.seat.me.0 tt step.2)
+    step.1 D.result.0.member.seat.me.0 tt tt step.2)
     (ended D.result.0 c.end_write-seat.result.member c.end_write-seat.ensures.ends) in record {
       behind = c.requires.behind;
       tables = c.deposit-deposited.result.0.tables;
@@ -29,4 +29,5 @@ returns-clause-logged g c = let L = c.deposit-deposited.ensures.listed in
       };
       grown = G.0;
       kept = G.1;
+      unswitched = G.2;
     }

@@ -18,6 +18,7 @@ use Rattle.write_path.proofs.FlushSwitching.{
   raise_keeps,
   to_oldest,
 }
+use Rattle.write_path.proofs.StepsOpen.{opens_one}
 use Rattle.write_path.proofs.seats.WritePath.make_final.Goals as goal
 
 pub open_memtable-requires-clause-turn : goal.open_memtable-requires-clause-turn
@@ -59,6 +60,7 @@ returns-clause-made g c =
       made = all.made;
       set = inl (n4, refl, refl, refl);
       kept = (tt, (tt, (tt, (tt, (tt, tt)))));
+      opened = opens_one t.0 (record { event = Switch w t (k + 1) Open; found = k + 1; filed = None });
       wrote = wrote_more L.result F.result.0 (F.ensures.above L.result R.ensures.raised) _
           (still_wrote z L.result _ _ last.made
           (under_log M.new.member.seat.me.0 z L.result L.ensures.found.0 L.ensures.found.1));

@@ -17,6 +17,7 @@ use Rattle.write_path.proofs.FlushBarring.{
 }
 use Rattle.write_path.proofs.FlushGoes.{next, of_round, still_wrote}
 use Rattle.write_path.proofs.SwitchGoes.{kept_both, round_kept}
+use Rattle.write_path.proofs.StepsOpen.{none_opened, opens_both, round_opens}
 use Rattle.write_path.proofs.seats.WritePath.switch_table.Goals as goal
 
 pub returns-then-current-eq-LAST_GROUP-clause-holds :
@@ -80,6 +81,12 @@ returns-clause-switched g c = let m = c.args.member in
       kept = kept_both wait.steps (M.made.steps ++ look.steps)
           (round_kept F.new.member.number wait.steps W.ensures.steps.are)
           (kept_both M.made.steps look.steps M.kept (tt, tt));
+      opened = let here = M.opened in
+          let first = opens_both t M.made.steps look.steps in
+          let all = opens_both t wait.steps (M.made.steps ++ look.steps) in
+          let none = none_opened t look.steps (tt, tt) in
+          let waits = round_opens F.new.member.number t wait.steps W.ensures.steps.are in
+          omega (arith, here, first, all, none, waits);
       wrote = still_wrote F.new.member.number key _ _ wait M.wrote;
       hands = W.ensures.passed.1 ∙ (M.hands ∙ S.ensures.hands);
       drained = record {

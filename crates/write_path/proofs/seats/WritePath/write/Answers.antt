@@ -29,8 +29,8 @@ returns-in-Ok-clause-written g c =
     let joined = c.append-appending.result.member.seat.me.0.trail in
     let claimed = c.in-Ok.claimed.member.seat.me.0.trail in
     let G = then_kept before claimed c.log_claimed.result.member.seat.me.0.trail
-    (then_kept before joined claimed (then_kept before begun joined (S.2, S.3) (A.2, A.3))
-    (C.2, C.3)) (L.grown, L.kept) in record {
+    (then_kept before joined claimed (then_kept before begun joined (S.2, S.3, S.4)
+    (A.2, A.3, A.4)) (C.2, C.3, C.4)) (L.grown, L.kept, L.unswitched) in record {
       behind = λ n h. L.behind n
           (subst (λ (l : List EntryNote). Contains l n) (sym (C.1 ∙ (A.1 ∙ S.1))) h);
       tables = L.tables;
@@ -46,6 +46,7 @@ returns-in-Ok-clause-written g c =
       };
       grown = G.0;
       kept = G.1;
+      unswitched = G.2;
     }
 
 pub returns-in-Err-clause-written : goal.returns-in-Err-clause-written
@@ -56,10 +57,11 @@ returns-in-Err-clause-written g c =
     let begun = c.start-begun.result.member.seat.me.0.trail in
     let joined = A.result.member.seat.me.0.trail in
     let refused = c.in-Err.refused.member.seat.me.0.trail in
-    let grown = then_kept before begun joined (S.2, S.3) (A.ensures.0.2, A.ensures.0.3) in
+    let grown = then_kept before begun joined (S.2, S.3, S.4)
+    (A.ensures.0.2, A.ensures.0.3, A.ensures.0.4) in
     let key = c.in-Err.key.0 in let after = c.leave.result.member.seat.me.0 in
     let G = then_kept before refused after.trail (then_kept before joined refused grown
-    (E.0.2, E.0.3)) (L.same.2, L.same.3) in (
+    (E.0.2, E.0.3, E.0.4)) (L.same.2, L.same.3, L.same.4) in (
       refl,
       L.same.1 ∙ (E.0.1 ∙ (A.ensures.0.1 ∙ S.1)),
       room_since size c.args.prepared.size (length before) (length joined) key after
@@ -68,4 +70,5 @@ returns-in-Err-clause-written g c =
           (L.room c.size.result (length joined) key E.3)),
       G.0,
       G.1,
+      G.2,
     )
