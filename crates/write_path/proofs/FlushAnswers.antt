@@ -3,6 +3,7 @@ use Rattle.std.proofs.Common.{
   ◌≡◌,
   ℕ,
   ◌+◌,
+  ◌≤◌,
   length,
   List,
   ◌++◌,

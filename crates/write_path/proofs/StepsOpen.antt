@@ -52,7 +52,8 @@ opens_both t ts us = sum_by-append (λ (z : OwnStep). counted t z.event) ts us
 -- a step that opens none, in front of others
 pub opens_no : (t : ℕ) (s : OwnStep) (ss : List OwnStep) → is_opening t s.event ≡ false
     → opens t (s ∷ ss) ≡ opens t ss
-opens_no t s ss no = opens_more t s ss ∙ ap (λ (b : Bool). cond {A = ℕ} b 1 0 + opens t ss) no
+opens_no t s ss is = let more = opens_more t s ss in
+    let none = ap (λ (b : Bool). cond {A = ℕ} b 1 0) is in omega (arith, more, none)
 
 -- one step opens one at most
 pub opens_one : (t : ℕ) (s : OwnStep) → opens t (s ∷ []) ≤ 1
