@@ -38,6 +38,7 @@ pub mod Promises
 pub mod FlushPromises
 pub mod RetirePromises
 pub mod Spending
+pub mod FullRows
 pub mod FlushHeld
 pub mod FlushGoes
 pub mod FlushTables

@@ -197,6 +197,8 @@ impl<K: Keeper, A: Allocator> WritePath<K, A> {
     /// the next memtable; where it is one of the append order, the log was found running. Behind
     /// `Rows` and `OutOfMemory` a memtable that the call had made final waits for the next flush,
     /// which begins with it; behind `Stopped` it does, or the keeper stopped behind its table file.
+    /// The call opens at most one memtable, which is of the table: none by `Busy`, and by `Rows` of
+    /// memtables or of the write order.
     /// No clause says that it returns.
     pub fn flush<R: Wait>(
         &self,
