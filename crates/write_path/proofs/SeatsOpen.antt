@@ -30,7 +30,7 @@ use Rattle.std.specs.List.Sorted.{IsPermutation}
 use Rattle.std.proofs.lemmas.List.Elements.{All-head, All-tail}
 use Rattle.std.proofs.lemmas.List.Sums.{sum_by-cons, sum_by-le-sum_by}
 use Rattle.path_core.specs.declared.event.Event.{Event}
-use Rattle.path_core.specs.declared.event.Event.TheVariants.{Switch}
+use Rattle.path_core.specs.declared.event.Event.TheVariants.{Look, Switch}
 use Rattle.path_core.specs.declared.event.SwitchPart.TheVariants.{Mark, Open}
 use Rattle.path_core.specs.declared.state.PathState.{PathState}
 use Rattle.path_core.specs.declared.state.TableState.{TableState}
@@ -73,6 +73,7 @@ newest_step x (Switch by table m Open) a t = put_at x.tables table.0 _ fresh_tab
     (let one = ap (λ (b : Bool). cond {A = ℕ} b 1 0) (eq-eqb table.0 table.0 refl) in
     let next = a.row.2 in omega (arith, one, next))
     (λ u far. omega arith) t
+newest_step x (Look by at) a t = omega arith
 newest_step x e a t = let same = newest_left x e a (record { 0 = t }) (λ q. cc) in
     omega (arith, same)
 
