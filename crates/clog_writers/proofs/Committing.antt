@@ -384,7 +384,7 @@ commit_why size w before p s small (Periodic k) (Logged r) is = tt
 commit_why size w before p s small (Periodic k) (Durable r) is = absurd is
 commit_why size w before p s small (Periodic k) (Unsynced r fault) is = absurd is
 commit_why size w before p s small (Periodic k) (NoRoom back key) is =
-    found_no_room size before p back key s small is
+    found_no_room size before p back key s small (is.0, is.1, is.2, is.3)
 commit_why size w before p s small Batch (Logged r) is = absurd is
 commit_why size w before p s small Batch (Durable r) is = tt
 commit_why size w before p s small Batch (Unsynced r (LogStopped at_open now)) is = (
@@ -403,7 +403,7 @@ commit_why size w before p s small Batch (Unsynced r (NoRows n)) is =
       ),
     )
 commit_why size w before p s small Batch (NoRoom back key) is =
-    found_no_room size before p back key s small is
+    found_no_room size before p back key s small (is.0, is.1, is.2, is.3)
 
 -- a sync too
 pub sync_why : {K : Type 0} (size : PathSize) (w : ℕ) (v : View) (s : PathSeat K)

@@ -50,22 +50,21 @@ use Rattle.write_path.specs.declared.switch.Row.TheVariants.{
 }
 use Rattle.write_path.specs.ClosedFiles.{HasFlushed}
 use Rattle.write_path.specs.Ends.{writes_of}
-use Rattle.write_path.specs.Flushed.{Flushes}
+use Rattle.write_path.specs.Flushed.{Flushes, opened_by}
 use Rattle.write_path.specs.FlushSteps.{FlushSteps}
 use Rattle.write_path.specs.Grown.{HasGrown}
 use Rattle.write_path.specs.Switched.{FindsLast}
 use Rattle.write_path.proofs.AnswerPromises.{by_answer}
 use Rattle.clog_writers.specs.declared.fault.WriteFault.TheVariants.{OutOfMemory, Rows, Stopped}
 use Rattle.clog_writers.specs.Crews.{KnowsRows, KnowsWhy}
-use Rattle.clog_writers.specs.Opens.{opened_by}
 use Rattle.clog_writers.specs.Shares.{is_finished, refusal_by}
 use Rattle.clog_writers.specs.Tallied.{IsPaid, IsTallied}
 use Rattle.clog_writers.proofs.Committing.{risen}
 
 -- what was found at these steps is in the trail behind them
-in_trail : (at : Place) (value w : ℕ) (v after : View) (S : FlushSteps w v after)
+in_trail : (at : Place) (value w t : ℕ) (v after : View) (S : FlushSteps w t v after)
     → Finds at value S.steps → Finds at value after.trail
-in_trail at value w v after S found =
+in_trail at value w t v after S found =
     subst (λ (l : List OwnStep). Finds at value l) (sym S.trail)
     (found_after at value S.steps v.trail found)
 
@@ -76,16 +75,16 @@ flush_grows w t v after a F = record { newer = F.steps.steps; is = F.steps.trail
 -- ---- why it was refused
 
 knows_rows : {K : Type 0} (row : Row) (w t last made : ℕ) (v : View) (s : PathSeat K)
-    (S : FlushSteps w v (view_of s.member)) → t < most_tables → suc last ≡ made
+    (S : FlushSteps w t v (view_of s.member)) → t < most_tables → suc last ≡ made
     → FindsLast row t last S.steps → KnowsRows row made s
 knows_rows Memtables w t last made v s S low is F = (
   sym is ∙ F.0,
-  (t, low, last, is, in_trail (Newest (record { 0 = t })) last w v (view_of s.member) S F.2),
+  (t, low, last, is, in_trail (Newest (record { 0 = t })) last w t v (view_of s.member) S F.2),
 )
 knows_rows WriteGroups w t last made v s S low is F =
-    (sym is ∙ F.0, (last, is, in_trail (Current Write) last w v (view_of s.member) S F.2))
+    (sym is ∙ F.0, (last, is, in_trail (Current Write) last w t v (view_of s.member) S F.2))
 knows_rows AppendGroups w t last made v s S low is F =
-    (sym is ∙ F.0, (last, is, in_trail (Current Append) last w v (view_of s.member) S F.1))
+    (sym is ∙ F.0, (last, is, in_trail (Current Append) last w t v (view_of s.member) S F.1))
 
 pub flush_why : {K : Type 0} (size : PathSize) (w t : ℕ) (v : View) (s : PathSeat K) (a : Flush)
     → v.size ≡ size → t < most_tables → Flushes w t v a (view_of s.member)
@@ -98,7 +97,7 @@ flush_why size w t v s (flush.Rows row made) sized low F =
 flush_why size w t v s (flush.Stopped at_open now) sized low F =
     let is = F.is in (
       subst (λ (z : PathSize). at_open ≡ z.at_open) sized is.0,
-      in_trail (CursorWord StoppedCursor) now w v (view_of s.member) F.steps is.2,
+      in_trail (CursorWord StoppedCursor) now w t v (view_of s.member) F.steps is.2,
       risen at_open now is.1,
     )
 flush_why size w t v s flush.OutOfMemory sized low F = tt

@@ -38,10 +38,10 @@ use Rattle.write_path.specs.declared.flush.Flush.{Flush}
 use Rattle.write_path.specs.declared.flush.Flush.TheVariants as flush
 use Rattle.write_path.specs.declared.prepared.Prepared.{Prepared}
 use Rattle.write_path.specs.Ends.{writes_of}
-use Rattle.write_path.specs.Flushed.{Flushes}
+use Rattle.write_path.specs.Flushed.{Flushes, opened_by}
 use Rattle.write_path.specs.Writes.{IsPrepared}
 use Rattle.clog_writers.specs.declared.fault.WriteFault.{WriteFault}
-use Rattle.clog_writers.specs.Opens.{opened_by, opens}
+use Rattle.write_path.specs.Opens.{opens}
 use Rattle.clog_writers.specs.Shares.{
   AddsWrite,
   AreWritesOf,

@@ -42,7 +42,8 @@ use Rattle.path_rule.specs.declared.view.PathSize.{PathSize}
 use Rattle.path_rule.specs.Members.{view_of}
 use Rattle.clog_writers.specs.declared.fault.WriteFault.{WriteFault}
 use Rattle.clog_writers.specs.Crews.{HaveEnded}
-use Rattle.clog_writers.specs.Opens.{all_opened, opens}
+use Rattle.write_path.specs.Closed.{all_opened}
+use Rattle.write_path.specs.Opens.{opens}
 
 -- ---- shares
 

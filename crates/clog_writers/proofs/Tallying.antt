@@ -63,7 +63,7 @@ use Rattle.write_path.proofs.FlushPromises.{still_flushed}
 use Rattle.clog_writers.specs.declared.tally.LineCounts.{LineCounts}
 use Rattle.clog_writers.specs.declared.tally.Tally.{Tally}
 use Rattle.clog_writers.specs.Shares.{AddsWrite, is_finished, refusal_by}
-use Rattle.clog_writers.specs.Opens.{opens}
+use Rattle.write_path.specs.Opens.{opens}
 use Rattle.clog_writers.specs.Tallied.{
   ArePaid,
   HasFlushedAll,

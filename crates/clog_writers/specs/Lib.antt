@@ -1,6 +1,5 @@
 pub mod Fitting
 pub mod Shares
-pub mod Opens
 pub mod Tallied
 pub mod Tallies
 pub mod Crews

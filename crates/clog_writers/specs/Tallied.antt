@@ -31,7 +31,7 @@ use Rattle.path_rule.specs.declared.view.OwnStep.{OwnStep}
 use Rattle.path_rule.specs.Members.{view_of}
 use Rattle.write_path.specs.ClosedFiles.{HasFlushed}
 use Rattle.write_path.specs.Ends.{writes_of}
-use Rattle.clog_writers.specs.Opens.{opens}
+use Rattle.write_path.specs.Opens.{opens}
 use Rattle.clog_writers.specs.declared.tally.LineCounts.{LineCounts}
 use Rattle.clog_writers.specs.Shares.{AreWritesOf, logged_by}
 
