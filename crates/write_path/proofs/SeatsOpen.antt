@@ -31,7 +31,7 @@ use Rattle.std.proofs.lemmas.List.Elements.{All-head, All-tail}
 use Rattle.std.proofs.lemmas.List.Sums.{sum_by-cons, sum_by-le-sum_by}
 use Rattle.path_core.specs.declared.event.Event.{Event}
 use Rattle.path_core.specs.declared.event.Event.TheVariants.{Look, Switch}
-use Rattle.path_core.specs.declared.event.SwitchPart.TheVariants.{Mark, Open}
+use Rattle.path_core.specs.declared.event.SwitchPart.TheVariants.{Open}
 use Rattle.path_core.specs.declared.state.PathState.{PathState}
 use Rattle.path_core.specs.declared.state.TableState.{TableState}
 use Rattle.path_core.specs.Allowed.{IsStep}
@@ -50,7 +50,7 @@ use Rattle.path_rule.specs.Rule.{event_of, start_of, steps_by}
 use Rattle.path_rule.proofs.moves.Moving.{steps_own}
 use Rattle.write_path.specs.Closed.{all_opened}
 use Rattle.write_path.specs.Opened.{numbers_of}
-use Rattle.write_path.specs.Opens.{is_opening, opens}
+use Rattle.write_path.specs.Opens.{opens}
 use Rattle.write_path.proofs.Accounted.{each_there}
 use Rattle.write_path.proofs.StepsOpen.{counted, opens_more}
 
