@@ -30,3 +30,4 @@ pub mod Lacking
 pub mod FlushTold
 pub mod Tallying
 pub mod NextLines
+pub mod TriedFlushes
