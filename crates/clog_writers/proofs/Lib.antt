@@ -35,3 +35,4 @@ pub mod SameLines
 pub mod Opening
 pub mod Paying
 pub mod ShareUpdates
+pub mod TriedFlushes

@@ -10,7 +10,6 @@ use Rattle.std.proofs.Common.{
   ◌*◌,
   ◌<◌,
   ◌≤◌,
-  min,
   Bool,
   true,
   false,
@@ -61,7 +60,7 @@ use Rattle.write_path.specs.Grown.{HasGrown}
 use Rattle.write_path.specs.Writes.{IsPrepared}
 use Rattle.write_path.proofs.FlushPromises.{still_flushed}
 use Rattle.clog_writers.specs.declared.tally.LineCounts.{LineCounts}
-use Rattle.clog_writers.specs.declared.tally.Tally.{Tally}
+use Rattle.clog_writers.specs.declared.tally.UpdateTally.{UpdateTally}
 use Rattle.clog_writers.specs.Shares.{AddsWrite, is_finished, refusal_by}
 use Rattle.write_path.specs.Opens.{opens}
 use Rattle.clog_writers.specs.Tallied.{
@@ -77,7 +76,7 @@ use Rattle.clog_writers.specs.Tallied.{
 use Rattle.clog_writers.specs.Tallies.{
   AddsCounts,
   HasNone,
-  IsTallyOf,
+  IsTallyFor,
   MayTally,
   Tallies,
   limit_of,
@@ -167,19 +166,34 @@ none_tallied most w t trail none = record {
 -- ---- of each table
 
 -- none of a table is left
-set_none : (counts : List ℕ) (t : ℕ) → get_or (set counts t 0) t 0 ≡ 0
+pub set_none : (counts : List ℕ) (t : ℕ) → get_or (set counts t 0) t 0 ≡ 0
 set_none [] t = refl
 set_none (c ∷ cs) zero = refl
 set_none (c ∷ cs) (suc t) = set_none cs t
 
-module _ (w t : ℕ) (v after : View) (a : Flush) (tally : Tally) (F : Flushes w t v a after)
+-- another table's count is left alone, whatever is answered
+left_by : (t u : ℕ) (tally now : UpdateTally) (b : Bool) → u ≢ t
+    → (b ≡ true → now.counts ≡ set tally.counts t 0) → (b ≡ false → now ≡ tally)
+    → get_or now.counts u 0 ≡ get_or tally.counts u 0
+left_by t u tally now true apart done other =
+    ap (λ (l : List ℕ). get_or l u 0) (done refl) ∙ get_or-set_other tally.counts t u 0 0 apart
+left_by t u tally now false apart done other =
+    ap (λ (x : UpdateTally). get_or x.counts u 0) (other refl)
+
+pub left_alone : (t u : ℕ) (tally now : UpdateTally) (a : Flush) → u ≢ t
+    → (is_finished a ≡ true → now.counts ≡ set tally.counts t 0)
+    → (is_finished a ≡ false → now ≡ tally) → get_or now.counts u 0 ≡ get_or tally.counts u 0
+left_alone t u tally now a apart done other =
+    left_by t u tally now (is_finished a) apart done other
+
+module _ (w t : ℕ) (v after : View) (a : Flush) (tally : UpdateTally) (F : Flushes w t v a after)
     (low : t < most_tables) (due : tally.most ≤ get_or tally.counts t 0)
     (all : Tallies w tally v.trail) where
   grows : HasGrown v.trail after.trail
   grows = flush_grows w t v after a F
 
   -- of another table
-  other : (u : ℕ) → u < most_tables → u ≢ t → IsTallyOf w tally after.trail u
+  other : (u : ℕ) → u < most_tables → u ≢ t → IsTallyFor w tally after.trail u
   other u there apart = let T = all u there in record {
     count = T.count;
     tallied = tallied_on tally.most w u T.count v.trail after.trail F.list grows
@@ -205,7 +219,7 @@ module _ (w t : ℕ) (v after : View) (a : Flush) (tally : Tally) (F : Flushes w
       paid_by_tally tally.most w u T.count (reverse (writes_of after.trail)) after.trail
       T.tallied)
 
-  module _ (now : Tally) (most : now.most ≡ tally.most) where
+  module _ (now : UpdateTally) (most : now.most ≡ tally.most) where
     where_finished : is_finished a ≡ true → now.counts ≡ set tally.counts t 0
         → Tallies w now after.trail
     where_finished done put = λ u there.
@@ -257,7 +271,7 @@ module _ (w t : ℕ) (v after : View) (a : Flush) (tally : Tally) (F : Flushes w
         → (is_finished a ≡ false → now ≡ tally) → Tallies w now after.trail
     by_whether true is none done kept = where_finished is (done is)
     by_whether false is none done kept =
-        subst (λ (x : Tally). Tallies w x after.trail) (sym (kept is)) (where_busy is none)
+        subst (λ (x : UpdateTally). Tallies w x after.trail) (sym (kept is)) (where_busy is none)
 
     -- where it is not refused
     pub behind_flush : refusal_by a ≡ None
@@ -266,14 +280,14 @@ module _ (w t : ℕ) (v after : View) (a : Flush) (tally : Tally) (F : Flushes w
     behind_flush none done kept = by_whether (is_finished a) refl none done kept
 
 -- what a tally tells is paid for
-pub all_paid : (w : ℕ) (tally : Tally) (trail : List OwnStep) → Tallies w tally trail
+pub all_paid : (w : ℕ) (tally : UpdateTally) (trail : List OwnStep) → Tallies w tally trail
     → ArePaid (Some tally.most) w trail
 all_paid w tally trail all = λ t low. let T = all t low in
     paid_by_tally tally.most w t T.count (reverse (writes_of trail)) trail T.tallied
 
 -- what one call keeps of a tally and a further one keeps, both keep
 pub tallies_then : {K : Type 0} (id : TableId) (size : PathSize) (first then : PathSeat K)
-    (before tally : Tally) (now : List OwnStep) (left : Tally)
+    (before tally : UpdateTally) (now : List OwnStep) (left : UpdateTally)
     → KeepsList id size first.member then.member
     → (Tallies first.member.number before (view_of first.member).trail
     → Tallies first.member.number tally (view_of then.member).trail)
@@ -288,7 +302,7 @@ tallies_then id size first then before tally now left keeps old new all =
 
 -- the same of what is paid for
 pub paid_then : {K : Type 0} (id : TableId) (size : PathSize) (first then : PathSeat K)
-    (before tally : Tally) (now : List OwnStep) → KeepsList id size first.member then.member
+    (before tally : UpdateTally) (now : List OwnStep) → KeepsList id size first.member then.member
     → tally.most ≡ before.most
     → (Tallies first.member.number before (view_of first.member).trail
     → Tallies first.member.number tally (view_of then.member).trail)
@@ -304,12 +318,12 @@ paid_then id size first then before tally now keeps most old new all =
 
 -- ---- where a writer flushes
 
-pub may_paid : (w : ℕ) (tally : Option Tally) (trail : List OwnStep) → MayTally w tally trail
+pub may_paid : (w : ℕ) (tally : Option UpdateTally) (trail : List OwnStep) → MayTally w tally trail
     → ArePaid (limit_of tally) w trail
 may_paid w None trail all = tt
 may_paid w (Some tally) trail all = all_paid w tally trail all
 
-pub none_yet : (w : ℕ) (tally : Option Tally) (trail : List OwnStep) → trail ≡ []
+pub none_yet : (w : ℕ) (tally : Option UpdateTally) (trail : List OwnStep) → trail ≡ []
     → HasNone tally → MayTally w tally trail
 none_yet w None trail unused none = tt
 none_yet w (Some tally) trail unused none = λ t low. record {
@@ -319,14 +333,14 @@ none_yet w (Some tally) trail unused none = λ t low. record {
 }
 
 -- two that flush at one number
-same_limit : (a b : Tally) → limit_of (Some a) ≡ limit_of (Some b) → a.most ≡ b.most
+same_limit : (a b : UpdateTally) → limit_of (Some a) ≡ limit_of (Some b) → a.most ≡ b.most
 same_limit a b is = same_Some a.most b.most is
 
 module _ (w : ℕ) (sizes : Sizes) (l : Line) (p : Prepared) (before after : List OwnStep)
     (a : AddsWrite w p before after) (G : HasGrown before after) (none : OpensNone before after)
     (prepared : IsPrepared sizes l.number l.mutation p) where
   -- a write more is counted
-  pub one_more : (tally : Option Tally) (counts : Option LineCounts) (now : Option Tally)
+  pub one_more : (tally : Option UpdateTally) (counts : Option LineCounts) (now : Option UpdateTally)
       → limit_of now ≡ limit_of tally → AddsCounts tally counts now
       → IsCountedFor (limit_of tally) l.mutation counts → MayTally w tally before
       → MayTally w now after
@@ -353,7 +367,7 @@ module _ (w : ℕ) (sizes : Sizes) (l : Line) (p : Prepared) (before after : Lis
 -- ---- what is flushed in the end
 
 -- no flush is due
-pub all_flushed : {K : Type 0} (w : ℕ) (tally : Tally) (most : ℕ) (s : PathSeat K)
+pub all_flushed : {K : Type 0} (w : ℕ) (tally : UpdateTally) (most : ℕ) (s : PathSeat K)
     → s.member.number ≡ w → tally.most ≡ most → Tallies w tally (view_of s.member).trail
     → ((t : ℕ) → t < most_tables → get_or tally.counts t 0 < tally.most)
     → HasFlushedAll (Some most) s
