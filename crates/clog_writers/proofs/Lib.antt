@@ -36,3 +36,4 @@ pub mod Opening
 pub mod Paying
 pub mod ShareUpdates
 pub mod TriedFlushes
+pub mod Keeping
