@@ -58,3 +58,4 @@ pub mod FilingRounds
 pub mod FinalKeys
 pub mod FlushAnswers
 pub mod FlushOwn
+pub mod OnlyFlushes

@@ -1,10 +1,16 @@
 //! What the answers of a switch say, on worked rows, and what it leaves. Nothing here runs.
-ghost use Rattle.std.specs.Prelude.{◌≡◌, ℕ, ◌++◌, List, Option};
+ghost use Rattle.std.specs.Prelude.{◌≡◌, ℕ, ◌++◌, List, [], Option, None};
 ghost use Rattle.clog_base.specs.declared.cell.Table.{Table};
+ghost use Rattle.path_rule.specs.declared.answer.SyncAnswer.{SyncAnswer};
 ghost use Rattle.path_rule.specs.declared.view.OwnStep.{OwnStep};
+ghost use Rattle.path_rule.specs.declared.view.PathSize.{PathSize};
 ghost use Rattle.path_rule.specs.declared.view.View.{View};
 ghost use Rattle.path_rule.specs.Calls.{acts};
 ghost use Rattle.path_rule.specs.FindsBounds.{Retires};
+ghost use Rattle.path_rule.specs.TrailRows.{retired};
+ghost use Rattle.sync_core.specs.declared.SyncCore.{SyncCore};
+ghost use Rattle.write_path.specs.declared.commit.Commit.{Commit};
+ghost use Rattle.write_path.specs.declared.prepared.Prepared.{Prepared};
 ghost use Rattle.write_path.specs.Ends.{writes_of};
 ghost use Rattle.write_path.specs.declared.switch.Row.TheVariants.{Memtables};
 ghost use Rattle.write_path.specs.Switched.{FindsLast};
@@ -15,6 +21,9 @@ ghost use Rattle.write_path.specs.FlushSteps.{
   FlushSteps,
   SwitchesNone,
 };
+ghost use Rattle.write_path.specs.Receipts.{IsCommitted};
+ghost use Rattle.write_path.specs.Syncs.{Syncs};
+ghost use Rattle.write_path.specs.Unretired.{GrowsUnretired};
 
 /// What the steps of a switch tell.
 pub fn what_a_switch_tells()
@@ -45,4 +54,17 @@ pub fn what_a_flush_leaves()
         → Finalises w u m key s.steps → u ≡ t }
     ensures retired { (w t : ℕ) (u : Table) (m : ℕ) (gave : Option ℕ) (v after : View)
         (s : FlushSteps w t v after) → Retires u m gave s.steps → u.0 ≡ t }
+{}
+
+/// Memtables are retired by flushes and switches alone: commits and syncs make no such step.
+pub fn only_flushes_retire()
+    // A commit, whatever it answers.
+    ensures committed { (mode : SyncCore) (size : PathSize) (w : ℕ) (before : List OwnStep)
+        (p : Prepared) (c : Commit) (after : View) → IsCommitted mode size w before p c after
+        → GrowsUnretired before after.trail }
+    // A sync.
+    ensures synced { (w opened : ℕ) (before : View) (a : SyncAnswer) (after : View)
+        → Syncs w opened before a after → GrowsUnretired before.trail after.trail }
+    // By the one step that retires a memtable a trail does not grow so.
+    ensures flushed { ¬ GrowsUnretired [] (retired 0 None) }
 {}
