@@ -12,6 +12,7 @@ use Rattle.write_path.specs.declared.commit.Commit.{Commit}
 use Rattle.write_path.specs.declared.commit.Commit.TheVariants.{Logged, Durable, Unsynced, Spent}
 use Rattle.write_path.specs.declared.prepared.Prepared.{Prepared}
 use Rattle.write_path.specs.FlushSteps.{RetiresNone, SwitchesNone}
+use Rattle.write_path.specs.Grown.{HasGrown}
 use Rattle.write_path.specs.Receipts.{IsCommitted}
 use Rattle.write_path.specs.SwitchedRows.{switched_at}
 use Rattle.write_path.specs.Syncs.{Syncs}
@@ -36,7 +37,8 @@ commit_keeps Batch size w before p (Spent back key) after C = (C.3, C.4, C.5)
 pub sync_keeps : (w opened : ℕ) (before : View) (a : SyncAnswer) (after : View)
     → Syncs w opened before a after → GrowsUnretired before.trail after.trail
 sync_keeps w opened before a after S = let R = S.answers.steps in
-    (record { newer = R.steps; is = R.trail }, round_kept w R.steps R.are, round_none w R.steps R.are)
+    let newer : HasGrown before.trail after.trail = record { newer = R.steps; is = R.trail } in
+    (newer, round_kept w R.steps R.are, round_none w R.steps R.are)
 
 -- by a step that retires one a trail does not grow so
 pub row_retires : ¬ GrowsUnretired [] (retired 0 None)
