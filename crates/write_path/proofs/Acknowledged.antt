@@ -21,6 +21,7 @@ use Rattle.write_path.specs.declared.commit.SyncFault.TheVariants.{Stopped, OutO
 use Rattle.write_path.specs.declared.prepared.Prepared.{Prepared}
 use Rattle.write_path.specs.Commits.{IsLogged}
 use Rattle.write_path.specs.Ends.{writes_of, IsLast, IsListed}
+use Rattle.write_path.specs.Grown.{HasGrown}
 use Rattle.write_path.specs.Receipts.{Acknowledges, HasReceipt, IsCommitted, IsLineOf}
 use Rattle.write_path.specs.Syncs.{CoversList}
 use Rattle.write_path.specs.Unretired.{GrowsUnretired}
@@ -40,7 +41,8 @@ reached w s start end tables before p v L covers =
 by_rounds : (w : ℕ) (puts : List Event) (v after : View) → RoundSteps w puts v after
     → GrowsUnretired v.trail after.trail
 by_rounds w puts v after S =
-    (record { newer = S.steps; is = S.trail }, round_kept w S.steps S.are, round_none w S.steps S.are)
+    let newer : HasGrown v.trail after.trail = record { newer = S.steps; is = S.trail } in
+    (newer, round_kept w S.steps S.are, round_none w S.steps S.are)
 
 -- A receipt stands where the list does, and the write is the seat's last.
 abbrev pub stands : (base w : ℕ) (before : List OwnStep) (p : Prepared) (r x : Receipt)

@@ -61,3 +61,4 @@ pub mod FilingRounds
 pub mod FinalKeys
 pub mod FlushAnswers
 pub mod FlushOwn
+pub mod OnlyFlushes

@@ -111,8 +111,9 @@ pub fn write_groups_do_not_run_out<K: Keeper>()
         → ¬ HasGrown after.trail (view_of s.member).trail }
 {}
 
-/// A flush, or a switch, finds no word for a further memtable of a table only where the path's seats
-/// opened 255 of them, together: a flush opens one at most, and writes, commits and syncs open none.
+/// A flush, or a switch, finds no word for a further memtable of a table only where the seats of
+/// its path opened 255 of them, together. A flush opens one at most; writes, commits and syncs open
+/// none.
 pub fn memtables_need_many_flushes<K: Keeper>()
     ensures flushed { (size : PathSize) (seats : List (PathSeat K)) (end : ℕ) (h : Holding)
         → IsOutcome size seats end h → (s : PathSeat K) → Contains seats s → (t : Table) (made : ℕ)

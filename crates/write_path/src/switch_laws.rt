@@ -1,23 +1,40 @@
 //! What the answers of a switch say, on worked rows, and what it leaves. Nothing here runs.
-ghost use Rattle.std.specs.Prelude.{◌≡◌, ◌≢◌, ℕ, ◌+◌, ◌++◌, List, Option};
+ghost use Rattle.std.specs.Prelude.{
+  ◌≡◌,
+  ◌≢◌,
+  ℕ,
+  ◌+◌,
+  ◌++◌,
+  List,
+  [],
+  Option,
+  None,
+};
 ghost use Rattle.clog_base.specs.declared.cell.Table.{Table};
 ghost use Rattle.path_rule.specs.declared.answer.SyncAnswer.{SyncAnswer};
 ghost use Rattle.path_rule.specs.declared.view.OwnStep.{OwnStep};
+ghost use Rattle.path_rule.specs.declared.view.PathSize.{PathSize};
 ghost use Rattle.path_rule.specs.declared.view.View.{View};
 ghost use Rattle.path_rule.specs.Calls.{acts};
 ghost use Rattle.path_rule.specs.FindsBounds.{Retires};
+ghost use Rattle.path_rule.specs.TrailRows.{retired};
+ghost use Rattle.sync_core.specs.declared.SyncCore.{SyncCore};
+ghost use Rattle.write_path.specs.declared.commit.Commit.{Commit};
+ghost use Rattle.write_path.specs.declared.prepared.Prepared.{Prepared};
 ghost use Rattle.write_path.specs.Ends.{writes_of};
 ghost use Rattle.write_path.specs.declared.switch.Row.TheVariants.{Memtables};
 ghost use Rattle.write_path.specs.Opens.{opens};
 ghost use Rattle.write_path.specs.Switched.{FindsLast};
 ghost use Rattle.write_path.specs.SwitchedRows.{found_alone, found_taken, switched_at};
-ghost use Rattle.write_path.specs.Syncs.{Syncs};
 ghost use Rattle.write_path.specs.FlushSteps.{
   AreFlushSteps,
   Finalises,
   FlushSteps,
   SwitchesNone,
 };
+ghost use Rattle.write_path.specs.Receipts.{IsCommitted};
+ghost use Rattle.write_path.specs.Syncs.{Syncs};
+ghost use Rattle.write_path.specs.Unretired.{GrowsUnretired};
 
 /// What the steps of a switch tell.
 pub fn what_a_switch_tells()
@@ -67,4 +84,20 @@ pub fn what_opens_no_memtable()
     // Steps of two calls together open what each of them does.
     ensures both { (t : ℕ) (newer older : List OwnStep)
         → opens t (newer ++ older) ≡ opens t newer + opens t older }
+{}
+
+/// Memtables are switched and retired by flushes and switches alone: commits and syncs make no such
+/// step.
+pub fn only_flushes_retire()
+    // A commit, whatever it answers.
+    ensures committed { (mode : SyncCore) (size : PathSize) (w : ℕ) (before : List OwnStep)
+        (p : Prepared) (c : Commit) (after : View) → IsCommitted mode size w before p c after
+        → GrowsUnretired before after.trail }
+    // A sync.
+    ensures synced { (w opened : ℕ) (before : View) (a : SyncAnswer) (after : View)
+        → Syncs w opened before a after → GrowsUnretired before.trail after.trail }
+    // By the one step that retires a memtable a trail does not grow so.
+    ensures flushed { ¬ GrowsUnretired [] (retired 0 None) }
+    // Nor by those of a switch.
+    ensures switched { ¬ GrowsUnretired [] (switched_at 0 60) }
 {}

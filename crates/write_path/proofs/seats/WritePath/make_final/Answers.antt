@@ -60,7 +60,8 @@ returns-clause-made g c =
       made = all.made;
       set = inl (n4, refl, refl, refl);
       kept = (tt, (tt, (tt, (tt, (tt, tt)))));
-      opened = opens_one t.0 (record { event = Switch w t (k + 1) Open; found = k + 1; filed = None });
+      opened = opens_one t.0
+          (record { event = Switch w t (k + 1) Open; found = k + 1; filed = None });
       wrote = wrote_more L.result F.result.0 (F.ensures.above L.result R.ensures.raised) _
           (still_wrote z L.result _ _ last.made
           (under_log M.new.member.seat.me.0 z L.result L.ensures.found.0 L.ensures.found.1));
