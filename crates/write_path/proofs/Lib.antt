@@ -13,6 +13,7 @@ pub mod Histories
 pub mod Accounted
 pub mod FewSegments
 pub mod FewGroups
+pub mod BarredMemtables
 pub mod FewWriteGroups
 pub mod NonePassed
 pub mod Parted
@@ -56,3 +57,5 @@ pub mod FilingPuts
 pub mod FilingRounds
 pub mod FinalKeys
 pub mod FlushAnswers
+pub mod FlushOwn
+pub mod OnlyFlushes
