@@ -31,3 +31,4 @@ pub mod Lacking
 pub mod FlushTold
 pub mod Tallying
 pub mod NextLines
+pub mod TriedFlushes

@@ -1,5 +1,37 @@
 -- A writer's tally while it logs: one write more, a flush, and what neither adds to nor takes from.
-use Rattle.std.proofs.Common.{◌≡◌, ◌⊎◌, ℕ, zero, suc, ◌+◌, ◌<◌, Bool, true, false, inl, inr, List, [], ◌∷◌, ◌++◌, get_or, reverse, set, Option, Some, None, refl, sym, ap, ◌∙◌, subst, arith, append_assoc, get_or-set_other}
+use Rattle.std.proofs.Common.{
+  ◌≡◌,
+  ◌≢◌,
+  ◌⊎◌,
+  ℕ,
+  zero,
+  suc,
+  ◌+◌,
+  ◌<◌,
+  Bool,
+  true,
+  false,
+  inl,
+  inr,
+  List,
+  [],
+  ◌∷◌,
+  ◌++◌,
+  get_or,
+  reverse,
+  set,
+  Option,
+  Some,
+  None,
+  refl,
+  sym,
+  ap,
+  ◌∙◌,
+  subst,
+  arith,
+  append_assoc,
+  get_or-set_other,
+}
 use Rattle.std.proofs.lemmas.List.{reverse-append}
 use Rattle.std.proofs.lemmas.Option.{none-some, same_Some}
 use Rattle.std.proofs.lemmas.List.Sums.{sum_by-append, sum_by-cons}
@@ -26,7 +58,7 @@ use Rattle.write_path.specs.Grown.{HasGrown}
 use Rattle.write_path.specs.Writes.{IsPrepared}
 use Rattle.write_path.proofs.FlushPromises.{still_flushed}
 use Rattle.clog_writers.specs.declared.tally.LineCounts.{LineCounts}
-use Rattle.clog_writers.specs.declared.tally.Tally.{Tally}
+use Rattle.clog_writers.specs.declared.tally.UpdateTally.{UpdateTally}
 use Rattle.clog_writers.specs.Shares.{AddsWrite, is_finished}
 use Rattle.clog_writers.specs.Tallied.{
   HasFlushedAll,
@@ -114,7 +146,7 @@ none_tallied w t trail none = record {
 
 -- ---- of each table
 
-pub tallies_on : (w : ℕ) (tally : Tally) (before after : List OwnStep)
+pub tallies_on : (w : ℕ) (tally : UpdateTally) (before after : List OwnStep)
     → writes_of after ≡ writes_of before → HasGrown before after → Tallies w tally before
     → Tallies w tally after
 tallies_on w tally before after same G all = λ t low. let T = all t low in record {
@@ -124,12 +156,27 @@ tallies_on w tally before after same G all = λ t low. let T = all t low in reco
 }
 
 -- none of a table is left
-set_none : (counts : List ℕ) (t : ℕ) → get_or (set counts t 0) t 0 ≡ 0
+pub set_none : (counts : List ℕ) (t : ℕ) → get_or (set counts t 0) t 0 ≡ 0
 set_none [] t = refl
 set_none (c ∷ cs) zero = refl
 set_none (c ∷ cs) (suc t) = set_none cs t
 
-module _ (w t : ℕ) (v after : View) (a : Flush) (tally now : Tally) (F : Flushes w t v a after)
+-- another table's count is left alone, whatever is answered
+left_by : (t u : ℕ) (tally now : UpdateTally) (b : Bool) → u ≢ t
+    → (b ≡ true → now.counts ≡ set tally.counts t 0) → (b ≡ false → now ≡ tally)
+    → get_or now.counts u 0 ≡ get_or tally.counts u 0
+left_by t u tally now true apart done other =
+    ap (λ (l : List ℕ). get_or l u 0) (done refl) ∙ get_or-set_other tally.counts t u 0 0 apart
+left_by t u tally now false apart done other =
+    ap (λ (x : UpdateTally). get_or x.counts u 0) (other refl)
+
+pub left_alone : (t u : ℕ) (tally now : UpdateTally) (a : Flush) → u ≢ t
+    → (is_finished a ≡ true → now.counts ≡ set tally.counts t 0)
+    → (is_finished a ≡ false → now ≡ tally) → get_or now.counts u 0 ≡ get_or tally.counts u 0
+left_alone t u tally now a apart done other =
+    left_by t u tally now (is_finished a) apart done other
+
+module _ (w t : ℕ) (v after : View) (a : Flush) (tally now : UpdateTally) (F : Flushes w t v a after)
     (most : now.most ≡ tally.most) (all : Tallies w tally v.trail) where
   where_finished : is_finished a ≡ true → now.counts ≡ set tally.counts t 0
       → Tallies w now after.trail
@@ -162,7 +209,7 @@ module _ (w t : ℕ) (v after : View) (a : Flush) (tally now : Tally) (F : Flush
       → (is_finished a ≡ false → now ≡ tally) → Tallies w now after.trail
   by_whether true is done other = where_finished is (done is)
   by_whether false is done other =
-      subst (λ (x : Tally). Tallies w x after.trail) (sym (other is))
+      subst (λ (x : UpdateTally). Tallies w x after.trail) (sym (other is))
       (tallies_on w tally v.trail after.trail F.list (flush_grows w t v after a F) all)
 
   -- behind a flush, finished or not
@@ -172,7 +219,7 @@ module _ (w t : ℕ) (v after : View) (a : Flush) (tally now : Tally) (F : Flush
 
 -- what one call keeps of a tally and a further one keeps, both keep
 pub tallies_then : {K : Type 0} (id : TableId) (size : PathSize) (first then : PathSeat K)
-    (before tally : Tally) (now : List OwnStep) (left : Tally)
+    (before tally : UpdateTally) (now : List OwnStep) (left : UpdateTally)
     → KeepsList id size first.member then.member
     → (Tallies first.member.number before (view_of first.member).trail
     → Tallies first.member.number tally (view_of then.member).trail)
@@ -187,13 +234,13 @@ tallies_then id size first then before tally now left keeps old new all =
 
 -- ---- where a writer flushes
 
-pub may_on : (w : ℕ) (tally : Option Tally) (before after : List OwnStep)
+pub may_on : (w : ℕ) (tally : Option UpdateTally) (before after : List OwnStep)
     → writes_of after ≡ writes_of before → HasGrown before after → MayTally w tally before
     → MayTally w tally after
 may_on w None before after same G all = tt
 may_on w (Some tally) before after same G all = tallies_on w tally before after same G all
 
-pub none_yet : (w : ℕ) (tally : Option Tally) (trail : List OwnStep) → writes_of trail ≡ []
+pub none_yet : (w : ℕ) (tally : Option UpdateTally) (trail : List OwnStep) → writes_of trail ≡ []
     → HasNone tally → MayTally w tally trail
 none_yet w None trail unused none = tt
 none_yet w (Some tally) trail unused none = λ t low. record {
@@ -203,14 +250,14 @@ none_yet w (Some tally) trail unused none = λ t low. record {
 }
 
 -- two that flush at one number
-same_limit : (a b : Tally) → limit_of (Some a) ≡ limit_of (Some b) → a.most ≡ b.most
+same_limit : (a b : UpdateTally) → limit_of (Some a) ≡ limit_of (Some b) → a.most ≡ b.most
 same_limit a b is = same_Some a.most b.most is
 
 module _ (w : ℕ) (sizes : Sizes) (l : Line) (p : Prepared) (before after : List OwnStep)
     (a : AddsWrite w p before after) (G : HasGrown before after)
     (prepared : IsPrepared sizes l.number l.mutation p) where
   -- a write more is counted
-  pub one_more : (tally : Option Tally) (counts : Option LineCounts) (now : Option Tally)
+  pub one_more : (tally : Option UpdateTally) (counts : Option LineCounts) (now : Option UpdateTally)
       → limit_of now ≡ limit_of tally → AddsCounts tally counts now
       → IsCountedFor (limit_of tally) l.mutation counts → MayTally w tally before
       → MayTally w now after
@@ -234,7 +281,7 @@ module _ (w : ℕ) (sizes : Sizes) (l : Line) (p : Prepared) (before after : Lis
 -- ---- what is flushed in the end
 
 -- no flush is due
-pub all_flushed : {K : Type 0} (w : ℕ) (tally : Tally) (most : ℕ) (s : PathSeat K)
+pub all_flushed : {K : Type 0} (w : ℕ) (tally : UpdateTally) (most : ℕ) (s : PathSeat K)
     → s.member.number ≡ w → tally.most ≡ most → Tallies w tally (view_of s.member).trail
     → ((t : ℕ) → t < most_tables → get_or tally.counts t 0 < tally.most)
     → HasFlushedAll (Some most) s

@@ -2,7 +2,7 @@
 //! each commit waits for the sync of its entry; in periodic mode it has the log synced where the
 //! period has passed. Behind each it flushes the tables of which it has logged so many updates,
 //! where it flushes.
-ghost use Rattle.std.specs.Prelude.{◌≡◌, ◌≤◌, ℕ, List, [], IsSome, None, Some, true};
+ghost use Rattle.std.specs.Prelude.{◌≡◌, ◌≤◌, ℕ, List, [], IsSome, None, Some, length, true};
 ghost use Rattle.clog_spec.specs.Sizes.{most_tables};
 ghost use Rattle.clog_base.specs.declared.sizes.Sizes.{Sizes};
 ghost use Rattle.clog_mutation.specs.declared.mutation.Mutation.{Mutation};
@@ -10,7 +10,7 @@ ghost use Rattle.clog_applied.specs.History.{Line};
 ghost use Rattle.clog_writers.specs.Crews.{HasLogged, IsReady, IsSizedAs, KnowsWhy, MayLack};
 ghost use Rattle.clog_writers.specs.Sealing.{HasSealed, HasWaited, WaitsShare};
 ghost use Rattle.clog_writers.specs.Tallied.{AreCountedFor, HasFlushedAll, IsCountedFor};
-ghost use Rattle.clog_writers.specs.Tallies.{MayTally, limit_of};
+ghost use Rattle.clog_writers.specs.Tallies.{MayTally, MayTry, limit_of};
 ghost use Rattle.clog_writers.specs.Timed.{HasTimed, TimesShare, TimesWrite};
 ghost use Rattle.clog_writers.specs.Shares.{
   AddsWrite,
@@ -31,7 +31,7 @@ ghost use Rattle.write_path.specs.Writes.{IsPrepared};
 use crate::fault::WriteFault;
 use crate::flushing::{flush_due, flush_rest};
 use crate::syncing::{Syncing, sync_when_due};
-use crate::tally::{LineCounts, Tally, new_tally, tally_with};
+use crate::tally::{LineCounts, UpdateTally, new_tally, tally_with};
 use clog_base::Sizes;
 use clog_io::{Clock, Gate};
 use path_core::Keeper;
@@ -128,11 +128,11 @@ fn commit_next<R: Wait, K: Keeper, G: Gate, C: Clock>(
     gate: &G,
     clock: &C,
     last_ms: u64,
-    tally: Option<Tally>,
+    tally: Option<UpdateTally>,
     seat: PathSeat<K>,
     prepared: Prepared,
     counts: Option<LineCounts>,
-) -> (PathSeat<K>, u64, Option<Tally>, Option<WriteFault>)
+) -> (PathSeat<K>, u64, Option<UpdateTally>, Option<WriteFault>)
     requires table { IsOf path.now.table.table.shared.table_id path.now.table.size seat.member }
     requires prepared { (sizes : Sizes) × (line : ℕ) × (m : Mutation)
         × IsPrepared sizes line m prepared × (sizes.tables ≡ path.now.table.size.tables)
@@ -160,6 +160,8 @@ fn commit_next<R: Wait, K: Keeper, G: Gate, C: Clock>(
         → IsCountedFor (limit_of tally) line.mutation counts
         → MayTally seat.member.number tally (view_of seat.member).trail
         → MayTally seat.member.number result.2 (view_of result.0.member).trail }
+    ensures tried { result.3 ≡ None → MayTry (length (view_of seat.member).trail) result.2
+        (view_of result.0.member).trail }
 {
     let (seat, synced_ms, fault) = commit_one(
         rt, alloc, path, mode, gate, clock, last_ms, seat, prepared,
@@ -189,7 +191,7 @@ fn commit_lines<R: Wait, K: Keeper, G: Gate, C: Clock>(
     seat: PathSeat<K>,
     writes: Vec<Prepared>,
     counts: Vec<LineCounts>,
-) -> (PathSeat<K>, Option<Tally>, Option<WriteFault>)
+) -> (PathSeat<K>, Option<UpdateTally>, Option<WriteFault>)
     requires table { IsOf path.now.table.table.shared.table_id path.now.table.size seat.member }
     requires sized { IsSizedAs path.now.table.size sizes }
     requires prepared { (lines : List Line) × ArePrepared sizes lines writes.items

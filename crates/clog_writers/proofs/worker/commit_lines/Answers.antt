@@ -107,8 +107,8 @@ loop-prepared-preserved g c =
     let now = one.new.self.rest.items in
     let taken = takes_next counts now l.counts.rest.len one.new.self.rest.len one.result I.left
     one.ensures.items one.ensures.cases in
-    let line = next_line c.args.sizes w c.args.flush_at c.in-Some.prepared rest counts now one.result
-    l.tally before
+    let line = next_line c.args.sizes w c.args.flush_at c.in-Some.prepared rest counts now
+    one.result l.tally before
     (subst (λ (ps : List Prepared). GoesCounted c.args.sizes w c.args.flush_at ps counts l.tally
     before) steps.0 I.counted) taken.0 in
     record {

@@ -1,7 +1,8 @@
-use Rattle.std.proofs.Common.{◌≡◌, ℕ, true, Option, sym, ◌∙◌, subst}
+use Rattle.std.proofs.Common.{◌≡◌, ℕ, true, Option, length, sym, ◌∙◌, subst}
 use Rattle.std.specs.Prelude.{IsSome}
 use Rattle.std.proofs.lemmas.Option.{none-some}
 use Rattle.path_rule.specs.Members.{view_of}
+use Rattle.write_path.proofs.Growing.{no_shorter}
 use Rattle.clog_writers.specs.declared.fault.WriteFault.{WriteFault}
 use Rattle.clog_writers.specs.Crews.{MayLack}
 use Rattle.clog_writers.specs.Tallies.{MayTally, limit_of}
@@ -9,6 +10,7 @@ use Rattle.clog_writers.proofs.Committing.{adds_on, earlier_on, may_on, sealed_o
 use Rattle.clog_writers.proofs.Lacking.{lacks_any}
 use Rattle.clog_writers.proofs.Tallying.{one_more}
 use Rattle.clog_writers.proofs.Timing.{times_on}
+use Rattle.clog_writers.proofs.TriedFlushes.{may_since}
 use Rattle.clog_writers.proofs.worker.commit_next.Goals as goal
 
 -- ---- the write is committed, and tables are flushed behind it
@@ -82,6 +84,14 @@ returns-in-None-clause-tallies g c = λ none sizes line prepared counted all.
     (one.ensures.logged c.in-None.is) one.ensures.grown prepared c.args.tally c.args.counts now
     c.tally_with-tally.ensures.limit c.tally_with-tally.ensures.adds counted all)))
 
+pub returns-in-None-clause-tried : goal.returns-in-None-clause-tried
+returns-in-None-clause-tried g c = λ none.
+    let before = (view_of c.args.seat.member).trail in
+    let then = (view_of c.commit_one-seat.result.0.member).trail in
+    may_since (length before) (length then) c.flush_due-seat.result.1
+    (view_of c.flush_due-seat.result.0.member).trail
+    (no_shorter before then c.commit_one-seat.ensures.grown) (c.flush_due-seat.ensures.tried none)
+
 -- ---- it was refused
 
 pub returns-in-Some-clause-rows : goal.returns-in-Some-clause-rows
@@ -92,3 +102,6 @@ returns-in-Some-clause-rows g c =
 pub returns-in-Some-clause-tallies : goal.returns-in-Some-clause-tallies
 returns-in-Some-clause-tallies g c = λ none sizes line prepared counted all.
     absurd (none-some c.in-Some.fault (sym none))
+
+pub returns-in-Some-clause-tried : goal.returns-in-Some-clause-tried
+returns-in-Some-clause-tried g c = λ none. absurd (none-some c.in-Some.fault (sym none))
