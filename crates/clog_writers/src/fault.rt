@@ -20,8 +20,8 @@ pub enum WriteFault {
         /// The count now.
         now: u64,
     },
-    /// A further word of a row is wanted, of which all are in use: this many. A sync wants one for a
-    /// group of the append order, a flush for a memtable too.
+    /// A further word of a row is wanted, of which all are in use: this many. A sync wants one for
+    /// a group of the append order, a flush for a memtable too.
     Rows(Row, u64),
 }
 
