@@ -184,8 +184,8 @@ module _ (options : ApplyOptions) (o : Outside) (ms : List Mutation)
       → IsToldAs options.receipts pending outcome result
       → LastsFirst o options ms (least_of outcome ms)
       → HasShareCause o.disk_faults o.disk_faults_now outcome
-      → ((row : Row) (made : ℕ) → outcome ≡ err (fault.Rows row made)
-      → IsLack options.flush_at row made (length ms))
+      → ((which : Row) (made : ℕ) → outcome ≡ err (fault.Rows which made)
+      → IsLack options.flush_at which made (length ms))
       → ((receipts : Vec Receipt) (report : List ℕ) → outcome ≡ ok receipts
       → report ≡ head_with options.receipts receipts.items ++ pending.rows.items
       → IsReported options ms report × Turns o (IsRun o options ms report))

@@ -36,8 +36,8 @@ impl From<OutOfMemory> for Status {
     }
 }
 
-// Whether there is one sync, behind all lines: of one writer, in the mode and with the period that
-// there are where none are given.
+// Whether there is one sync, behind all lines, but for what flushes want: of one writer, in the mode
+// and with the period that there are where none are given.
 fn has_one_sync(options: ApplyOptions) -> bool {
     if options.sync != SyncCore::periodic(10_000) {
         return false;
