@@ -71,6 +71,37 @@ skipped 255
 **' '' "$pinsilver" replay
 many 256 | expect 'a drain alone has no such limit' 0 'applied 256' '' "$pinsilver" apply --drain
 
+# The lines that a drill makes from seed 7, so many.
+made() {
+    awk -v count="$1" 'BEGIN {
+        x = 7
+        for (i = 0; i < count; i++) {
+            x = (1664525 * x + 1013904223) % 4294967296
+            a = int(x / 65536)
+            value = a % 16 == 15 ? "null" : sprintf("\"v%.0f\"", x)
+            printf "{\"key\":\"k%d\",\"updates\":[", a % 1000
+            for (j = 0; j <= a % 2; j++)
+                printf "%s{\"table\":%d,\"column\":\"c%d\",\"ts\":%d,\"value\":%s}", j ? "," : "",
+                    (a + j) % 3, int(a / 8) % 8, a % 4096, value
+            print "]}"
+        }
+    }'
+}
+fresh
+made 10000 >input
+"$pinsilver" apply --dump <input >alone
+for limit in 1000 100; do
+    rm -rf commitlog
+    "$pinsilver" apply --writers 8 --segment-kib 1024 --flush-at "$limit" --archive --dump \
+        <input >flushed
+    that "10,000 lines by 8 writers that flush at $limit are those of one" cmp -s alone flushed
+    "$pinsilver" replay --workers 1 >one
+    "$pinsilver" replay --workers 8 >eight
+    that 'the folder is replayed by 1 worker as by 8' cmp -s one eight
+    that 'into the cells that were told' sh -c \
+        'test "$(grep "^{" alone)" = "$(grep "^{" one)"'
+done
+
 # A run is killed at each call of a kind in turn, up to the first run that is not. Of one that is
 # killed the first lines are there, in order, and of before all; what had its archive name keeps it.
 fresh

@@ -110,8 +110,8 @@ fn outcome_of<
 /// what the segment's file holds. Of `drill` it means all that it means of `apply` without options
 /// but `--writers 4`, `--segment-kib 1024` and `--flush-at 1000`, with the made lines as those of
 /// the file, and that the report has their numbers, and those of what the folder then restores to;
-/// the source is not read. A drill of more than some 500,000 lines ends with `Memtables`: of a
-/// thousand lines each of three tables has some 500 updates, and each writer flushes a table at
+/// the source is not read. A drill of some 510,000 lines or more may end with `Memtables`: of a
+/// thousand lines each of three tables has some 500 updates, and a writer may flush a table at
 /// every 1000 of its own.
 ///
 /// Where the words ask for what can be done and no fault was counted, it ends with `Ok`, or for

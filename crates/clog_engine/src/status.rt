@@ -40,8 +40,8 @@ pub enum Status {
     /// The lines want more groups of the append order than this number, which is the most of a run.
     Groups(u64),
     /// A table wants more memtables than this number, which is the most that it has in a run. Only
-    /// a run that flushes while it writes ends so, and of `drill` only one of some 500,000 lines or
-    /// more, since its writers flush each of three tables.
+    /// a run that flushes while it writes ends so. A drill of some 510,000 lines or more may, since
+    /// its writers flush each of three tables at every 1000 of their updates of it.
     Memtables(u64),
     /// The disk has no file of this name.
     Absent(Name),
