@@ -96,7 +96,7 @@ is_flushed w t m key gave v after S F R = record {
   retired = omega arith;
 }
 
-by_answer : (w : ℕ) (t : Table) (a : Flush) (key : ℕ) (v after : View) → IsUpTo key a
+pub by_answer : (w : ℕ) (t : Table) (a : Flush) (key : ℕ) (v after : View) → IsUpTo key a
     → Flushes w t.0 v a after → HasFlushed t key after.trail
 by_answer w t (Flushed lower upper) key v after up F =
     subst (λ (k : ℕ). HasFlushed t k after.trail) up
