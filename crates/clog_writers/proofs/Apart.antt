@@ -81,22 +81,23 @@ earlier_sealed trail earlier rise n m in_n in_m long_n long_m behind =
       | inr old ↦ earlier x xs is n old
     ]
 
-module _ {K : Type 0} (id : TableId) (size : PathSize) (mutations : List Mutation)
-    (fault : Option WriteFault) (seats : List (PathSeat K))
-    (all : HaveEnded id size mutations fault seats) (end : ℕ) (h : Holding)
+module _ {K : Type 0} (id : TableId) (size : PathSize) (flush : Option ℕ)
+    (mutations : List Mutation) (fault : Option WriteFault) (seats : List (PathSeat K))
+    (all : HaveEnded id size flush mutations fault seats) (end : ℕ) (h : Holding)
     (o : IsOutcome size seats end h) (waited : HaveWaited seats) where
   abbrev own : PathSeat K → List EntryNote
   own s = writes_of (view_of s.member).trail
 
   -- the seat of a note's writer has the note in its list
   in_own : (w : ℕ) (low : w < size.seats) (n : EntryNote) → Contains o.core.notes n
-      → n.writer.0 ≡ w → Contains (own (its id size mutations fault seats all end h o w low)) n
+      → n.writer.0 ≡ w
+      → Contains (own (its id size flush mutations fault seats all end h o w low)) n
   in_own w low n among is =
-      let s = its id size mutations fault seats all end h o w low in
+      let s = its id size flush mutations fault seats all end h o w low in
       Contains-permutation (reverse (own s)) (own s) n
       (IsPermutation-sym (own s) (reverse (own s)) (IsPermutation-reverse (own s)))
       (subst (λ (l : List EntryNote). Contains l n)
-      (same_list id size mutations fault seats all end h o w low)
+      (same_list id size flush mutations fault seats all end h o w low)
       (in_filter (is_note_of w) o.core.notes n among (eq-eqb n.writer.0 w is)))
 
   -- what is logged was written
@@ -109,17 +110,17 @@ module _ {K : Type 0} (id : TableId) (size : PathSize) (mutations : List Mutatio
       let n_there = noted n in_n in
       let m_there = noted m in_m in
       let w = n.writer.0 in
-      let low = known id size mutations fault seats all end h o n n_there in
-      let s = its id size mutations fault seats all end h o w low in
-      let there = (seat_of id size mutations fault seats all end h o w low).1 in
+      let low = known id size flush mutations fault seats all end h o n n_there in
+      let s = its id size flush mutations fault seats all end h o w low in
+      let there = (seat_of id size flush mutations fault seats all end h o w low).1 in
       let own_n = in_own w low n n_there refl in
       let own_m = in_own w low m m_there (sym by) in
       let x = All-contains (λ (t : PathSeat K). AreSealedApart size.capacity o.core.notes h.synced
       (view_of t.member).trail) seats s o.apart there n m
       (earlier_sealed (view_of s.member).trail (waited s there)
-      (is_its id size mutations fault seats all end h o w low).logs.rise n m own_n own_m
-      (long id size mutations fault seats all end h o n n_there)
-      (long id size mutations fault seats all end h o m m_there) behind) own_m behind in
+      (is_its id size flush mutations fault seats all end h o w low).logs.rise n m own_n own_m
+      (long id size flush mutations fault seats all end h o n n_there)
+      (long id size flush mutations fault seats all end h o m m_there) behind) own_m behind in
       record {
         key = x.mark.key;
         behind = x.mark.behind;

@@ -7,16 +7,21 @@ use Rattle.std.proofs.Common.{
   inr,
   Bool,
   true,
+  false,
   List,
   ◌++◌,
   Option,
+  Some,
+  None,
   refl,
   sym,
   ◌∙◌,
   ap,
   subst,
 }
-use Rattle.std.specs.Prelude.{is_some, option_map, ◌⊎◌}
+use Rattle.std.specs.Prelude.{Contains, is_some, option_map, ◌⊎◌}
+use Rattle.std.specs.List.{filter}
+use Rattle.std.proofs.lemmas.Bool.{true≢false}
 use base.Stored.{Coded}
 use Rattle.clog_base.specs.declared.sizes.Sizes.{Sizes}
 use Rattle.clog_disk.specs.declared.change.Change.{Change}
@@ -25,7 +30,7 @@ use Rattle.clog_mutation.specs.declared.mutation.Mutation.{Mutation}
 use Rattle.clog_crash.specs.Grown.{appends_of}
 use Rattle.clog_crash.specs.Log.{Write}
 use Rattle.path_core.specs.declared.note.EntryNote.{EntryNote}
-use Rattle.path_core.specs.Keeper.{Holding}
+use Rattle.path_core.specs.Keeper.{Holding, PutFile}
 use Rattle.clog_store.specs.Grows.{AreAppends, segments_with}
 use Rattle.clog_store.specs.NoteLog.{IsNoteLog}
 use Rattle.clog_store.proofs.NoteGrows.{rises_with}
@@ -56,26 +61,35 @@ use Rattle.clog_closing.proofs.Begun.{
 }
 use Rattle.clog_closing.proofs.Brought.{written_by}
 use Rattle.clog_closing.proofs.Fresh.{none_done}
+use Rattle.clog_closing.proofs.Good.{filed_on}
+use Rattle.clog_closing.proofs.LastEnd.{up_to_last}
 use Rattle.clog_closing.proofs.Leaving.{told_of}
 use Rattle.write_path.specs.Closed.{PassesNoSegment}
-use Rattle.clog_writers.specs.Logged.{GoesOnAlone, HoldFirsts, HoldShares, LogsShares}
-use Rattle.clog_writers.proofs.LastEnd.{up_to_last}
+use Rattle.clog_writers.specs.Logged.{
+  GoesOnBeside,
+  HasFlushedShare,
+  HaveFlushedShares,
+  HoldFirsts,
+  HoldShares,
+  LogsShares,
+  is_note_of,
+}
 use Rattle.clog_writers.proofs.Leaving.{history, its_writer, lines, shares}
 
--- A store that goes on alone from one that was just opened has the same disk at its opening.
+-- A store that goes on from one that was just opened has the same disk at its opening.
 pub first_disk : {D : Type 0} (files : D → Option Files) (changes : D → Option (List Change))
-    (moment faults : D → ℕ) (coded : Coded D) (a b : StoreState D)
+    (moment faults : D → ℕ) (coded : Coded D) (a b : StoreState D) (flush : Option ℕ)
     → a ≡ store_over a.notes.log a.notes.sizes a.archives
-    → GoesOnAlone (holding_of files changes moment faults coded.code a)
+    → GoesOnBeside flush (holding_of files changes moment faults coded.code a)
     (holding_of files changes moment faults coded.code b) → b.first ≡ a.notes.log.disk
-first_disk files changes moment faults coded a b opens alone =
-    coded.inj b.first a.first alone.disk_is ∙ ap (λ (s : StoreState _). s.first) opens
+first_disk files changes moment faults coded a b flush opens beside =
+    coded.inj b.first a.first beside.disk_is ∙ ap (λ (s : StoreState _). s.first) opens
 
 -- Then it goes on beside its log.
 module _ {D : Type 0} (files : D → Option Files) (changes : D → Option (List Change))
-    (moment faults : D → ℕ) (coded : Coded D) (a b e : StoreState D)
+    (moment faults : D → ℕ) (coded : Coded D) (a b e : StoreState D) (flush : Option ℕ)
     (opens : a ≡ store_over a.notes.log a.notes.sizes a.archives)
-    (alone : GoesOnAlone (holding_of files changes moment faults coded.code a)
+    (beside : GoesOnBeside flush (holding_of files changes moment faults coded.code a)
     (holding_of files changes moment faults coded.code b))
     (keeps : KeepsLog (holding_of files changes moment faults coded.code b)
     (holding_of files changes moment faults coded.code e)) (first : e.first ≡ b.first) where
@@ -83,13 +97,13 @@ module _ {D : Type 0} (files : D → Option Files) (changes : D → Option (List
   Held x = holding_of files changes moment faults coded.code x
 
   pub its_disk : e.first ≡ a.notes.log.disk
-  its_disk = first ∙ first_disk files changes moment faults coded a b opens alone
+  its_disk = first ∙ first_disk files changes moment faults coded a b flush opens beside
 
-  its_base : e.notes.base ≡ a.notes.base
-  its_base = ap (λ (h : Holding). h.base) keeps ∙ alone.base_is
+  pub its_base : e.notes.base ≡ a.notes.base
+  its_base = ap (λ (h : Holding). h.base) keeps ∙ beside.base_is
 
   pub its_archives : e.archives ≡ a.archives
-  its_archives = ap (λ (h : Holding). h.opening.archives) keeps ∙ alone.archives_are
+  its_archives = ap (λ (h : Holding). h.opening.archives) keeps ∙ beside.archives_are
 
   -- what was logged is logged still
   pub logs_on : (sizes : Sizes) (base : ℕ) (ms : List Mutation)
@@ -109,6 +123,28 @@ module _ {D : Type 0} (files : D → Option Files) (changes : D → Option (List
       → HoldFirsts writers ms (e.notes.logged ++ e.notes.kept)
   firsts_on writers ms = subst (HoldFirsts writers ms)
       (sym (ap (λ (h : Holding). h.logged ++ h.kept) keeps))
+
+  -- what was flushed is, where each file that was put is there
+  share_on : (most t writer : ℕ)
+      → ((f : PutFile) → Contains b.files f → Contains e.files f)
+      → HasFlushedShare most t writer (Held b) → HasFlushedShare most t writer (Held e)
+  share_on most t writer on share = record {
+    early = share.early;
+    late = share.late;
+    parts = ap (λ (h : Holding). filter (is_note_of writer) h.logged) keeps ∙ share.parts;
+    filed = λ n among touched.
+        filed_on b.files e.files t n.end.0 on (share.filed n among touched);
+    rest = share.rest;
+    are_late = share.are_late;
+    few = share.few;
+  }
+
+  pub flushed_on : (limit : Option ℕ) (writers : ℕ)
+      → ((f : PutFile) → Contains b.files f → Contains e.files f)
+      → HaveFlushedShares limit writers (Held b) → HaveFlushedShares limit writers (Held e)
+  flushed_on None writers on flushed = tt
+  flushed_on (Some most) writers on flushed =
+      λ t writer table low. share_on most t writer on (flushed t writer table low)
 
   -- how far its drain has come
   pub begun_on : (drain : Bool) (P Q : Type 0)
@@ -153,11 +189,11 @@ module _ {D : Type 0} (files : D → Option Files) (changes : D → Option (List
         (changes e.notes.log.disk) growth.added (tells a.notes.log.disk)
         (tells e.notes.log.disk) changed
 
-    brought_by : IsNoteLog e.notes → (archives drain : Bool) (writers : ℕ) (ms : List Mutation)
-        → AreMadeFor archives drain writers ms growth.added
-        → HasBrought changes a.notes.log.disk e.notes.log.disk a.notes.base archives drain writers
-        ms ws
-    brought_by notes archives drain writers ms made_for = record {
+    brought_by : IsNoteLog e.notes → (flushing archives drain : Bool) (writers : ℕ)
+        (ms : List Mutation) → AreMadeFor flushing archives drain writers ms growth.added
+        → HasBrought changes a.notes.log.disk e.notes.log.disk a.notes.base flushing archives drain
+        writers ms ws
+    brought_by notes flushing archives drain writers ms made_for = record {
       added = growth.added;
       changes_are = changed;
       made_for = made_for;
@@ -173,21 +209,27 @@ module _ {D : Type 0} (files : D → Option Files) (changes : D → Option (List
       (settled : AreSettled e.notes e.files) (notes : IsNoteLog e.notes)
       (sound : IsSound e.notes.log) (drain : Bool) (sizes : Sizes) (base : ℕ)
       (ms : List Mutation) where
-    abbrev pub Brings : Type 0
-    Brings =
-        HasBrought changes a.notes.log.disk e.notes.log.disk a.notes.base a.archives drain
+    abbrev pub Brings : Bool → Type 0
+    Brings flushing =
+        HasBrought changes a.notes.log.disk e.notes.log.disk a.notes.base flushing a.archives drain
         sizes.writers ms ws
 
-    -- by appends alone, or all lines are logged
-    abbrev pub IsBrought : Type 0
-    IsBrought = (has : Brings) × (AreAppends has.added ⊎ LogsShares sizes base ms (Held e))
+    -- where writers do not flush by appends alone, or all lines are logged
+    abbrev pub IsBrought : Bool → Type 0
+    IsBrought flushing = (has : Brings flushing) × (flushing ≡ false
+        → AreAppends has.added ⊎ LogsShares sizes base ms (Held e))
 
-    by_appends : HasNoDeeds (Held e) → IsBrought
+    -- a drain that has come so far, or nothing
+    abbrev pub IsBegun : Type 0
+    IsBegun = HasNoDeeds (Held e) ⊎ ((drain ≡ true) × LogsShares sizes base ms (Held e)
+        × HasBegun (Held e) (synced_to e.notes.logged))
+
+    by_appends : HasNoDeeds (Held e) → IsBrought false
     unfolding brought_by
     by_appends none =
         let has = appends (none_done files changes moment faults coded.code e none) in (
-          brought_by has.growth notes a.archives drain sizes.writers ms (inl has.alone),
-          inl has.alone,
+          brought_by has.growth notes false a.archives drain sizes.writers ms (inl has.alone),
+          λ plain. inl has.alone,
         )
 
     has_gone : LogsShares sizes base ms (Held e) → HasBegun (Held e) (synced_to e.notes.logged)
@@ -216,20 +258,22 @@ module _ {D : Type 0} (files : D → Option Files) (changes : D → Option (List
         }
 
     by_drain : drain ≡ true → LogsShares sizes base ms (Held e)
-        → HasBegun (Held e) (synced_to e.notes.logged) → IsBrought
+        → HasBegun (Held e) (synced_to e.notes.logged) → IsBrought false
     by_drain full logs begun = (
-      brought_by ordered.growth notes a.archives drain sizes.writers ms (inr (
+      brought_by ordered.growth notes false a.archives drain sizes.writers ms (inr (
         full,
         subst (λ (x : Bool). HasGoneInOrder x sizes.writers ms ordered.growth.added)
             its_archives (has_gone logs begun),
       )),
-      inr logs,
+      λ plain. inr logs,
     )
 
-    pub brings_shares : HasNoDeeds (Held e)
-        ⊎ ((drain ≡ true) × LogsShares sizes base ms (Held e)
-        × HasBegun (Held e) (synced_to e.notes.logged)) → IsBrought
-    brings_shares begun = elim begun [
+    pub brings_shares : (flushing : Bool) → (flushing ≡ false → IsBegun) → IsBrought flushing
+    brings_shares true begun = (
+      brought_by ordered.growth notes true a.archives drain sizes.writers ms tt,
+      λ plain. absurd (true≢false plain),
+    )
+    brings_shares false begun = elim (begun refl) [
       | inl none ↦ by_appends none
       | inr part ↦ by_drain part.0 part.1 part.2
     ]

@@ -6,6 +6,7 @@ use Rattle.std.proofs.Common.{
   inl,
   inr,
   Bool,
+  false,
   List,
   [],
   ◌∷◌,
@@ -264,12 +265,13 @@ module _ {D : Type 0} (s : NoteState D) (is : IsNoteLog s)
       still = subst (lasted_at s.log.disk) (sym opened_is)
           ((later.lasted_then (moment first) (omega arith)).1 lasted)
 
-      pub leaves_shares : (base : ℕ) (archives drain : Bool) (least : ℕ) → least ≤ lasting_in s.log
-          → (wrote : HasBrought changes first s.log.disk base archives drain writers ms ws)
-          → (GoesBeyond wrote.added → length ms ≤ lasting_in s.log)
-          → LeavesShares changes moment since leaves first s.log.disk r base archives drain writers
-          ms least
-      leaves_shares base archives drain least le wrote full =
+      pub leaves_shares : (base : ℕ) (flushing archives drain : Bool) (least : ℕ)
+          → least ≤ lasting_in s.log
+          → (wrote : HasBrought changes first s.log.disk base flushing archives drain writers ms ws)
+          → (flushing ≡ false → GoesBeyond wrote.added → length ms ≤ lasting_in s.log)
+          → LeavesShares changes moment since leaves first s.log.disk r base flushing archives
+          drain writers ms least
+      leaves_shares base flushing archives drain least le wrote full =
           let Shown = HasShown r 0 s.log.past s.log.id s.log.sections in
           let then = at_both (files s.log.disk) (read_at s.log.disk s.log.opened) (λ f q.
           (at : ℕ) → MayGoOnIn s.log.id s.log.sections at
@@ -291,7 +293,7 @@ module _ {D : Type 0} (s : NoteState D) (is : IsNoteLog s)
                 (λ image was none. as_shown r 0 0 image was (omega arith) none);
             at_last = λ image left none.
                 as_shown r (lasting_in s.log) least image (last image left) le none;
-            at_drain = λ beyond image left none.
-                as_shown r (lasting_in s.log) (length ms) image (last image left) (full beyond)
-                none;
+            at_drain = λ plain beyond image left none.
+                as_shown r (lasting_in s.log) (length ms) image (last image left)
+                (full plain beyond) none;
           }

@@ -10,6 +10,7 @@ use Rattle.std.proofs.Common.{
   List,
   [],
   ◌++◌,
+  Option,
   None,
   refl,
   sym,
@@ -38,14 +39,15 @@ use Rattle.clog_writers.specs.Shares.{AreWritesOf, logged_by}
 use Rattle.clog_writers.proofs.Firsts.{all_pass, none_pass}
 use Rattle.clog_writers.proofs.Owned.{is_its, its, known, mine, of_place, owned, same_list}
 
-module _ {K : Type 0} (id : TableId) (size : PathSize) (mutations : List Mutation)
-    (seats : List (PathSeat K)) (all : HaveEnded id size mutations None seats) (end : ℕ)
-    (h : Holding) (o : IsOutcome size seats end h) where
+module _ {K : Type 0} (id : TableId) (size : PathSize) (flush : Option ℕ)
+    (mutations : List Mutation) (seats : List (PathSeat K))
+    (all : HaveEnded id size flush mutations None seats) (end : ℕ) (h : Holding)
+    (o : IsOutcome size seats end h) where
   -- each ends at or below the synced key
   below : (n : EntryNote) → Contains o.core.notes n → n.end.0 ≤ h.synced
   below n among =
-      let p = owned id size mutations None seats all end h o n among in
-      let s = of_place id size mutations None seats all end h o p.seat p.there in
+      let p = owned id size flush mutations None seats all end h o n among in
+      let s = of_place id size flush mutations None seats all end h o p.seat p.there in
       let known = s.synced refl in
       let low = known.2 n p.among in
       let reached =
@@ -63,20 +65,20 @@ module _ {K : Type 0} (id : TableId) (size : PathSize) (mutations : List Mutatio
 
   pub share : (w : ℕ) (low : w < size.seats)
       → AreWritesOf w (share_of size.seats w mutations)
-      (mine id size mutations None seats all end h o w low)
+      (mine id size flush mutations None seats all end h o w low)
   share w low =
-      let s = its id size mutations None seats all end h o w low in
-      let logs = (is_its id size mutations None seats all end h o w low).logs in
+      let s = its id size flush mutations None seats all end h o w low in
+      let logs = (is_its id size flush mutations None seats all end h o w low).logs in
       let whole : share_of size.seats w mutations ≡ logs.done =
       logs.parts ∙ ap (λ (l : List Line). logs.done ++ l) (logs.all refl) ∙ append-nil logs.done in
       subst (AreWritesOf w (share_of size.seats w mutations))
-      (sym (same_list id size mutations None seats all end h o w low))
+      (sym (same_list id size flush mutations None seats all end h o w low))
       (subst (λ (l : List Line). AreWritesOf w l (logged_by s.member)) (sym whole) logs.are)
 
   pub hold_shares : HoldShares size.capacity size.seats mutations h.logged
   hold_shares = subst (HoldShares size.capacity size.seats mutations) (sym all_logged) (record {
     lawful = o.lawful;
     whole = o.whole;
-    known = known id size mutations None seats all end h o;
+    known = known id size flush mutations None seats all end h o;
     shares = λ writer low. share writer low;
   })

@@ -99,9 +99,9 @@ shown_held writers ms logged kept shown held =
     (ap (λ (l : List EntryNote). logged ++ l) (sym (take-append-drop shown kept))
     ∙ sym (append_assoc logged (take shown kept) (drop shown kept))) held)
 
-module _ {K : Type 0} (id : TableId) (size : PathSize) (mutations : List Mutation)
-    (fault : Option WriteFault) (seats : List (PathSeat K))
-    (all : HaveEnded id size mutations fault seats) (end : ℕ) (h : Holding)
+module _ {K : Type 0} (id : TableId) (size : PathSize) (flush : Option ℕ)
+    (mutations : List Mutation) (fault : Option WriteFault) (seats : List (PathSeat K))
+    (all : HaveEnded id size flush mutations fault seats) (end : ℕ) (h : Holding)
     (o : IsOutcome size seats end h) where
   abbrev notes : List EntryNote
   notes = o.core.notes
@@ -114,7 +114,7 @@ module _ {K : Type 0} (id : TableId) (size : PathSize) (mutations : List Mutatio
       ap (λ (l : List EntryNote). l ++ h.kept) o.logged
           ∙ ap (λ (l : List EntryNote). filter (is_at_most h.synced) notes ++ l) o.kept
           ∙ between h.synced o.kept_to (omega (arith, less)) notes o.lawful.apart
-          (long id size mutations fault seats all end h o),
+          (long id size flush mutations fault seats all end h o),
     )
     | inr not ↦ (
       h.synced,
@@ -130,13 +130,13 @@ module _ {K : Type 0} (id : TableId) (size : PathSize) (mutations : List Mutatio
       → AreFirstWrites w (share_of size.seats w mutations)
       (filter (is_note_of w) (filter (is_at_most top) notes))
   its_first top w low =
-      let logs = (is_its id size mutations fault seats all end h o w low).logs in
+      let logs = (is_its id size flush mutations fault seats all end h o w low).logs in
       let part =
-      up_to top notes o.lawful.apart (long id size mutations fault seats all end h o) in
+      up_to top notes o.lawful.apart (long id size flush mutations fault seats all end h o) in
       let front = filter (is_at_most top) notes in
       let cut = sym (filter-append (is_note_of w) front part.0)
       ∙ ap (filter (is_note_of w)) (sym part.1)
-      ∙ same_list id size mutations fault seats all end h o w low in
+      ∙ same_list id size flush mutations fault seats all end h o w low in
       first_of_more w (share_of size.seats w mutations) logs.done logs.left
       (filter (is_note_of w) front) logs.parts
       (first_writes w logs.done (filter (is_note_of w) front) (filter (is_note_of w) part.0)
@@ -145,7 +145,7 @@ module _ {K : Type 0} (id : TableId) (size : PathSize) (mutations : List Mutatio
   pub hold_firsts : HoldFirsts size.seats mutations (h.logged ++ h.kept)
   hold_firsts = subst (HoldFirsts size.seats mutations) (sym reached.1) (record {
     known = λ n among.
-        known id size mutations fault seats all end h o n
+        known id size flush mutations fault seats all end h o n
         (from_filter (is_at_most reached.0) notes n among).0;
     firsts = its_first reached.0;
   })

@@ -84,7 +84,7 @@ module _ (base : ℕ) where
           (subst (λ (l : List EntryNote). AreNotesOf base l (filter (is_by k) ws))
           (sym (left_one (is_note_of k) n ns e)) rest)
 
-  writers_notes : (k : ℕ) (ns : List EntryNote) (ws : List LoggedLine) → AreNotesOf base ns ws
+  pub writers_notes : (k : ℕ) (ns : List EntryNote) (ws : List LoggedLine) → AreNotesOf base ns ws
       → AreNotesOf base (filter (is_note_of k) ns) (filter (is_by k) ws)
   writers_notes k [] [] are = tt
   writers_notes k [] (w ∷ ws) are = absurd are
@@ -107,7 +107,7 @@ module _ (base : ℕ) where
       one_mutation w.mutation l.mutation is.stored wrote.is.stored payload in
       λ i. record { number = number i; mutation = said i }
 
-  their_lines : (k : ℕ) (ls : List Line) (ns : List EntryNote) (ws : List LoggedLine)
+  pub their_lines : (k : ℕ) (ls : List Line) (ns : List EntryNote) (ws : List LoggedLine)
       → AreWritesOf k ls ns → AreNotesOf base ns ws → map line_of ws ≡ ls
   their_lines k [] [] [] wrote are = refl
   their_lines k [] [] (w ∷ ws) wrote are = absurd are

@@ -4,6 +4,7 @@ use Rattle.std.proofs.Common.{
   ℕ,
   ◌≤◌,
   Bool,
+  false,
   List,
   ◌++◌,
   Option,
@@ -72,19 +73,19 @@ module _ {D : Type 0} (files : D → Option Files) (changes : D → Option (List
         → LastsNow files leaves read_at lasted_at b.notes.log
 
   pub left_by : (given : D) → TellsLife given → SameTold (files start) (files b.notes.log.disk)
-      → (base : ℕ) (archives drain : Bool) (writers least : ℕ) (ms : List Mutation)
+      → (base : ℕ) (flushing archives drain : Bool) (writers least : ℕ) (ms : List Mutation)
       → HoldFirsts writers ms (b.notes.logged ++ b.notes.kept) → least ≤ lasting_in b.notes.log
-      → (brought : HasBrought changes start b.notes.log.disk base archives drain writers ms
-      (segments_with b.notes.log.past b.notes.log.id b.notes.log.sections))
-      → (GoesBeyond brought.added → length ms ≤ lasting_in b.notes.log)
+      → (brought : HasBrought changes start b.notes.log.disk base flushing archives drain writers
+      ms (segments_with b.notes.log.past b.notes.log.id b.notes.log.sections))
+      → (flushing ≡ false → GoesBeyond brought.added → length ms ≤ lasting_in b.notes.log)
       → (opened : Files) → files start ≡ Some opened → lasted_at start (moment start)
-      → LeavesShares changes moment since leaves start given (bytes_at opened) base archives drain
-      writers ms least
-  left_by given told same base archives drain writers least ms held le brought full opened is
-      lasted =
+      → LeavesShares changes moment since leaves start given (bytes_at opened) base flushing
+      archives drain writers ms least
+  left_by given told same base flushing archives drain writers least ms held le brought full
+      opened is lasted =
       let log = b.notes.log in
       subst (λ (d : D). LeavesShares changes moment since leaves start d (bytes_at opened) base
-      archives drain writers ms least) (sym told.disk)
+      flushing archives drain writers ms least) (sym told.disk)
       (leaves_shares b.notes told.notes told.stored writers ms held files changes moment since
       leaves read_at lasted_at reads_now start (told.opened ∙ ap moment its)
       (subst (λ (f : D). IsLater moment read_at lasted_at f log.disk) its
@@ -95,4 +96,4 @@ module _ {D : Type 0} (files : D → Option Files) (changes : D → Option (List
       (subst (λ (d : D). lasted_at d log.opened → ShownSince files moment since read_at lasted_at
       b.first d log.opened log.past log.id log.sections) told.disk told.shown))
       (subst (λ (d : D). lasted_at d log.opened → LastsNow files leaves read_at lasted_at log)
-      told.disk told.lasts) base archives drain least le brought full)
+      told.disk told.lasts) base flushing archives drain least le brought full)

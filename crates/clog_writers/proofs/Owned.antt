@@ -69,13 +69,13 @@ all_by w (l ∷ ls) (m ∷ ns) are n h = elim (first_or_further m ns n h) [
   | inr more ↦ all_by w ls ns are.1 n more
 ]
 
-module _ {K : Type 0} (id : TableId) (size : PathSize) (mutations : List Mutation)
-    (fault : Option WriteFault) (seats : List (PathSeat K))
-    (all : HaveEnded id size mutations fault seats) (end : ℕ) (h : Holding)
+module _ {K : Type 0} (id : TableId) (size : PathSize) (flush : Option ℕ)
+    (mutations : List Mutation) (fault : Option WriteFault) (seats : List (PathSeat K))
+    (all : HaveEnded id size flush mutations fault seats) (end : ℕ) (h : Holding)
     (o : IsOutcome size seats end h) where
   -- the seat of a number has ended with its share
   abbrev pub Ended : ℕ → PathSeat K → Type 0
-  Ended w s = HasEnded id size w (share_of size.seats w mutations) fault s
+  Ended w s = HasEnded id size flush w (share_of size.seats w mutations) fault s
 
   abbrev pub own : PathSeat K → List EntryNote
   own s = writes_of (view_of s.member).trail

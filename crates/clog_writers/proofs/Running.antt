@@ -5,6 +5,8 @@ use Rattle.std.proofs.Common.{
   suc,
   ◌+◌,
   ◌<◌,
+  ◌≤◌,
+  Bool,
   false,
   List,
   [],
@@ -15,6 +17,7 @@ use Rattle.std.proofs.Common.{
   take,
   Option,
   Some,
+  None,
   refl,
   sym,
   ap,
@@ -22,6 +25,7 @@ use Rattle.std.proofs.Common.{
   subst,
   arith,
 }
+use Rattle.std.specs.Prelude.{Contains, is_some}
 use Rattle.std.specs.List.{range_with_len}
 use Rattle.std.specs.List.Sorted.{IsPermutation}
 use Rattle.std.proofs.lemmas.List.Elements.{All-contains}
@@ -31,18 +35,29 @@ use Rattle.atomic_table.specs.Seated.{TableId}
 use Rattle.clog_base.specs.declared.sizes.Sizes.{Sizes}
 use Rattle.clog_mutation.specs.declared.mutation.Mutation.{Mutation}
 use Rattle.path_core.specs.declared.note.EntryNote.{EntryNote}
-use Rattle.path_core.specs.Keeper.{Holding, IsFresh}
+use Rattle.path_core.specs.Keeper.{Holding, IsFresh, PutFile}
 use Rattle.path_rule.specs.declared.lasting.Lasting.{Lasting}
 use Rattle.path_rule.specs.declared.trying.PathSeat.{PathSeat}
 use Rattle.path_rule.specs.declared.view.PathSize.{PathSize}
+use Rattle.path_rule.specs.Limits.{most_memtables}
+use Rattle.clog_closing.specs.Beside.{HasGoodDeeds}
+use Rattle.clog_closing.specs.Drained.{HasNoDeeds}
+use Rattle.clog_closing.proofs.Good.{good_of_none}
+use Rattle.write_path.specs.declared.switch.Row.{Row}
+use Rattle.write_path.specs.declared.switch.Row.TheVariants.{
+  AppendGroups,
+  Memtables,
+  WriteGroups,
+}
 use Rattle.write_path.specs.Closed.{
   AreStoppedFor,
   FindsGroupsTo,
+  FindsWriteGroupsTo,
   IsOutcome,
   StaysBeside,
   all_writes,
 }
-use Rattle.write_path.specs.Opened.{ShowsAsBefore, numbers_of, size_of}
+use Rattle.write_path.specs.Opened.{ShowsAsBefore, numbers_of, size_of, sized_for}
 use Rattle.write_path.proofs.BesideStays.{stays_beside}
 use Rattle.write_path.proofs.NonePassed.{logged_passes_none}
 use Rattle.write_path.proofs.Spending.{segments_spent}
@@ -54,11 +69,27 @@ use Rattle.clog_writers.specs.declared.fault.WriteFault.TheVariants.{
   Stopped,
 }
 use Rattle.clog_writers.specs.declared.worker.Worker.{Worker}
-use Rattle.clog_writers.specs.Crews.{AreDealt, AreReady, HaveEnded, HaveLogged, IsSizedAs}
-use Rattle.clog_writers.specs.Logged.{EndsShares, GoesOnAlone, HoldFirsts, HoldShares}
+use Rattle.clog_writers.specs.Crews.{
+  AreDealt,
+  AreReady,
+  HaveEnded,
+  HaveLogged,
+  IsSizedAs,
+  KnowsRows,
+}
+use Rattle.clog_writers.specs.Logged.{
+  EndsShares,
+  GoesOnBeside,
+  HaveFlushedShares,
+  HoldFirsts,
+  HoldShares,
+  IsLack,
+}
 use Rattle.clog_writers.specs.Sealing.{WaitShares}
 use Rattle.clog_writers.proofs.Ending.{hold_shares, none_kept}
+use Rattle.clog_writers.proofs.FiledWell.{has_good}
 use Rattle.clog_writers.proofs.FirstLogged.{hold_firsts, none_held, none_written}
+use Rattle.clog_writers.proofs.FlushedShares.{have_flushed}
 use Rattle.clog_writers.proofs.Totals.{few_writes}
 
 -- what a slice of a whole list of workers is written back to
@@ -70,38 +101,39 @@ written_back {A} n (x ∷ xs) ys is =
     ∙ ap (λ (l : List A). x ∷ l) (written_back (length xs) xs ys refl)
 
 -- a path that was opened with sizes has these
-pub sized_as : (size : PathSize) (sizes : Sizes) (base at_open : ℕ)
-    → size ≡ size_of sizes base at_open → IsSizedAs size sizes
-sized_as size sizes base at_open is = record {
+pub sized_as : (size : PathSize) (sizes : Sizes) (base at_open : ℕ) (files : Bool)
+    → size ≡ sized_for files sizes base at_open → IsSizedAs size sizes
+sized_as size sizes base at_open files is = record {
   tables = ap (λ (z : PathSize). z.tables) (sym is);
   writers = ap (λ (z : PathSize). z.seats) (sym is);
   capacity = ap (λ (z : PathSize). z.capacity) (sym is);
 }
 
 module _ {K : Type 0} (id : TableId) (size : PathSize) (sizes : Sizes)
-    (sized : IsSizedAs size sizes) (ms : List Mutation) where
+    (sized : IsSizedAs size sizes) (flush : Option ℕ) (ms : List Mutation) where
   -- workers that were lent, and are lent again
-  pub lent_ready : (n : ℕ) (ws now slice rest : List (Worker K)) → AreDealt sizes ms ws
-      → n ≡ length ws → slice ≡ take n (now ++ rest) → AreReady id size sizes ms now
-      → AreReady id size sizes ms slice
+  pub lent_ready : (n : ℕ) (ws now slice rest : List (Worker K)) → AreDealt sizes flush ms ws
+      → n ≡ length ws → slice ≡ take n (now ++ rest) → AreReady id size sizes flush ms now
+      → AreReady id size sizes flush ms slice
   lent_ready n ws now slice rest dealt long is ready =
       let a = dealt.count in
       let b = ready.count in
       let same = sized.writers in
-      subst (AreReady id size sizes ms)
+      subst (AreReady id size sizes flush ms)
       (sym (is ∙ written_back n now rest (omega (arith, long, a, b, same)))) ready
 
-  pub back_logged : (n : ℕ) (ws now rest : List (Worker K)) → AreDealt sizes ms ws
-      → n ≡ length ws → HaveLogged id size ms now → HaveLogged id size ms (take n (now ++ rest))
+  pub back_logged : (n : ℕ) (ws now rest : List (Worker K)) → AreDealt sizes flush ms ws
+      → n ≡ length ws → HaveLogged id size flush ms now
+      → HaveLogged id size flush ms (take n (now ++ rest))
   back_logged n ws now rest dealt long logged =
       let a = dealt.count in
       let b = logged.count in
       let same = sized.writers in
-      subst (HaveLogged id size ms)
+      subst (HaveLogged id size flush ms)
       (sym (written_back n now rest (omega (arith, long, a, b, same)))) logged
 
-  pub back_waited : (n : ℕ) (ws now rest : List (Worker K)) → AreDealt sizes ms ws
-      → n ≡ length ws → HaveLogged id size ms now → WaitShares now
+  pub back_waited : (n : ℕ) (ws now rest : List (Worker K)) → AreDealt sizes flush ms ws
+      → n ≡ length ws → HaveLogged id size flush ms now → WaitShares now
       → WaitShares (take n (now ++ rest))
   back_waited n ws now rest dealt long logged waits =
       let a = dealt.count in
@@ -124,8 +156,9 @@ module _ {K : Type 0} where
       let one = each (suc i) d (omega (arith, inside)) in omega (arith, one)) in
       λ i. first i ∷ rest i
 
-  module _ (id : TableId) (size : PathSize) (ms : List Mutation) (fault : Option WriteFault)
-      (seats : List (PathSeat K)) (ended : HaveEnded id size ms fault seats) where
+  module _ (id : TableId) (size : PathSize) (flush : Option ℕ) (ms : List Mutation)
+      (fault : Option WriteFault) (seats : List (PathSeat K))
+      (ended : HaveEnded id size flush ms fault seats) where
     -- they are all seats of the path
     pub all_numbers : IsPermutation (range_with_len 0 size.seats) (numbers_of seats)
     all_numbers =
@@ -143,102 +176,141 @@ not_stopped at_open n is =
     absurd (let no : OutOfMemory ≡ Stopped at_open n =
     same_Some OutOfMemory (Stopped at_open n) is in cc)
 
-module _ (sizes : Sizes) (base : ℕ) (before now : Holding) (fresh : IsFresh base sizes before) where
-  alone_by : (size : PathSize) → size.files ≡ false → now.base ≡ before.base
-      → StaysBeside size before now → now.dropped ≡ [] → GoesOnAlone before now
-  alone_by size plain same beside none = record {
-    disk_is = beside.disk_is;
-    base_is = same;
-    archives_are = beside.archives_are;
-    tables_are = beside.tables_are;
+module _ (sizes : Sizes) (base : ℕ) (before now : Holding) (fresh : IsFresh base sizes before)
+    (size : PathSize) (beside : StaysBeside size before now) where
+  -- a keeper of a path that was opened for no table files
+  alone_by : size.files ≡ false → now.dropped ≡ [] → HasNoDeeds now
+  alone_by plain none = record {
     no_file = beside.no_file plain fresh.no_file;
     none_dropped = none;
     none_archived = beside.none_archived plain fresh.none_archived;
   }
 
-module _ {K : Type 0} (sizes : Sizes) (base : ℕ) (before now : Holding)
+  -- and of any
+  beside_by : (flush : Option ℕ) → now.base ≡ before.base → (flush ≡ None → HasNoDeeds now)
+      → HasGoodDeeds now → length now.files ≤ 4096 → GoesOnBeside flush before now
+  beside_by flush same alone good few = record {
+    disk_is = beside.disk_is;
+    base_is = same;
+    archives_are = beside.archives_are;
+    tables_are = beside.tables_are;
+    alone = alone;
+    good = good;
+    few = few;
+  }
+
+module _ {K : Type 0} (sizes : Sizes) (flush : Option ℕ) (base : ℕ) (before now : Holding)
     (fresh : IsFresh base sizes before) where
   -- where memory was refused before
-  refused : (workers : List (Worker K)) → GoesOnAlone before now → now.logged ++ now.kept ≡ []
-      → EndsShares sizes base before now workers (Some OutOfMemory)
-  refused workers alone empty = record {
-    alone = alone;
+  refused : (workers : List (Worker K)) → GoesOnBeside flush before now
+      → now.logged ++ now.kept ≡ []
+      → EndsShares sizes flush base before now workers (Some OutOfMemory)
+  refused workers beside empty = record {
+    beside = beside;
     logs = λ ms dealt none. absurd (none-some OutOfMemory (sym none));
+    flushed = λ ms dealt none. absurd (none-some OutOfMemory (sym none));
     firsts = λ ms dealt. none_held sizes.writers ms (now.logged ++ now.kept) empty;
     stops = λ at_open n is. absurd (not_stopped at_open n is);
     spent = λ ms dealt no. absurd (let q : OutOfMemory ≡ Spent =
         same_Some OutOfMemory Spent no in cc);
-    rows = λ ms dealt groups no. absurd (let q : OutOfMemory ≡ Rows groups =
-        same_Some OutOfMemory (Rows groups) no in cc);
+    rows = λ ms dealt row made no. absurd (let q : OutOfMemory ≡ Rows row made =
+        same_Some OutOfMemory (Rows row made) no in cc);
   }
 
   pub unopened : (workers : List (Worker K)) → ShowsAsBefore before now
-      → EndsShares sizes base before now workers (Some OutOfMemory)
+      → EndsShares sizes flush base before now workers (Some OutOfMemory)
   unopened workers same =
+      let beside = stays_beside (size_of sizes base 0) before now
+      (ap (λ (l : Lasting). l.beside) same) (ap (λ (l : Lasting). l.filed) same) in
+      let alone = alone_by sizes base before now fresh (size_of sizes base 0) beside refl
+      (ap (λ (l : Lasting). l.dropped) same ∙ fresh.none_dropped) in
       refused workers
-      (alone_by sizes base before now fresh (size_of sizes base 0) refl
-      (ap (λ (l : Lasting). l.base) same)
-      (stays_beside (size_of sizes base 0) before now (ap (λ (l : Lasting). l.beside) same)
-      (ap (λ (l : Lasting). l.filed) same))
-      (ap (λ (l : Lasting). l.dropped) same ∙ fresh.none_dropped))
+      (beside_by sizes base before now fresh (size_of sizes base 0) beside flush
+      (ap (λ (l : Lasting). l.base) same) (λ is. alone) (good_of_none now alone)
+      (let none = ap (λ (l : List PutFile). length l) alone.no_file in omega (arith, none)))
       (ap (λ (l : Lasting). l.logged ++ l.kept) same
       ∙ ap (λ (l : List EntryNote). l ++ before.kept) fresh.nothing_logged ∙ fresh.nothing_kept)
 
-  pub unseated : (size : PathSize) (seats : List (PathSeat K)) (end : ℕ)
-      → size.base ≡ base → size.files ≡ false → IsOutcome size seats end now
-      → StaysBeside size before now → seats ≡ [] → (workers : List (Worker K))
-      → EndsShares sizes base before now workers (Some OutOfMemory)
-  unseated size seats end is plain o beside none workers =
-      refused workers
-      (alone_by sizes base before now fresh size plain
-      (o.sized.base_is ∙ is ∙ sym fresh.base_is) beside (o.unfiled plain).none_dropped)
-      (none_written size seats end now o none)
-
-  module _ (id : TableId) (size : PathSize) (at_open : ℕ) (is : size ≡ size_of sizes base at_open)
+  module _ (size : PathSize) (of_base : size.base ≡ base) (files : size.files ≡ is_some flush)
       (seats : List (PathSeat K)) (end : ℕ) (o : IsOutcome size seats end now)
       (beside : StaysBeside size before now) where
-    -- it was opened for no table files
-    plain : size.files ≡ false
-    plain = ap (λ (z : PathSize). z.files) is
+    -- where writers do not flush it was opened for no table files
+    goes_on : GoesOnBeside flush before now
+    goes_on =
+        beside_by sizes base before now fresh size beside flush
+        (o.sized.base_is ∙ of_base ∙ sym fresh.base_is)
+        (λ none.
+        let plain = files ∙ ap (λ (f : Option ℕ). is_some f) none in
+        alone_by sizes base before now fresh size beside plain (o.unfiled plain).none_dropped)
+        (has_good size seats end now o) o.few_files
 
-    pub ran : (workers : List (Worker K)) (fault : Option WriteFault) (some : List Mutation)
-        → AreDealt sizes some workers
-        → ((ms : List Mutation) → AreDealt sizes ms workers → HaveEnded id size ms fault seats)
-        → EndsShares sizes base before now workers fault
-    ran workers fault some dealt ended = record {
-      alone = alone_by sizes base before now fresh size plain
-          (o.sized.base_is ∙ ap (λ (z : PathSize). z.base) is ∙ sym fresh.base_is) beside
-          (o.unfiled plain).none_dropped;
-      logs = λ ms given none.
-          let all = subst (λ (f : Option WriteFault). HaveEnded id size ms f seats) none
-          (ended ms given) in
-          record {
-            base_is = o.sized.base_is ∙ ap (λ (z : PathSize). z.base) is;
-            notes = subst (λ (z : PathSize). HoldShares z.capacity z.seats ms now.logged) is
-                (hold_shares id size ms seats all end now o);
-            none_passed = logged_passes_none size seats end now o;
-            none_kept = none_kept id size ms seats all end now o;
-          };
-      firsts = λ ms given.
-          subst (λ (z : PathSize). HoldFirsts z.seats ms (now.logged ++ now.kept)) is
-          (hold_firsts id size ms fault seats (ended ms given) end now o);
-      stops = λ a n stopped.
-          let one = (ended some dealt).stops a n stopped in
-          let so = All-contains (AreStoppedFor now) seats one.0 o.all_stopped one.1 n one.2.1
-          one.2.2 in (one.2.0 ∙ sym o.sized.at_open_is, sym so.1, so.0);
-      spent = λ ms given no_room.
-          let e = ended ms given in
-          let k = e.spent no_room in
-          let most = segments_spent size seats end now o k.0 k.1 k.2.0 k.2.1 k.2.2 k.2.3 in
-          let few = few_writes id size ms fault seats e in
-          let same = ap (λ (z : PathSize). z.ordinals) is in omega (arith, most, few, same);
-      rows = λ ms given groups no_group.
-          let e = ended ms given in
-          let named = e.rows groups no_group in
-          let k = named.1 in
-          let most = All-contains (FindsGroupsTo (length o.core.notes)) seats k.0 o.few_groups k.1
-          k.2.0 k.2.2 in
-          let long = length_permutation (all_writes seats) o.core.notes o.of_writes in
-          let few = few_writes id size ms fault seats e in
-          let next = k.2.1 in (named.0, omega (arith, next, most, long, few));
-    }
+    pub unseated : seats ≡ [] → (workers : List (Worker K))
+        → EndsShares sizes flush base before now workers (Some OutOfMemory)
+    unseated none workers = refused workers goes_on (none_written size seats end now o none)
+
+    -- why there was no further word
+    lack : (id : TableId) (ms : List Mutation) (fault : Option WriteFault)
+        → HaveEnded id size flush ms fault seats → (row : Row) (made : ℕ)
+        → fault ≡ Some (Rows row made) → (s : PathSeat K) → Contains seats s
+        → KnowsRows row made s → IsLack flush row made (length ms)
+    lack id ms fault e AppendGroups made is s there knows =
+        let all = knows.0 in
+        let next = knows.1.1 in
+        let most = All-contains (FindsGroupsTo (length o.core.notes)) seats s o.few_groups there
+        knows.1.0 knows.1.2 in
+        let long = length_permutation (all_writes seats) o.core.notes o.of_writes in
+        let few = few_writes id size flush ms fault seats e in
+        (all, omega (arith, all, next, most, long, few))
+    lack id ms fault e Memtables made is s there knows = (
+      knows.0,
+      λ none. absurd (let q : Memtables ≡ AppendGroups = e.lacks Memtables made is none in cc),
+    )
+    lack id ms fault e WriteGroups made is s there knows =
+        let all = knows.0 in
+        let next = knows.1.1 in
+        let most = All-contains (FindsWriteGroupsTo most_memtables) seats s o.few_write_groups
+        there knows.1.0 knows.1.2 in
+        absurd (omega (arith, all, next, most))
+
+    module _ (id : TableId) (at_open : ℕ)
+        (is : size ≡ sized_for (is_some flush) sizes base at_open) where
+      pub ran : (workers : List (Worker K)) (fault : Option WriteFault) (some : List Mutation)
+          → AreDealt sizes flush some workers
+          → ((ms : List Mutation) → AreDealt sizes flush ms workers
+          → HaveEnded id size flush ms fault seats)
+          → EndsShares sizes flush base before now workers fault
+      ran workers fault some dealt ended = record {
+        beside = goes_on;
+        logs = λ ms given none.
+            let all = subst (λ (f : Option WriteFault). HaveEnded id size flush ms f seats) none
+            (ended ms given) in
+            record {
+              base_is = o.sized.base_is ∙ of_base;
+              notes = subst (λ (z : PathSize). HoldShares z.capacity z.seats ms now.logged) is
+                  (hold_shares id size flush ms seats all end now o);
+              none_passed = logged_passes_none size seats end now o;
+              none_kept = none_kept id size flush ms seats all end now o;
+            };
+        flushed = λ ms given none.
+            subst (λ (z : PathSize). HaveFlushedShares flush z.seats now) is
+            (have_flushed id size flush ms seats
+            (subst (λ (f : Option WriteFault). HaveEnded id size flush ms f seats) none
+            (ended ms given)) end now o);
+        firsts = λ ms given.
+            subst (λ (z : PathSize). HoldFirsts z.seats ms (now.logged ++ now.kept)) is
+            (hold_firsts id size flush ms fault seats (ended ms given) end now o);
+        stops = λ a n stopped.
+            let one = (ended some dealt).stops a n stopped in
+            let so = All-contains (AreStoppedFor now) seats one.0 o.all_stopped one.1 n one.2.1
+            one.2.2 in (one.2.0 ∙ sym o.sized.at_open_is, sym so.1, so.0);
+        spent = λ ms given no_room.
+            let e = ended ms given in
+            let k = e.spent no_room in
+            let most = segments_spent size seats end now o k.0 k.1 k.2.0 k.2.1 k.2.2 k.2.3 in
+            let few = few_writes id size flush ms fault seats e in
+            let same = ap (λ (z : PathSize). z.ordinals) is in omega (arith, most, few, same);
+        rows = λ ms given row made no_word.
+            let e = ended ms given in
+            let k = e.rows row made no_word in
+            lack id ms fault e row made no_word k.0 k.1 k.2;
+      }

@@ -1,6 +1,20 @@
 -- How a store ended whose lines were to be logged.
-use Rattle.std.proofs.Common.{◌≡◌, ℕ, ◌<◌, ◌≤◌, Bool, true, false, refl, arith}
-use Rattle.std.specs.Prelude.{Err, IfOk, Ok, Result}
+use Rattle.std.proofs.Common.{
+  ◌≡◌,
+  ℕ,
+  ◌<◌,
+  ◌≤◌,
+  Bool,
+  true,
+  false,
+  Option,
+  Some,
+  None,
+  refl,
+  arith,
+}
+use Rattle.std.specs.Prelude.{Err, IfOk, Ok, OnOk, Result, is_some}
+use Rattle.std.proofs.lemmas.Bool.{true≢false}
 use Rattle.clog_io.specs.Causes.{Rose}
 
 -- no fewer faults are counted, whether a store has stopped or not
@@ -16,7 +30,16 @@ pub at_ok : {R E : Type 0} (r : Result R E) (P Q : R → Type 0) → IfOk r P
 at_ok (Ok x) P Q is so = so x is
 at_ok (Err e) P Q is so = tt
 
+pub on_ok : {R E : Type 0} (r : Result R E) (P Q : Type 0) → OnOk r P → (P → Q) → OnOk r Q
+on_ok (Ok x) P Q is so = so is
+on_ok (Err e) P Q is so = tt
+
 -- a store that has not stopped
 pub runs_on : (stopped : Bool) (P : Type 0) → (stopped ≡ true → P) → (P → ⊥) → stopped ≡ false
 runs_on true P so not = absurd (not (so refl))
 runs_on false P so not = refl
+
+-- an option that is none
+pub none_of : {A : Type 0} (o : Option A) → is_some o ≡ false → o ≡ None
+none_of None is = refl
+none_of (Some x) is = absurd (true≢false is)

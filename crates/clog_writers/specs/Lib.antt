@@ -6,6 +6,7 @@ pub mod Crews
 pub mod Sealing
 pub mod Timed
 pub mod Logged
+pub mod Settled
 pub mod Placed
 pub mod Planned
 pub mod Written

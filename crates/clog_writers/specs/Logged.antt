@@ -89,8 +89,8 @@ pub record LogsShares (sizes : Sizes) (base : ℕ) (mutations : List Mutation) (
   pub none_passed : PassesNoSegment now.logged
   pub none_kept : now.kept ≡ []
 
--- Of a writer's entries that are lasting the first lie in files of a table, where they touch it; the
--- others, which are of these lines, have fewer updates of it than a number.
+-- Of a writer's entries that are lasting the first lie in files of a table, where they touch it;
+-- the others, which are of these lines, have fewer updates of it than a number.
 pub record HasFlushedShare (most t writer : ℕ) (now : Holding) : Type 0 where
   pub early : List EntryNote
   pub late : List EntryNote

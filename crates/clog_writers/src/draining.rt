@@ -2,29 +2,46 @@
 //! table with an entry that lies in none yet, from where the table's last one ends; then, also
 //! where writers have flushed, the segments go for which table files stand. Where the entries stand
 //! is told by the path alone, so the memory for a drain's cells is asked for behind them.
-ghost use Rattle.std.specs.Prelude.{◌≡◌, ◌⊎◌, ◌≤◌, ℕ, None, OnOk, Some, false, true, length};
+ghost use Rattle.std.specs.Prelude.{
+  ◌≡◌,
+  ◌⊎◌,
+  ◌≤◌,
+  ℕ,
+  [],
+  IfOk,
+  None,
+  OnOk,
+  Some,
+  false,
+  length,
+  true,
+};
 ghost use Rattle.clog_io.specs.Causes.{Rose};
 ghost use Rattle.clog_layout.specs.Ends.{synced_to};
-ghost use Rattle.clog_closing.specs.Beside.{HasFinished, HasGoodDeeds};
+ghost use Rattle.clog_closing.specs.Beside.{HasGoodDeeds};
 ghost use Rattle.clog_closing.specs.Drained.{EndsAs, HasBegun, HasNoDeeds, KeepsLog};
 ghost use Rattle.clog_spec.specs.Sizes.{most_tables};
+ghost use Rattle.path_core.specs.History.{IsHistory};
+ghost use Rattle.path_core.specs.Keeper.{upper_from};
+ghost use Rattle.clog_memtable.specs.Filling.{AreWhole};
+ghost use Rattle.clog_memtable.specs.Touched.{AreMemtablesOf};
 ghost use Rattle.clog_store.specs.StoreState.{holding_of};
 ghost use Rattle.clog_writers.specs.declared.fault.WriteFault.TheVariants.{
   Rows,
   Spent,
   Stopped,
 };
+ghost use Rattle.clog_writers.specs.Settled.{Settles};
 ghost use Rattle.clog_writers.specs.Written.{refused_as};
+ghost use Rattle.write_path.specs.declared.switch.Row.{Row};
 
 use crate::fault::WriteFault;
 use clog_base::{Key, OutOfMemory};
-use clog_closing::drain;
 use clog_disk::Disk;
 use clog_memtable::{Memtable, memtables_of};
 use clog_store::Store;
 use path_core::{EntryNote, KeeperFault};
 use std::alloc::Global;
-use write_path::Row;
 
 // The key at which the last of notes ends, 0 where there is none.
 fn end_of(notes: &[EntryNote]) -> Key
@@ -42,6 +59,11 @@ fn left_to_put<D: Disk>(
     store: &Store<D>,
     drain: bool,
 ) -> Result<Vec<Memtable>, OutOfMemory>
+    requires whole { AreWhole store.now.notes.logged }
+    ensures none { drain ≡ false → IfOk result (λ ms. ms.items ≡ []) }
+    ensures all { drain ≡ true → IfOk result (λ ms. AreMemtablesOf store.now.notes.logged
+        (λ (t : ℕ). upper_from t 0 store.now.files) (synced_to store.now.notes.logged) most_tables
+        ms.items) }
 {
     if !drain {
         return Ok(Vec::new(alloc));
@@ -51,17 +73,15 @@ fn left_to_put<D: Disk>(
 }
 
 // Drains a store that runs, up to the end of its last entry, or drops alone what may go.
-fn settle<D: Disk>(
-    alloc: Global,
-    store: &mut Store<D>,
-    drain: bool,
-) -> Result<(), KeeperFault>
+fn settle<D: Disk>(alloc: Global, store: &mut Store<D>, drain: bool) -> Result<(), KeeperFault>
     requires runs { store.old.notes.log.is_stopped ≡ false }
     requires tables { store.old.notes.sizes.tables ≡ most_tables }
+    requires in_log { (capacity : ℕ) × IsHistory capacity store.old.notes.logged }
     requires good { HasGoodDeeds
         (holding_of D.files D.changes D.moment D.faults D.row.coded.code store.old) }
     requires few { length store.old.files ≤ 4096 }
-    ensures settles { OnOk result (HasFinished drain
+    ensures settles { OnOk result (Settles drain
+        (holding_of D.files D.changes D.moment D.faults D.row.coded.code store.old)
         (holding_of D.files D.changes D.moment D.faults D.row.coded.code store.new)) }
     ensures begun { HasNoDeeds
         (holding_of D.files D.changes D.moment D.faults D.row.coded.code store.old)
@@ -78,7 +98,7 @@ fn settle<D: Disk>(
     // What its log keeps, for the proof alone.
     store.fault_count();
     match left_to_put(alloc, store, drain) {
-        Ok(memtables) => drain(store, memtables.as_slice()),
+        Ok(memtables) => clog_closing::drain(store, memtables.as_slice()),
         Err(OutOfMemory) => Err(KeeperFault::OutOfMemory),
     }
 }
@@ -107,6 +127,7 @@ pub(crate) fn settle_asked<D: Disk>(
 ) -> Option<WriteFault>
     requires opened { at_open ≡ D.faults store.old.first }
     requires tables { store.old.notes.sizes.tables ≡ most_tables }
+    requires in_log { fault ≡ None → (capacity : ℕ) × IsHistory capacity store.old.notes.logged }
     requires good { HasGoodDeeds
         (holding_of D.files D.changes D.moment D.faults D.row.coded.code store.old) }
     requires alone { flushing ≡ false → HasNoDeeds
@@ -114,7 +135,8 @@ pub(crate) fn settle_asked<D: Disk>(
     requires few { length store.old.files ≤ 4096 }
     requires stopped { (a n : ℕ) → fault ≡ Some (Stopped a n)
         → store.old.notes.log.is_stopped ≡ true }
-    ensures ok { result ≡ None → (fault ≡ None) × HasFinished drain
+    ensures ok { result ≡ None → (fault ≡ None) × Settles drain
+        (holding_of D.files D.changes D.moment D.faults D.row.coded.code store.old)
         (holding_of D.files D.changes D.moment D.faults D.row.coded.code store.new) }
     ensures spent { result ≡ Some Spent → fault ≡ Some Spent }
     ensures rows { (row : Row) (made : ℕ) → result ≡ Some (Rows row made)
@@ -132,10 +154,14 @@ pub(crate) fn settle_asked<D: Disk>(
         → (store.new.notes.log.is_stopped ≡ true)
         ⊎ Rose at_open (D.faults store.new.notes.log.disk) }
 {
-    if fault.is_some() || !(drain || flushing) {
+    let wanted = drain || flushing;
+    let now = store.fault_count();
+    if fault.is_some() {
         return fault;
     }
-    let now = store.fault_count();
+    if !wanted {
+        return None;
+    }
     if now != at_open || now == u64::MAX {
         return Some(WriteFault::Stopped { at_open, now });
     }

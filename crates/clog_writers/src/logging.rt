@@ -12,6 +12,10 @@ ghost use Rattle.std.specs.Prelude.{
   [],
   None,
   Some,
+  IfErr,
+  IfOk,
+  IsSome,
+  is_some,
   vec_capacity,
 };
 ghost use Rattle.clog_spec.specs.Sizes.{most_tables};
@@ -21,7 +25,7 @@ ghost use Rattle.clog_writers.specs.Logged.{EndsShares};
 ghost use Rattle.path_core.specs.Keeper.{Holding, IsFresh};
 ghost use Rattle.clog_closing.specs.Gaps.{StandApart};
 ghost use Rattle.sync_core.specs.declared.SyncCore.TheVariants.{Batch};
-ghost use Rattle.write_path.specs.Opened.{AreNew};
+ghost use Rattle.write_path.specs.Opened.{AreNew, ShowsAsBefore, sized_for};
 
 use crate::crew::{commit_all, end_all, seat_all};
 use crate::fault::WriteFault;
@@ -33,7 +37,31 @@ use path_core::Keeper;
 use std::alloc::Global;
 use std::sync::Wait;
 use std::thread::Threads;
+use sync_core::SyncCore;
 use write_path::{PathSeat, WritePath};
+
+// Opens a path, for table files where its writers flush.
+fn open_for<K: Keeper + Drop>(
+    alloc: Global,
+    keeper: K,
+    sizes: Sizes,
+    flush_at: Option<u32>,
+    base: u64,
+    mode: SyncCore,
+) -> Result<WritePath<K, Global>, (K, OutOfMemory)>
+    requires fresh { IsFresh base sizes (K.holds keeper) }
+    requires base { base < 2 ^ 62 }
+    ensures opened { IfOk result (λ p. (IsSome p.opener)
+        × (p.table.size ≡ sized_for (is_some flush_at) sizes base (K.holds keeper).at_open)
+        × (p.mode ≡ mode)) }
+    ensures first { IfOk result (λ p. p.table.table.shared.key.first.value ≡ keeper) }
+    ensures back { IfErr result (λ r. ShowsAsBefore (K.holds keeper) (K.holds r.0)) }
+{
+    match flush_at {
+        Some(_) => WritePath::open_filing(alloc, keeper, sizes, base, mode),
+        None => WritePath::open(alloc, keeper, sizes, base, mode),
+    }
+}
 
 // Workers log their shares over an open path, whose seats are handed out; then it is closed.
 fn run_crew<R: Threads + Wait + Sync, K: Keeper + Send + Drop, G: Gate + Sync, C: Clock + Sync>(
@@ -86,8 +114,8 @@ fn run_crew<R: Threads + Wait + Sync, K: Keeper + Send + Drop, G: Gate + Sync, C
 /// Logs the lines that were dealt out to workers, over a keeper that was just opened. There is room
 /// for a seat of each. With `flush_at` each worker flushes a table whenever it has logged so many
 /// updates of it since its last flush; else the keeper does nothing beside its log, whatever is
-/// refused. The gate is
-/// told how far each commit is; in periodic mode the clock is asked behind each one.
+/// refused. The gate is told how far each commit is; in periodic mode the clock is asked behind
+/// each one.
 pub fn log_shares<
     R: Threads + Wait + Sync,
     K: Keeper + Send + Drop,
@@ -117,11 +145,7 @@ pub fn log_shares<
         result.1 }
     ensures apart { syncing.mode ≡ Batch → StandApart sizes.capacity (K.holds result.0).logged }
 {
-    let opened = match flush_at {
-        Some(_) => WritePath::open_filing(alloc, keeper, sizes, base, syncing.mode),
-        None => WritePath::open(alloc, keeper, sizes, base, syncing.mode),
-    };
-    let mut path = match opened {
+    let mut path = match open_for(alloc, keeper, sizes, flush_at, base, syncing.mode) {
         Ok(path) => path,
         Err((keeper, OutOfMemory)) => return (keeper, Some(WriteFault::OutOfMemory)),
     };

@@ -104,11 +104,12 @@ fn disks_read_now<D: Disk>(_store: &Store<D>)
 /// before its next one, and in periodic mode behind each one at which the clock, in milliseconds,
 /// tells that the period has passed since its last sync.
 ///
-/// With `flush_at` each writer flushes a table once it has logged so many updates of it since its last
-/// flush, behind the sync that is due then; table files come and segments go meanwhile. With `drain`
-/// a table file is put then for each table with a line that lies in none, and all segments go. Each
-/// that goes gets its archive name first where the store archives. The receipts are in the order of
-/// the lines. The gate is told how far each commit is.
+/// With `flush_at` each writer flushes a table once it has logged so many updates of it since its
+/// last flush, behind the sync that is due then; table files come and segments go meanwhile, and
+/// all that may have gone at the end. With `drain` a table file is put then for each table with a
+/// line that lies in none, and all segments go. Each that goes gets its archive name first where
+/// the store archives. The receipts are in the order of the lines. The gate is told how far each
+/// commit is.
 ///
 /// Whatever is answered, the appends among the disk's further changes have brought segments, and no
 /// other names have come than those of these, their archive names and table files. Without
@@ -121,8 +122,8 @@ fn disks_read_now<D: Disk>(_store: &Store<D>)
 /// `OutOfMemory`: memory was refused for the path, by a sync or for the drain's table files;
 /// `Spent`: the log has no further segment, so it may have at most two segments for each line;
 /// `Rows`: no further group for a sync's barrier, so there are at least 65,535 lines, or, with
-/// `flush_at`, no further memtable of a table, of which there are 256; it tells how many there are; `Stopped`: the disk has failed, with its fault counts at the opening and
-/// now.
+/// `flush_at`, no further memtable of a table, of which there are 256; it tells how many there are;
+/// `Stopped`: the disk has failed, with its fault counts at the opening and now.
 pub fn write_plan<R: Threads + Wait + Sync, D: Disk + Send + Drop, G: Gate + Sync, C: Clock + Sync>(
     rt: &R,
     alloc: Global,

@@ -1,6 +1,6 @@
 use Rattle.std.proofs.Common.{◌≤◌, length, arith}
 use Rattle.std.proofs.lemmas.Grind.{common_steps}
-use Rattle.clog_writers.proofs.LastEnd.{last_ends}
+use Rattle.clog_closing.proofs.LastEnd.{last_ends}
 use Rattle.clog_writers.proofs.draining.end_of.Goals as goal
 
 pub returns : goal.returns

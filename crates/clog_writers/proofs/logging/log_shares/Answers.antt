@@ -12,20 +12,20 @@ use Rattle.clog_writers.proofs.logging.log_shares.Goals as goal
 
 pub returns-in-Err-clause-ends : goal.returns-in-Err-clause-ends
 returns-in-Err-clause-ends g c =
-    unopened c.args.sizes c.args.base (g.K.Keeper.holds c.args.keeper)
+    unopened c.args.sizes c.args.flush_at c.args.base (g.K.Keeper.holds c.args.keeper)
     (g.K.Keeper.holds c.in-Err.keeper) c.requires.fresh c.args.workers.items c.in-Err.ensures.back
 
 pub returns-in-Err-seats-clause-ends : goal.returns-in-Err-seats-clause-ends
 returns-in-Err-seats-clause-ends g c =
     let now = g.K.Keeper.holds c.close-keeper.result.0 in
     let closed = c.close-keeper in
-    unseated c.args.sizes c.args.base (g.K.Keeper.holds c.args.keeper) now c.requires.fresh _
-    c.args.room.items _
+    unseated c.args.sizes c.args.flush_at c.args.base (g.K.Keeper.holds c.args.keeper) now
+    c.requires.fresh _
     (ap (λ (t : PathTable g.row.K.Denot _). t.size.base) c.seats.ensures.path.0
     ∙ ap (λ (z : PathSize). z.base) c.in-Ok.ensures.opened.1)
     (ap (λ (t : PathTable g.row.K.Denot _). t.size.files) c.seats.ensures.path.0
     ∙ ap (λ (z : PathSize). z.files) c.in-Ok.ensures.opened.1)
-    closed.ensures.outcome.0
+    c.args.room.items _ closed.ensures.outcome.0
     (subst (λ (h : Holding). StaysBeside c.seats.new.self.table.size h now)
     (ap (λ (t : PathTable g.row.K.Denot _). g.K.Keeper.holds t.table.shared.key.first.value)
     c.seats.ensures.path.0 ∙ ap g.K.Keeper.holds c.in-Ok.ensures.first) closed.ensures.beside)

@@ -1,5 +1,5 @@
 use Rattle.std.proofs.Common.{◌≡◌, ℕ, ◌≤◌, inl, inr, Bool, List, length, sym, ◌∙◌, ap, subst}
-use Rattle.std.specs.Prelude.{IfOk}
+use Rattle.std.specs.Prelude.{IfOk, is_some}
 use Rattle.std.specs.Global.{Vec}
 use Rattle.clog_base.specs.declared.sizes.Sizes.{Sizes}
 use Rattle.clog_disk.specs.Files.{SameTold}
@@ -21,6 +21,7 @@ use Rattle.clog_writers.proofs.Brought.{
   brings_shares,
   first_disk,
   firsts_on,
+  flushed_on,
   its_archives,
   its_disk,
   logs_on,
@@ -30,7 +31,7 @@ use Rattle.clog_writers.proofs.Crashing.{history, says}
 use Rattle.clog_writers.proofs.Ended.{written}
 use Rattle.clog_writers.proofs.LeftBy.{all_last, least_reached, left_by}
 use Rattle.clog_writers.proofs.Running.{written_back}
-use Rattle.clog_writers.proofs.Told.{at_ok, no_fewer, runs_on}
+use Rattle.clog_writers.proofs.Told.{at_ok, no_fewer, none_of, runs_on}
 use Rattle.clog_writers.proofs.writing.write_plan.Goals as goal
 
 pub log_shares-store-requires-clause-fresh : goal.log_shares-store-requires-clause-fresh
@@ -43,29 +44,38 @@ log_shares-store-requires-clause-fresh g c κs within =
     (is_fresh D.files D.changes D.moment D.faults g.row.D.coded.code a c.requires.fresh
     c.requires.runs))
 
-pub drain_asked-fault-requires-clause-opened : goal.drain_asked-fault-requires-clause-opened
-drain_asked-fault-requires-clause-opened g c =
+pub settle_asked-fault-requires-clause-opened : goal.settle_asked-fault-requires-clause-opened
+settle_asked-fault-requires-clause-opened g c =
     let D = g.D.Disk in
     c.fault_count-at_open.ensures.count
     ∙ ap D.faults (sym (first_disk D.files D.changes D.moment D.faults g.row.D.coded c.args.store
-    c.log_shares-store.result.0 c.requires.fresh c.log_shares-store.ensures.ends.alone))
+    c.log_shares-store.result.0 c.args.flush_at c.requires.fresh
+    c.log_shares-store.ensures.ends.beside))
 
-pub drain_asked-fault-requires-clause-tables : goal.drain_asked-fault-requires-clause-tables
-drain_asked-fault-requires-clause-tables g c =
-    c.log_shares-store.ensures.ends.alone.tables_are
+pub settle_asked-fault-requires-clause-tables : goal.settle_asked-fault-requires-clause-tables
+settle_asked-fault-requires-clause-tables g c =
+    c.log_shares-store.ensures.ends.beside.tables_are
     ∙ ap (λ (z : Sizes). z.tables) (sym c.requires.sizes) ∙ c.requires.tables
 
-pub drain_asked-fault-requires-clause-none : goal.drain_asked-fault-requires-clause-none
-drain_asked-fault-requires-clause-none g c =
-    let alone = c.log_shares-store.ensures.ends.alone in
-    record {
-      no_file = alone.no_file;
-      none_dropped = alone.none_dropped;
-      none_archived = alone.none_archived;
-    }
+pub settle_asked-fault-requires-clause-in_log : goal.settle_asked-fault-requires-clause-in_log
+settle_asked-fault-requires-clause-in_log g c = λ none.
+    let plan = c.requires.plan in
+    let logs = c.log_shares-store.ensures.ends.logs plan.0 plan.1.dealt none in
+    (c.args.sizes.capacity, logs.notes.lawful)
 
-pub drain_asked-fault-requires-clause-stopped : goal.drain_asked-fault-requires-clause-stopped
-drain_asked-fault-requires-clause-stopped g c = λ a n is.
+pub settle_asked-fault-requires-clause-good : goal.settle_asked-fault-requires-clause-good
+settle_asked-fault-requires-clause-good g c = c.log_shares-store.ensures.ends.beside.good
+
+pub settle_asked-fault-requires-clause-alone : goal.settle_asked-fault-requires-clause-alone
+settle_asked-fault-requires-clause-alone g c = λ plain.
+    c.log_shares-store.ensures.ends.beside.alone
+    (none_of c.args.flush_at (sym c.is_some-flushing.ensures ∙ plain))
+
+pub settle_asked-fault-requires-clause-few : goal.settle_asked-fault-requires-clause-few
+settle_asked-fault-requires-clause-few g c = c.log_shares-store.ensures.ends.beside.few
+
+pub settle_asked-fault-requires-clause-stopped : goal.settle_asked-fault-requires-clause-stopped
+settle_asked-fault-requires-clause-stopped g c = λ a n is.
     (c.log_shares-store.ensures.ends.stops a n is).2
 
 pub returns-clause-wrote : goal.returns-clause-wrote
@@ -73,31 +83,33 @@ returns-clause-wrote g c = λ ms plan.
     let D = g.D.Disk in
     let a = c.args.store in
     let b = c.log_shares-store.result.0 in
-    let e = c.drain_asked-fault.new.store in
+    let e = c.settle_asked-fault.new.store in
+    let f = c.args.flush_at in
     let told = c.into_disk.ensures in
     let shares = c.log_shares-store.ensures.ends in
-    let drained = c.drain_asked-fault.ensures in
+    let settled = c.settle_asked-fault.ensures in
     let sizes = c.args.sizes in
     let base = c.base-base.result in
-    let logs = λ (none : _). logs_on D.files D.changes D.moment D.faults g.row.D.coded a b e
-    c.requires.fresh shares.alone drained.keeps drained.first sizes base ms
+    let logs = λ (none : _). logs_on D.files D.changes D.moment D.faults g.row.D.coded a b e f
+    c.requires.fresh shares.beside settled.keeps settled.first sizes base ms
     (shares.logs ms plan.dealt none) in
-    let has = brings_shares D.files D.changes D.moment D.faults g.row.D.coded a b e
-    c.requires.fresh shares.alone drained.keeps drained.first told.alone told.ordered told.settled
-    told.notes told.sound c.args.drain sizes base ms
-    (begun_on D.files D.changes D.moment D.faults g.row.D.coded a b e c.requires.fresh
-    shares.alone drained.keeps drained.first c.args.drain _ _ drained.begun logs) in
-    let held = firsts_on D.files D.changes D.moment D.faults g.row.D.coded a b e c.requires.fresh
-    shares.alone drained.keeps drained.first sizes.writers ms (shares.firsts ms plan.dealt) in
+    let has = brings_shares D.files D.changes D.moment D.faults g.row.D.coded a b e f
+    c.requires.fresh shares.beside settled.keeps settled.first told.alone told.ordered told.settled
+    told.notes told.sound c.args.drain sizes base ms (is_some f)
+    (λ plain. begun_on D.files D.changes D.moment D.faults g.row.D.coded a b e f c.requires.fresh
+    shares.beside settled.keeps settled.first c.args.drain _ _
+    (settled.begun (c.is_some-flushing.ensures ∙ plain)) logs) in
+    let held = firsts_on D.files D.changes D.moment D.faults g.row.D.coded a b e f c.requires.fresh
+    shares.beside settled.keeps settled.first sizes.writers ms (shares.firsts ms plan.dealt) in
     subst (λ (d : g.row.D.Denot). WritesShares D.files D.changes a.notes.log.disk d a.notes.base
-    a.archives c.args.drain sizes.writers ms) (sym told.disk)
+    (is_some f) a.archives c.args.drain sizes.writers ms) (sym told.disk)
     (record {
       log = _;
       history = history e.notes told.notes told.stored sizes.writers ms held;
       wrote = has.0;
       says = says e.notes told.notes told.stored sizes.writers ms held;
-      only = brings_only D.files D.changes D.moment D.faults g.row.D.coded a b e c.requires.fresh
-          shares.alone drained.keeps drained.first told.left;
+      only = brings_only D.files D.changes D.moment D.faults g.row.D.coded a b e f
+          c.requires.fresh shares.beside settled.keeps settled.first told.left;
     })
 
 pub returns-clause-receipts : goal.returns-clause-receipts
@@ -117,7 +129,7 @@ returns-clause-receipts g c = λ ms plan.
       low = c.base-base.ensures.fits;
       notes = b.notes.logged;
       holds = (c.log_shares-store.ensures.ends.logs ms plan.dealt
-          (c.drain_asked-fault.ensures.ok so.1).0).notes;
+          (c.settle_asked-fault.ensures.ok so.1).0).notes;
       placed = subst (λ (k : ℕ). AreAtTheirLines k b.notes.logged xs) c.base-base.ensures.base
           (subst (λ (l : List EntryNote). AreAtTheirLines c.base-base.result l xs)
           c.logged.ensures put.placed);
@@ -129,26 +141,28 @@ returns-clause-shown g c = λ ms opened plan is lasted.
     let D = g.D.Disk in
     let a = c.args.store in
     let b = c.log_shares-store.result.0 in
-    let e = c.drain_asked-fault.new.store in
+    let e = c.settle_asked-fault.new.store in
+    let f = c.args.flush_at in
     let told = c.into_disk.ensures in
     let shares = c.log_shares-store.ensures.ends in
-    let drained = c.drain_asked-fault.ensures in
+    let settled = c.settle_asked-fault.ensures in
     let sizes = c.args.sizes in
     let base = c.base-base.result in
-    let held = firsts_on D.files D.changes D.moment D.faults g.row.D.coded a b e c.requires.fresh
-    shares.alone drained.keeps drained.first sizes.writers ms (shares.firsts ms plan.dealt) in
-    let logs = λ (none : _). logs_on D.files D.changes D.moment D.faults g.row.D.coded a b e
-    c.requires.fresh shares.alone drained.keeps drained.first sizes base ms
+    let held = firsts_on D.files D.changes D.moment D.faults g.row.D.coded a b e f c.requires.fresh
+    shares.beside settled.keeps settled.first sizes.writers ms (shares.firsts ms plan.dealt) in
+    let logs = λ (none : _). logs_on D.files D.changes D.moment D.faults g.row.D.coded a b e f
+    c.requires.fresh shares.beside settled.keeps settled.first sizes base ms
     (shares.logs ms plan.dealt none) in
-    let has = brings_shares D.files D.changes D.moment D.faults g.row.D.coded a b e
-    c.requires.fresh shares.alone drained.keeps drained.first told.alone told.ordered told.settled
-    told.notes told.sound c.args.drain sizes base ms
-    (begun_on D.files D.changes D.moment D.faults g.row.D.coded a b e c.requires.fresh
-    shares.alone drained.keeps drained.first c.args.drain _ _ drained.begun logs) in
+    let has = brings_shares D.files D.changes D.moment D.faults g.row.D.coded a b e f
+    c.requires.fresh shares.beside settled.keeps settled.first told.alone told.ordered told.settled
+    told.notes told.sound c.args.drain sizes base ms (is_some f)
+    (λ plain. begun_on D.files D.changes D.moment D.faults g.row.D.coded a b e f c.requires.fresh
+    shares.beside settled.keeps settled.first c.args.drain _ _
+    (settled.begun (c.is_some-flushing.ensures ∙ plain)) logs) in
     left_by D.files D.changes D.moment D.since D.leaves D.read_at D.lasted_at
     c.disks_read_now.ensures a.notes.log.disk e
-    (its_disk D.files D.changes D.moment D.faults g.row.D.coded a b e c.requires.fresh shares.alone
-    drained.keeps drained.first) c.into_disk.result
+    (its_disk D.files D.changes D.moment D.faults g.row.D.coded a b e f c.requires.fresh
+    shares.beside settled.keeps settled.first) c.into_disk.result
     (record {
       disk = told.disk;
       opened = told.opened;
@@ -158,14 +172,14 @@ returns-clause-shown g c = λ ms opened plan is lasted.
       shown = told.shown;
       lasts = told.lasts;
     })
-    (still_told D.files D.changes D.moment D.faults g.row.D.coded a b e c.requires.fresh
-    shares.alone drained.keeps drained.first told.grown c.disks_tell_both.ensures) a.notes.base
-    a.archives c.args.drain sizes.writers (least_of c.ended-outcome.result ms) ms held
+    (still_told D.files D.changes D.moment D.faults g.row.D.coded a b e f c.requires.fresh
+    shares.beside settled.keeps settled.first told.grown c.disks_tell_both.ensures) a.notes.base
+    (is_some f) a.archives c.args.drain sizes.writers (least_of c.ended-outcome.result ms) ms held
     (least_reached c.ended-outcome.result ms (lasting_in e.notes.log)
     (at_ok c.ended-outcome.result _ (λ receipts. length ms ≤ lasting_in e.notes.log)
     c.ended-outcome.ensures.ok (λ receipts so. all_last e.notes told.notes told.stored sizes ms held
-    (logs (drained.ok so.1).0).notes))) has.0
-    (λ beyond. elim has.1 [
+    (logs (settled.ok so.1).0).notes))) has.0
+    (λ plain beyond. elim (has.1 plain) [
       | inl appends ↦ absurd (beyond.other (appends beyond.change beyond.listed))
       | inr logged ↦ all_last e.notes told.notes told.stored sizes ms held logged.notes
     ])
@@ -174,41 +188,41 @@ returns-clause-shown g c = λ ms opened plan is lasted.
 pub returns-clause-stay : goal.returns-clause-stay
 returns-clause-stay g c = λ opened now is is_now.
     let D = g.D.Disk in
-    let drained = c.drain_asked-fault.ensures in
+    let settled = c.settle_asked-fault.ensures in
     let its = its_disk D.files D.changes D.moment D.faults g.row.D.coded c.args.store
-    c.log_shares-store.result.0 c.drain_asked-fault.new.store c.requires.fresh
-    c.log_shares-store.ensures.ends.alone drained.keeps drained.first in
+    c.log_shares-store.result.0 c.settle_asked-fault.new.store c.args.flush_at c.requires.fresh
+    c.log_shares-store.ensures.ends.beside settled.keeps settled.first in
     c.into_disk.ensures.stay opened now (ap D.files its ∙ is) is_now
 
 pub returns-clause-told : goal.returns-clause-told
 returns-clause-told g c =
     let D = g.D.Disk in
     let told = c.into_disk.ensures in
-    let drained = c.drain_asked-fault.ensures in
+    let settled = c.settle_asked-fault.ensures in
     subst (λ (d : g.row.D.Denot). SameTold (D.files c.args.store.notes.log.disk) (D.files d))
     (sym told.disk)
     (still_told D.files D.changes D.moment D.faults g.row.D.coded c.args.store
-    c.log_shares-store.result.0 c.drain_asked-fault.new.store c.requires.fresh
-    c.log_shares-store.ensures.ends.alone drained.keeps drained.first told.grown
+    c.log_shares-store.result.0 c.settle_asked-fault.new.store c.args.flush_at c.requires.fresh
+    c.log_shares-store.ensures.ends.beside settled.keeps settled.first told.grown
     c.disks_tell_both.ensures)
 
 pub returns-clause-later : goal.returns-clause-later
 returns-clause-later g c =
     let D = g.D.Disk in
-    let drained = c.drain_asked-fault.ensures in
+    let settled = c.settle_asked-fault.ensures in
     subst (λ (d : g.row.D.Denot). IsLater D.moment D.read_at D.lasted_at d c.into_disk.result)
     (its_disk D.files D.changes D.moment D.faults g.row.D.coded c.args.store
-    c.log_shares-store.result.0 c.drain_asked-fault.new.store c.requires.fresh
-    c.log_shares-store.ensures.ends.alone drained.keeps drained.first) c.into_disk.ensures.later
+    c.log_shares-store.result.0 c.settle_asked-fault.new.store c.args.flush_at c.requires.fresh
+    c.log_shares-store.ensures.ends.beside settled.keeps settled.first) c.into_disk.ensures.later
 
 pub ended-outcome-requires-clause-later : goal.ended-outcome-requires-clause-later
 ended-outcome-requires-clause-later g c =
     let D = g.D.Disk in
-    let e = c.drain_asked-fault.new.store in
-    let drained = c.drain_asked-fault.ensures in
+    let e = c.settle_asked-fault.new.store in
+    let settled = c.settle_asked-fault.ensures in
     let its = its_disk D.files D.changes D.moment D.faults g.row.D.coded c.args.store
-    c.log_shares-store.result.0 e c.requires.fresh c.log_shares-store.ensures.ends.alone
-    drained.keeps drained.first in
+    c.log_shares-store.result.0 e c.args.flush_at c.requires.fresh
+    c.log_shares-store.ensures.ends.beside settled.keeps settled.first in
     let first = c.fault_count-at_open.ensures.count in
     let n = c.fault_count.ensures in
     let same = ap D.faults its ∙ sym first in
@@ -220,12 +234,12 @@ ended-outcome-requires-clause-later g c =
 pub ended-outcome-requires-clause-stopped : goal.ended-outcome-requires-clause-stopped
 ended-outcome-requires-clause-stopped g c = λ x k is.
     let D = g.D.Disk in
-    let drained = c.drain_asked-fault.ensures in
+    let settled = c.settle_asked-fault.ensures in
     let its = its_disk D.files D.changes D.moment D.faults g.row.D.coded c.args.store
-    c.log_shares-store.result.0 c.drain_asked-fault.new.store c.requires.fresh
-    c.log_shares-store.ensures.ends.alone drained.keeps drained.first in
+    c.log_shares-store.result.0 c.settle_asked-fault.new.store c.args.flush_at c.requires.fresh
+    c.log_shares-store.ensures.ends.beside settled.keeps settled.first in
     let n = c.fault_count.ensures in
-    elim (drained.stopped x k is) [
+    elim (settled.stopped x k is) [
       | inl stopped ↦ subst (λ (p : ℕ × ℕ). Rose p.0 p.1)
           (λ i. ((ap D.faults its ∙ sym c.fault_count-at_open.ensures.count) i, sym n.count i))
           (n.risen stopped)
@@ -237,12 +251,13 @@ returns-clause-written g c = λ ms options opened made plan asked is made_is.
     let D = g.D.Disk in
     let a = c.args.store in
     let b = c.log_shares-store.result.0 in
-    let e = c.drain_asked-fault.new.store in
+    let e = c.settle_asked-fault.new.store in
+    let f = c.args.flush_at in
     let told = c.into_disk.ensures in
     let shares = c.log_shares-store.ensures.ends in
-    let drained = c.drain_asked-fault.ensures in
-    let its = its_disk D.files D.changes D.moment D.faults g.row.D.coded a b e c.requires.fresh
-    shares.alone drained.keeps drained.first in
+    let settled = c.settle_asked-fault.ensures in
+    let its = its_disk D.files D.changes D.moment D.faults g.row.D.coded a b e f c.requires.fresh
+    shares.beside settled.keeps settled.first in
     let n = c.fault_count.ensures in
     let base = c.base-base.result in
     let put = c.place_receipts.ensures in
@@ -251,14 +266,14 @@ returns-clause-written g c = λ ms options opened made plan asked is made_is.
     put.long ∙ ap length c.as_mut_slice.ensures.value in
     let back = written_back c.args.plan.receipts.len xs _ (c.args.plan.receipts.ok.0 ∙ sym lent) in
     let placed = subst (λ (l : List EntryNote). AreAtTheirLines base l xs)
-    (c.logged.ensures ∙ sym (ap (λ (h : Holding). h.logged) drained.keeps)) put.placed in
+    (c.logged.ensures ∙ sym (ap (λ (h : Holding). h.logged) settled.keeps)) put.placed in
     subst (λ (d : g.row.D.Denot). IfOk c.ended-outcome.result (λ receipts.
     TellsWrittenShares options a.notes.base opened made (D.files d) (D.changes d) ms
     receipts.items)) (sym told.disk)
     (at_ok c.ended-outcome.result _ (λ receipts. TellsWrittenShares options a.notes.base opened
     made (D.files e.notes.log.disk) (D.changes e.notes.log.disk) ms receipts.items)
     c.ended-outcome.ensures.ok (λ receipts so.
-    let done = drained.ok so.1 in
+    let done = settled.ok so.1 in
     let runs = runs_on e.notes.log.is_stopped
     (Rose c.fault_count-at_open.result c.fault_count.result)
     (λ stopped. subst (λ (p : ℕ × ℕ). Rose p.0 p.1)
@@ -270,27 +285,35 @@ returns-clause-written g c = λ ms options opened made plan asked is made_is.
     (subst (λ (k : ℕ). TellsWrittenShares options k opened made (D.files e.notes.log.disk)
     (D.changes e.notes.log.disk) ms xs) c.base-base.ensures.base
     (written D.files D.changes D.moment D.faults g.row.D.coded.code c.disks_tell_both.ensures e
-    runs told.notes told.sound (told.folder runs) told.alone told.ordered
-    c.stores_are_left.ensures c.args.sizes base ms
-    (logs_on D.files D.changes D.moment D.faults g.row.D.coded a b e c.requires.fresh shares.alone
-    drained.keeps drained.first c.args.sizes base ms (shares.logs ms plan.dealt done.0))
+    runs told.notes told.sound (told.folder runs) told.ordered c.stores_are_left.ensures
+    c.args.sizes base ms
+    (logs_on D.files D.changes D.moment D.faults g.row.D.coded a b e f c.requires.fresh
+    shares.beside settled.keeps settled.first c.args.sizes base ms
+    (shares.logs ms plan.dealt done.0))
+    f c.args.drain done.1.finished
+    (flushed_on D.files D.changes D.moment D.faults g.row.D.coded a b e f c.requires.fresh
+    shares.beside settled.keeps settled.first f c.args.sizes.writers done.1.keeps
+    (shares.flushed ms plan.dealt done.0)) _
+    (λ plain. begun_on D.files D.changes D.moment D.faults g.row.D.coded a b e f c.requires.fresh
+    shares.beside settled.keeps settled.first c.args.drain _ _
+    (settled.begun (c.is_some-flushing.ensures ∙ plain)) (λ none. none))
     c.args.syncing.mode
     (λ batch. subst (λ (l : List EntryNote). StandApart c.args.sizes.capacity l)
-    (sym (ap (λ (h : Holding). h.logged) drained.keeps))
-    (c.log_shares-store.ensures.apart batch)) c.args.drain done.1 options
-    (subst (λ (x : Bool). IsAskedBy options c.args.sizes c.args.syncing.mode x c.args.drain)
-    (sym (its_archives D.files D.changes D.moment D.faults g.row.D.coded a b e c.requires.fresh
-    shares.alone drained.keeps drained.first))
-    (subst (λ (z : Sizes). IsAskedBy options z c.args.syncing.mode a.archives c.args.drain)
+    (sym (ap (λ (h : Holding). h.logged) settled.keeps))
+    (c.log_shares-store.ensures.apart batch)) options
+    (subst (λ (x : Bool). IsAskedBy options c.args.sizes c.args.syncing.mode f x c.args.drain)
+    (sym (its_archives D.files D.changes D.moment D.faults g.row.D.coded a b e f c.requires.fresh
+    shares.beside settled.keeps settled.first))
+    (subst (λ (z : Sizes). IsAskedBy options z c.args.syncing.mode f a.archives c.args.drain)
     (sym c.requires.sizes) asked)) xs placed (lent ∙ plan.receipts) opened made
     (ap D.files its ∙ is) (ap D.changes its ∙ made_is)))))
 
 pub returns-clause-spent : goal.returns-clause-spent
 returns-clause-spent g c = λ ms plan is.
     c.log_shares-store.ensures.ends.spent ms plan.dealt
-    (c.drain_asked-fault.ensures.spent (c.ended-outcome.ensures.spent is))
+    (c.settle_asked-fault.ensures.spent (c.ended-outcome.ensures.spent is))
 
 pub returns-clause-rows : goal.returns-clause-rows
-returns-clause-rows g c = λ ms plan groups is.
-    c.log_shares-store.ensures.ends.rows ms plan.dealt groups
-    (c.drain_asked-fault.ensures.rows groups (c.ended-outcome.ensures.rows groups is))
+returns-clause-rows g c = λ ms plan row made is.
+    c.log_shares-store.ensures.ends.rows ms plan.dealt row made
+    (c.settle_asked-fault.ensures.rows row made (c.ended-outcome.ensures.rows row made is))
