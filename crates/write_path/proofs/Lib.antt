@@ -13,6 +13,8 @@ pub mod Histories
 pub mod Accounted
 pub mod FewSegments
 pub mod FewGroups
+pub mod BarredMemtables
+pub mod FewWriteGroups
 pub mod NonePassed
 pub mod Parted
 pub mod CoveredFiles
@@ -55,3 +57,4 @@ pub mod FilingPuts
 pub mod FilingRounds
 pub mod FinalKeys
 pub mod FlushAnswers
+pub mod FlushOwn

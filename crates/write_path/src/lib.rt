@@ -45,7 +45,9 @@ mod writing;
 pub use accepting::Accept;
 pub use claimed::Claimed;
 pub use claiming::TryClaim;
-pub use closed_laws::{what_a_flush_covers, what_a_retired_memtable_leaves};
+pub use closed_laws::{
+    what_a_flush_covers, what_a_retired_memtable_leaves, write_groups_do_not_run_out,
+};
 pub use closing::Outcome;
 pub use commit::{Commit, Receipt, SyncFault};
 pub use deposited::Deposited;
@@ -59,6 +61,6 @@ pub use path_rule::{Advance, Begun, PathSeat, Seen, SyncAnswer};
 pub use prepared::Prepared;
 pub use seats::{Appending, WritePath};
 pub use switch::{Row, Switch};
-pub use switch_laws::what_a_switch_tells;
+pub use switch_laws::{what_a_flush_leaves, what_a_switch_tells};
 pub use turning::TurnSeat;
 pub use writing::Written;
