@@ -1,5 +1,6 @@
 pub mod Codes
 pub mod Layout
+pub mod Limits
 pub mod Lasts
 pub mod Kept
 pub mod Boxes

@@ -24,6 +24,7 @@ use Rattle.path_rule.specs.Kept.{MayBeKept}
 use Rattle.path_rule.specs.Lasts.{lasting_of, none_lasting, shown}
 use Rattle.path_rule.specs.Rule.{
   AreBuilt,
+  HasRows,
   IsFit,
   start_of,
   event_of,
@@ -94,6 +95,8 @@ pub record Ended (o : Beside) (size : PathSize) (returned : List Returned) (log 
   -- each step was of a kind that is built
   pub built : AreBuilt size.at_open (start_of size) events core run
   pub lawful : IsLawfulPath core
+  -- there are words for all groups and memtables that it made
+  pub rows : HasRows core
   pub log_is : log ≡ core.log
   pub kept_to : ℕ
   pub may_be_kept : MayBeKept core kept_to

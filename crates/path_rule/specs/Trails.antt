@@ -4,7 +4,7 @@ use Rattle.std.specs.List.{Contains}
 use mathlib.Core.Option.{some}
 use lib.ListN.{get_elem?}
 use Rattle.clog_base.specs.declared.cell.Table.{Table}
-use Rattle.op_core.specs.declared.count.Order.TheVariants.{Append}
+use Rattle.op_core.specs.declared.count.Order.{Order}
 use Rattle.path_core.specs.declared.event.ClaimKind.TheVariants.{Entry}
 use Rattle.path_core.specs.declared.event.Cursor.TheVariants.{Synced, OldestLive, Stopped}
 use Rattle.path_core.specs.declared.event.Event.{Event}
@@ -15,7 +15,7 @@ use Rattle.path_core.specs.declared.state.PathState.{PathState}
 use Rattle.path_core.specs.declared.state.WrittenFile.{WrittenFile}
 use Rattle.path_core.specs.Keys.{after, behind_marker, first_offset}
 use Rattle.path_core.specs.Markers.{HasMarkerAt}
-use Rattle.path_core.specs.Parts.{HoldsNoTurn, is_empty, memtable_of, table_of}
+use Rattle.path_core.specs.Parts.{HoldsNoTurn, groups_of, is_empty, memtable_of, table_of}
 use Rattle.path_rule.specs.declared.view.OwnStep.{OwnStep}
 use Rattle.path_rule.specs.declared.view.Returned.{Returned}
 use Rattle.path_rule.specs.declared.view.View.{View}
@@ -68,8 +68,8 @@ pub record TrailTells (capacity : ℕ) (x : PathState) (trail : List OwnStep) : 
   pub come : (key : ℕ) → Finds Log key trail → key ≤ x.log
   -- each count with which it found the log stopped, or stopped it, is that of the log
   pub stopped : (n : ℕ) → Finds (CursorWord Stopped) n trail → 0 < n → n ≡ x.stopped
-  -- each group of the append order that it found current is at or below the current one
-  pub current : (g : ℕ) → Finds (Current Append) g trail → g ≤ x.append.current
+  -- each group of an order that it found current is at or below the current one
+  pub current : (o : Order) (g : ℕ) → Finds (Current o) g trail → g ≤ (groups_of x o).current
   -- each entry was claimed behind the markers that the seat had found
   pub past : AllClaimPast capacity trail
   -- each memtable that it found final at a key, or made final there, is final at that key

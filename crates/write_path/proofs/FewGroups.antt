@@ -143,11 +143,11 @@ record IsPaid (x : PathState) : Type 0 where
   groups : x.append.current ≤ length (barred_of x.claims)
   waits : (w : ℕ) → Waits w (seat_of x w) x.claims
 
--- no other issue is that of this group
-never : (i : Issue) → (i ≡ Opened Append → ⊥) → (held : Option Issue)
-    → option_map (λ (j : Issue). i) held ≡ Some (Opened Append) → ⊥
-never i other None e = none-some (Opened Append) e
-never i other (Some j) e = other (let q : Some i ≡ Some (Opened Append) = e in cc)
+-- an issue that is another is not this one
+pub never : (i made : Issue) → (i ≡ made → ⊥) → (held : Option Issue)
+    → option_map (λ (j : Issue). i) held ≡ Some made → ⊥
+never i made other None e = none-some made e
+never i made other (Some j) e = other (let q : Some i ≡ Some made = e in cc)
 
 -- a claim more leaves what waits, and what has a barrier
 any_more : (p : ClaimOf → Bool) (cs : List ClaimOf) (c : ClaimOf) → list_any p cs ≡ true
@@ -209,13 +209,13 @@ module _ (x : PathState) (L : IsLawfulPath x) (P : IsPaid x) where
       → list_any (is_unbarred_marker (by_of e)) (claims_after x e) ≡ true
   own_waits opened (OpenGroup by Append g) wanted h = wanted.0
   own_waits opened (OpenGroup by Write g) wanted h =
-      absurd (never (Opened Write) (λ q. cc) (issue_held (seat_of x by)) h)
+      absurd (never (Opened Write) (Opened Append) (λ q. cc) (issue_held (seat_of x by)) h)
   own_waits opened (MoveCurrent by Append g) wanted h =
-      absurd (never (Moved Append) (λ q. cc) (issue_held (seat_of x by)) h)
+      absurd (never (Moved Append) (Opened Append) (λ q. cc) (issue_held (seat_of x by)) h)
   own_waits opened (MoveCurrent by Write g) wanted h =
-      absurd (never (Moved Write) (λ q. cc) (issue_held (seat_of x by)) h)
+      absurd (never (Moved Write) (Opened Append) (λ q. cc) (issue_held (seat_of x by)) h)
   own_waits opened (Expire by order g) wanted h =
-      absurd (never Rest (λ q. cc) (issue_held (seat_of x by)) h)
+      absurd (never Rest (Opened Append) (λ q. cc) (issue_held (seat_of x by)) h)
   own_waits opened (TakeTurn by Sync) wanted h =
       absurd (let q : Some Rest ≡ Some (Opened Append) = h in cc)
   own_waits opened (GiveTurn by Sync) wanted h = absurd (none-some (Opened Append) h)

@@ -13,6 +13,8 @@ pub mod Histories
 pub mod Accounted
 pub mod FewSegments
 pub mod FewGroups
+pub mod BarredMemtables
+pub mod FewWriteGroups
 pub mod NonePassed
 pub mod Parted
 pub mod CoveredFiles

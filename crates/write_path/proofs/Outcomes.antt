@@ -29,13 +29,14 @@ use Rattle.std.proofs.Common.{
 use Rattle.std.specs.List.{All, Contains, filter, range_with_len}
 use Rattle.std.specs.List.Sorted.{IsPermutation}
 use Rattle.std.proofs.lemmas.Bool.{false≢true}
-use Rattle.std.proofs.lemmas.List.{get_or_default, length-replicate}
+use Rattle.std.proofs.lemmas.List.{get_or_default, length-map, length-replicate}
 use Rattle.std.proofs.lemmas.List.Elements.{All-nil, All-cons, All-contains, All-head, All-tail}
 use Rattle.std.proofs.lemmas.List.Sorted.{
   IsPermutation-refl,
   IsPermutation-sym,
   IsPermutation-trans,
 }
+use Rattle.op_core.specs.declared.count.Order.TheVariants.{Append, Write}
 use Rattle.path_core.specs.declared.event.Event.{Event}
 use Rattle.path_core.specs.declared.note.EntryNote.{EntryNote}
 use Rattle.path_core.specs.declared.state.Claim.{Claim}
@@ -69,6 +70,7 @@ use Rattle.path_rule.specs.Lasts.{
   stopped_with,
   fault_count,
 }
+use Rattle.path_rule.specs.Limits.{most_memtables}
 use Rattle.path_rule.specs.Members.{view_of, part_of}
 use Rattle.path_rule.specs.Rule.{IsFit, start_of, event_of, steps_by}
 use Rattle.path_rule.specs.Sharing.{EndsUnused}
@@ -90,6 +92,7 @@ use Rattle.write_path.specs.Closed.{
   AreSyncedFor,
   ArePartedFor,
   FindsGroupsTo,
+  FindsWriteGroupsTo,
   HasComeFor,
   all_writes,
 }
@@ -101,9 +104,11 @@ use Rattle.write_path.proofs.AskedFiles.{asked_by}
 use Rattle.write_path.proofs.BesideStays.{none_of, none_shown}
 use Rattle.write_path.proofs.CoveredFiles.{covers, ranges_shown, true_as_shown}
 use Rattle.write_path.proofs.FewGroups.{few_groups}
+use Rattle.write_path.proofs.FewWriteGroups.{few_write_groups}
 use Rattle.write_path.proofs.FewSegments.{few_segments}
 use Rattle.write_path.proofs.FilesGiven.{CameBy, files_given}
 use Rattle.write_path.proofs.ToldFiles.{are_given, stand_for_some}
+use Rattle.path_rule.proofs.log.FilesShown.{few_files}
 use Rattle.path_rule.proofs.log.NoneDropped.{none_dropped}
 use Rattle.write_path.proofs.NonePassed.{first_part, none_passed}
 use Rattle.write_path.proofs.Parted.{parts_at}
@@ -256,7 +261,12 @@ module _ {K : Type 0} (size : PathSize) where
               (opening_lawful size.tables size.seats size.capacity size.ordinals size.base e.fit)
               e.run e.built idle in known_of x
               (λ (s : PathSeat K). TrailTells size.capacity x (view_of s.member).trail)
-              (FindsGroupsTo (length x.notes)) (λ s T g F. let low = T.current g F in
+              (FindsGroupsTo (length x.notes)) (λ s T g F. let low = T.current Append g F in
+              omega (arith, low, most)) seats E.tell;
+          few_write_groups = let most = few_write_groups size size.at_open e.events x first e.run
+              e.built e.rows in known_of x
+              (λ (s : PathSeat K). TrailTells size.capacity x (view_of s.member).trail)
+              (FindsWriteGroupsTo most_memtables) (λ s T g F. let low = T.current Write g F in
               omega (arith, low, most)) seats E.tell;
           none_passed = λ key. first_part x.capacity L.sized.limits.greatest_capacity key x.notes
               (is_history x L.claims_tile_the_log L.notes_are_claims) (none_passed x L idle);
@@ -269,6 +279,10 @@ module _ {K : Type 0} (size : PathSize) where
             none_dropped = dropped ∙ P.2;
           };
           files_are = files_are;
+          few_files = let few = few_files x L e.rows size e.filed e.dropped e.filing in
+              let as_many : length h.files ≡ length e.filed.files =
+              sym (length-map h.files put_table)
+              ∙ ap (λ (l : List PutTable). length l) files_shown in omega (arith, few, as_many);
           true_files = true_as_shown x.notes h.files e.filed.files files_shown e.filing.merged;
           dropped_in = λ o gone. e.gone o (subst (λ (l : List ℕ). Contains l o) dropped gone);
           droppable = λ o gone. let in_run = e.gone o
@@ -410,6 +424,8 @@ module _ {K : Type 0} (size : PathSize) where
             none_dropped = dropped;
           };
           files_are = ap (λ (l : List PutFile). map held_range l) no_files;
+          few_files = let none = ap (λ (l : List PutFile). length l) no_files in
+              omega (arith, none);
           true_files = λ f put. absurd (none_of no_files f put);
           dropped_in = λ o gone. absurd (none_of dropped o gone);
           droppable = λ o gone. absurd (none_of dropped o gone);
@@ -445,6 +461,9 @@ module _ {K : Type 0} (size : PathSize) where
               (sym (no_seat seats none_there)) (All-nil (AreStoppedFor h));
           few_groups = subst (λ (l : List (PathSeat K)). All (FindsGroupsTo 0) l)
               (sym (no_seat seats none_there)) (All-nil (FindsGroupsTo 0));
+          few_write_groups = subst (λ (l : List (PathSeat K)).
+              All (FindsWriteGroupsTo most_memtables) l) (sym (no_seat seats none_there))
+              (All-nil (FindsWriteGroupsTo most_memtables));
           parted = subst (λ (l : List (PathSeat K)). All (ArePartedFor size.capacity []) l)
               (sym (no_seat seats none_there)) (All-nil (ArePartedFor size.capacity []));
           sealed = subst (λ (l : List (PathSeat K)). All (λ (s : PathSeat K).

@@ -1,5 +1,6 @@
 -- A path whose seat found no room has at most two segments for each of its writes, and one whose
--- seat found no group left has a write for each group but the first.
+-- seat found no group of the append order left has a write for each group but the first. None finds
+-- no group of the write order left.
 use Rattle.std.proofs.Common.{
   ◌≡◌,
   ℕ,
@@ -28,7 +29,8 @@ use Rattle.std.proofs.lemmas.List.{length-append}
 use Rattle.std.proofs.lemmas.List.Elements.{All-contains, All-head, All-tail}
 use Rattle.std.proofs.lemmas.List.Sorted.{length_permutation}
 use mathlib.Core.Logic.{inl}
-use Rattle.op_core.specs.declared.count.Order.TheVariants.{Append}
+use Rattle.clog_base.specs.declared.cell.Table.{Table}
+use Rattle.op_core.specs.declared.count.Order.TheVariants.{Append, Write}
 use Rattle.path_core.specs.declared.event.Place.TheVariants.{Current, Log}
 use Rattle.path_core.specs.Keeper.{Holding}
 use Rattle.path_core.specs.Keys.{entry_end, fits, next_segment, ordinal_of}
@@ -39,18 +41,29 @@ use Rattle.path_rule.specs.declared.view.PathSize.{PathSize}
 use Rattle.path_rule.specs.declared.view.View.{View}
 use Rattle.path_rule.specs.Finds.{Finds}
 use Rattle.path_rule.specs.Layout.{group_rows}
+use Rattle.path_rule.specs.Limits.{most_memtables}
 use Rattle.path_rule.specs.Members.{view_of}
 use Rattle.path_rule.proofs.seats.Answering.{found_after, found_before}
 use Rattle.sync_core.specs.declared.SyncCore.TheVariants.{Batch}
 use Rattle.write_path.specs.declared.commit.Commit.TheVariants.{Unsynced}
 use Rattle.write_path.specs.declared.commit.Receipt.{Receipt}
 use Rattle.write_path.specs.declared.commit.SyncFault.TheVariants.{Rows as NoRows}
+use Rattle.write_path.specs.declared.flush.Flush.TheVariants.{Rows as FlushRows}
 use Rattle.write_path.specs.declared.prepared.Prepared.{Prepared}
-use Rattle.write_path.specs.Closed.{FindsGroupsTo, HasComeFor, IsOutcome, all_writes}
+use Rattle.write_path.specs.declared.switch.Row.TheVariants.{WriteGroups}
+use Rattle.write_path.specs.declared.switch.Switch.TheVariants.{Rows as SwitchRows}
+use Rattle.write_path.specs.Closed.{
+  FindsGroupsTo,
+  FindsWriteGroupsTo,
+  HasComeFor,
+  IsOutcome,
+  all_writes,
+}
 use Rattle.write_path.specs.Ends.{writes_of}
 use Rattle.write_path.specs.Grown.{HasGrown}
-use Rattle.write_path.specs.Promised.{WasSpent}
+use Rattle.write_path.specs.Promised.{WasFlushed, WasSpent}
 use Rattle.write_path.specs.Receipts.{IsCommitted}
+use Rattle.write_path.specs.Switched.{Switches}
 use Rattle.write_path.specs.Syncs.{Syncs}
 
 -- an entry that is claimed at a key ends in its segment, or in the next one
@@ -108,6 +121,30 @@ module _ {K : Type 0} (size : PathSize) (seats : List (PathSeat K)) (end : ℕ) 
         (found_before (Current Append) last since.newer after found)) in
         let long = length_permutation (all_writes seats) O.core.notes O.of_writes in
         omega (arith, next, all, most, long)
+
+  -- it never found that of the write order
+  module _ (s : PathSeat K) (one : Contains seats s) (last : ℕ) (all : suc last ≡ group_rows)
+      (after : List OwnStep) (since : HasGrown after (view_of s.member).trail) where
+    never_last : Finds (Current Write) last after → ⊥
+    never_last found =
+        let most = All-contains (FindsWriteGroupsTo most_memtables) seats s O.few_write_groups one
+        last (subst (λ (l : List OwnStep). Finds (Current Write) last l) (sym since.is)
+        (found_before (Current Write) last since.newer after found)) in omega (arith, all, most)
+
+  pub flushed_never : (s : PathSeat K) → Contains seats s → (t : Table) (made : ℕ)
+      → ¬ WasFlushed s.member.number t (FlushRows WriteGroups made) (view_of s.member).trail
+  flushed_never s one t made W = let F = W.flushes in let R = F.is in
+      never_last s one R.0 R.2.0 W.after.trail W.since
+      (subst (λ (l : List OwnStep). Finds (Current Write) R.0 l) (sym F.steps.trail)
+      (found_after (Current Write) R.0 F.steps.steps W.before.trail R.2.2))
+
+  pub switched_never : (s : PathSeat K) → Contains seats s → (w t made : ℕ) (before after : View)
+      → Switches w t before (SwitchRows WriteGroups made) after
+      → ¬ HasGrown after.trail (view_of s.member).trail
+  switched_never s one w t made before after S since = let R = S.is in
+      never_last s one R.0 R.2.0 after.trail since
+      (subst (λ (l : List OwnStep). Finds (Current Write) R.0 l) (sym S.steps.trail)
+      (found_after (Current Write) R.0 S.steps.steps before.trail R.2.2))
 
   pub synced_many : (s : PathSeat K) → Contains seats s → (w opened groups : ℕ)
       (before after : View) → Syncs w opened before (Rows groups) after

@@ -21,7 +21,7 @@ use Rattle.std.specs.List.{All, Contains, filter, flat_map, range_with_len}
 use Rattle.std.specs.List.Sorted.{IsPermutation}
 use Rattle.atomic_table.specs.Seated.{TableId}
 use Rattle.clog_cells.specs.Merge.{IsMergeOf}
-use Rattle.op_core.specs.declared.count.Order.TheVariants.{Append}
+use Rattle.op_core.specs.declared.count.Order.TheVariants.{Append, Write}
 use Rattle.path_core.specs.declared.event.Cursor.TheVariants.{Synced, Stopped}
 use Rattle.path_core.specs.declared.event.Event.{Event}
 use Rattle.path_core.specs.declared.event.Place.TheVariants.{Current, CursorWord, Log}
@@ -42,6 +42,7 @@ use Rattle.path_rule.specs.declared.view.Returned.{Returned}
 use Rattle.path_rule.specs.Filing.{IsCellBetween, file_range}
 use Rattle.path_rule.specs.Finds.{Finds}
 use Rattle.path_rule.specs.Lasts.{fault_count, stopped_with}
+use Rattle.path_rule.specs.Limits.{most_memtables}
 use Rattle.path_rule.specs.Members.{view_of, part_of, IsOf, returned_of}
 use Rattle.path_rule.specs.Rule.{AreBuilt, IsFit, start_of, event_of, steps_by}
 use Rattle.write_path.specs.declared.resting.Resting.{Resting}
@@ -103,6 +104,10 @@ HasComeFor end s = (key : ℕ) → Finds Log key (view_of s.member).trail → ke
 abbrev pub FindsGroupsTo : {K : Type 0} → ℕ → PathSeat K → Type 0
 FindsGroupsTo last s = (g : ℕ) → Finds (Current Append) g (view_of s.member).trail → g ≤ last
 
+-- The same of the write order.
+abbrev pub FindsWriteGroupsTo : {K : Type 0} → ℕ → PathSeat K → Type 0
+FindsWriteGroupsTo last s = (g : ℕ) → Finds (Current Write) g (view_of s.member).trail → g ≤ last
+
 -- The keeper that a path gives back has beside its log what the one had over which it was opened:
 -- the same disk at the opening. Where the path was opened for no table files it has none, and no
 -- archive name, where there was none.
@@ -162,6 +167,8 @@ pub record IsOutcome {K : Type 0} (size : PathSize) (seats : List (PathSeat K)) 
   pub few_segments : ordinal_of end ≤ 2 * length core.notes - 1
   -- a seat found at most one group of the append order current for each write, but for the first
   pub few_groups : All (FindsGroupsTo (length core.notes)) seats
+  -- and at most one group of the write order for each memtable that there is a word for
+  pub few_write_groups : All (FindsWriteGroupsTo most_memtables) seats
   -- its first entries pass over no segment, up to whatever key
   pub none_passed : (key : ℕ) → PassesNoSegment (filter (is_at_most key) core.notes)
   -- the keeper has what the run made lasting
@@ -170,6 +177,8 @@ pub record IsOutcome {K : Type 0} (size : PathSize) (seats : List (PathSeat K)) 
   pub unfiled : size.files ≡ false → IsUnfiled core h
   -- the keeper's table files and those of the run stand for the same intervals, in one order
   pub files_are : map held_range h.files ≡ map file_range core.files
+  -- it has at most one for each memtable that there is a word for
+  pub few_files : length h.files ≤ most_memtables
   -- each has the newest cells of what the history has in its interval
   pub true_files : (f : PutFile) → Contains h.files f
       → IsMergeOf (IsCellBetween core.notes f.table f.lower f.upper) f.cells

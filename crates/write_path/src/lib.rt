@@ -45,7 +45,9 @@ mod writing;
 pub use accepting::Accept;
 pub use claimed::Claimed;
 pub use claiming::TryClaim;
-pub use closed_laws::{what_a_flush_covers, what_a_retired_memtable_leaves};
+pub use closed_laws::{
+    what_a_flush_covers, what_a_retired_memtable_leaves, write_groups_do_not_run_out,
+};
 pub use closing::Outcome;
 pub use commit::{Commit, Receipt, SyncFault};
 pub use deposited::Deposited;

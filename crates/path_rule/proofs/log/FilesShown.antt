@@ -66,6 +66,7 @@ use Rattle.path_rule.specs.Filing.{
   upper_of,
 }
 use Rattle.path_rule.specs.Lasts.{lasting_of, put_table, shown}
+use Rattle.path_rule.specs.Limits.{most_memtables}
 use Rattle.path_rule.specs.Rule.{HasRows}
 use Rattle.path_rule.proofs.log.FilingStays.{written_of}
 
@@ -131,7 +132,7 @@ retired_few x L rows (suc n) = let few = retired_few x L rows n in
 
 pub few_files : {b : Beside} (x : PathState) → IsLawfulPath x → HasRows x → (size : PathSize)
     (filed : Filed) (dropped : List ℕ) → HasFiled b size x filed dropped
-    → length filed.files ≤ 4096
+    → length filed.files ≤ most_memtables
 few_files x L rows size filed dropped F = let same = as_many filed.files x.files F.ranged in
     let few = F.few in let most = retired_few x L rows 16 in omega arith
 

@@ -20,6 +20,7 @@ use Rattle.std.proofs.Common.{
 use Rattle.std.proofs.lemmas.Option.{same_Some}
 use mathlib.Core.Option.{some, some-ne-none}
 use lib.ListN.{get_elem?}
+use Rattle.op_core.specs.declared.count.Order.{Order}
 use Rattle.op_core.specs.declared.count.Order.TheVariants.{Append, Write}
 use Rattle.path_core.specs.declared.event.ClaimKind.TheVariants.{Entry, Marker}
 use Rattle.path_core.specs.declared.event.Cursor.{Cursor}
@@ -58,6 +59,7 @@ use Rattle.path_core.specs.Allowed.{IsStep}
 use Rattle.path_core.specs.Keys.{after}
 use Rattle.path_core.specs.Lawful.{IsLawfulPath}
 use Rattle.path_core.specs.Next.{next_of}
+use Rattle.path_core.specs.Parts.{groups_of}
 use Rattle.path_core.specs.SeatAfter.{Told, seat_after}
 use Rattle.path_core.specs.Words.{reading, place_of}
 use Rattle.path_core.proofs.log.LogGrows.{log_grows}
@@ -89,7 +91,7 @@ nothing_tells capacity x = record {
   synced = λ key F. absurd F;
   come = λ key F. absurd F;
   stopped = λ n F above. absurd F;
-  current = λ g F. absurd F;
+  current = λ o g F. absurd F;
   past = tt;
   final = λ t m key F. absurd F;
   retired = λ t n F. absurd F;
@@ -152,8 +154,8 @@ module _ (capacity : ℕ) (x : PathState) (L : IsLawfulPath x) (fits : x.capacit
     come = λ key F. let low = T.come key F in
         let up = log_grows x L.sized L.claims_tile_the_log e a in omega arith;
     stopped = λ n F above. stays_stopped e a n above (T.stopped n F above);
-    current = λ g F. let low = T.current g F in let up = (groups_move x L.orders Append e a).current
-        in omega arith;
+    current = λ o g F. let low = T.current o g F in
+        let up = (groups_move x L.orders o e a).current in omega arith;
     past = T.past;
     final = λ t m key F. final_still x L e a t m key (T.final t m key F);
     retired = λ t n F. retired_still x L e a t.0 n (T.retired t n F);
@@ -227,31 +229,36 @@ module _ (capacity : ℕ) (x : PathState) (L : IsLawfulPath x) (fits : x.capacit
     new_come (TakeTurn by turn) same key F = absurd F
     new_come (GiveTurn by turn) same key F = absurd F
 
-    new_current : (e : Event) → Same e → (g : ℕ) → FindsBy (Current Append) g e found
-        → g ≤ (next_of x e).append.current
-    new_current (Look by (Current Append)) same g F = let is = same_Some found x.append.current
+    new_current : (o : Order) (e : Event) → Same e → (g : ℕ) → FindsBy (Current o) g e found
+        → g ≤ (groups_of (next_of x e) o).current
+    new_current Append (Look by (Current Append)) same g F =
+        let is = same_Some found x.append.current
         (ap (λ (s : Seat). s.found.append.current) same) in let n = F.1 in omega arith
-    new_current (Look by (Current Write)) same g F = absurd (let q = F.0 in cc)
-    new_current (Look by Log) same g F = absurd (let q = F.0 in cc)
-    new_current (Look by (CursorWord c)) same g F = absurd (let q = F.0 in cc)
-    new_current (Look by (Count o h)) same g F = absurd (let q = F.0 in cc)
-    new_current (Look by (Oldest o)) same g F = absurd (let q = F.0 in cc)
-    new_current (Look by (Newest t)) same g F = absurd (let q = F.0 in cc)
-    new_current (Look by (Bound t m)) same g F = absurd (let q = F.0 in cc)
-    new_current (Look by (TurnWord turn)) same g F = absurd (let q = F.0 in cc)
-    new_current (Put by cursor value) same g F = absurd (let q = F.0 in cc)
-    new_current (Register by o h) same g F = absurd F
-    new_current (Close by o h carried) same g F = absurd F
-    new_current (OpenGroup by o h) same g F = absurd F
-    new_current (MoveCurrent by o h) same g F = absurd F
-    new_current (Expire by o h) same g F = absurd F
-    new_current (Advance by o h) same g F = absurd F
-    new_current (Claim by from to what) same g F = absurd F
-    new_current (Switch by t m part) same g F = absurd F
-    new_current (Raise by t m to) same g F = absurd F
-    new_current (Finalise by t m) same g F = absurd F
-    new_current (TakeTurn by turn) same g F = absurd F
-    new_current (GiveTurn by turn) same g F = absurd F
+    new_current Write (Look by (Current Write)) same g F =
+        let is = same_Some found x.write.current
+        (ap (λ (s : Seat). s.found.write.current) same) in let n = F.1 in omega arith
+    new_current Append (Look by (Current Write)) same g F = absurd (let q = F.0 in cc)
+    new_current Write (Look by (Current Append)) same g F = absurd (let q = F.0 in cc)
+    new_current o (Look by Log) same g F = absurd (let q = F.0 in cc)
+    new_current o (Look by (CursorWord c)) same g F = absurd (let q = F.0 in cc)
+    new_current o (Look by (Count p h)) same g F = absurd (let q = F.0 in cc)
+    new_current o (Look by (Oldest p)) same g F = absurd (let q = F.0 in cc)
+    new_current o (Look by (Newest t)) same g F = absurd (let q = F.0 in cc)
+    new_current o (Look by (Bound t m)) same g F = absurd (let q = F.0 in cc)
+    new_current o (Look by (TurnWord turn)) same g F = absurd (let q = F.0 in cc)
+    new_current o (Put by cursor value) same g F = absurd (let q = F.0 in cc)
+    new_current o (Register by p h) same g F = absurd F
+    new_current o (Close by p h carried) same g F = absurd F
+    new_current o (OpenGroup by p h) same g F = absurd F
+    new_current o (MoveCurrent by p h) same g F = absurd F
+    new_current o (Expire by p h) same g F = absurd F
+    new_current o (Advance by p h) same g F = absurd F
+    new_current o (Claim by from to what) same g F = absurd F
+    new_current o (Switch by t m part) same g F = absurd F
+    new_current o (Raise by t m to) same g F = absurd F
+    new_current o (Finalise by t m) same g F = absurd F
+    new_current o (TakeTurn by turn) same g F = absurd F
+    new_current o (GiveTurn by turn) same g F = absurd F
 
     new_stopped : (e : Event) → Same e → (n : ℕ) → FindsBy (CursorWord Stopped) n e found
         → n ≡ (next_of x e).stopped
@@ -290,7 +297,7 @@ module _ (capacity : ℕ) (x : PathState) (L : IsLawfulPath x) (fits : x.capacit
       come = λ key F. ⊎_elim (λ now. new_come e same key now) (λ old. S.come key old) F;
       stopped = λ n F above. ⊎_elim (λ now. new_stopped e same n now)
           (λ old. S.stopped n old above) F;
-      current = λ g F. ⊎_elim (λ now. new_current e same g now) (λ old. S.current g old) F;
+      current = λ o g F. ⊎_elim (λ now. new_current o e same g now) (λ old. S.current o g old) F;
       past = (new_past e a ts T, T.past);
       final = λ t m key F. ⊎_elim
           (λ now. new_final x L found filed e a true_told t m key now)

@@ -207,6 +207,7 @@ module _ {K : Type 0} (shows : K → Lasting) (o : Beside) where
           run = ran.0;
           built = ran.1;
           lawful = core_lawful shows o key s r;
+          rows = r.rows;
           log_is = sym (at_four ws 4 log e) ∙
               (ap (λ (l : List ℕ). slice_index l 4) (sym f.2) ∙ r.words Log tt);
           kept_to = r.kept_to;
