@@ -57,3 +57,4 @@ pub mod FilingPuts
 pub mod FilingRounds
 pub mod FinalKeys
 pub mod FlushAnswers
+pub mod FlushOwn

@@ -16,7 +16,7 @@ use Rattle.write_path.specs.FlushTurns.{IsDrained, IsHolder}
 -- Seat w made memtable m of table t final at a key, at or above which it wrote nothing. What it
 -- knows of its boxes, and of the Sync turn, is what it knew.
 pub record MadeFinal (w t m key : ℕ) (v after : View) : Type 0 where
-  pub made : FlushSteps w v after
+  pub made : FlushSteps w t v after
   pub set : Finalises w t m key made.steps
   pub kept : RetiresNone made.steps
   pub wrote : WroteBelow key after.trail
@@ -30,7 +30,7 @@ pub record MadeFinal (w t m key : ℕ) (v after : View) : Type 0 where
 
 -- The barrier is passed since. What it knows of its boxes is what it knew.
 pub record SwitchedTo (w t m key : ℕ) (v after : View) : Type 0 where
-  pub made : FlushSteps w v after
+  pub made : FlushSteps w t v after
   pub set : Finalises w t m key made.steps
   pub kept : RetiresNone made.steps
   pub wrote : WroteBelow key after.trail

@@ -50,10 +50,10 @@ IsFlush w t v (Stopped at_open now) steps after =
     × (WaitsStill w t steps ⊎ FilesOne w t steps)
 IsFlush w t v OutOfMemory steps after = WaitsStill w t steps
 
--- A flush of table t by seat w answered this. The seat made steps of a flush alone, and its list is
--- as it was.
+-- A flush of table t by seat w answered this. The seat made steps of a flush of that table alone,
+-- and its list is as it was.
 pub record Flushes (w t : ℕ) (v : View) (answer : Flush) (after : View) : Type 0 where
-  pub steps : FlushSteps w v after
+  pub steps : FlushSteps w t v after
   pub list : writes_of after.trail ≡ writes_of v.trail
   pub is : IsFlush w t v answer steps.steps after
 

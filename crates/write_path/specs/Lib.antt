@@ -16,6 +16,7 @@ pub mod Commits
 pub mod Receipts
 pub mod Promised
 pub mod FlushSteps
+pub mod Unretired
 pub mod Switched
 pub mod SwitchedRows
 pub mod FlushedRows

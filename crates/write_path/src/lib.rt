@@ -61,6 +61,6 @@ pub use path_rule::{Advance, Begun, PathSeat, Seen, SyncAnswer};
 pub use prepared::Prepared;
 pub use seats::{Appending, WritePath};
 pub use switch::{Row, Switch};
-pub use switch_laws::what_a_switch_tells;
+pub use switch_laws::{what_a_flush_leaves, what_a_switch_tells};
 pub use turning::TurnSeat;
 pub use writing::Written;

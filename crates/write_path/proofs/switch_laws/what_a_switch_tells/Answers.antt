@@ -13,7 +13,13 @@ pub returns-clause-second : goal.returns-clause-second
 returns-clause-second c = inl (refl, refl, refl, refl)
 
 pub returns-clause-list : goal.returns-clause-list
-returns-clause-list c = λ before. ((refl, (refl, (refl, (refl, (refl, tt))))), refl)
+returns-clause-list c = λ before. (
+  ((refl, refl), ((refl, refl), (refl, ((refl, refl), ((refl, refl), tt))))),
+  refl,
+)
+
+pub returns-clause-other : goal.returns-clause-other
+returns-clause-other c = λ A. absurd (let q = A.0.1 in omega (arith, q))
 
 pub returns-clause-looked : goal.returns-clause-looked
 returns-clause-looked c = λ before. refl

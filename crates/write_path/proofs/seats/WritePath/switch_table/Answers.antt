@@ -69,9 +69,9 @@ returns-clause-switched g c = let m = c.args.member in
     let W = c.write_barrier-holder in let M = F.ensures.made in let t = c.args.table.0 in
     let k = c.args.newest in let w = m.number in let key = F.result.0 in
     let n1 = S.ensures.same.1 in let n2 = F.ensures.same.1 ∙ n1 in
-    let look = of_round w [] m.seat.me.0 S.new.member.seat.me.0
+    let look = of_round {t = t} w [] m.seat.me.0 S.new.member.seat.me.0
     (one w (Look w (Current Write)) S.result _ _ refl S.ensures.step) in
-    let wait = of_round F.new.member.number [] _ _ W.ensures.steps in record {
+    let wait = of_round {t = t} F.new.member.number [] _ _ W.ensures.steps in record {
       made = next w F.new.member.number _ _ _ n2 (next w S.new.member.number _ _ _ n1 look M.made)
           wait;
       set = final_behind w t k key wait.steps (M.made.steps ++ look.steps)
