@@ -27,13 +27,13 @@ use Rattle.std.proofs.Common.{
 use Rattle.std.specs.Prelude.{Contains, IsTrue}
 use Rattle.std.proofs.lemmas.Bool.{cases_lt, eq-eqb, false≢true}
 use Rattle.std.proofs.lemmas.List.Elements.{Contains-append_left, Contains-append_right}
-use Rattle.clog_spec.specs.Sizes.{most_segments, most_tables}
+use Rattle.clog_spec.specs.Sizes.{most_tables}
 use Rattle.clog_base.proofs.Members.{here, in_map, nothing_there}
 use Rattle.clog_mutation.specs.declared.mutation.Update.{Update}
 use Rattle.path_core.specs.declared.note.EntryNote.{EntryNote}
 use Rattle.path_core.specs.Droppable.{is_of}
 use Rattle.path_core.specs.History.{IsHistory}
-use Rattle.path_core.specs.Keeper.{Holding, IsFiledIn, MayDrop, PutFile, upper_from}
+use Rattle.path_core.specs.Keeper.{Holding, IsFiledIn, PutFile, upper_from}
 use Rattle.path_core.specs.Keys.{ordinal_of}
 use Rattle.path_core.specs.Parts.{touches}
 use Rattle.path_core.specs.Whole.{IsWhole}
@@ -107,52 +107,52 @@ undrained before now ms drains = record {
 
 module _ (h : Holding) (capacity : ℕ) (in_log : IsHistory capacity h.logged) (ms : List Memtable)
     (are : AreMemtablesFor h ms) (now : Holding) (keeps : KeepsLog h now) (drains : Drains h now ms)
-    where
-  -- an entry up to the end of its table's last file
-  filed_before : (t : ℕ) (n : EntryNote) → Contains h.logged n → n.end.0 ≤ upper_from t 0 h.files
-      → IsFiledIn h.files t n.end.0
-  filed_before t n among low =
-      let inside = in_log.each n among in
-      holds_each t h.files (front_sequence h.files (files_of ms)
-      (subst AreInSequence drains.files_are drains.good.in_sequence)) n.end.0
-      (omega (arith, inside.behind_front, inside.long)) low
+  where
+    -- an entry up to the end of its table's last file
+    filed_before : (t : ℕ) (n : EntryNote) → Contains h.logged n → n.end.0 ≤ upper_from t 0 h.files
+        → IsFiledIn h.files t n.end.0
+    filed_before t n among low =
+        let inside = in_log.each n among in
+        holds_each t h.files (front_sequence h.files (files_of ms)
+        (subst AreInSequence drains.files_are drains.good.in_sequence)) n.end.0
+        (omega (arith, inside.behind_front, inside.long)) low
 
-  -- and one above it
-  filed_then : (t : ℕ) (n : EntryNote) → t < most_tables → Contains h.logged n
-      → IsTrue (touches n.tables t) → upper_from t 0 h.files < n.end.0
-      → IsFiledIn (files_of ms) t n.end.0
-  filed_then t n low among bit above =
-      let has = are.every t low
-      (record { note = n; among = among; bit = bit; above = above }) in
-      let m = has.memtable in
-      let is = are.each m has.among in
-      let lower : m.interval.lower.0 ≡ upper_from m.interval.table.0 0 h.files = is.lower_is in
-      let upper = is.upper_is in
-      let same = ap (λ (k : ℕ). upper_from k 0 h.files) has.table_is in
-      let end = up_to_last capacity h.logged in_log n among in
-      record {
-        file = file_of m;
-        among = in_map file_of ms m has.among;
-        of_table = has.table_is;
-        above = omega (arith, lower, same, above);
-        up_to = omega (arith, upper, end);
-      }
+    -- and one above it
+    filed_then : (t : ℕ) (n : EntryNote) → t < most_tables → Contains h.logged n
+        → IsTrue (touches n.tables t) → upper_from t 0 h.files < n.end.0
+        → IsFiledIn (files_of ms) t n.end.0
+    filed_then t n low among bit above =
+        let has = are.every t low
+        (record { note = n; among = among; bit = bit; above = above }) in
+        let m = has.memtable in
+        let is = are.each m has.among in
+        let lower : m.interval.lower.0 ≡ upper_from m.interval.table.0 0 h.files = is.lower_is in
+        let upper = is.upper_is in
+        let same = ap (λ (k : ℕ). upper_from k 0 h.files) has.table_is in
+        let end = up_to_last capacity h.logged in_log n among in
+        record {
+          file = file_of m;
+          among = in_map file_of ms m has.among;
+          of_table = has.table_is;
+          above = omega (arith, lower, same, above);
+          up_to = omega (arith, upper, end);
+        }
 
-  all_filed : AreAllFiled now
-  all_filed n listed t low bit =
-      let among = subst (λ (l : List EntryNote). Contains l n)
-      (ap (λ (k : Holding). k.logged) keeps) listed in
-      subst (λ (l : List PutFile). IsFiledIn l t n.end.0) (sym drains.files_are)
-      (elim (cases_lt (upper_from t 0 h.files) n.end.0) [
-        | inl above ↦
-            filed_on (files_of ms) (h.files ++ files_of ms) t n.end.0
-            (λ f there. Contains-append_right h.files (files_of ms) f there)
-            (filed_then t n low among bit above)
-        | inr below ↦
-            filed_on h.files (h.files ++ files_of ms) t n.end.0
-            (λ f there. Contains-append_left h.files (files_of ms) f there)
-            (filed_before t n among (omega (arith, below)))
-      ])
+    all_filed : AreAllFiled now
+    all_filed n listed t low bit =
+        let among = subst (λ (l : List EntryNote). Contains l n)
+        (ap (λ (k : Holding). k.logged) keeps) listed in
+        subst (λ (l : List PutFile). IsFiledIn l t n.end.0) (sym drains.files_are)
+        (elim (cases_lt (upper_from t 0 h.files) n.end.0) [
+          | inl above ↦
+              filed_on (files_of ms) (h.files ++ files_of ms) t n.end.0
+              (λ f there. Contains-append_right h.files (files_of ms) f there)
+              (filed_then t n low among bit above)
+          | inr below ↦
+              filed_on h.files (h.files ++ files_of ms) t n.end.0
+              (λ f there. Contains-append_left h.files (files_of ms) f there)
+              (filed_before t n among (omega (arith, below)))
+        ])
 
-  pub drained : HasFinished true now
-  drained = record { good = drains.good; gone = drains.gone; filed = λ all. all_filed }
+    pub drained : HasFinished true now
+    drained = record { good = drains.good; gone = drains.gone; filed = λ all. all_filed }

@@ -1,5 +1,5 @@
 -- A keeper goes on beside its log, which stays: table files are put, and segments go.
-use Rattle.std.proofs.Common.{◌≡◌, List, ◌++◌, refl, ◌∙◌, ap}
+use Rattle.std.proofs.Common.{◌≡◌, ℕ, List, ◌++◌, refl, ◌∙◌, ap}
 use Rattle.std.specs.Prelude.{Bool, Result, false, ◌||◌}
 use Rattle.path_core.specs.declared.keeper.KeeperFault.{KeeperFault}
 use Rattle.path_core.specs.Keeper.{

@@ -26,7 +26,7 @@ use Rattle.std.proofs.Common.{
 }
 use Rattle.std.specs.Prelude.{Contains}
 use Rattle.std.specs.List.{AllPairs}
-use Rattle.std.proofs.lemmas.Bool.{cases_eq, true≢false}
+use Rattle.std.proofs.lemmas.Bool.{cases_eq}
 use Rattle.std.proofs.lemmas.List.Elements.{
   Contains-append_cases,
   Contains-append_left,
@@ -98,7 +98,7 @@ holds_on h k f logged holds = record {
   up_to = holds.up_to;
 }
 
-merged_on : (h k : Holding) (f : PutFile) → k.logged ≡ h.logged
+pub merged_on : (h k : Holding) (f : PutFile) → k.logged ≡ h.logged
     → IsMergeOf (IsLoggedCell h f) f.cells → IsMergeOf (IsLoggedCell k f) f.cells
 merged_on h k f logged merged =
     of_same (IsLoggedCell h f) (IsLoggedCell k f) f.cells

@@ -1,30 +1,8 @@
 -- How far a run of lines reaches that pass over no segment: its segments, and its table files.
-use Rattle.std.proofs.Common.{
-  ◌≡◌,
-  ℕ,
-  ◌+◌,
-  ◌-◌,
-  ◌<◌,
-  ◌≤◌,
-  inl,
-  inr,
-  true,
-  List,
-  [],
-  ◌∷◌,
-  None,
-  length,
-  map,
-  sym,
-  ◌∙◌,
-  ap,
-  subst,
-  arith,
-}
+use Rattle.std.proofs.Common.{◌≡◌, ℕ, ◌+◌, ◌-◌, ◌<◌, ◌≤◌, inl, inr, true, List, None, length, map, sym, ◌∙◌, ap, subst, arith}
 use Rattle.std.specs.Prelude.{Contains}
 use Rattle.std.specs.List.{AllPairs, range_with_len}
 use Rattle.std.proofs.lemmas.Bool.{cases_lt}
-use Rattle.clog_base.specs.declared.position.Position.{Position}
 use Rattle.clog_base.specs.declared.sizes.Sizes.{Sizes}
 use Rattle.clog_base.specs.Positions.{ordinal_of, position_of}
 use Rattle.clog_base.proofs.Members.{from_map}
@@ -34,7 +12,6 @@ use Rattle.clog_words.specs.declared.request.ApplyOptions.{ApplyOptions}
 use Rattle.path_core.specs.declared.note.EntryNote.{EntryNote}
 use Rattle.path_core.specs.History.{IsHistory}
 use Rattle.path_core.specs.Keeper.{Holding, PutFile}
-use Rattle.path_core.specs.Keys.{after}
 use Rattle.clog_store.specs.NoteLog.{EndsThere}
 use Rattle.clog_store.specs.OnDisk.{file_on}
 use Rattle.clog_store.proofs.FolderEnds.{after_at_most, after_first}
