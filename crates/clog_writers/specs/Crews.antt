@@ -60,6 +60,11 @@ pub record IsSizedAs (size : PathSize) (sizes : Sizes) : Type 0 where
   pub writers : sizes.writers ≡ size.seats
   pub capacity : sizes.capacity ≡ size.capacity
 
+-- a sync alone lacks a word where writers do not flush
+abbrev pub MayLack : Option ℕ → Option WriteFault → Type 0
+MayLack flush fault = (row : Row) (made : ℕ) → fault ≡ Some (Rows row made) → flush ≡ None
+    → row ≡ AppendGroups
+
 module _ {K : Type 0} where
   -- The worker has the writes of its lines, all of them prepared, and where writers flush how many
   -- updates of each table they have.
@@ -117,11 +122,6 @@ module _ {K : Type 0} where
   KnowsWhy size (Some Spent) s = KnowsSpent size s
   KnowsWhy size (Some (Stopped at_open now)) s = KnowsStopped size at_open now s
   KnowsWhy size (Some (Rows row made)) s = KnowsRows row made s
-
-  -- a sync alone lacks a word where writers do not flush
-  abbrev pub MayLack : Option ℕ → Option WriteFault → Type 0
-  MayLack flush fault = (row : Row) (made : ℕ) → fault ≡ Some (Rows row made) → flush ≡ None
-      → row ≡ AppendGroups
 
   -- The worker has logged its lines, or the first of them, and its seat knows why no more. Where
   -- nothing was refused and it flushes, it has flushed all but the newest of each table.

@@ -16,10 +16,11 @@ use Rattle.std.specs.Prelude.{
   None,
   ⊤,
 }
-use Rattle.std.specs.List.{Contains, sum_by}
+use Rattle.std.specs.List.{Contains, count_by, sum_by}
 use Rattle.clog_spec.specs.Sizes.{most_tables}
-use Rattle.clog_base.specs.declared.cell.Table.{Table}
-use Rattle.clog_applied.specs.Flushed.{updates_in}
+use Rattle.clog_mutation.specs.declared.mutation.Mutation.{Mutation}
+use Rattle.clog_mutation.specs.declared.mutation.Update.{Update}
+use Rattle.clog_applied.specs.Flushed.{is_update_of, updates_in}
 use Rattle.clog_applied.specs.History.{Line}
 use Rattle.path_core.specs.declared.note.EntryNote.{EntryNote}
 use Rattle.path_rule.specs.declared.trying.PathSeat.{PathSeat}
@@ -35,22 +36,37 @@ use Rattle.clog_writers.specs.Shares.{AreWritesOf, logged_by}
 abbrev pub updates_for : ℕ → List Line → ℕ
 updates_for t lines = sum_by (updates_in (record { 0 = t })) lines
 
--- the updates of a line are counted, table by table
-abbrev pub IsCountOf : Line → LineCounts → Type 0
-IsCountOf line counts =
-    (t : ℕ) → t < most_tables → slice_index counts.of_tables t ≡ updates_for t (line ∷ [])
+-- these are the numbers of updates of each table among some
+abbrev pub HasCounts : List Update → List ℕ → Type 0
+HasCounts updates counts = (t : ℕ) → t < most_tables
+    → slice_index counts t ≡ count_by (is_update_of (record { 0 = t })) updates
+
+-- the updates of a mutation are counted, table by table
+abbrev pub IsCountOf : Mutation → LineCounts → Type 0
+IsCountOf m counts = HasCounts m.updates counts.of_tables
 
 -- those of lines, one by one
 abbrev pub AreCountsOf : List Line → List LineCounts → Type 0
 AreCountsOf [] [] = ⊤
 AreCountsOf [] (c ∷ cs) = ⊥
 AreCountsOf (l ∷ ls) [] = ⊥
-AreCountsOf (l ∷ ls) (c ∷ cs) = IsCountOf l c × AreCountsOf ls cs
+AreCountsOf (l ∷ ls) (c ∷ cs) = IsCountOf l.mutation c × AreCountsOf ls cs
 
 -- counts are there where writers flush, and only there
 abbrev pub AreCountedFor : Option ℕ → List Line → List LineCounts → Type 0
 AreCountedFor None lines counts = counts ≡ []
 AreCountedFor (Some most) lines counts = AreCountsOf lines counts
+
+-- those of one line, likewise
+abbrev pub IsCountedFor : Option ℕ → Mutation → Option LineCounts → Type 0
+IsCountedFor None m counts = counts ≡ None
+IsCountedFor (Some most) m None = ⊥
+IsCountedFor (Some most) m (Some c) = IsCountOf m c
+
+-- the counts of lines, with those of one more where they were taken
+abbrev pub with_counts : List LineCounts → Option LineCounts → List LineCounts
+with_counts counts None = counts
+with_counts counts (Some c) = counts ++ c ∷ []
 
 -- ---- a seat
 

@@ -50,6 +50,7 @@ use write_path::{PathSeat, WritePath};
 fn take_seat<K: Keeper + Drop>(worker: &mut Worker<K>, seat: PathSeat<K>)
     ensures seat { worker.new.seat ≡ Some seat }
     ensures writes { worker.new.writes ≡ worker.old.writes }
+    ensures counts { worker.new.counts ≡ worker.old.counts }
 {
     worker.seat = Some(seat);
 }
@@ -128,7 +129,11 @@ pub fn commit_all<R: Threads + Wait + Sync, K: Keeper + Send, G: Gate + Sync, C:
                 × (path.entry.now.mode ≡ Batch → WaitsShare worker.new)
                 × ((period : ℕ) → syncing.mode ≡ Periodic period
                 → TimesShare (C.tells clock.entry.now) syncing.mode syncing.since_ms worker.new) }
-        { commit_share(rt, alloc, path, sizes, syncing, flush_at, gate, clock, worker) },
+        {
+            commit_share(
+                rt, alloc, path, sizes, syncing, flush_at, gate, clock, worker,
+            )
+        },
     );
 }
 
@@ -156,6 +161,7 @@ fn end_share<R: Wait, K: Keeper + Drop>(
     let Worker {
         seat,
         writes: _,
+        counts: _,
         fault,
     } = worker;
     match seat {

@@ -1,10 +1,10 @@
 //! Why lines were not all logged by their writers.
 ghost use Rattle.std.specs.Prelude.{◌≡◌, ◌⊎◌, ℕ, None};
-ghost use Rattle.clog_writers.specs.Shares.{refusal_of};
+ghost use Rattle.clog_writers.specs.Shares.{refusal_by, refusal_of};
 ghost use Rattle.path_rule.specs.declared.answer.SyncAnswer.TheVariants.{Done};
 
 use std::alloc::{AllocError, AllocFailed};
-use write_path::{Row, SyncAnswer};
+use write_path::{Flush, Row, SyncAnswer};
 
 /// Why lines were not all logged by their writers.
 #[derive(Clone, Copy, Debug, PartialEq, Eq)]
@@ -75,6 +75,18 @@ pub(crate) fn refusal_of(answer: SyncAnswer) -> Option<WriteFault>
         SyncAnswer::Stopped { at_open, now } => Some(WriteFault::Stopped { at_open, now }),
         SyncAnswer::OutOfMemory => Some(WriteFault::OutOfMemory),
         SyncAnswer::Rows(groups) => Some(WriteFault::Rows(Row::AppendGroups, groups)),
+    }
+}
+
+/// Why a flush was refused, if it was: not where another seat has the turn.
+pub(crate) fn refusal_by(answer: Flush) -> Option<WriteFault>
+    ensures { result ≡ refusal_by answer }
+{
+    match answer {
+        Flush::Flushed { .. } | Flush::Empty(_) | Flush::Busy(_) => None,
+        Flush::Rows(row, made) => Some(WriteFault::Rows(row, made)),
+        Flush::Stopped { at_open, now } => Some(WriteFault::Stopped { at_open, now }),
+        Flush::OutOfMemory => Some(WriteFault::OutOfMemory),
     }
 }
 
