@@ -7,7 +7,9 @@ for words in '--dump --receipts --drain --archive --segment-kib 4' \
     '--segment-kib=0004 --archive --dump --drain --receipts' \
     '--drain --segment-kib 4 --receipts --archive --dump' \
     '--writers 1 --archive --sync=periodic --receipts --period 10000 --drain --dump' \
-    '--dump --writers=064 --drain --receipts --archive'; do
+    '--dump --writers=064 --drain --receipts --archive' \
+    '--flush-at 0000000001 --archive --dump --receipts' \
+    '--drain --archive --receipts --flush-at=1000000 --dump'; do
     rm -rf commitlog
     apply_line expect "apply $words" 0 "applied 1
 receipt 1 * 60
@@ -28,7 +30,8 @@ done
 rm -rf commitlog
 for words in 'apply --drain --drain' 'apply --segment-kib 3' 'apply --segment-kib=32769' \
     'apply --segment-kib=+4' 'apply --segment-kib' 'apply --segment 4' 'apply --dump=' \
-    'apply -d' 'apply --' 'apply --writers 65' 'apply --flush-at 1000' 'apply --period 0' \
+    'apply -d' 'apply --' 'apply --writers 65' 'apply --flush-at 0' \
+    'apply --flush-at=1000001' 'apply --flush-at' 'apply --period 0' \
     '--dump apply' 'replay --workers 0' 'replay --workers 65' 'replay --workers= 4' \
     'replay --workers --ignore-errors' 'replay --dump' 'scan' 'scan CommitLog-7-5.log' \
     'scan CommitLog-6-05.log' 'scan Archive-CommitLog-6-5.log' \

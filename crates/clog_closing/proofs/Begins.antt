@@ -28,11 +28,11 @@ use Rattle.clog_memtable.specs.Flushing.{HasPutFiles, file_of, files_of}
 use Rattle.clog_memtable.specs.Touched.{AreMemtablesOf}
 use Rattle.clog_closing.specs.Drained.{HasBegun, HasNoDeeds, ReachTo}
 
--- the memtables of notes reach so far
-pub reach_of : (notes : List EntryNote) (upper below : ℕ) (ms : List Memtable)
-    → AreMemtablesOf notes upper below ms → ReachTo upper ms
-reach_of notes upper below ms are m among =
-    let is = are.each m among in (is.lower_is, is.upper_is)
+-- the memtables of notes reach so far, where no table has a file yet
+pub reach_of : (notes : List EntryNote) (lowers : ℕ → ℕ) (upper below : ℕ) (ms : List Memtable)
+    → ((t : ℕ) → lowers t ≡ 0) → AreMemtablesOf notes lowers upper below ms → ReachTo upper ms
+reach_of notes lowers upper below ms none are m among =
+    let is = are.each m among in (is.lower_is ∙ none m.interval.table.0, is.upper_is)
 
 -- before anything was put
 pub begun_of_none : (h : Holding) (upper : ℕ) → HasNoDeeds h → HasBegun h upper
@@ -74,7 +74,7 @@ begun_put upper ms reach before now count put begun = record {
 
 -- ---- segments that went
 
-none_with : (h : Holding) (ordinals : List ℕ) → h.opening.archives ≡ false → h.archived ≡ []
+pub none_with : (h : Holding) (ordinals : List ℕ) → h.opening.archives ≡ false → h.archived ≡ []
     → archived_with h ordinals ≡ []
 none_with h ordinals archives none =
     ap (λ (b : Bool). if b then h.archived ++ ordinals else h.archived) archives ∙ none

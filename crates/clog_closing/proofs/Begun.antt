@@ -35,8 +35,6 @@ use Rattle.std.proofs.lemmas.List.{
 }
 use Rattle.std.proofs.lemmas.List.Elements.{Contains-append_left}
 use Rattle.clog_spec.specs.Sizes.{header_size}
-use Rattle.clog_base.specs.declared.cell.Cell.{Cell}
-use Rattle.clog_base.specs.declared.cell.CellKey.{CellKey}
 use Rattle.clog_base.specs.declared.sizes.Sizes.{Sizes}
 use Rattle.clog_base.proofs.Members.{from_map, nothing_there}
 use Rattle.clog_cells.proofs.Merging.{of_same}
@@ -44,6 +42,7 @@ use Rattle.clog_disk.specs.declared.change.Change.{Change}
 use Rattle.clog_scan.specs.Cut.{Section, last_until}
 use Rattle.clog_scan.specs.Segment.{entries_of}
 use Rattle.clog_scan.proofs.Appended.{entries_of-append}
+use Rattle.clog_memtable.proofs.Flushed.{same_cells}
 use Rattle.clog_crash.specs.Grown.{appends_of}
 use Rattle.clog_crash.specs.Log.{Write}
 use Rattle.clog_crash.specs.Runs.{Placed, placed, placed_log, placed_of}
@@ -113,21 +112,6 @@ between past id part more count all few whole first =
     (ap (λ (l : List Placed). l ++ behind) (sym parted)
     ∙ sym (placed_more past id part more) ∙ whole) in
     parted ∙ ap (λ (l : List Placed). all ++ l) none ∙ append-nil all
-
--- ---- cells of a file
-
--- they are those of the notes, whatever else a keeper holds
-logged_there : (h k : Holding) → h.logged ≡ k.logged → (put : PutFile) (pair : CellKey × Cell)
-    → IsLoggedCell h put pair → IsLoggedCell k put pair
-logged_there h k same put pair c = record {
-  note = c.note;
-  among = subst (λ (l : List EntryNote). Contains l c.note) same c.among;
-  whole = c.whole;
-  listed = c.listed;
-  of_table = c.of_table;
-  above = c.above;
-  up_to = c.up_to;
-}
 
 -- ---- the store
 
@@ -269,6 +253,6 @@ module _ {D : Type 0} (changes : D → Option (List Change)) (b : StoreState D)
           (Contains-append_left b.notes.logged b.notes.kept n among)).whole) p.0
           (of_same (IsLoggedCell own p.0) (IsLoggedCell h p.0) p.0.cells
           (λ pair. (
-            logged_there own h refl p.0 pair,
-            logged_there h own refl p.0 pair,
+            same_cells own h p.0 refl pair,
+            same_cells h own p.0 refl pair,
           )) (settled own has p.0 p.1).merged))

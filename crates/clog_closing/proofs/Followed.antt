@@ -1,40 +1,10 @@
 -- Behind a run the folder can be opened again.
-use Rattle.std.proofs.Common.{
-  ◌≡◌,
-  ◌⊎◌,
-  ℕ,
-  ◌+◌,
-  ◌^◌,
-  ◌<◌,
-  ◌≤◌,
-  inl,
-  inr,
-  zero,
-  suc,
-  List,
-  ◌∷◌,
-  Option,
-  Some,
-  None,
-  get_or,
-  length,
-  refl,
-  sym,
-  ◌∙◌,
-  ap,
-  subst,
-  arith,
-}
+use Rattle.std.proofs.Common.{◌≡◌, ℕ, ◌+◌, ◌^◌, ◌<◌, ◌≤◌, inl, inr, zero, suc, List, Option, Some, None, get_or, length, refl, sym, ◌∙◌, ap, subst, arith}
 use Rattle.std.specs.Prelude.{Contains, IsSome}
 use Rattle.std.specs.FinMap as finmap
 use Rattle.std.specs.List.{range_with_len}
 use Rattle.std.proofs.lemmas.Option.{none-some}
-use Rattle.clog_spec.specs.Names.{
-  IsArchiveName,
-  IsSegmentName,
-  archive_name_of,
-  segment_name_of,
-}
+use Rattle.clog_spec.specs.Names.{IsArchiveName, IsSegmentName, segment_name_of}
 use Rattle.clog_spec.specs.Sizes.{file_limit}
 use Rattle.clog_base.specs.declared.cell.Table.{Table}
 use Rattle.clog_base.proofs.Members.{first_or_further, in_map, nothing_there}
@@ -45,14 +15,7 @@ use Rattle.clog_mutation.specs.declared.mutation.Mutation.{Mutation}
 use Rattle.clog_table.specs.declared.table_file.TableFile.{TableFile}
 use Rattle.clog_table.specs.Refusals.{IsFileOf}
 use Rattle.clog_words.specs.declared.request.ApplyOptions.{ApplyOptions}
-use Rattle.clog_crash.specs.Folder.{
-  AreGoodTables,
-  HoldsName,
-  IsGoodTable,
-  IsHeld,
-  IsNameOf,
-  Place,
-}
+use Rattle.clog_crash.specs.Folder.{AreGoodTables, HoldsName, IsGoodTable, IsHeld}
 use Rattle.clog_crash.specs.Recovery.{NamesAny}
 use Rattle.clog_crash.proofs.OneMore.{bytes_of}
 use Rattle.clog_crash.proofs.flush.NewFile.{one_place}

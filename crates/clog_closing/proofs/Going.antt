@@ -1,38 +1,17 @@
 -- A keeper goes on beside its log, which stays: table files are put, and segments go.
-use Rattle.std.proofs.Common.{
-  ◌≡◌,
-  ℕ,
-  ◌<◌,
-  ◌≤◌,
-  List,
-  [],
-  ◌++◌,
-  refl,
-  sym,
-  ◌∙◌,
-  ap,
-  subst,
-  if◌then◌else◌,
-}
-use Rattle.std.specs.Prelude.{Bool, Contains, IsTrue, Result, false, ◌||◌}
-use Rattle.clog_spec.specs.Sizes.{most_segments}
-use Rattle.clog_base.proofs.Members.{nothing_there}
+use Rattle.std.proofs.Common.{◌≡◌, ℕ, List, ◌++◌, refl, ◌∙◌, ap}
+use Rattle.std.specs.Prelude.{Bool, Result, false, ◌||◌}
 use Rattle.path_core.specs.declared.keeper.KeeperFault.{KeeperFault}
-use Rattle.path_core.specs.declared.note.EntryNote.{EntryNote}
 use Rattle.path_core.specs.Keeper.{
   DropRefused,
   Drops,
   HasKeeperCause,
   Holding,
-  IsFiledIn,
-  MayDrop,
   PutFile,
   is_stopped,
 }
-use Rattle.path_core.specs.Droppable.{is_of}
-use Rattle.clog_memtable.specs.declared.flushing.Memtable.{Memtable}
-use Rattle.clog_memtable.specs.Flushing.{FlushesAll, HasPutFiles, files_of}
-use Rattle.clog_closing.specs.Drained.{EndsAs, HasDrainedBy, HasNoDeeds, KeepsLog}
+use Rattle.clog_memtable.specs.Flushing.{HasPutFiles}
+use Rattle.clog_closing.specs.Drained.{EndsAs, KeepsLog}
 
 -- ---- the log stays
 
@@ -109,72 +88,3 @@ ends_by before now r runs cause = record {
   stopped = cause.kept_in_mind ∙ ap (λ (x : Bool). x || is_stopped r) runs;
   counts = cause.counts;
 }
-
--- ---- what has gone
-
--- a segment may go by the log and the files alone
-may_drop_by : (h k : Holding) (o : ℕ) → k.logged ≡ h.logged → k.kept ≡ h.kept
-    → k.files ≡ h.files → MayDrop h o → MayDrop k o
-may_drop_by h k o logged kept files may = record {
-  note = may.note;
-  among = subst (λ (l : List EntryNote). Contains l may.note) (sym logged) may.among;
-  here = may.here;
-  none_kept = λ n listed.
-      may.none_kept n (subst (λ (l : List EntryNote). Contains l n) kept listed);
-  filed = subst (λ (fs : List PutFile). (t : ℕ) (a b : EntryNote) → Contains k.logged a
-      → Contains k.logged b → IsTrue (is_of o t a) → IsTrue (is_of o t b) → (key : ℕ)
-      → a.end.0 ≤ key → key ≤ b.end.0 → IsFiledIn fs t key) (sym files)
-      (subst (λ (l : List EntryNote). (t : ℕ) (a b : EntryNote) → Contains l a
-      → Contains l b → IsTrue (is_of o t a) → IsTrue (is_of o t b) → (key : ℕ)
-      → a.end.0 ≤ key → key ≤ b.end.0 → IsFiledIn h.files t key) (sym logged) may.filed);
-}
-
-module _ (before mid now : Holding) (ms : List Memtable) (count : ℕ) (none : HasNoDeeds before)
-    (flushes : FlushesAll before mid ms) (drops : Drops mid now most_segments count) where
-  files : mid.files ≡ files_of ms
-  files =
-      ap (λ (h : Holding). h.files) flushes.put
-      ∙ ap (λ (l : List PutFile). l ++ files_of ms) none.no_file
-
-  none_gone : mid.dropped ≡ []
-  none_gone = ap (λ (h : Holding). h.dropped) flushes.put ∙ none.none_dropped
-
-  gone : now.dropped ≡ drops.ordinals
-  gone =
-      ap (λ (h : Holding). h.dropped) drops.holds
-      ∙ ap (λ (l : List ℕ). l ++ drops.ordinals) none_gone
-
-  forth : (o : ℕ) → Contains now.dropped o → (o < most_segments) × MayDrop now o
-  forth o listed =
-      let due = (drops.exact o).0 (subst (λ (l : List ℕ). Contains l o) gone listed) in (
-        due.0,
-        may_drop_by mid now o (ap (λ (h : Holding). h.logged) drops.holds)
-            (ap (λ (h : Holding). h.kept) drops.holds) (ap (λ (h : Holding). h.files) drops.holds)
-            due.1,
-      )
-
-  back : (o : ℕ) → (o < most_segments) × MayDrop now o → Contains now.dropped o
-  back o may =
-      subst (λ (l : List ℕ). Contains l o) (sym gone) ((drops.exact o).1 (
-        may.0,
-        may_drop_by now mid o (sym (ap (λ (h : Holding). h.logged) drops.holds))
-            (sym (ap (λ (h : Holding). h.kept) drops.holds))
-            (sym (ap (λ (h : Holding). h.files) drops.holds)) may.1,
-        λ listed. nothing_there o (subst (λ (l : List ℕ). Contains l o) none_gone listed),
-      ))
-
-  archived : now.archived ≡ (if now.opening.archives then now.dropped else [])
-  archived =
-      ap (λ (h : Holding). h.archived) drops.holds
-      ∙ ap (λ (l : List ℕ). if mid.opening.archives then l ++ drops.ordinals else l)
-      (ap (λ (h : Holding). h.archived) flushes.put ∙ none.none_archived)
-      ∙ ap (λ (l : List ℕ). if mid.opening.archives then l else []) (sym gone)
-      ∙ ap (λ (b : Bool). if b then now.dropped else [])
-      (sym (ap (λ (h : Holding). h.opening.archives) drops.holds))
-
-  pub drained_by : HasDrainedBy now ms
-  drained_by = record {
-    files_are = ap (λ (h : Holding). h.files) drops.holds ∙ files;
-    dropped_are = λ o. (forth o, back o);
-    archived_are = archived;
-  }

@@ -1,23 +1,7 @@
 -- What a store has brought to a disk, and what that tells, where it told its files at the opening.
-use Rattle.std.proofs.Common.{
-  ◌≡◌,
-  ◌+◌,
-  inl,
-  inr,
-  true,
-  false,
-  List,
-  ◌++◌,
-  Option,
-  Some,
-  None,
-  refl,
-  sym,
-  ◌∙◌,
-  ap,
-  subst,
-}
+use Rattle.std.proofs.Common.{◌≡◌, inl, inr, true, false, List, [], ◌++◌, take, append-nil, Option, Some, None, refl, sym, ◌∙◌, ap, subst}
 use Rattle.std.specs.Prelude.{is_some, option_map}
+use Rattle.std.proofs.Math.Seq.{take-nil}
 use Rattle.std.proofs.lemmas.Bool.{true≢false}
 use Rattle.std.proofs.lemmas.List.Elements.{Contains-push_cases}
 use Rattle.clog_disk.specs.declared.change.Change.{Change}
@@ -25,9 +9,13 @@ use Rattle.clog_disk.specs.Files.{Files, SameTold}
 use Rattle.clog_scan.specs.Cut.{Section}
 use Rattle.clog_crash.specs.Grown.{Append, appends_of}
 use Rattle.clog_crash.specs.Log.{Write}
+use Rattle.clog_crash.specs.Runs.{placed_log}
 use Rattle.clog_crash.specs.Sections.{IsStored}
+use Rattle.path_core.specs.declared.note.EntryNote.{EntryNote}
 use Rattle.clog_store.specs.Grows.{IsGrown, segments_with}
 use Rattle.clog_store.specs.Life.{State}
+use Rattle.clog_store.specs.NoteLog.{IsNoteLog, NoteState}
+use Rattle.clog_store.specs.Notes.{places_of}
 use Rattle.clog_store.specs.StoreFolder.{IsSound}
 use Rattle.clog_store.specs.StoreState.{HasGrown}
 use Rattle.clog_store.proofs.NoteGrows.{rises_with}
@@ -59,6 +47,15 @@ in_order log appends grows sound =
       ];
       rise = rises_with log.past hand grows.rise sound.below;
     }
+
+-- where nothing is kept, its sections hold just what was logged
+pub all_placed : {D : Type 0} (s : NoteState D) → IsNoteLog s → s.kept ≡ []
+    → placed_log s.log.past s.log.id s.log.sections ≡ places_of s.base s.logged
+all_placed s notes none =
+    let shown = notes.stands.shown in
+    notes.stands.all
+    ∙ ap (places_of s.base) (ap (λ (l : List EntryNote). s.logged ++ l)
+    (ap (take shown) none ∙ take-nil shown) ∙ append-nil s.logged)
 
 -- what its disk tells now, where it told its files and its changes at the opening
 pub record TellsNow (made later : List Change) (files : Option Files)

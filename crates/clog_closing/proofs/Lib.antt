@@ -7,13 +7,17 @@ pub mod Dropping
 pub mod Ends
 pub mod Entries
 pub mod Filing
+pub mod Finished
 pub mod Followed
 pub mod Following
 pub mod Fresh
 pub mod Going
+pub mod Good
+pub mod LastEnd
 pub mod Leaving
 pub mod LogAlone
 pub mod Logs
+pub mod MayFlush
 pub mod NextNames
 pub mod Openings
 pub mod Reaches

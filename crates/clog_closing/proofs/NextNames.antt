@@ -1,31 +1,5 @@
 -- The names of a store's table files are the next ones of their tables.
-use Rattle.std.proofs.Common.{
-  ◌≡◌,
-  ◌⊎◌,
-  ℕ,
-  ◌+◌,
-  ◌^◌,
-  ◌<◌,
-  ◌≤◌,
-  inl,
-  inr,
-  Bool,
-  true,
-  false,
-  List,
-  [],
-  ◌∷◌,
-  ◌++◌,
-  length,
-  map,
-  refl,
-  sym,
-  ◌∙◌,
-  ap,
-  subst,
-  arith,
-  append_assoc,
-}
+use Rattle.std.proofs.Common.{◌≡◌, ℕ, ◌+◌, ◌^◌, ◌<◌, ◌≤◌, inl, inr, Bool, true, false, List, [], ◌∷◌, ◌++◌, length, map, refl, sym, ◌∙◌, ap, subst, arith, append_assoc}
 use Rattle.std.specs.Prelude.{◌↔◌, ◌==◌, Contains}
 use Rattle.std.proofs.lemmas.Bool.{cases_lt, eq-eqb, true≢false}
 use Rattle.std.proofs.lemmas.Bool.Decides.{nat_tests}
@@ -42,15 +16,7 @@ use Rattle.clog_crash.specs.Folder.{IsBase}
 use Rattle.path_core.specs.Keeper.{PutFile}
 use Rattle.clog_crash.specs.Log.{Write}
 use Rattle.clog_store.specs.OnDisk.{file_on}
-use Rattle.clog_store.specs.StoreFolder.{
-  ArePlacedAt,
-  Deeds,
-  HoldsStore,
-  IsNextOf,
-  IsTaken,
-  PlacedFile,
-  StoreLog,
-}
+use Rattle.clog_store.specs.StoreFolder.{ArePlacedAt, Deeds, HoldsStore, IsTaken, PlacedFile, StoreLog}
 use Rattle.clog_store.proofs.Ids.{one_base, same_base}
 use Rattle.clog_store.proofs.NextNames.{held, taken}
 use Rattle.clog_applied.specs.Filed.{files_of, is_of}

@@ -1,29 +1,5 @@
 -- A run leaves sequences within their limit, where there was room for its table files.
-use Rattle.std.proofs.Common.{
-  ◌≡◌,
-  ◌⊎◌,
-  ℕ,
-  ◌+◌,
-  ◌<◌,
-  ◌≤◌,
-  inl,
-  inr,
-  zero,
-  suc,
-  Bool,
-  true,
-  false,
-  List,
-  [],
-  ◌∷◌,
-  length,
-  None,
-  refl,
-  sym,
-  ap,
-  subst,
-  arith,
-}
+use Rattle.std.proofs.Common.{◌≡◌, ℕ, ◌+◌, ◌<◌, ◌≤◌, inl, inr, zero, suc, Bool, true, false, List, [], ◌∷◌, length, refl, ap, arith}
 use Rattle.std.specs.List.{filter}
 use Rattle.std.specs.FinMap as finmap
 use Rattle.std.proofs.lemmas.Bool.{cases_lt}
@@ -39,7 +15,7 @@ use Rattle.clog_store.specs.Filing.{AreRecoveryPuts}
 use Rattle.clog_store.specs.Named.{IsLateTable, sequence_limit}
 use Rattle.clog_store.specs.Opened.{HasRoomFor}
 use Rattle.clog_store.proofs.FolderReads.{absent_or_held}
-use Rattle.clog_applied.specs.Filed.{files_of, is_of}
+use Rattle.clog_applied.specs.Filed.{is_of}
 use Rattle.clog_applied.proofs.Lists.{kept_one, left_one}
 use Rattle.clog_closing.specs.NextNames.{HaveNextNames, HoldsSequence}
 

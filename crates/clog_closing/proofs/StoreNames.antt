@@ -1,23 +1,6 @@
 -- Which names have come in a folder that a store holds, also where its disk has failed: those of
 -- its segments, their archive names and table files.
-use Rattle.std.proofs.Common.{
-  ◌≡◌,
-  ◌⊎◌,
-  ℕ,
-  ◌+◌,
-  inl,
-  inr,
-  List,
-  [],
-  ◌∷◌,
-  Option,
-  None,
-  map,
-  sym,
-  ◌∙◌,
-  ap,
-  subst,
-}
+use Rattle.std.proofs.Common.{◌≡◌, ℕ, inl, inr, List, [], ◌∷◌, Option, None, map, sym, ◌∙◌, ap, subst}
 use Rattle.std.specs.Prelude.{Contains, IsSome}
 use Rattle.std.specs.FinMap as finmap
 use Rattle.std.proofs.lemmas.List.Elements.{Contains-append_left, Contains-append_right}
@@ -26,19 +9,10 @@ use Rattle.clog_spec.specs.Names.{IsTableName, archive_name_of, segment_name_of}
 use Rattle.clog_base.proofs.Members.{here, in_map}
 use Rattle.clog_disk.specs.Files.{Files}
 use Rattle.clog_disk.proofs.Named.{same_or_other}
-use Rattle.clog_crash.specs.Folder.{IsHeld}
 use Rattle.clog_crash.specs.Log.{Write}
 use Rattle.clog_crash.proofs.OneMore.{bytes_of}
 use Rattle.clog_store.specs.StoreFailed.{HoldsButOne, IsFailing}
-use Rattle.clog_store.specs.StoreFolder.{
-  Deeds,
-  HoldsStore,
-  IsPast,
-  IsRow,
-  PlacedFile,
-  StoreLog,
-  name_of,
-}
+use Rattle.clog_store.specs.StoreFolder.{Deeds, HoldsStore, IsRow, PlacedFile, StoreLog, name_of}
 use Rattle.clog_store.proofs.FolderReads.{one_or_none}
 use Rattle.clog_applied.specs.Filed.{BringsNoOther, IsNewName}
 use Rattle.clog_closing.specs.Logs.{id_of}

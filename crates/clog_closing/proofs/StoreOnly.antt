@@ -1,35 +1,10 @@
 -- Each change of a store is one of a run: bytes for its segments, its table files, archive names of
 -- its segments where it archives, and their removals. Where each table file reaches as far as the
 -- log, files and removals come behind all entries.
-use Rattle.std.proofs.Common.{
-  ◌≡◌,
-  ◌⊎◌,
-  ℕ,
-  ◌<◌,
-  ◌≤◌,
-  inl,
-  inr,
-  Bool,
-  true,
-  false,
-  List,
-  [],
-  ◌∷◌,
-  ◌++◌,
-  length,
-  map,
-  refl,
-  sym,
-  ◌∙◌,
-  ap,
-  subst,
-  arith,
-  append_assoc,
-  length-append,
-}
+use Rattle.std.proofs.Common.{◌≡◌, ℕ, ◌<◌, ◌≤◌, inl, inr, Bool, true, false, List, [], ◌∷◌, ◌++◌, length, refl, sym, ◌∙◌, ap, subst, arith, append_assoc, length-append}
 use Rattle.std.specs.Prelude.{Contains}
 use Rattle.std.proofs.lemmas.List.Elements.{Contains-append_left}
-use Rattle.clog_spec.specs.Names.{IsTableName, archive_name_of, segment_name_of}
+use Rattle.clog_spec.specs.Names.{IsTableName, segment_name_of}
 use Rattle.clog_spec.specs.Sizes.{greatest_capacity}
 use Rattle.clog_base.specs.declared.position.Position.{Position}
 use Rattle.clog_base.specs.declared.sizes.Sizes.{Sizes}
@@ -49,7 +24,7 @@ use Rattle.path_core.specs.Keeper.{PutFile}
 use Rattle.clog_store.specs.OnDisk.{file_on}
 use Rattle.clog_store.specs.StoreFolder.{Deeds, StoreLog}
 use Rattle.clog_store.specs.StoreOrder.{ComesBehind, GetsArchiveName, GoesBehind}
-use Rattle.clog_applied.specs.Appended.{IsSegmentOf, appended}
+use Rattle.clog_applied.specs.Appended.{appended}
 use Rattle.clog_applied.specs.Early.{
   AreRunChanges,
   ComeLast,
@@ -58,7 +33,7 @@ use Rattle.clog_applied.specs.Early.{
   IsRunChange,
   SaysFile,
 }
-use Rattle.clog_applied.specs.History.{LoggedLine, entry_of, logged_at}
+use Rattle.clog_applied.specs.History.{LoggedLine}
 use Rattle.clog_applied.proofs.Changes.{in_appends}
 use Rattle.clog_applied.proofs.Merged.{of_entry}
 use Rattle.clog_layout.proofs.Lines.{is_position}

@@ -1,26 +1,11 @@
 -- What becomes of a keeper that is drained.
-use Rattle.std.specs.Prelude.{
-  ◌≡◌,
-  ◌↔◌,
-  ℕ,
-  ◌<◌,
-  Bool,
-  true,
-  false,
-  List,
-  [],
-  Contains,
-  Result,
-  if◌then◌else◌,
-}
-use Rattle.clog_spec.specs.Sizes.{most_segments, most_tables}
+use Rattle.std.specs.Prelude.{◌≡◌, ℕ, ◌<◌, false, List, [], ◌++◌, Contains, Result}
+use Rattle.clog_spec.specs.Sizes.{most_segments}
 use Rattle.path_core.specs.declared.keeper.KeeperFault.{KeeperFault}
-use Rattle.path_core.specs.declared.note.EntryNote.{EntryNote}
 use Rattle.path_core.specs.Keeper.{Holding, MayDrop, PutFile, TellsCounts, is_stopped}
-use Rattle.clog_layout.specs.Ends.{synced_to}
 use Rattle.clog_memtable.specs.declared.flushing.Memtable.{Memtable}
 use Rattle.clog_memtable.specs.Flushing.{files_of}
-use Rattle.clog_memtable.specs.Touched.{AreMemtablesOf}
+use Rattle.clog_closing.specs.Beside.{HasGoodDeeds}
 
 -- A call, or several, of a keeper that had not stopped ends so: it has stopped where that is
 -- answered, and then its disk's counts are told.
@@ -46,23 +31,12 @@ pub record HasNoDeeds (h : Holding) : Type 0 where
   pub none_dropped : h.dropped ≡ []
   pub none_archived : h.archived ≡ []
 
--- Table files were put for just these memtables, and each segment that may be dropped is; each of
--- these has its archive name where the keeper archives.
-pub record HasDrainedBy (h : Holding) (memtables : List Memtable) : Type 0 where
-  pub files_are : h.files ≡ files_of memtables
-  pub dropped_are : (o : ℕ) → Contains h.dropped o ↔ ((o < most_segments) × MayDrop h o)
-  pub archived_are : h.archived ≡ (if h.opening.archives then h.dropped else [])
-
--- So it has for each table that one of the notes touches.
-pub record HasDrained (h : Holding) (notes : List EntryNote) : Type 0 where
-  pub memtables : List Memtable
-  pub are : AreMemtablesOf notes (synced_to notes) most_tables memtables
-  pub by : HasDrainedBy h memtables
-
--- it has drained, or done nothing beside its log
-abbrev pub IsDrainedAs : Bool → Holding → List EntryNote → Type 0
-IsDrainedAs false h notes = HasNoDeeds h
-IsDrainedAs true h notes = HasDrained h notes
+-- A keeper is drained: table files were put for just these memtables, behind those that there were,
+-- and no segment is left that may go.
+pub record Drains (before now : Holding) (memtables : List Memtable) : Type 0 where
+  pub good : HasGoodDeeds now
+  pub gone : (o : ℕ) → o < most_segments → MayDrop now o → Contains now.dropped o
+  pub files_are : now.files ≡ before.files ++ files_of memtables
 
 -- However far a drain up to a key has come: each table file that was put has the whole log up to the
 -- key in its interval, and where the keeper does not archive no segment has an archive name.

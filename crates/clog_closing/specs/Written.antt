@@ -14,10 +14,12 @@ use Rattle.std.specs.Prelude.{
   take,
   Bool,
   true,
+  false,
   Contains,
   Option,
   Some,
   option_map,
+  ⊤,
 }
 use Rattle.std.specs.List.{AllPairs, flat_map}
 use Rattle.clog_spec.specs.Names.{segment_name_of}
@@ -95,20 +97,23 @@ pub record HasGoneInOrder (archives : Bool) (writers : ℕ) (mutations : List Mu
   pub last : ComeLast changes history
   pub are_true : (file : TableFile) → Contains files file → IsTrueFor history file
 
--- Changes by which writers log lines: appends alone, or those of a drain that has begun.
-abbrev pub AreMadeFor : Bool → Bool → ℕ → List Mutation → List Change → Type 0
-AreMadeFor archives drain writers mutations changes =
+-- Changes by which writers log lines: appends alone, or those of a drain that has begun. Where the
+-- writers flush meanwhile nothing is said of them.
+abbrev pub AreMadeFor : Bool → Bool → Bool → ℕ → List Mutation → List Change → Type 0
+AreMadeFor true archives drain writers mutations changes = ⊤
+AreMadeFor false archives drain writers mutations changes =
     AreAppends changes ⊎ ((drain ≡ true) × HasGoneInOrder archives writers mutations changes)
 
 -- The appends among a disk's further changes since it was so have brought these segments, in the
 -- order of their ids, which begin at a base. The changes are those by which so many writers log the
 -- lines.
 pub record HasBrought {D : Type 0} (changes : D → Option (List Change)) (before now : D) (base : ℕ)
-    (archives drain : Bool) (writers : ℕ) (mutations : List Mutation) (log : List Write) : Type 0
+    (flushing archives drain : Bool) (writers : ℕ) (mutations : List Mutation) (log : List Write)
+    : Type 0
   where
     pub added : List Change
     pub changes_are : changes now ≡ option_map (λ made. made ++ added) (changes before)
-    pub made_for : AreMadeFor archives drain writers mutations added
+    pub made_for : AreMadeFor flushing archives drain writers mutations added
     pub brought : IsWrittenBy (appends_of added) log
     pub rise : AllPairs (λ (a b : Write). a.id < b.id) log
     pub above : (w : Write) → Contains log w → base ≤ w.id

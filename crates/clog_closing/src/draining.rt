@@ -1,21 +1,16 @@
-//! A store is drained: a table file is put for each memtable, and all segments go for which table
-//! files stand (Cassandra's `ColumnFamilyStore.forceFlush` of each table, and then
-//! `CommitLog.discardCompletedSegments`, as `nodetool drain` does). The log of notes stays as it
-//! is.
-ghost use Rattle.std.specs.Prelude.{◌≡◌, ℕ, OnOk, false};
+//! A store is drained: a table file is put for each memtable, behind those that were put before, and
+//! all segments go for which table files stand (Cassandra's `ColumnFamilyStore.forceFlush` of each
+//! table, and then `CommitLog.discardCompletedSegments`, as `nodetool drain` does). The log of notes
+//! stays as it is.
+ghost use Rattle.std.specs.Prelude.{◌≡◌, ℕ, Contains, OnOk, false};
 ghost use Rattle.clog_spec.specs.Sizes.{most_segments};
-ghost use Rattle.clog_memtable.specs.Flushing.{FlushesAll, MayFlush};
+ghost use Rattle.clog_memtable.specs.declared.flushing.Memtable.{Memtable as memtable_type};
+ghost use Rattle.clog_memtable.specs.Flushing.{FlushesAll, MayFlush, file_of};
 ghost use Rattle.path_core.specs.Keeper.{Drops};
 ghost use Rattle.clog_store.specs.Life.{Lives, LivesOn};
 ghost use Rattle.clog_store.specs.StoreState.{holding_of};
-ghost use Rattle.clog_closing.specs.Drained.{
-  EndsAs,
-  HasBegun,
-  HasDrainedBy,
-  HasNoDeeds,
-  KeepsLog,
-  ReachTo,
-};
+ghost use Rattle.clog_closing.specs.Beside.{HasGoodDeeds, HoldsNote};
+ghost use Rattle.clog_closing.specs.Drained.{Drains, EndsAs, HasBegun, KeepsLog, ReachTo};
 
 use clog_base::MOST_SEGMENTS;
 use clog_disk::Disk;
@@ -91,15 +86,19 @@ fn drop_all<D: Disk>(store: &mut Store<D>) -> Result<(), KeeperFault>
     }
 }
 
-/// Puts the table files, in their order, and drops what may go then, in a store that runs and has
-/// done nothing beside its log. Where something is refused, what was done before it stands.
+/// Puts the table files, in their order, behind those that were put before, and drops what may go
+/// then; with no memtable it only drops. The store runs, and what it has done beside its log is good.
+/// Each memtable's file holds an entry. Where something is refused, what was done before it stands.
 pub fn drain<D: Disk>(store: &mut Store<D>, memtables: &[Memtable]) -> Result<(), KeeperFault>
     requires runs { store.old.notes.log.is_stopped ≡ false }
     requires may { MayFlush
         (holding_of D.files D.changes D.moment D.faults D.row.coded.code store.old) memtables.now }
-    requires none { HasNoDeeds
+    requires holds_some { (m : memtable_type) → Contains memtables.now m → HoldsNote
+        (holding_of D.files D.changes D.moment D.faults D.row.coded.code store.old) (file_of m) }
+    requires good { HasGoodDeeds
         (holding_of D.files D.changes D.moment D.faults D.row.coded.code store.old) }
-    ensures drains { OnOk result (HasDrainedBy
+    ensures drains { OnOk result (Drains
+        (holding_of D.files D.changes D.moment D.faults D.row.coded.code store.old)
         (holding_of D.files D.changes D.moment D.faults D.row.coded.code store.new)
         memtables.now) }
     ensures begun { (upper : ℕ) → ReachTo upper memtables.now

@@ -47,6 +47,7 @@ use Rattle.clog_engine.specs.declared.status.Status.TheVariants.{
   OutOfMemory,
   Limit,
   Groups,
+  Memtables,
   Absent,
 }
 use Rattle.clog_engine.specs.Apply.{Applies, ApplyRefuses, LeavesPart, ReadsGood}
@@ -79,6 +80,7 @@ file_refuses n (Limit SegmentBytes most) o refused still = absurd refused
 file_refuses n (Limit Ids most) o refused still = absurd refused
 file_refuses n (Limit TableFiles most) o refused still = absurd refused
 file_refuses n (Groups most) o refused still = absurd refused
+file_refuses n (Memtables most) o refused still = absurd refused
 file_refuses n (Absent name) o refused still = absurd refused
 
 -- ---- the folder is refused
@@ -108,6 +110,7 @@ folder_refuses n ms (Limit SegmentBytes most) o refused left = (refused.0, refus
 folder_refuses n ms (Limit Ids most) o refused left = (refused.0, refused.1, left)
 folder_refuses n ms (Limit TableFiles most) o refused left = (refused.0, refused.1, left)
 folder_refuses n ms (Groups most) o refused left = absurd refused
+folder_refuses n ms (Memtables most) o refused left = absurd refused
 folder_refuses n ms (Absent name) o refused left = absurd refused
 
 -- where nothing has changed
@@ -168,6 +171,8 @@ module _ (options : ApplyOptions) (o : Outside) (bytes : List ℕ) (ms : List Mu
     refuses_file (Limit TableFiles most) refused = (refused.0, good, refused.1, refused.2)
     refuses_file (Groups most) refused =
         (refused.0, (bytes, taken, many refused.1), part_of_file refused.2)
+    refuses_file (Memtables most) refused =
+        (refused.0, refused.1, good, part_of_file refused.2)
     refuses_file (Absent name) refused = absurd refused
 
     -- what comes of the lines comes of their file

@@ -45,6 +45,7 @@ use Rattle.clog_engine.specs.declared.status.Status.TheVariants.{
   OutOfMemory,
   Limit,
   Groups,
+  Memtables,
   Absent,
 }
 use Rattle.clog_mutation.specs.declared.mutation.Mutation.{Mutation}
@@ -52,6 +53,7 @@ use Rattle.clog_text.specs.Made.{made_lines}
 use Rattle.clog_words.specs.declared.built.Built.{Built}
 use Rattle.clog_words.specs.declared.built.Built.TheVariants.{Apply, Replay, Scan, Drill}
 use Rattle.clog_words.specs.declared.request.ApplyOptions.{ApplyOptions}
+use Rattle.clog_words.specs.declared.request.ReplayOptions.{ReplayOptions}
 use Rattle.clog_words.specs.Given.{texts}
 use Rattle.clog_applied.specs.Asked.{capacity_of}
 use Rattle.clog_engine.specs.Apply.{ApplyRefuses}
@@ -100,7 +102,7 @@ told_openable (Some files) P fit other clash = clash files fit other
 -- a good mutation file and a folder that can be opened are not refused
 apply_completes : (options : ApplyOptions) (status : Status) (o : Outside) (s : Sinks)
     → Tells o.left (IsGood (capacity_of options)) → Told o.files IsOpenable → IsQuiet o s
-    → ApplyRefuses options status o → EndsWell status
+    → ApplyRefuses options status o → EndsWell (Apply options) status
 apply_completes options Ok o s good fit quiet refused = absurd refused
 apply_completes options Usage o s good fit quiet refused = absurd refused
 apply_completes options (BadLine number cause) o s good fit quiet refused =
@@ -119,7 +121,7 @@ apply_completes options (Damaged name at cause) o s good fit quiet refused =
 apply_completes options (BadTable name fault) o s good fit quiet refused =
     absurd (told_openable o.files _ fit refused.1 (λ files can bad.
     good_has_none files name fault can.within.readable.tables bad))
-apply_completes options OutOfMemory o s good fit quiet refused = inr (inl refl)
+apply_completes options OutOfMemory o s good fit quiet refused = tt
 apply_completes options (Limit FileBytes most) o s good fit quiet refused =
     absurd (good_is_short (capacity_of options) o.left good refused.1)
 apply_completes options (Limit Lines most) o s good fit quiet refused =
@@ -134,8 +136,8 @@ apply_completes options (Limit Ids most) o s good fit quiet refused =
 apply_completes options (Limit TableFiles most) o s good fit quiet refused =
     absurd (told_openable o.files _ fit refused.2 (λ files can many.
     can.within.few many.late))
-apply_completes options (Groups most) o s good fit quiet refused =
-    inr (inr (ap Groups refused.0))
+apply_completes options (Groups most) o s good fit quiet refused = refused.0
+apply_completes options (Memtables most) o s good fit quiet refused = (refused.0, refused.1)
 apply_completes options (Absent name) o s good fit quiet refused = absurd refused
 
 -- ---- a file that is there is not refused
@@ -157,54 +159,58 @@ short_is_short (Some files) name there long =
     omega (arith, ap length bytes, there.few, long.long)
 
 -- a file that is there, and not too long, is not refused
-scan_completes : (status : Status) (o : Outside) (s : Sinks) (name : List ℕ)
+scan_completes : (id : ℕ) (status : Status) (o : Outside) (s : Sinks) (name : List ℕ)
     → Told o.files (λ files. IsScannable files name) → IsQuiet o s
-    → ReadRefused o.files o.disk_faults o.disk_faults_now name status → EndsWell status
-scan_completes Ok o s name there quiet refused = absurd refused
-scan_completes Usage o s name there quiet refused = absurd refused
-scan_completes (BadLine number cause) o s name there quiet refused = absurd refused
-scan_completes (TooLarge number size most) o s name there quiet refused = absurd refused
-scan_completes ReadFault o s name there quiet refused = absurd refused
-scan_completes WriteFault o s name there quiet refused = absurd refused
-scan_completes DiskFault o s name there quiet refused = absurd (quiet.disk refused)
-scan_completes (Damaged other at cause) o s name there quiet refused = absurd refused
-scan_completes (BadTable other fault) o s name there quiet refused = absurd refused
-scan_completes OutOfMemory o s name there quiet refused = inr (inl refl)
-scan_completes (Limit FileBytes most) o s name there quiet refused = absurd refused
-scan_completes (Limit Lines most) o s name there quiet refused = absurd refused
-scan_completes (Limit SegmentBytes most) o s name there quiet refused =
+    → ReadRefused o.files o.disk_faults o.disk_faults_now name status
+    → EndsWell (Scan id) status
+scan_completes id Ok o s name there quiet refused = absurd refused
+scan_completes id Usage o s name there quiet refused = absurd refused
+scan_completes id (BadLine number cause) o s name there quiet refused = absurd refused
+scan_completes id (TooLarge number size most) o s name there quiet refused = absurd refused
+scan_completes id ReadFault o s name there quiet refused = absurd refused
+scan_completes id WriteFault o s name there quiet refused = absurd refused
+scan_completes id DiskFault o s name there quiet refused = absurd (quiet.disk refused)
+scan_completes id (Damaged other at cause) o s name there quiet refused = absurd refused
+scan_completes id (BadTable other fault) o s name there quiet refused = absurd refused
+scan_completes id OutOfMemory o s name there quiet refused = tt
+scan_completes id (Limit FileBytes most) o s name there quiet refused = absurd refused
+scan_completes id (Limit Lines most) o s name there quiet refused = absurd refused
+scan_completes id (Limit SegmentBytes most) o s name there quiet refused =
     absurd (short_is_short o.files name there refused.1)
-scan_completes (Limit Ids most) o s name there quiet refused = absurd refused
-scan_completes (Limit TableFiles most) o s name there quiet refused = absurd refused
-scan_completes (Groups most) o s name there quiet refused = absurd refused
-scan_completes (Absent other) o s name there quiet refused =
+scan_completes id (Limit Ids most) o s name there quiet refused = absurd refused
+scan_completes id (Limit TableFiles most) o s name there quiet refused = absurd refused
+scan_completes id (Groups most) o s name there quiet refused = absurd refused
+scan_completes id (Memtables most) o s name there quiet refused = absurd refused
+scan_completes id (Absent other) o s name there quiet refused =
     absurd (there_is_there o.files name there refused.1)
 
 -- ---- a folder that can be read is not refused
 
-replay_completes : (ignore : Bool) (status : Status) (o : Outside) (s : Sinks)
-    → Told o.files (IsReplayable ignore) → IsQuiet o s
-    → ReplayRefused ignore o.files o.disk_faults o.disk_faults_now status → EndsWell status
-replay_completes ignore Ok o s fit quiet refused = absurd refused
-replay_completes ignore Usage o s fit quiet refused = absurd refused
-replay_completes ignore (BadLine number cause) o s fit quiet refused = absurd refused
-replay_completes ignore (TooLarge number size most) o s fit quiet refused = absurd refused
-replay_completes ignore ReadFault o s fit quiet refused = absurd refused
-replay_completes ignore WriteFault o s fit quiet refused = absurd refused
-replay_completes ignore DiskFault o s fit quiet refused = absurd (quiet.disk refused)
-replay_completes ignore (Damaged name at cause) o s fit quiet refused =
-    absurd (no_damage ignore o.files name at cause fit refused.0 refused.1)
-replay_completes ignore (BadTable name fault) o s fit quiet refused =
-    absurd (no_bad_table ignore o.files name fault fit refused)
-replay_completes ignore OutOfMemory o s fit quiet refused = inr (inl refl)
-replay_completes ignore (Limit FileBytes most) o s fit quiet refused = absurd refused
-replay_completes ignore (Limit Lines most) o s fit quiet refused = absurd refused
-replay_completes ignore (Limit SegmentBytes most) o s fit quiet refused =
-    absurd (no_long_segment ignore o.files fit refused.1)
-replay_completes ignore (Limit Ids most) o s fit quiet refused = absurd refused
-replay_completes ignore (Limit TableFiles most) o s fit quiet refused = absurd refused
-replay_completes ignore (Groups most) o s fit quiet refused = absurd refused
-replay_completes ignore (Absent name) o s fit quiet refused = absurd refused
+replay_completes : (options : ReplayOptions) (status : Status) (o : Outside) (s : Sinks)
+    → Told o.files (IsReplayable options.ignore_errors) → IsQuiet o s
+    → ReplayRefused options.ignore_errors o.files o.disk_faults o.disk_faults_now status
+    → EndsWell (Replay options) status
+replay_completes options Ok o s fit quiet refused = absurd refused
+replay_completes options Usage o s fit quiet refused = absurd refused
+replay_completes options (BadLine number cause) o s fit quiet refused = absurd refused
+replay_completes options (TooLarge number size most) o s fit quiet refused = absurd refused
+replay_completes options ReadFault o s fit quiet refused = absurd refused
+replay_completes options WriteFault o s fit quiet refused = absurd refused
+replay_completes options DiskFault o s fit quiet refused = absurd (quiet.disk refused)
+replay_completes options (Damaged name at cause) o s fit quiet refused =
+    absurd (no_damage options.ignore_errors o.files name at cause fit refused.0 refused.1)
+replay_completes options (BadTable name fault) o s fit quiet refused =
+    absurd (no_bad_table options.ignore_errors o.files name fault fit refused)
+replay_completes options OutOfMemory o s fit quiet refused = tt
+replay_completes options (Limit FileBytes most) o s fit quiet refused = absurd refused
+replay_completes options (Limit Lines most) o s fit quiet refused = absurd refused
+replay_completes options (Limit SegmentBytes most) o s fit quiet refused =
+    absurd (no_long_segment options.ignore_errors o.files fit refused.1)
+replay_completes options (Limit Ids most) o s fit quiet refused = absurd refused
+replay_completes options (Limit TableFiles most) o s fit quiet refused = absurd refused
+replay_completes options (Groups most) o s fit quiet refused = absurd refused
+replay_completes options (Memtables most) o s fit quiet refused = absurd refused
+replay_completes options (Absent name) o s fit quiet refused = absurd refused
 
 -- ---- nor is one that is drilled
 
@@ -232,63 +238,67 @@ module _ (lines : List Mutation) (o : Outside) (s : Sinks) (opens : Told o.files
   no_bad name fault = not_refused _ (λ files can is.
       good_has_none files name fault can.within.readable.tables is)
 
-  drill_completes : (status : Status) → DrillRefuses lines status o → EndsWell status
-  drill_completes Ok refused = absurd refused
-  drill_completes Usage refused = absurd refused
-  drill_completes (BadLine number cause) refused = absurd refused
-  drill_completes (TooLarge number size most) refused = absurd refused
-  drill_completes ReadFault refused = absurd refused
-  drill_completes WriteFault refused = absurd refused
-  drill_completes DiskFault refused = absurd (quiet.disk refused.0)
-  drill_completes (Damaged name at cause) refused = absurd (not_damaged name at cause refused)
-  drill_completes (BadTable name fault) refused = absurd (no_bad name fault refused)
-  drill_completes OutOfMemory refused = inr (inl refl)
-  drill_completes (Limit FileBytes most) refused = absurd refused
-  drill_completes (Limit Lines most) refused = absurd refused
-  drill_completes (Limit SegmentBytes most) refused = absurd (not_long refused.1)
-  drill_completes (Limit Ids most) refused =
+  drill_completes : (seed count : ℕ) (status : Status) → DrillRefuses lines status o
+      → EndsWell (Drill seed count) status
+  drill_completes seed count Ok refused = absurd refused
+  drill_completes seed count Usage refused = absurd refused
+  drill_completes seed count (BadLine number cause) refused = absurd refused
+  drill_completes seed count (TooLarge number size most) refused = absurd refused
+  drill_completes seed count ReadFault refused = absurd refused
+  drill_completes seed count WriteFault refused = absurd refused
+  drill_completes seed count DiskFault refused = absurd (quiet.disk refused.0)
+  drill_completes seed count (Damaged name at cause) refused = absurd (not_damaged name at cause refused)
+  drill_completes seed count (BadTable name fault) refused = absurd (no_bad name fault refused)
+  drill_completes seed count OutOfMemory refused = tt
+  drill_completes seed count (Limit FileBytes most) refused = absurd refused
+  drill_completes seed count (Limit Lines most) refused = absurd refused
+  drill_completes seed count (Limit SegmentBytes most) refused = absurd (not_long refused.1)
+  drill_completes seed count (Limit Ids most) refused =
       absurd (told_openable o.files _ opens refused.1 (λ files can great.
       let low = can.within.low great.id great.named in omega (arith, low, great.great)))
-  drill_completes (Limit TableFiles most) refused =
+  drill_completes seed count (Limit TableFiles most) refused =
       absurd (told_openable o.files _ opens refused.1 (λ files can many. can.within.few many.late))
-  drill_completes (Groups most) refused = inr (inr (ap Groups refused.0))
-  drill_completes (Absent name) refused = absurd refused
+  drill_completes seed count (Groups most) refused = refused.0
+  drill_completes seed count (Memtables most) refused = (refused.0, tt)
+  drill_completes seed count (Absent name) refused = absurd refused
 
 does_complete : (request : Built) (o : Outside) (s : Sinks) (status : Status) → IsFit request o
-    → IsQuiet o s → Does (Some request) o (err status) → EndsWell status
+    → IsQuiet o s → Does (Some request) o (err status) → EndsWell request status
 does_complete (Apply options) o s status fit quiet done =
     apply_completes options status o s fit.0 fit.1 quiet done
 does_complete (Replay options) o s status fit quiet done =
-    replay_completes options.ignore_errors status o s fit quiet done.0
+    replay_completes options status o s fit quiet done.0
 does_complete (Scan id) o s status fit quiet done =
-    scan_completes status o s (segment_name_of 6 id) fit quiet done.0
+    scan_completes id status o s (segment_name_of 6 id) fit quiet done.0
 does_complete (Drill seed count) o s status fit quiet done =
-    drill_completes (made_lines seed count) o s fit quiet status done.0
+    drill_completes (made_lines seed count) o s fit quiet seed count status done.0
 
 -- a report goes out, where the sink does not fail
-reports_complete : (report : List ℕ) (status : Status) (o : Outside) (s : Sinks) → IsQuiet o s
-    → Reports report status s → EndsWell status
-reports_complete report Ok o s quiet reports = inl refl
-reports_complete report Usage o s quiet reports = absurd reports
-reports_complete report (BadLine number cause) o s quiet reports = absurd reports
-reports_complete report (TooLarge number size most) o s quiet reports = absurd reports
-reports_complete report ReadFault o s quiet reports = absurd reports
-reports_complete report WriteFault o s quiet reports = absurd (quiet.sink reports.cause)
-reports_complete report DiskFault o s quiet reports = absurd reports
-reports_complete report (Damaged name at cause) o s quiet reports = absurd reports
-reports_complete report (BadTable name fault) o s quiet reports = absurd reports
-reports_complete report OutOfMemory o s quiet reports = absurd reports
-reports_complete report (Limit what most) o s quiet reports = absurd reports
-reports_complete report (Groups most) o s quiet reports = absurd reports
-reports_complete report (Absent name) o s quiet reports = absurd reports
+reports_complete : (request : Built) (report : List ℕ) (status : Status) (o : Outside)
+    (s : Sinks) → IsQuiet o s → Reports report status s → EndsWell request status
+reports_complete request report Ok o s quiet reports = tt
+reports_complete request report Usage o s quiet reports = absurd reports
+reports_complete request report (BadLine number cause) o s quiet reports = absurd reports
+reports_complete request report (TooLarge number size most) o s quiet reports = absurd reports
+reports_complete request report ReadFault o s quiet reports = absurd reports
+reports_complete request report WriteFault o s quiet reports = absurd (quiet.sink reports.cause)
+reports_complete request report DiskFault o s quiet reports = absurd reports
+reports_complete request report (Damaged name at cause) o s quiet reports = absurd reports
+reports_complete request report (BadTable name fault) o s quiet reports = absurd reports
+reports_complete request report OutOfMemory o s quiet reports = absurd reports
+reports_complete request report (Limit what most) o s quiet reports = absurd reports
+reports_complete request report (Groups most) o s quiet reports = absurd reports
+reports_complete request report (Memtables most) o s quiet reports = absurd reports
+reports_complete request report (Absent name) o s quiet reports = absurd reports
 
 outcome_completes : (request : Built) (o : Outside) (s : Sinks) (status : Status)
     (outcome : Result (List ℕ) Status) → IsFit request o → IsQuiet o s
-    → Does (Some request) o outcome → Prints outcome status s → EndsWell status
+    → Does (Some request) o outcome → Prints outcome status s → EndsWell request status
 outcome_completes request o s status (ok report) fit quiet done prints =
-    reports_complete report status o s quiet prints
+    reports_complete request report status o s quiet prints
 outcome_completes request o s status (err refusal) fit quiet done prints =
-    subst EndsWell (sym prints.0) (does_complete request o s refusal fit quiet done)
+    subst (EndsWell request) (sym prints.0)
+    (does_complete request o s refusal fit quiet done)
 
 request_completes : (request : Option Built) (words : List (String Global)) (o : Outside)
     (s : Sinks) (status : Status) (outcome : Result (List ℕ) Status) → Asks words request
@@ -297,14 +307,16 @@ request_completes None words o s status outcome asks done prints request says fi
     absurd (asks request says)
 request_completes (Some other) words o s status outcome asks done prints request says fit quiet =
     let same = one_asked (texts words) other request asks says in
-    outcome_completes other o s status outcome
-    (subst (λ (r : Built). IsFit r o) (sym same) fit) quiet done prints
+    subst (λ (r : Built). EndsWell r status) same
+    (outcome_completes other o s status outcome
+    (subst (λ (r : Built). IsFit r o) (sym same) fit) quiet done prints)
 
-no_words_complete : (o : Outside) (s : Sinks) (status : Status)
+no_words_complete : (request : Built) (o : Outside) (s : Sinks) (status : Status)
     (outcome : Result (List ℕ) Status) → outcome ≡ err OutOfMemory → Prints outcome status s
-    → EndsWell status
-no_words_complete o s status outcome is prints =
-    inr (inl ((subst (λ (r : Result (List ℕ) Status). Prints r status s) is prints).0))
+    → EndsWell request status
+no_words_complete request o s status outcome is prints =
+    let told = subst (λ (r : Result (List ℕ) Status). Prints r status s) is prints in
+    subst (EndsWell request) (sym told.0) tt
 
 asked_completes : (words : List (String Global)) (o : Outside) (s : Sinks) (status : Status)
     (outcome : Result (List ℕ) Status) → DoesAsked words o outcome → Prints outcome status s
@@ -312,7 +324,7 @@ asked_completes : (words : List (String Global)) (o : Outside) (s : Sinks) (stat
 asked_completes words o s status outcome (inl done) prints =
     request_completes done.request words o s status outcome done.asked done.done prints
 asked_completes words o s status outcome (inr none) prints =
-    λ request says fit quiet. no_words_complete o s status outcome none.0 prints
+    λ request says fit quiet. no_words_complete request o s status outcome none.0 prints
 
 pub completes : (words : List (String Global)) (o : Outside) (s : Sinks) (status : Status)
     → Answers words o s status → Completes words o s status

@@ -47,6 +47,7 @@ use Rattle.clog_engine.specs.declared.status.Status.TheVariants.{
   OutOfMemory,
   Limit,
   Groups,
+  Memtables,
   Absent,
 }
 use Rattle.clog_engine.specs.Drill.{
@@ -90,6 +91,7 @@ refuses_drill ms (Limit SegmentBytes most) o refused = (refused.0, inl (refused.
 refuses_drill ms (Limit Ids most) o refused = refused
 refuses_drill ms (Limit TableFiles most) o refused = refused
 refuses_drill ms (Groups most) o refused = refused
+refuses_drill ms (Memtables most) o refused = (refused.0, refused.2)
 refuses_drill ms (Absent name) o refused = absurd refused
 
 -- ---- the folder is not read behind them
@@ -136,6 +138,7 @@ module _ (ms : List Mutation) (o : Outside) (text : List ℕ)
   refused_behind (Limit Ids most) refused = absurd refused
   refused_behind (Limit TableFiles most) refused = absurd refused
   refused_behind (Groups most) refused = absurd refused
+  refused_behind (Memtables most) refused = absurd refused
   refused_behind (Absent name) refused = absurd refused
 
   told_drill : (result : Result (List ℕ) Status)
@@ -192,6 +195,7 @@ memory_alone ms capacity (BadTable name fault) fit refused = absurd refused
 memory_alone ms capacity OutOfMemory fit refused = refl
 memory_alone ms capacity (Limit what most) fit refused = absurd refused
 memory_alone ms capacity (Groups most) fit refused = absurd refused
+memory_alone ms capacity (Memtables most) fit refused = absurd refused
 memory_alone ms capacity (Absent name) fit refused = absurd refused
 
 -- a folder that is not told was called

@@ -102,7 +102,8 @@ module _ (o n : Outside) (on : IsOnward o n) (options : ApplyOptions) (ms : List
       | inr now ↦ adds_some before _ least image (w.now image now chances)
     ];
     now = λ image is chances. w.now image (image_then image is) chances;
-    at_drain = λ beyond image is chances. w.at_drain beyond image (image_then image is) chances;
+    at_drain = λ none beyond image is chances.
+        w.at_drain none beyond image (image_then image is) chances;
   }
 
   logged_on : (least : ℕ) → AreLogged o options ms least → AreLogged n options ms least

@@ -20,7 +20,7 @@ use Rattle.std.proofs.Common.{
   append_assoc,
   arith,
 }
-use Rattle.std.specs.Prelude.{IfSome, ⊤}
+use Rattle.std.specs.Prelude.{IfSome, is_some, ⊤}
 use Rattle.std.specs.FinMap as finmap
 use Rattle.clog_base.specs.declared.cell.Cell.{Cell}
 use Rattle.clog_base.specs.declared.cell.CellKey.{CellKey}
@@ -221,8 +221,9 @@ module _ {D C : Type 0} (disk : DiskTells D) (clock : ClockTells C)
     -- what was appended behind the recovery
     written : (now : D) (options : ApplyOptions) (ms : List Mutation) (first : Files)
         → disk.files looked ≡ Some first → (log : List Write)
-        → HasBrought disk.changes opened now base options.archive options.drain options.writers ms
-        log → HasWrittenLog (outside_at now) options first ms log
+        → HasBrought disk.changes opened now base (is_some options.flush_at) options.archive
+        options.drain options.writers ms log
+        → HasWrittenLog (outside_at now) options first ms log
     written now options ms first is log has = record {
       between = disk.changes opened;
       recovered = subst (λ (c : Option (List Change)). RecoversAll first c (disk.changes opened))
@@ -239,8 +240,8 @@ module _ {D C : Type 0} (disk : DiskTells D) (clock : ClockTells C)
     }
 
     pub wrote : (now : D) (options : ApplyOptions) (ms : List Mutation)
-        → WritesShares disk.files disk.changes opened now base options.archive options.drain
-        options.writers ms → SameTold (disk.files opened) (disk.files now)
+        → WritesShares disk.files disk.changes opened now base (is_some options.flush_at)
+        options.archive options.drain options.writers ms → SameTold (disk.files opened) (disk.files now)
         → Wrote (outside_at now) options ms
     wrote now options ms has told = if_told (disk.files start) (disk.files looked)
         (λ (first : Files). (log : List Write) × (history : List LoggedLine)
@@ -276,7 +277,7 @@ module _ {D C : Type 0} (disk : DiskTells D) (clock : ClockTells C)
         → ((then : Files) → disk.files opened ≡ Some then → (first : Files)
         → disk.files looked ≡ Some first → LastsAll first (disk.leaves looked)
         → LeavesShares disk.changes disk.moment disk.since disk.leaves opened now (bytes_at then)
-        base options.archive options.drain options.writers ms least)
+        base (is_some options.flush_at) options.archive options.drain options.writers ms least)
         → LastsFirst (outside_at now) options ms least
     unfolding written
     lasts_first now options ms least leaves = if_told (disk.files start) (disk.files looked)
@@ -295,13 +296,13 @@ module _ {D C : Type 0} (disk : DiskTells D) (clock : ClockTells C)
           wrote = written now options ms first is lines.log lines.wrote;
           says = lines.says;
           since = while_written disk.changes disk.moment disk.since disk.leaves disk.read_at
-              disk.lasted_at start opened now first then.0 base options.archive options.drain
-              options.writers ms least kept opening lines;
+              disk.lasted_at start opened now first then.0 base (is_some options.flush_at)
+              options.archive options.drain options.writers ms least kept opening lines;
           now = λ image left chance.
               adds_lines first then.0 image said least kept (lines.at_last image left chance);
-          at_drain = λ beyond image left chance.
+          at_drain = λ none beyond image left chance.
               adds_lines first then.0 image said (length ms) kept
-              (lines.at_drain beyond image left chance);
+              (lines.at_drain (ap is_some none) beyond image left chance);
         })
 
     -- and where all are logged, the run's promises are kept

@@ -33,6 +33,7 @@ use Rattle.clog_engine.specs.declared.status.Status.TheVariants.{
   OutOfMemory,
   Limit,
   Groups,
+  Memtables,
   Absent,
 }
 use Rattle.clog_engine.specs.Refusal.{folder_status, status_of}
@@ -100,6 +101,7 @@ reports_call report (BadTable name fault) s printed before = printed
 reports_call report OutOfMemory s printed before = printed
 reports_call report (Limit what most) s printed before = printed
 reports_call report (Groups most) s printed before = printed
+reports_call report (Memtables most) s printed before = printed
 reports_call report (Absent name) s printed before = printed
 
 pub printed_before : (outcome : Result (List ℕ) Status) (status : Status) (s : Sinks)
@@ -134,6 +136,7 @@ looked_at files f g (Limit SegmentBytes most) refused before = before
 looked_at files f g (Limit Ids most) refused before = before
 looked_at files f g (Limit TableFiles most) refused before = before
 looked_at files f g (Groups most) refused before = before
+looked_at files f g (Memtables most) refused before = before
 looked_at files f g (Absent name) refused before = before
 
 -- nor one that comes of reading a segment's file
@@ -155,6 +158,7 @@ read_at files f g name (Limit SegmentBytes most) refused before = before
 read_at files f g name (Limit Ids most) refused before = before
 read_at files f g name (Limit TableFiles most) refused before = before
 read_at files f g name (Groups most) refused before = before
+read_at files f g name (Memtables most) refused before = before
 read_at files f g name (Absent other) refused before = before
 
 -- nor one that comes of replaying the folder
@@ -176,4 +180,5 @@ replayed_at ignore files f g (Limit SegmentBytes most) refused before = before
 replayed_at ignore files f g (Limit Ids most) refused before = before
 replayed_at ignore files f g (Limit TableFiles most) refused before = before
 replayed_at ignore files f g (Groups most) refused before = before
+replayed_at ignore files f g (Memtables most) refused before = before
 replayed_at ignore files f g (Absent name) refused before = before

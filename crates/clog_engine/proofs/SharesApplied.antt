@@ -48,7 +48,10 @@ use Rattle.clog_applied.proofs.Whole.{with_report}
 use Rattle.write_path.specs.declared.commit.Receipt.{Receipt}
 use Rattle.clog_writers.specs.declared.fault.WriteFault.{WriteFault}
 use Rattle.clog_writers.specs.declared.fault.WriteFault.TheVariants as fault
+use Rattle.write_path.specs.declared.switch.Row.{Row}
+use Rattle.write_path.specs.declared.switch.Row.TheVariants as row
 use Rattle.clog_writers.specs.Left.{least_of}
+use Rattle.clog_writers.specs.Logged.{IsLack}
 use Rattle.clog_writers.specs.Written.{
   HasShareCause,
   HasWrittenShares,
@@ -58,7 +61,6 @@ use Rattle.clog_writers.specs.Written.{
 use Rattle.clog_engine.specs.declared.report.PendingReport.{PendingReport}
 use Rattle.clog_engine.specs.declared.status.Status.{Status}
 use Rattle.clog_engine.specs.declared.status.Status.TheVariants.{OutOfMemory}
-use Rattle.clog_engine.specs.Limits.{group_limit}
 use Rattle.clog_engine.specs.Logged.{
   AppliesLines,
   IsReported,
@@ -73,7 +75,7 @@ use Rattle.clog_engine.specs.Planning.{IsCellsOf}
 use Rattle.clog_engine.specs.Quiet.{IsRefusedBefore}
 use Rattle.clog_engine.specs.Refusal.{IsToldAs}
 use Rattle.clog_engine.specs.Report.{AreRowsOf, IsReport, head_with, receipts_told}
-use Rattle.clog_engine.specs.Request.{AreSizesOf, IsDoable}
+use Rattle.clog_engine.specs.Request.{AreSizesOf}
 use Rattle.clog_engine.proofs.Closed.{closed, printed_by}
 
 -- ---- the report
@@ -113,13 +115,13 @@ is_report true head text report before cells ms ordered of rows is = record {
 
 -- ---- the run
 
-pub is_asked : (options : ApplyOptions) (sizes : Sizes) (archives : Bool) → IsDoable options
+pub is_asked : (options : ApplyOptions) (sizes : Sizes) (archives : Bool)
     → AreSizesOf options sizes → archives ≡ options.archive
-    → IsAskedBy options sizes options.sync archives options.drain
-is_asked options sizes archives doable sizes_are archive = record {
+    → IsAskedBy options sizes options.sync options.flush_at archives options.drain
+is_asked options sizes archives sizes_are archive = record {
   writers = sym sizes_are.writers;
   sync = refl;
-  no_flush = ap (λ (o : ApplyOptions). o.flush_at) doable.plain;
+  flush_is = refl;
   capacity = sym sizes_are.capacity;
   drain_is = refl;
   archive_is = sym archive;
@@ -182,13 +184,13 @@ module _ (options : ApplyOptions) (o : Outside) (ms : List Mutation)
       → IsToldAs options.receipts pending outcome result
       → LastsFirst o options ms (least_of outcome ms)
       → HasShareCause o.disk_faults o.disk_faults_now outcome
-      → ((groups : ℕ) → outcome ≡ err (fault.Rows groups)
-      → (groups ≡ group_limit) × (group_limit ≤ 1 + length ms))
+      → ((which : Row) (made : ℕ) → outcome ≡ err (fault.Rows which made)
+      → IsLack options.flush_at which made (length ms))
       → ((receipts : Vec Receipt) (report : List ℕ) → outcome ≡ ok receipts
       → report ≡ head_with options.receipts receipts.items ++ pending.rows.items
       → IsReported options ms report × Turns o (IsRun o options ms report))
       → AppliesLines options ms o result
-  shares_applied pending (ok receipts) result told_as lasts cause many so =
+  shares_applied pending (ok receipts) result told_as lasts cause lack so =
       let report = head_with options.receipts receipts.items ++ pending.rows.items in
       let is = so receipts report refl refl in
       subst (AppliesLines options ms o) (sym told_as) (record {
@@ -196,15 +198,20 @@ module _ (options : ApplyOptions) (o : Outside) (ms : List Mutation)
         logged = record { told = told; wrote = wrote; others = others; lasts = lasts };
         run = is.1;
       })
-  shares_applied pending (err (fault.Stopped at_open now)) result told_as lasts cause many so =
+  shares_applied pending (err (fault.Stopped at_open now)) result told_as lasts cause lack so =
       subst (AppliesLines options ms o) (sym told_as) (cause.3, partly lasts)
-  shares_applied pending (err fault.OutOfMemory) result told_as lasts cause many so =
+  shares_applied pending (err fault.OutOfMemory) result told_as lasts cause lack so =
       failed result told_as lasts
-  shares_applied pending (err fault.Spent) result told_as lasts cause many so =
+  shares_applied pending (err fault.Spent) result told_as lasts cause lack so =
       failed result told_as lasts
-  shares_applied pending (err (fault.Rows n)) result told_as lasts cause many so =
-      let so_many = many n refl in
-      subst (AppliesLines options ms o) (sym told_as) (so_many.0, so_many.1, partly lasts)
+  shares_applied pending (err (fault.Rows row.AppendGroups n)) result told_as lasts cause lack so =
+      let many = lack row.AppendGroups n refl in
+      subst (AppliesLines options ms o) (sym told_as) (many.0, many.1, partly lasts)
+  shares_applied pending (err (fault.Rows row.Memtables n)) result told_as lasts cause lack so =
+      let many = lack row.Memtables n refl in
+      subst (AppliesLines options ms o) (sym told_as) (many.0, many.1, partly lasts)
+  shares_applied pending (err (fault.Rows row.WriteGroups n)) result told_as lasts cause lack so =
+      absurd (lack row.WriteGroups n refl)
 
 -- a run that comes so far has called the disk
 pub shares_call : (receipts : Bool) (pending : PendingReport)
@@ -218,5 +225,9 @@ shares_call receipts pending (err fault.OutOfMemory) result told_as before =
     subst IsRefusedBefore told_as before
 shares_call receipts pending (err fault.Spent) result told_as before =
     subst IsRefusedBefore told_as before
-shares_call receipts pending (err (fault.Rows n)) result told_as before =
+shares_call receipts pending (err (fault.Rows row.AppendGroups n)) result told_as before =
+    subst IsRefusedBefore told_as before
+shares_call receipts pending (err (fault.Rows row.Memtables n)) result told_as before =
+    subst IsRefusedBefore told_as before
+shares_call receipts pending (err (fault.Rows row.WriteGroups n)) result told_as before =
     subst IsRefusedBefore told_as before

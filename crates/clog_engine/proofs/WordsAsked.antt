@@ -24,7 +24,7 @@ use Rattle.clog_words.specs.declared.request.ApplyOptions.{ApplyOptions}
 use Rattle.clog_words.specs.declared.request.ReplayOptions.{ReplayOptions}
 use Rattle.clog_words.specs.declared.request.Request.{Request}
 use Rattle.clog_words.specs.declared.request.Request.TheVariants.{Apply, Replay, Scan, Drill}
-use Rattle.clog_words.specs.Asks.{Asks, IsNumberOr, IsValueWithin}
+use Rattle.clog_words.specs.Asks.{Asks, IsNumberIfSaid, IsNumberOr, IsValueWithin}
 use Rattle.clog_words.specs.Built.{AsksBuilt, IsBuilt}
 use Rattle.clog_words.specs.Given.{Setting, said}
 use Rattle.clog_words.proofs.OneRequest.{one_request}
@@ -45,22 +45,22 @@ one_drill r s t m n p q = let same : Drill s m ≡ Drill t n = sym p ∙ q in cc
 
 -- a request asks for one thing
 one_built : (r : Request) (a b : Built) → IsBuilt r a → IsBuilt r b → a ≡ b
-one_built r (built.Apply o) (built.Apply o') p q = ap built.Apply (one_apply r o o' p.0 q.0)
+one_built r (built.Apply o) (built.Apply o') p q = ap built.Apply (one_apply r o o' p q)
 one_built r (built.Apply o) (built.Replay o') p q =
-    let same : Apply o ≡ Replay o' = sym p.0 ∙ q in cc
+    let same : Apply o ≡ Replay o' = sym p ∙ q in cc
 one_built r (built.Apply o) (built.Scan id) p q =
-    let same : Apply o ≡ Scan q.0 = sym p.0 ∙ q.1 in cc
+    let same : Apply o ≡ Scan q.0 = sym p ∙ q.1 in cc
 one_built r (built.Apply o) (built.Drill t n) p q =
-    let same : Apply o ≡ Drill t n = sym p.0 ∙ q in cc
+    let same : Apply o ≡ Drill t n = sym p ∙ q in cc
 one_built r (built.Replay o) (built.Apply o') p q =
-    let same : Replay o ≡ Apply o' = sym p ∙ q.0 in cc
+    let same : Replay o ≡ Apply o' = sym p ∙ q in cc
 one_built r (built.Replay o) (built.Replay o') p q = ap built.Replay (one_replay r o o' p q)
 one_built r (built.Replay o) (built.Scan id) p q =
     let same : Replay o ≡ Scan q.0 = sym p ∙ q.1 in cc
 one_built r (built.Replay o) (built.Drill t n) p q =
     let same : Replay o ≡ Drill t n = sym p ∙ q in cc
 one_built r (built.Scan id) (built.Apply o) p q =
-    let same : Scan p.0 ≡ Apply o = sym p.1 ∙ q.0 in cc
+    let same : Scan p.0 ≡ Apply o = sym p.1 ∙ q in cc
 one_built r (built.Scan id) (built.Replay o) p q =
     let same : Scan p.0 ≡ Replay o = sym p.1 ∙ q in cc
 one_built r (built.Scan id) (built.Scan id') p q =
@@ -70,7 +70,7 @@ one_built r (built.Scan id) (built.Scan id') p q =
 one_built r (built.Scan id) (built.Drill t n) p q =
     let same : Scan p.0 ≡ Drill t n = sym p.1 ∙ q in cc
 one_built r (built.Drill s m) (built.Apply o) p q =
-    let same : Drill s m ≡ Apply o = sym p ∙ q.0 in cc
+    let same : Drill s m ≡ Apply o = sym p ∙ q in cc
 one_built r (built.Drill s m) (built.Replay o) p q =
     let same : Drill s m ≡ Replay o = sym p ∙ q in cc
 one_built r (built.Drill s m) (built.Scan id) p q =
@@ -86,18 +86,20 @@ one_asked words a b x y =
 
 -- ---- numbers
 
+-- a number that is given is within its limits
+value_within : (least most : ℕ) (value : Option (List ℕ)) (n : ℕ)
+    → IsValueWithin least most value n → (least ≤ n) × (n ≤ most)
+value_within least most None n is = absurd is
+value_within least most (Some text) n is = (is.from, is.up_to)
+
 -- a number is within the limits in which it may be given, where its own default is
 number_within : (default least most : ℕ) (option : Option Setting) (n : ℕ)
     → least ≤ default → default ≤ most → IsNumberOr default least most option n
     → (least ≤ n) × (n ≤ most)
 number_within default least most None n low high is =
     (omega (arith, is, low), omega (arith, is, high))
-number_within default least most (Some setting) n low high is = value_within setting.value n is
-  where
-    value_within : (value : Option (List ℕ)) (m : ℕ) → IsValueWithin least most value m
-        → (least ≤ m) × (m ≤ most)
-    value_within None m is' = absurd is'
-    value_within (Some text) m is' = (is'.from, is'.up_to)
+number_within default least most (Some setting) n low high is =
+    value_within least most setting.value n is
 
 asked_workers : (words : List (List ℕ)) (options : ReplayOptions) → Asks words (Replay options)
     → (1 ≤ options.workers) × (options.workers ≤ 64)
@@ -136,17 +138,37 @@ asked_writers (command ∷ words) options asks =
     number_within 1 1 64 (said (codes "writers") asks.1.settings) options.writers (omega arith)
     (omega arith) asks.1.says.writers
 
+-- a number that has no default is within its limits, where it is given
+number_if_said : (least most : ℕ) (option : Option Setting) (said_count : Option ℕ) (n : ℕ)
+    → IsNumberIfSaid least most option said_count → said_count ≡ Some n
+    → (least ≤ n) × (n ≤ most)
+number_if_said least most None said_count n is count =
+    let none : None ≡ Some n = sym is ∙ count in absurd (cc)
+number_if_said least most (Some setting) None n is count = absurd is
+number_if_said least most (Some setting) (Some m) n is count =
+    let same : m ≡ n = cc in
+    subst (λ (k : ℕ). (least ≤ k) × (k ≤ most)) same (value_within least most setting.value m is)
+
+asked_updates : (words : List (List ℕ)) (options : ApplyOptions) → Asks words (Apply options)
+    → (count : ℕ) → options.flush_at ≡ Some count → (1 ≤ count) × (count ≤ 1000000)
+asked_updates [] options asks count is = absurd asks
+asked_updates (command ∷ words) options asks count is =
+    number_if_said 1 1000000 (said (codes "flush-at") asks.1.settings) options.flush_at count
+    asks.1.says.flush_at is
+
 -- what words ask of `apply` can be done
 pub doable : (words : List (List ℕ)) (options : ApplyOptions)
     → AsksBuilt words (built.Apply options) → IsDoable options
 doable words options asked =
-    let asks = subst (Asks words) asked.is_built.0 asked.asks in
+    let asks = subst (Asks words) asked.is_built asked.asks in
     let within = asked_segments words options asks in
     let writers = asked_writers words options asks in
+    let updates = asked_updates words options asks in
     record {
-      plain = asked.is_built.1;
       some_writer = writers.0;
       few_writers = writers.1;
       least = within.0;
       most = within.1;
+      some_updates = λ count is. (updates count is).0;
+      few_updates = λ count is. (updates count is).1;
     }

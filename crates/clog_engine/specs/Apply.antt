@@ -1,5 +1,5 @@
 -- What `apply` does to the disk and reports, and why it does not.
-use Rattle.std.specs.Prelude.{◌≡◌, ◌⊎◌, ℕ, ◌<◌, List, length, false, IfSome, Result}
+use Rattle.std.specs.Prelude.{◌≡◌, ◌⊎◌, ℕ, ◌<◌, List, length, false, None, IfSome, Result}
 use Rattle.std.specs.declared.result.Result.TheVariants as result
 use Rattle.clog_base.specs.declared.fault.Quantity.TheVariants.{
   FileBytes,
@@ -30,6 +30,7 @@ use Rattle.clog_engine.specs.declared.status.Status.TheVariants.{
   OutOfMemory,
   Limit,
   Groups,
+  Memtables,
 }
 use Rattle.clog_engine.specs.Input.{
   HasManyLines,
@@ -40,7 +41,7 @@ use Rattle.clog_engine.specs.Input.{
   MayWantGroups,
   Takes,
 }
-use Rattle.clog_engine.specs.Limits.{group_limit}
+use Rattle.clog_engine.specs.Limits.{group_limit, memtable_limit}
 use Rattle.clog_engine.specs.Logged.{AreApplied, AreLogged, KeepsAll}
 use Rattle.clog_engine.specs.Outside.{Outside, IsLeftAlone}
 
@@ -105,6 +106,10 @@ ApplyRefuses options (Limit Ids most) o =
 -- written or synced
 ApplyRefuses options (Groups most) o =
     (most ≡ group_limit) × ReadsToEnd o (MayWantGroups (capacity_of options))
+    × LeavesPart options o
+-- a memtable was wanted behind the last of a table that is flushed: all was good
+ApplyRefuses options (Memtables most) o =
+    (most ≡ memtable_limit) × (options.flush_at ≡ None → ⊥) × ReadsGood options o
     × LeavesPart options o
 ApplyRefuses options other o = ⊥
 

@@ -1,8 +1,7 @@
--- When a run ends well, or for want of memory or of groups alone.
+-- When a run ends well, or for want of memory, of groups or, where it flushes, of memtables alone.
 use Rattle.std.specs.Prelude.{
   ◌≡◌,
   ◌≤◌,
-  ◌⊎◌,
   ℕ,
   List,
   length,
@@ -11,6 +10,7 @@ use Rattle.std.specs.Prelude.{
   Some,
   None,
   String,
+  ⊤,
 }
 use Rattle.std.specs.declared.alloc.Global.{Global}
 use Rattle.std.specs.FinMap as finmap
@@ -26,9 +26,14 @@ use Rattle.clog_words.specs.Built.{AsksBuilt}
 use Rattle.clog_words.specs.Given.{texts}
 use Rattle.clog_applied.specs.Asked.{capacity_of}
 use Rattle.clog_engine.specs.declared.status.Status.{Status}
-use Rattle.clog_engine.specs.declared.status.Status.TheVariants.{Groups, Ok, OutOfMemory}
+use Rattle.clog_engine.specs.declared.status.Status.TheVariants.{
+  Groups,
+  Memtables,
+  Ok,
+  OutOfMemory,
+}
 use Rattle.clog_engine.specs.Input.{IsGood}
-use Rattle.clog_engine.specs.Limits.{group_limit, scan_limit}
+use Rattle.clog_engine.specs.Limits.{group_limit, memtable_limit, scan_limit}
 use Rattle.clog_engine.specs.Outside.{Outside, Sinks}
 
 -- The source tells its bytes, and they are such.
@@ -68,15 +73,24 @@ pub record IsQuiet (o : Outside) (s : Sinks) : Type 0 where
   pub disk : ¬ Rose o.disk_faults o.disk_faults_now
   pub sink : ¬ Rose s.faults s.faults_now
 
--- for want of memory, or of a further group of the append order
-abbrev pub WantsRoom : Status → Type 0
-WantsRoom status = (status ≡ OutOfMemory) ⊎ (status ≡ Groups group_limit)
+-- Memtables are flushed while lines are written.
+abbrev pub Flushes : Built → Type 0
+Flushes (Apply options) = options.flush_at ≡ None → ⊥
+Flushes (Replay options) = ⊥
+Flushes (Scan id) = ⊥
+Flushes (Drill seed count) = ⊤
 
-abbrev pub EndsWell : Status → Type 0
-EndsWell status = (status ≡ Ok) ⊎ WantsRoom status
+-- It is done, or ends for want of memory, of a further group of the append order, or of a further
+-- memtable of a table that is flushed.
+abbrev pub EndsWell : Built → Status → Type 0
+EndsWell request Ok = ⊤
+EndsWell request OutOfMemory = ⊤
+EndsWell request (Groups most) = most ≡ group_limit
+EndsWell request (Memtables most) = (most ≡ memtable_limit) × Flushes request
+EndsWell request other = ⊥
 
 -- Where the words ask for what can be done and no fault was counted, the run ends well.
 abbrev pub Completes : List (String Global) → Outside → Sinks → Status → Type 0
 Completes words o s status =
     (request : Built) → AsksBuilt (texts words) request → IsFit request o → IsQuiet o s
-    → EndsWell status
+    → EndsWell request status

@@ -18,6 +18,7 @@ use Rattle.std.specs.Prelude.{
   true,
   false,
   None,
+  Some,
   IfSome,
   Option,
   codes,
@@ -55,8 +56,9 @@ use Rattle.clog_engine.specs.declared.status.Status.TheVariants.{
   OutOfMemory,
   Limit,
   Groups,
+  Memtables,
 }
-use Rattle.clog_engine.specs.Limits.{group_limit}
+use Rattle.clog_engine.specs.Limits.{group_limit, memtable_limit}
 use Rattle.clog_engine.specs.Logged.{AreApplied, LeavesSome}
 use Rattle.clog_engine.specs.Outside.{Outside, IsLeftAlone}
 use Rattle.clog_engine.specs.Planning.{ArePlanned}
@@ -64,14 +66,14 @@ use Rattle.clog_engine.specs.Replaying.{ReplayRefused}
 use Rattle.clog_engine.specs.Report.{numbered_line}
 use Rattle.clog_engine.specs.declared.shares.PlannedLines.{PlannedLines}
 
--- The options of `apply` by which a drill's lines are applied. No table is flushed while lines are
--- written.
+-- The options of `apply` by which a drill's lines are applied: four writers in segments of 1024 KiB,
+-- each of which flushes a table at every 1000 of its updates.
 abbrev pub drill_options : ApplyOptions
 drill_options = record {
   writers = 4;
   sync = Periodic 10000;
   segment_kib = 1024;
-  flush_at = None;
+  flush_at = Some 1000;
   archive = false;
   receipts = false;
   drain = false;
@@ -161,6 +163,8 @@ DrillRefuses lines (Limit Ids most) o =
     (most ≡ id_limit) × IfSome o.files HasGreatId × IsLeftAlone o
 DrillRefuses lines (Groups most) o =
     (most ≡ group_limit) × (group_limit ≤ 1 + length lines) × LeavesSome drill_options lines o
+DrillRefuses lines (Memtables most) o =
+    (most ≡ memtable_limit) × LeavesSome drill_options lines o
 DrillRefuses lines other o = ⊥
 
 -- a report of lines, or why there is none
@@ -181,11 +185,12 @@ TellsFolder lines files faults now (result.Err status) =
     ReplayRefused false files faults now status
 
 -- made lines, planned, and how many updates they have; only memory can be missing
-abbrev pub PlansMade : {D : Type 0} → Sizes → ℕ → ℕ → Result (PlannedLines D × ℕ) Status → Type 0
-PlansMade sizes seed count (result.Ok made) =
-    ArePlanned false sizes (made_lines seed count) made.0
+abbrev pub PlansMade : {D : Type 0} → Sizes → Option ℕ → ℕ → ℕ
+    → Result (PlannedLines D × ℕ) Status → Type 0
+PlansMade sizes flush seed count (result.Ok made) =
+    ArePlanned false sizes flush (made_lines seed count) made.0
     × (made.1 ≡ updates_of (made_lines seed count))
-PlansMade sizes seed count (result.Err status) = status ≡ OutOfMemory
+PlansMade sizes flush seed count (result.Err status) = status ≡ OutOfMemory
 
 -- the tally is that of the cells
 pub record IsTallyOf (cells : List (CellKey × Cell)) (tally : Tally) : Type 0 where

@@ -25,6 +25,7 @@ use Rattle.clog_engine.specs.declared.status.Status.TheVariants.{
   OutOfMemory,
   Limit,
   Groups,
+  Memtables,
   Absent,
 }
 use Rattle.clog_applied.specs.Printed.{line}
@@ -59,6 +60,7 @@ fault_line (BadTable name fault) =
 fault_line OutOfMemory = line (codes "error 9: out of memory")
 fault_line (Limit what number) = limit_line (quantity_name what) number
 fault_line (Groups number) = limit_line (codes "groups") number
+fault_line (Memtables number) = limit_line (codes "memtables") number
 fault_line (Absent name) = line (codes "error 11: no file " ++ name)
 
 abbrev pub number_of : Status → ℕ
@@ -74,4 +76,5 @@ number_of (BadTable name fault) = 8
 number_of OutOfMemory = 9
 number_of (Limit what number) = 10
 number_of (Groups number) = 10
+number_of (Memtables number) = 10
 number_of (Absent name) = 11

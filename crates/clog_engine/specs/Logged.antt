@@ -16,7 +16,9 @@ use Rattle.std.specs.Prelude.{
   Contains,
   Option,
   Some,
+  None,
   IfSome,
+  is_some,
   option_map,
   Result,
 }
@@ -70,8 +72,9 @@ use Rattle.clog_engine.specs.declared.status.Status.TheVariants.{
   OutOfMemory,
   Limit,
   Groups,
+  Memtables,
 }
-use Rattle.clog_engine.specs.Limits.{group_limit}
+use Rattle.clog_engine.specs.Limits.{group_limit, memtable_limit}
 use Rattle.clog_engine.specs.Outside.{Outside, IsLeftAlone}
 use Rattle.clog_engine.specs.Report.{IsReport, head_with}
 use Rattle.clog_engine.specs.Request.{AreSizesOf}
@@ -92,15 +95,17 @@ pub record AddsFirst (before : Files) (mutations : List Mutation) (least : ℕ) 
 
 -- The run's changes are those of a recovery, and then others whose appends have brought these
 -- segments, in the order of their ids, each of which is above all that the folder named before. By
--- these so many writers log the lines: they are appends alone, or those of a drain that has begun,
--- in order.
+-- these so many writers log the lines. Without a flush limit they are appends alone, or those of a
+-- drain that has begun, in order.
 pub record HasWrittenLog (o : Outside) (options : ApplyOptions) (before : Files)
     (mutations : List Mutation) (log : List Write) : Type 0 where
   pub between : Option (List Change)
   pub recovered : RecoversAll before o.changes between
   pub added : List Change
   pub changes_are : o.changes_now ≡ option_map (λ made. made ++ added) between
-  pub made_for : AreMadeFor options.archive options.drain options.writers mutations added
+  pub made_for :
+      AreMadeFor (is_some options.flush_at) options.archive options.drain options.writers mutations
+      added
   pub brought : IsWrittenBy (appends_of added) log
   pub rise : AllPairs (λ (a b : Write). a.id < b.id) log
   pub new : (w : Write) → Contains log w → IsAbove before w.id
@@ -118,7 +123,8 @@ Wrote o options mutations = IfSome o.files
 -- A crash at any moment of the run leaves what restores so, and a crash now at least so many of the
 -- lines, where nothing passes by chance for what was written: the segments that were appended, which
 -- say a history whose lines are, of each writer, the first of its share. Its lines come in the order
--- of the log. Where the changes go beyond appends, a crash leaves all of them.
+-- of the log. Where the changes go beyond appends, and there is no flush limit, a crash leaves all of
+-- them.
 pub record LeavesFirst (o : Outside) (options : ApplyOptions) (before : Files)
     (mutations : List Mutation) (least : ℕ) : Type 0 where
   pub log : List Write
@@ -129,8 +135,9 @@ pub record LeavesFirst (o : Outside) (options : ApplyOptions) (before : Files)
       → AddsFirst before (said_by history) 0 image
   pub now : (image : Files) → IsImage o.leaves_now image → NoChances log image
       → AddsFirst before (said_by history) least image
-  pub at_drain : GoesBeyond wrote.added → (image : Files) → IsImage o.leaves_now image
-      → NoChances log image → AddsFirst before (said_by history) (length mutations) image
+  pub at_drain : options.flush_at ≡ None → GoesBeyond wrote.added → (image : Files)
+      → IsImage o.leaves_now image → NoChances log image
+      → AddsFirst before (said_by history) (length mutations) image
 
 -- Where the disk tells its files, and all of them lasted before, a crash leaves that.
 abbrev pub LastsFirst : Outside → ApplyOptions → List Mutation → ℕ → Type 0
@@ -237,6 +244,9 @@ LinesRefuse options mutations (Limit Ids most) o =
 -- a group was wanted behind the last, as it may be for so many lines
 LinesRefuse options mutations (Groups most) o =
     (most ≡ group_limit) × (group_limit ≤ 1 + length mutations) × LeavesSome options mutations o
+-- a memtable was wanted behind the last of a table, as it may be where tables are flushed
+LinesRefuse options mutations (Memtables most) o =
+    (most ≡ memtable_limit) × (options.flush_at ≡ None → ⊥) × LeavesSome options mutations o
 LinesRefuse options mutations other o = ⊥
 
 -- a report of lines that are applied, or why there is none

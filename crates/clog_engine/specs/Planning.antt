@@ -45,9 +45,9 @@ pub record IsCellsOf (dump : Bool) (mutations : List Mutation) (cells : List (Ce
   pub merged : dump ≡ true → IsMerge (flat_map cells_of mutations) cells
 
 -- The lines are planned, and each of them fits.
-pub record ArePlanned {D : Type 0} (dump : Bool) (sizes : Sizes) (mutations : List Mutation)
-    (lines : PlannedLines D) : Type 0 where
-  pub plan : IsPlanFor sizes mutations lines.plan
+pub record ArePlanned {D : Type 0} (dump : Bool) (sizes : Sizes) (flush : Option ℕ)
+    (mutations : List Mutation) (lines : PlannedLines D) : Type 0 where
+  pub plan : IsPlanFor sizes flush mutations lines.plan
   pub each : AllByRecursion (HasFittingEntry sizes.capacity) mutations
   pub few : length mutations ≤ line_limit
   pub cells : IsCellsOf dump mutations lines.cells
@@ -60,10 +60,11 @@ LinesRefused capacity mutations OutOfMemory = ⊤
 LinesRefused capacity mutations other = ⊥
 
 -- planned lines, or why there are none
-abbrev pub PlansLines : {D : Type 0} → Bool → Sizes → List Mutation → Result (PlannedLines D) Status
-    → Type 0
-PlansLines dump sizes mutations (result.Ok lines) = ArePlanned dump sizes mutations lines
-PlansLines dump sizes mutations (result.Err status) =
+abbrev pub PlansLines : {D : Type 0} → Bool → Sizes → Option ℕ → List Mutation
+    → Result (PlannedLines D) Status → Type 0
+PlansLines dump sizes flush mutations (result.Ok lines) =
+    ArePlanned dump sizes flush mutations lines
+PlansLines dump sizes flush mutations (result.Err status) =
     LinesRefused sizes.capacity mutations status
 
 -- why a mutation file is refused by itself, or its source
@@ -81,18 +82,18 @@ FileRefused capacity left left_now faults now (Limit Lines most) =
 FileRefused capacity left left_now faults now other = ⊥
 
 -- The source gave a file whose lines these are, planned.
-pub record HasPlanned {D : Type 0} (dump : Bool) (sizes : Sizes)
+pub record HasPlanned {D : Type 0} (dump : Bool) (sizes : Sizes) (flush : Option ℕ)
     (left left_now : Option (List ℕ)) (lines : PlannedLines D) : Type 0 where
   pub bytes : List ℕ
   pub taken : TakesAll left left_now bytes
   pub mutations : List Mutation
   pub sized : IsSized sizes.capacity bytes mutations
-  pub planned : ArePlanned dump sizes mutations lines
+  pub planned : ArePlanned dump sizes flush mutations lines
 
 -- the planned lines of the source, or why there are none
-abbrev pub ReadsPlan : {D : Type 0} → Bool → Sizes → Option (List ℕ) → Option (List ℕ) → ℕ → ℕ
-    → Result (PlannedLines D) Status → Type 0
-ReadsPlan dump sizes left left_now faults now (result.Ok lines) =
-    HasPlanned dump sizes left left_now lines
-ReadsPlan dump sizes left left_now faults now (result.Err status) =
+abbrev pub ReadsPlan : {D : Type 0} → Bool → Sizes → Option ℕ → Option (List ℕ)
+    → Option (List ℕ) → ℕ → ℕ → Result (PlannedLines D) Status → Type 0
+ReadsPlan dump sizes flush left left_now faults now (result.Ok lines) =
+    HasPlanned dump sizes flush left left_now lines
+ReadsPlan dump sizes flush left left_now faults now (result.Err status) =
     FileRefused sizes.capacity left left_now faults now status

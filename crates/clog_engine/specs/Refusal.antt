@@ -22,6 +22,7 @@ use Rattle.clog_folder.specs.declared.fault.OpenFault.TheVariants as refusal
 use Rattle.write_path.specs.declared.commit.Receipt.{Receipt}
 use Rattle.clog_writers.specs.declared.fault.WriteFault.{WriteFault}
 use Rattle.clog_writers.specs.declared.fault.WriteFault.TheVariants.{Rows, Spent, Stopped}
+use Rattle.write_path.specs.declared.switch.Row.TheVariants as row
 use Rattle.clog_engine.specs.declared.report.PendingReport.{PendingReport}
 use Rattle.clog_engine.specs.declared.status.Status.{Status}
 use Rattle.clog_engine.specs.declared.status.Status.TheVariants.{
@@ -31,6 +32,7 @@ use Rattle.clog_engine.specs.declared.status.Status.TheVariants.{
   OutOfMemory,
   Limit,
   Groups,
+  Memtables,
 }
 use Rattle.clog_engine.specs.Report.{head_with, longest_receipt}
 
@@ -50,6 +52,10 @@ folder_status refusal.OutOfMemory = OutOfMemory
 abbrev pub IsUnspent : {T : Type 0} → Result T WriteFault → Type 0
 IsUnspent outcome = outcome ≡ result.Err Spent → ⊥
 
+-- nor for want of groups of the write order
+abbrev pub IsUngrouped : {T : Type 0} → Result T WriteFault → Type 0
+IsUngrouped outcome = (made : ℕ) → outcome ≡ result.Err (Rows row.WriteGroups made) → ⊥
+
 -- there is room for a head of so many receipts, and for the rows
 abbrev pub HasRoomFor : ℕ → PendingReport → Type 0
 HasRoomFor lines pending =
@@ -62,5 +68,8 @@ IsToldAs receipts pending (result.Ok logged) told =
     told ≡ result.Ok (head_with receipts logged.items ++ pending.rows.items)
 IsToldAs receipts pending (result.Err (Stopped at_open now)) told =
     told ≡ result.Err HasDiskFault
-IsToldAs receipts pending (result.Err (Rows groups)) told = told ≡ result.Err (Groups groups)
+IsToldAs receipts pending (result.Err (Rows row.AppendGroups made)) told =
+    told ≡ result.Err (Groups made)
+IsToldAs receipts pending (result.Err (Rows row.Memtables made)) told =
+    told ≡ result.Err (Memtables made)
 IsToldAs receipts pending (result.Err other) told = told ≡ result.Err OutOfMemory

@@ -36,8 +36,8 @@ impl From<OutOfMemory> for Status {
     }
 }
 
-// Whether there is one sync, behind all lines: of one writer, in the mode and with the period that
-// there are where none are given.
+// Whether there is one sync, behind all lines, but for what flushes want: of one writer, in the mode
+// and with the period that there are where none are given.
 fn has_one_sync(options: ApplyOptions) -> bool {
     if options.sync != SyncCore::periodic(10_000) {
         return false;
@@ -59,9 +59,9 @@ fn apply_planned<T: Threads + Wait + Sync, D: Disk + Send + Drop, C: Clock + Syn
     requires doable { IsDoable options }
     requires sizes { AreSizesOf options sizes }
     requires planned { (mutations : List Mutation)
-        × ArePlanned options.dump sizes mutations lines }
+        × ArePlanned options.dump sizes options.flush_at mutations lines }
     ensures applies { (left left_now : Option (List ℕ)) (f g : ℕ) (mutations : List Mutation)
-        → ArePlanned options.dump sizes mutations lines
+        → ArePlanned options.dump sizes options.flush_at mutations lines
         → AppliesLines options mutations
         (outside_with left left_now f g D.Disk C.Clock disk result.0 clock.now) result.1 }
     ensures quiet { TellsEach (D.faults disk) (D.faults result.0) result.1 }
@@ -100,7 +100,7 @@ pub(crate) fn apply<
     ensures uncalled { IsRefusedBefore result.1 → result.0 ≡ disk }
 {
     let sizes = sizes_of(&options);
-    match read_plan(rt, alloc, sizes, source, options.dump) {
+    match read_plan(rt, alloc, sizes, options.flush_at, source, options.dump) {
         Ok(lines) => apply_planned(rt, alloc, options, sizes, lines, disk, clock, gate),
         Err(status) => (disk, Err(status)),
     }

@@ -1,6 +1,7 @@
 //! The command `drill`: made lines are applied by four writers, in segments of 1024 KiB, and then
 //! the folder is replayed by four workers and told in numbers. The lines go the way of those of a
-//! mutation file. No table is flushed while they are written; no number that is told depends on it.
+//! mutation file, and each writer flushes a table once it has logged 1000 updates of it since its
+//! last flush; no number that is told depends on it.
 ghost use Rattle.std.specs.Prelude.{◌≡◌, ◌≤◌, ℕ, List, length, Option, is_some};
 ghost use Rattle.clog_spec.specs.Sizes.{most_tables};
 ghost use Rattle.clog_folder.specs.Passing.{IsUntouched};
@@ -14,6 +15,7 @@ ghost use Rattle.clog_engine.specs.Drill.{
 };
 ghost use Rattle.clog_engine.specs.Outside.{outside_with};
 ghost use Rattle.clog_engine.specs.Quiet.{IsRefusedBefore, TellsEach};
+ghost use Rattle.clog_engine.specs.Request.{IsDoable};
 
 use crate::refusal::folder_status;
 use crate::shares::{PlannedLines, plan_lines};
@@ -37,13 +39,14 @@ const WORKERS: u8 = 4;
 
 // The options of `apply` by which made lines are applied.
 fn drill_options() -> ApplyOptions
-    ensures { result ≡ options_of_drill }
+    ensures are { result ≡ options_of_drill }
+    ensures doable { IsDoable result }
 {
     ApplyOptions {
         writers: 4,
         sync: SyncCore::Periodic { period_ms: 10_000 },
         segment_kib: 1024,
-        flush_at: None,
+        flush_at: Some(1000),
         archive: false,
         receipts: false,
         drain: false,
@@ -55,17 +58,18 @@ fn drill_options() -> ApplyOptions
 fn plan_made<D: Disk + Drop>(
     alloc: Global,
     sizes: Sizes,
+    flush_at: Option<u32>,
     seed: u32,
     count: u32,
 ) -> Result<(PlannedLines<D>, u64), Status>
     requires count { count ≤ 1000000 }
     requires tables { sizes.tables ≡ most_tables }
     requires capacity { sizes.capacity ≡ 1048576 }
-    ensures { PlansMade sizes seed count result }
+    ensures { PlansMade sizes flush_at seed count result }
 {
     let mutations = made(alloc, seed, count)?;
     let updates = count_updates(mutations.as_slice())?;
-    match plan_lines(alloc, sizes, mutations, false) {
+    match plan_lines(alloc, sizes, flush_at, mutations, false) {
         Ok(lines) => Ok((lines, updates)),
         Err(status) => Err(status),
     }
@@ -125,7 +129,7 @@ pub(crate) fn drill<
     disks_tell_both(&disk);
     let options = drill_options();
     let sizes = sizes_of(&options);
-    let (lines, updates) = match plan_made(alloc, sizes, seed, count) {
+    let (lines, updates) = match plan_made(alloc, sizes, options.flush_at, seed, count) {
         Ok(made) => made,
         Err(status) => return (disk, Err(status)),
     };

@@ -92,25 +92,35 @@ fn outcome_of<
 /// order of the log, which are of each writer the first of its share, and after `Ok` with all of
 /// them.
 ///
+/// With `--flush-at` each writer flushes a table once it has logged so many updates of it since its
+/// last flush of it: meanwhile table files come, and segments go whose entries all lie in them, with
+/// `--archive` to their archive names. At `Ok` each writer has fewer updates of a table above the
+/// end of the table's last file than that number, and each table of which a writer's share has so
+/// many has a file; no segment of the run is left whose entries table files hold. A table may have
+/// 256 memtables in a run, and where a flush wants a further one it ends with `Memtables`.
+///
 /// With `--sync batch` a writer waits for the sync of each line before it logs its next one, so no
 /// section of a segment holds two lines of one writer, and where a sync is refused it logs no more.
 /// In periodic mode a writer has the log synced behind a line at which the clock tells that the
 /// period has passed since it last had; with `--writers 1` and no other period than the default
-/// there is one sync, behind all lines.
+/// there is one sync, behind all lines, but for those that flushes want.
 ///
 /// Of `replay` it means that the report has the counts of the folder and what it restores to, and
 /// that without `--ignore-errors` nothing of the folder is damaged; of `scan` that the report tells
 /// what the segment's file holds. Of `drill` it means all that it means of `apply` without options
-/// but `--writers 4` and `--segment-kib 1024`, with the made lines as those of the file, and that
-/// the report has their numbers, and those of what the folder then restores to; the source is not
-/// read.
+/// but `--writers 4`, `--segment-kib 1024` and `--flush-at 1000`, with the made lines as those of
+/// the file, and that the report has their numbers, and those of what the folder then restores to;
+/// the source is not read. A drill of some 510,000 lines or more may end with `Memtables`: of a
+/// thousand lines each of three tables has some 500 updates, and a writer may flush a table at
+/// every 1000 of its own.
 ///
 /// Where the words ask for what can be done and no fault was counted, it ends with `Ok`, or for
-/// want of memory or of groups. A fault of the disk is told: without `DiskFault` none was counted.
-/// What the words or the mutation file refuse by themselves leaves the disk uncalled, and what the
-/// folder refuses for what it holds leaves it as it was. After `DiskFault`, `OutOfMemory` and
-/// `Groups` the changes are the first of a recovery's, or all of these and appends to the run's
-/// segments, with what a drain changes, and, under the two premises above, what a crash leaves
+/// want of memory, of groups or, of a run that flushes while it writes, of memtables. A fault of the
+/// disk is told: without `DiskFault` none was counted. What the words or the mutation file refuse by
+/// themselves leaves the disk uncalled, and what the folder refuses for what it holds leaves it as
+/// it was. After `DiskFault`, `OutOfMemory`, `Groups` and `Memtables` the changes are the first of a
+/// recovery's, or all of these and others, which without a flush limit are appends to the run's
+/// segments, with what a drain changes; and, under the two premises above, what a crash leaves
 /// restores to what was there before with the first of the lines that were logged, of each writer
 /// the first of its share; the files as they read are one such image. The gate is told how far each
 /// writer and each worker is.

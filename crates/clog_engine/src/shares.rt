@@ -37,20 +37,22 @@ fn cells_of(alloc: Global, mutations: &[Mutation], dump: bool) -> Result<CellMap
     copies_of(alloc, mutations)
 }
 
-/// Plans lines for as many writers as the sizes say.
+/// Plans lines for as many writers as the sizes say, which flush at so many updates of a table, or
+/// never.
 pub(crate) fn plan_lines<D: Disk + Drop>(
     alloc: Global,
     sizes: Sizes,
+    flush_at: Option<u32>,
     mutations: Mutations,
     dump: bool,
 ) -> Result<PlannedLines<D>, Status>
     requires within { AllByRecursion IsWithinLimits mutations }
     requires few { length mutations ≤ line_limit }
     requires tables { sizes.tables ≡ most_tables }
-    ensures { PlansLines dump sizes mutations result }
+    ensures { PlansLines dump sizes flush_at mutations result }
 {
     let cells = cells_of(alloc, mutations.as_slice(), dump)?;
-    match make_plan(alloc, sizes, mutations.into_vec()) {
+    match make_plan(alloc, sizes, flush_at, mutations.into_vec()) {
         Ok(plan) => Ok(PlannedLines { plan, cells }),
         Err(PlanFault::TooLarge { line, size, most }) => Err(Status::TooLarge(line, size, most)),
         Err(PlanFault::OutOfMemory) => Err(Status::OutOfMemory),
@@ -62,14 +64,15 @@ pub(crate) fn read_plan<T: Threads + Sync, S: Source, D: Disk + Drop>(
     rt: &T,
     alloc: Global,
     sizes: Sizes,
+    flush_at: Option<u32>,
     source: &mut S,
     dump: bool,
 ) -> Result<PlannedLines<D>, Status>
     requires tables { sizes.tables ≡ most_tables }
-    ensures { ReadsPlan dump sizes (S.left source.old) (S.left source.new) (S.faults source.old)
-        (S.faults source.new) result }
+    ensures { ReadsPlan dump sizes flush_at (S.left source.old) (S.left source.new)
+        (S.faults source.old) (S.faults source.new) result }
 {
     let bytes = bytes_of(alloc, source)?;
     let mutations = mutations_of(rt, alloc, &bytes)?;
-    plan_lines(alloc, sizes, mutations, dump)
+    plan_lines(alloc, sizes, flush_at, mutations, dump)
 }

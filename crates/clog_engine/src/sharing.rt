@@ -11,7 +11,7 @@ ghost use Rattle.clog_engine.specs.Logged.{AppliesLines};
 ghost use Rattle.clog_engine.specs.Outside.{outside_with};
 ghost use Rattle.clog_engine.specs.Planning.{ArePlanned};
 ghost use Rattle.clog_engine.specs.Quiet.{IsRefusedBefore, TellsEach};
-ghost use Rattle.clog_engine.specs.Refusal.{HasRoomFor, IsToldAs, IsUnspent};
+ghost use Rattle.clog_engine.specs.Refusal.{HasRoomFor, IsToldAs, IsUngrouped, IsUnspent};
 ghost use Rattle.clog_engine.specs.Request.{AreSizesOf, IsDoable};
 
 use crate::before::cells_before;
@@ -28,16 +28,17 @@ use clog_writers::{Syncing, WriteFault, write_plan};
 use std::alloc::Global;
 use std::sync::Wait;
 use std::thread::Threads;
-use write_path::Receipt;
+use write_path::{Receipt, Row};
 
 // How a run ends whose lines were logged by their writers, or not: no log is spent by as many lines
-// as a file has, and there is room for the report of as many.
+// as a file has, nor are groups of the write order, and there is room for the report of as many.
 fn told(
     pending: PendingReport,
     receipts: bool,
     outcome: Result<Vec<Receipt>, WriteFault>,
 ) -> Result<Bytes, Status>
     requires unspent { IsUnspent outcome }
+    requires ungrouped { IsUngrouped outcome }
     requires void { pending.room.items ≡ [] }
     requires room { IfOk outcome (λ told. HasRoomFor (length told.items) pending) }
     ensures { IsToldAs receipts pending outcome result }
@@ -46,7 +47,9 @@ fn told(
         Ok(told) => Ok(finished(pending, receipts, told.as_slice())),
         Err(WriteFault::Stopped { .. }) => Err(Status::DiskFault),
         Err(WriteFault::OutOfMemory) => Err(Status::OutOfMemory),
-        Err(WriteFault::Rows(groups)) => Err(Status::Groups(groups)),
+        Err(WriteFault::Rows(Row::AppendGroups, most)) => Err(Status::Groups(most)),
+        Err(WriteFault::Rows(Row::Memtables, most)) => Err(Status::Memtables(most)),
+        Err(WriteFault::Rows(Row::WriteGroups, _)) => unreachable!(),
         Err(WriteFault::Spent) => unreachable!(),
     }
 }
@@ -78,9 +81,9 @@ pub(crate) fn apply_shares<
     requires doable { IsDoable options }
     requires sizes { AreSizesOf options sizes }
     requires planned { (mutations : List Mutation)
-        × ArePlanned options.dump sizes mutations lines }
+        × ArePlanned options.dump sizes options.flush_at mutations lines }
     ensures applies { (left left_now : Option (List ℕ)) (f g : ℕ) (mutations : List Mutation)
-        → ArePlanned options.dump sizes mutations lines
+        → ArePlanned options.dump sizes options.flush_at mutations lines
         → AppliesLines options mutations
         (outside_with left left_now f g D.Disk C.Clock disk result.0 clock.now) result.1 }
     ensures later { D.moment disk ≤ D.moment result.0 }
@@ -116,6 +119,7 @@ pub(crate) fn apply_shares<
         gate,
         periods,
         plan,
+        options.flush_at,
         options.drain,
     );
     (disk, told(pending, options.receipts, outcome))

@@ -6,9 +6,9 @@ use clog_scan::Cause;
 use clog_table::TableFault;
 use clog_text::BadLine;
 
-/// How a run ends. Each refusal leaves the disk as it was, but `DiskFault`, `OutOfMemory`, `Groups`
-/// and `WriteFault`, which comes when all is done. After the first three the folder may be
-/// recovered, in part or whole, and the first of the lines may stand in its log; where all of it
+/// How a run ends. Each refusal leaves the disk as it was, but `DiskFault`, `OutOfMemory`, `Groups`,
+/// `Memtables` and `WriteFault`, which comes when all is done. After the first four the folder may
+/// be recovered, in part or whole, and the first of the lines may stand in it; where all of it
 /// lasted before, it restores to what it restored to, with these.
 #[derive(Clone, Copy, Debug, PartialEq, Eq)]
 pub enum Status {
@@ -39,6 +39,10 @@ pub enum Status {
     Limit(Quantity, u64),
     /// The lines want more groups of the append order than this number, which is the most of a run.
     Groups(u64),
+    /// A table wants more memtables than this number, which is the most that it has in a run. Only
+    /// a run that flushes while it writes ends so. A drill of some 510,000 lines or more may, since
+    /// its writers flush each of three tables at every 1000 of their updates of it.
+    Memtables(u64),
     /// The disk has no file of this name.
     Absent(Name),
 }
@@ -61,7 +65,7 @@ impl Status {
             Status::Damaged(_, _, _) => 7,
             Status::BadTable(_, _) => 8,
             Status::OutOfMemory => 9,
-            Status::Limit(_, _) | Status::Groups(_) => 10,
+            Status::Limit(_, _) | Status::Groups(_) | Status::Memtables(_) => 10,
             Status::Absent(_) => 11,
         }
     }

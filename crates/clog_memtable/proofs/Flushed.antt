@@ -68,7 +68,7 @@ use Rattle.clog_memtable.specs.Flushing.{HasPutFiles, MayFlush, file_of, files_o
 
 -- ---- the upper key of a table's last file
 
-upper_behind : (t key : ℕ) (fs gs : List PutFile)
+pub upper_behind : (t key : ℕ) (fs gs : List PutFile)
     → upper_from t key (fs ++ gs) ≡ upper_from t (upper_from t key fs) gs
 upper_behind t key [] gs = refl
 upper_behind t key (f ∷ fs) gs = upper_behind t (if f.table == t then f.upper else key) fs gs
@@ -79,7 +79,7 @@ other_table f t key true apart is = absurd (apart (eqb-true f.table t is))
 other_table f t key false apart is = refl
 
 -- files of other tables leave it
-upper_stays : (t key : ℕ) (ms : List Memtable)
+pub upper_stays : (t key : ℕ) (ms : List Memtable)
     → ((m : Memtable) → Contains ms m → m.interval.table.0 ≡ t → ⊥)
     → upper_from t key (files_of ms) ≡ key
 upper_stays t key [] apart = refl
@@ -91,7 +91,7 @@ upper_stays t key (m ∷ ms) apart =
 -- ---- one after another
 
 -- the cells of a file's interval are those of the log alone
-same_cells : (h k : Holding) (f : PutFile) → k.logged ≡ h.logged
+pub same_cells : (h k : Holding) (f : PutFile) → k.logged ≡ h.logged
     → (pair : CellKey × Cell) → IsLoggedCell h f pair → IsLoggedCell k f pair
 same_cells h k f same pair c = record {
   note = c.note;

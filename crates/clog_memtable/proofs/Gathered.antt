@@ -1,18 +1,5 @@
 -- Cells of a table are gathered entry by entry.
-use Rattle.std.proofs.Common.{
-  ◌≡◌,
-  ◌++◌,
-  ◌∷◌,
-  [],
-  List,
-  ℕ,
-  ⊎_elim,
-  refl,
-  sym,
-  ap,
-  ◌∙◌,
-  subst,
-}
+use Rattle.std.proofs.Common.{◌≡◌, ◌++◌, ◌∷◌, [], List, ⊎_elim, sym, ap, subst}
 use Rattle.std.specs.List.{Contains}
 use Rattle.std.proofs.lemmas.List.Elements.{
   Contains-append_cases,

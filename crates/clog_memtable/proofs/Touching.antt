@@ -1,27 +1,6 @@
 -- Memtables of notes, table by table; and that they may be flushed once the notes are synced.
-use Rattle.std.proofs.Common.{
-  ◌≡◌,
-  ℕ,
-  ◌+◌,
-  ◌<◌,
-  ◌≤◌,
-  inl,
-  inr,
-  List,
-  [],
-  ◌∷◌,
-  ◌++◌,
-  length,
-  get_or,
-  sym,
-  ◌∙◌,
-  ap,
-  subst,
-  arith,
-  refl,
-  eqb-true,
-}
-use Rattle.std.specs.Prelude.{◌==◌, Bool, true, false, if◌then◌else◌}
+use Rattle.std.proofs.Common.{◌≡◌, ℕ, ◌+◌, ◌<◌, ◌≤◌, inl, inr, List, [], ◌∷◌, ◌++◌, length, get_or, sym, ap, subst, arith, refl, eqb-true}
+use Rattle.std.specs.Prelude.{◌==◌, ◌^◌, Bool, Contains, true, false, if◌then◌else◌}
 use Rattle.std.proofs.lemmas.Bool.{cases_lt}
 use Rattle.std.proofs.lemmas.List.{get_or_default, length-append}
 use Rattle.std.proofs.lemmas.List.Elements.{
@@ -33,7 +12,7 @@ use Rattle.std.proofs.lemmas.List.Quantifiers.{all_pairs_push}
 use Rattle.clog_spec.specs.Sizes.{most_tables}
 use Rattle.clog_base.proofs.Members.{nothing_there}
 use Rattle.path_core.specs.declared.note.EntryNote.{EntryNote}
-use Rattle.path_core.specs.Keeper.{Holding, PutFile, upper_from}
+use Rattle.path_core.specs.Keeper.{Holding, upper_from}
 use Rattle.path_core.specs.Keys.{
   after,
   behind_marker,
@@ -44,15 +23,15 @@ use Rattle.path_core.specs.Keys.{
 }
 use Rattle.clog_memtable.specs.declared.flushing.Memtable.{Memtable}
 use Rattle.clog_memtable.specs.Flushing.{MayFlush}
-use Rattle.clog_memtable.specs.Touched.{AreMemtablesOf, IsMemtableOf, IsTouched}
+use Rattle.clog_memtable.specs.Touched.{AreMemtablesOf, IsMemtableOf, IsTouchedAbove}
 
 abbrev Below : Memtable → Memtable → Type 0
 Below a b = a.interval.table.0 < b.interval.table.0
 
 -- ---- table by table
 
-module _ (notes : List EntryNote) (upper : ℕ) where
-  pub none_yet : AreMemtablesOf notes upper 0 []
+module _ (notes : List EntryNote) (lowers : ℕ → ℕ) (upper : ℕ) where
+  pub none_yet : AreMemtablesOf notes lowers upper 0 []
   none_yet = record {
     each = λ m h. absurd (nothing_there m h);
     tables = λ m h. absurd (nothing_there m h);
@@ -61,9 +40,10 @@ module _ (notes : List EntryNote) (upper : ℕ) where
     few = omega arith;
   }
 
-  module _ (t : ℕ) (ms : List Memtable) (are : AreMemtablesOf notes upper t ms) where
-    -- a table that no note touches
-    pub passed : (IsTouched notes t → ⊥) → AreMemtablesOf notes upper (t + 1) ms
+  module _ (t : ℕ) (ms : List Memtable) (are : AreMemtablesOf notes lowers upper t ms) where
+    -- a table that no note touches above its lower key
+    pub passed : (IsTouchedAbove notes t (lowers t) → ⊥)
+        → AreMemtablesOf notes lowers upper (t + 1) ms
     passed none = record {
       each = are.each;
       tables = λ m h. let low = are.tables m h in omega (arith, low);
@@ -71,19 +51,21 @@ module _ (notes : List EntryNote) (upper : ℕ) where
         | inl less ↦ are.every k less touched
         | inr high ↦
             let same : k ≡ t = omega (arith, low, high) in
-            absurd (none (subst (IsTouched notes) same touched))
+            absurd (none (subst (λ (k : ℕ). IsTouchedAbove notes k (lowers k)) same touched))
       ];
       ascending = are.ascending;
       few = let low = are.few in omega (arith, low);
     }
 
     -- one that some note touches
-    pub one_more : (m : Memtable) → IsMemtableOf notes upper m → m.interval.table.0 ≡ t
-        → AreMemtablesOf notes upper (t + 1) (ms ++ m ∷ [])
+    pub one_more : (m : Memtable) → IsMemtableOf notes (lowers t) upper m
+        → m.interval.table.0 ≡ t → AreMemtablesOf notes lowers upper (t + 1) (ms ++ m ∷ [])
     one_more m is table = record {
       each = λ n h. elim (Contains-push_cases ms m n h) [
         | inl before ↦ are.each n before
-        | inr same ↦ subst (IsMemtableOf notes upper) same is
+        | inr same ↦
+            subst (λ (x : Memtable). IsMemtableOf notes (lowers x.interval.table.0) upper x) same
+            (subst (λ (k : ℕ). IsMemtableOf notes (lowers k) upper m) (sym table) is)
       ];
       tables = λ n h. elim (Contains-push_cases ms m n h) [
         | inl before ↦ let low = are.tables n before in omega (arith, low)
@@ -127,26 +109,29 @@ up_to_after capacity synced = by_case (synced == 0) refl
     by_case true is = let zero = eqb-true synced 0 is in omega (arith, zero)
     by_case false is = further (fits capacity synced marker_size)
 
--- by a keeper that has logged just the notes, and is synced to the key
-pub may_flush : (h : Holding) (notes : List EntryNote) (ms : List Memtable)
-    → AreMemtablesOf notes h.synced most_tables ms → h.sizes.tables ≡ most_tables
-    → h.logged ≡ notes → h.files ≡ [] → MayFlush h ms
-may_flush h notes ms are tables logged none = record {
+-- by a keeper that has logged these notes, and is synced to the key or above it
+pub may_flush : (h : Holding) (upper : ℕ) (ms : List Memtable) → upper ≤ h.synced
+    → ((n : EntryNote) → Contains h.logged n → n.end.0 ≤ upper)
+    → AreMemtablesOf h.logged (λ (t : ℕ). upper_from t 0 h.files) upper most_tables ms
+    → h.sizes.tables ≡ most_tables → length h.files + most_tables < 2 ^ 47 → MayFlush h ms
+may_flush h upper ms low ends are tables few = record {
   each = λ m among.
       let is = are.each m among in
-      let low = are.tables m among in
+      let less = are.tables m among in
       let up = up_to_after h.sizes.capacity h.synced in
-      let upper = is.upper_is in
-      let lower = is.lower_is in
+      let upper_is = is.upper_is in
+      let from = upper_from m.interval.table.0 0 h.files in
+      let lower_is : m.interval.lower.0 ≡ from = is.lower_is in
+      let above : from < is.touched.note.end.0 = is.touched.above in
+      let end = ends is.touched.note is.touched.among in
       record {
-        table_is = omega (arith, low, tables);
-        lasting = omega (arith, up, upper);
-        goes_on = lower ∙ sym (ap (upper_from m.interval.table.0 0) none);
-        forward = omega (arith, lower);
-        merged = is.merged h logged;
+        table_is = omega (arith, less, tables);
+        lasting = omega (arith, up, upper_is, low);
+        goes_on = lower_is;
+        forward = omega (arith, lower_is, upper_is, above, end);
+        merged = is.merged h refl;
       };
   apart = λ i j d less inside same.
       let low = are.ascending i j d less inside in omega (arith, low, same);
-  few = let long = ap (λ (l : List PutFile). length l) none in
-      let few = are.few in omega (arith, long, few);
+  few = let most = are.few in omega (arith, most, few);
 }

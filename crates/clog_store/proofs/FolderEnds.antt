@@ -64,7 +64,7 @@ use Rattle.clog_store.specs.StoreFolder.{EndsWithin, IsSound}
 -- ---- how far it has gone
 
 -- the log goes on behind a key at the front of the next segment at most
-after_at_most : (capacity key : ℕ)
+pub after_at_most : (capacity key : ℕ)
     → after capacity key ≤ (ordinal_of key + 1) * 2 ^ 31 + first_offset
 after_at_most capacity key = by (key == 0) (fits capacity key marker_size) refl refl
   where
@@ -89,7 +89,7 @@ after_at_most capacity key = by (key == 0) (fits capacity key marker_size) refl 
           ap (λ (x : Bool). if x then key + marker_size else next_segment key) fits_is,
         )
 
-after_first : (capacity key : ℕ) → key ≡ 0 → after capacity key ≡ first_offset
+pub after_first : (capacity key : ℕ) → key ≡ 0 → after capacity key ≡ first_offset
 after_first capacity key none = ap (after capacity) none
 
 module _ {D : Type 0} (s : NoteState D) (sound : IsSound s.log) where

@@ -78,7 +78,7 @@ one_file_name p q a b same =
     (one_table (name_of q) p.put.table p.sequence q.put.table q.sequence
     (subst (λ (n : List ℕ). IsTableName n p.put.table p.sequence) same a) b).1
 
-upper_push : (t key : ℕ) (files : List PutFile) (put : PutFile)
+pub upper_push : (t key : ℕ) (files : List PutFile) (put : PutFile)
     → upper_from t key (files ++ put ∷ [])
     ≡ (if put.table == t then put.upper else upper_from t key files)
 upper_push t key [] put = refl

@@ -15,9 +15,10 @@ mod Ends
 mod FilePut
 mod FirstFile
 mod Filed
+mod FiledTo
 mod FolderBegins
 mod FolderDue
-mod FolderEnds
+pub mod FolderEnds
 mod FolderFails
 mod FolderGoes
 mod FolderNames
@@ -44,6 +45,7 @@ pub mod NextNames
 mod NoteBegun
 mod NoteCuts
 mod NoteDue
+mod NoteEnded
 mod NoteFrom
 mod NoteGoes
 pub mod NoteGrows

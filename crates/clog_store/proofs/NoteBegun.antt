@@ -20,6 +20,7 @@ module _ {D : Type 0} (sizes : Sizes) (log : State D) where
     few = omega arith;
     good = λ n among. absurd (nothing_there n among);
     below = λ n among. absurd (nothing_there n among);
+    ended = λ some. absurd (omega (arith, some));
     above = λ n among. absurd (nothing_there n among);
     stands = record {
       shown = 0;

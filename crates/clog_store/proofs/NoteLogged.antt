@@ -51,6 +51,7 @@ use Rattle.clog_store.specs.NoteLog.{
 }
 use Rattle.clog_store.specs.Notes.{places_of}
 use Rattle.clog_store.specs.NoteSteps.{MayRun, ReadyAt, StandAhead, standing}
+use Rattle.clog_store.proofs.NoteEnded.{ended_tiled}
 use Rattle.clog_store.proofs.NoteLent.{
   end_above,
   first_apart,
@@ -179,6 +180,7 @@ module _ {D : Type 0} (s : NoteState D) (upto : ℕ) (run : List EntryNote)
         few = few;
         good = all_good;
         below = inv.below;
+        ended = inv.ended;
         above = run_above s.sizes s.synced upto run lent.good lent.tiled;
         stands = stands;
         held = held;
@@ -245,6 +247,7 @@ module _ {D : Type 0} (s : NoteState D) (upto : ℕ) (run : List EntryNote)
             )
             | inr new ↦ run_below s.sizes s.synced upto run lent.good lent.tiled n new
           ];
+          ended = ended_tiled s.sizes.capacity s.synced upto s.logged run lent.tiled inv.ended;
           above = λ n among. absurd (nothing_there n among);
           stands = record {
             shown = 0;

@@ -42,6 +42,7 @@ module _ {D : Type 0} (s : NoteState D) (now : State D) where
     few = n.few;
     good = n.good;
     below = n.below;
+    ended = n.ended;
     above = n.above;
     stands = stands_same is n.stands;
     held = λ still. held_same s.base s.kept s.sizes s.synced s.logged s.log now s.written is

@@ -81,6 +81,7 @@ module _ {D : Type 0} (s : NoteState D) (now : State D) (id : ℕ) (runs : s.log
     few = n.few;
     good = n.good;
     below = n.below;
+    ended = n.ended;
     above = n.above;
     stands = stands_by s.base s.kept s.sizes s.synced s.logged now s.written s.written n.few
         (held_on r enters);

@@ -141,6 +141,10 @@ abbrev pub IsFrom : {D : Type 0} → ℕ → State D → Type 0
 IsFrom base log =
     (w : Write) → Contains (segments_with log.past log.id log.sections) w → base ≤ w.id
 
+-- one of these notes ends at the key
+abbrev pub EndsThere : ℕ → List EntryNote → Type 0
+EndsThere key notes = (n : EntryNote) × Contains notes n × (n.end.0 ≡ key)
+
 -- What a log of notes keeps.
 pub record IsNoteLog {D : Type 0} (s : NoteState D) : Type 0 where
   pub fits : s.base < 2 ^ 62
@@ -148,6 +152,8 @@ pub record IsNoteLog {D : Type 0} (s : NoteState D) : Type 0 where
   pub few : s.written ≤ length s.kept
   pub good : (n : EntryNote) → Contains (s.logged ++ s.kept) n → IsGood s.sizes n
   pub below : (n : EntryNote) → Contains s.logged n → n.end.0 ≤ s.synced
+  -- the synced key, once there is one, is the end of a note that is logged
+  pub ended : 0 < s.synced → EndsThere s.synced s.logged
   pub above : (n : EntryNote) → Contains s.kept n → after s.sizes.capacity s.synced < n.end.0
   pub stands : Stands s
   pub held : s.log.is_stopped ≡ false → IsHeld s

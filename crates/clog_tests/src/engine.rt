@@ -1,6 +1,6 @@
 //! Each public call once. Worked rows of `run` are data, which `run_play` reads.
-use clog_base::segment_name;
-use clog_disk::{Disk, MemDisk};
+use clog_base::{Name, Table, segment_name, table_name};
+use clog_disk::{Change, Disk, MemDisk};
 use clog_engine::{FaultLine, Status, run};
 use clog_io::{FixedClock, HoldGate, MemSink, MemSource, OpenGate};
 use std::alloc::Global;
@@ -154,6 +154,61 @@ fn two_commits_in_batch_mode_share_a_sync(rt: HostRuntime) -> Result<(), Fail> {
     Ok(())
 }
 
+// A line whose entry has 2048 bytes, so that a segment of 4096 has room for one.
+fn large_line(alloc: Global) -> Result<Vec<u8>, Fail> {
+    let mut line = Vec::new(alloc);
+    line.extend_from_slice(b"{\"key\":\"k\",\"updates\":[{\"table\":0,\"column\":\"c\",")?;
+    line.extend_from_slice(b"\"ts\":1,\"value\":\"")?;
+    for _ in 0..2014 {
+        line.push(b'x')?;
+    }
+    line.extend_from_slice(b"\"}]}\n")?;
+    Ok(line)
+}
+
+// Whether a file came or grew by the change at a place.
+fn has_come(disk: &MemDisk, n: u64, name: Name) -> bool {
+    match disk.change(n) {
+        Some(Change::Publish(changed, _)) | Some(Change::Append(changed, _)) => *changed == name,
+        _ => false,
+    }
+}
+
+// The table file of the second line comes behind it, and then the first segment goes, before the
+// third line is there.
+#[test]
+fn a_writer_that_flushes_drops_a_segment_in_front_of_a_line(rt: HostRuntime) -> Result<(), Fail> {
+    let words = ["apply", "--flush-at", "1", "--segment-kib", "4"];
+    let words = words_of(rt.alloc(), &words)?;
+    let line = large_line(rt.alloc())?;
+    let mut lines = Vec::new(rt.alloc());
+    for _ in 0..3 {
+        lines.extend_from_slice(&line)?;
+    }
+    let mut source = MemSource::new(lines, 7, Vec::new(rt.alloc()));
+    let mut sink = MemSink::new(rt.alloc(), Vec::new(rt.alloc()));
+    let (status, disk) = run(
+        &rt,
+        rt.alloc(),
+        &words,
+        &mut source,
+        &mut sink,
+        MemDisk::new(rt.alloc()),
+        &FixedClock::new(1000),
+        &OpenGate::new(),
+    );
+    assert_eq!(rt; status.number(), 0);
+    assert!(rt; has_come(&disk, 2, segment_name(1001)));
+    assert!(rt; has_come(&disk, 3, table_name(Table(0), 2)));
+    let went = match disk.change(4) {
+        Some(Change::Remove(name)) => *name == segment_name(1000),
+        _ => false,
+    };
+    assert!(rt; went);
+    assert!(rt; has_come(&disk, 5, segment_name(1002)));
+    Ok(())
+}
+
 // No run can be made to want memory.
 #[test]
 fn want_of_memory_has_its_number_and_its_line(rt: HostRuntime) {
@@ -165,13 +220,20 @@ fn want_of_memory_has_its_number_and_its_line(rt: HostRuntime) {
     );
 }
 
-// A run that wants so many groups takes as many syncs.
+// A run that wants so many groups takes as many syncs, and one that wants so many memtables as many
+// flushes.
 #[test]
-fn want_of_groups_has_its_number_and_its_line(rt: HostRuntime) {
-    let status = Status::Groups(65_536);
-    assert_eq!(rt; status.number(), 10);
+fn want_of_words_has_its_number_and_its_line(rt: HostRuntime) {
+    let groups = Status::Groups(65_536);
+    assert_eq!(rt; groups.number(), 10);
     assert_eq!(rt;
-        FaultLine::new(&status).as_bytes(),
+        FaultLine::new(&groups).as_bytes(),
         b"error 10: limit groups 65536\n".as_slice()
+    );
+    let memtables = Status::Memtables(256);
+    assert_eq!(rt; memtables.number(), 10);
+    assert_eq!(rt;
+        FaultLine::new(&memtables).as_bytes(),
+        b"error 10: limit memtables 256\n".as_slice()
     );
 }

@@ -26,7 +26,8 @@ pub(crate) struct Way {
     pub(crate) drain: bool,
 }
 
-// Writers log lines to an empty disk. It is opened at 1000 ms, and the clock stands at 1010 ms.
+// Writers log lines to an empty disk, and flush none. It is opened at 1000 ms, and the clock stands
+// at 1010 ms.
 pub(crate) fn logged<R: Threads + Wait + Sync>(
     rt: &R,
     alloc: Global,
@@ -44,7 +45,7 @@ pub(crate) fn logged<R: Threads + Wait + Sync>(
     let Ok(store) = Store::open(alloc, MemDisk::new(alloc), 1000, sizes, way.archives) else {
         return Err(Fail::new("no store"));
     };
-    let Ok(plan) = make_plan(alloc, sizes, lines) else {
+    let Ok(plan) = make_plan(alloc, sizes, None, lines) else {
         return Err(Fail::new("no plan"));
     };
     let syncing = Syncing {
@@ -54,7 +55,7 @@ pub(crate) fn logged<R: Threads + Wait + Sync>(
     let gate = OpenGate::new();
     let clock = FixedClock::new(1010);
     match write_plan(
-        rt, alloc, store, sizes, syncing, &gate, &clock, plan, way.drain,
+        rt, alloc, store, sizes, syncing, &gate, &clock, plan, None, way.drain,
     ) {
         (disk, Ok(receipts)) => Ok((disk, receipts)),
         (_, Err(_)) => Err(Fail::new("not written")),

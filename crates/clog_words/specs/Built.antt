@@ -1,30 +1,15 @@
--- What of the requests the program does today.
-use Rattle.std.specs.Prelude.{◌≡◌, ℕ, List, None}
+-- What the program does, of what words ask for.
+use Rattle.std.specs.Prelude.{◌≡◌, ℕ, List}
 use Rattle.clog_spec.specs.Names.{IsSegmentName}
 use Rattle.clog_words.specs.Asks.{Asks}
 use Rattle.clog_words.specs.declared.built.Built.{Built}
 use Rattle.clog_words.specs.declared.built.Built.TheVariants as built
-use Rattle.clog_words.specs.declared.request.ApplyOptions.{ApplyOptions}
 use Rattle.clog_words.specs.declared.request.Request.{Request}
 use Rattle.clog_words.specs.declared.request.Request.TheVariants.{Apply, Replay, Scan, Drill}
 
--- `--flush-at` as it is where it is not given, and each other option of `apply` as it is
-abbrev pub plain_options : ApplyOptions → ApplyOptions
-plain_options asked = record {
-  writers = asked.writers;
-  sync = asked.sync;
-  segment_kib = asked.segment_kib;
-  flush_at = None;
-  archive = asked.archive;
-  receipts = asked.receipts;
-  drain = asked.drain;
-  dump = asked.dump;
-}
-
 -- The request asks for this, which the program does.
 abbrev pub IsBuilt : Request → Built → Type 0
-IsBuilt request (built.Apply options) =
-    (request ≡ Apply options) × (options ≡ plain_options options)
+IsBuilt request (built.Apply options) = request ≡ Apply options
 IsBuilt request (built.Replay options) = request ≡ Replay options
 IsBuilt request (built.Scan id) =
     (name : List ℕ) × (request ≡ Scan name) × IsSegmentName name 6 id

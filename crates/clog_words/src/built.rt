@@ -1,7 +1,7 @@
-//! What the program does today of what words can ask for.
+//! What the program does, of what words ask for: a segment's name is read into its id.
 ghost use Rattle.std.specs.Prelude.{◌≡◌, MatchOption, MatchResult};
 ghost use Rattle.clog_words.specs.Asks.{OnUsage};
-ghost use Rattle.clog_words.specs.Built.{AsksBuilt, IsBuilt, plain_options};
+ghost use Rattle.clog_words.specs.Built.{AsksBuilt, IsBuilt};
 ghost use Rattle.clog_words.specs.Given.{texts};
 ghost use Rattle.clog_words.specs.declared.built.Built.{Built as AskedBuilt};
 
@@ -10,7 +10,7 @@ use crate::request::{ApplyOptions, ReplayOptions, Request, WordsFault};
 use clog_base::Name;
 use std::alloc::Global;
 
-/// One thing that the program does. Of `apply` it does what each option but `--flush-at` asks for.
+/// One thing that the program does.
 #[derive(Clone, Copy, Debug, PartialEq, Eq)]
 pub enum Built {
     /// `apply`: apply the mutation file on standard input.
@@ -31,33 +31,6 @@ pub enum Built {
     },
 }
 
-// These options without a flush limit, of which the program does nothing else.
-fn plain(asked: ApplyOptions) -> ApplyOptions
-    ensures { result ≡ plain_options asked }
-{
-    ApplyOptions {
-        writers: asked.writers,
-        sync: asked.sync,
-        segment_kib: asked.segment_kib,
-        flush_at: None,
-        archive: asked.archive,
-        receipts: asked.receipts,
-        drain: asked.drain,
-        dump: asked.dump,
-    }
-}
-
-fn apply(options: ApplyOptions) -> Option<Built>
-    ensures { MatchOption result ((built : AskedBuilt) → ¬ IsBuilt (Request.Apply options) built)
-        (IsBuilt (Request.Apply options)) }
-{
-    if options == plain(options) {
-        Some(Built::Apply(options))
-    } else {
-        None
-    }
-}
-
 fn scan(name: Name) -> Option<Built>
     ensures { MatchOption result ((built : AskedBuilt) → ¬ IsBuilt (Request.Scan name) built)
         (IsBuilt (Request.Scan name)) }
@@ -73,7 +46,7 @@ fn built_of(request: Request) -> Option<Built>
         (IsBuilt request) }
 {
     match request {
-        Request::Apply(options) => apply(options),
+        Request::Apply(options) => Some(Built::Apply(options)),
         Request::Replay(options) => Some(Built::Replay(options)),
         Request::Scan(name) => scan(name),
         Request::Drill { seed, count } => Some(Built::Drill { seed, count }),

@@ -228,6 +228,14 @@ fn what_is_built_is_asked_for(rt: HostRuntime) -> Result<(), Fail> {
                 ..PLAIN
             }),
         ),
+        (
+            "apply --drain --flush-at 1000000",
+            Built::Apply(ApplyOptions {
+                flush_at: Some(1_000_000),
+                drain: true,
+                ..PLAIN
+            }),
+        ),
         ("scan CommitLog-6-1000.log", Built::Scan { id: 1000 }),
         (
             "replay --ignore-errors --workers=64",
@@ -241,12 +249,12 @@ fn what_is_built_is_asked_for(rt: HostRuntime) -> Result<(), Fail> {
 }
 
 #[test]
-fn what_is_planned_alone_is_refused(rt: HostRuntime) -> Result<(), Fail> {
+fn what_asks_for_nothing_is_not_built(rt: HostRuntime) -> Result<(), Fail> {
     let alloc = rt.alloc();
     for line in [
         "apply --writers 2 --period 0",
-        "apply --period 5 --flush-at 1",
-        "apply --sync batch --flush-at 1",
+        "apply --period 5 --flush-at 0",
+        "scan CommitLog-7-0.log",
         "drill 7 1000001",
         "drill 7",
         "help",

@@ -41,10 +41,10 @@ use Rattle.clog_base.specs.declared.sizes.Sizes.{Sizes}
 use Rattle.clog_base.proofs.Members.{first_or_further, further}
 use Rattle.clog_mutation.specs.declared.mutation.Mutation.{Mutation}
 use Rattle.clog_applied.specs.History.{Line}
-use Rattle.op_core.specs.declared.count.Order.TheVariants.{Append}
+use Rattle.op_core.specs.declared.count.Order.TheVariants.{Append, Write}
 use Rattle.path_core.specs.declared.event.Cursor.TheVariants.{Stopped as StoppedCursor}
 use Rattle.path_core.specs.declared.event.Place.{Place}
-use Rattle.path_core.specs.declared.event.Place.TheVariants.{Current, CursorWord}
+use Rattle.path_core.specs.declared.event.Place.TheVariants.{Current, CursorWord, Newest}
 use Rattle.path_core.specs.declared.note.EntryNote.{EntryNote}
 use Rattle.path_core.specs.Keeper.{HasRisen}
 use Rattle.path_rule.specs.declared.answer.SyncAnswer.{SyncAnswer}
@@ -74,6 +74,12 @@ use Rattle.write_path.specs.declared.commit.SyncFault.TheVariants.{
   Rows as NoRows,
 }
 use Rattle.write_path.specs.declared.prepared.Prepared.{Prepared}
+use Rattle.write_path.specs.declared.switch.Row.{Row}
+use Rattle.write_path.specs.declared.switch.Row.TheVariants.{
+  AppendGroups,
+  Memtables,
+  WriteGroups,
+}
 use Rattle.write_path.specs.Commits.{HasNoRoom, IsLogged}
 use Rattle.write_path.specs.Ends.{writes_of}
 use Rattle.write_path.specs.Grown.{HasGrown}
@@ -89,7 +95,7 @@ use Rattle.clog_writers.specs.declared.fault.WriteFault.TheVariants.{
 }
 use Rattle.write_path.proofs.Growing.{both}
 use Rattle.write_path.proofs.Sealing.{still_sealed}
-use Rattle.clog_writers.specs.Crews.{KnowsSpent, KnowsWhy}
+use Rattle.clog_writers.specs.Crews.{KnowsRows, KnowsSpent, KnowsWhy}
 use Rattle.clog_writers.specs.Sealing.{AreEarlierSealed, IsAllSealed}
 use Rattle.clog_writers.specs.Shares.{
   AddsWrite,
@@ -104,7 +110,7 @@ use Rattle.clog_writers.specs.Shares.{
   refusal_of,
 }
 
-one_write : (w : ℕ) (ls : List Line) (ns : List EntryNote) (l : Line) (n : EntryNote)
+pub one_write : (w : ℕ) (ls : List Line) (ns : List EntryNote) (l : Line) (n : EntryNote)
     → AreWritesOf w ls ns → IsWriteOf w l n → AreWritesOf w (ls ++ l ∷ []) (ns ++ n ∷ [])
 one_write w [] [] l n are is = (is, tt)
 one_write w [] (m ∷ ns) l n are is = absurd are
@@ -243,7 +249,7 @@ pub sealed_still : (n : EntryNote) (before after : List OwnStep) → HasGrown be
 sealed_still n before after G S = subst (λ (l : List OwnStep). IsSealed n l) (sym G.is)
     (still_sealed n G.newer before S)
 
-risen : (before now : ℕ) → HasRisen before now → 0 < now
+pub risen : (before now : ℕ) → HasRisen before now → 0 < now
 risen before now rose = elim rose [
   | inl more ↦ omega (arith, more)
   | inr most ↦ omega (arith, most)
@@ -305,6 +311,18 @@ module _ (size : PathSize) (w : ℕ) (before : List OwnStep) (p : Prepared) (v :
   may_add Batch (Durable r) is = inl (adds_by r is.0)
   may_add Batch (Unsynced r fault) is = inl (adds_by r is.0)
   may_add Batch (NoRoom back key) is = inr is.1
+
+  -- the seat's trail has grown, whatever is answered
+  pub commit_grows : (mode : SyncCore) (c : Commit) → IsCommitted mode size w before p c v
+      → HasGrown before v.trail
+  commit_grows (Periodic k) (Logged r) is = is.logged.grown
+  commit_grows (Periodic k) (Durable r) is = absurd is
+  commit_grows (Periodic k) (Unsynced r fault) is = absurd is
+  commit_grows (Periodic k) (NoRoom back key) is = is.3
+  commit_grows Batch (Logged r) is = absurd is
+  commit_grows Batch (Durable r) is = is.0.logged.grown
+  commit_grows Batch (Unsynced r fault) is = is.0.logged.grown
+  commit_grows Batch (NoRoom back key) is = is.3
 
   one_more_waits : (start end : ℕ) → IsLogged before w start end p v.trail → IsAllSealed before
       → AreEarlierSealed v.trail
@@ -380,7 +398,7 @@ commit_why size w before p s small Batch (Unsynced r (NoRows n)) is =
       is.1.all,
       (
         told.0,
-        told.1 ∙ is.1.all,
+        told.1,
         found_in is.0.logged.listed.note (Current Append) told.0 (view_of s.member).trail told.2,
       ),
     )
@@ -404,7 +422,7 @@ sync_why size w v s (sync.Rows groups) A =
       A.is.0.all,
       (
         F.0,
-        F.1 ∙ A.is.0.all,
+        F.1,
         subst (λ (l : List OwnStep). Finds (Current Append) F.0 l) (sym A.steps.trail)
             (found_after (Current Append) F.0 A.steps.steps v.trail F.2),
       ),
@@ -416,6 +434,36 @@ still_found : (at : Place) (value : ℕ) (before after : List OwnStep) → HasGr
 still_found at value before after G found =
     subst (λ (l : List OwnStep). Finds at value l) (sym G.is)
     (found_before at value G.newer before found)
+
+still_rows : {K : Type 0} (row : Row) (made : ℕ) (s t : PathSeat K)
+    → HasGrown (view_of s.member).trail (view_of t.member).trail → KnowsRows row made s
+    → KnowsRows row made t
+still_rows AppendGroups made s t G (all, (last, next, found)) = (
+  all,
+  (
+    last,
+    next,
+    still_found (Current Append) last (view_of s.member).trail (view_of t.member).trail G found,
+  ),
+)
+still_rows WriteGroups made s t G (all, (last, next, found)) = (
+  all,
+  (
+    last,
+    next,
+    still_found (Current Write) last (view_of s.member).trail (view_of t.member).trail G found,
+  ),
+)
+still_rows Memtables made s t G (all, (table, last, next, found)) = (
+  all,
+  (
+    table,
+    last,
+    next,
+    still_found (Newest (record { 0 = table })) last (view_of s.member).trail
+        (view_of t.member).trail G found,
+  ),
+)
 
 pub still_why : {K : Type 0} (size : PathSize) (fault : Option WriteFault) (s t : PathSeat K)
     → HasGrown (view_of s.member).trail (view_of t.member).trail → KnowsWhy size fault s
@@ -439,14 +487,7 @@ still_why size (Some (Stopped at_open now)) s t G why = (
       why.1,
   why.2,
 )
-still_why size (Some (Rows groups)) s t G (all, (last, next, found)) = (
-  all,
-  (
-    last,
-    next,
-    still_found (Current Append) last (view_of s.member).trail (view_of t.member).trail G found,
-  ),
-)
+still_why size (Some (Rows row made)) s t G why = still_rows row made s t G why
 
 -- ---- behind a sync
 
@@ -461,3 +502,16 @@ pub earlier_on : (before after : List OwnStep) → writes_of after ≡ writes_of
     → HasGrown before after → AreEarlierSealed before → AreEarlierSealed after
 earlier_on before after list G all newest earlier is n among =
     sealed_still n before after G (all newest earlier (sym list ∙ is) n among)
+
+-- what was logged is so where none is logged behind it, and no less was refused
+pub logs_on : (w : ℕ) (lines : List Line) (notes now : List EntryNote)
+    (before after : Option WriteFault) → now ≡ notes → (after ≡ None → before ≡ None)
+    → LogsShare w lines notes before → LogsShare w lines now after
+logs_on w lines notes now before after same less L = record {
+  done = L.done;
+  left = L.left;
+  parts = L.parts;
+  are = subst (AreWritesOf w L.done) (sym same) L.are;
+  rise = subst Rise (sym same) L.rise;
+  all = λ none. L.all (less none);
+}

@@ -15,6 +15,9 @@ use Rattle.std.proofs.Common.{
   get_or,
   length,
   set,
+  Option,
+  Some,
+  None,
   refl,
   sym,
   ap,
@@ -45,9 +48,17 @@ use Rattle.write_path.specs.Writes.{IsPrepared}
 use Rattle.clog_writers.specs.declared.fault.PlanFault.{PlanFault}
 use Rattle.clog_writers.specs.declared.fault.PlanFault.TheVariants.{OutOfMemory, TooLarge}
 use Rattle.clog_writers.specs.declared.worker.Worker.{Worker}
-use Rattle.clog_writers.specs.Crews.{AreDealt}
+use Rattle.clog_writers.specs.declared.tally.LineCounts.{LineCounts}
+use Rattle.clog_writers.specs.Crews.{AreDealt, IsDealt}
 use Rattle.clog_writers.specs.Planned.{AllFit, PlanRefused, PreparesLine}
 use Rattle.clog_writers.specs.Shares.{ArePrepared}
+use Rattle.clog_writers.specs.Tallied.{
+  AreCountedFor,
+  AreCountsOf,
+  IsCountOf,
+  IsCountedFor,
+  with_counts,
+}
 
 -- ---- lists
 
@@ -112,64 +123,98 @@ module _ (writers number : ℕ) (ms : List Mutation) (m : Mutation) (line : ℕ)
       ∙ pushed_left (is_for writers number) (numbered 1 ms) next
       (ne_eqb (line % writers) number (λ same. other (sym same)))
 
+counts_more : (ls : List Line) (cs : List LineCounts) (l : Line) (c : LineCounts)
+    → AreCountsOf ls cs → IsCountOf l.mutation c → AreCountsOf (ls ++ l ∷ []) (cs ++ c ∷ [])
+counts_more [] [] l c are is = (is, tt)
+counts_more [] (d ∷ cs) l c are is = absurd are
+counts_more (k ∷ ls) [] l c are is = absurd are
+counts_more (k ∷ ls) (d ∷ cs) l c are is = (are.0, counts_more ls cs l c are.1 is)
+
+one_counted : (flush : Option ℕ) (ls : List Line) (cs : List LineCounts) (l : Line)
+    (c : Option LineCounts) → AreCountedFor flush ls cs → IsCountedFor flush l.mutation c
+    → AreCountedFor flush (ls ++ l ∷ []) (with_counts cs c)
+one_counted None ls cs l c are is = ap (with_counts cs) is ∙ are
+one_counted (Some most) ls cs l None are is = absurd is
+one_counted (Some most) ls cs l (Some c) are is = counts_more ls cs l c are is
+
+none_counted : (flush : Option ℕ) → AreCountedFor flush [] []
+none_counted None = refl
+none_counted (Some most) = tt
+
 -- ---- workers
 
 module _ {K : Type 0} (sizes : Sizes) where
   pub none_dealt : (ws : List (Worker K)) → length ws ≡ sizes.writers
-      → ((i : ℕ) (d : Worker K) → i < length ws → (get_or ws i d).writes.items ≡ [])
-      → AreDealt sizes [] ws
-  none_dealt ws count none = record {
+      → ((i : ℕ) (d : Worker K) → i < length ws → ((get_or ws i d).writes.items ≡ [])
+      × ((get_or ws i d).counts.items ≡ [])) → (flush : Option ℕ) → AreDealt sizes flush [] ws
+  none_dealt ws count none flush = record {
     count = count;
-    each = λ i d inside. subst (ArePrepared sizes []) (sym (none i d inside)) tt;
+    each = λ i d inside. record {
+      prepared = subst (ArePrepared sizes []) (sym (none i d inside).0) tt;
+      counted = subst (AreCountedFor flush []) (sym (none i d inside).1) (none_counted flush);
+    };
   }
 
-  pub one_dealt : (ms : List Mutation) (m : Mutation) (line at : ℕ) (ws : List (Worker K))
-      (p : Prepared) (now e : Worker K) → AreDealt sizes ms ws → line ≡ length ms + 1
-      → IsPrepared sizes line m p → at ≡ line % sizes.writers → at < length ws
+  -- a worker gets one line more
+  one_line : (flush : Option ℕ) (ls : List Line) (l : Line) (p : Prepared)
+      (c : Option LineCounts) (w now : Worker K) → IsDealt sizes flush ls w
+      → IsPrepared sizes l.number l.mutation p → IsCountedFor flush l.mutation c
+      → now.writes.items ≡ w.writes.items ++ p ∷ []
+      → now.counts.items ≡ with_counts w.counts.items c → IsDealt sizes flush (ls ++ l ∷ []) now
+  one_line flush ls l p c w now dealt prepared counted writes counts = record {
+    prepared = subst (ArePrepared sizes (ls ++ l ∷ [])) (sym writes)
+        (one_prepared sizes ls w.writes.items l p dealt.prepared prepared);
+    counted = subst (AreCountedFor flush (ls ++ l ∷ [])) (sym counts)
+        (one_counted flush ls w.counts.items l c dealt.counted counted);
+  }
+
+  pub one_dealt : (flush : Option ℕ) (ms : List Mutation) (m : Mutation) (line at : ℕ)
+      (ws : List (Worker K)) (p : Prepared) (c : Option LineCounts) (now e : Worker K)
+      → AreDealt sizes flush ms ws → line ≡ length ms + 1 → IsPrepared sizes line m p
+      → IsCountedFor flush m c → at ≡ line % sizes.writers → at < length ws
       → now.writes.items ≡ (get_or ws at e).writes.items ++ p ∷ []
-      → AreDealt sizes (ms ++ m ∷ []) (set ws at now)
-  one_dealt ms m line at ws p now e dealt is prepared at_is inside put =
-      let count = dealt.count in
-      let puts : (d : Worker K) → now.writes.items ≡ (get_or ws at d).writes.items ++ p ∷ [] =
-      λ d. put ∙ ap (λ (w : Worker K). w.writes.items ++ p ∷ []) (get_or_default ws at e d inside)
-      in
+      → now.counts.items ≡ with_counts (get_or ws at e).counts.items c
+      → AreDealt sizes flush (ms ++ m ∷ []) (set ws at now)
+  one_dealt flush ms m line at ws p c now e dealt is prepared counted at_is inside put counts =
+      let its : ℕ → List Line = λ i. share_of sizes.writers i ms in
+      let after : ℕ → List Line = λ i. share_of sizes.writers i (ms ++ m ∷ []) in
+      let same : (d : Worker K) → get_or ws at e ≡ get_or ws at d =
+      λ d. get_or_default ws at e d inside in
       record {
-        count = length-set ws at now ∙ count;
-        each = λ i d there. dite (ℕ_discrete i at)
-            (λ own. subst (λ (w : Worker K).
-            ArePrepared sizes (share_of sizes.writers i (ms ++ m ∷ [])) w.writes.items)
+        count = length-set ws at now ∙ dealt.count;
+        each = λ i d there.
+            let low : i < length ws = subst (λ (n : ℕ). i < n) (length-set ws at now) there in
+            dite (ℕ_discrete i at)
+            (λ own. subst (IsDealt sizes flush (after i))
             (sym (ap (λ (k : ℕ). get_or (set ws at now) k d) own
             ∙ get_or-set_same ws at now d inside))
-            (subst (λ (l : List Prepared).
-            ArePrepared sizes (share_of sizes.writers i (ms ++ m ∷ [])) l) (sym (puts d))
-            (subst (λ (l : List Line).
-            ArePrepared sizes l ((get_or ws at d).writes.items ++ p ∷ []))
+            (subst (λ (l : List Line). IsDealt sizes flush l now)
             (sym (its_line sizes.writers i ms m line is (own ∙ at_is)))
-            (one_prepared sizes (share_of sizes.writers i ms) (get_or ws at d).writes.items
-            (record { number = line; mutation = m }) p
-            (subst (λ (k : ℕ). ArePrepared sizes (share_of sizes.writers i ms)
-            (get_or ws k d).writes.items) own
-            (dealt.each i d (subst (λ (n : ℕ). i < n) (length-set ws at now) there)))
-            prepared))))
-            (λ other. subst (λ (w : Worker K).
-            ArePrepared sizes (share_of sizes.writers i (ms ++ m ∷ [])) w.writes.items)
+            (one_line flush (its i) (record { number = line; mutation = m }) p c
+            (get_or ws at d) now
+            (subst (λ (k : ℕ). IsDealt sizes flush (its i) (get_or ws k d)) own
+            (dealt.each i d low)) prepared counted
+            (put ∙ ap (λ (w : Worker K). w.writes.items ++ p ∷ []) (same d))
+            (counts ∙ ap (λ (w : Worker K). with_counts w.counts.items c) (same d)))))
+            (λ other. subst (IsDealt sizes flush (after i))
             (sym (get_or-set_other ws at i now d other))
-            (subst (λ (l : List Line). ArePrepared sizes l (get_or ws i d).writes.items)
+            (subst (λ (l : List Line). IsDealt sizes flush l (get_or ws i d))
             (sym (other_line sizes.writers i ms m line is (λ same. other (same ∙ sym at_is))))
-            (dealt.each i d (subst (λ (n : ℕ). i < n) (length-set ws at now) there))));
+            (dealt.each i d low)));
       }
 
   -- The first lines are dealt out, and each of them fits.
-  pub record DealsOut (all rest : List Mutation) (line : ℕ) (ws : List (Worker K)) : Type 0 where
+  pub record DealsOut (flush : Option ℕ) (all rest : List Mutation) (line : ℕ)
+      (ws : List (Worker K)) : Type 0 where
     pub done : List Mutation
     pub parts : all ≡ done ++ rest
     pub line_is : line ≡ length done
-    pub dealt : AreDealt sizes done ws
+    pub dealt : AreDealt sizes flush done ws
     pub fit : AllFit sizes done
 
-  pub begins_dealing : (all : List Mutation) (ws : List (Worker K)) → AreDealt sizes [] ws
-      → DealsOut all all 0 ws
-  begins_dealing all ws dealt = record {
+  pub begins_dealing : (flush : Option ℕ) (all : List Mutation) (ws : List (Worker K))
+      → AreDealt sizes flush [] ws → DealsOut flush all all 0 ws
+  begins_dealing flush all ws dealt = record {
     done = [];
     parts = refl;
     line_is = refl;
@@ -177,12 +222,13 @@ module _ {K : Type 0} (sizes : Sizes) where
     fit = tt;
   }
 
-  pub deals_one : (all rest : List Mutation) (m : Mutation) (line : ℕ) (ws now : List (Worker K))
-      → DealsOut all (m ∷ rest) line ws → HasFittingEntry sizes.capacity m
-      → ((done : List Mutation) → AreDealt sizes done ws → line + 1 ≡ length done + 1
-      → AreDealt sizes (done ++ m ∷ []) now)
-      → DealsOut all rest (line + 1) now
-  deals_one all rest m line ws now d fits more =
+  pub deals_one : (flush : Option ℕ) (all rest : List Mutation) (m : Mutation) (line : ℕ)
+      (ws now : List (Worker K)) → DealsOut flush all (m ∷ rest) line ws
+      → HasFittingEntry sizes.capacity m
+      → ((done : List Mutation) → AreDealt sizes flush done ws → line + 1 ≡ length done + 1
+      → AreDealt sizes flush (done ++ m ∷ []) now)
+      → DealsOut flush all rest (line + 1) now
+  deals_one flush all rest m line ws now d fits more =
       let is = d.line_is in
       let long = length_push d.done m in
       record {
@@ -193,16 +239,17 @@ module _ {K : Type 0} (sizes : Sizes) where
         fit = all_more (HasFittingEntry sizes.capacity) d.done m d.fit fits;
       }
 
-  pub all_out : (all : List Mutation) (line : ℕ) (ws : List (Worker K)) → DealsOut all [] line ws
-      → AreDealt sizes all ws × AllFit sizes all
-  all_out all line ws d = subst (λ (l : List Mutation). AreDealt sizes l ws × AllFit sizes l)
+  pub all_out : (flush : Option ℕ) (all : List Mutation) (line : ℕ) (ws : List (Worker K))
+      → DealsOut flush all [] line ws → AreDealt sizes flush all ws × AllFit sizes all
+  all_out flush all line ws d =
+      subst (λ (l : List Mutation). AreDealt sizes flush l ws × AllFit sizes l)
       (sym (d.parts ∙ append-nil d.done)) (d.dealt, d.fit)
 
   -- the next one is too large, as the first of all
-  pub refused_at : (all rest : List Mutation) (m : Mutation) (line : ℕ) (ws : List (Worker K))
-      (fault : PlanFault) → DealsOut all (m ∷ rest) line ws
+  pub refused_at : (flush : Option ℕ) (all rest : List Mutation) (m : Mutation) (line : ℕ)
+      (ws : List (Worker K)) (fault : PlanFault) → DealsOut flush all (m ∷ rest) line ws
       → PreparesLine sizes (line + 1) m (Err fault) → PlanRefused sizes all fault
-  refused_at all rest m line ws (TooLarge number size most) d large = record {
+  refused_at flush all rest m line ws (TooLarge number size most) d large = record {
     front = d.done;
     large = m;
     rest = rest;
@@ -213,4 +260,4 @@ module _ {K : Type 0} (sizes : Sizes) where
     size_is = large.1.size_is;
     most_is = large.1.max_is;
   }
-  refused_at all rest m line ws OutOfMemory d large = tt
+  refused_at flush all rest m line ws OutOfMemory d large = tt

@@ -34,7 +34,7 @@ use Rattle.clog_mutation.specs.declared.mutation.Mutation.{Mutation}
 use Rattle.clog_applied.specs.History.{Line, share_of}
 use Rattle.path_rule.specs.declared.trying.PathSeat.{PathSeat}
 use Rattle.path_rule.specs.declared.view.PathSize.{PathSize}
-use Rattle.path_rule.specs.Layout.{group_rows}
+use Rattle.write_path.specs.declared.switch.Row.{Row}
 use Rattle.clog_writers.specs.declared.fault.WriteFault.{WriteFault}
 use Rattle.clog_writers.specs.declared.fault.WriteFault.TheVariants.{Rows, Spent, Stopped}
 use Rattle.clog_writers.specs.declared.worker.Worker.{Worker}
@@ -47,53 +47,58 @@ use Rattle.clog_writers.specs.Crews.{
   KnowsSpent,
   KnowsStopped,
   KnowsWhy,
+  MayLack,
 }
+use Rattle.clog_writers.proofs.Lacking.{lacks_first}
 
 -- the share of a number
 abbrev its : PathSize → List Mutation → ℕ → List Line
 its size ms i = share_of size.seats i ms
 
-module _ {K : Type 0} (id : TableId) (size : PathSize) where
+module _ {K : Type 0} (id : TableId) (size : PathSize) (flush : Option ℕ) where
   -- The first workers have given their seats back.
   pub record Gathers (ms : List Mutation) (rest : List (Worker K)) (seats : List (PathSeat K))
       (first : Option WriteFault) : Type 0 where
     pub count : length seats + length rest ≡ size.seats
     pub left : (i : ℕ) (d : Worker K) → i < length rest
-        → HasLogged id size (length seats + i) (its size ms (length seats + i)) (get_or rest i d)
+        → HasLogged id size flush (length seats + i) (its size ms (length seats + i))
+        (get_or rest i d)
     pub done : (i : ℕ) (d : PathSeat K) → i < length seats
-        → HasEnded id size i (its size ms i) first (get_or seats i d)
+        → HasEnded id size flush i (its size ms i) first (get_or seats i d)
     pub stops : (at_open now : ℕ) → first ≡ Some (Stopped at_open now)
         → (s : PathSeat K) × Contains seats s × KnowsStopped size at_open now s
     pub spent : first ≡ Some Spent → (s : PathSeat K) × Contains seats s × KnowsSpent size s
-    pub rows : (groups : ℕ) → first ≡ Some (Rows groups)
-        → (groups ≡ group_rows) × ((s : PathSeat K) × Contains seats s × KnowsRows s)
+    pub rows : (row : Row) (made : ℕ) → first ≡ Some (Rows row made)
+        → (s : PathSeat K) × Contains seats s × KnowsRows row made s
+    pub lacks : MayLack flush first
 
-  pub none_gathered : (ms : List Mutation) (ws : List (Worker K)) → HaveLogged id size ms ws
+  pub none_gathered : (ms : List Mutation) (ws : List (Worker K)) → HaveLogged id size flush ms ws
       → Gathers ms ws [] None
   none_gathered ms ws all = record {
     count = let count = all.count in omega (arith, count);
     left = λ i d inside.
         let number : i ≡ 0 + i = omega arith in
-        subst (λ (k : ℕ). HasLogged id size k (its size ms k) (get_or ws i d)) number
+        subst (λ (k : ℕ). HasLogged id size flush k (its size ms k) (get_or ws i d)) number
         (all.each i d inside);
     done = λ i d inside. absurd (omega (arith, inside));
     stops = λ at_open now is. absurd (none-some (Stopped at_open now) is);
     spent = λ is. absurd (none-some Spent is);
-    rows = λ groups is. absurd (none-some (Rows groups) is);
+    rows = λ row made is. absurd (none-some (Rows row made) is);
+    lacks = λ row made is. absurd (none-some (Rows row made) is);
   }
 
   -- the next one
   pub next_logged : (ms : List Mutation) (w : Worker K) (rest : List (Worker K))
       (seats : List (PathSeat K)) (first : Option WriteFault) → Gathers ms (w ∷ rest) seats first
-      → HasLogged id size (length seats) (its size ms (length seats)) w
+      → HasLogged id size flush (length seats) (its size ms (length seats)) w
   next_logged ms w rest seats first g =
       let number : length seats + 0 ≡ length seats = omega arith in
-      subst (λ (k : ℕ). HasLogged id size k (its size ms k) w) number (g.left 0 w (omega arith))
+      subst (λ (k : ℕ). HasLogged id size flush k (its size ms k) w) number (g.left 0 w (omega arith))
 
   -- what is so of a seat is so where no less was refused
   still_ended : (i : ℕ) (ls : List Line) (before now : Option WriteFault) (s : PathSeat K)
-      → (now ≡ None → before ≡ None) → HasEnded id size i ls before s
-      → HasEnded id size i ls now s
+      → (now ≡ None → before ≡ None) → HasEnded id size flush i ls before s
+      → HasEnded id size flush i ls now s
   still_ended i ls before now s less e = record {
     of_path = e.of_path;
     number_is = e.number_is;
@@ -106,16 +111,17 @@ module _ {K : Type 0} (id : TableId) (size : PathSize) where
       all = λ none. e.logs.all (less none);
     };
     synced = λ none. e.synced (less none);
+    flushed = λ none. e.flushed (less none);
   }
 
   pub one_gathered : (ms : List Mutation) (w : Worker K) (rest : List (Worker K))
       (seats : List (PathSeat K)) (first fault now : Option WriteFault) (s : PathSeat K)
       → Gathers ms (w ∷ rest) seats first
-      → HasEnded id size (length seats) (its size ms (length seats)) fault s
-      → KnowsWhy size fault s
+      → HasEnded id size flush (length seats) (its size ms (length seats)) fault s
+      → KnowsWhy size fault s → MayLack flush fault
       → (now ≡ None → (first ≡ None) × (fault ≡ None)) → (now ≡ first) ⊎ (now ≡ fault)
       → Gathers ms rest (seats ++ s ∷ []) now
-  one_gathered ms w rest seats first fault now s g ends why none one =
+  one_gathered ms w rest seats first fault now s g ends why lack none one =
       let long = length_push seats s in
       let count = g.count in
       let why_is = λ (f : Option WriteFault) (is : fault ≡ f).
@@ -125,18 +131,18 @@ module _ {K : Type 0} (id : TableId) (size : PathSize) where
         left = λ i d inside.
             let number : length seats + suc i ≡ length (seats ++ s ∷ []) + i = omega (arith, long)
             in
-            subst (λ (k : ℕ). HasLogged id size k (its size ms k) (get_or rest i d)) number
+            subst (λ (k : ℕ). HasLogged id size flush k (its size ms k) (get_or rest i d)) number
             (g.left (suc i) d (omega (arith, inside)));
         done = λ i d inside. dite (dec_lt i (length seats))
-            (λ low. subst (HasEnded id size i (its size ms i) now)
+            (λ low. subst (HasEnded id size flush i (its size ms i) now)
             (sym (get_or_append_left seats (s ∷ []) d i low))
             (still_ended i (its size ms i) first now (get_or seats i d) (λ q. (none q).0)
             (g.done i d low)))
             (λ not_low.
             let last : length seats ≡ i = omega (arith, inside, long, not_low) in
-            subst (λ (k : ℕ). HasEnded id size k (its size ms k) now (get_or (seats ++ s ∷ []) k d))
+            subst (λ (k : ℕ). HasEnded id size flush k (its size ms k) now (get_or (seats ++ s ∷ []) k d))
             last
-            (subst (HasEnded id size (length seats) (its size ms (length seats)) now)
+            (subst (HasEnded id size flush (length seats) (its size ms (length seats)) now)
             (sym (get_or-append_seam seats s [] d))
             (still_ended (length seats) (its size ms (length seats)) fault now s (λ q. (none q).1)
             ends)));
@@ -152,22 +158,22 @@ module _ {K : Type 0} (id : TableId) (size : PathSize) where
               (old.0, Contains-append_left seats (s ∷ []) old.0 old.1, old.2)
           | inr same ↦ (s, Contains-push seats s, why_is (Some Spent) (sym same ∙ is))
         ];
-        rows = λ groups is. elim one [
+        rows = λ row made is. elim one [
           | inl same ↦
-              let old = g.rows groups (sym same ∙ is) in
-              (old.0, (old.1.0, Contains-append_left seats (s ∷ []) old.1.0 old.1.1, old.1.2))
-          | inr same ↦
-              let knows = why_is (Some (Rows groups)) (sym same ∙ is) in
-              (knows.0, (s, Contains-push seats s, knows.1))
+              let old = g.rows row made (sym same ∙ is) in
+              (old.0, Contains-append_left seats (s ∷ []) old.0 old.1, old.2)
+          | inr same ↦ (s, Contains-push seats s, why_is (Some (Rows row made)) (sym same ∙ is))
         ];
+        lacks = lacks_first flush first fault now g.lacks lack one;
       }
 
   pub all_gathered : (ms : List Mutation) (seats : List (PathSeat K)) (first : Option WriteFault)
-      → Gathers ms [] seats first → HaveEnded id size ms first seats
+      → Gathers ms [] seats first → HaveEnded id size flush ms first seats
   all_gathered ms seats first g = record {
     count = let count = g.count in omega (arith, count);
     each = g.done;
     stops = g.stops;
     spent = g.spent;
     rows = g.rows;
+    lacks = g.lacks;
   }

@@ -25,3 +25,8 @@ pub mod Brought
 pub mod Ended
 pub mod MayFlush
 pub mod SegmentOrder
+pub mod UpdateCounts
+pub mod Lacking
+pub mod FlushTold
+pub mod Tallying
+pub mod NextLines

@@ -13,6 +13,7 @@ use Rattle.std.proofs.Common.{
   get_or,
   length,
   set,
+  Option,
   Some,
   sym,
   ap,
@@ -37,7 +38,7 @@ use Rattle.std.proofs.lemmas.List.Elements.{All-contains, Contains-push}
 use Rattle.atomic_table.specs.Seated.{TableId}
 use Rattle.clog_base.specs.declared.sizes.Sizes.{Sizes}
 use Rattle.clog_mutation.specs.declared.mutation.Mutation.{Mutation}
-use Rattle.clog_applied.specs.History.{share_of}
+use Rattle.clog_applied.specs.History.{Line, share_of}
 use Rattle.path_rule.specs.declared.trying.PathSeat.{PathSeat}
 use Rattle.path_rule.specs.declared.view.PathSize.{PathSize}
 use Rattle.path_rule.specs.declared.view.View.{View}
@@ -47,6 +48,7 @@ use Rattle.write_path.proofs.Handing.{range_more}
 use Rattle.clog_writers.specs.declared.worker.Worker.{Worker}
 use Rattle.clog_writers.specs.Crews.{AreDealt, AreReady, IsDealt, IsSeated, IsSizedAs}
 use Rattle.clog_writers.specs.Shares.{ArePrepared}
+use Rattle.clog_writers.specs.Tallied.{AreCountedFor}
 
 one_on : (n : ℕ) → n + 1 ≡ suc n
 one_on n = omega arith
@@ -116,34 +118,47 @@ module _ {K : Type 0} (id : TableId) (size : PathSize) where
         (seats.each i d (omega (arith, from, other)) there));
   }
 
-  -- a worker keeps its writes
-  pub still_dealt : (sizes : Sizes) (ms : List Mutation) (at : ℕ) (ws : List (Worker K))
-      (now e : Worker K) → at < length ws → now.writes ≡ (get_or ws at e).writes
-      → AreDealt sizes ms ws → AreDealt sizes ms (set ws at now)
-  still_dealt sizes ms at ws now e low same dealt = record {
+  -- a worker keeps its writes, and their counts
+  same_dealt : (sizes : Sizes) (flush : Option ℕ) (lines : List Line) (w now : Worker K)
+      → now.writes ≡ w.writes → now.counts ≡ w.counts → IsDealt sizes flush lines w
+      → IsDealt sizes flush lines now
+  same_dealt sizes flush lines w now writes counts dealt = record {
+    prepared = subst (λ (l : _). ArePrepared sizes lines l.items) (sym writes) dealt.prepared;
+    counted = subst (λ (l : _). AreCountedFor flush lines l.items) (sym counts) dealt.counted;
+  }
+
+  pub still_dealt : (sizes : Sizes) (flush : Option ℕ) (ms : List Mutation) (at : ℕ)
+      (ws : List (Worker K)) (now e : Worker K) → at < length ws
+      → now.writes ≡ (get_or ws at e).writes → now.counts ≡ (get_or ws at e).counts
+      → AreDealt sizes flush ms ws → AreDealt sizes flush ms (set ws at now)
+  still_dealt sizes flush ms at ws now e low writes counts dealt = record {
     count = length-set ws at now ∙ dealt.count;
     each = λ i d inside.
         let there = subst (λ (n : ℕ). i < n) (length-set ws at now) inside in
         let lines = share_of sizes.writers i ms in
+        let same : get_or ws at e ≡ get_or ws at d = get_or_default ws at e d low in
         dite (ℕ_discrete i at)
-        (λ own. subst (IsDealt sizes lines) (sym (ap (λ (k : ℕ). get_or (set ws at now) k d) own
+        (λ own. subst (IsDealt sizes flush lines)
+        (sym (ap (λ (k : ℕ). get_or (set ws at now) k d) own
         ∙ get_or-set_same ws at now d low))
-        (subst (λ (l : _). ArePrepared sizes lines l.items) (sym (same
-        ∙ ap (λ (w : Worker K). w.writes) (get_or_default ws at e d low)))
-        (subst (λ (k : ℕ). IsDealt sizes lines (get_or ws k d)) own (dealt.each i d there))))
-        (λ other. subst (IsDealt sizes lines) (sym (get_or-set_other ws at i now d other))
+        (same_dealt sizes flush lines (get_or ws at d) now
+        (writes ∙ ap (λ (w : Worker K). w.writes) same)
+        (counts ∙ ap (λ (w : Worker K). w.counts) same)
+        (subst (λ (k : ℕ). IsDealt sizes flush lines (get_or ws k d)) own
+        (dealt.each i d there))))
+        (λ other. subst (IsDealt sizes flush lines) (sym (get_or-set_other ws at i now d other))
         (dealt.each i d there));
   }
 
   -- all have their seats
-  pub all_ready : (sizes : Sizes) (ms : List Mutation) (ws : List (Worker K))
-      → IsSizedAs size sizes → SeatsFrom 0 ws → AreDealt sizes ms ws
-      → AreReady id size sizes ms ws
-  all_ready sizes ms ws sized seats dealt = record {
+  pub all_ready : (sizes : Sizes) (flush : Option ℕ) (ms : List Mutation) (ws : List (Worker K))
+      → IsSizedAs size sizes → SeatsFrom 0 ws → AreDealt sizes flush ms ws
+      → AreReady id size sizes flush ms ws
+  all_ready sizes flush ms ws sized seats dealt = record {
     count = seats.count;
     each = λ i d inside. (
       seats.each i d (omega arith) inside,
-      subst (λ (k : ℕ). IsDealt sizes (share_of k i ms) (get_or ws i d)) sized.writers
+      subst (λ (k : ℕ). IsDealt sizes flush (share_of k i ms) (get_or ws i d)) sized.writers
           (dealt.each i d inside),
     );
   }

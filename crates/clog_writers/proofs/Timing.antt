@@ -43,6 +43,7 @@ use Rattle.write_path.specs.declared.commit.Commit.TheVariants.{
   Spent as NoRoom,
 }
 use Rattle.write_path.specs.declared.prepared.Prepared.{Prepared}
+use Rattle.write_path.specs.declared.switch.Row.TheVariants.{AppendGroups}
 use Rattle.write_path.specs.Ends.{IsLast, writes_of}
 use Rattle.write_path.specs.Grown.{HasGrown}
 use Rattle.write_path.specs.Receipts.{IsCommitted}
@@ -78,7 +79,7 @@ knows_synced w opened v s (sync.Stopped at_open now) S none =
     absurd (none-some (Stopped at_open now) (sym none))
 knows_synced w opened v s sync.OutOfMemory S none = absurd (none-some OutOfMemory (sym none))
 knows_synced w opened v s (sync.Rows groups) S none =
-    absurd (none-some (Rows groups) (sym none))
+    absurd (none-some (Rows AppendGroups groups) (sym none))
 
 pub seals_last : {K : Type 0} (w opened : ℕ) (s t : PathSeat K) (answer : SyncAnswer)
     → Syncs w opened (view_of s.member) answer (view_of t.member) → refusal_of answer ≡ None
@@ -93,7 +94,7 @@ seals_last w opened s t (sync.Stopped at_open now) S none =
     absurd (none-some (Stopped at_open now) (sym none))
 seals_last w opened s t sync.OutOfMemory S none = absurd (none-some OutOfMemory (sym none))
 seals_last w opened s t (sync.Rows groups) S none =
-    absurd (none-some (Rows groups) (sym none))
+    absurd (none-some (Rows AppendGroups groups) (sym none))
 
 -- no sync is due in batch mode, where no write waits for one
 pub none_due : (mode : SyncCore) (moment last : ℕ) → mode ≡ Batch → IsDue mode moment last 0 → ⊥
@@ -193,3 +194,22 @@ module _ (tells : ℕ → Type 0) (mode : SyncCore) (since : ℕ) where
         all_still (writes_of before) before after last T.grown all,
         T.timed,
       )
+
+  -- what was so of a write is so behind what adds none
+  pub times_on : (before then after : List OwnStep) (last next : ℕ)
+      → writes_of after ≡ writes_of then → HasGrown then after
+      → TimesWrite tells mode last before then next → TimesWrite tells mode last before after next
+  times_on before then after last next same grown T = record {
+    note = T.note;
+    list = same ∙ T.list;
+    grown = both before then after T.grown grown;
+    timed = timed_still T.note then after last next grown T.timed;
+  }
+
+  -- and so it is of all
+  pub timed_on : (before after : List OwnStep) (last : ℕ) → writes_of after ≡ writes_of before
+      → HasGrown before after → AreTimed tells mode since (writes_of before) before last
+      → AreTimed tells mode since (writes_of after) after last
+  timed_on before after last same grown all =
+      subst (λ (l : List EntryNote). AreTimed tells mode since l after last) (sym same)
+      (all_still (writes_of before) before after last grown all)

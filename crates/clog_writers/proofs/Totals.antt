@@ -116,10 +116,10 @@ module _ {K : Type 0} where
       omega (arith, one, rest, long)
 
   -- seats that have logged the first of their shares have logged at most all lines
-  pub few_writes : (id : TableId) (size : PathSize) (ms : List Mutation)
+  pub few_writes : (id : TableId) (size : PathSize) (flush : Option ℕ) (ms : List Mutation)
       (fault : Option WriteFault) (seats : List (PathSeat K))
-      → HaveEnded id size ms fault seats → length (all_writes seats) ≤ length ms
-  few_writes id size ms fault seats ended =
+      → HaveEnded id size flush ms fault seats → length (all_writes seats) ≤ length ms
+  few_writes id size flush ms fault seats ended =
       let ls = numbered 1 ms in
       let low = written size.seats 0 ls seats (λ i d inside.
       let logs = (ended.each i d inside).logs in

@@ -8,6 +8,7 @@ use Rattle.std.specs.Prelude.{
   length,
   map,
   Bool,
+  false,
   Contains,
   Option,
   Result,
@@ -56,32 +57,33 @@ RestoresShares r history least image = RestoresLines r (said_by history) least i
 -- The segments that were appended since a disk was so, which say the first of each writer's share,
 -- whatever was answered. No other names have come.
 pub record WritesShares {D : Type 0} (files : D → Option Files)
-    (changes : D → Option (List Change)) (before now : D) (base : ℕ) (archives drain : Bool)
-    (writers : ℕ) (mutations : List Mutation) : Type 0 where
+    (changes : D → Option (List Change)) (before now : D) (base : ℕ)
+    (flushing archives drain : Bool) (writers : ℕ) (mutations : List Mutation) : Type 0 where
   pub log : List Write
   pub history : List LoggedLine
-  pub wrote : HasBrought changes before now base archives drain writers mutations log
+  pub wrote : HasBrought changes before now base flushing archives drain writers mutations log
   pub says : SaysShares writers mutations log history
   pub only : BringsOnly files before now log
 
 -- The segments that were appended, which say the first of each writer's share. What a crash leaves
 -- since a disk was so, and what it leaves of it now, where nothing passes by chance for what was
--- written. Where the changes go beyond appends, all lines last.
+-- written. Where writers do not flush and the changes go beyond appends, all lines last.
 pub record LeavesShares {D : Type 0} (changes : D → Option (List Change)) (moment : D → ℕ)
     (since : D → ℕ → Files → Type 0) (leaves : D → List ℕ → Option (List ℕ) → Type 0)
-    (before now : D) (r : Reading) (base : ℕ) (archives drain : Bool) (writers : ℕ)
+    (before now : D) (r : Reading) (base : ℕ) (flushing archives drain : Bool) (writers : ℕ)
     (mutations : List Mutation) (least : ℕ) : Type 0
   where
     pub log : List Write
     pub history : List LoggedLine
-    pub wrote : HasBrought changes before now base archives drain writers mutations log
+    pub wrote : HasBrought changes before now base flushing archives drain writers mutations log
     pub says : SaysShares writers mutations log history
     pub meanwhile : LeavesOnly moment since before now
         (λ image. NoChances log image → RestoresShares r history 0 image)
     pub at_last : (image : Files) → IsImage (leaves now) image → NoChances log image
         → RestoresShares r history least image
-    pub at_drain : GoesBeyond wrote.added → (image : Files) → IsImage (leaves now) image
-        → NoChances log image → RestoresShares r history (length mutations) image
+    pub at_drain : flushing ≡ false → GoesBeyond wrote.added → (image : Files)
+        → IsImage (leaves now) image → NoChances log image
+        → RestoresShares r history (length mutations) image
 
 -- so many lines last for sure
 abbrev pub least_of : {T : Type 0} → Result T WriteFault → List Mutation → ℕ

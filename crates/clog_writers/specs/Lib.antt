@@ -1,5 +1,7 @@
 pub mod Fitting
 pub mod Shares
+pub mod Tallied
+pub mod Tallies
 pub mod Crews
 pub mod Sealing
 pub mod Timed

@@ -17,32 +17,46 @@ use Rattle.std.specs.Prelude.{
   Option,
   Some,
   None,
+  IsTrue,
+  ⊤,
 }
 use Rattle.std.specs.List.{Contains, filter}
+use Rattle.clog_spec.specs.Sizes.{most_tables}
 use Rattle.clog_base.specs.declared.sizes.Sizes.{Sizes}
 use Rattle.clog_mutation.specs.declared.mutation.Mutation.{Mutation}
-use Rattle.clog_applied.specs.History.{share_of}
+use Rattle.clog_applied.specs.History.{Line, share_of}
 use Rattle.path_core.specs.declared.note.EntryNote.{EntryNote}
 use Rattle.path_core.specs.History.{IsHistory}
-use Rattle.path_core.specs.Keeper.{Holding}
+use Rattle.path_core.specs.Keeper.{Holding, IsFiledIn}
+use Rattle.path_core.specs.Parts.{touches}
 use Rattle.path_core.specs.Whole.{IsWhole}
-use Rattle.path_rule.specs.Layout.{group_rows}
+use Rattle.path_rule.specs.Layout.{group_rows, memtable_rows}
+use Rattle.clog_closing.specs.Beside.{HasGoodDeeds}
+use Rattle.clog_closing.specs.Drained.{HasNoDeeds}
+use Rattle.write_path.specs.declared.switch.Row.{Row}
+use Rattle.write_path.specs.declared.switch.Row.TheVariants.{
+  AppendGroups,
+  Memtables,
+  WriteGroups,
+}
 use Rattle.write_path.specs.Closed.{PassesNoSegment}
 use Rattle.clog_writers.specs.declared.fault.WriteFault.{WriteFault}
 use Rattle.clog_writers.specs.declared.fault.WriteFault.TheVariants.{Rows, Spent, Stopped}
 use Rattle.clog_writers.specs.declared.worker.Worker.{Worker}
 use Rattle.clog_writers.specs.Crews.{AreDealt}
 use Rattle.clog_writers.specs.Shares.{AreFirstWrites, AreWritesOf}
+use Rattle.clog_writers.specs.Tallied.{updates_for}
 
--- The keeper goes on from the disk of the one before, and has done nothing beside its log.
-pub record GoesOnAlone (before now : Holding) : Type 0 where
+-- The keeper goes on from the disk of the one before. What it has done beside its log is good: it
+-- has done nothing where writers do not flush, and has put few files where they do.
+pub record GoesOnBeside (flush : Option ℕ) (before now : Holding) : Type 0 where
   pub disk_is : now.opening.disk ≡ before.opening.disk
   pub base_is : now.base ≡ before.base
   pub archives_are : now.opening.archives ≡ before.opening.archives
   pub tables_are : now.sizes.tables ≡ before.sizes.tables
-  pub no_file : now.files ≡ []
-  pub none_dropped : now.dropped ≡ []
-  pub none_archived : now.archived ≡ []
+  pub alone : flush ≡ None → HasNoDeeds now
+  pub good : HasGoodDeeds now
+  pub few : length now.files ≤ 4096
 
 -- the entry is a writer's
 abbrev pub is_note_of : ℕ → EntryNote → Bool
@@ -75,23 +89,50 @@ pub record LogsShares (sizes : Sizes) (base : ℕ) (mutations : List Mutation) (
   pub none_passed : PassesNoSegment now.logged
   pub none_kept : now.kept ≡ []
 
+-- Of a writer's entries that are lasting the first lie in files of a table, where they touch it; the
+-- others, which are of these lines, have fewer updates of it than a number.
+pub record HasFlushedShare (most t writer : ℕ) (now : Holding) : Type 0 where
+  pub early : List EntryNote
+  pub late : List EntryNote
+  pub parts : filter (is_note_of writer) now.logged ≡ early ++ late
+  pub filed : (n : EntryNote) → Contains early n → IsTrue (touches n.tables t)
+      → IsFiledIn now.files t n.end.0
+  pub rest : List Line
+  pub are_late : AreWritesOf writer rest late
+  pub few : updates_for t rest < most
+
+-- so it is of each writer, for each table, where writers flush
+abbrev pub HaveFlushedShares : Option ℕ → ℕ → Holding → Type 0
+HaveFlushedShares None writers now = ⊤
+HaveFlushedShares (Some most) writers now = (t writer : ℕ) → t < most_tables → writer < writers
+    → HasFlushedShare most t writer now
+
+-- why there is no further word: for a group of the append order only where there are as many lines
+-- as groups, but for the first; for memtables only where writers flush; for a group of the write
+-- order never
+abbrev pub IsLack : Option ℕ → Row → ℕ → ℕ → Type 0
+IsLack flush AppendGroups made lines = (made ≡ group_rows) × (group_rows ≤ 1 + lines)
+IsLack flush Memtables made lines = (made ≡ memtable_rows) × (flush ≡ None → ⊥)
+IsLack flush WriteGroups made lines = ⊥
+
 -- What became of the shares that were dealt out to workers: where nothing was refused all of them
--- are logged. Whatever was, what is lasting and what is kept are the first of each.
-pub record EndsShares {K : Type 0} (sizes : Sizes) (base : ℕ) (before now : Holding)
-    (workers : List (Worker K)) (fault : Option WriteFault) : Type 0 where
-  pub alone : GoesOnAlone before now
-  pub logs : (mutations : List Mutation) → AreDealt sizes mutations workers → fault ≡ None
+-- are logged, and flushed where writers flush. Whatever was, what is lasting and what is kept are
+-- the first of each.
+pub record EndsShares {K : Type 0} (sizes : Sizes) (flush : Option ℕ) (base : ℕ)
+    (before now : Holding) (workers : List (Worker K)) (fault : Option WriteFault) : Type 0 where
+  pub beside : GoesOnBeside flush before now
+  pub logs : (mutations : List Mutation) → AreDealt sizes flush mutations workers → fault ≡ None
       → LogsShares sizes base mutations now
-  pub firsts : (mutations : List Mutation) → AreDealt sizes mutations workers
+  pub flushed : (mutations : List Mutation) → AreDealt sizes flush mutations workers
+      → fault ≡ None → HaveFlushedShares flush sizes.writers now
+  pub firsts : (mutations : List Mutation) → AreDealt sizes flush mutations workers
       → HoldFirsts sizes.writers mutations (now.logged ++ now.kept)
   -- the counts that are told are the keeper's
   pub stops : (at_open count : ℕ) → fault ≡ Some (Stopped at_open count)
       → (at_open ≡ now.at_open) × (count ≡ now.faults) × (now.stopped ≡ true)
   -- it has no room only for many lines
-  pub spent : (mutations : List Mutation) → AreDealt sizes mutations workers → fault ≡ Some Spent
-      → sizes.ordinals ≤ 1 + (2 * length mutations - 1)
-  -- and it has no group only for as many lines as there are groups, but for the first; so many
-  -- groups are told
-  pub rows : (mutations : List Mutation) → AreDealt sizes mutations workers → (groups : ℕ)
-      → fault ≡ Some (Rows groups)
-      → (groups ≡ group_rows) × (group_rows ≤ 1 + length mutations)
+  pub spent : (mutations : List Mutation) → AreDealt sizes flush mutations workers
+      → fault ≡ Some Spent → sizes.ordinals ≤ 1 + (2 * length mutations - 1)
+  -- and no further word only so
+  pub rows : (mutations : List Mutation) → AreDealt sizes flush mutations workers → (row : Row)
+      (made : ℕ) → fault ≡ Some (Rows row made) → IsLack flush row made (length mutations)

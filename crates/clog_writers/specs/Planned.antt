@@ -7,6 +7,7 @@ use Rattle.std.specs.Prelude.{
   [],
   length,
   vec_capacity,
+  Option,
   Result,
   Ok,
   Err,
@@ -29,9 +30,10 @@ use Rattle.clog_writers.specs.Crews.{AreDealt}
 
 -- The lines are dealt out to as many workers as the sizes say; there is room for a seat of each,
 -- and a place for the receipt of each line.
-pub record IsPlanFor {K : Type 0} (sizes : Sizes) (mutations : List Mutation) (p : Plan K) : Type 0
+pub record IsPlanFor {K : Type 0} (sizes : Sizes) (flush : Option ℕ) (mutations : List Mutation)
+    (p : Plan K) : Type 0
   where
-    pub dealt : AreDealt sizes mutations p.workers.items
+    pub dealt : AreDealt sizes flush mutations p.workers.items
     pub room : sizes.writers ≤ vec_capacity p.room
     pub void : p.room.items ≡ []
     pub receipts : length p.receipts.items ≡ length mutations
@@ -54,13 +56,15 @@ PlanRefused sizes mutations (TooLarge line size most) =
 PlanRefused sizes mutations OutOfMemory = ⊤
 
 -- the lines are dealt out to workers, and each fits; or not
-abbrev pub DealsAll : {K : Type 0} → Sizes → List Mutation
+abbrev pub DealsAll : {K : Type 0} → Sizes → Option ℕ → List Mutation
     → Result (Vec (Worker K) Global) PlanFault → Type 0
-DealsAll sizes mutations (Ok workers) =
-    AreDealt sizes mutations workers.items × AllFit sizes mutations
-DealsAll sizes mutations (Err fault) = PlanRefused sizes mutations fault
+DealsAll sizes flush mutations (Ok workers) =
+    AreDealt sizes flush mutations workers.items × AllFit sizes mutations
+DealsAll sizes flush mutations (Err fault) = PlanRefused sizes mutations fault
 
 -- the lines are planned, and each fits; or not
-abbrev pub PlansAll : {K : Type 0} → Sizes → List Mutation → Result (Plan K) PlanFault → Type 0
-PlansAll sizes mutations (Ok plan) = IsPlanFor sizes mutations plan × AllFit sizes mutations
-PlansAll sizes mutations (Err fault) = PlanRefused sizes mutations fault
+abbrev pub PlansAll : {K : Type 0} → Sizes → Option ℕ → List Mutation
+    → Result (Plan K) PlanFault → Type 0
+PlansAll sizes flush mutations (Ok plan) =
+    IsPlanFor sizes flush mutations plan × AllFit sizes mutations
+PlansAll sizes flush mutations (Err fault) = PlanRefused sizes mutations fault

@@ -12,6 +12,9 @@ use Rattle.std.specs.Prelude.{
   Option,
   Some,
   None,
+  Bool,
+  true,
+  false,
   ⊤,
 }
 use Rattle.std.specs.List.{AllPairs}
@@ -37,7 +40,10 @@ use Rattle.write_path.specs.declared.commit.SyncFault.TheVariants.{
   OutOfMemory as NoMemory,
   Rows as NoRows,
 }
+use Rattle.write_path.specs.declared.flush.Flush.{Flush}
+use Rattle.write_path.specs.declared.flush.Flush.TheVariants as flush
 use Rattle.write_path.specs.declared.prepared.Prepared.{Prepared}
+use Rattle.write_path.specs.declared.switch.Row.TheVariants.{AppendGroups}
 use Rattle.write_path.specs.Commits.{WritesEndBelow}
 use Rattle.write_path.specs.Ends.{writes_of}
 use Rattle.write_path.specs.Writes.{IsNoteOf, IsPrepared}
@@ -112,7 +118,7 @@ pub record LogsShare (writer : ℕ) (lines : List Line) (notes : List EntryNote)
 abbrev pub fault_of : SyncFault → WriteFault
 fault_of (LogStopped at_open now) = Stopped at_open now
 fault_of NoMemory = OutOfMemory
-fault_of (NoRows groups) = Rows groups
+fault_of (NoRows groups) = Rows AppendGroups groups
 
 -- why a write was not logged, or not made lasting where it waited for that, if it was not
 abbrev pub refusal_in : Commit → Option WriteFault
@@ -126,4 +132,22 @@ abbrev pub refusal_of : SyncAnswer → Option WriteFault
 refusal_of (sync.Done key) = None
 refusal_of (sync.Stopped at_open now) = Some (Stopped at_open now)
 refusal_of sync.OutOfMemory = Some OutOfMemory
-refusal_of (sync.Rows groups) = Some (Rows groups)
+refusal_of (sync.Rows groups) = Some (Rows AppendGroups groups)
+
+-- why a flush was refused, if it was: not where another seat has the turn
+abbrev pub refusal_by : Flush → Option WriteFault
+refusal_by (flush.Flushed lower upper) = None
+refusal_by (flush.Empty key) = None
+refusal_by (flush.Busy found) = None
+refusal_by (flush.Rows row made) = Some (Rows row made)
+refusal_by (flush.Stopped at_open now) = Some (Stopped at_open now)
+refusal_by flush.OutOfMemory = Some OutOfMemory
+
+-- a flush is finished
+abbrev pub is_finished : Flush → Bool
+is_finished (flush.Flushed lower upper) = true
+is_finished (flush.Empty key) = true
+is_finished (flush.Busy found) = false
+is_finished (flush.Rows row made) = false
+is_finished (flush.Stopped at_open now) = false
+is_finished flush.OutOfMemory = false

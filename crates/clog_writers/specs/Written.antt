@@ -31,7 +31,7 @@ use Rattle.clog_words.specs.declared.request.ApplyOptions.{ApplyOptions}
 use Rattle.sync_core.specs.declared.SyncCore.{SyncCore}
 use Rattle.path_core.specs.declared.keeper.KeeperFault.{KeeperFault}
 use Rattle.path_core.specs.declared.keeper.KeeperFault.TheVariants as keeper
-use Rattle.clog_applied.specs.Asked.{IsBatch, capacity_of}
+use Rattle.clog_applied.specs.Asked.{IsBatch, capacity_of, flushes}
 use Rattle.clog_applied.specs.Closed.{IsClosedPath, IsStoreLeft}
 use Rattle.clog_applied.specs.History.{LoggedLine, logged_at}
 use Rattle.clog_applied.specs.Log.{AreSyncedApart}
@@ -45,13 +45,14 @@ use Rattle.clog_writers.specs.declared.fault.WriteFault.TheVariants.{OutOfMemory
 use Rattle.clog_writers.specs.Logged.{HoldShares}
 use Rattle.clog_writers.specs.Placed.{AreAtTheirLines}
 
--- So many writers log all lines in this mode, and the log is synced at the end; nothing is flushed
--- before. Behind it all is drained or nothing, and what is dropped gets its archive name or not.
-pub record IsAskedBy (options : ApplyOptions) (sizes : Sizes) (mode : SyncCore)
+-- So many writers log all lines in this mode, and flush at this number of updates or never; the log
+-- is synced at the end. Behind it all is drained or nothing, and what is dropped gets its archive
+-- name or not.
+pub record IsAskedBy (options : ApplyOptions) (sizes : Sizes) (mode : SyncCore) (flush : Option ℕ)
     (archives drain : Bool) : Type 0 where
   pub writers : options.writers ≡ sizes.writers
   pub sync : options.sync ≡ mode
-  pub no_flush : options.flush_at ≡ None
+  pub flush_is : options.flush_at ≡ flush
   pub capacity : capacity_of options ≡ sizes.capacity
   pub drain_is : options.drain ≡ drain
   pub archive_is : options.archive ≡ archives
@@ -77,7 +78,7 @@ pub record HasWrittenShares (options : ApplyOptions) (base : ℕ) (opened after 
   pub logged : List LoggedLine
   pub path : IsClosedPath options mutations base history files
   pub store : IsStoreLeft options.archive opened after later ids dropped history files
-  pub undrained : options.drain ≡ false → (dropped ≡ []) × (files ≡ [])
+  pub unflushed : flushes options ≡ false → (dropped ≡ []) × (files ≡ [])
   -- where it begins, and how far it reaches, in ids and in sequences
   pub begins : BeginsIn base history
   pub reach : ReachesNoFurther options base later ids history files

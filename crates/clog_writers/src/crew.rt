@@ -1,6 +1,20 @@
 //! The seats of a path are given to workers, all workers commit their shares in threads, and the
 //! seats come back.
-ghost use Rattle.std.specs.Prelude.{◌≡◌, ◌≤◌, ℕ, List, [], length, Some, vec_capacity};
+ghost use Rattle.std.specs.Prelude.{
+  ◌≡◌,
+  ◌≤◌,
+  ℕ,
+  List,
+  [],
+  length,
+  Option,
+  Some,
+  None,
+  IsSome,
+  true,
+  vec_capacity,
+};
+ghost use Rattle.clog_spec.specs.Sizes.{most_tables};
 ghost use Rattle.clog_mutation.specs.declared.mutation.Mutation.{Mutation};
 ghost use Rattle.clog_applied.specs.History.{Line};
 ghost use Rattle.clog_writers.specs.Crews.{
@@ -13,6 +27,7 @@ ghost use Rattle.clog_writers.specs.Crews.{
   IsReady,
   IsSizedAs,
   KnowsWhy,
+  MayLack,
 };
 ghost use Rattle.clog_writers.specs.Sealing.{HasWaited, HaveWaited, WaitShares, WaitsShare};
 ghost use Rattle.clog_writers.specs.Timed.{TimeShares, TimesShare};
@@ -35,6 +50,7 @@ use write_path::{PathSeat, WritePath};
 fn take_seat<K: Keeper + Drop>(worker: &mut Worker<K>, seat: PathSeat<K>)
     ensures seat { worker.new.seat ≡ Some seat }
     ensures writes { worker.new.writes ≡ worker.old.writes }
+    ensures counts { worker.new.counts ≡ worker.old.counts }
 {
     worker.seat = Some(seat);
 }
@@ -49,9 +65,11 @@ pub fn seat_all<K: Keeper + Drop>(
     requires sized { IsSizedAs path.now.table.size sizes }
     requires seats { AreNew path.now.table.table.shared.table_id path.now.table.size
         path.now.table.size.seats seats.items }
-    requires dealt { (mutations : List Mutation) × AreDealt sizes mutations workers.old }
-    ensures { (mutations : List Mutation) → AreDealt sizes mutations workers.old
-        → AreReady path.now.table.table.shared.table_id path.now.table.size sizes mutations
+    requires dealt { (flush : Option ℕ) × (mutations : List Mutation)
+        × AreDealt sizes flush mutations workers.old }
+    ensures { (flush : Option ℕ) (mutations : List Mutation)
+        → AreDealt sizes flush mutations workers.old
+        → AreReady path.now.table.table.shared.table_id path.now.table.size sizes flush mutations
         workers.new }
 {
     let mut seats = seats;
@@ -69,19 +87,23 @@ pub fn commit_all<R: Threads + Wait + Sync, K: Keeper + Send, G: Gate + Sync, C:
     path: &WritePath<K, Global>,
     sizes: Sizes,
     syncing: Syncing,
+    flush_at: Option<u32>,
     gate: &G,
     clock: &C,
     workers: &mut [Worker<K>],
 )
     requires sized { IsSizedAs path.now.table.size sizes }
     requires ready { (mutations : List Mutation)
-        × AreReady path.now.table.table.shared.table_id path.now.table.size sizes mutations
-        workers.old }
+        × AreReady path.now.table.table.shared.table_id path.now.table.size sizes flush_at
+        mutations workers.old }
     requires mode { path.now.mode ≡ syncing.mode }
+    requires tables { sizes.tables ≡ most_tables }
+    requires files { IsSome flush_at → path.now.table.size.files ≡ true }
+    requires some { (most : ℕ) → flush_at ≡ Some most → 1 ≤ most }
     ensures logged { (mutations : List Mutation)
-        → AreReady path.now.table.table.shared.table_id path.now.table.size sizes mutations
-        workers.old
-        → HaveLogged path.now.table.table.shared.table_id path.now.table.size mutations
+        → AreReady path.now.table.table.shared.table_id path.now.table.size sizes flush_at
+        mutations workers.old
+        → HaveLogged path.now.table.table.shared.table_id path.now.table.size flush_at mutations
         workers.new }
     ensures waited { path.now.mode ≡ Batch → WaitShares workers.new }
     ensures timed { (period : ℕ) → syncing.mode ≡ Periodic period
@@ -93,18 +115,25 @@ pub fn commit_all<R: Threads + Wait + Sync, K: Keeper + Send, G: Gate + Sync, C:
         64,
         &|_place, worker: &mut Worker<K>|
             requires { IsSizedAs path.now.table.size sizes × (path.now.mode ≡ syncing.mode)
+                × (sizes.tables ≡ most_tables)
+                × (IsSome flush_at → path.now.table.size.files ≡ true)
+                × ((most : ℕ) → flush_at ≡ Some most → 1 ≤ most)
                 × ((number : ℕ) × (lines : List Line)
-                × IsReady path.now.table.table.shared.table_id path.now.table.size sizes number
-                lines worker.old) }
+                × IsReady path.now.table.table.shared.table_id path.now.table.size sizes flush_at
+                number lines worker.old) }
             ensures { ((number : ℕ) (lines : List Line)
                 → IsReady path.entry.now.table.table.shared.table_id path.entry.now.table.size
-                sizes number lines worker.old
+                sizes flush_at number lines worker.old
                 → HasLogged path.entry.now.table.table.shared.table_id path.entry.now.table.size
-                number lines worker.new)
+                flush_at number lines worker.new)
                 × (path.entry.now.mode ≡ Batch → WaitsShare worker.new)
                 × ((period : ℕ) → syncing.mode ≡ Periodic period
                 → TimesShare (C.tells clock.entry.now) syncing.mode syncing.since_ms worker.new) }
-        { commit_share(rt, alloc, path, sizes, syncing, gate, clock, worker) },
+        {
+            commit_share(
+                rt, alloc, path, sizes, syncing, flush_at, gate, clock, worker,
+            )
+        },
     );
 }
 
@@ -115,20 +144,24 @@ fn end_share<R: Wait, K: Keeper + Drop>(
     path: &WritePath<K, Global>,
     worker: Worker<K>,
 ) -> (PathSeat<K>, Option<WriteFault>)
-    requires { (number : ℕ) × (lines : List Line)
-        × HasLogged path.now.table.table.shared.table_id path.now.table.size number lines worker }
-    ensures ends { (number : ℕ) (lines : List Line)
-        → HasLogged path.now.table.table.shared.table_id path.now.table.size number lines worker
-        → HasEnded path.now.table.table.shared.table_id path.now.table.size number lines result.1
-        result.0 }
-    ensures why { (number : ℕ) (lines : List Line)
-        → HasLogged path.now.table.table.shared.table_id path.now.table.size number lines worker
-        → KnowsWhy path.now.table.size result.1 result.0 }
+    requires { (flush : Option ℕ) × (number : ℕ) × (lines : List Line)
+        × HasLogged path.now.table.table.shared.table_id path.now.table.size flush number lines
+        worker }
+    ensures ends { (flush : Option ℕ) (number : ℕ) (lines : List Line)
+        → HasLogged path.now.table.table.shared.table_id path.now.table.size flush number lines
+        worker
+        → HasEnded path.now.table.table.shared.table_id path.now.table.size flush number lines
+        result.1 result.0 }
+    ensures why { (flush : Option ℕ) (number : ℕ) (lines : List Line)
+        → HasLogged path.now.table.table.shared.table_id path.now.table.size flush number lines
+        worker
+        → KnowsWhy path.now.table.size result.1 result.0 × MayLack flush result.1 }
     ensures waited { WaitsShare worker → HasWaited result.0 }
 {
     let Worker {
         seat,
         writes: _,
+        counts: _,
         fault,
     } = worker;
     match seat {
@@ -148,15 +181,15 @@ pub fn end_all<R: Wait, K: Keeper + Drop>(
     workers: Vec<Worker<K>>,
     seats: &mut Vec<PathSeat<K>>,
 ) -> Option<WriteFault>
-    requires logged { (mutations : List Mutation)
-        × HaveLogged path.now.table.table.shared.table_id path.now.table.size mutations
+    requires logged { (flush : Option ℕ) × (mutations : List Mutation)
+        × HaveLogged path.now.table.table.shared.table_id path.now.table.size flush mutations
         workers.items }
     requires room { length workers.items ≤ vec_capacity seats.old }
     requires none { seats.old.items ≡ [] }
-    ensures ended { (mutations : List Mutation)
-        → HaveLogged path.now.table.table.shared.table_id path.now.table.size mutations
+    ensures ended { (flush : Option ℕ) (mutations : List Mutation)
+        → HaveLogged path.now.table.table.shared.table_id path.now.table.size flush mutations
         workers.items
-        → HaveEnded path.now.table.table.shared.table_id path.now.table.size mutations result
+        → HaveEnded path.now.table.table.shared.table_id path.now.table.size flush mutations result
         seats.new.items }
     ensures waited { WaitShares workers.items → HaveWaited seats.new.items }
 {

@@ -1,15 +1,32 @@
 //! The lines of a file are dealt out to workers: line `n`, from 1, goes to the worker of number `n`
-//! modulo their count. All memory of their writes is taken here.
-ghost use Rattle.std.specs.Prelude.{◌≡◌, ℕ, ◌+◌, ◌<◌, ◌^◌, ◌++◌, List, [], ◌∷◌, length, IfOk, OnOk};
+//! modulo their count. All memory of their writes is taken here; where writers flush, the updates of
+//! each line are counted.
+ghost use Rattle.std.specs.Prelude.{
+  ◌≡◌,
+  ℕ,
+  ◌+◌,
+  ◌<◌,
+  ◌^◌,
+  ◌++◌,
+  List,
+  [],
+  ◌∷◌,
+  length,
+  IfOk,
+  OnOk,
+  Option,
+};
 ghost use Rattle.std.specs.List.{AllByRecursion};
 ghost use Rattle.clog_mutation.specs.declared.mutation.Mutation.{Mutation as MutationOf};
 ghost use Rattle.clog_mutation.specs.Limits.{IsWithinLimits};
 ghost use Rattle.clog_spec.specs.Sizes.{most_tables};
 ghost use Rattle.clog_writers.specs.Crews.{AreDealt};
 ghost use Rattle.clog_writers.specs.Planned.{DealsAll, PreparesLine};
+ghost use Rattle.clog_writers.specs.Tallied.{IsCountedFor, with_counts};
 ghost use Rattle.write_path.specs.Writes.{IsPrepared};
 
 use crate::fault::PlanFault;
+use crate::tally::LineCounts;
 use crate::worker::Worker;
 use clog_base::Sizes;
 use clog_mutation::Mutation;
@@ -19,18 +36,19 @@ use write_path::{PrepareFault, Prepared};
 
 // A worker that has no lines.
 fn idle_worker<K>(alloc: Global) -> Worker<K>
-    ensures { result.writes.items ≡ [] }
+    ensures { (result.writes.items ≡ []) × (result.counts.items ≡ []) }
 {
     Worker {
         seat: None,
         writes: Vec::new(alloc),
+        counts: Vec::new(alloc),
         fault: None,
     }
 }
 
 // Workers that have no lines.
 fn idle_crew<K: Keeper + Drop>(alloc: Global, sizes: Sizes) -> Result<Vec<Worker<K>>, AllocError>
-    ensures { IfOk result (λ v. AreDealt sizes [] v.items) }
+    ensures { IfOk result (λ v. (flush : Option ℕ) → AreDealt sizes flush [] v.items) }
 {
     let mut workers = Vec::new(alloc);
     for _ in 0..sizes.writers {
@@ -61,41 +79,73 @@ fn prepare(
     }
 }
 
+// The updates of a line are counted where writers flush.
+fn counts_for(flush_at: Option<u32>, mutation: &Mutation) -> Option<LineCounts>
+    requires { IsWithinLimits mutation.now }
+    ensures { IsCountedFor flush_at mutation.now result }
+{
+    match flush_at {
+        Some(_) => Some(LineCounts::of(mutation)),
+        None => None,
+    }
+}
+
+// A worker gets a further write, and its counts where they were taken.
+fn add<K: Keeper + Drop>(
+    worker: &mut Worker<K>,
+    write: Prepared,
+    counts: Option<LineCounts>,
+) -> Result<(), AllocError>
+    ensures { OnOk result ((worker.new.writes.items ≡ worker.old.writes.items ++ write ∷ [])
+        × (worker.new.counts.items ≡ with_counts worker.old.counts.items counts)) }
+{
+    worker.writes.push(write)?;
+    match counts {
+        Some(counts) => Ok(worker.counts.push(counts)?),
+        None => Ok(()),
+    }
+}
+
 // Gives the next line's write to the worker that it belongs to.
 fn give<K: Keeper + Drop>(
     workers: &mut [Worker<K>],
     sizes: Sizes,
     line: u32,
     write: Prepared,
+    counts: Option<LineCounts>,
 ) -> Result<(), AllocError>
     requires { length workers.old ≡ sizes.writers }
-    ensures { OnOk result ((lines : List MutationOf) (m : MutationOf)
-        → AreDealt sizes lines workers.old → line ≡ length lines + 1
-        → IsPrepared sizes line m write → AreDealt sizes (lines ++ m ∷ []) workers.new) }
+    ensures { OnOk result ((flush : Option ℕ) (lines : List MutationOf) (m : MutationOf)
+        → AreDealt sizes flush lines workers.old → line ≡ length lines + 1
+        → IsPrepared sizes line m write → IsCountedFor flush m counts
+        → AreDealt sizes flush (lines ++ m ∷ []) workers.new) }
 {
     let number = (line % u32::from(sizes.writers)) as usize;
-    Ok(workers[number].writes.push(write)?)
+    Ok(add(&mut workers[number], write, counts)?)
 }
 
 /// Deals the lines of a file out to workers that have no seats yet. `TooLarge`: of all lines this is
-/// the first whose entry is larger than half a segment's capacity (`CommitLog.add`).
+/// the first whose entry is larger than half a segment's capacity (`CommitLog.add`). With
+/// `flush_at` the updates of each line are counted.
 pub fn deal<K: Keeper + Drop>(
     alloc: Global,
     sizes: Sizes,
+    flush_at: Option<u32>,
     mutations: Vec<Mutation>,
 ) -> Result<Vec<Worker<K>>, PlanFault>
     requires few { length mutations.items < 2 ^ 32 }
     requires within { AllByRecursion IsWithinLimits mutations.items }
     requires tables { sizes.tables ≡ most_tables }
-    ensures { DealsAll sizes mutations.items result }
+    ensures { DealsAll sizes flush_at mutations.items result }
 {
     let mut workers = idle_crew(alloc, sizes)?;
     let mut line: u32 = 0;
     for mutation in mutations {
         line += 1;
+        let counts = counts_for(flush_at, &mutation);
         // A match, since the exit speaks of the lines that were dealt out.
         match prepare(alloc, sizes, line, mutation) {
-            Ok(write) => give(workers.as_mut_slice(), sizes, line, write)?,
+            Ok(write) => give(workers.as_mut_slice(), sizes, line, write, counts)?,
             Err(fault) => return Err(fault),
         }
     }

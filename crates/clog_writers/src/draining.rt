@@ -1,17 +1,12 @@
-//! A store whose lines are all logged is drained: a table file is put for each table that one of
-//! them touches, and the segments go for which table files stand. Where the entries stand is told
-//! by the path alone, so the memory for their cells is asked for behind them.
-ghost use Rattle.std.specs.Prelude.{◌≡◌, ◌⊎◌, ℕ, None, OnOk, Some, false, true};
+//! What a run still does with a store once its lines are logged. A drain puts a table file for each
+//! table with an entry that lies in none yet, from where the table's last one ends; then, also
+//! where writers have flushed, the segments go for which table files stand. Where the entries stand
+//! is told by the path alone, so the memory for a drain's cells is asked for behind them.
+ghost use Rattle.std.specs.Prelude.{◌≡◌, ◌⊎◌, ◌≤◌, ℕ, None, OnOk, Some, false, true, length};
 ghost use Rattle.clog_io.specs.Causes.{Rose};
 ghost use Rattle.clog_layout.specs.Ends.{synced_to};
-ghost use Rattle.clog_closing.specs.Drained.{
-  EndsAs,
-  HasBegun,
-  HasDrained,
-  HasNoDeeds,
-  IsDrainedAs,
-  KeepsLog,
-};
+ghost use Rattle.clog_closing.specs.Beside.{HasFinished, HasGoodDeeds};
+ghost use Rattle.clog_closing.specs.Drained.{EndsAs, HasBegun, HasNoDeeds, KeepsLog};
 ghost use Rattle.clog_spec.specs.Sizes.{most_tables};
 ghost use Rattle.clog_store.specs.StoreState.{holding_of};
 ghost use Rattle.clog_writers.specs.declared.fault.WriteFault.TheVariants.{
@@ -25,10 +20,11 @@ use crate::fault::WriteFault;
 use clog_base::{Key, OutOfMemory};
 use clog_closing::drain;
 use clog_disk::Disk;
-use clog_memtable::memtables_of;
+use clog_memtable::{Memtable, memtables_of};
 use clog_store::Store;
 use path_core::{EntryNote, KeeperFault};
 use std::alloc::Global;
+use write_path::Row;
 
 // The key at which the last of notes ends, 0 where there is none.
 fn end_of(notes: &[EntryNote]) -> Key
@@ -40,16 +36,36 @@ fn end_of(notes: &[EntryNote]) -> Key
     notes[notes.len() - 1].end
 }
 
-// Drains a store that runs, up to the end of its last entry.
-fn drain_logged<D: Disk>(alloc: Global, store: &mut Store<D>) -> Result<(), KeeperFault>
+// What is to be put yet: nothing where the store is not drained.
+fn left_to_put<D: Disk>(
+    alloc: Global,
+    store: &Store<D>,
+    drain: bool,
+) -> Result<Vec<Memtable>, OutOfMemory>
+{
+    if !drain {
+        return Ok(Vec::new(alloc));
+    }
+    let lowers = store.filed_to();
+    memtables_of(alloc, store.logged(), &lowers, end_of(store.logged()))
+}
+
+// Drains a store that runs, up to the end of its last entry, or drops alone what may go.
+fn settle<D: Disk>(
+    alloc: Global,
+    store: &mut Store<D>,
+    drain: bool,
+) -> Result<(), KeeperFault>
     requires runs { store.old.notes.log.is_stopped ≡ false }
     requires tables { store.old.notes.sizes.tables ≡ most_tables }
-    requires none { HasNoDeeds
+    requires good { HasGoodDeeds
         (holding_of D.files D.changes D.moment D.faults D.row.coded.code store.old) }
-    ensures drains { OnOk result (HasDrained
-        (holding_of D.files D.changes D.moment D.faults D.row.coded.code store.new)
-        store.old.notes.logged) }
-    ensures begun { HasBegun
+    requires few { length store.old.files ≤ 4096 }
+    ensures settles { OnOk result (HasFinished drain
+        (holding_of D.files D.changes D.moment D.faults D.row.coded.code store.new)) }
+    ensures begun { HasNoDeeds
+        (holding_of D.files D.changes D.moment D.faults D.row.coded.code store.old)
+        → HasBegun
         (holding_of D.files D.changes D.moment D.faults D.row.coded.code store.new)
         (synced_to store.old.notes.logged) }
     ensures keeps { KeepsLog
@@ -61,8 +77,7 @@ fn drain_logged<D: Disk>(alloc: Global, store: &mut Store<D>) -> Result<(), Keep
 {
     // What its log keeps, for the proof alone.
     store.fault_count();
-    let upper = end_of(store.logged());
-    match memtables_of(alloc, store.logged(), upper) {
+    match left_to_put(alloc, store, drain) {
         Ok(memtables) => drain(store, memtables.as_slice()),
         Err(OutOfMemory) => Err(KeeperFault::OutOfMemory),
     }
@@ -78,28 +93,33 @@ fn refused_as(fault: KeeperFault) -> WriteFault
     }
 }
 
-/// Drains a store whose lines were to be logged, where that is asked for and they were: `fault` is
-/// why not all of them are, `at_open` the disk's count of faults at the opening. It gives back why
-/// not all was done.
-pub(crate) fn drain_asked<D: Disk>(
+/// Ends what a run does with a store whose lines were to be logged, where they were: `fault` is why
+/// not all of them are, `at_open` the disk's count of faults at the opening. With `drain` it puts
+/// what lies in no table file yet; with it, or where writers were `flushing`, all segments go that
+/// may. It gives back why not all was done.
+pub(crate) fn settle_asked<D: Disk>(
     alloc: Global,
     store: &mut Store<D>,
     at_open: u64,
+    flushing: bool,
     drain: bool,
     fault: Option<WriteFault>,
 ) -> Option<WriteFault>
     requires opened { at_open ≡ D.faults store.old.first }
     requires tables { store.old.notes.sizes.tables ≡ most_tables }
-    requires none { HasNoDeeds
+    requires good { HasGoodDeeds
         (holding_of D.files D.changes D.moment D.faults D.row.coded.code store.old) }
+    requires alone { flushing ≡ false → HasNoDeeds
+        (holding_of D.files D.changes D.moment D.faults D.row.coded.code store.old) }
+    requires few { length store.old.files ≤ 4096 }
     requires stopped { (a n : ℕ) → fault ≡ Some (Stopped a n)
         → store.old.notes.log.is_stopped ≡ true }
-    ensures ok { result ≡ None → (fault ≡ None) × IsDrainedAs drain
-        (holding_of D.files D.changes D.moment D.faults D.row.coded.code store.new)
-        store.new.notes.logged }
+    ensures ok { result ≡ None → (fault ≡ None) × HasFinished drain
+        (holding_of D.files D.changes D.moment D.faults D.row.coded.code store.new) }
     ensures spent { result ≡ Some Spent → fault ≡ Some Spent }
-    ensures rows { (groups : ℕ) → result ≡ Some (Rows groups) → fault ≡ Some (Rows groups) }
-    ensures begun { HasNoDeeds
+    ensures rows { (row : Row) (made : ℕ) → result ≡ Some (Rows row made)
+        → fault ≡ Some (Rows row made) }
+    ensures begun { flushing ≡ false → HasNoDeeds
         (holding_of D.files D.changes D.moment D.faults D.row.coded.code store.new)
         ⊎ ((drain ≡ true) × (fault ≡ None) × HasBegun
         (holding_of D.files D.changes D.moment D.faults D.row.coded.code store.new)
@@ -112,14 +132,14 @@ pub(crate) fn drain_asked<D: Disk>(
         → (store.new.notes.log.is_stopped ≡ true)
         ⊎ Rose at_open (D.faults store.new.notes.log.disk) }
 {
-    if fault.is_some() || !drain {
+    if fault.is_some() || !(drain || flushing) {
         return fault;
     }
     let now = store.fault_count();
     if now != at_open || now == u64::MAX {
         return Some(WriteFault::Stopped { at_open, now });
     }
-    match drain_logged(alloc, store) {
+    match settle(alloc, store, drain) {
         Ok(()) => None,
         Err(refusal) => Some(refused_as(refusal)),
     }

@@ -1,10 +1,10 @@
 //! Why lines were not all logged by their writers.
 ghost use Rattle.std.specs.Prelude.{◌≡◌, ◌⊎◌, ℕ, None};
-ghost use Rattle.clog_writers.specs.Shares.{refusal_of};
+ghost use Rattle.clog_writers.specs.Shares.{refusal_by, refusal_of};
 ghost use Rattle.path_rule.specs.declared.answer.SyncAnswer.TheVariants.{Done};
 
 use std::alloc::{AllocError, AllocFailed};
-use write_path::SyncAnswer;
+use write_path::{Flush, Row, SyncAnswer};
 
 /// Why lines were not all logged by their writers.
 #[derive(Clone, Copy, Debug, PartialEq, Eq)]
@@ -20,8 +20,9 @@ pub enum WriteFault {
         /// The count now.
         now: u64,
     },
-    /// All groups of the append order that there are words for were made: this many.
-    Rows(u64),
+    /// A further word of a row is wanted, of which all are in use: this many. A sync wants one for a
+    /// group of the append order, a flush for a memtable too.
+    Rows(Row, u64),
 }
 
 /// Why no line is written: what is taken before the first of them was refused.
@@ -73,7 +74,19 @@ pub(crate) fn refusal_of(answer: SyncAnswer) -> Option<WriteFault>
         SyncAnswer::Done(_) => None,
         SyncAnswer::Stopped { at_open, now } => Some(WriteFault::Stopped { at_open, now }),
         SyncAnswer::OutOfMemory => Some(WriteFault::OutOfMemory),
-        SyncAnswer::Rows(groups) => Some(WriteFault::Rows(groups)),
+        SyncAnswer::Rows(groups) => Some(WriteFault::Rows(Row::AppendGroups, groups)),
+    }
+}
+
+/// Why a flush was refused, if it was: not where another seat has the turn.
+pub(crate) fn refusal_by(answer: Flush) -> Option<WriteFault>
+    ensures { result ≡ refusal_by answer }
+{
+    match answer {
+        Flush::Flushed { .. } | Flush::Empty(_) | Flush::Busy(_) => None,
+        Flush::Rows(row, made) => Some(WriteFault::Rows(row, made)),
+        Flush::Stopped { at_open, now } => Some(WriteFault::Stopped { at_open, now }),
+        Flush::OutOfMemory => Some(WriteFault::OutOfMemory),
     }
 }
 

@@ -1,19 +1,22 @@
 //! The lines of a mutation file are logged by 1 to 64 writers, each in a thread of its own
 //! (Cassandra's mutation stage, whose threads call `CommitLog.add`), over a path over a store. Line
 //! `n`, from 1, is written by the writer of number `n` modulo their count, each writer's lines in
-//! order. All memory of the writes is taken before the first of them is written.
+//! order. All memory of the writes is taken before the first of them is written. A writer may flush
+//! each table of which it has logged so many updates since its last flush of it.
 #![tactic(auto)]
 
 mod crew;
 mod dealing;
 mod draining;
 mod fault;
+mod flushing;
 mod laws;
 mod logging;
 mod placing;
 mod planning;
 mod rows;
 mod syncing;
+mod tally;
 mod worker;
 mod writing;
 
@@ -27,5 +30,6 @@ pub use logging::log_shares;
 pub use planning::{Plan, make_plan};
 pub use rows::a_line_comes_behind_the_earlier_ones_of_its_writer;
 pub use syncing::Syncing;
+pub use tally::LineCounts;
 pub use worker::Worker;
 pub use writing::write_plan;

@@ -2,7 +2,19 @@
 //! commit in threads, each seat has the log synced at the end, and the path is closed. In batch
 //! mode a marker stands between each two entries of one writer that are lasting, whatever was
 //! refused.
-ghost use Rattle.std.specs.Prelude.{◌≡◌, ◌<◌, ◌≤◌, ◌^◌, ℕ, List, [], None, vec_capacity};
+ghost use Rattle.std.specs.Prelude.{
+  ◌≡◌,
+  ◌<◌,
+  ◌≤◌,
+  ◌^◌,
+  ℕ,
+  List,
+  [],
+  None,
+  Some,
+  vec_capacity,
+};
+ghost use Rattle.clog_spec.specs.Sizes.{most_tables};
 ghost use Rattle.clog_mutation.specs.declared.mutation.Mutation.{Mutation};
 ghost use Rattle.clog_writers.specs.Crews.{AreDealt, IsOpenFor};
 ghost use Rattle.clog_writers.specs.Logged.{EndsShares};
@@ -30,23 +42,26 @@ fn run_crew<R: Threads + Wait + Sync, K: Keeper + Send + Drop, G: Gate + Sync, C
     path: WritePath<K, Global>,
     sizes: Sizes,
     syncing: Syncing,
+    flush_at: Option<u32>,
     gate: &G,
     clock: &C,
     workers: Vec<Worker<K>>,
     handed: Vec<PathSeat<K>>,
     room: Vec<PathSeat<K>>,
 ) -> (K, Option<WriteFault>)
-    requires open { (base : ℕ) × IsOpenFor sizes base path.table.size }
+    requires open { (base : ℕ) × IsOpenFor sizes flush_at base path.table.size }
     requires seats { AreNew path.table.table.shared.table_id path.table.size path.table.size.seats
         handed.items }
     requires made { path.opener ≡ None }
     requires mode { path.mode ≡ syncing.mode }
-    requires dealt { (mutations : List Mutation) × AreDealt sizes mutations workers.items }
+    requires tables { sizes.tables ≡ most_tables }
+    requires some { (most : ℕ) → flush_at ≡ Some most → 1 ≤ most }
+    requires dealt { (mutations : List Mutation) × AreDealt sizes flush_at mutations workers.items }
     requires room { sizes.writers ≤ vec_capacity room }
     requires void { room.items ≡ [] }
-    ensures ends { (base : ℕ) (before : Holding) → IsOpenFor sizes base path.table.size
+    ensures ends { (base : ℕ) (before : Holding) → IsOpenFor sizes flush_at base path.table.size
         → K.holds path.table.table.shared.key.first.value ≡ before → IsFresh base sizes before
-        → EndsShares sizes base before (K.holds result.0) workers.items result.1 }
+        → EndsShares sizes flush_at base before (K.holds result.0) workers.items result.1 }
     ensures apart { path.mode ≡ Batch → StandApart sizes.capacity (K.holds result.0).logged }
 {
     let mut workers = workers;
@@ -58,6 +73,7 @@ fn run_crew<R: Threads + Wait + Sync, K: Keeper + Send + Drop, G: Gate + Sync, C
         &path,
         sizes,
         syncing,
+        flush_at,
         gate,
         clock,
         workers.as_mut_slice(),
@@ -68,7 +84,9 @@ fn run_crew<R: Threads + Wait + Sync, K: Keeper + Send + Drop, G: Gate + Sync, C
 }
 
 /// Logs the lines that were dealt out to workers, over a keeper that was just opened. There is room
-/// for a seat of each. Whatever is refused, the keeper does nothing beside its log. The gate is
+/// for a seat of each. With `flush_at` each worker flushes a table whenever it has logged so many
+/// updates of it since its last flush; else the keeper does nothing beside its log, whatever is
+/// refused. The gate is
 /// told how far each commit is; in periodic mode the clock is asked behind each one.
 pub fn log_shares<
     R: Threads + Wait + Sync,
@@ -81,6 +99,7 @@ pub fn log_shares<
     keeper: K,
     sizes: Sizes,
     syncing: Syncing,
+    flush_at: Option<u32>,
     gate: &G,
     clock: &C,
     base: u64,
@@ -89,20 +108,26 @@ pub fn log_shares<
 ) -> (K, Option<WriteFault>)
     requires fresh { IsFresh base sizes (K.holds keeper) }
     requires base { base < 2 ^ 62 }
-    requires dealt { (mutations : List Mutation) × AreDealt sizes mutations workers.items }
+    requires tables { sizes.tables ≡ most_tables }
+    requires some { (most : ℕ) → flush_at ≡ Some most → 1 ≤ most }
+    requires dealt { (mutations : List Mutation) × AreDealt sizes flush_at mutations workers.items }
     requires room { sizes.writers ≤ vec_capacity room }
     requires void { room.items ≡ [] }
-    ensures ends { EndsShares sizes base (K.holds keeper) (K.holds result.0) workers.items
+    ensures ends { EndsShares sizes flush_at base (K.holds keeper) (K.holds result.0) workers.items
         result.1 }
     ensures apart { syncing.mode ≡ Batch → StandApart sizes.capacity (K.holds result.0).logged }
 {
-    let mut path = match WritePath::open(alloc, keeper, sizes, base, syncing.mode) {
+    let opened = match flush_at {
+        Some(_) => WritePath::open_filing(alloc, keeper, sizes, base, syncing.mode),
+        None => WritePath::open(alloc, keeper, sizes, base, syncing.mode),
+    };
+    let mut path = match opened {
         Ok(path) => path,
         Err((keeper, OutOfMemory)) => return (keeper, Some(WriteFault::OutOfMemory)),
     };
     match path.seats(alloc) {
         Ok(handed) => run_crew(
-            rt, alloc, path, sizes, syncing, gate, clock, workers, handed, room,
+            rt, alloc, path, sizes, syncing, flush_at, gate, clock, workers, handed, room,
         ),
         Err(_) => {
             let (keeper, _end) = path.close(room);

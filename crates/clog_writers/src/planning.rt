@@ -28,16 +28,18 @@ pub struct Plan<K> {
 
 /// Takes the memory of the lines' writes and receipts; the path's, the syncs' and a drain's come
 /// later. `TooLarge`: of all lines this is the first whose entry is larger than half a segment's
-/// capacity (`CommitLog.add`).
+/// capacity (`CommitLog.add`). With `flush_at` the updates of each line are counted for writers that
+/// flush.
 pub fn make_plan<K: Keeper + Drop>(
     alloc: Global,
     sizes: Sizes,
+    flush_at: Option<u32>,
     mutations: Vec<Mutation>,
 ) -> Result<Plan<K>, PlanFault>
     requires few { length mutations.items < 2 ^ 32 }
     requires within { AllByRecursion IsWithinLimits mutations.items }
     requires tables { sizes.tables ≡ most_tables }
-    ensures { PlansAll sizes mutations.items result }
+    ensures { PlansAll sizes flush_at mutations.items result }
 {
     let none = Receipt {
         line: 0,
@@ -45,7 +47,7 @@ pub fn make_plan<K: Keeper + Drop>(
     };
     let receipts = vec![in alloc; none; mutations.len()]?;
     let room = Vec::with_capacity(alloc, usize::from(sizes.writers))?;
-    let workers = deal(alloc, sizes, mutations)?;
+    let workers = deal(alloc, sizes, flush_at, mutations)?;
     Ok(Plan {
         workers,
         room,

@@ -3,7 +3,7 @@
 //! whether the period has passed since it last had the log synced (`CommitLog.sync` at each period
 //! of `PeriodicCommitLogService`).
 ghost use Rattle.std.specs.Prelude.{◌≡◌, ℕ, MatchOption, None};
-ghost use Rattle.clog_writers.specs.Crews.{KnowsWhy};
+ghost use Rattle.clog_writers.specs.Crews.{KnowsWhy, MayLack};
 ghost use Rattle.clog_writers.specs.Timed.{HasNotSynced, KnowsSynced, SealsLast, SyncsWhenDue};
 ghost use Rattle.path_rule.specs.Members.{IsOf};
 ghost use Rattle.sync_core.specs.Due.{IsDue};
@@ -55,6 +55,7 @@ fn sync_seat<R: Wait, K: Keeper>(
     ensures keeps { KeepsList path.now.table.table.shared.table_id path.now.table.size seat.member
         result.0.member }
     ensures why { KnowsWhy path.now.table.size result.1 result.0 }
+    ensures rows { MayLack None result.1 }
     ensures synced { result.1 ≡ None → KnowsSynced result.0 }
     ensures seals { result.1 ≡ None → SealsLast seat result.0 }
 {
@@ -78,6 +79,7 @@ pub(crate) fn sync_when_due<R: Wait, K: Keeper, C: Clock>(
     ensures keeps { KeepsList path.now.table.table.shared.table_id path.now.table.size seat.member
         result.0.member }
     ensures why { KnowsWhy path.now.table.size result.2 result.0 }
+    ensures rows { MayLack None result.2 }
     ensures due { (period : ℕ) → mode ≡ Periodic period
         → SyncsWhenDue (C.tells clock.now) mode last_ms seat result.0 result.1 result.2 }
     ensures batch { mode ≡ Batch → HasNotSynced last_ms seat result.0 result.1 result.2 }

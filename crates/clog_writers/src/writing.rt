@@ -29,12 +29,13 @@ ghost use Rattle.clog_mutation.specs.declared.mutation.Mutation.{Mutation as Mut
 ghost use Rattle.clog_words.specs.declared.request.ApplyOptions.{ApplyOptions};
 ghost use Rattle.clog_store.specs.StoreFailed.{AllStay};
 ghost use Rattle.clog_store.specs.StoreState.{store_over};
-ghost use Rattle.path_rule.specs.Layout.{group_rows};
 ghost use Rattle.clog_writers.specs.declared.fault.WriteFault.TheVariants.{
   Rows,
   Spent,
   Stopped,
 };
+ghost use Rattle.clog_writers.specs.Logged.{IsLack};
+ghost use Rattle.write_path.specs.declared.switch.Row.{Row as RowOf};
 ghost use Rattle.clog_writers.specs.Left.{LeavesShares, WritesShares, least_of};
 ghost use Rattle.clog_writers.specs.Planned.{IsPlanFor};
 ghost use Rattle.clog_writers.specs.Written.{
@@ -44,7 +45,7 @@ ghost use Rattle.clog_writers.specs.Written.{
   TellsWrittenShares,
 };
 
-use crate::draining::drain_asked;
+use crate::draining::settle_asked;
 use crate::fault::WriteFault;
 use crate::logging::log_shares;
 use crate::placing::place_receipts;
@@ -73,7 +74,8 @@ fn ended(
     ensures ok { IfOk result (λ r. (r ≡ receipts) × (fault ≡ None) × (Rose at_open now → ⊥)) }
     ensures cause { HasShareCause at_open now result }
     ensures spent { result ≡ Err Spent → fault ≡ Some Spent }
-    ensures rows { (groups : ℕ) → result ≡ Err (Rows groups) → fault ≡ Some (Rows groups) }
+    ensures rows { (row : RowOf) (made : ℕ) → result ≡ Err (Rows row made)
+        → fault ≡ Some (Rows row made) }
     ensures done { fault ≡ None → now ≡ at_open → now < 2 ^ 64 - 1 → result ≡ Ok receipts }
 {
     if now != at_open || now == u64::MAX {
@@ -102,21 +104,24 @@ fn disks_read_now<D: Disk>(_store: &Store<D>)
 /// before its next one, and in periodic mode behind each one at which the clock, in milliseconds,
 /// tells that the period has passed since its last sync.
 ///
-/// With `drain` a table file is put then for each table that one of them touches, and all segments
-/// go, each with its archive name first where the store archives. The receipts are in the order of
+/// With `flush_at` each writer flushes a table once it has logged so many updates of it since its last
+/// flush, behind the sync that is due then; table files come and segments go meanwhile. With `drain`
+/// a table file is put then for each table with a line that lies in none, and all segments go. Each
+/// that goes gets its archive name first where the store archives. The receipts are in the order of
 /// the lines. The gate is told how far each commit is.
 ///
-/// Whatever is answered, the disk's further changes are appends alone, which have brought segments,
-/// and no other names have come; with `drain` perhaps true table files and removals behind them, in
-/// order, once all lines are logged. Where all lasted before, each image of a crash since then
-/// restores what the folder restored, and lines of the plan, of each writer the first of its share;
-/// at `Ok`, and once the changes go beyond appends, each image of now restores all lines. Each file
-/// that was there stands as it was.
+/// Whatever is answered, the appends among the disk's further changes have brought segments, and no
+/// other names have come than those of these, their archive names and table files. Without
+/// `flush_at` the changes are appends alone; with `drain` perhaps true table files and removals
+/// behind them, in order, once all lines are logged. Where all lasted before, each image of a crash
+/// since then restores what the folder restored, and lines of the plan, of each writer the first of
+/// its share; at `Ok`, and without `flush_at` once the changes go beyond appends, each image of now
+/// restores all lines. Each file that was there stands as it was.
 ///
 /// `OutOfMemory`: memory was refused for the path, by a sync or for the drain's table files;
 /// `Spent`: the log has no further segment, so it may have at most two segments for each line;
-/// `Rows`: no further group for a barrier, so there are at least 65,535 lines, and it tells how
-/// many groups there are; `Stopped`: the disk has failed, with its fault counts at the opening and
+/// `Rows`: no further group for a sync's barrier, so there are at least 65,535 lines, or, with
+/// `flush_at`, no further memtable of a table, of which there are 256; it tells how many there are; `Stopped`: the disk has failed, with its fault counts at the opening and
 /// now.
 pub fn write_plan<R: Threads + Wait + Sync, D: Disk + Send + Drop, G: Gate + Sync, C: Clock + Sync>(
     rt: &R,
@@ -127,35 +132,37 @@ pub fn write_plan<R: Threads + Wait + Sync, D: Disk + Send + Drop, G: Gate + Syn
     gate: &G,
     clock: &C,
     plan: Plan<Store<D>>,
+    flush_at: Option<u32>,
     drain: bool,
 ) -> (D, Result<Vec<Receipt>, WriteFault>)
     requires fresh { store ≡ store_over store.notes.log store.notes.sizes store.archives }
     requires runs { store.notes.log.is_stopped ≡ false }
     requires sizes { sizes ≡ store.notes.sizes }
     requires tables { sizes.tables ≡ most_tables }
-    requires plan { (mutations : List MutationOf) × IsPlanFor sizes mutations plan }
+    requires some { (most : ℕ) → flush_at ≡ Some most → 1 ≤ most }
+    requires plan { (mutations : List MutationOf) × IsPlanFor sizes flush_at mutations plan }
     ensures written { (mutations : List MutationOf) (options : ApplyOptions) (opened : Files)
-        (made : List Change) → IsPlanFor sizes mutations plan
-        → IsAskedBy options store.notes.sizes syncing.mode store.archives drain
+        (made : List Change) → IsPlanFor sizes flush_at mutations plan
+        → IsAskedBy options store.notes.sizes syncing.mode flush_at store.archives drain
         → D.files store.notes.log.disk ≡ Some opened → D.changes store.notes.log.disk ≡ Some made
         → IfOk result.1 (λ receipts. TellsWrittenShares options store.notes.base opened made
         (D.files result.0) (D.changes result.0) mutations receipts.items) }
-    ensures receipts { (mutations : List MutationOf) → IsPlanFor sizes mutations plan
+    ensures receipts { (mutations : List MutationOf) → IsPlanFor sizes flush_at mutations plan
         → IfOk result.1 (λ r. HasReceipts sizes store.notes.base mutations r.items) }
     ensures shown { (mutations : List MutationOf) (opened : Files)
-        → IsPlanFor sizes mutations plan → D.files store.notes.log.disk ≡ Some opened
+        → IsPlanFor sizes flush_at mutations plan → D.files store.notes.log.disk ≡ Some opened
         → D.lasted_at store.notes.log.disk (D.moment store.notes.log.disk)
         → LeavesShares D.changes D.moment D.since D.leaves store.notes.log.disk result.0
-        (bytes_at opened) store.notes.base store.archives drain sizes.writers mutations
-        (least_of result.1 mutations) }
-    ensures spent { (mutations : List MutationOf) → IsPlanFor sizes mutations plan
+        (bytes_at opened) store.notes.base (is_some flush_at) store.archives drain sizes.writers
+        mutations (least_of result.1 mutations) }
+    ensures spent { (mutations : List MutationOf) → IsPlanFor sizes flush_at mutations plan
         → result.1 ≡ Err Spent → sizes.ordinals ≤ 1 + (2 * length mutations - 1) }
-    ensures rows { (mutations : List MutationOf) → IsPlanFor sizes mutations plan → (groups : ℕ)
-        → result.1 ≡ Err (Rows groups)
-        → (groups ≡ group_rows) × (group_rows ≤ 1 + length mutations) }
-    ensures wrote { (mutations : List MutationOf) → IsPlanFor sizes mutations plan
+    ensures rows { (mutations : List MutationOf) → IsPlanFor sizes flush_at mutations plan
+        → (row : RowOf) (made : ℕ) → result.1 ≡ Err (Rows row made)
+        → IsLack flush_at row made (length mutations) }
+    ensures wrote { (mutations : List MutationOf) → IsPlanFor sizes flush_at mutations plan
         → WritesShares D.files D.changes store.notes.log.disk result.0 store.notes.base
-        store.archives drain sizes.writers mutations }
+        (is_some flush_at) store.archives drain sizes.writers mutations }
     ensures stay { (opened now : Files) → D.files store.notes.log.disk ≡ Some opened
         → D.files result.0 ≡ Some now → AllStay opened now }
     ensures told { SameTold (D.files store.notes.log.disk) (D.files result.0) }
@@ -175,11 +182,12 @@ pub fn write_plan<R: Threads + Wait + Sync, D: Disk + Send + Drop, G: Gate + Syn
     } = plan;
     let mut receipts = receipts;
     let (store, fault) = log_shares(
-        rt, alloc, store, sizes, syncing, gate, clock, base, workers, room,
+        rt, alloc, store, sizes, syncing, flush_at, gate, clock, base, workers, room,
     );
     let mut store = store;
     place_receipts(base, store.logged(), receipts.as_mut_slice());
-    let fault = drain_asked(alloc, &mut store, at_open, drain, fault);
+    let flushing = flush_at.is_some();
+    let fault = settle_asked(alloc, &mut store, at_open, flushing, drain, fault);
     let outcome = ended(at_open, store.fault_count(), fault, receipts);
     (store.into_disk(), outcome)
 }

@@ -1,13 +1,49 @@
-//! What a store tells of itself: its sizes, the entries that it has made lasting, and its disk's
-//! count of faults.
-ghost use Rattle.std.specs.Prelude.{◌≡◌, false, true};
+//! What a store tells of itself: its sizes, the entries that it has made lasting, how far its table
+//! files reach, and its disk's count of faults.
+ghost use Rattle.std.specs.Prelude.{
+  ◌≡◌,
+  ◌==◌,
+  ◌<◌,
+  ℕ,
+  false,
+  get_or,
+  if◌then◌else◌,
+  true,
+};
 ghost use Rattle.clog_io.specs.Causes.{Rose};
+ghost use Rattle.clog_spec.specs.Sizes.{most_tables};
+ghost use Rattle.path_core.specs.Keeper.{upper_from};
 ghost use Rattle.clog_store.specs.NoteLog.{IsNoteLog};
 
-use crate::store::Store;
-use clog_base::Sizes;
+use crate::publishing::Published;
+use crate::store::{Store, StoredFile};
+use clog_base::{Key, Sizes};
 use clog_disk::Disk;
 use path_core::EntryNote;
+
+// The last keys of tables get that of one file more.
+fn put_upper(uppers: &mut [Key; 16], file: Published)
+    ensures { (t : ℕ) → t < most_tables → (get_or uppers.new t (record { 0 = 0 })).0
+        ≡ (if file.table.0 == t then file.upper.0 else (get_or uppers.old t (record { 0 = 0 })).0) }
+{
+    let place = usize::from(file.table.0);
+    if place >= uppers.len() {
+        return;
+    }
+    uppers[place] = file.upper;
+}
+
+// The key at which the last of the files of each table ends.
+fn uppers_of(files: &[StoredFile]) -> [Key; 16]
+    ensures { (t : ℕ) → t < most_tables
+        → (get_or result t (record { 0 = 0 })).0 ≡ upper_from t 0 files.now }
+{
+    let mut uppers = [Key(0); 16];
+    for file in files {
+        put_upper(&mut uppers, file.interval());
+    }
+    uppers
+}
 
 impl<D: Disk> Store<D> {
     /// The sizes that it was opened with: tables, writers, bytes of a segment, segments.
@@ -22,6 +58,15 @@ impl<D: Disk> Store<D> {
         ensures { result.now ≡ self.now.notes.logged }
     {
         self.notes.logged()
+    }
+
+    /// The key at which the last table file of each table ends, by the table's number; 0 where there
+    /// is none.
+    pub fn filed_to(&self) -> [Key; 16]
+        ensures { (t : ℕ) → t < most_tables
+            → (get_or result t (record { 0 = 0 })).0 ≡ upper_from t 0 self.now.files }
+    {
+        uppers_of(&self.files)
     }
 
     /// Its disk's count of faults. While it has not stopped, none was counted since the opening;

@@ -12,13 +12,14 @@ use Rattle.clog_engine.proofs.drilling.drill.Goals as goal
 pub returns-in-Err-outcome-clause-drills : goal.returns-in-Err-outcome-clause-drills
 returns-in-Err-outcome-clause-drills g c left left_now f h =
     let ms = made_lines c.args.seed c.args.count in
-    let planned : ArePlanned c.drill_options-options.result.dump c.sizes_of-sizes.result ms
+    let flush = c.drill_options-options.result.flush_at in
+    let planned : ArePlanned c.drill_options-options.result.dump c.sizes_of-sizes.result flush ms
     c.in-Ok.made.0 =
-    subst (λ (dump : Bool). ArePlanned dump c.sizes_of-sizes.result ms c.in-Ok.made.0)
-    (sym (ap (λ (a : ApplyOptions). a.dump) c.drill_options-options.ensures)) c.in-Ok.ensures.0 in
+    subst (λ (dump : Bool). ArePlanned dump c.sizes_of-sizes.result flush ms c.in-Ok.made.0)
+    (sym (ap (λ (a : ApplyOptions). a.dump) c.drill_options-options.ensures.are)) c.in-Ok.ensures.0 in
     lines_refused ms (outside_with left left_now f h g.D.Disk g.C.Clock c.args.disk
     c.apply_shares-disk.result.0 c.args.clock.now) c.drill_options-options.result
-    c.apply_shares-disk.result.1 c.in-Err-outcome.status c.drill_options-options.ensures
+    c.apply_shares-disk.result.1 c.in-Err-outcome.status c.drill_options-options.ensures.are
     c.in-Err-outcome.is (c.apply_shares-disk.ensures.applies left left_now f h ms planned)
 
 pub returns-in-Ok-outcome-clause-drills : goal.returns-in-Ok-outcome-clause-drills
@@ -30,17 +31,18 @@ returns-in-Ok-outcome-clause-drills g c left left_now f h =
     let text = c.in-Ok-outcome._applied in
     let at = c.args.clock.now in
     let still = c.tell_folder-told.ensures.keeps in
-    let planned : ArePlanned c.drill_options-options.result.dump c.sizes_of-sizes.result ms
+    let flush = c.drill_options-options.result.flush_at in
+    let planned : ArePlanned c.drill_options-options.result.dump c.sizes_of-sizes.result flush ms
     c.in-Ok.made.0 =
-    subst (λ (dump : Bool). ArePlanned dump c.sizes_of-sizes.result ms c.in-Ok.made.0)
-    (sym (ap (λ (a : ApplyOptions). a.dump) c.drill_options-options.ensures)) c.in-Ok.ensures.0 in
+    subst (λ (dump : Bool). ArePlanned dump c.sizes_of-sizes.result flush ms c.in-Ok.made.0)
+    (sym (ap (λ (a : ApplyOptions). a.dump) c.drill_options-options.ensures.are)) c.in-Ok.ensures.0 in
     drilled ms (outside_with left left_now f h g.D.Disk g.C.Clock start now at) text
     (g.D.Disk.files then) (g.D.Disk.faults then) c.tell_folder-told.result
     (looked_behind g.D.Disk g.C.Clock left left_now f h start then now at
     c.apply_shares-disk.ensures.later still drill_options ms text
     (applied_at ms (outside_with left left_now f h g.D.Disk g.C.Clock start then at)
     c.drill_options-options.result c.apply_shares-disk.result.1 text
-    c.drill_options-options.ensures c.in-Ok-outcome.is
+    c.drill_options-options.ensures.are c.in-Ok-outcome.is
     (c.apply_shares-disk.ensures.applies left left_now f h ms planned)))
     (c.disks_tell_both.ensures start) still.same.files
     (quiet_at c.apply_shares-disk.result.1 text (g.D.Disk.faults start) (g.D.Disk.faults then)

@@ -12,6 +12,8 @@ use Rattle.std.proofs.Common.{
   ◌∙◌,
 }
 use Rattle.clog_disk.specs.Files.{Files, SameTold, bytes_at}
+use Rattle.std.specs.Prelude.{is_some}
+use Rattle.write_path.specs.declared.switch.Row.TheVariants as row
 use Rattle.clog_writers.specs.Left.{LeavesShares, WritesShares, least_of}
 use Rattle.clog_writers.specs.Written.{HasShareCause}
 use Rattle.clog_writers.proofs.Told.{at_ok}
@@ -80,6 +82,7 @@ returns-clause-applies g c left left_now f h ms planned =
     let before = c.in-Ok.cells in
     let opening = c.in-Ok-open.ensures in
     let options = c.args.options in
+    let flushing = is_some options.flush_at in
     let sizes = c.args.sizes in
     let base = store.notes.base in
     let pending = c.in-Ok-pending.pending in
@@ -89,26 +92,26 @@ returns-clause-applies g c left left_now f h ms planned =
     let archives : store.archives ≡ options.archive = ap (λ s. s.archives) opening.over in
     let its_sizes : store.notes.sizes ≡ sizes = ap (λ s. s.notes.sizes) opening.over in
     let writers = c.requires.sizes.writers in
-    let asked = is_asked options store.notes.sizes store.archives c.requires.doable
+    let asked = is_asked options store.notes.sizes store.archives
     (subst (AreSizesOf options) (sym its_sizes) c.requires.sizes) archives in
     let lasts = lasts_first g.D.Disk g.C.Clock left left_now f h start looked at only still opened
     c.now_ms-opened_ms.result base opening.opens opening.any_moment opening.recovers now options ms
     (least_of outcome ms)
     (λ then files_are first is_first lasting.
     subst (λ (x : Bool). LeavesShares g.D.Disk.changes g.D.Disk.moment g.D.Disk.since
-    g.D.Disk.leaves opened now (bytes_at then) base x options.drain options.writers ms
+    g.D.Disk.leaves opened now (bytes_at then) base flushing x options.drain options.writers ms
     (least_of outcome ms)) archives
     (subst (λ (n : ℕ). LeavesShares g.D.Disk.changes g.D.Disk.moment g.D.Disk.since
-    g.D.Disk.leaves opened now (bytes_at then) base store.archives options.drain n ms
+    g.D.Disk.leaves opened now (bytes_at then) base flushing store.archives options.drain n ms
     (least_of outcome ms)) writers
     (done.shown ms then planned.plan files_are
     (subst (g.D.Disk.lasted_at opened) opening.began (opening.lasted first is_first lasting))))) in
     let has_written = wrote g.D.Disk g.C.Clock left left_now f h start looked at only still opened
     c.now_ms-opened_ms.result base opening.opens opening.any_moment opening.recovers now options ms
-    (subst (λ (x : Bool). WritesShares g.D.Disk.files g.D.Disk.changes opened now base x
+    (subst (λ (x : Bool). WritesShares g.D.Disk.files g.D.Disk.changes opened now base flushing x
     options.drain options.writers ms) archives
-    (subst (λ (n : ℕ). WritesShares g.D.Disk.files g.D.Disk.changes opened now base store.archives
-    options.drain n ms) writers (done.wrote ms planned.plan)))
+    (subst (λ (n : ℕ). WritesShares g.D.Disk.files g.D.Disk.changes opened now base flushing
+    store.archives options.drain n ms) writers (done.wrote ms planned.plan)))
     done.told in
     let stays = others g.D.Disk g.C.Clock left left_now f h start looked at only still opened
     c.now_ms-opened_ms.result base opening.opens opening.any_moment opening.recovers now done.told done.stay
@@ -144,6 +147,11 @@ returns-clause-applies g c left left_now f h ms planned =
           ok_at outcome receipts _ is_ok
           (done.written ms options then made planned.plan asked files_are changes_are)),
     ))
+
+pub told-requires-clause-ungrouped : goal.told-requires-clause-ungrouped
+told-requires-clause-ungrouped g c made is =
+    let planned = c.requires.planned in
+    c.write_plan-disk.ensures.rows planned.0 planned.1.plan row.WriteGroups made is
 
 pub told-requires-clause-room : goal.told-requires-clause-room
 told-requires-clause-room g c =

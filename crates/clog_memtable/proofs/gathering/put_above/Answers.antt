@@ -1,22 +1,5 @@
-use Rattle.std.proofs.Common.{
-  ◌≡◌,
-  ◌++◌,
-  ◌∷◌,
-  [],
-  cond,
-  nat_lt,
-  Bool,
-  true,
-  List,
-  Result,
-  Ok,
-  Err,
-  OnOk,
-  sym,
-  subst,
-}
+use Rattle.std.proofs.Common.{◌++◌, ◌∷◌, [], cond, Bool, Result, Ok, Err, OnOk, sym, subst}
 use Rattle.std.proofs.lemmas.Bool.{lt-ltb}
-use Rattle.path_core.specs.declared.note.EntryNote.{EntryNote}
 use Rattle.clog_memtable.specs.Gathering.{IsGathered}
 use Rattle.clog_memtable.proofs.Gathered.{gathered_more}
 use Rattle.clog_memtable.proofs.gathering.put_above.Goals as goal

@@ -13,11 +13,14 @@ for_each_mut-requires-clause-accepts g c κs within = λ i p inside is.
     let lines = share_of t.size.seats i ready.0 in (
       c.requires.sized,
       c.requires.mode,
+      c.requires.tables,
+      c.requires.files,
+      c.requires.some,
       (
         i,
         lines,
         subst (λ (w : Worker g.row.K.Denot).
-            IsReady t.table.shared.table_id t.size c.args.sizes i lines w) (sym is)
+            IsReady t.table.shared.table_id t.size c.args.sizes c.args.flush_at i lines w) (sym is)
             (ready.1.each i p.now inside),
       ),
     )
@@ -32,9 +35,9 @@ returns-clause-logged g c = λ mutations ready.
           let low : i < length c.args.workers.now = omega (arith, inside, long) in
           let lines = share_of t.size.seats i mutations in
           let one = (c.for_each_mut.ensures i d low).1 in
-          subst (HasLogged t.table.shared.table_id t.size i lines) one.left
+          subst (HasLogged t.table.shared.table_id t.size c.args.flush_at i lines) one.left
           (one.call.0 i lines
-          (subst (IsReady t.table.shared.table_id t.size c.args.sizes i lines)
+          (subst (IsReady t.table.shared.table_id t.size c.args.sizes c.args.flush_at i lines)
           (sym one.argument_is) (ready.each i d low)));
     }
 

@@ -38,13 +38,13 @@ loop-worker-init g c =
     let t = c.args.path.now.table in
     let gives = c.into_iter-worker-iterator.ensures.into_iter_gives in
     let items = ap length gives.0 in record {
-      goes = λ mutations logged.
+      goes = λ flush mutations logged.
           subst (λ (l : List (Worker g.row.K.Denot)).
-          Gathers t.table.shared.table_id t.size mutations l c.args.seats.now.items None)
+          Gathers t.table.shared.table_id t.size flush mutations l c.args.seats.now.items None)
           (sym gives.0)
           (subst (λ (l : List (PathSeat g.row.K.Denot)). Gathers t.table.shared.table_id t.size
-          mutations c.args.workers.items l None) (sym c.requires.none)
-          (none_gathered t.table.shared.table_id t.size mutations c.args.workers.items logged));
+          flush mutations c.args.workers.items l None) (sym c.requires.none)
+          (none_gathered t.table.shared.table_id t.size flush mutations c.args.workers.items logged));
       waited = λ all. (
         λ w h. all w (subst (λ (l : List (Worker g.row.K.Denot)). Contains l w) gives.0 h),
         λ s h. absurd (nothing_there s
@@ -61,13 +61,14 @@ end_share-seat-requires g c =
     let l = c.loop-worker in
     let logged = c.requires.logged in
     let rest = c.next.new.self.rest.items in (
+      logged.0,
       length l.seats.items,
-      share_of t.size.seats (length l.seats.items) logged.0,
-      next_logged t.table.shared.table_id t.size logged.0 c.in-Some.worker rest l.seats.items
-          l.first
+      share_of t.size.seats (length l.seats.items) logged.1,
+      next_logged t.table.shared.table_id t.size logged.0 logged.1 c.in-Some.worker rest
+          l.seats.items l.first
           (subst (λ (ws : List (Worker g.row.K.Denot)). Gathers t.table.shared.table_id t.size
-          logged.0 ws l.seats.items l.first) c.in-Some.ensures.steps.0
-          (l.invariant.goes logged.0 logged.1)),
+          logged.0 logged.1 ws l.seats.items l.first) c.in-Some.ensures.steps.0
+          (l.invariant.goes logged.0 logged.1 logged.2)),
     )
 
 pub loop-worker-preserved : goal.loop-worker-preserved
@@ -86,17 +87,17 @@ loop-worker-preserved g c =
     let pushed : c.push.new.self.items ≡ xs ++ s ∷ [] =
     subst (λ b. c.push.new.self.items ≡ (if b then xs ++ s ∷ [] else xs)) ok p.items in
     let short = ap length steps.0 in record {
-      goes = λ ms logged.
-          let before = subst (λ (ws : List (Worker g.row.K.Denot)). Gathers id t.size ms ws xs
-          l.first) steps.0 (I.goes ms logged) in
-          subst (λ (ss : List (PathSeat g.row.K.Denot)). Gathers id t.size ms rest ss now)
+      goes = λ flush ms logged.
+          let before = subst (λ (ws : List (Worker g.row.K.Denot)). Gathers id t.size flush ms ws xs
+          l.first) steps.0 (I.goes flush ms logged) in
+          let its = next_logged id t.size flush ms w rest xs l.first before in
+          let lines = share_of t.size.seats (length xs) ms in
+          let why = c.end_share-seat.ensures.why flush (length xs) lines its in
+          subst (λ (ss : List (PathSeat g.row.K.Denot)). Gathers id t.size flush ms rest ss now)
           (sym pushed)
-          (one_gathered id t.size ms w rest xs l.first c.end_share-seat.result.1 now s before
-          (c.end_share-seat.ensures.ends (length xs) (share_of t.size.seats (length xs) ms)
-          (next_logged id t.size ms w rest xs l.first before))
-          (c.end_share-seat.ensures.why (length xs) (share_of t.size.seats (length xs) ms)
-          (next_logged id t.size ms w rest xs l.first before)) c.first_of-first.ensures.none
-          c.first_of-first.ensures.one);
+          (one_gathered id t.size flush ms w rest xs l.first c.end_share-seat.result.1 now s before
+          (c.end_share-seat.ensures.ends flush (length xs) lines its) why.0 why.1
+          c.first_of-first.ensures.none c.first_of-first.ensures.one);
       waited = λ all.
           let before = I.waited all in (
             λ x h. before.0 x (subst (λ (ws : List (Worker g.row.K.Denot)). Contains ws x)
@@ -122,12 +123,12 @@ pub returns-clause-waited : goal.returns-clause-waited
 returns-clause-waited g c = λ all. (c.loop-worker.invariant.waited all).1
 
 pub returns-clause-ended : goal.returns-clause-ended
-returns-clause-ended g c = λ ms logged.
+returns-clause-ended g c = λ flush ms logged.
     let t = c.args.path.now.table in
     let l = c.loop-worker in let I = l.invariant in
     let rest = l.worker-iterator.rest.items in
     let none_left : rest ≡ [] = nil_from_length rest
     (omega (arith, c.in-None.ensures.steps.0, I.count)) in
-    all_gathered t.table.shared.table_id t.size ms l.seats.items l.first
-    (subst (λ (ws : List (Worker g.row.K.Denot)). Gathers t.table.shared.table_id t.size ms ws
-    l.seats.items l.first) none_left (I.goes ms logged))
+    all_gathered t.table.shared.table_id t.size flush ms l.seats.items l.first
+    (subst (λ (ws : List (Worker g.row.K.Denot)). Gathers t.table.shared.table_id t.size flush ms ws
+    l.seats.items l.first) none_left (I.goes flush ms logged))

@@ -1,4 +1,4 @@
-use Rattle.std.proofs.Common.{◌≡◌, ◌+◌, ◌≤◌, List, length, vec_capacity, vec_len}
+use Rattle.std.proofs.Common.{◌≡◌, ℕ, ◌+◌, ◌≤◌, List, Option, length, vec_capacity, vec_len}
 use Rattle.clog_mutation.specs.declared.mutation.Mutation.{Mutation}
 use Rattle.clog_writers.specs.Crews.{HaveLogged}
 use Rattle.clog_writers.specs.Sealing.{HaveWaited, WaitShares}
@@ -7,9 +7,9 @@ use Rattle.clog_writers.proofs.crew.end_all.Given as goal
 
 abbrev pub invariant-loop-worker : goal.invariant-loop-worker
 invariant-loop-worker g l = let t = l.path.table in record {
-  goes : (mutations : List Mutation)
-      → HaveLogged t.table.shared.table_id t.size mutations l.fn.workers.items
-      → Gathers t.table.shared.table_id t.size mutations l.worker-iterator.rest.items
+  goes : (flush : Option ℕ) (mutations : List Mutation)
+      → HaveLogged t.table.shared.table_id t.size flush mutations l.fn.workers.items
+      → Gathers t.table.shared.table_id t.size flush mutations l.worker-iterator.rest.items
       l.seats.items l.first;
   waited : WaitShares l.fn.workers.items → WaitShares l.worker-iterator.rest.items
       × HaveWaited l.seats.items;

@@ -20,7 +20,7 @@ loop-seat-init g c =
     let long : length items ≡ t.size.seats =
     sym (length-map items (λ (p : PathSeat g.row.K.Denot). p.member.number))
     ∙ (ap length c.requires.seats.numbers ∙ length-range_with_len 0 t.size.seats) in
-    let count = c.requires.dealt.1.count ∙ c.requires.sized.writers in record {
+    let count = c.requires.dealt.2.count ∙ c.requires.sized.writers in record {
       seats = subst (λ k. AreNew t.table.shared.table_id t.size k items) (sym long)
           c.requires.seats;
       few = omega (arith, long);
@@ -28,7 +28,7 @@ loop-seat-init g c =
         count = count;
         each = λ i d from inside. absurd (omega (arith, from, inside, long, count));
       };
-      dealt = λ ms dealt. dealt;
+      dealt = λ flush ms dealt. dealt;
     }
 
 pub loop-seat-preserved : goal.loop-seat-preserved
@@ -57,16 +57,17 @@ loop-seat-preserved g c =
           (one_seated id t.size n ws now (subst (λ k. SeatsFrom id t.size k ws) next I.seated)
           (seated_by id t.size n s now last.is_new (last.number_is ∙ sym number)
           c.take_seat.ensures.seat));
-      dealt = λ ms dealt. still_dealt id t.size c.args.sizes ms n ws now
-          c.index-workers-number.result low c.take_seat.ensures.writes (I.dealt ms dealt);
+      dealt = λ flush ms dealt. still_dealt id t.size c.args.sizes flush ms n ws now
+          c.index-workers-number.result low c.take_seat.ensures.writes c.take_seat.ensures.counts
+          (I.dealt flush ms dealt);
     }
 
 pub returns : goal.returns
-returns g c = λ ms dealt.
+returns g c = λ flush ms dealt.
     let t = c.args.path.now.table in
     let l = c.loop-seat in let I = l.invariant in
     let none : length l.seats.items ≡ 0 =
     (let is = c.in_default.ensures.cases.0 in let ok = l.seats.ok in omega (arith, is, ok)) in
-    all_ready t.table.shared.table_id t.size c.args.sizes ms l.workers c.requires.sized
+    all_ready t.table.shared.table_id t.size c.args.sizes flush ms l.workers c.requires.sized
     (subst (λ k. SeatsFrom t.table.shared.table_id t.size k l.workers) none I.seated)
-    (I.dealt ms dealt)
+    (I.dealt flush ms dealt)

@@ -1,4 +1,4 @@
-use Rattle.std.proofs.Common.{◌≤◌, List, length}
+use Rattle.std.proofs.Common.{◌≤◌, ℕ, List, Option, length}
 use Rattle.clog_mutation.specs.declared.mutation.Mutation.{Mutation}
 use Rattle.write_path.specs.Opened.{AreNew}
 use Rattle.clog_writers.specs.Crews.{AreDealt}
@@ -11,8 +11,9 @@ invariant-loop-seat g l = let t = l.path.table in record {
   seats : AreNew t.table.shared.table_id t.size (length l.seats.items) l.seats.items;
   few : length l.seats.items ≤ t.size.seats;
   seated : SeatsFrom t.table.shared.table_id t.size (length l.seats.items) l.workers;
-  dealt : (mutations : List Mutation) → AreDealt l.fn.sizes mutations l.fn.workers
-      → AreDealt l.fn.sizes mutations l.workers;
+  dealt : (flush : Option ℕ) (mutations : List Mutation)
+      → AreDealt l.fn.sizes flush mutations l.fn.workers
+      → AreDealt l.fn.sizes flush mutations l.workers;
 }
 
 abbrev pub decreases-loop-seat : goal.decreases-loop-seat

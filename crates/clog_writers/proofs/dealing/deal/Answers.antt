@@ -18,10 +18,10 @@ pub loop-mutation-init : goal.loop-mutation-init
 loop-mutation-init g c =
     let gives = c.into_iter-mutation-iterator.ensures.into_iter_gives in
     record {
-      goes = subst (λ (l : List Mutation). DealsOut c.args.sizes c.args.mutations.items l 0
+      goes = subst (λ (l : List Mutation). DealsOut c.args.sizes c.args.flush_at c.args.mutations.items l 0
           c.in_ok-workers.workers.items) (sym gives.0)
-          (begins_dealing c.args.sizes c.args.mutations.items c.in_ok-workers.workers.items
-          c.in_ok-workers.ensures);
+          (begins_dealing c.args.sizes c.args.flush_at c.args.mutations.items c.in_ok-workers.workers.items
+          (c.in_ok-workers.ensures c.args.flush_at));
       within = subst (AllByRecursion IsWithinLimits) (sym gives.0) c.requires.within;
       count = let items = ap length gives.0 in omega (arith, items, gives.1, c.args.mutations.ok);
     }
@@ -29,21 +29,21 @@ loop-mutation-init g c =
 pub loop-mutation-preserved : goal.loop-mutation-preserved
 loop-mutation-preserved g c =
     let l = c.loop-mutation in let I = l.invariant in
-    let sizes = c.args.sizes in
+    let sizes = c.args.sizes in let flush = c.args.flush_at in
     let all = c.args.mutations.items in
     let rest = c.next.new.self.rest.items in
     let m = c.in-Some.mutation in
     let steps = c.in-Some.ensures.steps in record {
-      goes = deals_one sizes all rest m l.line l.workers.items _
-          (subst (λ (r : List Mutation). DealsOut sizes all r l.line l.workers.items) steps.0
+      goes = deals_one sizes flush all rest m l.line l.workers.items _
+          (subst (λ (r : List Mutation). DealsOut sizes flush all r l.line l.workers.items) steps.0
           I.goes) c.in-Ok.ensures.fits
           (λ done dealt is.
-          let more = c.in_ok-give-in-Ok.ensures done m
-          (subst (AreDealt sizes done) (sym c.as_mut_slice.ensures.value) dealt) is
-          c.in-Ok.ensures in
+          let more = c.in_ok-give-in-Ok.ensures flush done m
+          (subst (AreDealt sizes flush done) (sym c.as_mut_slice.ensures.value) dealt) is
+          c.in-Ok.ensures c.counts_for-counts.ensures in
           let a = more.count in
           let b = dealt.count in
-          subst (AreDealt sizes (done ++ m ∷ []))
+          subst (AreDealt sizes flush (done ++ m ∷ []))
           (sym (written_back l.workers.len c.give.new.workers _
           (omega (arith, a, b, l.workers.ok)))) more);
       within = (subst (AllByRecursion IsWithinLimits) steps.0 I.within).1;
@@ -54,9 +54,9 @@ pub returns-in-Err : goal.returns-in-Err
 returns-in-Err g c =
     let l = c.loop-mutation in let I = l.invariant in
     let steps = c.in-Some.ensures.steps in
-    refused_at c.args.sizes c.args.mutations.items c.next.new.self.rest.items c.in-Some.mutation
+    refused_at c.args.sizes c.args.flush_at c.args.mutations.items c.next.new.self.rest.items c.in-Some.mutation
     l.line l.workers.items c.in-Err.fault
-    (subst (λ (r : List Mutation). DealsOut c.args.sizes c.args.mutations.items r l.line
+    (subst (λ (r : List Mutation). DealsOut c.args.sizes c.args.flush_at c.args.mutations.items r l.line
     l.workers.items) steps.0 I.goes) c.in-Err.ensures
 
 pub returns : goal.returns
@@ -65,6 +65,6 @@ returns g c =
     let rest = l.mutation-iterator.rest.items in
     let none_left : rest ≡ [] = nil_from_length rest
     (omega (arith, c.in-None.ensures.steps.0, I.count)) in
-    all_out c.args.sizes c.args.mutations.items l.line l.workers.items
-    (subst (λ (r : List Mutation). DealsOut c.args.sizes c.args.mutations.items r l.line
+    all_out c.args.sizes c.args.flush_at c.args.mutations.items l.line l.workers.items
+    (subst (λ (r : List Mutation). DealsOut c.args.sizes c.args.flush_at c.args.mutations.items r l.line
     l.workers.items) none_left I.goes)

@@ -6,8 +6,8 @@ use Rattle.clog_writers.proofs.dealing.deal.Given as goal
 
 abbrev pub invariant-loop-mutation : goal.invariant-loop-mutation
 invariant-loop-mutation g l = record {
-  goes : DealsOut l.fn.sizes l.fn.mutations.items l.mutation-iterator.rest.items l.line
-      l.workers.items;
+  goes : DealsOut l.fn.sizes l.fn.flush_at l.fn.mutations.items l.mutation-iterator.rest.items
+      l.line l.workers.items;
   within : AllByRecursion IsWithinLimits l.mutation-iterator.rest.items;
   count : l.mutation-iterator.rest.len ≡ length l.mutation-iterator.rest.items;
 }

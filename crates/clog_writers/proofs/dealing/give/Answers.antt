@@ -3,12 +3,12 @@ use Rattle.clog_writers.proofs.Dealt.{one_dealt}
 use Rattle.clog_writers.proofs.dealing.give.Goals as goal
 
 pub returns : goal.returns
-returns g c = λ lines m dealt is prepared.
+returns g c = λ flush lines m dealt is prepared counted.
     let at = c.args.line % c.from.result in
     let same = c.from.ensures in
     let some = c.args.sizes.within.some_writer in
     let count = dealt.count in
-    one_dealt c.args.sizes lines m c.args.line at c.args.workers.now c.args.write _
-    c.index-workers-number.result dealt is prepared
-    (ap (λ (k : _). c.args.line % k) same) (omega (arith, same, some, count))
-    c.in_ok-push.ensures.items
+    let added = c.in_ok-add.ensures in
+    one_dealt c.args.sizes flush lines m c.args.line at c.args.workers.now c.args.write
+    c.args.counts c.add.new.worker c.index-workers-number.result dealt is prepared counted
+    (ap (λ (k : _). c.args.line % k) same) (omega (arith, same, some, count)) added.0 added.1

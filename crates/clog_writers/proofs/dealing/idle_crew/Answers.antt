@@ -8,7 +8,8 @@ use Rattle.clog_writers.proofs.dealing.idle_crew.Goals as goal
 
 pub loop-init : goal.loop-init
 loop-init g c =
-    let P : Worker g.row.K.Denot → Type 0 = λ w. w.writes.items ≡ [] in
+    let P : Worker g.row.K.Denot → Type 0 =
+    λ w. (w.writes.items ≡ []) × (w.counts.items ≡ []) in
     let none = c.new-workers.ensures.items in record {
       count = ap length none;
       idle = subst (λ (l : List (Worker g.row.K.Denot)). All P l) (sym none) (All-nil P);
@@ -16,7 +17,8 @@ loop-init g c =
 
 pub loop-preserved : goal.loop-preserved
 loop-preserved g c =
-    let P : Worker g.row.K.Denot → Type 0 = λ w. w.writes.items ≡ [] in
+    let P : Worker g.row.K.Denot → Type 0 =
+    λ w. (w.writes.items ≡ []) × (w.counts.items ≡ []) in
     let I = c.loop.invariant in
     let pushed = c.in_ok-push.ensures.items in
     let count = I.count in

@@ -6,5 +6,6 @@ use Rattle.clog_writers.proofs.dealing.idle_crew.Given as goal
 abbrev pub invariant-loop : goal.invariant-loop
 invariant-loop g l = record {
   count : length l.workers.items ≡ l.counter;
-  idle : All (λ (w : Worker g.row.K.Denot). w.writes.items ≡ []) l.workers.items;
+  idle : All (λ (w : Worker g.row.K.Denot). (w.writes.items ≡ []) × (w.counts.items ≡ []))
+      l.workers.items;
 }

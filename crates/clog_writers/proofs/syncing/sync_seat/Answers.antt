@@ -1,9 +1,10 @@
 use Rattle.std.proofs.Common.{sym, ◌∙◌, subst}
 use Rattle.path_rule.specs.Members.{view_of}
-use Rattle.clog_writers.specs.Crews.{KnowsWhy}
+use Rattle.clog_writers.specs.Crews.{KnowsWhy, MayLack}
 use Rattle.clog_writers.specs.declared.fault.WriteFault.{WriteFault}
-use Rattle.std.specs.Prelude.{Option}
+use Rattle.std.specs.Prelude.{Option, None}
 use Rattle.clog_writers.proofs.Committing.{sync_why}
+use Rattle.clog_writers.proofs.Lacking.{by_sync}
 use Rattle.clog_writers.proofs.Timing.{knows_synced, seals_last}
 use Rattle.clog_writers.proofs.syncing.sync_seat.Goals as goal
 
@@ -20,6 +21,10 @@ returns-clause-why g c =
     (sym c.refusal_of.ensures.is)
     (sync_why size c.args.seat.member.number (view_of c.args.seat.member) c.sync-seat.result.0
     c.sync-seat.result.1 c.sync-seat.ensures.syncs.answers)
+
+pub returns-clause-rows : goal.returns-clause-rows
+returns-clause-rows g c =
+    subst (MayLack None) (sym c.refusal_of.ensures.is) (by_sync None c.sync-seat.result.1)
 
 pub returns-clause-synced : goal.returns-clause-synced
 returns-clause-synced g c = λ none.

@@ -1,4 +1,5 @@
-use Rattle.std.proofs.Common.{[], inl, inr, refl}
+use Rattle.std.proofs.Common.{[], None, inl, inr, refl}
+use Rattle.clog_writers.proofs.Lacking.{no_fault}
 use Rattle.clog_writers.proofs.Timing.{none_due}
 use Rattle.clog_writers.proofs.syncing.sync_when_due.Goals as goal
 
@@ -22,6 +23,9 @@ returns-in-Some-clause-batch g c = λ batch.
 pub returns-in-None-clause-keeps : goal.returns-in-None-clause-keeps
 returns-in-None-clause-keeps g c =
     ((c.requires, refl), refl, record { newer = []; is = refl })
+
+pub returns-in-None-clause-rows : goal.returns-in-None-clause-rows
+returns-in-None-clause-rows g c = no_fault None
 
 pub returns-in-None-clause-due : goal.returns-in-None-clause-due
 returns-in-None-clause-due g c = λ period periodic.

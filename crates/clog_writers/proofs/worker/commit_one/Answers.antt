@@ -1,13 +1,15 @@
-use Rattle.std.proofs.Common.{◌/◌, ◌≤◌, Option, sym, ◌∙◌, subst, arith}
+use Rattle.std.proofs.Common.{◌/◌, ◌≤◌, Option, None, sym, ◌∙◌, subst, arith}
 use Rattle.std.proofs.lemmas.Option.{none-some}
 use Rattle.path_rule.specs.Members.{view_of}
 use Rattle.sync_core.specs.declared.SyncCore.{SyncCore}
 use Rattle.write_path.specs.Receipts.{IsCommitted}
 use Rattle.clog_writers.specs.declared.fault.WriteFault.{WriteFault}
-use Rattle.clog_writers.specs.Crews.{KnowsWhy}
+use Rattle.write_path.proofs.Growing.{both}
+use Rattle.clog_writers.specs.Crews.{KnowsWhy, MayLack}
 use Rattle.clog_writers.proofs.Committing.{
   adds_on,
   all_earlier,
+  commit_grows,
   commit_why,
   may_add,
   may_on,
@@ -16,6 +18,7 @@ use Rattle.clog_writers.proofs.Committing.{
   sealed_on,
   where_logged,
 }
+use Rattle.clog_writers.proofs.Lacking.{by_commit}
 use Rattle.clog_writers.proofs.Timing.{logs_last, times_write}
 use Rattle.clog_writers.proofs.worker.commit_one.Goals as goal
 
@@ -26,6 +29,16 @@ returns-in-None-clause-same g c =
     let synced = c.sync_when_due.ensures.keeps.0 in
     let same = c.commit-seat.ensures.same in
     (synced.0, synced.1 ∙ same.1)
+
+pub returns-in-None-clause-grown : goal.returns-in-None-clause-grown
+returns-in-None-clause-grown g c =
+    let size = c.args.path.now.table.size in
+    let w = c.args.seat.member.number in
+    let before = (view_of c.args.seat.member).trail in
+    let v = view_of c.commit-seat.result.0.member in
+    both before v.trail (view_of c.sync_when_due.result.0.member).trail
+    (commit_grows size w before c.args.prepared v c.args.path.now.mode c.commit-seat.result.1
+    c.commit-seat.ensures.committed) c.sync_when_due.ensures.keeps.2
 
 pub returns-in-None-clause-logged : goal.returns-in-None-clause-logged
 returns-in-None-clause-logged g c = λ none.
@@ -92,6 +105,17 @@ returns-in-None-clause-timed g c = λ period periodic none.
     none due.ensures.keeps.1 due.ensures.keeps.2 (due.ensures.due period periodic)
 
 -- ---- the commit was refused
+
+pub returns-in-Some-clause-grown : goal.returns-in-Some-clause-grown
+returns-in-Some-clause-grown g c =
+    commit_grows c.args.path.now.table.size c.args.seat.member.number
+    (view_of c.args.seat.member).trail c.args.prepared (view_of c.commit-seat.result.0.member)
+    c.args.path.now.mode c.commit-seat.result.1 c.commit-seat.ensures.committed
+
+pub returns-in-Some-clause-rows : goal.returns-in-Some-clause-rows
+returns-in-Some-clause-rows g c =
+    subst (MayLack None) (sym c.refusal_in.ensures ∙ c.in-Some.is)
+    (by_commit None c.commit-seat.result.1)
 
 pub returns-in-Some-clause-timed : goal.returns-in-Some-clause-timed
 returns-in-Some-clause-timed g c = λ period periodic none.

@@ -23,8 +23,10 @@ returns-clause-logged g c = λ number lines ready.
           number_is
           (w.ensures.logs lines
           (subst (λ (v : _). ArePrepared c.args.sizes lines v.items)
-          (sym c.replace-writes.ensures.value) ready.1));
+          (sym c.replace-writes.ensures.value) ready.1.prepared));
       why = w.ensures.why;
+      flushed = w.ensures.flushed;
+      rows = w.ensures.rows;
     }
 
 pub returns-clause-timed : goal.returns-clause-timed

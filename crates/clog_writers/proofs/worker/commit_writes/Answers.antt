@@ -1,156 +1,92 @@
-use Rattle.std.proofs.Common.{
-  ℕ,
-  List,
-  length,
-  reverse,
-  Option,
-  None,
-  sym,
-  ap,
-  ◌∙◌,
-  subst,
-  refl,
-  arith,
-}
-use Rattle.std.specs.Prelude.{Contains}
-use Rattle.std.proofs.lemmas.List.{nil_from_length}
+use Rattle.std.proofs.Common.{◌≡◌, ℕ, true, List, Option, refl, reverse, sym, ap, ◌∙◌, subst}
+use Rattle.std.specs.Prelude.{IsSome}
 use Rattle.std.proofs.lemmas.Option.{none-some}
-use Rattle.clog_base.proofs.Members.{nothing_there}
 use Rattle.path_core.specs.declared.note.EntryNote.{EntryNote}
 use Rattle.path_rule.specs.Members.{view_of}
-use Rattle.write_path.specs.declared.prepared.Prepared.{Prepared}
 use Rattle.clog_writers.specs.declared.fault.WriteFault.{WriteFault}
-use Rattle.clog_writers.specs.Crews.{KnowsWhy}
-use Rattle.clog_writers.specs.Shares.{AddsWrite, MayAddWrite, logged_by}
-use Rattle.clog_writers.proofs.Committing.{
-  GoesOn,
-  all_earlier,
-  begins,
-  ends,
-  logged,
-  next_of,
-  stopped_with,
-}
-use Rattle.clog_writers.proofs.Timing.{none_timed, one_timed}
+use Rattle.clog_writers.specs.Crews.{KnowsWhy, MayLack}
+use Rattle.clog_writers.specs.Shares.{LogsShare, logged_by}
+use Rattle.clog_writers.specs.Tallied.{HasFlushedAll}
+use Rattle.clog_writers.specs.Tallies.{MayTally}
+use Rattle.clog_writers.proofs.Committing.{earlier_on, logs_on}
+use Rattle.clog_writers.proofs.Timing.{timed_on}
 use Rattle.clog_writers.proofs.worker.commit_writes.Goals as goal
 
-pub loop-prepared-init : goal.loop-prepared-init
-loop-prepared-init g c =
-    let gives = c.into_iter-prepared-iterator.ensures.into_iter_gives in
-    let w = c.args.seat.member.number in record {
-      same = (c.requires.table, refl);
-      goes = λ lines prepared. subst (λ (q : List Prepared × List EntryNote).
-          GoesOn c.args.sizes w lines q.0 q.1)
-          (λ i. (sym gives.0 i, reverse (sym c.requires.unused i)))
-          (begins c.args.sizes w lines c.args.writes.items prepared);
-      sealed = λ batch n among. absurd (nothing_there n
-          (subst (λ (l : List EntryNote). Contains l n) c.requires.unused among));
-      timed = λ period periodic.
-          none_timed (g.C.Clock.tells c.args.clock.now) c.args.syncing.mode
-          c.args.syncing.since_ms (view_of c.args.seat.member).trail c.requires.unused;
-      count = let items = ap length gives.0 in omega (arith, items, gives.1, c.args.writes.ok);
-    }
+-- ---- all writes are committed, and tables are flushed behind them
 
-pub commit_one-next-requires-clause-table : goal.commit_one-next-requires-clause-table
-commit_one-next-requires-clause-table g c = c.loop-prepared.invariant.same.0
+pub flush_rest-requires-clause-files : goal.flush_rest-requires-clause-files
+flush_rest-requires-clause-files g c =
+    subst (λ (f : Option ℕ). IsSome f → c.args.path.now.table.size.files ≡ true)
+    (sym c.commit_lines-seat.ensures.limit) c.requires.files
 
-pub commit_one-next-requires-clause-prepared : goal.commit_one-next-requires-clause-prepared
-commit_one-next-requires-clause-prepared g c =
-    let I = c.loop-prepared.invariant in
-    let some = c.requires.prepared in
+pub flush_rest-requires-clause-tables : goal.flush_rest-requires-clause-tables
+flush_rest-requires-clause-tables g c = sym c.requires.sized.tables ∙ c.requires.tables
+
+pub returns-in-None-clause-same : goal.returns-in-None-clause-same
+returns-in-None-clause-same g c =
+    let keeps = c.flush_rest.ensures.keeps in
+    (keeps.0.0, keeps.0.1 ∙ c.commit_lines-seat.ensures.same.1)
+
+pub returns-in-None-clause-logs : goal.returns-in-None-clause-logs
+returns-in-None-clause-logs g c = λ lines prepared.
     let w = c.args.seat.member.number in
-    let rest = c.next.new.self.rest.items in
-    let notes = logged_by c.loop-prepared.seat.member in
-    let goes = subst (λ (ps : List Prepared). GoesOn c.args.sizes w some.0 ps notes)
-    c.in-Some.ensures.steps.0 (I.goes some.0 some.1) in
-    let next = next_of c.args.sizes w some.0 c.in-Some.prepared rest notes goes in (
-      c.args.sizes,
-      next.line.number,
-      next.line.mutation,
-      next.prepared,
-      c.requires.sized.tables,
-      c.requires.sized.capacity,
+    let then = c.commit_lines-seat.result.0 in
+    logs_on w lines (logged_by then.member) (logged_by c.flush_rest.result.0.member)
+    c.commit_lines-seat.result.2 c.flush_rest.result.1
+    (ap (λ (l : List EntryNote). reverse l) c.flush_rest.ensures.keeps.1) (λ none. c.in-None.is)
+    (c.commit_lines-seat.ensures.logs lines prepared)
+
+pub returns-in-None-clause-rows : goal.returns-in-None-clause-rows
+returns-in-None-clause-rows g c =
+    subst (λ (f : Option ℕ). MayLack f c.flush_rest.result.1) c.commit_lines-seat.ensures.limit
+    c.flush_rest.ensures.rows
+
+pub returns-in-None-clause-waited : goal.returns-in-None-clause-waited
+returns-in-None-clause-waited g c = λ batch.
+    let keeps = c.flush_rest.ensures.keeps in
+    earlier_on (view_of c.commit_lines-seat.result.0.member).trail
+    (view_of c.flush_rest.result.0.member).trail keeps.1 keeps.2
+    (c.commit_lines-seat.ensures.waited batch)
+
+pub returns-in-None-clause-timed : goal.returns-in-None-clause-timed
+returns-in-None-clause-timed g c = λ period periodic none.
+    let keeps = c.flush_rest.ensures.keeps in
+    let timed = c.commit_lines-seat.ensures.timed period periodic c.in-None.is in (
+      timed.0,
+      timed_on (g.C.Clock.tells c.args.clock.now) c.args.syncing.mode c.args.syncing.since_ms
+          (view_of c.commit_lines-seat.result.0.member).trail
+          (view_of c.flush_rest.result.0.member).trail timed.0 keeps.1 keeps.2 timed.1,
     )
 
-pub loop-prepared-preserved : goal.loop-prepared-preserved
-loop-prepared-preserved g c =
-    let l = c.loop-prepared in let I = l.invariant in let w = c.args.seat.member.number in
-    let steps = c.in-Some.ensures.steps in
-    let rest = c.next.new.self.rest.items in
-    let before = (view_of l.seat.member).trail in
-    let after = (view_of c.commit_one-next.result.0.member).trail in
-    let done = c.commit_one-next.ensures in
-    let none = c.in-None-fault.is in
-    record {
-      same = (done.same.0, done.same.1 ∙ I.same.1);
-      goes = λ lines prepared.
-          logged c.args.sizes w lines c.in-Some.prepared rest before after
-          (subst (λ (k : ℕ). AddsWrite k c.in-Some.prepared before after) I.same.1
-          (done.logged none))
-          (subst (λ (ps : List Prepared). GoesOn c.args.sizes w lines ps
-          (logged_by l.seat.member)) steps.0 (I.goes lines prepared));
-      sealed = λ batch. done.sealed batch (I.sealed batch) none;
-      timed = λ period periodic.
-          one_timed (g.C.Clock.tells c.args.clock.now) c.args.syncing.mode
-          c.args.syncing.since_ms before after l.last_ms c.commit_one-next.result.1
-          (I.timed period periodic) (done.timed period periodic none);
-      count = let short = ap length steps.0 in omega (arith, short, steps.1, I.count);
-    }
+pub returns-in-None-clause-flushed : goal.returns-in-None-clause-flushed
+returns-in-None-clause-flushed g c = λ none.
+    let lines = c.commit_lines-seat in
+    subst (λ (f : Option ℕ). HasFlushedAll f c.flush_rest.result.0) lines.ensures.limit
+    (c.flush_rest.ensures.flushed none
+    (subst (λ (k : ℕ). MayTally k lines.result.1 (view_of lines.result.0.member).trail)
+    (sym lines.ensures.same.1) (lines.ensures.tallies c.in-None.is)))
 
-pub returns-in-Some-fault-clause-same : goal.returns-in-Some-fault-clause-same
-returns-in-Some-fault-clause-same g c =
-    let same = c.commit_one-next.ensures.same in
-    (same.0, same.1 ∙ c.loop-prepared.invariant.same.1)
+-- ---- one was refused
 
-pub returns-in-Some-fault-clause-logs : goal.returns-in-Some-fault-clause-logs
-returns-in-Some-fault-clause-logs g c = λ lines prepared.
-    let l = c.loop-prepared in let I = l.invariant in let w = c.args.seat.member.number in
-    let before = (view_of l.seat.member).trail in
-    let after = (view_of c.commit_one-next.result.0.member).trail in
-    stopped_with c.args.sizes w lines c.in-Some.prepared c.next.new.self.rest.items before after
-    c.in-Some-fault.fault
-    (subst (λ (k : ℕ). MayAddWrite k c.in-Some.prepared before after) I.same.1
-    c.commit_one-next.ensures.may)
-    (subst (λ (ps : List Prepared). GoesOn c.args.sizes w lines ps (logged_by l.seat.member))
-    c.in-Some.ensures.steps.0 (I.goes lines prepared))
+pub returns-in-Some-clause-logs : goal.returns-in-Some-clause-logs
+returns-in-Some-clause-logs g c = λ lines prepared.
+    subst (LogsShare c.args.seat.member.number lines
+    (logged_by c.commit_lines-seat.result.0.member)) c.in-Some.is
+    (c.commit_lines-seat.ensures.logs lines prepared)
 
-pub returns-in-Some-fault-clause-why : goal.returns-in-Some-fault-clause-why
-returns-in-Some-fault-clause-why g c =
+pub returns-in-Some-clause-why : goal.returns-in-Some-clause-why
+returns-in-Some-clause-why g c =
     subst (λ (f : Option WriteFault).
-    KnowsWhy c.args.path.now.table.size f c.commit_one-next.result.0) c.in-Some-fault.is
-    c.commit_one-next.ensures.why
+    KnowsWhy c.args.path.now.table.size f c.commit_lines-seat.result.0) c.in-Some.is
+    c.commit_lines-seat.ensures.why
 
-pub returns-in-Some-fault-clause-sealed : goal.returns-in-Some-fault-clause-sealed
-returns-in-Some-fault-clause-sealed g c = λ batch none.
-    absurd (none-some c.in-Some-fault.fault (sym none))
+pub returns-in-Some-clause-rows : goal.returns-in-Some-clause-rows
+returns-in-Some-clause-rows g c =
+    subst (MayLack c.args.flush_at) c.in-Some.is c.commit_lines-seat.ensures.rows
 
-pub returns-in-Some-fault-clause-waited : goal.returns-in-Some-fault-clause-waited
-returns-in-Some-fault-clause-waited g c = λ batch.
-    c.commit_one-next.ensures.waited batch (c.loop-prepared.invariant.sealed batch)
+pub returns-in-Some-clause-timed : goal.returns-in-Some-clause-timed
+returns-in-Some-clause-timed g c = λ period periodic none.
+    absurd (none-some c.in-Some.fault (sym none))
 
-pub returns-in-Some-fault-clause-timed : goal.returns-in-Some-fault-clause-timed
-returns-in-Some-fault-clause-timed g c = λ period periodic none.
-    absurd (none-some c.in-Some-fault.fault (sym none))
-
-pub returns-clause-timed : goal.returns-clause-timed
-returns-clause-timed g c = λ period periodic none.
-    (c.loop-prepared.last_ms, c.loop-prepared.invariant.timed period periodic)
-
-pub returns-clause-sealed : goal.returns-clause-sealed
-returns-clause-sealed g c = λ batch none. c.loop-prepared.invariant.sealed batch
-
-pub returns-clause-waited : goal.returns-clause-waited
-returns-clause-waited g c = λ batch.
-    let l = c.loop-prepared in
-    all_earlier (view_of l.seat.member).trail (l.invariant.sealed batch)
-
-pub returns-clause-same : goal.returns-clause-same
-returns-clause-same g c = c.loop-prepared.invariant.same
-
-pub returns-clause-logs : goal.returns-clause-logs
-returns-clause-logs g c = λ lines prepared.
-    let l = c.loop-prepared in let I = l.invariant in
-    let rest = l.prepared-iterator.rest.items in
-    ends c.args.sizes c.args.seat.member.number lines rest (logged_by l.seat.member) None
-    (I.goes lines prepared)
-    (λ same. nil_from_length rest (omega (arith, c.in-None.ensures.steps.0, I.count)))
+pub returns-in-Some-clause-flushed : goal.returns-in-Some-clause-flushed
+returns-in-Some-clause-flushed g c = λ none. absurd (none-some c.in-Some.fault (sym none))

@@ -8,9 +8,10 @@ use Rattle.clog_writers.specs.Sealing.{HasSealed}
 use Rattle.clog_writers.specs.Shares.{ArePrepared, logged_by}
 use Rattle.clog_writers.specs.Timed.{AreTimed}
 use Rattle.clog_writers.proofs.Committing.{GoesOn}
-use Rattle.clog_writers.proofs.worker.commit_writes.Given as goal
+use Rattle.clog_writers.proofs.NextLines.{GoesCounted}
+use Rattle.clog_writers.proofs.worker.commit_lines.Given as goal
 
--- the first of the lines are logged, and the writes of the others are left
+-- the first of the lines are logged, and the writes of the others are left, with their counts
 abbrev pub invariant-loop-prepared : goal.invariant-loop-prepared
 invariant-loop-prepared g l = let t = l.path.table in record {
   same : Stays t.table.shared.table_id t.size l.fn.seat.member l.seat.member;
@@ -21,5 +22,8 @@ invariant-loop-prepared g l = let t = l.path.table in record {
   timed : (period : ℕ) → l.fn.syncing.mode ≡ Periodic period
       → AreTimed (g.C.Clock.tells l.clock) l.fn.syncing.mode l.fn.syncing.since_ms
       (writes_of (view_of l.seat.member).trail) (view_of l.seat.member).trail l.last_ms;
+  counted : GoesCounted l.fn.sizes l.fn.seat.member.number l.fn.flush_at
+      l.prepared-iterator.rest.items l.counts.rest.items l.tally (view_of l.seat.member).trail;
+  left : l.counts.rest.len ≡ length l.counts.rest.items;
   count : l.prepared-iterator.rest.len ≡ length l.prepared-iterator.rest.items;
 }

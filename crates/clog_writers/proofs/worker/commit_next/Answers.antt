@@ -1,0 +1,94 @@
+use Rattle.std.proofs.Common.{◌≡◌, ℕ, true, Option, sym, ◌∙◌, subst}
+use Rattle.std.specs.Prelude.{IsSome}
+use Rattle.std.proofs.lemmas.Option.{none-some}
+use Rattle.path_rule.specs.Members.{view_of}
+use Rattle.clog_writers.specs.declared.fault.WriteFault.{WriteFault}
+use Rattle.clog_writers.specs.Crews.{MayLack}
+use Rattle.clog_writers.specs.Tallies.{MayTally, limit_of}
+use Rattle.clog_writers.proofs.Committing.{adds_on, earlier_on, may_on, sealed_on}
+use Rattle.clog_writers.proofs.Lacking.{lacks_any}
+use Rattle.clog_writers.proofs.Tallying.{one_more}
+use Rattle.clog_writers.proofs.Timing.{times_on}
+use Rattle.clog_writers.proofs.worker.commit_next.Goals as goal
+
+-- ---- the write is committed, and tables are flushed behind it
+
+pub flush_due-seat-requires-clause-files : goal.flush_due-seat-requires-clause-files
+flush_due-seat-requires-clause-files g c =
+    subst (λ (f : Option ℕ). IsSome f → c.args.path.now.table.size.files ≡ true)
+    (sym c.tally_with-tally.ensures.limit) c.requires.files
+
+pub returns-in-None-clause-same : goal.returns-in-None-clause-same
+returns-in-None-clause-same g c =
+    let keeps = c.flush_due-seat.ensures.keeps in
+    (keeps.0.0, keeps.0.1 ∙ c.commit_one-seat.ensures.same.1)
+
+pub returns-in-None-clause-logged : goal.returns-in-None-clause-logged
+returns-in-None-clause-logged g c = λ none.
+    adds_on c.args.seat.member.number c.args.prepared (view_of c.args.seat.member).trail
+    (view_of c.commit_one-seat.result.0.member).trail
+    (view_of c.flush_due-seat.result.0.member).trail c.flush_due-seat.ensures.keeps.1
+    (c.commit_one-seat.ensures.logged c.in-None.is)
+
+pub returns-in-None-clause-may : goal.returns-in-None-clause-may
+returns-in-None-clause-may g c =
+    may_on c.args.seat.member.number c.args.prepared (view_of c.args.seat.member).trail
+    (view_of c.commit_one-seat.result.0.member).trail
+    (view_of c.flush_due-seat.result.0.member).trail c.flush_due-seat.ensures.keeps.1
+    c.commit_one-seat.ensures.may
+
+pub returns-in-None-clause-rows : goal.returns-in-None-clause-rows
+returns-in-None-clause-rows g c =
+    subst (λ (f : Option ℕ). MayLack f c.flush_due-seat.result.2) c.tally_with-tally.ensures.limit
+    c.flush_due-seat.ensures.rows
+
+pub returns-in-None-clause-sealed : goal.returns-in-None-clause-sealed
+returns-in-None-clause-sealed g c = λ batch all none.
+    let keeps = c.flush_due-seat.ensures.keeps in
+    sealed_on (view_of c.commit_one-seat.result.0.member).trail
+    (view_of c.flush_due-seat.result.0.member).trail keeps.1 keeps.2
+    (c.commit_one-seat.ensures.sealed batch all c.in-None.is)
+
+pub returns-in-None-clause-waited : goal.returns-in-None-clause-waited
+returns-in-None-clause-waited g c = λ batch all.
+    let keeps = c.flush_due-seat.ensures.keeps in
+    earlier_on (view_of c.commit_one-seat.result.0.member).trail
+    (view_of c.flush_due-seat.result.0.member).trail keeps.1 keeps.2
+    (c.commit_one-seat.ensures.waited batch all)
+
+pub returns-in-None-clause-timed : goal.returns-in-None-clause-timed
+returns-in-None-clause-timed g c = λ period periodic none.
+    let keeps = c.flush_due-seat.ensures.keeps in
+    times_on (g.C.Clock.tells c.args.clock.now) c.args.mode c.args.last_ms
+    (view_of c.args.seat.member).trail (view_of c.commit_one-seat.result.0.member).trail
+    (view_of c.flush_due-seat.result.0.member).trail c.args.last_ms c.commit_one-seat.result.1
+    keeps.1 keeps.2 (c.commit_one-seat.ensures.timed period periodic c.in-None.is)
+
+pub returns-in-None-clause-limit : goal.returns-in-None-clause-limit
+returns-in-None-clause-limit g c =
+    c.flush_due-seat.ensures.limit ∙ c.tally_with-tally.ensures.limit
+
+pub returns-in-None-clause-tallies : goal.returns-in-None-clause-tallies
+returns-in-None-clause-tallies g c = λ none sizes line prepared counted all.
+    let one = c.commit_one-seat in
+    let w = c.args.seat.member.number in
+    let now = c.tally_with-tally.result in
+    let then = (view_of one.result.0.member).trail in
+    subst (λ (k : ℕ). MayTally k c.flush_due-seat.result.1
+    (view_of c.flush_due-seat.result.0.member).trail) one.ensures.same.1
+    (c.flush_due-seat.ensures.tallies
+    (subst (λ (k : ℕ). MayTally k now then) (sym one.ensures.same.1)
+    (one_more w sizes line c.args.prepared (view_of c.args.seat.member).trail then
+    (one.ensures.logged c.in-None.is) one.ensures.grown prepared c.args.tally c.args.counts now
+    c.tally_with-tally.ensures.limit c.tally_with-tally.ensures.adds counted all)))
+
+-- ---- it was refused
+
+pub returns-in-Some-clause-rows : goal.returns-in-Some-clause-rows
+returns-in-Some-clause-rows g c =
+    lacks_any (limit_of c.args.tally) _
+    (subst (λ (f : Option WriteFault). MayLack _ f) c.in-Some.is c.commit_one-seat.ensures.rows)
+
+pub returns-in-Some-clause-tallies : goal.returns-in-Some-clause-tallies
+returns-in-Some-clause-tallies g c = λ none sizes line prepared counted all.
+    absurd (none-some c.in-Some.fault (sym none))

@@ -1,0 +1,102 @@
+-- Writers that flush: how many updates of each table a writer has logged since its last finished
+-- flush of it, and what its seat knows of the writes before.
+use Rattle.std.specs.Prelude.{
+  ◌≡◌,
+  ◌⊎◌,
+  ℕ,
+  ◌<◌,
+  ◌≤◌,
+  List,
+  [],
+  ◌∷◌,
+  ◌++◌,
+  slice_index,
+  Option,
+  Some,
+  None,
+  ⊤,
+}
+use Rattle.std.specs.List.{Contains, count_by, sum_by}
+use Rattle.clog_spec.specs.Sizes.{most_tables}
+use Rattle.clog_mutation.specs.declared.mutation.Mutation.{Mutation}
+use Rattle.clog_mutation.specs.declared.mutation.Update.{Update}
+use Rattle.clog_applied.specs.Flushed.{is_update_of, updates_in}
+use Rattle.clog_applied.specs.History.{Line}
+use Rattle.path_core.specs.declared.note.EntryNote.{EntryNote}
+use Rattle.path_rule.specs.declared.trying.PathSeat.{PathSeat}
+use Rattle.path_rule.specs.declared.view.OwnStep.{OwnStep}
+use Rattle.path_rule.specs.Members.{view_of}
+use Rattle.write_path.specs.ClosedFiles.{HasFlushed}
+use Rattle.clog_writers.specs.declared.tally.LineCounts.{LineCounts}
+use Rattle.clog_writers.specs.Shares.{AreWritesOf, logged_by}
+
+-- ---- lines
+
+-- how many updates of a table, by its number, these lines have
+abbrev pub updates_for : ℕ → List Line → ℕ
+updates_for t lines = sum_by (updates_in (record { 0 = t })) lines
+
+-- these are the numbers of updates of each table among some
+abbrev pub HasCounts : List Update → List ℕ → Type 0
+HasCounts updates counts = (t : ℕ) → t < most_tables
+    → slice_index counts t ≡ count_by (is_update_of (record { 0 = t })) updates
+
+-- the updates of a mutation are counted, table by table
+abbrev pub IsCountOf : Mutation → LineCounts → Type 0
+IsCountOf m counts = HasCounts m.updates counts.of_tables
+
+-- those of lines, one by one
+abbrev pub AreCountsOf : List Line → List LineCounts → Type 0
+AreCountsOf [] [] = ⊤
+AreCountsOf [] (c ∷ cs) = ⊥
+AreCountsOf (l ∷ ls) [] = ⊥
+AreCountsOf (l ∷ ls) (c ∷ cs) = IsCountOf l.mutation c × AreCountsOf ls cs
+
+-- counts are there where writers flush, and only there
+abbrev pub AreCountedFor : Option ℕ → List Line → List LineCounts → Type 0
+AreCountedFor None lines counts = counts ≡ []
+AreCountedFor (Some most) lines counts = AreCountsOf lines counts
+
+-- those of one line, likewise
+abbrev pub IsCountedFor : Option ℕ → Mutation → Option LineCounts → Type 0
+IsCountedFor None m counts = counts ≡ None
+IsCountedFor (Some most) m None = ⊥
+IsCountedFor (Some most) m (Some c) = IsCountOf m c
+
+-- the counts of lines, with those of one more where they were taken
+abbrev pub with_counts : List LineCounts → Option LineCounts → List LineCounts
+with_counts counts None = counts
+with_counts counts (Some c) = counts ++ c ∷ []
+
+-- ---- a seat
+
+-- A seat with this trail knows that these writes are flushed of a table: a memtable that was final
+-- at or above the end of each is retired.
+pub record IsFlushedOver (t : ℕ) (writes : List EntryNote) (trail : List OwnStep) : Type 0 where
+  pub key : ℕ
+  pub flushed : HasFlushed (record { 0 = t }) key trail
+  pub covers : (n : EntryNote) → Contains writes n → n.end.0 ≤ key
+
+-- A writer's writes, the oldest first, are those of lines. It knows that the first of them are
+-- flushed of a table, or there are none of these; the others have so many updates of it.
+pub record IsTallied (writer t count : ℕ) (writes : List EntryNote) (trail : List OwnStep) : Type 0
+  where
+    pub early : List EntryNote
+    pub late : List EntryNote
+    pub parts : writes ≡ early ++ late
+    pub flushed : (early ≡ []) ⊎ IsFlushedOver t early trail
+    pub rest : List Line
+    pub are_late : AreWritesOf writer rest late
+    pub counted : count ≡ updates_for t rest
+
+module _ {K : Type 0} where
+  -- So a seat's writes are, with fewer updates left than the number at which it flushes.
+  pub record IsFlushedOf (most t : ℕ) (s : PathSeat K) : Type 0 where
+    pub count : ℕ
+    pub few : count < most
+    pub tallied : IsTallied s.member.number t count (logged_by s.member) (view_of s.member).trail
+
+  -- so they are for each table, where it flushes
+  abbrev pub HasFlushedAll : Option ℕ → PathSeat K → Type 0
+  HasFlushedAll None s = ⊤
+  HasFlushedAll (Some most) s = (t : ℕ) → t < most_tables → IsFlushedOf most t s

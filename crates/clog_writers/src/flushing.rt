@@ -1,0 +1,184 @@
+//! A writer flushes each table of which it has logged so many updates since its last finished flush
+//! of it (Cassandra's memtable cleaner, which flushes once a limit is reached). Where another
+//! writer has the table's turn, the count stays, and the flush stays due.
+ghost use Rattle.std.specs.Prelude.{◌≡◌, ◌<◌, ℕ, IsSome, Some, None, false, slice_set, true};
+ghost use Rattle.clog_spec.specs.Sizes.{most_tables};
+ghost use Rattle.clog_writers.specs.Crews.{KnowsWhy, MayLack};
+ghost use Rattle.clog_writers.specs.Shares.{is_finished};
+ghost use Rattle.clog_writers.specs.Tallied.{HasFlushedAll};
+ghost use Rattle.clog_writers.specs.Tallies.{MayTally, Tallies, limit_of};
+ghost use Rattle.path_rule.specs.Members.{IsOf, view_of};
+ghost use Rattle.write_path.specs.Commits.{KeepsList};
+
+use crate::fault::{WriteFault, refusal_by};
+use crate::tally::Tally;
+use clog_base::{MOST_TABLES, Table};
+use path_core::Keeper;
+use std::alloc::Global;
+use std::sync::Wait;
+use std::thread::yield_now;
+use write_path::{Flush, PathSeat, WritePath};
+
+// The tally behind a flush of a table: none is left of it where the flush is finished.
+fn tally_behind(tally: Tally, table: Table, answer: Flush) -> Tally
+    requires { table.0 < most_tables }
+    ensures most { result.most ≡ tally.most }
+    ensures finished { is_finished answer ≡ true
+        → result.counts ≡ slice_set tally.counts table.0 0 }
+    ensures other { is_finished answer ≡ false → result ≡ tally }
+{
+    match answer {
+        Flush::Flushed { .. } | Flush::Empty(_) => tally.without(table),
+        Flush::Busy(_) | Flush::Rows(_, _) | Flush::Stopped { .. } | Flush::OutOfMemory => tally,
+    }
+}
+
+// Flushes a table where that is due. It tells why that was refused, if it was.
+fn flush_table<R: Wait, K: Keeper>(
+    rt: &R,
+    alloc: Global,
+    path: &WritePath<K, Global>,
+    seat: PathSeat<K>,
+    tally: Tally,
+    table: Table,
+) -> (PathSeat<K>, Tally, Option<WriteFault>)
+    requires table { IsOf path.now.table.table.shared.table_id path.now.table.size seat.member }
+    requires files { path.now.table.size.files ≡ true }
+    requires tables { path.now.table.size.tables ≡ most_tables }
+    requires there { table.0 < most_tables }
+    ensures keeps { KeepsList path.now.table.table.shared.table_id path.now.table.size seat.member
+        result.0.member }
+    ensures why { KnowsWhy path.now.table.size result.2 result.0 }
+    ensures most { result.1.most ≡ tally.most }
+    ensures tallies { Tallies seat.member.number tally (view_of seat.member).trail
+        → Tallies seat.member.number result.1 (view_of result.0.member).trail }
+{
+    if !tally.is_due(table) {
+        return (seat, tally, None);
+    }
+    let (seat, answer) = path.flush(rt, alloc, seat, table);
+    (seat, tally_behind(tally, table, answer), refusal_by(answer))
+}
+
+// Flushes each table for which that is due, in ascending order, until one flush is refused.
+fn flush_tables<R: Wait, K: Keeper>(
+    rt: &R,
+    alloc: Global,
+    path: &WritePath<K, Global>,
+    seat: PathSeat<K>,
+    tally: Tally,
+) -> (PathSeat<K>, Tally, Option<WriteFault>)
+    requires table { IsOf path.now.table.table.shared.table_id path.now.table.size seat.member }
+    requires files { path.now.table.size.files ≡ true }
+    requires tables { path.now.table.size.tables ≡ most_tables }
+    ensures keeps { KeepsList path.now.table.table.shared.table_id path.now.table.size seat.member
+        result.0.member }
+    ensures why { KnowsWhy path.now.table.size result.2 result.0 }
+    ensures most { result.1.most ≡ tally.most }
+    ensures tallies { Tallies seat.member.number tally (view_of seat.member).trail
+        → Tallies seat.member.number result.1 (view_of result.0.member).trail }
+{
+    let mut seat = seat;
+    let mut tally = tally;
+    for number in 0..MOST_TABLES {
+        let (next, left, fault) = flush_table(rt, alloc, path, seat, tally, Table(number));
+        seat = next;
+        tally = left;
+        match fault {
+            None => {}
+            Some(fault) => return (seat, tally, Some(fault)),
+        }
+    }
+    (seat, tally, None)
+}
+
+/// Flushes each table for which that is due, in ascending order, where the writer flushes. It tells
+/// why a flush was refused, if one was.
+pub(crate) fn flush_due<R: Wait, K: Keeper>(
+    rt: &R,
+    alloc: Global,
+    path: &WritePath<K, Global>,
+    seat: PathSeat<K>,
+    tally: Option<Tally>,
+) -> (PathSeat<K>, Option<Tally>, Option<WriteFault>)
+    requires table { IsOf path.now.table.table.shared.table_id path.now.table.size seat.member }
+    requires files { IsSome (limit_of tally) → path.now.table.size.files ≡ true }
+    requires tables { path.now.table.size.tables ≡ most_tables }
+    ensures keeps { KeepsList path.now.table.table.shared.table_id path.now.table.size seat.member
+        result.0.member }
+    ensures why { KnowsWhy path.now.table.size result.2 result.0 }
+    ensures rows { MayLack (limit_of tally) result.2 }
+    ensures limit { limit_of result.1 ≡ limit_of tally }
+    ensures tallies { MayTally seat.member.number tally (view_of seat.member).trail
+        → MayTally seat.member.number result.1 (view_of result.0.member).trail }
+{
+    match tally {
+        Some(tally) => {
+            let (seat, left, fault) = flush_tables(rt, alloc, path, seat, tally);
+            (seat, Some(left), fault)
+        }
+        None => (seat, None, None),
+    }
+}
+
+// Flushes tables until no flush is due, or until one is refused. No clause says that it returns.
+fn flush_until_none<R: Wait, K: Keeper>(
+    rt: &R,
+    alloc: Global,
+    path: &WritePath<K, Global>,
+    seat: PathSeat<K>,
+    tally: Tally,
+) -> (PathSeat<K>, Option<WriteFault>)
+    requires table { IsOf path.now.table.table.shared.table_id path.now.table.size seat.member }
+    requires files { path.now.table.size.files ≡ true }
+    requires tables { path.now.table.size.tables ≡ most_tables }
+    ensures keeps { KeepsList path.now.table.table.shared.table_id path.now.table.size seat.member
+        result.0.member }
+    ensures why { KnowsWhy path.now.table.size result.1 result.0 }
+    ensures flushed { result.1 ≡ None
+        → Tallies seat.member.number tally (view_of seat.member).trail
+        → HasFlushedAll (Some tally.most) result.0 }
+{
+    let mut seat = seat;
+    let mut tally = tally;
+    for _ in rt.forever() {
+        let (next, left, fault) = flush_tables(rt, alloc, path, seat, tally);
+        seat = next;
+        tally = left;
+        match fault {
+            Some(fault) => return (seat, Some(fault)),
+            None => {}
+        }
+        if !tally.is_any_due() {
+            return (seat, None);
+        }
+        yield_now();
+    }
+    unreachable!()
+}
+
+/// Flushes tables until no flush is due, where the writer flushes: by `Busy` another writer has the
+/// turn, and the flush is tried again. It tells why one was refused, if one was.
+pub(crate) fn flush_rest<R: Wait, K: Keeper>(
+    rt: &R,
+    alloc: Global,
+    path: &WritePath<K, Global>,
+    seat: PathSeat<K>,
+    tally: Option<Tally>,
+) -> (PathSeat<K>, Option<WriteFault>)
+    requires table { IsOf path.now.table.table.shared.table_id path.now.table.size seat.member }
+    requires files { IsSome (limit_of tally) → path.now.table.size.files ≡ true }
+    requires tables { path.now.table.size.tables ≡ most_tables }
+    ensures keeps { KeepsList path.now.table.table.shared.table_id path.now.table.size seat.member
+        result.0.member }
+    ensures why { KnowsWhy path.now.table.size result.1 result.0 }
+    ensures rows { MayLack (limit_of tally) result.1 }
+    ensures flushed { result.1 ≡ None
+        → MayTally seat.member.number tally (view_of seat.member).trail
+        → HasFlushedAll (limit_of tally) result.0 }
+{
+    match tally {
+        Some(tally) => flush_until_none(rt, alloc, path, seat, tally),
+        None => (seat, None),
+    }
+}
