@@ -1,6 +1,5 @@
 use Rattle.std.proofs.Common.{refl, ◌∙◌}
 use Rattle.path_rule.specs.Members.{view_of}
-
 use Rattle.clog_writers.proofs.Keeping.{list_first, list_on}
 use Rattle.clog_writers.proofs.Tallying.{all_flushed, paid_then, tallies_then}
 use Rattle.clog_writers.proofs.flushing.flush_until_none.Goals as goal
