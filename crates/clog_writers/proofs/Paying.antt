@@ -1,5 +1,26 @@
 -- The memtables that a writer opens are paid for by updates that it has logged.
-use Rattle.std.proofs.Common.{◌≡◌, ℕ, ◌+◌, ◌*◌, ◌≤◌, inl, inr, List, [], ◌∷◌, ◌++◌, reverse, Option, Some, None, sym, ap, ◌∙◌, subst, arith}
+use Rattle.std.proofs.Common.{
+  ◌≡◌,
+  ℕ,
+  ◌+◌,
+  ◌*◌,
+  ◌≤◌,
+  inl,
+  inr,
+  List,
+  [],
+  ◌∷◌,
+  ◌++◌,
+  reverse,
+  Option,
+  Some,
+  None,
+  sym,
+  ap,
+  ◌∙◌,
+  subst,
+  arith,
+}
 use Rattle.std.proofs.Math.Nat.{mul-add, mul-le-mul_left}
 use Rattle.std.proofs.lemmas.List.{reverse-append}
 use Rattle.std.proofs.lemmas.List.Sums.{sum_by-append}
@@ -24,7 +45,14 @@ use Rattle.clog_writers.specs.Shares.{
   LogsShare,
   MayAddWrite,
 }
-use Rattle.clog_writers.specs.Tallied.{ArePaid, HasOpened, IsPaid, IsTallied, OpensNone, updates_for}
+use Rattle.clog_writers.specs.Tallied.{
+  ArePaid,
+  HasOpened,
+  IsPaid,
+  IsTallied,
+  OpensNone,
+  updates_for,
+}
 use Rattle.clog_writers.proofs.Committing.{one_write}
 use Rattle.clog_writers.proofs.Opening.{at_most_one, flush_opens}
 use Rattle.clog_writers.proofs.SameLines.{same_lines}
