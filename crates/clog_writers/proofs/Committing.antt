@@ -358,20 +358,17 @@ module _ (size : PathSize) (w : ℕ) (before : List OwnStep) (p : Prepared) (v :
 
 -- ---- why
 
-found_no_room : {K : Type 0} (size : PathSize) (before : List OwnStep) (p back : Prepared)
-    (key : Key) (s : PathSeat K) → p.size ≤ size.capacity / 2
-    → (back ≡ p) × (writes_of (view_of s.member).trail ≡ writes_of before)
-    × HasNoRoom size p.size (length before) key.0 (view_of s.member)
-    × HasGrown before (view_of s.member).trail
-    → KnowsSpent size s
-found_no_room size before p back key s small is = (
+found_no_room : {K : Type 0} (size : PathSize) (before : List OwnStep) (p : Prepared) (key : Key)
+    (s : PathSeat K) → p.size ≤ size.capacity / 2
+    → HasNoRoom size p.size (length before) key.0 (view_of s.member) → KnowsSpent size s
+found_no_room size before p key s small none = (
   p.size,
   key.0,
   small,
   record {
     since = length before;
     after = view_of s.member;
-    spent = is.2;
+    spent = none;
     grown = record { newer = []; is = refl };
   },
 )
@@ -384,7 +381,7 @@ commit_why size w before p s small (Periodic k) (Logged r) is = tt
 commit_why size w before p s small (Periodic k) (Durable r) is = absurd is
 commit_why size w before p s small (Periodic k) (Unsynced r fault) is = absurd is
 commit_why size w before p s small (Periodic k) (NoRoom back key) is =
-    found_no_room size before p back key s small is
+    found_no_room size before p key s small is.2
 commit_why size w before p s small Batch (Logged r) is = absurd is
 commit_why size w before p s small Batch (Durable r) is = tt
 commit_why size w before p s small Batch (Unsynced r (LogStopped at_open now)) is = (
@@ -403,7 +400,7 @@ commit_why size w before p s small Batch (Unsynced r (NoRows n)) is =
       ),
     )
 commit_why size w before p s small Batch (NoRoom back key) is =
-    found_no_room size before p back key s small is
+    found_no_room size before p key s small is.2
 
 -- a sync too
 pub sync_why : {K : Type 0} (size : PathSize) (w : ℕ) (v : View) (s : PathSeat K)
@@ -454,10 +451,11 @@ still_rows WriteGroups made s t G (all, (last, next, found)) = (
     still_found (Current Write) last (view_of s.member).trail (view_of t.member).trail G found,
   ),
 )
-still_rows Memtables made s t G (all, (table, last, next, found)) = (
+still_rows Memtables made s t G (all, (table, low, last, next, found)) = (
   all,
   (
     table,
+    low,
     last,
     next,
     still_found (Newest (record { 0 = table })) last (view_of s.member).trail

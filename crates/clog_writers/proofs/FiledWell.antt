@@ -4,7 +4,6 @@ use Rattle.std.proofs.Common.{
   ◌≡◌,
   ◌==◌,
   ℕ,
-  ◌<◌,
   ◌≤◌,
   Bool,
   true,
@@ -41,7 +40,7 @@ use Rattle.path_core.specs.declared.note.EntryNote.{EntryNote}
 use Rattle.path_core.specs.declared.state.Claim.{Claim}
 use Rattle.path_core.specs.declared.state.PathState.{PathState}
 use Rattle.path_core.specs.declared.state.WrittenFile.{WrittenFile}
-use Rattle.path_core.specs.Droppable.{IsDroppable, is_in_file, is_of}
+use Rattle.path_core.specs.Droppable.{IsDroppable, is_in_file}
 use Rattle.path_core.specs.Keeper.{
   Holding,
   IsFiledIn,
@@ -286,8 +285,7 @@ module _ {K : Type 0} (size : PathSize) (seats : List (PathSeat K)) (end : ℕ) 
       let p = and_parts (is_entry c.0) (ordinal_of c.0.start == z) c.2 in
       let n = at_key c.0.end (drops.logged c.0 c.1 c.2) in
       let same = same_end x.capacity x.ordinals x.log x.claims L.claims_tile_the_log
-      (claim_of n.0) c.0 (L.notes_are_claims.each n.0 n.1).claim c.1 refl p.0 n.2 in
-      (
+      (claim_of n.0) c.0 (L.notes_are_claims.each n.0 n.1).claim c.1 refl p.0 n.2 in (
         n.0,
         n.1,
         ap (λ (k : Claim). ordinal_of k.start) same ∙ eqb-true (ordinal_of c.0.start) z p.1,

@@ -33,15 +33,8 @@ use Rattle.clog_mutation.specs.Stored.{IsStoredUpdate}
 use Rattle.clog_table.specs.declared.table_file.TableFile.{TableFile}
 use Rattle.clog_crash.specs.Droppable.{IsFiled, Touches}
 use Rattle.clog_applied.specs.Closed.{HasFlushed}
-use Rattle.clog_applied.specs.Flushed.{updates_at, updates_in}
-use Rattle.clog_applied.specs.History.{
-  Line,
-  LoggedLine,
-  entry_of,
-  is_by,
-  line_of,
-  logged_at,
-}
+use Rattle.clog_applied.specs.Flushed.{updates_in}
+use Rattle.clog_applied.specs.History.{LoggedLine, entry_of, is_by, line_of, logged_at}
 use Rattle.clog_applied.proofs.Lists.{from_filter, sum_of_map}
 use Rattle.path_core.specs.declared.note.EntryNote.{EntryNote}
 use Rattle.path_core.specs.History.{IsHistory}

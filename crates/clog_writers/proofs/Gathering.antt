@@ -93,7 +93,8 @@ module _ {K : Type 0} (id : TableId) (size : PathSize) (flush : Option ℕ) wher
       → HasLogged id size flush (length seats) (its size ms (length seats)) w
   next_logged ms w rest seats first g =
       let number : length seats + 0 ≡ length seats = omega arith in
-      subst (λ (k : ℕ). HasLogged id size flush k (its size ms k) w) number (g.left 0 w (omega arith))
+      subst (λ (k : ℕ). HasLogged id size flush k (its size ms k) w) number
+      (g.left 0 w (omega arith))
 
   -- what is so of a seat is so where no less was refused
   still_ended : (i : ℕ) (ls : List Line) (before now : Option WriteFault) (s : PathSeat K)
@@ -112,6 +113,7 @@ module _ {K : Type 0} (id : TableId) (size : PathSize) (flush : Option ℕ) wher
     };
     synced = λ none. e.synced (less none);
     flushed = λ none. e.flushed (less none);
+    opened = e.opened;
   }
 
   pub one_gathered : (ms : List Mutation) (w : Worker K) (rest : List (Worker K))
@@ -140,8 +142,8 @@ module _ {K : Type 0} (id : TableId) (size : PathSize) (flush : Option ℕ) wher
             (g.done i d low)))
             (λ not_low.
             let last : length seats ≡ i = omega (arith, inside, long, not_low) in
-            subst (λ (k : ℕ). HasEnded id size flush k (its size ms k) now (get_or (seats ++ s ∷ []) k d))
-            last
+            subst (λ (k : ℕ).
+            HasEnded id size flush k (its size ms k) now (get_or (seats ++ s ∷ []) k d)) last
             (subst (HasEnded id size flush (length seats) (its size ms (length seats)) now)
             (sym (get_or-append_seam seats s [] d))
             (still_ended (length seats) (its size ms (length seats)) fault now s (λ q. (none q).1)

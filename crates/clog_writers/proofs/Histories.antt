@@ -61,6 +61,7 @@ use Rattle.clog_writers.specs.Logged.{HoldShares, is_note_of}
 use Rattle.clog_writers.specs.Placed.{AreAtTheirLines, HasItsReceipt, receipt_of}
 use Rattle.clog_writers.specs.Shares.{AreWritesOf, IsWriteOf}
 use Rattle.clog_writers.specs.Written.{line_receipt}
+use Rattle.clog_writers.proofs.SameLines.{entry_is}
 
 -- ---- a writer's lines
 
@@ -91,10 +92,6 @@ module _ (base : ℕ) where
   writers_notes k (n ∷ ns) [] are = absurd are
   writers_notes k (n ∷ ns) (w ∷ ws) are =
       one_writers k n w ns ws are.0 (writers_notes k ns ws are.1)
-
-  entry_is : (m : Mutation) → entry_of m ≡ entry_bytes (payload_of m)
-  unfolding entry_of
-  entry_is m = refl
 
   one_line : (k : ℕ) (l : Line) (n : EntryNote) (w : LoggedLine) → IsWriteOf k l n
       → IsNoteOf base n w → line_of w ≡ l

@@ -166,8 +166,8 @@ module _ {D : Type 0} (files : D → Option Files) (changes : D → Option (List
     pub begun : is_some flush ≡ false → HasBegun Held (synced_to b.notes.logged)
 
   module _ (options : ApplyOptions) (mode : SyncCore) (flush : Option ℕ) (drain : Bool)
-      (asked : IsAskedBy options sizes mode flush b.archives drain) (done : IsDone flush drain)
-    where
+      (asked : IsAskedBy options sizes mode flush b.archives drain)
+      (done : IsDone flush drain) where
     -- where nothing is flushed it has done nothing
     no_deeds : flushes options ≡ false → HasNoDeeds Held
     no_deeds flushless =

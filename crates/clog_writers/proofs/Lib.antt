@@ -31,3 +31,9 @@ pub mod Lacking
 pub mod FlushTold
 pub mod Tallying
 pub mod NextLines
+pub mod SameLines
+pub mod Opening
+pub mod Paying
+pub mod ShareUpdates
+pub mod TriedFlushes
+pub mod Keeping

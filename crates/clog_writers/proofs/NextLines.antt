@@ -1,5 +1,23 @@
 -- A writer's lines come one by one, each with its counts where they were taken.
-use Rattle.std.proofs.Common.{◌≡◌, ℕ, ◌+◌, List, [], ◌∷◌, ◌++◌, length, Option, Some, None, refl, sym, ap, ◌∙◌, subst, arith}
+use Rattle.std.proofs.Common.{
+  ◌≡◌,
+  ℕ,
+  ◌+◌,
+  List,
+  [],
+  ◌∷◌,
+  ◌++◌,
+  length,
+  Option,
+  Some,
+  None,
+  refl,
+  sym,
+  ap,
+  ◌∙◌,
+  subst,
+  arith,
+}
 use Rattle.std.specs.Option.{MatchOption, option_to_list}
 use Rattle.std.proofs.lemmas.List.{nil_from_length}
 use Rattle.clog_base.specs.declared.sizes.Sizes.{Sizes}
@@ -8,7 +26,7 @@ use Rattle.path_rule.specs.declared.view.OwnStep.{OwnStep}
 use Rattle.write_path.specs.declared.prepared.Prepared.{Prepared}
 use Rattle.write_path.specs.Writes.{IsPrepared}
 use Rattle.clog_writers.specs.declared.tally.LineCounts.{LineCounts}
-use Rattle.clog_writers.specs.declared.tally.Tally.{Tally}
+use Rattle.clog_writers.specs.declared.tally.UpdateTally.{UpdateTally}
 use Rattle.clog_writers.specs.Shares.{ArePrepared}
 use Rattle.clog_writers.specs.Tallied.{AreCountedFor, AreCountsOf, IsCountedFor}
 use Rattle.clog_writers.specs.Tallies.{MayTally, limit_of}
@@ -46,7 +64,7 @@ next_counted (Some most) l ls counts now (Some c) next are =
 module _ (sizes : Sizes) (w : ℕ) (flush : Option ℕ) where
   -- The writes and the counts that are to come are of these lines; the tally is of those before.
   pub record GoesCounted (rest : List Prepared) (counts : List LineCounts)
-      (tally : Option Tally) (trail : List OwnStep) : Type 0 where
+      (tally : Option UpdateTally) (trail : List OwnStep) : Type 0 where
     pub left : List Line
     pub prepared : ArePrepared sizes left rest
     pub counted : AreCountedFor flush left counts
@@ -64,7 +82,7 @@ module _ (sizes : Sizes) (w : ℕ) (flush : Option ℕ) where
     pub counted_others : AreCountedFor flush others now
 
   pub next_line : (p : Prepared) (rest : List Prepared) (counts now : List LineCounts)
-      (c : Option LineCounts) (tally : Option Tally) (trail : List OwnStep)
+      (c : Option LineCounts) (tally : Option UpdateTally) (trail : List OwnStep)
       → GoesCounted (p ∷ rest) counts tally trail → IsNextOf counts c now
       → IsNextLine p rest c now
   next_line p rest counts now c tally trail g next = by g.left g.prepared g.counted

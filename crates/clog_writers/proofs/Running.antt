@@ -4,6 +4,7 @@ use Rattle.std.proofs.Common.{
   ℕ,
   suc,
   ◌+◌,
+  ◌*◌,
   ◌<◌,
   ◌≤◌,
   Bool,
@@ -28,6 +29,7 @@ use Rattle.std.proofs.Common.{
 use Rattle.std.specs.Prelude.{Contains, is_some}
 use Rattle.std.specs.List.{range_with_len}
 use Rattle.std.specs.List.Sorted.{IsPermutation}
+use Rattle.std.proofs.Math.Nat.{mul-le-mul_left}
 use Rattle.std.proofs.lemmas.List.Elements.{All-contains}
 use Rattle.std.proofs.lemmas.List.Sorted.{IsPermutation-refl, length_permutation}
 use Rattle.std.proofs.lemmas.Option.{none-some, same_Some}
@@ -90,6 +92,8 @@ use Rattle.clog_writers.proofs.Ending.{hold_shares, none_kept}
 use Rattle.clog_writers.proofs.FiledWell.{has_good}
 use Rattle.clog_writers.proofs.FirstLogged.{hold_firsts, none_held, none_written}
 use Rattle.clog_writers.proofs.FlushedShares.{have_flushed}
+use Rattle.clog_writers.proofs.Opening.{newest_opened}
+use Rattle.clog_writers.proofs.ShareUpdates.{all_paid_for}
 use Rattle.clog_writers.proofs.Totals.{few_writes}
 
 -- what a slice of a whole list of workers is written back to
@@ -170,6 +174,11 @@ module _ {K : Type 0} where
         (IsPermutation-refl (range_with_len 0 size.seats))
 
 -- ---- what becomes of shares
+
+-- a number that is there
+some_of : (flush : Option ℕ) → (flush ≡ None → ⊥) → (most : ℕ) × (flush ≡ Some most)
+some_of None some = absurd (some refl)
+some_of (Some most) some = (most, refl)
 
 not_stopped : (at_open n : ℕ) → Some OutOfMemory ≡ Some (Stopped at_open n) → ⊥
 not_stopped at_open n is =
@@ -252,7 +261,7 @@ module _ {K : Type 0} (sizes : Sizes) (flush : Option ℕ) (base : ℕ) (before 
     lack : (id : TableId) (ms : List Mutation) (fault : Option WriteFault)
         → HaveEnded id size flush ms fault seats → (row : Row) (made : ℕ)
         → fault ≡ Some (Rows row made) → (s : PathSeat K) → Contains seats s
-        → KnowsRows row made s → IsLack flush row made (length ms)
+        → KnowsRows row made s → IsLack flush row made ms
     lack id ms fault e AppendGroups made is s there knows =
         let all = knows.0 in
         let next = knows.1.1 in
@@ -261,10 +270,16 @@ module _ {K : Type 0} (sizes : Sizes) (flush : Option ℕ) (base : ℕ) (before 
         let long = length_permutation (all_writes seats) o.core.notes o.of_writes in
         let few = few_writes id size flush ms fault seats e in
         (all, omega (arith, all, next, most, long, few))
-    lack id ms fault e Memtables made is s there knows = (
-      knows.0,
-      λ none. absurd (let q : Memtables ≡ AppendGroups = e.lacks Memtables made is none in cc),
-    )
+    lack id ms fault e Memtables made is s there (all, (t, low, last, next, found)) =
+        let limit = some_of flush (λ none.
+        absurd (let q : Memtables ≡ AppendGroups = e.lacks Memtables made is none in cc)) in
+        let most = limit.0 in
+        let least = newest_opened size seats end now o s there t last found in
+        let up = mul-le-mul_left most least in
+        let known : last ≡ 255 = omega (arith, all, next) in
+        let exact = ap (λ (k : ℕ). most * k) known in
+        let paid = all_paid_for id size flush ms fault seats e most limit.1 t low in
+        (all, (most, limit.1, (t, low, omega (arith, up, exact, paid))))
     lack id ms fault e WriteGroups made is s there knows =
         let all = knows.0 in
         let next = knows.1.1 in

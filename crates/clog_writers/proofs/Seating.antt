@@ -42,7 +42,6 @@ use Rattle.clog_applied.specs.History.{Line, share_of}
 use Rattle.path_rule.specs.declared.trying.PathSeat.{PathSeat}
 use Rattle.path_rule.specs.declared.view.PathSize.{PathSize}
 use Rattle.path_rule.specs.declared.view.View.{View}
-use Rattle.write_path.specs.Ends.{writes_of}
 use Rattle.write_path.specs.Opened.{AreNew, IsNewSeat, numbers_of}
 use Rattle.write_path.proofs.Handing.{range_more}
 use Rattle.clog_writers.specs.declared.worker.Worker.{Worker}
@@ -93,7 +92,7 @@ module _ {K : Type 0} (id : TableId) (size : PathSize) where
     has = has;
     of_path = new.of_path;
     number_is = is;
-    unused = ap (λ (v : View). writes_of v.trail) new.unused;
+    unused = ap (λ (v : View). v.trail) new.unused;
   }
 
   -- ---- workers

@@ -2,8 +2,6 @@
 use Rattle.std.proofs.Common.{
   ◌≡◌,
   ℕ,
-  ◌+◌,
-  ◌^◌,
   ◌<◌,
   ◌≤◌,
   Bool,
@@ -15,7 +13,6 @@ use Rattle.std.proofs.Common.{
   refl,
   sym,
   ap,
-  ◌∙◌,
   subst,
   arith,
 }

@@ -1,5 +1,22 @@
 -- Updates are counted one by one, each at its table.
-use Rattle.std.proofs.Common.{◌≡◌, ℕ, ◌+◌, ◌<◌, ◌≤◌, List, get_or, length, set, take, sym, ap, ◌∙◌, arith, get_or-set_same, get_or-set_other}
+use Rattle.std.proofs.Common.{
+  ◌≡◌,
+  ℕ,
+  ◌+◌,
+  ◌<◌,
+  ◌≤◌,
+  List,
+  get_or,
+  length,
+  set,
+  take,
+  sym,
+  ap,
+  ◌∙◌,
+  arith,
+  get_or-set_same,
+  get_or-set_other,
+}
 use Rattle.std.specs.List.{count_by}
 use Rattle.std.proofs.lemmas.Bool.{eq-eqb, ne_eqb}
 use Rattle.std.proofs.lemmas.List.{length-take-le}

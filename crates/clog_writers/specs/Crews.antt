@@ -19,6 +19,7 @@ use Rattle.std.specs.Prelude.{
 use Rattle.std.specs.List.{Contains}
 use Rattle.atomic_table.specs.Seated.{TableId}
 use Rattle.clog_base.specs.declared.sizes.Sizes.{Sizes}
+use Rattle.clog_spec.specs.Sizes.{most_tables}
 use Rattle.clog_mutation.specs.declared.mutation.Mutation.{Mutation}
 use Rattle.clog_applied.specs.History.{Line, share_of}
 use Rattle.op_core.specs.declared.count.Order.TheVariants.{Append, Write}
@@ -36,7 +37,6 @@ use Rattle.write_path.specs.declared.switch.Row.TheVariants.{
   WriteGroups,
 }
 use Rattle.write_path.specs.Opened.{sized_for}
-use Rattle.write_path.specs.Ends.{writes_of}
 use Rattle.write_path.specs.Promised.{WasSpent}
 use Rattle.clog_writers.specs.declared.fault.WriteFault.{WriteFault}
 use Rattle.clog_writers.specs.declared.fault.WriteFault.TheVariants.{
@@ -47,7 +47,7 @@ use Rattle.clog_writers.specs.declared.fault.WriteFault.TheVariants.{
 }
 use Rattle.clog_writers.specs.declared.worker.Worker.{Worker}
 use Rattle.clog_writers.specs.Shares.{ArePrepared, LogsShare, logged_by}
-use Rattle.clog_writers.specs.Tallied.{AreCountedFor, HasFlushedAll}
+use Rattle.clog_writers.specs.Tallied.{AreCountedFor, HasFlushedAll, HasOpened}
 use Rattle.clog_writers.specs.Timed.{KnowsSynced}
 
 -- each of a list is so for its place in it
@@ -80,13 +80,13 @@ module _ {K : Type 0} where
     pub each : Each (λ (i : ℕ) (w : Worker K).
         IsDealt sizes flush (share_of sizes.writers i mutations) w) workers
 
-  -- The worker has the seat of this number, which has written nothing.
+  -- The worker has the seat of this number, which has made no step.
   pub record IsSeated (id : TableId) (size : PathSize) (number : ℕ) (w : Worker K) : Type 0 where
     pub seat : PathSeat K
     pub has : w.seat ≡ Some seat
     pub of_path : IsOf id size seat.member
     pub number_is : seat.member.number ≡ number
-    pub unused : writes_of (view_of seat.member).trail ≡ []
+    pub unused : (view_of seat.member).trail ≡ []
 
   -- it is ready to log its lines
   abbrev pub IsReady : TableId → PathSize → Sizes → Option ℕ → ℕ → List Line → Worker K → Type 0
@@ -111,8 +111,8 @@ module _ {K : Type 0} where
       × Finds (Current Append) last (view_of s.member).trail)
   KnowsRows WriteGroups made s = (made ≡ group_rows) × ((last : ℕ) × (suc last ≡ made)
       × Finds (Current Write) last (view_of s.member).trail)
-  KnowsRows Memtables made s = (made ≡ memtable_rows) × ((t : ℕ) × (last : ℕ) × (suc last ≡ made)
-      × Finds (Newest (record { 0 = t })) last (view_of s.member).trail)
+  KnowsRows Memtables made s = (made ≡ memtable_rows) × ((t : ℕ) × (t < most_tables) × (last : ℕ)
+      × (suc last ≡ made) × Finds (Newest (record { 0 = t })) last (view_of s.member).trail)
 
   -- the seat found why its lines were not all logged, and the numbers are those of what it found;
   -- of want of memory there is nothing to find
@@ -123,8 +123,9 @@ module _ {K : Type 0} where
   KnowsWhy size (Some (Stopped at_open now)) s = KnowsStopped size at_open now s
   KnowsWhy size (Some (Rows row made)) s = KnowsRows row made s
 
-  -- The worker has logged its lines, or the first of them, and its seat knows why no more. Where
-  -- nothing was refused and it flushes, it has flushed all but the newest of each table.
+  -- The worker has logged its lines, or the first of them, and its seat knows why no more. Where it
+  -- flushes it has opened few memtables, and where nothing was refused it has flushed all but the
+  -- newest of each table.
   pub record HasLogged (id : TableId) (size : PathSize) (flush : Option ℕ) (number : ℕ)
       (lines : List Line) (w : Worker K) : Type 0 where
     pub seat : PathSeat K
@@ -134,6 +135,7 @@ module _ {K : Type 0} where
     pub logs : LogsShare number lines (logged_by seat.member) w.fault
     pub why : KnowsWhy size w.fault seat
     pub flushed : w.fault ≡ None → HasFlushedAll flush seat
+    pub opened : HasOpened flush lines seat
     pub rows : MayLack flush w.fault
 
   -- each worker is ready to log its share
@@ -151,7 +153,7 @@ module _ {K : Type 0} where
         HasLogged id size flush i (share_of size.seats i mutations) w) workers
 
   -- A seat has logged its share, and knows that it is synced where nothing was refused; and that
-  -- it is flushed, where it flushes.
+  -- it is flushed, where it flushes. It has opened few memtables.
   pub record HasEnded (id : TableId) (size : PathSize) (flush : Option ℕ) (number : ℕ)
       (lines : List Line) (fault : Option WriteFault) (s : PathSeat K) : Type 0 where
     pub of_path : IsOf id size s.member
@@ -159,6 +161,7 @@ module _ {K : Type 0} where
     pub logs : LogsShare number lines (logged_by s.member) fault
     pub synced : fault ≡ None → KnowsSynced s
     pub flushed : fault ≡ None → HasFlushedAll flush s
+    pub opened : HasOpened flush lines s
 
   -- So has each of these seats. Where the log has stopped, or has no room or no further word, one
   -- of them knows that.

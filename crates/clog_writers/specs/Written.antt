@@ -15,7 +15,6 @@ use Rattle.std.specs.Prelude.{
   Bool,
   Option,
   Some,
-  None,
   Result,
   Ok,
   Err,

@@ -1,6 +1,6 @@
 //! The lines of a file are dealt out to workers: line `n`, from 1, goes to the worker of number `n`
-//! modulo their count. All memory of their writes is taken here; where writers flush, the updates of
-//! each line are counted.
+//! modulo their count. All memory of their writes is taken here; where writers flush, the updates
+//! of each line are counted.
 ghost use Rattle.std.specs.Prelude.{
   ◌≡◌,
   ℕ,
@@ -121,11 +121,12 @@ fn give<K: Keeper + Drop>(
         → AreDealt sizes flush (lines ++ m ∷ []) workers.new) }
 {
     let number = (line % u32::from(sizes.writers)) as usize;
+    // Ok and `?`, since what `add` did is known where it was not refused.
     Ok(add(&mut workers[number], write, counts)?)
 }
 
-/// Deals the lines of a file out to workers that have no seats yet. `TooLarge`: of all lines this is
-/// the first whose entry is larger than half a segment's capacity (`CommitLog.add`). With
+/// Deals the lines of a file out to workers that have no seats yet. `TooLarge`: of all lines this
+/// is the first whose entry is larger than half a segment's capacity (`CommitLog.add`). With
 /// `flush_at` the updates of each line are counted.
 pub fn deal<K: Keeper + Drop>(
     alloc: Global,

@@ -20,8 +20,9 @@ pub enum WriteFault {
         /// The count now.
         now: u64,
     },
-    /// A further word of a row is wanted, of which all are in use: this many. A sync wants one for a
-    /// group of the append order, a flush for a memtable too.
+    /// A further word of a row is wanted, of which all are in use: this many. A sync wants one for
+    /// a group of the append order; a flush also one for a memtable, of which each but the first
+    /// takes as many updates of its table as writers flush at.
     Rows(Row, u64),
 }
 

@@ -1,17 +1,41 @@
 //! A writer flushes each table of which it has logged so many updates since its last finished flush
 //! of it (Cassandra's memtable cleaner, which flushes once a limit is reached). Where another
-//! writer has the table's turn, the count stays, and the flush stays due.
-ghost use Rattle.std.specs.Prelude.{◌≡◌, ◌<◌, ℕ, IsSome, Some, None, false, slice_set, true};
+//! writer has the table's turn, the count stays, and the flush stays due. So each memtable that is
+//! opened is paid for by as many updates of its table.
+ghost use Rattle.std.specs.Prelude.{
+  ◌≡◌,
+  ◌≢◌,
+  ◌<◌,
+  ◌≤◌,
+  ℕ,
+  IsSome,
+  Some,
+  None,
+  false,
+  length,
+  slice_index,
+  slice_set,
+  true,
+};
 ghost use Rattle.clog_spec.specs.Sizes.{most_tables};
 ghost use Rattle.clog_writers.specs.Crews.{KnowsWhy, MayLack};
 ghost use Rattle.clog_writers.specs.Shares.{is_finished};
-ghost use Rattle.clog_writers.specs.Tallied.{HasFlushedAll};
-ghost use Rattle.clog_writers.specs.Tallies.{MayTally, Tallies, limit_of};
+ghost use Rattle.clog_writers.specs.Tallied.{ArePaid, HasFlushedAll};
+ghost use Rattle.clog_writers.specs.Tallies.{
+  AreNotDue,
+  AreTried,
+  IsNotDue,
+  IsTried,
+  MayTally,
+  MayTry,
+  Tallies,
+  limit_of,
+};
 ghost use Rattle.path_rule.specs.Members.{IsOf, view_of};
 ghost use Rattle.write_path.specs.Commits.{KeepsList};
 
 use crate::fault::{WriteFault, refusal_by};
-use crate::tally::Tally;
+use crate::tally::UpdateTally;
 use clog_base::{MOST_TABLES, Table};
 use path_core::Keeper;
 use std::alloc::Global;
@@ -20,7 +44,7 @@ use std::thread::yield_now;
 use write_path::{Flush, PathSeat, WritePath};
 
 // The tally behind a flush of a table: none is left of it where the flush is finished.
-fn tally_behind(tally: Tally, table: Table, answer: Flush) -> Tally
+fn tally_behind(tally: UpdateTally, table: Table, answer: Flush) -> UpdateTally
     requires { table.0 < most_tables }
     ensures most { result.most ≡ tally.most }
     ensures finished { is_finished answer ≡ true
@@ -39,9 +63,9 @@ fn flush_table<R: Wait, K: Keeper>(
     alloc: Global,
     path: &WritePath<K, Global>,
     seat: PathSeat<K>,
-    tally: Tally,
+    tally: UpdateTally,
     table: Table,
-) -> (PathSeat<K>, Tally, Option<WriteFault>)
+) -> (PathSeat<K>, UpdateTally, Option<WriteFault>)
     requires table { IsOf path.now.table.table.shared.table_id path.now.table.size seat.member }
     requires files { path.now.table.size.files ≡ true }
     requires tables { path.now.table.size.tables ≡ most_tables }
@@ -50,8 +74,17 @@ fn flush_table<R: Wait, K: Keeper>(
         result.0.member }
     ensures why { KnowsWhy path.now.table.size result.2 result.0 }
     ensures most { result.1.most ≡ tally.most }
-    ensures tallies { Tallies seat.member.number tally (view_of seat.member).trail
+    ensures tallies { result.2 ≡ None
+        → Tallies seat.member.number tally (view_of seat.member).trail
         → Tallies seat.member.number result.1 (view_of result.0.member).trail }
+    ensures paid { Tallies seat.member.number tally (view_of seat.member).trail
+        → ArePaid (Some tally.most) seat.member.number (view_of result.0.member).trail }
+    ensures idle { IsNotDue tally table.0 → (result.0 ≡ seat) × (result.1 ≡ tally) }
+    ensures others { (t : ℕ) → t ≢ table.0
+        → slice_index result.1.counts t ≡ slice_index tally.counts t }
+    ensures tried { result.2 ≡ None → 1 ≤ tally.most
+        → IsTried (length (view_of seat.member).trail) result.1 (view_of result.0.member).trail
+        table.0 }
 {
     if !tally.is_due(table) {
         return (seat, tally, None);
@@ -66,8 +99,8 @@ fn flush_tables<R: Wait, K: Keeper>(
     alloc: Global,
     path: &WritePath<K, Global>,
     seat: PathSeat<K>,
-    tally: Tally,
-) -> (PathSeat<K>, Tally, Option<WriteFault>)
+    tally: UpdateTally,
+) -> (PathSeat<K>, UpdateTally, Option<WriteFault>)
     requires table { IsOf path.now.table.table.shared.table_id path.now.table.size seat.member }
     requires files { path.now.table.size.files ≡ true }
     requires tables { path.now.table.size.tables ≡ most_tables }
@@ -75,8 +108,15 @@ fn flush_tables<R: Wait, K: Keeper>(
         result.0.member }
     ensures why { KnowsWhy path.now.table.size result.2 result.0 }
     ensures most { result.1.most ≡ tally.most }
-    ensures tallies { Tallies seat.member.number tally (view_of seat.member).trail
+    ensures tallies { result.2 ≡ None
+        → Tallies seat.member.number tally (view_of seat.member).trail
         → Tallies seat.member.number result.1 (view_of result.0.member).trail }
+    ensures paid { Tallies seat.member.number tally (view_of seat.member).trail
+        → ArePaid (Some tally.most) seat.member.number (view_of result.0.member).trail }
+    ensures idle { ((t : ℕ) → t < most_tables → IsNotDue tally t)
+        → (result.0 ≡ seat) × (result.1 ≡ tally) }
+    ensures tried { result.2 ≡ None → AreTried (length (view_of seat.member).trail) result.1
+        (view_of result.0.member).trail }
 {
     let mut seat = seat;
     let mut tally = tally;
@@ -99,8 +139,8 @@ pub(crate) fn flush_due<R: Wait, K: Keeper>(
     alloc: Global,
     path: &WritePath<K, Global>,
     seat: PathSeat<K>,
-    tally: Option<Tally>,
-) -> (PathSeat<K>, Option<Tally>, Option<WriteFault>)
+    tally: Option<UpdateTally>,
+) -> (PathSeat<K>, Option<UpdateTally>, Option<WriteFault>)
     requires table { IsOf path.now.table.table.shared.table_id path.now.table.size seat.member }
     requires files { IsSome (limit_of tally) → path.now.table.size.files ≡ true }
     requires tables { path.now.table.size.tables ≡ most_tables }
@@ -109,12 +149,21 @@ pub(crate) fn flush_due<R: Wait, K: Keeper>(
     ensures why { KnowsWhy path.now.table.size result.2 result.0 }
     ensures rows { MayLack (limit_of tally) result.2 }
     ensures limit { limit_of result.1 ≡ limit_of tally }
-    ensures tallies { MayTally seat.member.number tally (view_of seat.member).trail
+    ensures tallies { result.2 ≡ None
+        → MayTally seat.member.number tally (view_of seat.member).trail
         → MayTally seat.member.number result.1 (view_of result.0.member).trail }
+    ensures paid { MayTally seat.member.number tally (view_of seat.member).trail
+        → ArePaid (limit_of tally) seat.member.number (view_of result.0.member).trail }
+    ensures idle { AreNotDue tally → (result.0 ≡ seat) × (result.1 ≡ tally) }
+    ensures tried { result.2 ≡ None → MayTry (length (view_of seat.member).trail) result.1
+        (view_of result.0.member).trail }
 {
     match tally {
-        Some(tally) => {
-            let (seat, left, fault) = flush_tables(rt, alloc, path, seat, tally);
+        Some(counted) => {
+            if !counted.is_any_due() {
+                return (seat, tally, None);
+            }
+            let (seat, left, fault) = flush_tables(rt, alloc, path, seat, counted);
             (seat, Some(left), fault)
         }
         None => (seat, None, None),
@@ -127,7 +176,7 @@ fn flush_until_none<R: Wait, K: Keeper>(
     alloc: Global,
     path: &WritePath<K, Global>,
     seat: PathSeat<K>,
-    tally: Tally,
+    tally: UpdateTally,
 ) -> (PathSeat<K>, Option<WriteFault>)
     requires table { IsOf path.now.table.table.shared.table_id path.now.table.size seat.member }
     requires files { path.now.table.size.files ≡ true }
@@ -138,6 +187,8 @@ fn flush_until_none<R: Wait, K: Keeper>(
     ensures flushed { result.1 ≡ None
         → Tallies seat.member.number tally (view_of seat.member).trail
         → HasFlushedAll (Some tally.most) result.0 }
+    ensures paid { Tallies seat.member.number tally (view_of seat.member).trail
+        → ArePaid (Some tally.most) seat.member.number (view_of result.0.member).trail }
 {
     let mut seat = seat;
     let mut tally = tally;
@@ -164,7 +215,7 @@ pub(crate) fn flush_rest<R: Wait, K: Keeper>(
     alloc: Global,
     path: &WritePath<K, Global>,
     seat: PathSeat<K>,
-    tally: Option<Tally>,
+    tally: Option<UpdateTally>,
 ) -> (PathSeat<K>, Option<WriteFault>)
     requires table { IsOf path.now.table.table.shared.table_id path.now.table.size seat.member }
     requires files { IsSome (limit_of tally) → path.now.table.size.files ≡ true }
@@ -176,6 +227,8 @@ pub(crate) fn flush_rest<R: Wait, K: Keeper>(
     ensures flushed { result.1 ≡ None
         → MayTally seat.member.number tally (view_of seat.member).trail
         → HasFlushedAll (limit_of tally) result.0 }
+    ensures paid { MayTally seat.member.number tally (view_of seat.member).trail
+        → ArePaid (limit_of tally) seat.member.number (view_of result.0.member).trail }
 {
     match tally {
         Some(tally) => flush_until_none(rt, alloc, path, seat, tally),

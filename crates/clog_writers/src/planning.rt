@@ -28,8 +28,8 @@ pub struct Plan<K> {
 
 /// Takes the memory of the lines' writes and receipts; the path's, the syncs' and a drain's come
 /// later. `TooLarge`: of all lines this is the first whose entry is larger than half a segment's
-/// capacity (`CommitLog.add`). With `flush_at` the updates of each line are counted for writers that
-/// flush.
+/// capacity (`CommitLog.add`). With `flush_at` the updates of each line are counted for writers
+/// that flush.
 pub fn make_plan<K: Keeper + Drop>(
     alloc: Global,
     sizes: Sizes,

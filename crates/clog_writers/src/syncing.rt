@@ -4,8 +4,9 @@
 //! of `PeriodicCommitLogService`).
 ghost use Rattle.std.specs.Prelude.{◌≡◌, ℕ, MatchOption, None};
 ghost use Rattle.clog_writers.specs.Crews.{KnowsWhy, MayLack};
+ghost use Rattle.clog_writers.specs.Tallied.{OpensNone};
 ghost use Rattle.clog_writers.specs.Timed.{HasNotSynced, KnowsSynced, SealsLast, SyncsWhenDue};
-ghost use Rattle.path_rule.specs.Members.{IsOf};
+ghost use Rattle.path_rule.specs.Members.{IsOf, view_of};
 ghost use Rattle.sync_core.specs.Due.{IsDue};
 ghost use Rattle.sync_core.specs.declared.SyncCore.TheVariants.{Batch, Periodic};
 ghost use Rattle.write_path.specs.Commits.{KeepsList};
@@ -56,6 +57,7 @@ fn sync_seat<R: Wait, K: Keeper>(
         result.0.member }
     ensures why { KnowsWhy path.now.table.size result.1 result.0 }
     ensures rows { MayLack None result.1 }
+    ensures opened { OpensNone (view_of seat.member).trail (view_of result.0.member).trail }
     ensures synced { result.1 ≡ None → KnowsSynced result.0 }
     ensures seals { result.1 ≡ None → SealsLast seat result.0 }
 {
@@ -80,6 +82,7 @@ pub(crate) fn sync_when_due<R: Wait, K: Keeper, C: Clock>(
         result.0.member }
     ensures why { KnowsWhy path.now.table.size result.2 result.0 }
     ensures rows { MayLack None result.2 }
+    ensures opened { OpensNone (view_of seat.member).trail (view_of result.0.member).trail }
     ensures due { (period : ℕ) → mode ≡ Periodic period
         → SyncsWhenDue (C.tells clock.now) mode last_ms seat result.0 result.1 result.2 }
     ensures batch { mode ≡ Batch → HasNotSynced last_ms seat result.0 result.1 result.2 }

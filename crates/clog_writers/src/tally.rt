@@ -57,27 +57,27 @@ impl LineCounts {
 
 /// How many updates of each table a writer has logged since its last finished flush of it.
 #[derive(Clone, Copy)]
-pub(crate) struct Tally {
+pub(crate) struct UpdateTally {
     /// The number at which it flushes.
     most: u32,
     /// So many, by the table's number; that number where they are more.
     counts: [u32; 16],
 }
 
-impl Tally {
+impl UpdateTally {
     /// That of a writer that has logged nothing.
-    pub(crate) fn new(most: u32) -> Tally
+    pub(crate) fn new(most: u32) -> UpdateTally
         ensures most { result.most ≡ most }
         ensures none { (t : ℕ) → slice_index result.counts t ≡ 0 }
     {
-        Tally {
+        UpdateTally {
             most,
             counts: [0; 16],
         }
     }
 
     /// With those of a further line.
-    pub(crate) fn with_line(self, line: LineCounts) -> Tally
+    pub(crate) fn with_line(self, line: LineCounts) -> UpdateTally
         ensures most { result.most ≡ self.most }
         ensures more { (t : ℕ) → t < most_tables → slice_index result.counts t
             ≡ min self.most (slice_index self.counts t + slice_index line.of_tables t) }
@@ -87,21 +87,21 @@ impl Tally {
             let more = counts[table].saturating_add(u32::from(line.of_tables[table]));
             counts[table] = self.most.min(more);
         }
-        Tally {
+        UpdateTally {
             most: self.most,
             counts,
         }
     }
 
     /// With none of a table, which is flushed.
-    pub(crate) fn without(self, table: Table) -> Tally
+    pub(crate) fn without(self, table: Table) -> UpdateTally
         requires { table.0 < most_tables }
         ensures most { result.most ≡ self.most }
         ensures none { result.counts ≡ slice_set self.counts table.0 0 }
     {
         let mut counts = self.counts;
         counts[usize::from(table.0)] = 0;
-        Tally {
+        UpdateTally {
             most: self.most,
             counts,
         }
@@ -125,18 +125,21 @@ impl Tally {
 }
 
 /// That of a writer that has logged nothing, where it flushes.
-pub(crate) fn new_tally(flush_at: Option<u32>) -> Option<Tally>
+pub(crate) fn new_tally(flush_at: Option<u32>) -> Option<UpdateTally>
     ensures limit { limit_of result ≡ flush_at }
     ensures none { HasNone result }
 {
     match flush_at {
-        Some(most) => Some(Tally::new(most)),
+        Some(most) => Some(UpdateTally::new(most)),
         None => None,
     }
 }
 
 /// With the updates of a further line, where they were counted.
-pub(crate) fn tally_with(tally: Option<Tally>, counts: Option<LineCounts>) -> Option<Tally>
+pub(crate) fn tally_with(
+    tally: Option<UpdateTally>,
+    counts: Option<LineCounts>,
+) -> Option<UpdateTally>
     ensures limit { limit_of result ≡ limit_of tally }
     ensures adds { AddsCounts tally counts result }
 {

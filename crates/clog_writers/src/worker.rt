@@ -2,15 +2,21 @@
 //! each commit waits for the sync of its entry; in periodic mode it has the log synced where the
 //! period has passed. Behind each it flushes the tables of which it has logged so many updates,
 //! where it flushes.
-ghost use Rattle.std.specs.Prelude.{◌≡◌, ◌≤◌, ℕ, List, [], IsSome, None, Some, true};
+ghost use Rattle.std.specs.Prelude.{◌≡◌, ◌≤◌, ℕ, List, [], IsSome, None, Some, length, true};
 ghost use Rattle.clog_spec.specs.Sizes.{most_tables};
 ghost use Rattle.clog_base.specs.declared.sizes.Sizes.{Sizes};
 ghost use Rattle.clog_mutation.specs.declared.mutation.Mutation.{Mutation};
 ghost use Rattle.clog_applied.specs.History.{Line};
 ghost use Rattle.clog_writers.specs.Crews.{HasLogged, IsReady, IsSizedAs, KnowsWhy, MayLack};
 ghost use Rattle.clog_writers.specs.Sealing.{HasSealed, HasWaited, WaitsShare};
-ghost use Rattle.clog_writers.specs.Tallied.{AreCountedFor, HasFlushedAll, IsCountedFor};
-ghost use Rattle.clog_writers.specs.Tallies.{MayTally, limit_of};
+ghost use Rattle.clog_writers.specs.Tallied.{
+  ArePaid,
+  AreCountedFor,
+  HasFlushedAll,
+  IsCountedFor,
+  OpensNone,
+};
+ghost use Rattle.clog_writers.specs.Tallies.{MayTally, MayTry, limit_of};
 ghost use Rattle.clog_writers.specs.Timed.{HasTimed, TimesShare, TimesWrite};
 ghost use Rattle.clog_writers.specs.Shares.{
   AddsWrite,
@@ -23,7 +29,6 @@ ghost use Rattle.clog_writers.specs.Shares.{
 };
 ghost use Rattle.path_rule.specs.Members.{IsOf, view_of};
 ghost use Rattle.sync_core.specs.declared.SyncCore.TheVariants.{Batch, Periodic};
-ghost use Rattle.write_path.specs.Ends.{writes_of};
 ghost use Rattle.write_path.specs.Grown.{HasGrown};
 ghost use Rattle.write_path.specs.Tries.{Stays};
 ghost use Rattle.write_path.specs.Writes.{IsPrepared};
@@ -31,7 +36,7 @@ ghost use Rattle.write_path.specs.Writes.{IsPrepared};
 use crate::fault::WriteFault;
 use crate::flushing::{flush_due, flush_rest};
 use crate::syncing::{Syncing, sync_when_due};
-use crate::tally::{LineCounts, Tally, new_tally, tally_with};
+use crate::tally::{LineCounts, UpdateTally, new_tally, tally_with};
 use clog_base::Sizes;
 use clog_io::{Clock, Gate};
 use path_core::Keeper;
@@ -104,6 +109,7 @@ fn commit_one<R: Wait, K: Keeper, G: Gate, C: Clock>(
         (view_of result.0.member).trail }
     ensures why { KnowsWhy path.now.table.size result.2 result.0 }
     ensures rows { MayLack None result.2 }
+    ensures opened { OpensNone (view_of seat.member).trail (view_of result.0.member).trail }
     ensures sealed { path.now.mode ≡ Batch → HasSealed seat → result.2 ≡ None
         → HasSealed result.0 }
     ensures waited { path.now.mode ≡ Batch → HasSealed seat → HasWaited result.0 }
@@ -128,11 +134,11 @@ fn commit_next<R: Wait, K: Keeper, G: Gate, C: Clock>(
     gate: &G,
     clock: &C,
     last_ms: u64,
-    tally: Option<Tally>,
+    tally: Option<UpdateTally>,
     seat: PathSeat<K>,
     prepared: Prepared,
     counts: Option<LineCounts>,
-) -> (PathSeat<K>, u64, Option<Tally>, Option<WriteFault>)
+) -> (PathSeat<K>, u64, Option<UpdateTally>, Option<WriteFault>)
     requires table { IsOf path.now.table.table.shared.table_id path.now.table.size seat.member }
     requires prepared { (sizes : Sizes) × (line : ℕ) × (m : Mutation)
         × IsPrepared sizes line m prepared × (sizes.tables ≡ path.now.table.size.tables)
@@ -160,6 +166,13 @@ fn commit_next<R: Wait, K: Keeper, G: Gate, C: Clock>(
         → IsCountedFor (limit_of tally) line.mutation counts
         → MayTally seat.member.number tally (view_of seat.member).trail
         → MayTally seat.member.number result.2 (view_of result.0.member).trail }
+    ensures paid { (sizes : Sizes) (line : Line)
+        → IsPrepared sizes line.number line.mutation prepared
+        → IsCountedFor (limit_of tally) line.mutation counts
+        → MayTally seat.member.number tally (view_of seat.member).trail
+        → ArePaid (limit_of tally) seat.member.number (view_of result.0.member).trail }
+    ensures tried { result.3 ≡ None → MayTry (length (view_of seat.member).trail) result.2
+        (view_of result.0.member).trail }
 {
     let (seat, synced_ms, fault) = commit_one(
         rt, alloc, path, mode, gate, clock, last_ms, seat, prepared,
@@ -174,7 +187,7 @@ fn commit_next<R: Wait, K: Keeper, G: Gate, C: Clock>(
     }
 }
 
-// Commits writes one after another, by a seat that has written nothing, until one is refused, or a
+// Commits writes one after another, by a seat that has made no step, until one is refused, or a
 // sync or a flush behind it. In periodic mode the first period runs from the opening. It tells what
 // the writer has logged since its last finished flush of each table, where it flushes.
 fn commit_lines<R: Wait, K: Keeper, G: Gate, C: Clock>(
@@ -189,12 +202,12 @@ fn commit_lines<R: Wait, K: Keeper, G: Gate, C: Clock>(
     seat: PathSeat<K>,
     writes: Vec<Prepared>,
     counts: Vec<LineCounts>,
-) -> (PathSeat<K>, Option<Tally>, Option<WriteFault>)
+) -> (PathSeat<K>, Option<UpdateTally>, Option<WriteFault>)
     requires table { IsOf path.now.table.table.shared.table_id path.now.table.size seat.member }
     requires sized { IsSizedAs path.now.table.size sizes }
     requires prepared { (lines : List Line) × ArePrepared sizes lines writes.items
         × AreCountedFor flush_at lines counts.items }
-    requires unused { writes_of (view_of seat.member).trail ≡ [] }
+    requires unused { (view_of seat.member).trail ≡ [] }
     requires mode { path.now.mode ≡ syncing.mode }
     requires tables { sizes.tables ≡ most_tables }
     requires files { IsSome flush_at → path.now.table.size.files ≡ true }
@@ -211,6 +224,7 @@ fn commit_lines<R: Wait, K: Keeper, G: Gate, C: Clock>(
     ensures limit { limit_of result.1 ≡ flush_at }
     ensures tallies { result.2 ≡ None
         → MayTally seat.member.number result.1 (view_of result.0.member).trail }
+    ensures paid { ArePaid flush_at seat.member.number (view_of result.0.member).trail }
 {
     let mut seat = seat;
     let mut last_ms = syncing.since_ms;
@@ -260,7 +274,7 @@ fn commit_writes<R: Wait, K: Keeper, G: Gate, C: Clock>(
     requires sized { IsSizedAs path.now.table.size sizes }
     requires prepared { (lines : List Line) × ArePrepared sizes lines writes.items
         × AreCountedFor flush_at lines counts.items }
-    requires unused { writes_of (view_of seat.member).trail ≡ [] }
+    requires unused { (view_of seat.member).trail ≡ [] }
     requires mode { path.now.mode ≡ syncing.mode }
     requires tables { sizes.tables ≡ most_tables }
     requires files { IsSome flush_at → path.now.table.size.files ≡ true }
@@ -274,6 +288,7 @@ fn commit_writes<R: Wait, K: Keeper, G: Gate, C: Clock>(
     ensures timed { (period : ℕ) → syncing.mode ≡ Periodic period → result.1 ≡ None
         → HasTimed (C.tells clock.now) syncing.mode syncing.since_ms result.0 }
     ensures flushed { result.1 ≡ None → HasFlushedAll flush_at result.0 }
+    ensures paid { ArePaid flush_at seat.member.number (view_of result.0.member).trail }
 {
     let (seat, tally, fault) = commit_lines(
         rt, alloc, path, sizes, syncing, flush_at, gate, clock, seat, writes, counts,

@@ -122,7 +122,8 @@ fn disks_read_now<D: Disk>(_store: &Store<D>)
 /// `OutOfMemory`: memory was refused for the path, by a sync or for the drain's table files;
 /// `Spent`: the log has no further segment, so it may have at most two segments for each line;
 /// `Rows`: no further group for a sync's barrier, so there are at least 65,535 lines, or, with
-/// `flush_at`, no further memtable of a table, of which there are 256; it tells how many there are;
+/// `flush_at`, no further memtable of a table, of which there are 256, so the lines have at least
+/// 255 times so many updates of it; it tells how many there are;
 /// `Stopped`: the disk has failed, with its fault counts at the opening and now.
 pub fn write_plan<R: Threads + Wait + Sync, D: Disk + Send + Drop, G: Gate + Sync, C: Clock + Sync>(
     rt: &R,
@@ -160,7 +161,7 @@ pub fn write_plan<R: Threads + Wait + Sync, D: Disk + Send + Drop, G: Gate + Syn
         → result.1 ≡ Err Spent → sizes.ordinals ≤ 1 + (2 * length mutations - 1) }
     ensures rows { (mutations : List MutationOf) → IsPlanFor sizes flush_at mutations plan
         → (row : RowOf) (made : ℕ) → result.1 ≡ Err (Rows row made)
-        → IsLack flush_at row made (length mutations) }
+        → IsLack flush_at row made mutations }
     ensures wrote { (mutations : List MutationOf) → IsPlanFor sizes flush_at mutations plan
         → WritesShares D.files D.changes store.notes.log.disk result.0 store.notes.base
         (is_some flush_at) store.archives drain sizes.writers mutations }

@@ -21,7 +21,7 @@ use Rattle.std.specs.Prelude.{
   if◌then◌else◌,
   IsTrue,
 }
-use Rattle.std.specs.List.{Contains, fold}
+use Rattle.std.specs.List.{Contains}
 use Rattle.clog_base.specs.declared.cell.Cell.{Cell}
 use Rattle.clog_base.specs.declared.cell.CellKey.{CellKey}
 use Rattle.clog_cells.specs.Merge.{IsMergeOf}
@@ -30,7 +30,7 @@ use Rattle.path_core.specs.declared.note.EntryNote.{EntryNote}
 use Rattle.path_core.specs.declared.state.PathState.{PathState}
 use Rattle.path_core.specs.declared.state.WrittenFile.{WrittenFile}
 use Rattle.path_core.specs.Droppable.{IsDroppable, is_of}
-use Rattle.path_core.specs.Keeper.{Holding, MayPublish, PutFile}
+use Rattle.path_core.specs.Keeper.{Holding, MayPublish}
 use Rattle.path_core.specs.Keys.{ordinal_of}
 use Rattle.path_core.specs.Next.{has_filed}
 use Rattle.path_core.specs.Parts.{seat_of, table_of}

@@ -4,7 +4,6 @@ use Rattle.std.specs.Prelude.{
   ◌≡◌,
   ◌≢◌,
   ◌⊎◌,
-  ◌∷◌,
   [],
   ℕ,
   suc,
@@ -18,11 +17,9 @@ use Rattle.std.specs.Prelude.{
   true,
   false,
   List,
-  length,
   Option,
   Some,
   None,
-  Result,
 }
 use Rattle.std.specs.List.{AllPairs, Contains}
 use Rattle.atomic_table.specs.Table.{Me, Step}

@@ -19,7 +19,6 @@ use Rattle.std.specs.Prelude.{
   Some,
   None,
   is_some,
-  IsTrue,
 }
 use mathlib.Core.Option.{some}
 use lib.ListN.{get_elem?}
@@ -29,7 +28,7 @@ use Rattle.clog_base.specs.Sizes.{IsWithinLimits}
 use Rattle.op_core.specs.declared.count.Order.{Order}
 use Rattle.op_core.specs.declared.count.Order.TheVariants.{Append, Write}
 use Rattle.path_core.specs.declared.event.ClaimKind.TheVariants.{Marker}
-use Rattle.path_core.specs.declared.event.Cursor.TheVariants.{Synced, OldestLive, Stopped}
+use Rattle.path_core.specs.declared.event.Cursor.TheVariants.{Synced, Stopped}
 use Rattle.path_core.specs.declared.event.Event.{Event}
 use Rattle.path_core.specs.declared.event.Event.TheVariants.{Claim, OpenGroup, Put}
 use Rattle.path_core.specs.declared.event.Place.{Place}

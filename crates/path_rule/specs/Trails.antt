@@ -9,7 +9,7 @@ use Rattle.path_core.specs.declared.event.ClaimKind.TheVariants.{Entry}
 use Rattle.path_core.specs.declared.event.Cursor.TheVariants.{Synced, OldestLive, Stopped}
 use Rattle.path_core.specs.declared.event.Event.{Event}
 use Rattle.path_core.specs.declared.event.Event.TheVariants.{Claim}
-use Rattle.path_core.specs.declared.event.Place.TheVariants.{Current, CursorWord, Log}
+use Rattle.path_core.specs.declared.event.Place.TheVariants.{Current, CursorWord, Log, Newest}
 use Rattle.path_core.specs.declared.state.Bound.TheVariants.{Final}
 use Rattle.path_core.specs.declared.state.PathState.{PathState}
 use Rattle.path_core.specs.declared.state.WrittenFile.{WrittenFile}
@@ -70,6 +70,8 @@ pub record TrailTells (capacity : ℕ) (x : PathState) (trail : List OwnStep) : 
   pub stopped : (n : ℕ) → Finds (CursorWord Stopped) n trail → 0 < n → n ≡ x.stopped
   -- each group of an order that it found current is at or below the current one
   pub current : (o : Order) (g : ℕ) → Finds (Current o) g trail → g ≤ (groups_of x o).current
+  -- each memtable that it found as a table's newest is at or below that one
+  pub newest : (t : Table) (m : ℕ) → Finds (Newest t) m trail → m ≤ (table_of x t.0).newest
   -- each entry was claimed behind the markers that the seat had found
   pub past : AllClaimPast capacity trail
   -- each memtable that it found final at a key, or made final there, is final at that key

@@ -24,8 +24,10 @@ use Rattle.write_path.specs.Ends.{writes_of, IsLast, IsListed}
 use Rattle.write_path.specs.Grown.{HasGrown}
 use Rattle.write_path.specs.Receipts.{Acknowledges, HasReceipt, IsCommitted, IsLineOf}
 use Rattle.write_path.specs.Syncs.{CoversList}
+use Rattle.write_path.specs.Unretired.{GrowsUnretired}
 use Rattle.write_path.proofs.Growing.{both}
 use Rattle.write_path.proofs.Sealing.{found_in, stays_last}
+use Rattle.write_path.proofs.SwitchGoes.{kept_both, none_both, round_kept, round_none}
 
 -- A synced key that covers a list covers the list's newest write.
 pub reached : (w s start end tables : ℕ) (before : List OwnStep) (p : Prepared) (v : View)
@@ -37,14 +39,17 @@ reached w s start end tables before p v L covers =
 
 -- a trail grows by a sync's steps
 by_rounds : (w : ℕ) (puts : List Event) (v after : View) → RoundSteps w puts v after
-    → HasGrown v.trail after.trail
-by_rounds w puts v after S = record { newer = S.steps; is = S.trail }
+    → GrowsUnretired v.trail after.trail
+by_rounds w puts v after S =
+    let newer : HasGrown v.trail after.trail = record { newer = S.steps; is = S.trail } in
+    (newer, round_kept w S.steps S.are, round_none w S.steps S.are)
 
 -- A receipt stands where the list does, and the write is the seat's last.
 abbrev pub stands : (base w : ℕ) (before : List OwnStep) (p : Prepared) (r x : Receipt)
     (v after : View) → (H : HasReceipt base w before p r v.trail)
     → writes_of after.trail ≡ writes_of v.trail
-    → IsLast H.logged.listed.note (map event_of after.trail) → HasGrown v.trail after.trail → x ≡ r
+    → IsLast H.logged.listed.note (map event_of after.trail) → GrowsUnretired v.trail after.trail
+    → x ≡ r
     → HasReceipt base w before p x after.trail
 stands base w before p r x v after H same last grown is =
     let L = H.logged.listed in record {
@@ -63,7 +68,9 @@ stands base w before p r x v after H same last grown is =
           tables_are = L.tables_are;
           of = L.of;
         };
-        grown = both before v.trail after.trail H.logged.grown grown;
+        grown = both before v.trail after.trail H.logged.grown grown.0;
+        kept = kept_both grown.0.newer H.logged.grown.newer grown.1 H.logged.kept;
+        unswitched = none_both grown.0.newer H.logged.grown.newer grown.2 H.logged.unswitched;
       };
       position = ap (λ (y : Receipt). y.position) is ∙ H.position;
       line = λ sizes line m P. ap (λ (y : Receipt). y.line) is ∙ H.line sizes line m P;

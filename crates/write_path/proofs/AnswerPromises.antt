@@ -65,7 +65,7 @@ final_newer t m key (s ∷ ss) older F =
     ⊎_elim (λ now. inl now) (λ rest. inr (final_newer t m key ss older rest)) F
 
 -- what was made final in a call was found so
-final_in : (w t m key : ℕ) (v after : View) (S : FlushSteps w v after)
+final_in : (w t m key : ℕ) (v after : View) (S : FlushSteps w t v after)
     → Finalises w t m key S.steps → FindsFinal t m key after.trail
 final_in w t m key v after S F = subst (λ (l : List OwnStep). FindsFinal t m key l) (sym S.trail)
     (final_newer t m key S.steps v.trail (final_finds w t m key S.steps F))
@@ -86,7 +86,7 @@ least_in w t m gave v after R =
     (retiring w t.0 m gave ∷ R.before.trail) (inl (refl, refl)))
 
 is_flushed : (w : ℕ) (t : Table) (m key : ℕ) (gave : Option ℕ) (v after : View)
-    (S : FlushSteps w v after) → Finalises w t.0 m key S.steps → Retires w t.0 m gave v after
+    (S : FlushSteps w t.0 v after) → Finalises w t.0 m key S.steps → Retires w t.0 m gave v after
     → HasFlushed t key after.trail
 is_flushed w t m key gave v after S F R = record {
   memtable = m;

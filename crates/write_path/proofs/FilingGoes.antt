@@ -80,27 +80,28 @@ use Rattle.write_path.proofs.SwitchGoes.{kept_both, none_both, stage_same, then_
 
 -- ---- steps
 
-abbrev pub quiet_one : (w : ℕ) (e : Event) (n : ℕ) (h : Hands) (v after : View) → IsFlushStep w e
-    → SwitchesNo e → RetiresNo e → DidAs v w e n h after → QuietSteps w v after
-quiet_one w e n h v after is leaves keeps d = record {
+abbrev pub quiet_one : {t : ℕ} (w : ℕ) (e : Event) (n : ℕ) (h : Hands) (v after : View)
+    → IsFlushStep w t e → SwitchesNo e → RetiresNo e → DidAs v w e n h after
+    → QuietSteps w t v after
+quiet_one {t} w e n h v after is leaves keeps d = record {
   made = one w e n h v after is d;
   none = (leaves, tt);
   kept = (keeps, tt);
 }
 
 -- one that may retire a memtable
-abbrev pub unswitched_one : (w : ℕ) (e : Event) (n : ℕ) (h : Hands) (v after : View)
-    → IsFlushStep w e → SwitchesNo e → DidAs v w e n h after → UnswitchedSteps w v after
-unswitched_one w e n h v after is leaves d = record {
+abbrev pub unswitched_one : {t : ℕ} (w : ℕ) (e : Event) (n : ℕ) (h : Hands) (v after : View)
+    → IsFlushStep w t e → SwitchesNo e → DidAs v w e n h after → UnswitchedSteps w t v after
+unswitched_one {t} w e n h v after is leaves d = record {
   made = one w e n h v after is d;
   none = (leaves, tt);
 }
 
 -- one that gave a table file
-abbrev pub filed_one : (w : ℕ) (e : Event) (n lower : ℕ) (h : Hands) (v after : View)
-    → IsFlushStep w e → SwitchesNo e → FiledAs v w e n lower h after
-    → UnswitchedSteps w v after
-filed_one w e n lower h v after is leaves d = record {
+abbrev pub filed_one : {t : ℕ} (w : ℕ) (e : Event) (n lower : ℕ) (h : Hands) (v after : View)
+    → IsFlushStep w t e → SwitchesNo e → FiledAs v w e n lower h after
+    → UnswitchedSteps w t v after
+filed_one {t} w e n lower h v after is leaves d = record {
   made = record {
     steps = record { event = e; found = n; filed = Some lower } ∷ [];
     trail = ap (λ (u : View). u.trail) d.view;
@@ -128,16 +129,17 @@ none_made w t v after same = record {
   stage = ap (λ (u : View). stage_of u.part t) same;
 }
 
-abbrev pub unswitched : (w : ℕ) (v after : View) → QuietSteps w v after → UnswitchedSteps w v after
-unswitched w v after Q = record { made = Q.made; none = Q.none }
+abbrev pub unswitched : {t : ℕ} (w : ℕ) (v after : View) → QuietSteps w t v after
+    → UnswitchedSteps w t v after
+unswitched {t} w v after Q = record { made = Q.made; none = Q.none }
 
 abbrev pub may_retire : (w t : ℕ) (v after : View) → FilingSteps w t v after
     → RetiringSteps w t v after
 may_retire w t v after S = record { made = unswitched w v after S.made; stage = S.stage }
 
-abbrev pub then_unswitched : (w z : ℕ) (v u after : View) → z ≡ w → UnswitchedSteps w v u
-    → UnswitchedSteps z u after → UnswitchedSteps w v after
-then_unswitched w z v u after same A B = record {
+abbrev pub then_unswitched : {t : ℕ} (w z : ℕ) (v u after : View) → z ≡ w → UnswitchedSteps w t v u
+    → UnswitchedSteps z t u after → UnswitchedSteps w t v after
+then_unswitched {t} w z v u after same A B = record {
   made = next w z v u after same A.made B.made;
   none = none_both B.made.steps A.made.steps B.none A.none;
 }
@@ -163,7 +165,7 @@ of_read w t v after R = record {
 }
 
 -- steps that leave what is known of the table
-abbrev pub of_quiet : (w t : ℕ) (v after : View) → QuietSteps w v after
+abbrev pub of_quiet : (w t : ℕ) (v after : View) → QuietSteps w t v after
     → seat_table after.part t ≡ seat_table v.part t → FilingSteps w t v after
 of_quiet w t v after Q same = record { made = Q; stage = stage_same t v.part after.part same }
 
@@ -238,23 +240,23 @@ one_newer t m gave [] older R = absurd R
 one_newer t m gave (s ∷ ss) older R =
     ⊎_elim (λ now. inl now) (λ later. inr (one_newer t m gave ss older later)) R
 
-abbrev grown_behind : (v u : View) (before : List OwnStep) (w : ℕ) → FlushSteps w v u
+abbrev grown_behind : {t : ℕ} (v u : View) (before : List OwnStep) (w : ℕ) → FlushSteps w t v u
     → HasGrown u.trail before → HasGrown v.trail before
-grown_behind v u before w S G = record {
+grown_behind {t} v u before w S G = record {
   newer = G.newer ++ S.steps;
   is = G.is ∙ (ap (λ (l : List OwnStep). G.newer ++ l) S.trail
       ∙ sym (append_assoc G.newer S.steps v.trail));
 }
 
-abbrev grown_before : (older : List OwnStep) (u after : View) (w : ℕ) → HasGrown older u.trail
-    → FlushSteps w u after → HasGrown older after.trail
-grown_before older u after w G S = record {
+abbrev grown_before : {t : ℕ} (older : List OwnStep) (u after : View) (w : ℕ)
+    → HasGrown older u.trail → FlushSteps w t u after → HasGrown older after.trail
+grown_before {t} older u after w G S = record {
   newer = S.steps ++ G.newer;
   is = S.trail ∙ (ap (λ (l : List OwnStep). S.steps ++ l) G.is
       ∙ sym (append_assoc S.steps G.newer older));
 }
 
-pub filed_behind : (w z t m lower upper : ℕ) (v u after : View) → z ≡ w → FlushSteps w v u
+pub filed_behind : (w z t m lower upper : ℕ) (v u after : View) → z ≡ w → FlushSteps w t v u
     → RetiresFiled z t m lower upper u after → RetiresFiled w t m lower upper v after
 filed_behind w z t m lower upper v u after same S R =
     let E = subst (λ k. RetiresFiled k t m lower upper u after) same R in let r = E.retires in
@@ -276,7 +278,7 @@ filed_behind w z t m lower upper v u after same S R =
     }
 
 pub filed_before : (w z t m lower upper : ℕ) (v u after : View)
-    → RetiresFiled w t m lower upper v u → FlushSteps z u after
+    → RetiresFiled w t m lower upper v u → FlushSteps z t u after
     → RetiresFiled w t m lower upper v after
 filed_before w z t m lower upper v u after E S = let r = E.retires in record {
   retires = record {
@@ -300,7 +302,7 @@ abbrev RetiresAt : (w t m key : ℕ) → View → View → Type 0
 RetiresAt w t m key v after =
     (r : RetiresEmpty w t m v after) × FoundFinal t r.0.before.part m key
 
-empty_behind : (w z t m key : ℕ) (v u after : View) → z ≡ w → FlushSteps w v u
+empty_behind : (w z t m key : ℕ) (v u after : View) → z ≡ w → FlushSteps w t v u
     → RetiresAt z t m key u after → RetiresAt w t m key v after
 empty_behind w z t m key v u after same S R =
     let E = subst (λ k. RetiresAt k t m key u after) same R in let r = E.0.0 in (
@@ -320,7 +322,7 @@ empty_behind w z t m key v u after same S R =
     )
 
 empty_before : (w z t m key : ℕ) (v u after : View) → RetiresAt w t m key v u
-    → FlushSteps z u after → RetiresAt w t m key v after
+    → FlushSteps z t u after → RetiresAt w t m key v after
 empty_before w z t m key v u after E S = let r = E.0.0 in (
   (
     record {
@@ -349,7 +351,7 @@ left_before t m newer older K I = ⊎_elim (λ none. inl (kept_both newer older 
     (λ f. inr (f.0, one_older (record { 0 = t }) m (Some f.0) newer older f.1)) I
 
 pub is_behind : (w z t m : ℕ) (v u after : View) (a : Flush) (newer : List OwnStep) → z ≡ w
-    → (S : FlushSteps w v u) → RetiresNone S.steps → IsRetired z t m u a newer after
+    → (S : FlushSteps w t v u) → RetiresNone S.steps → IsRetired z t m u a newer after
     → IsRetired w t m v a (newer ++ S.steps) after
 is_behind w z t m v u after (Flushed lower upper) newer same S K I =
     filed_behind w z t m lower.0 upper.0 v u after same S I
@@ -371,7 +373,7 @@ is_behind w z t m v u after (Stopped at_open now) newer same S K I = (
 is_behind w z t m v u after OutOfMemory newer same S K I = kept_both newer S.steps I K
 
 pub is_before : (w z t m : ℕ) (v u after : View) (a : Flush) (older : List OwnStep)
-    → IsRetired w t m v a older u → (S : FlushSteps z u after) → RetiresNone S.steps
+    → IsRetired w t m v a older u → (S : FlushSteps z t u after) → RetiresNone S.steps
     → IsRetired w t m v a (S.steps ++ older) after
 is_before w z t m v u after (Flushed lower upper) older I S K =
     filed_before w z t m lower.0 upper.0 v u after I S

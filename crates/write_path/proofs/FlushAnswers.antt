@@ -3,6 +3,7 @@ use Rattle.std.proofs.Common.{
   ◌≡◌,
   ℕ,
   ◌+◌,
+  ◌≤◌,
   length,
   List,
   ◌++◌,
@@ -50,7 +51,7 @@ use Rattle.write_path.specs.declared.switch.Row.TheVariants.{
   WriteGroups,
   AppendGroups,
 }
-use Rattle.write_path.specs.Flushed.{Flushes, GotTurn, IsFlush}
+use Rattle.write_path.specs.Flushed.{Flushes, GotTurn, IsFlush, opened_by}
 use Rattle.write_path.specs.FlushFilings.{
   IsRetired,
   Retired,
@@ -66,6 +67,7 @@ use Rattle.write_path.specs.FlushSteps.{
   UnswitchedSteps,
 }
 use Rattle.write_path.specs.FlushTurns.{FindsMemtables}
+use Rattle.write_path.specs.Opens.{opens}
 use Rattle.write_path.proofs.FilingGoes.{filed_behind, is_before, one_newer}
 use Rattle.write_path.proofs.FinalKeys.{same_final}
 use Rattle.write_path.proofs.FlushBarring.{final_before, final_behind}
@@ -80,11 +82,12 @@ use Rattle.write_path.proofs.SwitchGoes.{
   retires_behind,
   then_quiet,
 }
+use Rattle.write_path.proofs.StepsOpen.{none_opened, opens_both}
 
 -- ---- behind the switch of this call
 
 -- what was set in a call is in the trail behind it
-set_since : (w t m key : ℕ) (v u : View) (newer before : List OwnStep) (S : FlushSteps w v u)
+set_since : (w t m key : ℕ) (v u : View) (newer before : List OwnStep) (S : FlushSteps w t v u)
     → before ≡ newer ++ u.trail → Finalises w t m key S.steps → Finalises w t m key before
 set_since w t m key v u newer before S is F =
     subst (λ (l : List OwnStep). Finalises w t m key l)
@@ -92,14 +95,14 @@ set_since w t m key v u newer before S is F =
     (final_behind w t m key newer (S.steps ++ v.trail) (final_before w t m key S.steps v.trail F))
 
 filed_is : (w t m lower upper key : ℕ) (v u after : View) (newer : List OwnStep)
-    (S : FlushSteps w v u) → Finalises w t m key S.steps → RetiresFiled w t m lower upper u after
+    (S : FlushSteps w t v u) → Finalises w t m key S.steps → RetiresFiled w t m lower upper u after
     → upper ≡ key
 filed_is w t m lower upper key v u after newer S F E = let r = E.retires in
     same_final r.before w _ t m key upper r.was
     (set_since w t m key v u r.since.newer r.before.trail S r.since.is F) E.final
 
 flushed_is : (w t m key : ℕ) (v u after : View) (a : Flush) (newer : List OwnStep)
-    (S : FlushSteps w v u) → Finalises w t m key S.steps → RetiresNone S.steps
+    (S : FlushSteps w t v u) → Finalises w t m key S.steps → RetiresNone S.steps
     → WroteBelow key after.trail → IsRetired w t m u a newer after
     → IsFlush w t v a (newer ++ S.steps) after
 flushed_is w t m key v u after (Flushed lower upper) newer S F K W I = (
@@ -151,27 +154,46 @@ got_turn w t m v after (Rows row made) R = tt
 got_turn w t m v after (Stopped at_open now) R = tt
 got_turn w t m v after OutOfMemory R = tt
 
+-- such an answer may stand behind a memtable that was opened
+may_open : (w t m : ℕ) (v after : View) (a : Flush) (steps : List OwnStep)
+    → IsRetired w t m v a steps after → 1 ≤ opened_by a
+may_open w t m v after (Flushed lower upper) steps I = omega arith
+may_open w t m v after (Empty key) steps I = omega arith
+may_open w t m v after (Busy found) steps I = absurd I
+may_open w t m v after (Rows Memtables made) steps I = absurd I.0
+may_open w t m v after (Rows WriteGroups made) steps I = absurd I.0
+may_open w t m v after (Rows AppendGroups made) steps I = omega arith
+may_open w t m v after (Stopped at_open now) steps I = omega arith
+may_open w t m v after OutOfMemory steps I = omega arith
+
 -- ---- with the steps behind it that give the turns back
 
 record RetiredBy (w t m : ℕ) (v : View) (a : Flush) (after : View) : Type 0 where
-  made : FlushSteps w v after
+  made : FlushSteps w t v after
+  none : SwitchesNone made.steps
   is : IsRetired w t m v a made.steps after
 
 retired_on : (r z t m : ℕ) (u x after : View) (a : Flush) → r ≡ z → Retired z t m u a x
-    → QuietSteps r x after → RetiredBy z t m u a after
+    → QuietSteps r t x after → RetiredBy z t m u a after
 retired_on r z t m u x after a same R L = record {
   made = next z r u x after same R.steps.made.made L.made;
+  none = none_both L.made.steps R.steps.made.made.steps L.none R.steps.made.none;
   is = is_before z r t m u x after a R.steps.made.made.steps R.is L.made L.kept;
 }
 
 pub flushed : (w z t m key : ℕ) (v u x after : View) (a : Flush) → z ≡ w → (r : ℕ) → r ≡ z
-    → (S : FlushSteps w v u) → Finalises w t m key S.steps → RetiresNone S.steps
-    → WroteBelow key u.trail → Retired z t m u a x → QuietSteps r x after → Flushes w t v a after
-flushed w z t m key v u x after a same r number S F K W R L =
+    → (S : FlushSteps w t v u) → Finalises w t m key S.steps → RetiresNone S.steps
+    → opens t S.steps ≤ 1 → WroteBelow key u.trail → Retired z t m u a x → QuietSteps r t x after
+    → Flushes w t v a after
+flushed w z t m key v u x after a same r number S F K one_most W R L =
     let B = retired_on r z t m u x after a number R L in
     let E = subst (λ k. RetiredBy k t m u a after) same B in
     let made = next w w v u after refl S E.made in record {
       steps = made;
+      opened = let none = none_opened t E.made.steps E.none in
+          let all = opens_both t E.made.steps S.steps in
+          let may = may_open w t m u after a E.made.steps E.is in
+          omega (arith, one_most, none, all, may);
       list = same_list w v after made;
       is = flushed_is w t m key v u after a E.made.steps S F K
           (still_wrote w key u after E.made W) E.is;
@@ -200,14 +222,16 @@ left_is w t m v u after a OutOfMemory steps is none I =
     (waits_none w t steps none)
 
 pub left_then : (w z t m : ℕ) (v u after : View) (a told : Flush) → z ≡ w
-    → Some a ≡ unless_retired told → Retired w t m v told u → QuietSteps z u after
+    → Some a ≡ unless_retired told → Retired w t m v told u → QuietSteps z t u after
     → Flushes w t v a after
 left_then w z t m v u after a told same is R L = let S = R.steps.made in
-    let made = next w z v u after same S.made L.made in record {
+    let made = next w z v u after same S.made L.made in
+    let none = none_both L.made.steps S.made.steps L.none S.none in record {
       steps = made;
+      opened = let no_more = none_opened t (L.made.steps ++ S.made.steps) none in
+          omega (arith, no_more);
       list = same_list w v after made;
-      is = left_is w t m v after after a told (L.made.steps ++ S.made.steps) is
-          (none_both L.made.steps S.made.steps L.none S.none)
+      is = left_is w t m v after after a told (L.made.steps ++ S.made.steps) is none
           (is_before w z t m v u after told S.made.steps R.is L.made L.kept);
     }
 
@@ -226,7 +250,7 @@ left_turn w t m v after a OutOfMemory is R =
 -- ---- an answer behind steps that switched nothing
 
 is_later : (w t : ℕ) (v u after : View) (a : Flush) (steps : List OwnStep)
-    (Q : UnswitchedSteps w v u) → GotTurn a → IsFlush w t u a steps after
+    (Q : UnswitchedSteps w t v u) → GotTurn a → IsFlush w t u a steps after
     → IsFlush w t v a (steps ++ Q.made.steps) after
 is_later w t v u after (Flushed lower upper) steps Q got I = (
   I.0,
@@ -286,11 +310,14 @@ is_later w t v u after (Stopped at_open now) steps Q got I = (
 )
 is_later w t v u after OutOfMemory steps Q got I = waits_behind w t steps Q.made.steps Q.none I
 
-pub later : (w z t : ℕ) (v u after : View) (a : Flush) → z ≡ w → UnswitchedSteps w v u → GotTurn a
+pub later : (w z t : ℕ) (v u after : View) (a : Flush) → z ≡ w → UnswitchedSteps w t v u → GotTurn a
     → Flushes z t u a after → Flushes w t v a after
 later w z t v u after a same Q got R = let S = subst (λ k. Flushes k t u a after) same R in
     let made = next w w v u after refl Q.made S.steps in record {
       steps = made;
+      opened = let none = none_opened t Q.made.steps Q.none in
+          let all = opens_both t S.steps.steps Q.made.steps in let most = S.opened in
+          omega (arith, none, all, most);
       list = same_list w v after made;
       is = is_later w t v u after a S.steps.steps Q got S.is;
     }
@@ -300,8 +327,10 @@ later w z t v u after a same Q got R = let S = subst (λ k. Flushes k t u a afte
 pub busy : (w n : ℕ) (t : Table) (v after : View)
     → Did v w (Look w (TurnWord (FlushTurn t))) n after → n ≡ 1 → Flushes w t.0 v (Busy n) after
 busy w n t v after d is = let e = Look w (TurnWord (FlushTurn t)) in
-    let made = one w e n _ v after refl (record { view = d.view; was = d.was }) in record {
+    let made = one {t = t.0} w e n _ v after refl (record { view = d.view; was = d.was }) in
+    record {
       steps = made;
+      opened = let none = none_opened t.0 made.steps (tt, tt) in omega (arith, none);
       list = same_list w v after made;
       is = (
         is,
@@ -312,11 +341,12 @@ busy w n t v after d is = let e = Look w (TurnWord (FlushTurn t)) in
     }
 
 pub full : (w z t n : ℕ) (v u after : View) → z ≡ w → FindsMemtables t (Full n) v u w
-    → QuietSteps z u after → Flushes w t v (Rows Memtables (n + 1)) after
+    → QuietSteps z t u after → Flushes w t v (Rows Memtables (n + 1)) after
 full w z t n v u after same F L = let Q = then_quiet w z v u after same F.0 L in
     let oldest = CursorWord (OldestLive (record { 0 = t })) in
     let newest = Newest (record { 0 = t }) in let all = F.1 in record {
       steps = Q.made;
+      opened = let none = none_opened t Q.made.steps Q.none in omega (arith, none);
       list = same_list w v after Q.made;
       is = (
         n,

@@ -121,7 +121,7 @@ is_small (Put by cursor value) is = absurd is
 
 -- What steps on the words of tables leave of a seat that holds a table's turn.
 pub record TableSteps (w t : ℕ) (v after : View) : Type 0 where
-  pub made : FlushSteps w v after
+  pub made : FlushSteps w t v after
   pub sync : after.part.sync ≡ v.part.sync
   pub hands : after.hands ≡ v.hands
   pub holder : IsHolder t v → IsHolder t after
@@ -142,7 +142,7 @@ holder_still t e v after P C size H = record {
 }
 
 abbrev pub on_table : (w t : ℕ) (e : Event) (n : ℕ) (v after : View) → IsTableStep e
-    → IsFlushStep w e → Did v w e n after → TableSteps w t v after
+    → IsFlushStep w t e → Did v w e n after → TableSteps w t v after
 on_table w t e n v after kind is d = let P = is_small e kind in
     let told = told_by None v.hands in record {
       made = one w e n v.hands v after is (record { view = d.view; was = d.was });

@@ -24,7 +24,22 @@ use Rattle.op_core.specs.declared.count.Order.TheVariants.{Write, Append}
 use Rattle.path_core.specs.declared.event.Carried.TheVariants.{Nothing, Applied}
 use Rattle.path_core.specs.declared.event.ClaimKind.TheVariants.{Entry}
 use Rattle.path_core.specs.declared.event.Event.{Event}
-use Rattle.path_core.specs.declared.event.Event.TheVariants.{Look, Register, Claim, Close}
+use Rattle.path_core.specs.declared.event.Event.TheVariants.{
+  Look,
+  Register,
+  Close,
+  OpenGroup,
+  MoveCurrent,
+  Expire,
+  Advance,
+  Claim,
+  Switch,
+  Raise,
+  Finalise,
+  TakeTurn,
+  GiveTurn,
+  Put,
+}
 use Rattle.path_core.specs.declared.event.Place.TheVariants.{Count, Current, Log}
 use Rattle.path_rule.specs.declared.table.Member.{Member}
 use Rattle.path_rule.specs.declared.view.OwnStep.{OwnStep}
@@ -33,27 +48,43 @@ use Rattle.path_rule.specs.declared.view.View.{View}
 use Rattle.path_rule.specs.Calls.{Did, Started}
 use Rattle.write_path.specs.declared.deposited.Deposited.{Deposited}
 use Rattle.write_path.specs.Claims.{IsClaim, IsAgain, IsSpent}
-use Rattle.write_path.specs.Commits.{KeepsList}
-use Rattle.write_path.specs.Ends.{writes_of, EndsWrite}
+use Rattle.write_path.specs.Commits.{KeepsMemtables}
+use Rattle.write_path.specs.Ends.{writes_of, AreTries, EndsWrite, IsTry}
+use Rattle.write_path.specs.FlushSteps.{RetiresNo, RetiresNone, SwitchesNo, SwitchesNone}
 use Rattle.write_path.specs.Grown.{HasGrown}
 use Rattle.write_path.specs.Tries.{Stays, Joined, OnlyLooked}
+use Rattle.write_path.specs.Unretired.{GrowsUnretired}
+use Rattle.write_path.proofs.SwitchGoes.{kept_both, none_both}
 
 -- by no step, by one, and by those of two calls
 pub unmoved : (a b : List OwnStep) → b ≡ a → HasGrown a b
 unmoved a b same = record { newer = []; is = same }
 
-pub both : (a b c : List OwnStep) → HasGrown a b → HasGrown b c → HasGrown a c
+abbrev pub both : (a b c : List OwnStep) → HasGrown a b → HasGrown b c → HasGrown a c
 both a b c G H = record {
   newer = H.newer ++ G.newer;
   is = H.is ∙ (ap (λ l. H.newer ++ l) G.is ∙ sym (append_assoc H.newer G.newer a));
 }
 
-pub one_step : (v : View) (w : ℕ) (e : Event) (n : ℕ) (after : View) → Did v w e n after
-    → HasGrown v.trail after.trail
-one_step v w e n after D = record {
-  newer = record { event = e; found = n; filed = None } ∷ [];
-  is = ap (λ (u : View). u.trail) D.view;
-}
+-- the same of steps that retire no memtable, and switch none
+pub then_kept : (a b c : List OwnStep) → GrowsUnretired a b → GrowsUnretired b c
+    → GrowsUnretired a c
+then_kept a b c G H = (
+  both a b c G.0 H.0,
+  kept_both H.0.newer G.0.newer H.1 G.1,
+  none_both H.0.newer G.0.newer H.2 G.2,
+)
+
+pub one_step : (v : View) (w : ℕ) (e : Event) (n : ℕ) (after : View) → RetiresNo e
+    → SwitchesNo e → Did v w e n after → GrowsUnretired v.trail after.trail
+one_step v w e n after keeps leaves D = (
+  record {
+    newer = record { event = e; found = n; filed = None } ∷ [];
+    is = ap (λ (u : View). u.trail) D.view;
+  },
+  (keeps, tt),
+  (leaves, tt),
+)
 
 -- so it is as long at least
 pub no_shorter : (a b : List OwnStep) → HasGrown a b → length a ≤ length b
@@ -63,24 +94,61 @@ no_shorter a b G = let long = ap (λ (l : List OwnStep). length l) G.is in
 abbrev step : Event → ℕ → OwnStep
 step e n = record { event = e; found = n; filed = None }
 
+-- tries at memtables retire none
+try_keeps : (w : ℕ) (e : Event) → IsTry w e → RetiresNo e
+try_keeps w (Look by at) is = tt
+try_keeps w (Raise by t m to) is = tt
+try_keeps w (Register by o g) is = tt
+try_keeps w (Close by o g carried) is = tt
+try_keeps w (OpenGroup by o g) is = tt
+try_keeps w (MoveCurrent by o g) is = tt
+try_keeps w (Expire by o g) is = tt
+try_keeps w (Advance by o g) is = tt
+try_keeps w (Claim by from to what) is = tt
+try_keeps w (Switch by t m part) is = tt
+try_keeps w (Finalise by t m) is = tt
+try_keeps w (TakeTurn by turn) is = tt
+try_keeps w (GiveTurn by turn) is = tt
+try_keeps w (Put by cursor value) is = absurd is
+
+tries_keep : (w : ℕ) (ts : List OwnStep) → AreTries w ts → RetiresNone ts
+tries_keep w [] A = tt
+tries_keep w (t ∷ ts) A = (try_keeps w t.event A.0, tries_keep w ts A.1)
+
+-- nor do they switch one
+try_leaves : (w : ℕ) (e : Event) → IsTry w e → SwitchesNo e
+try_leaves w (Switch by t m part) is = absurd is
+try_leaves w (Finalise by t m) is = absurd is
+try_leaves w e is = tt
+
+tries_leave : (w : ℕ) (ts : List OwnStep) → AreTries w ts → SwitchesNone ts
+tries_leave w [] A = tt
+tries_leave w (t ∷ ts) A = (try_leaves w t.event A.0, tries_leave w ts A.1)
+
 -- a write that ends, by its looks and its last step
 pub ended : {K : Type 0} (s : Deposited K) (after : Member K) → EndsWrite s after
-    → HasGrown s.member.seat.me.0.trail after.seat.me.0.trail
-ended s after E = both s.member.seat.me.0.trail E.before.trail after.seat.me.0.trail
-    (record { newer = E.tried.tries; is = E.tried.trail })
+    → GrowsUnretired s.member.seat.me.0.trail after.seat.me.0.trail
+ended s after E = then_kept s.member.seat.me.0.trail E.before.trail after.seat.me.0.trail (
+  record { newer = E.tried.tries; is = E.tried.trail },
+  tries_keep s.member.number E.tried.tries E.tried.are,
+  tries_leave s.member.number E.tried.tries E.tried.are,
+)
     (one_step E.before s.member.number (Close s.member.number Write s.writing (Applied E.places))
-    E.found after.seat.me.0 E.did)
+    E.found after.seat.me.0 tt tt E.did)
 
 -- ---- by the single tries, which leave the list
 
 module _ {K : Type 0} (id : TableId) (size : PathSize) (m m' : Member K)
     (stays : Stays id size m m') where
   by : (u : View) (newer : List OwnStep) → m'.seat.me.0 ≡ u → u.trail ≡ newer ++ m.seat.me.0.trail
-      → writes_of u.trail ≡ writes_of m.seat.me.0.trail → KeepsList id size m m'
-  by u newer view trail list = (
+      → writes_of u.trail ≡ writes_of m.seat.me.0.trail → RetiresNone newer
+      → SwitchesNone newer → KeepsMemtables id size m m'
+  by u newer view trail list kept leaves = (
     stays,
     ap (λ (v : View). writes_of v.trail) view ∙ list,
     record { newer = newer; is = ap (λ (v : View). v.trail) view ∙ trail },
+    kept,
+    leaves,
   )
 
   -- a look at the current group of an order and one at its count
@@ -88,51 +156,55 @@ module _ {K : Type 0} (id : TableId) (size : PathSize) (m m' : Member K)
   looks o g k = step (Look m.number (Count o g)) k ∷ step (Look m.number (Current o)) g ∷ []
 
   pub started : (g : ℕ) → Started m.seat.me.0 m.number Write g m'.seat.me.0
-      → KeepsList id size m m'
+      → KeepsMemtables id size m m'
   started g S = by _ (step (Register m.number Write g) (S.looked + 1) ∷ looks Write g S.looked)
-      S.did.view refl refl
+      S.did.view refl refl (tt, (tt, (tt, tt))) (tt, (tt, (tt, tt)))
 
-  pub joined : (g : ℕ) → Joined m.seat.me.0 m.number g m'.seat.me.0 → KeepsList id size m m'
+  pub joined : (g : ℕ) → Joined m.seat.me.0 m.number g m'.seat.me.0 → KeepsMemtables id size m m'
   joined g J = by _ (step (Register m.number Append g) (J.looked + 1) ∷ looks Append g J.looked)
-      J.did.view refl refl
+      J.did.view refl refl (tt, (tt, (tt, tt))) (tt, (tt, (tt, tt)))
 
   pub only_looked : (o : Order) (k n : ℕ)
-      → OnlyLooked o m.seat.me.0 m.number k n m'.seat.me.0 → KeepsList id size m m'
+      → OnlyLooked o m.seat.me.0 m.number k n m'.seat.me.0 → KeepsMemtables id size m m'
   only_looked o k n L = let g = L.refused.group in ⊎_elim
-      (λ once. by _ (looks o g k) once refl refl)
-      (λ again. by _ (step (Look m.number (Count o g)) n ∷ looks o g k) again refl refl)
+      (λ once. by _ (looks o g k) once refl refl (tt, (tt, tt)) (tt, (tt, tt)))
+      (λ again. by _ (step (Look m.number (Count o g)) n ∷ looks o g k) again refl refl
+      (tt, (tt, (tt, tt))) (tt, (tt, (tt, tt))))
       L.refused.view
 
-  pub claimed : (to : ℕ) → IsClaim m.seat.me.0 m.number to m'.seat.me.0 → KeepsList id size m m'
+  pub claimed : (to : ℕ) → IsClaim m.seat.me.0 m.number to m'.seat.me.0
+      → KeepsMemtables id size m m'
   claimed to C = by _ (step (Claim m.number (record { 0 = C.looked }) (record { 0 = to }) Entry) to
-      ∷ step (Look m.number Log) C.looked ∷ []) C.did.view refl refl
+      ∷ step (Look m.number Log) C.looked ∷ []) C.did.view refl refl (tt, (tt, tt)) (tt, (tt, tt))
 
   pub again : (bytes k n : ℕ) → IsAgain size m.seat.me.0 m.number bytes k n m'.seat.me.0
-      → KeepsList id size m m'
-  again bytes k n A = by _ (step (Look m.number Log) n ∷ step (Look m.number Log) k ∷ []) A.view refl
-      refl
+      → KeepsMemtables id size m m'
+  again bytes k n A = by _ (step (Look m.number Log) n ∷ step (Look m.number Log) k ∷ []) A.view
+      refl refl (tt, (tt, tt)) (tt, (tt, tt))
 
   pub spent : (bytes key : ℕ) → IsSpent size m.seat.me.0 m.number bytes key m'.seat.me.0
-      → KeepsList id size m m'
-  spent bytes key S = by _ (step (Look m.number Log) key ∷ []) S.view refl refl
+      → KeepsMemtables id size m m'
+  spent bytes key S = by _ (step (Look m.number Log) key ∷ []) S.view refl refl (tt, tt) (tt, tt)
 
   -- a seat that leaves an order with nothing
   pub left : (o : Order) (g n : ℕ)
       → Did m.seat.me.0 m.number (Close m.number o g Nothing) n m'.seat.me.0
-      → KeepsList id size m m'
-  left o g n D = by _ (step (Close m.number o g Nothing) n ∷ []) D.view refl refl
+      → KeepsMemtables id size m m'
+  left o g n D = by _ (step (Close m.number o g Nothing) n ∷ []) D.view refl refl (tt, tt) (tt, tt)
 
 -- ---- by calls one behind another
 
 pub keeps_on : {K : Type 0} (id : TableId) (size : PathSize) (m m' m'' : Member K)
-    → KeepsList id size m m' → KeepsList id size m' m'' → KeepsList id size m m''
+    → KeepsMemtables id size m m' → KeepsMemtables id size m' m'' → KeepsMemtables id size m m''
 keeps_on id size m m' m'' A B = (
   (B.0.0, B.0.1 ∙ A.0.1),
   B.1 ∙ A.1,
   both m.seat.me.0.trail m'.seat.me.0.trail m''.seat.me.0.trail A.2 B.2,
+  kept_both B.2.newer A.2.newer B.3 A.3,
+  none_both B.2.newer A.2.newer B.4 A.4,
 )
 
 -- a seat that made no step, as a call begins
 pub keeps_first : {K : Type 0} (id : TableId) (size : PathSize) (m : Member K)
-    → (m.seat.table_id ≡ id) × (m.seat.me.0.size ≡ size) → KeepsList id size m m
-keeps_first id size m of = ((of, refl), refl, unmoved m.seat.me.0.trail m.seat.me.0.trail refl)
+    → (m.seat.table_id ≡ id) × (m.seat.me.0.size ≡ size) → KeepsMemtables id size m m
+keeps_first id size m of = ((of, refl), refl, record { newer = []; is = refl }, tt, tt)

@@ -13,7 +13,9 @@ pub mod Histories
 pub mod Accounted
 pub mod FewSegments
 pub mod FewGroups
+pub mod BarredMemtables
 pub mod FewWriteGroups
+pub mod SeatsOpen
 pub mod NonePassed
 pub mod Parted
 pub mod CoveredFiles
@@ -36,6 +38,7 @@ pub mod Promises
 pub mod FlushPromises
 pub mod RetirePromises
 pub mod Spending
+pub mod FullRows
 pub mod FlushHeld
 pub mod FlushGoes
 pub mod FlushTables
@@ -49,6 +52,7 @@ pub mod FlushBarring
 pub mod FlushReading
 pub mod FlushRetires
 pub mod SwitchGoes
+pub mod StepsOpen
 pub mod FilingGoes
 pub mod FilingTurns
 pub mod FilingGathers
@@ -56,3 +60,5 @@ pub mod FilingPuts
 pub mod FilingRounds
 pub mod FinalKeys
 pub mod FlushAnswers
+pub mod FlushOwn
+pub mod OnlyFlushes

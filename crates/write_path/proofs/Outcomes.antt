@@ -92,6 +92,7 @@ use Rattle.write_path.specs.Closed.{
   AreSyncedFor,
   ArePartedFor,
   FindsGroupsTo,
+  FindsNewestTo,
   FindsWriteGroupsTo,
   HasComeFor,
   all_writes,
@@ -106,6 +107,7 @@ use Rattle.write_path.proofs.CoveredFiles.{covers, ranges_shown, true_as_shown}
 use Rattle.write_path.proofs.FewGroups.{few_groups}
 use Rattle.write_path.proofs.FewWriteGroups.{few_write_groups}
 use Rattle.write_path.proofs.FewSegments.{few_segments}
+use Rattle.write_path.proofs.SeatsOpen.{few_opened}
 use Rattle.write_path.proofs.FilesGiven.{CameBy, files_given}
 use Rattle.write_path.proofs.ToldFiles.{are_given, stand_for_some}
 use Rattle.path_rule.proofs.log.FilesShown.{few_files}
@@ -268,6 +270,10 @@ module _ {K : Type 0} (size : PathSize) where
               (λ (s : PathSeat K). TrailTells size.capacity x (view_of s.member).trail)
               (FindsWriteGroupsTo most_memtables) (λ s T g F. let low = T.current Write g F in
               omega (arith, low, most)) seats E.tell;
+          found_newest = let most = few_opened size e.events x seats e.run many all E.own in
+              known_of x (λ (s : PathSeat K). TrailTells size.capacity x (view_of s.member).trail)
+              (FindsNewestTo seats) (λ s T t last F. let low = T.newest (record { 0 = t }) last F in
+              let up = most t in omega (arith, low, up)) seats E.tell;
           none_passed = λ key. first_part x.capacity L.sized.limits.greatest_capacity key x.notes
               (is_history x L.claims_tile_the_log L.notes_are_claims) (none_passed x L idle);
           synced_is = synced;
@@ -464,6 +470,8 @@ module _ {K : Type 0} (size : PathSize) where
           few_write_groups = subst (λ (l : List (PathSeat K)).
               All (FindsWriteGroupsTo most_memtables) l) (sym (no_seat seats none_there))
               (All-nil (FindsWriteGroupsTo most_memtables));
+          found_newest = subst (λ (l : List (PathSeat K)). All (FindsNewestTo l) l)
+              (sym (no_seat seats none_there)) (All-nil (FindsNewestTo []));
           parted = subst (λ (l : List (PathSeat K)). All (ArePartedFor size.capacity []) l)
               (sym (no_seat seats none_there)) (All-nil (ArePartedFor size.capacity []));
           sealed = subst (λ (l : List (PathSeat K)). All (λ (s : PathSeat K).

@@ -179,9 +179,9 @@ pub kept_both : (ts us : List OwnStep) → RetiresNone ts → RetiresNone us →
 kept_both [] us A B = B
 kept_both (t ∷ ts) us A B = (A.0, kept_both ts us A.1 B)
 
-abbrev pub then_quiet : (w z : ℕ) (v u after : View) → z ≡ w → QuietSteps w v u
-    → QuietSteps z u after → QuietSteps w v after
-then_quiet w z v u after same A B = record {
+abbrev pub then_quiet : {t : ℕ} (w z : ℕ) (v u after : View) → z ≡ w → QuietSteps w t v u
+    → QuietSteps z t u after → QuietSteps w t v after
+then_quiet {t} w z v u after same A B = record {
   made = next w z v u after same A.made B.made;
   none = none_both B.made.steps A.made.steps B.none A.none;
   kept = kept_both B.made.steps A.made.steps B.kept A.kept;
@@ -229,9 +229,9 @@ pub round_kept : (w : ℕ) (ts : List OwnStep) → AreRoundSteps w ts → Retire
 round_kept w [] A = tt
 round_kept w (t ∷ ts) A = (round_retires w t.event A.0, round_kept w ts A.1)
 
-abbrev pub quiet_round : (w : ℕ) (puts : List Event) (v after : View) → RoundSteps w puts v after
-    → QuietSteps w v after
-quiet_round w puts v after S = record {
+abbrev pub quiet_round : {t : ℕ} (w : ℕ) (puts : List Event) (v after : View)
+    → RoundSteps w puts v after → QuietSteps w t v after
+quiet_round {t} w puts v after S = record {
   made = of_round w puts v after S;
   none = round_none w S.steps S.are;
   kept = round_kept w S.steps S.are;
@@ -267,7 +267,7 @@ settled_had w t m key v (Rows row made) after I = absurd I
 
 -- ---- a memtable that was retired behind further steps
 
-pub retires_behind : (w z t m : ℕ) (v u after : View) → z ≡ w → FlushSteps w v u
+pub retires_behind : (w z t m : ℕ) (v u after : View) → z ≡ w → FlushSteps w t v u
     → RetiresEmpty z t m u after → RetiresEmpty w t m v after
 retires_behind w z t m v u after same S R =
     let E = subst (λ k. RetiresEmpty k t m u after) same R in (
@@ -299,7 +299,7 @@ bound_set w t m key found newer older after is F W = record {
 
 -- what is so of the memtable that was switched
 pub settled_is : (w z t m key : ℕ) (v u after : View) (a : Switch) (newer : List OwnStep)
-    (S : FlushSteps w v u) → z ≡ w → Finalises w t m key S.steps → WroteBelow key after.trail
+    (S : FlushSteps w t v u) → z ≡ w → Finalises w t m key S.steps → WroteBelow key after.trail
     → IsSettled z t m key u a after → IsSwitch w t v a (newer ++ S.steps) after
 settled_is w z t m key v u after (Empty found) newer S same F W I = (
   m,
@@ -321,8 +321,9 @@ bound_behind w t m key newer older after B = record {
   covers = B.covers;
 }
 
-is_behind : (w t : ℕ) (v u after : View) (a : Switch) (steps : List OwnStep) (Q : QuietSteps w v u)
-    → HadTurn a → IsSwitch w t u a steps after → IsSwitch w t v a (steps ++ Q.made.steps) after
+is_behind : (w t : ℕ) (v u after : View) (a : Switch) (steps : List OwnStep)
+    (Q : QuietSteps w t v u) → HadTurn a → IsSwitch w t u a steps after
+    → IsSwitch w t v a (steps ++ Q.made.steps) after
 is_behind w t v u after (Empty key) steps Q had I = (
   I.0,
   bound_behind w t I.0 key.0 steps Q.made.steps after I.1,
@@ -366,7 +367,7 @@ is_behind w t v u after (Rows AppendGroups made) steps Q had I = (
   ),
 )
 
-pub behind : (w z t : ℕ) (v u after : View) (a : Switch) → z ≡ w → QuietSteps w v u → HadTurn a
+pub behind : (w z t : ℕ) (v u after : View) (a : Switch) → z ≡ w → QuietSteps w t v u → HadTurn a
     → Switches z t u a after → Switches w t v a after
 behind w z t v u after a same Q had R = let S = subst (λ k. Switches k t u a after) same R in
     let made = next w w v u after refl Q.made S.steps in record {
@@ -380,7 +381,8 @@ behind w z t v u after a same Q had R = let S = subst (λ k. Switches k t u a af
 pub busy_is : (w n : ℕ) (t : Table) (v after : View) → Did v w (Look w (TurnWord (Flush t))) n after
     → n ≡ 1 → Switches w t.0 v (Busy n) after
 busy_is w n t v after d is = let e = Look w (TurnWord (Flush t)) in
-    let made = one w e n _ v after refl (record { view = d.view; was = d.was }) in record {
+    let made = one {t = t.0} w e n _ v after refl (record { view = d.view; was = d.was }) in
+    record {
       steps = made;
       list = same_list w v after made;
       is = (
@@ -391,8 +393,8 @@ busy_is w n t v after d is = let e = Look w (TurnWord (Flush t)) in
       );
     }
 
-pub waits_is : (w z y t m : ℕ) (v u x after : View) → z ≡ w → y ≡ w → QuietSteps w v u
-    → FindsMemtables t (LeftOne m) u x z → QuietSteps y x after → Switches w t v (Waits m) after
+pub waits_is : (w z y t m : ℕ) (v u x after : View) → z ≡ w → y ≡ w → QuietSteps w t v u
+    → FindsMemtables t (LeftOne m) u x z → QuietSteps y t x after → Switches w t v (Waits m) after
 waits_is w z y t m v u x after first second T F L =
     let Q = then_quiet w y v x after second (then_quiet w z v u x first T F.0) L in
     let oldest = CursorWord (OldestLive (record { 0 = t })) in
@@ -412,8 +414,8 @@ waits_is w z y t m v u x after first second T F L =
       );
     }
 
-pub full_is : (w z y t n : ℕ) (v u x after : View) → z ≡ w → y ≡ w → QuietSteps w v u
-    → FindsMemtables t (Full n) u x z → QuietSteps y x after
+pub full_is : (w z y t n : ℕ) (v u x after : View) → z ≡ w → y ≡ w → QuietSteps w t v u
+    → FindsMemtables t (Full n) u x z → QuietSteps y t x after
     → Switches w t v (Rows Memtables (n + 1)) after
 full_is w z y t n v u x after first second T F L =
     let Q = then_quiet w y v x after second (then_quiet w z v u x first T F.0) L in

@@ -17,14 +17,14 @@ use Rattle.std.specs.Prelude.{
   Some,
   None,
 }
-use Rattle.std.specs.List.{All, Contains, filter, flat_map, range_with_len}
+use Rattle.std.specs.List.{All, Contains, filter, flat_map, range_with_len, sum_by}
 use Rattle.std.specs.List.Sorted.{IsPermutation}
 use Rattle.atomic_table.specs.Seated.{TableId}
 use Rattle.clog_cells.specs.Merge.{IsMergeOf}
 use Rattle.op_core.specs.declared.count.Order.TheVariants.{Append, Write}
 use Rattle.path_core.specs.declared.event.Cursor.TheVariants.{Synced, Stopped}
 use Rattle.path_core.specs.declared.event.Event.{Event}
-use Rattle.path_core.specs.declared.event.Place.TheVariants.{Current, CursorWord, Log}
+use Rattle.path_core.specs.declared.event.Place.TheVariants.{Current, CursorWord, Log, Newest}
 use Rattle.path_core.specs.declared.note.EntryNote.{EntryNote}
 use Rattle.path_core.specs.declared.state.PathState.{PathState}
 use Rattle.path_core.specs.Droppable.{IsDroppable}
@@ -57,6 +57,7 @@ use Rattle.write_path.specs.ClosedFiles.{
   held_range,
 }
 use Rattle.write_path.specs.Ends.{writes_of}
+use Rattle.write_path.specs.Opens.{opens}
 use Rattle.write_path.specs.Sealed.{AreSealed, AreSealedApart}
 
 -- A path is closed with all of its seats, in whatever order, or with none where they were not
@@ -77,6 +78,16 @@ module _ {K : Type 0} where
   -- the seats' lists of their own writes, together
   abbrev pub all_writes : List (PathSeat K) → List EntryNote
   all_writes seats = flat_map (λ (s : PathSeat K). writes_of s.member.seat.me.0.trail) seats
+
+  -- how many memtables of a table the seats opened, together
+  abbrev pub all_opened : ℕ → List (PathSeat K) → ℕ
+  all_opened t seats = sum_by (λ (z : PathSeat K). opens t (view_of z.member).trail) seats
+
+  -- Each memtable that a seat found as a table's newest is one that these seats opened, or one
+  -- below it, or memtable 0.
+  abbrev pub FindsNewestTo : List (PathSeat K) → PathSeat K → Type 0
+  FindsNewestTo seats s = (t last : ℕ)
+      → Finds (Newest (record { 0 = t })) last (view_of s.member).trail → last ≤ all_opened t seats
 
 -- A seat last found or put this synced key, or none, and the keeper has at least so much.
 abbrev pub IsSyncedFor : {K : Type 0} → Holding → PathSeat K → Type 0
@@ -169,6 +180,9 @@ pub record IsOutcome {K : Type 0} (size : PathSize) (seats : List (PathSeat K)) 
   pub few_groups : All (FindsGroupsTo (length core.notes)) seats
   -- and at most one group of the write order for each memtable that there is a word for
   pub few_write_groups : All (FindsWriteGroupsTo most_memtables) seats
+  -- a memtable that a seat found as a table's newest has at most the number of those that the seats
+  -- opened
+  pub found_newest : All (FindsNewestTo seats) seats
   -- its first entries pass over no segment, up to whatever key
   pub none_passed : (key : ℕ) → PassesNoSegment (filter (is_at_most key) core.notes)
   -- the keeper has what the run made lasting

@@ -15,6 +15,7 @@ use Rattle.write_path.specs.declared.prepared.Prepared.{Prepared}
 use Rattle.write_path.specs.declared.writing.Written.{Written}
 use Rattle.write_path.specs.declared.writing.Written.TheVariants.{Logged, Spent}
 use Rattle.write_path.specs.Ends.{writes_of, IsListed}
+use Rattle.write_path.specs.FlushSteps.{RetiresNone, SwitchesNone}
 use Rattle.write_path.specs.Grown.{HasGrown}
 use Rattle.write_path.specs.Tries.{Stays}
 
@@ -23,6 +24,13 @@ abbrev pub KeepsList : {K : Type 0} → TableId → PathSize → Member K → Me
 KeepsList id size m m' = Stays id size m m'
     × (writes_of m'.seat.me.0.trail ≡ writes_of m.seat.me.0.trail)
     × HasGrown m.seat.me.0.trail m'.seat.me.0.trail
+
+-- The same by steps that retire no memtable, and switch none.
+abbrev pub KeepsMemtables : {K : Type 0} → TableId → PathSize → Member K → Member K → Type 0
+KeepsMemtables id size m m' = Stays id size m m'
+    × (writes_of m'.seat.me.0.trail ≡ writes_of m.seat.me.0.trail)
+    × (g : HasGrown m.seat.me.0.trail m'.seat.me.0.trail) × RetiresNone g.newer
+    × SwitchesNone g.newer
 
 -- The seat found this log key, at a step behind its first `since` ones. At the key an entry of so
 -- many bytes has no segment.
@@ -37,19 +45,21 @@ abbrev pub WritesEndBelow : ℕ → List OwnStep → Type 0
 WritesEndBelow key trail = (n : EntryNote) → Contains (writes_of trail) n → n.end.0 ≤ key
 
 -- A write with this range was logged by seat w, behind all of its list: the list is the old one and
--- this write, and the trail has grown.
+-- this write, and the trail has grown by steps that retire no memtable, and switch none.
 pub record IsLogged (before : List OwnStep) (w start end : ℕ) (prepared : Prepared)
     (after : List OwnStep) : Type 0 where
   pub behind : WritesEndBelow start before
   pub tables : ℕ
   pub listed : IsListed before after w start end tables prepared
   pub grown : HasGrown before after
+  pub kept : RetiresNone grown.newer
+  pub unswitched : SwitchesNone grown.newer
 
--- What a write answers. Spent: it comes back, the list is as it was, the trail has grown, and the
--- key was found in this call.
+-- What a write answers. Spent: it comes back, the list is as it was, the trail has grown by steps
+-- that retire no memtable and switch none, and the key was found in this call.
 abbrev pub IsWritten : PathSize → ℕ → List OwnStep → Prepared → Written → View → Type 0
 IsWritten size w before prepared (Logged start end) v =
     IsLogged before w start.0 end.0 prepared v.trail
 IsWritten size w before prepared (Spent back key) v = (back ≡ prepared)
     × (writes_of v.trail ≡ writes_of before) × HasNoRoom size prepared.size (length before) key.0 v
-    × HasGrown before v.trail
+    × (g : HasGrown before v.trail) × RetiresNone g.newer × SwitchesNone g.newer

@@ -90,12 +90,12 @@ pub record AwaitsFile (seats t m bound : ℕ) (cells : List (CellKey × Cell)) (
 -- Seat w made steps by which no memtable is switched, and none is retired; the stage of its switch
 -- is as it was.
 pub record FilingSteps (w t : ℕ) (v after : View) : Type 0 where
-  pub made : QuietSteps w v after
+  pub made : QuietSteps w t v after
   pub stage : stage_of after.part t ≡ stage_of v.part t
 
 -- The same where one may be retired.
 pub record RetiringSteps (w t : ℕ) (v after : View) : Type 0 where
-  pub made : UnswitchedSteps w v after
+  pub made : UnswitchedSteps w t v after
   pub stage : stage_of after.part t ≡ stage_of v.part t
 
 -- ---- what becomes of a memtable

@@ -21,7 +21,7 @@ pub record HasRead (t m above count : ℕ) (h : Hands) : Type 0 where
 
 -- Seat w, which has the turn of table t, made steps that change what it has read alone.
 pub record ReadSteps (w t : ℕ) (v after : View) : Type 0 where
-  pub made : FlushSteps w v after
+  pub made : FlushSteps w t v after
   pub none : SwitchesNone made.steps
   pub kept : RetiresNone made.steps
   pub sync : after.part.sync ≡ v.part.sync

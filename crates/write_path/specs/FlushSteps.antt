@@ -1,4 +1,4 @@
--- The steps of a flush, and what its seat makes by them.
+-- The steps of a flush of a table, and what its seat makes by them.
 use Rattle.std.specs.Prelude.{
   ◌≡◌,
   ◌≢◌,
@@ -21,9 +21,13 @@ use Rattle.path_core.specs.declared.event.Event.TheVariants.{
   Close,
   Claim,
   Switch,
+  Raise,
   Finalise,
+  TakeTurn,
+  GiveTurn,
   Put,
 }
+use Rattle.path_core.specs.declared.event.Turn.TheVariants.{Flush}
 use Rattle.path_core.specs.declared.state.Bound.TheVariants.{Raising}
 use Rattle.path_core.specs.Words.{by_of}
 use Rattle.path_rule.specs.declared.lasting.PutTable.{PutTable}
@@ -37,22 +41,30 @@ use Rattle.path_rule.specs.Retires.{RetiresEmptyIn, RetiresFiledIn}
 use Rattle.path_rule.specs.Rule.{Was}
 use Rattle.write_path.specs.Grown.{HasGrown}
 
--- Seat w makes the step, by which it neither joins nor leaves an order, and claims no entry.
-abbrev pub IsFlushStep : ℕ → Event → Type 0
-IsFlushStep w (Register by order group) = ⊥
-IsFlushStep w (Close by order group carried) = ⊥
-IsFlushStep w (Claim by from to Entry) = ⊥
-IsFlushStep w e = by_of e ≡ w
+-- Seat w makes the step, by which it neither joins nor leaves an order, and claims no entry. One
+-- that switches a memtable, or raises its bound, or retires it, is of table t, and so is one that
+-- takes a Flush turn or gives it back.
+abbrev pub IsFlushStep : ℕ → ℕ → Event → Type 0
+IsFlushStep w t (Register by order group) = ⊥
+IsFlushStep w t (Close by order group carried) = ⊥
+IsFlushStep w t (Claim by from to Entry) = ⊥
+IsFlushStep w t (Switch by table memtable part) = (by ≡ w) × (table.0 ≡ t)
+IsFlushStep w t (Raise by table memtable to) = (by ≡ w) × (table.0 ≡ t)
+IsFlushStep w t (Finalise by table memtable) = (by ≡ w) × (table.0 ≡ t)
+IsFlushStep w t (TakeTurn by (Flush table)) = (by ≡ w) × (table.0 ≡ t)
+IsFlushStep w t (GiveTurn by (Flush table)) = (by ≡ w) × (table.0 ≡ t)
+IsFlushStep w t (Put by (OldestLive table) value) = (by ≡ w) × (table.0 ≡ t)
+IsFlushStep w t e = by_of e ≡ w
 
-abbrev pub AreFlushSteps : ℕ → List OwnStep → Type 0
-AreFlushSteps w [] = Unit {0}
-AreFlushSteps w (t ∷ ts) = IsFlushStep w t.event × AreFlushSteps w ts
+abbrev pub AreFlushSteps : ℕ → ℕ → List OwnStep → Type 0
+AreFlushSteps w t [] = Unit {0}
+AreFlushSteps w t (s ∷ ss) = IsFlushStep w t s.event × AreFlushSteps w t ss
 
 -- Seat w went from one view to another by such steps alone.
-pub record FlushSteps (w : ℕ) (v after : View) : Type 0 where
+pub record FlushSteps (w t : ℕ) (v after : View) : Type 0 where
   pub steps : List OwnStep
   pub trail : after.trail ≡ steps ++ v.trail
-  pub are : AreFlushSteps w steps
+  pub are : AreFlushSteps w t steps
   pub returned : after.returned ≡ v.returned
   pub size : after.size ≡ v.size
 
@@ -93,14 +105,15 @@ abbrev pub RetiresNone : List OwnStep → Type 0
 RetiresNone [] = Unit {0}
 RetiresNone (t ∷ ts) = RetiresNo t.event × RetiresNone ts
 
--- Seat w went from one view to another by steps of a flush, of which none is one of a switch.
-pub record UnswitchedSteps (w : ℕ) (v after : View) : Type 0 where
-  pub made : FlushSteps w v after
+-- Seat w went from one view to another by steps of a flush of table t, of which none is one of a
+-- switch.
+pub record UnswitchedSteps (w t : ℕ) (v after : View) : Type 0 where
+  pub made : FlushSteps w t v after
   pub none : SwitchesNone made.steps
 
 -- Nor does one of them retire a memtable.
-pub record QuietSteps (w : ℕ) (v after : View) : Type 0 where
-  pub made : FlushSteps w v after
+pub record QuietSteps (w t : ℕ) (v after : View) : Type 0 where
+  pub made : FlushSteps w t v after
   pub none : SwitchesNone made.steps
   pub kept : RetiresNone made.steps
 

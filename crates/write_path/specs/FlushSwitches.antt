@@ -1,5 +1,5 @@
 -- What a flush's switch of its table's memtables leaves.
-use Rattle.std.specs.Prelude.{◌≡◌, ℕ, suc, [], Some}
+use Rattle.std.specs.Prelude.{◌≡◌, ℕ, suc, ◌≤◌, [], Some}
 use Rattle.op_core.specs.declared.count.Order.TheVariants.{Write}
 use Rattle.path_core.specs.declared.event.Place.TheVariants.{Current}
 use Rattle.path_core.specs.declared.seat.Switching.TheVariants.{Waiting}
@@ -12,13 +12,15 @@ use Rattle.path_rule.specs.Rounds.{RoundSteps, WroteBelow}
 use Rattle.path_rule.specs.Switches.{FlushOldest}
 use Rattle.write_path.specs.FlushSteps.{FlushSteps, Finalises, RetiresNone}
 use Rattle.write_path.specs.FlushTurns.{IsDrained, IsHolder}
+use Rattle.write_path.specs.Opens.{opens}
 
--- Seat w made memtable m of table t final at a key, at or above which it wrote nothing. What it
--- knows of its boxes, and of the Sync turn, is what it knew.
+-- Seat w made memtable m of table t final at a key, at or above which it wrote nothing, and opened
+-- one memtable at most. What it knows of its boxes, and of the Sync turn, is what it knew.
 pub record MadeFinal (w t m key : ℕ) (v after : View) : Type 0 where
-  pub made : FlushSteps w v after
+  pub made : FlushSteps w t v after
   pub set : Finalises w t m key made.steps
   pub kept : RetiresNone made.steps
+  pub opened : opens t made.steps ≤ 1
   pub wrote : WroteBelow key after.trail
   pub holder : IsHolder t after
   pub sync : after.part.sync ≡ v.part.sync
@@ -30,9 +32,10 @@ pub record MadeFinal (w t m key : ℕ) (v after : View) : Type 0 where
 
 -- The barrier is passed since. What it knows of its boxes is what it knew.
 pub record SwitchedTo (w t m key : ℕ) (v after : View) : Type 0 where
-  pub made : FlushSteps w v after
+  pub made : FlushSteps w t v after
   pub set : Finalises w t m key made.steps
   pub kept : RetiresNone made.steps
+  pub opened : opens t made.steps ≤ 1
   pub wrote : WroteBelow key after.trail
   pub hands : after.hands ≡ v.hands
   pub drained : IsDrained t m key after

@@ -51,10 +51,10 @@ module _ {K : Type 0} where
 -- retired lies below the newest; or they are the same one, which is the last that has a word, or
 -- behind which there is a word for the next.
 abbrev pub FindsMemtables : ℕ → Memtables → View → View → ℕ → Type 0
-FindsMemtables t (Left m) v after w = (s : QuietSteps w v after)
+FindsMemtables t (Left m) v after w = (s : QuietSteps w t v after)
     × Finds (CursorWord (OldestLive (record { 0 = t }))) m s.made.steps
     × ((n : ℕ) × Finds (Newest (record { 0 = t })) n s.made.steps × (m ≢ n))
-FindsMemtables t (Full n) v after w = (s : QuietSteps w v after) × (n + 1 ≡ memtable_rows)
+FindsMemtables t (Full n) v after w = (s : QuietSteps w t v after) × (n + 1 ≡ memtable_rows)
     × Finds (Newest (record { 0 = t })) n s.made.steps
     × Finds (CursorWord (OldestLive (record { 0 = t }))) n s.made.steps
     × FlushOldest t after.part n × FlushNewest t after.part n
@@ -65,7 +65,7 @@ FindsMemtables t (Free n) v after w = FlushOldest t after.part n × FlushNewest 
 abbrev pub FindsNext : ℕ → Memtables → View → View → ℕ → Type 0
 FindsNext t (Left m) v after w = Unit {0}
 FindsNext t (Full n) v after w = Unit {0}
-FindsNext t (Free n) v after w = (s : QuietSteps w v after) × FindsFree t s.made.steps
+FindsNext t (Free n) v after w = (s : QuietSteps w t v after) × FindsFree t s.made.steps
 
 -- Where one was left, it is known as the least that is not retired, and another as the newest.
 abbrev pub KnowsLeft : ℕ → Memtables → View → Type 0

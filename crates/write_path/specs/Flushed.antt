@@ -1,5 +1,5 @@
 -- What a flush answers, and what is so then of its seat and the seat's list.
-use Rattle.std.specs.Prelude.{◌≡◌, ◌⊎◌, ℕ, suc, List, length}
+use Rattle.std.specs.Prelude.{◌≡◌, ◌⊎◌, ℕ, suc, ◌≤◌, List, length}
 use Rattle.path_core.specs.declared.event.Cursor.TheVariants.{Stopped as StoppedCursor}
 use Rattle.path_core.specs.declared.event.Place.TheVariants.{CursorWord, TurnWord}
 use Rattle.path_core.specs.declared.event.Turn.TheVariants.{Flush as FlushTurn}
@@ -25,6 +25,12 @@ use Rattle.write_path.specs.FlushSteps.{
   RetiresFiled,
   WaitsStill,
 }
+use Rattle.write_path.specs.declared.switch.Row.TheVariants.{
+  Memtables,
+  WriteGroups,
+  AppendGroups,
+}
+use Rattle.write_path.specs.Opens.{opens}
 use Rattle.write_path.specs.Switched.{FindsLast, SetsBound}
 
 -- What is so behind an answer to seat w, which made these steps, for a table t. Flushed, Empty: the
@@ -50,10 +56,23 @@ IsFlush w t v (Stopped at_open now) steps after =
     × (WaitsStill w t steps ⊎ FilesOne w t steps)
 IsFlush w t v OutOfMemory steps after = WaitsStill w t steps
 
--- A flush of table t by seat w answered this. The seat made steps of a flush alone, and its list is
--- as it was.
+-- How many memtables were opened at most behind an answer: none where nothing was switched, else
+-- one.
+abbrev pub opened_by : Flush → ℕ
+opened_by (Flushed lower upper) = 1
+opened_by (Empty key) = 1
+opened_by (Busy found) = 0
+opened_by (Rows Memtables made) = 0
+opened_by (Rows WriteGroups made) = 0
+opened_by (Rows AppendGroups made) = 1
+opened_by (Stopped at_open now) = 1
+opened_by OutOfMemory = 1
+
+-- A flush of table t by seat w answered this. The seat made steps of a flush of that table alone,
+-- by which it opened at most one memtable of it, and its list is as it was.
 pub record Flushes (w t : ℕ) (v : View) (answer : Flush) (after : View) : Type 0 where
-  pub steps : FlushSteps w v after
+  pub steps : FlushSteps w t v after
+  pub opened : opens t steps.steps ≤ opened_by answer
   pub list : writes_of after.trail ≡ writes_of v.trail
   pub is : IsFlush w t v answer steps.steps after
 

@@ -16,6 +16,8 @@ pub mod Commits
 pub mod Receipts
 pub mod Promised
 pub mod FlushSteps
+pub mod Opens
+pub mod Unretired
 pub mod Switched
 pub mod SwitchedRows
 pub mod FlushedRows

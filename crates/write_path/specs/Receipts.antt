@@ -33,6 +33,7 @@ use Rattle.write_path.specs.declared.commit.SyncFault.TheVariants.{
 use Rattle.write_path.specs.declared.prepared.Prepared.{Prepared}
 use Rattle.write_path.specs.Commits.{HasNoRoom, IsLogged}
 use Rattle.write_path.specs.Ends.{writes_of}
+use Rattle.write_path.specs.FlushSteps.{RetiresNone, SwitchesNone}
 use Rattle.write_path.specs.Grown.{HasGrown}
 use Rattle.write_path.specs.Sealed.{FoundWhileLast, IsSealed}
 use Rattle.write_path.specs.Syncs.{Syncs, CoversList}
@@ -82,7 +83,7 @@ IsToldBehind n (NoRows groups) trail =
 -- What a commit by seat w answers in a mode. A write waits for a sync in batch mode alone. Durable:
 -- it is sealed, so a marker stands behind it before the seat's next one. Spent: it comes back,
 -- the list is as it was, and the key was found in this call. In each case the seat's trail has
--- grown.
+-- grown by steps that retire no memtable, and switch none.
 abbrev pub IsCommitted : SyncCore → PathSize → ℕ → List OwnStep → Prepared → Commit → View → Type 0
 IsCommitted (Periodic period) size w before p (Logged r) v =
     HasReceipt size.base w before p r v.trail
@@ -97,7 +98,7 @@ IsCommitted Batch size w before p (Unsynced r fault) v =
     × IsToldBehind h.logged.listed.note fault v.trail
 IsCommitted mode size w before p (Spent back key) v = (back ≡ p)
     × (writes_of v.trail ≡ writes_of before) × HasNoRoom size p.size (length before) key.0 v
-    × HasGrown before v.trail
+    × (g : HasGrown before v.trail) × RetiresNone g.newer × SwitchesNone g.newer
 
 -- the answer of a sync to a write that it did not make lasting
 abbrev pub told_by : SyncFault → SyncAnswer

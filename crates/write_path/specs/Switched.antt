@@ -76,10 +76,10 @@ IsSwitch w t v (Busy found) steps after = (found ≡ 1)
 IsSwitch w t v (Rows row made) steps after =
     (last : ℕ) × (suc last ≡ made) × FindsLast row t last steps
 
--- A switch of table t by seat w answered this. The seat made steps of a flush alone, and its list
--- is as it was.
+-- A switch of table t by seat w answered this. The seat made steps of a flush of that table alone,
+-- and its list is as it was.
 pub record Switches (w t : ℕ) (v : View) (answer : Switch) (after : View) : Type 0 where
-  pub steps : FlushSteps w v after
+  pub steps : FlushSteps w t v after
   pub list : writes_of after.trail ≡ writes_of v.trail
   pub is : IsSwitch w t v answer steps.steps after
 

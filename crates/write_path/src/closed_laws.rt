@@ -26,9 +26,9 @@ ghost use Rattle.path_rule.specs.declared.view.View.{View};
 ghost use Rattle.path_rule.specs.Members.{view_of};
 ghost use Rattle.path_rule.specs.TrailRows.{retired};
 ghost use Rattle.write_path.specs.declared.flush.Flush.TheVariants.{Rows as FlushRows};
-ghost use Rattle.write_path.specs.declared.switch.Row.TheVariants.{WriteGroups};
+ghost use Rattle.write_path.specs.declared.switch.Row.TheVariants.{Memtables, WriteGroups};
 ghost use Rattle.write_path.specs.declared.switch.Switch.TheVariants.{Rows as SwitchRows};
-ghost use Rattle.write_path.specs.Closed.{IsOutcome};
+ghost use Rattle.write_path.specs.Closed.{IsOutcome, all_opened};
 ghost use Rattle.write_path.specs.ClosedFiles.{
   AreEmpty,
   AreGiven,
@@ -109,4 +109,19 @@ pub fn write_groups_do_not_run_out<K: Keeper>()
         → (w t made : ℕ) (before after : View)
         → Switches w t before (SwitchRows WriteGroups made) after
         → ¬ HasGrown after.trail (view_of s.member).trail }
+{}
+
+/// A flush, or a switch, finds no word for a further memtable of a table only where the seats of
+/// its path opened 255 of them, together. A flush opens one at most; writes, commits and syncs open
+/// none.
+pub fn memtables_need_many_flushes<K: Keeper>()
+    ensures flushed { (size : PathSize) (seats : List (PathSeat K)) (end : ℕ) (h : Holding)
+        → IsOutcome size seats end h → (s : PathSeat K) → Contains seats s → (t : Table) (made : ℕ)
+        → WasFlushed s.member.number t (FlushRows Memtables made) (view_of s.member).trail
+        → 255 ≤ all_opened t.0 seats }
+    ensures switched { (size : PathSize) (seats : List (PathSeat K)) (end : ℕ) (h : Holding)
+        → IsOutcome size seats end h → (s : PathSeat K) → Contains seats s
+        → (w t made : ℕ) (before after : View)
+        → Switches w t before (SwitchRows Memtables made) after
+        → HasGrown after.trail (view_of s.member).trail → 255 ≤ all_opened t seats }
 {}

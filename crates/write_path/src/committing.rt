@@ -2,7 +2,7 @@
 //! other seats did. The seat's list is as it was.
 ghost use Rattle.std.specs.Prelude.{◌≡◌, ◌+◌, ◌/◌, ◌<◌, ◌≤◌, length, IfOk, MatchResult};
 ghost use Rattle.path_rule.specs.Members.{view_of, IsOf};
-ghost use Rattle.write_path.specs.Commits.{HasNoRoom, KeepsList, WritesEndBelow};
+ghost use Rattle.write_path.specs.Commits.{HasNoRoom, KeepsMemtables, WritesEndBelow};
 
 use crate::claimed::Claimed;
 use crate::claiming::TryClaim;
@@ -18,8 +18,8 @@ impl<K: Keeper, A: Allocator> WritePath<K, A> {
     /// Joins the write order (`OpOrder.start`). No clause says that it returns.
     pub fn start<R: Wait>(&self, rt: &R, seat: PathSeat<K>) -> Begun<K>
         requires { IsOf self.now.table.table.shared.table_id self.now.table.size seat.member }
-        ensures { KeepsList self.now.table.table.shared.table_id self.now.table.size seat.member
-            result.member × (result.group < 65536) }
+        ensures { KeepsMemtables self.now.table.table.shared.table_id self.now.table.size
+            seat.member result.member × (result.group < 65536) }
     {
         let mut seat = seat;
         for _ in rt.forever() {
@@ -37,8 +37,8 @@ impl<K: Keeper, A: Allocator> WritePath<K, A> {
     /// Joins the append order. No clause says that it returns.
     pub fn append<R: Wait>(&self, rt: &R, seat: Begun<K>) -> Appending<K>
         requires { IsOf self.now.table.table.shared.table_id self.now.table.size seat.member }
-        ensures { KeepsList self.now.table.table.shared.table_id self.now.table.size seat.member
-            result.member × (result.writing ≡ seat.group) × (result.group < 65536) }
+        ensures { KeepsMemtables self.now.table.table.shared.table_id self.now.table.size
+            seat.member result.member × (result.writing ≡ seat.group) × (result.group < 65536) }
     {
         let mut seat = seat;
         for _ in rt.forever() {
@@ -64,11 +64,11 @@ impl<K: Keeper, A: Allocator> WritePath<K, A> {
         requires table { IsOf self.now.table.table.shared.table_id self.now.table.size seat.member }
         requires size { (30 ≤ size) × (size ≤ self.now.table.size.capacity / 2) }
         ensures claim { MatchResult result
-            (λ c. KeepsList self.now.table.table.shared.table_id self.now.table.size seat.member
-            c.member × (c.writing ≡ seat.writing) × (c.group ≡ seat.group)
+            (λ c. KeepsMemtables self.now.table.table.shared.table_id self.now.table.size
+            seat.member c.member × (c.writing ≡ seat.writing) × (c.group ≡ seat.group)
             × (c.start.0 + size ≡ c.end.0))
-            (λ r. KeepsList self.now.table.table.shared.table_id self.now.table.size seat.member
-            r.0.member × (r.0.writing ≡ seat.writing) × (r.0.group ≡ seat.group)
+            (λ r. KeepsMemtables self.now.table.table.shared.table_id self.now.table.size
+            seat.member r.0.member × (r.0.writing ≡ seat.writing) × (r.0.group ≡ seat.group)
             × HasNoRoom self.now.table.size size (length (view_of seat.member).trail) r.1.0
             (view_of r.0.member)) }
         ensures behind { IfOk result (λ c. WritesEndBelow c.start.0 (view_of c.member).trail) }

@@ -22,7 +22,7 @@ impl<K: Keeper, A: Allocator> WritePath<K, A> {
         requires holds { HasBoth (shows_of K.holds) table.0 member.seat.me }
         ensures same { Stays self.now.table.table.shared.table_id self.now.table.size member
             result }
-        ensures steps { QuietSteps member.number (view_of member) (view_of result) }
+        ensures steps { QuietSteps member.number table.0 (view_of member) (view_of result) }
         ensures holds { HasTable table.0 result.seat.me }
         ensures tables { (t : ℕ) → seat_table (part_of result) t ≡ seat_table (part_of member) t }
         ensures reading { (hands_of result).reading ≡ (hands_of member).reading }
@@ -41,7 +41,7 @@ impl<K: Keeper, A: Allocator> WritePath<K, A> {
         requires barred { IsBarred table.0 (part_of member) }
         ensures same { Stays self.now.table.table.shared.table_id self.now.table.size member
             result.member }
-        ensures steps { QuietSteps member.number (view_of member) (view_of result.member) }
+        ensures steps { QuietSteps member.number table.0 (view_of member) (view_of result.member) }
     {
         // A round of a sync may lie behind the barrier: it is found passed again.
         let Holder { mut member } = self.table.pass_all(rt, Holder { member });

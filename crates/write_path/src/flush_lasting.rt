@@ -50,7 +50,7 @@ impl<K: Keeper, A: Allocator> WritePath<K, A> {
         requires holds { HasBoth (shows_of K.holds) table.0 member.seat.me }
         ensures same { Stays self.now.table.table.shared.table_id self.now.table.size member
             result }
-        ensures steps { QuietSteps member.number (view_of member) (view_of result) }
+        ensures steps { QuietSteps member.number table.0 (view_of member) (view_of result) }
         ensures holds { HoldsBoth (shows_of K.holds) table.0 result.seat.me }
         ensures tables { (t : ℕ) → seat_table (part_of result) t ≡ seat_table (part_of member) t }
         ensures reading { (hands_of result).reading ≡ (hands_of member).reading }

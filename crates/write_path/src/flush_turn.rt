@@ -59,7 +59,7 @@ impl<K: Keeper, A: Allocator> WritePath<K, A> {
             (λ r. Stays self.now.table.table.shared.table_id self.now.table.size seat.member
             r.0.member) }
         ensures step { MatchResult result
-            (λ m. QuietSteps seat.member.number (view_of seat.member) (view_of m))
+            (λ m. QuietSteps seat.member.number table.0 (view_of seat.member) (view_of m))
             (λ r. (r.1 ≡ 1)
             × Stepped seat.member (Look seat.member.number (TurnWord (Flush table))) r.1
             r.0.member) }
@@ -81,7 +81,8 @@ impl<K: Keeper, A: Allocator> WritePath<K, A> {
         requires holds { HoldsTable table.0 member.old.seat.me }
         ensures same { Stays self.now.table.table.shared.table_id self.now.table.size member.old
             member.new }
-        ensures steps { QuietSteps member.old.number (view_of member.old) (view_of member.new) }
+        ensures steps { QuietSteps member.old.number table.0 (view_of member.old)
+            (view_of member.new) }
         ensures holds { HoldsTable table.0 member.new.seat.me }
         ensures stage { stage_of (part_of member.new) table.0
             ≡ stage_of (part_of member.old) table.0 }
@@ -140,7 +141,7 @@ impl<K: Keeper, A: Allocator> WritePath<K, A> {
         requires through { MayGiveFlush table.0 (view_of member) }
         ensures same { Stays self.now.table.table.shared.table_id self.now.table.size member
             result.member }
-        ensures steps { QuietSteps member.number (view_of member) (view_of result.member) }
+        ensures steps { QuietSteps member.number table.0 (view_of member) (view_of result.member) }
         ensures stopped { (part_of result.member).found.stopped ≡ (part_of member).found.stopped }
     {
         let mut member = member;

@@ -93,7 +93,7 @@ impl<K: Keeper, A: Allocator> WritePath<K, A> {
         ensures same { Stays self.now.table.table.shared.table_id self.now.table.size member
             result.0.member }
         ensures had { GotTurn result.1 }
-        ensures flushes { (w : ℕ) (v : View) (q : QuietSteps w v (view_of member))
+        ensures flushes { (w : ℕ) (v : View) (q : QuietSteps w table.0 v (view_of member))
             → member.number ≡ w → FindsFree table.0 q.made.steps
             → Flushes w table.0 v result.1 (view_of result.0.member) }
     {
@@ -132,7 +132,7 @@ impl<K: Keeper, A: Allocator> WritePath<K, A> {
             (λ m. HoldsTable table.0 m.seat.me × (stage_of (part_of m) table.0 ≡ Some Settled))
             (λ r. GotTurn r.1) }
         ensures goes { MatchResult result
-            (λ m. UnswitchedSteps member.number (view_of member) (view_of m))
+            (λ m. UnswitchedSteps member.number table.0 (view_of member) (view_of m))
             (λ r. Flushes member.number table.0 (view_of member) r.1 (view_of r.0.member)) }
     {
         let mut member = member;
@@ -197,6 +197,8 @@ impl<K: Keeper, A: Allocator> WritePath<K, A> {
     /// the next memtable; where it is one of the append order, the log was found running. Behind
     /// `Rows` and `OutOfMemory` a memtable that the call had made final waits for the next flush,
     /// which begins with it; behind `Stopped` it does, or the keeper stopped behind its table file.
+    /// The call opens at most one memtable, which is of the table: none by `Busy`, and by `Rows` of
+    /// memtables or of the write order.
     /// No clause says that it returns.
     pub fn flush<R: Wait>(
         &self,

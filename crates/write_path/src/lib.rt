@@ -46,7 +46,8 @@ pub use accepting::Accept;
 pub use claimed::Claimed;
 pub use claiming::TryClaim;
 pub use closed_laws::{
-    what_a_flush_covers, what_a_retired_memtable_leaves, write_groups_do_not_run_out,
+    memtables_need_many_flushes, what_a_flush_covers, what_a_retired_memtable_leaves,
+    write_groups_do_not_run_out,
 };
 pub use closing::Outcome;
 pub use commit::{Commit, Receipt, SyncFault};
@@ -61,6 +62,8 @@ pub use path_rule::{Advance, Begun, PathSeat, Seen, SyncAnswer};
 pub use prepared::Prepared;
 pub use seats::{Appending, WritePath};
 pub use switch::{Row, Switch};
-pub use switch_laws::what_a_switch_tells;
+pub use switch_laws::{
+    only_flushes_retire, what_a_flush_leaves, what_a_switch_tells, what_opens_no_memtable,
+};
 pub use turning::TurnSeat;
 pub use writing::Written;

@@ -34,7 +34,7 @@ impl<K: Keeper, A: Allocator> WritePath<K, A> {
         requires settled { stage_of (part_of member) table.0 ≡ Some Settled }
         ensures same { Stays self.now.table.table.shared.table_id self.now.table.size member
             result.member }
-        ensures steps { QuietSteps member.number (view_of member) (view_of result.member) }
+        ensures steps { QuietSteps member.number table.0 (view_of member) (view_of result.member) }
     {
         self.give_flush_turn(member, table)
     }
@@ -56,7 +56,8 @@ impl<K: Keeper, A: Allocator> WritePath<K, A> {
         requires unread { (hands_of member).reading ≡ None }
         ensures same { Stays self.now.table.table.shared.table_id self.now.table.size member
             result.0.member }
-        ensures steps { FlushSteps member.number (view_of member) (view_of result.0.member) }
+        ensures steps { FlushSteps member.number table.0 (view_of member)
+            (view_of result.0.member) }
         ensures settled { IsSettled member.number table.0 memtable bound.0 (view_of member)
             result.1 (view_of result.0.member) }
     {
@@ -90,7 +91,7 @@ impl<K: Keeper, A: Allocator> WritePath<K, A> {
         ensures same { Stays self.now.table.table.shared.table_id self.now.table.size member
             result.0.member }
         ensures had { HadTurn result.1 }
-        ensures switches { (w : ℕ) (v : View) (q : QuietSteps w v (view_of member))
+        ensures switches { (w : ℕ) (v : View) (q : QuietSteps w table.0 v (view_of member))
             → member.number ≡ w → FindsFree table.0 q.made.steps
             → Switches w table.0 v result.1 (view_of result.0.member) }
     {

@@ -7,7 +7,7 @@ ghost use Rattle.write_path.specs.Commits.{
   HasNoRoom,
   IsLogged,
   IsWritten,
-  KeepsList,
+  KeepsMemtables,
   WritesEndBelow,
 };
 ghost use Rattle.write_path.specs.Tries.{Stays};
@@ -64,7 +64,7 @@ impl<K: Keeper, A: Allocator> WritePath<K, A> {
     fn leave(&self, seat: Appending<K>) -> PathSeat<K>
         requires table { IsOf self.now.table.table.shared.table_id self.now.table.size seat.member }
         requires groups { (seat.group < 65536) × (seat.writing < 65536) }
-        ensures same { KeepsList self.now.table.table.shared.table_id self.now.table.size
+        ensures same { KeepsMemtables self.now.table.table.shared.table_id self.now.table.size
             seat.member result.member }
         ensures room { (bytes since key : ℕ)
             → HasNoRoom self.now.table.size bytes since key (view_of seat.member)

@@ -1,9 +1,7 @@
 -- The keeper on a desk puts a table file, or drops segments: what the desk shows then.
 use Rattle.std.proofs.Common.{
   ◌≡◌,
-  ◌≢◌,
   ◌==◌,
-  ◌⊎◌,
   ℕ,
   zero,
   suc,
@@ -18,8 +16,6 @@ use Rattle.std.proofs.Common.{
   length,
   map,
   Option,
-  Some,
-  None,
   is_some,
   refl,
   sym,
@@ -65,13 +61,10 @@ use Rattle.path_core.specs.Keeper.{
 use Rattle.path_core.specs.Keys.{ordinal_of}
 use Rattle.path_core.specs.Next.{has_filed}
 use Rattle.path_core.proofs.lists.Passing.{any_from, any_to}
-use Rattle.path_rule.specs.declared.lasting.Filed.{Filed}
 use Rattle.path_rule.specs.declared.lasting.Lasting.{Lasting}
-use Rattle.path_rule.specs.declared.lasting.PutTable.{PutTable}
 use Rattle.path_rule.specs.declared.slot.Desk.{Desk}
 use Rattle.path_rule.specs.declared.slot.Slot.{Slot}
 use Rattle.path_rule.specs.declared.slot.Slot.TheVariants.{Notes, Turn}
-use Rattle.path_rule.specs.declared.view.Progress.{Progress}
 use Rattle.path_rule.specs.declared.view.View.{View}
 use Rattle.path_rule.specs.Boxes.{DeskIs, NotesAre, desk_box}
 use Rattle.path_rule.specs.Desks.{pending_on}
@@ -89,7 +82,7 @@ use Rattle.path_rule.specs.FilingTold.{
   noted,
 }
 use Rattle.path_rule.specs.Lasts.{lasting_of, put_table, shows_of, stopped_with}
-use Rattle.path_rule.specs.TurnTold.{CarriesAs, CarriesDesk}
+use Rattle.path_rule.specs.TurnTold.{CarriesDesk}
 use Rattle.path_rule.proofs.boxes.DeskLent.{on_desk}
 use Rattle.path_rule.proofs.log.FilesShown.{may_drop, may_go, upper_more}
 use Rattle.path_rule.proofs.moves.SyncSteps.{desk_same, top_box}

@@ -1,9 +1,7 @@
 -- What a keeper shows of table files and segments, as its own lists and as those of the state.
 use Rattle.std.proofs.Common.{
   ◌≡◌,
-  ◌≢◌,
   ◌==◌,
-  ◌&&◌,
   ℕ,
   zero,
   suc,
@@ -12,30 +10,24 @@ use Rattle.std.proofs.Common.{
   ◌-◌,
   ◌<◌,
   ◌≤◌,
-  Bool,
-  true,
-  cond,
   List,
   [],
   ◌∷◌,
   ◌++◌,
   length,
   map,
-  not,
   IsTrue,
   refl,
   sym,
   ap,
   ◌∙◌,
   subst,
-  ⊎_elim,
   arith,
 }
-use Rattle.std.specs.Prelude.{get_or, if◌then◌else◌, nat_le, nat_lt}
-use Rattle.std.specs.List.{Contains, count_by, filter, fold}
+use Rattle.std.specs.Prelude.{if◌then◌else◌}
+use Rattle.std.specs.List.{Contains, filter, fold}
 use Rattle.std.proofs.lemmas.Bool.{and_from, and_parts, eq-eqb, eqb-true, le-leb, lt-ltb}
 use Rattle.std.proofs.lemmas.List.{length-map}
-use Rattle.clog_base.specs.declared.sizes.Sizes.{Sizes}
 use Rattle.path_core.specs.declared.note.EntryNote.{EntryNote}
 use Rattle.path_core.specs.declared.state.Claim.{Claim}
 use Rattle.path_core.specs.declared.state.PathState.{PathState}
@@ -44,15 +36,14 @@ use Rattle.path_core.specs.Droppable.{IsDroppable, is_filed, is_in_file, is_of}
 use Rattle.path_core.specs.Keeper.{Holding, IsFiledIn, MayDrop, PutFile, upper_from}
 use Rattle.path_core.specs.Keys.{offset_of, ordinal_of}
 use Rattle.path_core.specs.Lawful.{IsLawfulPath}
-use Rattle.path_core.specs.LawfulLog.{claim_in, entry_claim, is_at_most, is_note_at}
-use Rattle.path_core.specs.Parts.{is_entry, is_entry_in, last_upper, table_of}
+use Rattle.path_core.specs.LawfulLog.{entry_claim, is_at_most, is_note_at}
+use Rattle.path_core.specs.Parts.{is_entry, is_entry_in, last_upper}
 use Rattle.path_core.proofs.lists.Inserted.{map_from, map_old}
 use Rattle.path_core.proofs.lists.Passing.{any_from, filter_from, kept_in}
 use Rattle.path_core.proofs.lists.Replaced.{counted_from}
 use Rattle.path_core.proofs.log.ClaimEnds.{read_claim}
 use Rattle.path_rule.specs.declared.lasting.Beside.{Beside}
 use Rattle.path_rule.specs.declared.lasting.Filed.{Filed}
-use Rattle.path_rule.specs.declared.lasting.Lasting.{Lasting}
 use Rattle.path_rule.specs.declared.lasting.PutTable.{PutTable}
 use Rattle.path_rule.specs.declared.view.PathSize.{PathSize}
 use Rattle.path_rule.specs.Filing.{

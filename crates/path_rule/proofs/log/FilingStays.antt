@@ -1,7 +1,6 @@
 -- What a keeper has filed and dropped stays what the state has, at each step that gives no file.
 use Rattle.std.proofs.Common.{
   ◌≡◌,
-  ◌≢◌,
   ◌||◌,
   ◌&&◌,
   ℕ,
@@ -16,11 +15,9 @@ use Rattle.std.proofs.Common.{
   false,
   cond,
   List,
-  [],
   ◌++◌,
   length,
   map,
-  IsTrue,
   Option,
   Some,
   None,
@@ -44,10 +41,7 @@ use Rattle.std.proofs.lemmas.List.Elements.{
 }
 use Rattle.std.proofs.lemmas.List.FromFn.{length-range_with_len, get_or-range_with_len}
 use Rattle.std.proofs.lemmas.List.Sums.{list_all-from_AllPass}
-use mathlib.Core.Logic.{dite, inl, inr}
-use native.Mathlib.Decide.{ℕ_discrete}
-use Rattle.clog_base.specs.declared.cell.Cell.{Cell}
-use Rattle.clog_base.specs.declared.cell.CellKey.{CellKey}
+use mathlib.Core.Logic.{inl, inr}
 use Rattle.clog_cells.proofs.Merging.{of_same}
 use Rattle.op_core.specs.declared.count.Order.TheVariants.{Write, Append}
 use Rattle.path_core.specs.declared.event.Carried.TheVariants.{Nothing, Deposit, Applied}
@@ -55,7 +49,6 @@ use Rattle.path_core.specs.declared.event.Event.{Event}
 use Rattle.path_core.specs.declared.event.Event.TheVariants.{Close, GiveTurn, TakeTurn}
 use Rattle.path_core.specs.declared.event.Turn.TheVariants.{Sync, Flush}
 use Rattle.path_core.specs.declared.note.EntryNote.{EntryNote}
-use Rattle.path_core.specs.declared.seat.Seat.{Seat}
 use Rattle.path_core.specs.declared.seat.SyncTurn.{SyncTurn}
 use Rattle.path_core.specs.declared.state.Claim.{Claim}
 use Rattle.path_core.specs.declared.state.PathState.{PathState}
@@ -72,16 +65,8 @@ use Rattle.path_core.specs.Droppable.{
 }
 use Rattle.path_core.specs.Keys.{ordinal_of}
 use Rattle.path_core.specs.Lawful.{IsLawfulPath}
-use Rattle.path_core.specs.LawfulTables.{may_touch}
 use Rattle.path_core.specs.Next.{has_filed, newly_dropped, next_of}
-use Rattle.path_core.specs.Parts.{
-  is_entry_in,
-  key_of_bound,
-  memtable_of,
-  seat_of,
-  table_of,
-  touches,
-}
+use Rattle.path_core.specs.Parts.{is_entry_in, key_of_bound, seat_of, touches}
 use Rattle.path_core.specs.Words.{by_of}
 use Rattle.path_core.proofs.files.LastFile.{oldest_grows}
 use Rattle.path_core.proofs.lists.Inserted.{insert_cases, map_from, map_old}

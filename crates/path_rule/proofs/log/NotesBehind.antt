@@ -2,7 +2,6 @@
 -- behind it, or further on.
 use Rattle.std.proofs.Common.{
   ◌≡◌,
-  ◌==◌,
   ℕ,
   ◌+◌,
   ◌-◌,
@@ -12,7 +11,6 @@ use Rattle.std.proofs.Common.{
   true,
   false,
   cond,
-  length,
   not,
   refl,
   sym,
@@ -24,7 +22,7 @@ use Rattle.std.proofs.Common.{
 }
 use Rattle.std.specs.Prelude.{◌⊎◌}
 use Rattle.std.specs.List.{Contains}
-use Rattle.std.proofs.lemmas.Bool.{eqb-true, ltb-true, ltb-false}
+use Rattle.std.proofs.lemmas.Bool.{ltb-false}
 use mathlib.Core.Logic.{dite, inl, inr}
 use native.Mathlib.Decide.{ℕ_discrete, dec_lt}
 use Rattle.path_core.specs.declared.event.ClaimKind.{ClaimKind}
@@ -41,11 +39,10 @@ use Rattle.path_core.specs.Keys.{
   marker_size,
   next_segment,
   offset_of,
-  ordinal_of,
 }
 use Rattle.path_core.specs.Lawful.{IsLawfulPath}
-use Rattle.path_core.specs.LawfulLog.{claim_in, key_before}
-use Rattle.path_core.specs.Parts.{is_entry, is_marker, is_marker_kind}
+use Rattle.path_core.specs.LawfulLog.{claim_in}
+use Rattle.path_core.specs.Parts.{is_marker, is_marker_kind}
 use Rattle.path_core.proofs.lent.Beginnings.{is_marked, note_at}
 use Rattle.path_core.proofs.lent.Numbers.{IsEntryAt, not_both, stands_entry, stands_marker}
 use Rattle.path_core.proofs.log.ClaimEnds.{read_claim}

@@ -76,6 +76,7 @@ use Rattle.path_core.proofs.files.LastFile.{final_stays, oldest_grows}
 use Rattle.path_core.proofs.files.RetiredStay.{not_empty, placed_before}
 use Rattle.path_core.proofs.files.Retires.{files_retired, next_file}
 use Rattle.path_core.proofs.log.LoggedStay.{files_stay}
+use Rattle.path_core.proofs.places.TableMoves.{table_moves}
 use Rattle.path_core.proofs.runs.EveryRun.{placing_of}
 use Rattle.path_rule.specs.declared.view.OwnStep.{OwnStep}
 use Rattle.path_rule.specs.Finds.{Finds, FindsBy}
@@ -144,6 +145,11 @@ module _ (x : PathState) (L : IsLawfulPath x) where
     pub retired_still : (t n : ℕ) → n ≤ (table_of x t).oldest_live
         → n ≤ (table_of (next_of x e) t).oldest_live
     retired_still t n low = let up = oldest_grows x Z e a t in omega arith
+
+    pub newest_still : (t m : ℕ) → m ≤ (table_of x t).newest → m ≤ (table_of (next_of x e) t).newest
+    newest_still t m low = let up =
+        (table_moves x L.sized L.claims_tile_the_log L.orders L.switches e a t).newest in
+        omega (arith, low, up)
 
     pub filed_still : (t m from : ℕ) → HasFileFrom x t m from → HasFileFrom (next_of x e) t m from
     filed_still t m from H = record {
@@ -227,6 +233,15 @@ module _ (x : PathState) (L : IsLawfulPath x) where
     new_retired (Put by Synced value) a told t n F = absurd (let q = F.0 in cc)
     new_retired (Put by Stopped value) a told t n F = absurd (let q = F.0 in cc)
     new_retired e a told t n F = absurd F
+
+    pub new_newest : (e : Event) → IsStep x e → ToldTrue x e found filed → (t : Table) (m : ℕ)
+        → FindsBy (Newest t) m e found → m ≤ (table_of (next_of x e) t.0).newest
+    new_newest (Look by at) a told t m F =
+        let is : found ≡ (table_of x t.0).newest =
+        told ∙ ap (λ (q : Place). word_of (reading x q)) F.0 in
+        let same = F.1 in omega arith
+    new_newest (Put by cursor value) a told t m F = absurd (let q = F.0 in cc)
+    new_newest e a told t m F = absurd F
 
     -- the retired memtable is the least that was not
     was_least : (by : ℕ) (u : Table) (value : ℕ) → IsStep x (Put by (OldestLive u) value)

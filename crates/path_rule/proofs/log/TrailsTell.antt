@@ -81,7 +81,9 @@ use Rattle.path_rule.proofs.log.TrailMemtables.{
   new_filed,
   new_filled,
   new_final,
+  new_newest,
   new_retired,
+  newest_still,
   retired_still,
 }
 use Rattle.path_rule.proofs.log.Marks.{mark_stays, synced_mark, log_past}
@@ -92,6 +94,7 @@ nothing_tells capacity x = record {
   come = λ key F. absurd F;
   stopped = λ n F above. absurd F;
   current = λ o g F. absurd F;
+  newest = λ t m F. absurd F;
   past = tt;
   final = λ t m key F. absurd F;
   retired = λ t n F. absurd F;
@@ -156,6 +159,7 @@ module _ (capacity : ℕ) (x : PathState) (L : IsLawfulPath x) (fits : x.capacit
     stopped = λ n F above. stays_stopped e a n above (T.stopped n F above);
     current = λ o g F. let low = T.current o g F in
         let up = (groups_move x L.orders o e a).current in omega arith;
+    newest = λ t m F. newest_still x L e a t.0 m (T.newest t m F);
     past = T.past;
     final = λ t m key F. final_still x L e a t m key (T.final t m key F);
     retired = λ t n F. retired_still x L e a t.0 n (T.retired t n F);
@@ -298,6 +302,8 @@ module _ (capacity : ℕ) (x : PathState) (L : IsLawfulPath x) (fits : x.capacit
       stopped = λ n F above. ⊎_elim (λ now. new_stopped e same n now)
           (λ old. S.stopped n old above) F;
       current = λ o g F. ⊎_elim (λ now. new_current o e same g now) (λ old. S.current o g old) F;
+      newest = λ t m F. ⊎_elim (λ now. new_newest x L found filed e a true_told t m now)
+          (λ old. S.newest t m old) F;
       past = (new_past e a ts T, T.past);
       final = λ t m key F. ⊎_elim
           (λ now. new_final x L found filed e a true_told t m key now)

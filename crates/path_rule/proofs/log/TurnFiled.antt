@@ -1,20 +1,5 @@
 -- A holder of the Sync turn that has filed a memtable has filed one until it gives the turn back.
-use Rattle.std.proofs.Common.{
-  ◌≡◌,
-  ◌||◌,
-  ℕ,
-  Bool,
-  true,
-  false,
-  cond,
-  Option,
-  Some,
-  None,
-  refl,
-  sym,
-  ap,
-  ◌∙◌,
-}
+use Rattle.std.proofs.Common.{◌≡◌, ◌||◌, Bool, true, false, cond, Option, Some, None, ap}
 use Rattle.std.specs.Option.{option_map, option_map_or}
 use Rattle.op_core.specs.Tallies.{is_finished}
 use Rattle.op_core.specs.declared.count.Order.{Order}

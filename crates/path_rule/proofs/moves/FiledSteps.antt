@@ -52,7 +52,6 @@ use Rattle.path_core.specs.declared.event.Cursor.TheVariants.{OldestLive}
 use Rattle.path_core.specs.declared.event.Event.{Event}
 use Rattle.path_core.specs.declared.event.Event.TheVariants.{Put}
 use Rattle.path_core.specs.declared.event.Reading.TheVariants.{Number}
-use Rattle.path_core.specs.declared.note.EntryNote.{EntryNote}
 use Rattle.path_core.specs.declared.seat.SyncTurn.{SyncTurn}
 use Rattle.path_core.specs.declared.state.PathState.{PathState}
 use Rattle.path_core.specs.declared.state.TableState.{TableState}
@@ -97,10 +96,9 @@ use Rattle.path_rule.specs.FilingTold.{
 }
 use Rattle.path_rule.specs.HandsAfter.{with_desk, with_reading}
 use Rattle.path_rule.specs.Lasts.{shown}
-use Rattle.path_rule.specs.Memtables.{HasMemtables, PutsAre, PutsAs}
+use Rattle.path_rule.specs.Memtables.{HasMemtables, PutsAs}
 use Rattle.path_rule.specs.Retires.{RetiresFiledIn, written_as}
 use Rattle.path_rule.specs.Rule.{Ruled, Was, told_by, view_filed, with_hands}
-use Rattle.path_rule.specs.TurnTold.{CarriesAs}
 use Rattle.path_rule.proofs.boxes.AtHome.{inside_list}
 use Rattle.path_rule.proofs.boxes.DeskChanged.{boxed_desk_turns}
 use Rattle.path_rule.proofs.boxes.MemtableReads.{read_still, retabled}

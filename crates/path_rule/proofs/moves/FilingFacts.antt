@@ -4,14 +4,11 @@
 use Rattle.std.proofs.Common.{
   ◌≡◌,
   ◌≢◌,
-  ◌==◌,
-  ◌&&◌,
   ℕ,
   zero,
   suc,
   ◌<◌,
   ◌≤◌,
-  not,
   Bool,
   true,
   false,
@@ -23,7 +20,6 @@ use Rattle.std.proofs.Common.{
   length,
   map,
   Some,
-  None,
   is_some,
   IsTrue,
   refl,
@@ -33,7 +29,6 @@ use Rattle.std.proofs.Common.{
   subst,
   arith,
 }
-use Rattle.std.specs.Prelude.{◌^◌, nat_le, nat_lt}
 use Rattle.std.specs.List.{Contains, filter}
 use Rattle.std.proofs.lemmas.Bool.{and_from, and_parts, le-leb, leb-true, lt-ltb, ltb-true}
 use Rattle.std.proofs.lemmas.List.{length-map}
@@ -45,43 +40,36 @@ use Rattle.atomic_table.specs.Table.{State, Me}
 use Rattle.clog_base.specs.declared.cell.Cell.{Cell}
 use Rattle.clog_base.specs.declared.cell.CellKey.{CellKey}
 use Rattle.clog_base.specs.declared.cell.Table.{Table}
-use Rattle.clog_base.specs.declared.sizes.Sizes.{Sizes}
 use Rattle.clog_cells.specs.Merge.{IsMergeOf}
 use Rattle.clog_cells.proofs.Merging.{of_same}
-use Rattle.clog_mutation.specs.declared.mutation.Update.{Update}
 use Rattle.clog_mutation.specs.Payload.{cells_of, pair_of}
 use Rattle.path_core.specs.declared.event.Cursor.TheVariants.{OldestLive}
 use Rattle.path_core.specs.declared.event.Event.{Event}
 use Rattle.path_core.specs.declared.event.Event.TheVariants.{Put}
 use Rattle.path_core.specs.declared.note.EntryNote.{EntryNote}
-use Rattle.path_core.specs.declared.seat.FoundBound.{FoundBound}
 use Rattle.path_core.specs.declared.seat.Seat.{Seat as SeatOf}
 use Rattle.path_core.specs.declared.seat.SyncTurn.{SyncTurn}
-use Rattle.path_core.specs.declared.state.Bound.{Bound}
 use Rattle.path_core.specs.declared.state.Bound.TheVariants.{Final}
 use Rattle.path_core.specs.declared.state.PathState.{PathState}
-use Rattle.path_core.specs.declared.state.Placed.{Placed}
 use Rattle.path_core.specs.declared.state.WrittenFile.{WrittenFile}
 use Rattle.path_core.specs.Allowed.{IsStep}
-use Rattle.path_core.specs.History.{bound_before, is_touching, touching}
-use Rattle.path_core.specs.Keeper.{Holding, IsLoggedCell, MayPublish, PutFile, upper_from}
+use Rattle.path_core.specs.History.{is_touching}
+use Rattle.path_core.specs.Keeper.{IsLoggedCell}
 use Rattle.path_core.specs.Keys.{after}
 use Rattle.path_core.specs.Lawful.{IsLawfulPath}
 use Rattle.path_core.specs.LawfulLog.{is_at_most}
 use Rattle.path_core.specs.LawfulTables.{FileHoldsItsInterval, IsTouched}
-use Rattle.path_core.specs.Next.{gives_file, next_of}
+use Rattle.path_core.specs.Next.{next_of}
 use Rattle.path_core.specs.Parts.{
   HasPassedBarrier,
   is_empty,
   key_of_bound,
-  last_upper,
   memtable_of,
-  seat_of,
   seat_table,
   table_of,
   touches,
 }
-use Rattle.path_core.specs.Whole.{IsWhole, Updates}
+use Rattle.path_core.specs.Whole.{IsWhole}
 use Rattle.path_core.proofs.files.LastFile.{before_below}
 use Rattle.path_core.proofs.files.Retires.{next_file as file_next}
 use Rattle.path_core.proofs.lists.Inserted.{map_from}
@@ -97,8 +85,8 @@ use Rattle.path_rule.specs.declared.view.PathSize.{PathSize}
 use Rattle.path_rule.specs.declared.view.Role.TheVariants.{Steps}
 use Rattle.path_rule.specs.declared.view.View.{View}
 use Rattle.path_rule.specs.Filing.{IsCellBetween, IsCellIn, MayPut, upper_of}
-use Rattle.path_rule.specs.FilingTold.{AreSeen, FoundFinal, SeesAll, TurnSynced, next_file}
-use Rattle.path_rule.specs.Lasts.{beside_of, filed_of, lasting_of, put_file, put_table, shown}
+use Rattle.path_rule.specs.FilingTold.{AreSeen, FoundFinal, SeesAll, next_file}
+use Rattle.path_rule.specs.Lasts.{lasting_of, put_file, put_table, shown}
 use Rattle.path_rule.specs.Reads.{ReadsAre, placed_at}
 use Rattle.path_rule.specs.Rule.{Ruled}
 use Rattle.path_rule.proofs.boxes.SeenInterval.{all_seen}

@@ -1,22 +1,8 @@
 -- What the holder of a table's Flush turn knows of a memtable below the newest: it is final, and
 -- its barrier is passed, also where an earlier holder left it.
-use Rattle.std.proofs.Common.{
-  ◌≡◌,
-  ℕ,
-  suc,
-  ◌<◌,
-  true,
-  length,
-  Some,
-  is_some,
-  ⊎_elim,
-  subst,
-  arith,
-}
+use Rattle.std.proofs.Common.{◌≡◌, ℕ, true, Some, is_some, ⊎_elim, subst, arith}
 use Rattle.std.specs.Prelude.{◌⊎◌}
-use mathlib.Core.Logic.{dite}
 use mathlib.Core.Option.{some}
-use native.Mathlib.Decide.{ℕ_discrete}
 use lib.ListN.{get_elem?}
 use Rattle.atomic_table.specs.Table.{State, Me}
 use Rattle.op_core.specs.declared.count.Order.TheVariants.{Write}
@@ -25,16 +11,7 @@ use Rattle.path_core.specs.declared.seat.Switching.TheVariants.{Settled, WithBar
 use Rattle.path_core.specs.declared.state.PathState.{PathState}
 use Rattle.path_core.specs.Allowed.{IsSettled}
 use Rattle.path_core.specs.Lawful.{IsLawfulPath}
-use Rattle.path_core.specs.LawfulSeats.{HasBarrier}
-use Rattle.path_core.specs.Parts.{
-  memtable_of,
-  seat_of,
-  seat_table,
-  stage_of,
-  table_of,
-  HasPassedBarrier,
-  IsFinal,
-}
+use Rattle.path_core.specs.Parts.{seat_of, seat_table, stage_of, table_of, HasPassedBarrier}
 use Rattle.path_core.proofs.tables.StageTells.{settled_at, stage_exact, through_by_stage}
 use Rattle.path_rule.specs.declared.lasting.Beside.{Beside}
 use Rattle.path_rule.specs.declared.lasting.Lasting.{Lasting}

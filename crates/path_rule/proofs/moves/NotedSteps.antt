@@ -2,10 +2,7 @@
 -- segments: at a look, or where it stops the log because the keeper has stopped.
 use Rattle.std.proofs.Common.{
   ◌≡◌,
-  ◌⊎◌,
   ℕ,
-  ◌<◌,
-  ◌≤◌,
   Bool,
   true,
   List,
@@ -32,18 +29,16 @@ use Rattle.std.proofs.lemmas.List.Elements.{
   Contains-append_left,
   Contains-append_right,
 }
-use mathlib.Core.Logic.{inl, inr}
+use mathlib.Core.Logic.{inr}
 use mathlib.Core.Option.{none, some}
 use lib.ListN.{get_elem?}
 use Rattle.atomic_table.specs.Table.{State, Me, step, keeps, Allows}
 use Rattle.path_core.specs.declared.event.Cursor.TheVariants.{Stopped}
-use Rattle.path_core.specs.declared.event.Event.{Event}
 use Rattle.path_core.specs.declared.event.Event.TheVariants.{Look, Put}
 use Rattle.path_core.specs.declared.event.Place.TheVariants.{CursorWord}
 use Rattle.path_core.specs.declared.event.Reading.TheVariants.{Number}
 use Rattle.path_core.specs.declared.note.EntryNote.{EntryNote}
 use Rattle.path_core.specs.declared.seat.SyncTurn.{SyncTurn}
-use Rattle.path_core.specs.declared.state.PathState.{PathState}
 use Rattle.path_core.specs.Allowed.{IsStep}
 use Rattle.path_core.specs.Keeper.{HasRisen}
 use Rattle.path_core.specs.Next.{has_filed, next_of}

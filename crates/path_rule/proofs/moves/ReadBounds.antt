@@ -1,21 +1,5 @@
 -- The holder of a Flush turn looks at the bound of the memtable that it reads, which is final.
-use Rattle.std.proofs.Common.{
-  ◌≡◌,
-  ℕ,
-  suc,
-  ◌+◌,
-  ◌*◌,
-  ◌<◌,
-  List,
-  Some,
-  refl,
-  sym,
-  ap,
-  ◌∙◌,
-  subst,
-  arith,
-  None,
-}
+use Rattle.std.proofs.Common.{◌≡◌, ℕ, ◌+◌, ◌*◌, ◌<◌, Some, refl, sym, ap, ◌∙◌, subst, arith, None}
 use Rattle.std.specs.Prelude.{slice_index}
 use mathlib.Core.Option.{none}
 use Rattle.atomic_table.specs.Table.{Me, step, Allows}
@@ -36,13 +20,13 @@ use Rattle.path_rule.specs.declared.view.Role.TheVariants.{Steps}
 use Rattle.path_rule.specs.declared.view.View.{View}
 use Rattle.path_rule.specs.ReadBound.{BoundRead}
 use Rattle.path_rule.specs.Lasts.{shown}
-use Rattle.path_rule.specs.Layout.{bound_word, reading_at, word_at}
+use Rattle.path_rule.specs.Layout.{bound_word, reading_at}
 use Rattle.path_rule.specs.Rule.{Ruled, told_by, view_after}
 use Rattle.path_rule.specs.Told.{Made}
 use Rattle.path_rule.proofs.boxes.HeldBoxes.{boxed_stay}
 use Rattle.path_rule.proofs.moves.BoundSteps.{each_bound_name}
 use Rattle.path_rule.proofs.moves.Looks.{acts, few_tables, within}
-use Rattle.path_rule.proofs.moves.Moving.{core_lawful, reads_now, was}
+use Rattle.path_rule.proofs.moves.Moving.{core_lawful, reads_now}
 use Rattle.path_rule.proofs.places.ReadBack.{read_back, rows_stay}
 
 module _ {K : Type 0} (shows : K → Lasting) (o : Beside) (size : PathSize) (slots id : ℕ)

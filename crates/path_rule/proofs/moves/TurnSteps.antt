@@ -9,7 +9,6 @@ use Rattle.std.proofs.Common.{
   true,
   List,
   ◌∷◌,
-  ◌++◌,
   cond,
   set,
   None,
@@ -36,7 +35,6 @@ use Rattle.path_core.specs.declared.note.EntryNote.{EntryNote}
 use Rattle.path_core.specs.declared.seat.Issue.TheVariants.{Rest}
 use Rattle.path_core.specs.declared.seat.Seat.{Seat}
 use Rattle.path_core.specs.Allowed.{IsStep}
-use Rattle.path_core.specs.Next.{next_of}
 use Rattle.path_core.specs.Parts.{issue_of, holds_turn, IsIdle}
 use Rattle.path_core.specs.SeatAfter.{seat_after}
 use Rattle.path_core.proofs.frame.Turns.{unheld}

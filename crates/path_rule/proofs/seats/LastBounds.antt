@@ -18,7 +18,6 @@ use Rattle.std.proofs.Common.{
   sym,
   ap,
   ◌∙◌,
-  subst,
   arith,
 }
 use Rattle.std.specs.Prelude.{◌%◌, ◌^◌, slice_index, slice_set}

@@ -1,7 +1,6 @@
 -- What a seat has found behind a look at a bound that is final.
 use Rattle.std.proofs.Common.{
   ◌≡◌,
-  ◌==◌,
   ℕ,
   ◌+◌,
   ◌-◌,
@@ -16,31 +15,26 @@ use Rattle.std.proofs.Common.{
   None,
   length,
   refl,
-  sym,
   ap,
   ◌∙◌,
-  subst,
   arith,
   ne_eqb,
 }
 use Rattle.std.specs.Prelude.{nat_lt}
 use Rattle.std.proofs.lemmas.Bool.{le-ltb}
 use Rattle.clog_base.specs.declared.cell.Table.{Table}
-use Rattle.path_core.specs.declared.event.Event.{Event}
 use Rattle.path_core.specs.declared.event.Event.TheVariants.{Look}
 use Rattle.path_core.specs.declared.event.Place.TheVariants.{Bound}
-use Rattle.path_core.specs.declared.seat.FoundBound.{FoundBound}
 use Rattle.path_core.specs.declared.seat.Seat.{Seat}
 use Rattle.path_core.specs.declared.seat.SeatTable.{SeatTable}
 use Rattle.path_core.specs.declared.state.Bound.{Bound as BoundOf}
 use Rattle.path_core.specs.declared.state.Bound.TheVariants.{Final, Live, Raising}
-use Rattle.path_core.specs.Parts.{is_at, seat_of, seat_table}
+use Rattle.path_core.specs.Parts.{is_at, seat_table}
 use Rattle.path_core.specs.SeatParts.{
   bound_found,
   deposited_end,
   is_final_below,
   takes,
-  tried,
   tries_bound,
 }
 use Rattle.path_core.proofs.seats.Columns.{at_table_same}

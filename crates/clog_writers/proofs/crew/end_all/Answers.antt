@@ -44,7 +44,8 @@ loop-worker-init g c =
           (sym gives.0)
           (subst (λ (l : List (PathSeat g.row.K.Denot)). Gathers t.table.shared.table_id t.size
           flush mutations c.args.workers.items l None) (sym c.requires.none)
-          (none_gathered t.table.shared.table_id t.size flush mutations c.args.workers.items logged));
+          (none_gathered t.table.shared.table_id t.size flush mutations c.args.workers.items
+          logged));
       waited = λ all. (
         λ w h. all w (subst (λ (l : List (Worker g.row.K.Denot)). Contains l w) gives.0 h),
         λ s h. absurd (nothing_there s

@@ -6,9 +6,11 @@ use Rattle.path_rule.specs.Members.{view_of}
 use Rattle.clog_writers.specs.declared.fault.WriteFault.{WriteFault}
 use Rattle.clog_writers.specs.Crews.{KnowsWhy, MayLack}
 use Rattle.clog_writers.specs.Shares.{logged_by}
-use Rattle.clog_writers.specs.Tallied.{HasFlushedAll}
+use Rattle.clog_writers.specs.Tallied.{HasFlushedAll, HasOpened}
 use Rattle.clog_writers.proofs.Committing.{earlier_on, logs_on, still_why, sync_why}
 use Rattle.clog_writers.proofs.Lacking.{by_sync, lacks_first}
+use Rattle.clog_writers.proofs.Opening.{sync_opens}
+use Rattle.clog_writers.proofs.Paying.{still_opened}
 use Rattle.clog_writers.proofs.Tallying.{flushed_on}
 use Rattle.clog_writers.proofs.Timing.{knows_synced}
 use Rattle.clog_writers.proofs.crew.end_share.Goals as goal
@@ -19,6 +21,8 @@ returns-clause-ends g c = λ flush number lines logged.
     let same = same_Some logged.seat seat (sym logged.has ∙ c.in-Some.is) in
     let syncs = c.sync-seat.ensures.syncs in
     let own = c.sync-seat.ensures.same in
+    let opens_none = sync_opens seat.member.number c.args.path.now.table.size.at_open
+    (view_of seat.member) (view_of after.member) c.sync-seat.result.1 syncs in
     let none_of = c.first_of.ensures.none in record {
       of_path = own.0;
       number_is = own.1 ∙ (ap (λ (s : PathSeat g.row.K.Denot). s.member.number) (sym same)
@@ -32,9 +36,11 @@ returns-clause-ends g c = λ flush number lines logged.
           (view_of seat.member) after c.sync-seat.result.1 syncs
           (sym c.refusal_of.ensures.is ∙ (none_of none).1);
       flushed = λ none. flushed_on flush seat after own.1 syncs.list
-          (record { newer = syncs.answers.steps.steps; is = syncs.answers.steps.trail })
+          (record { newer = syncs.answers.steps.steps; is = syncs.answers.steps.trail }) opens_none
           (subst (λ (s : PathSeat g.row.K.Denot). HasFlushedAll flush s) same
           (logged.flushed (none_of none).0));
+      opened = still_opened flush lines seat after opens_none
+          (subst (λ (s : PathSeat g.row.K.Denot). HasOpened flush lines s) same logged.opened);
     }
 
 pub returns-clause-why : goal.returns-clause-why

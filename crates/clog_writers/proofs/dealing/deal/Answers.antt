@@ -16,12 +16,13 @@ use Rattle.clog_writers.proofs.dealing.deal.Goals as goal
 
 pub loop-mutation-init : goal.loop-mutation-init
 loop-mutation-init g c =
-    let gives = c.into_iter-mutation-iterator.ensures.into_iter_gives in
-    record {
-      goes = subst (λ (l : List Mutation). DealsOut c.args.sizes c.args.flush_at c.args.mutations.items l 0
+    let sizes = c.args.sizes in let flush = c.args.flush_at in
+    let all = c.args.mutations.items in
+    let gives = c.into_iter-mutation-iterator.ensures.into_iter_gives in record {
+      goes = subst (λ (l : List Mutation). DealsOut sizes flush all l 0
           c.in_ok-workers.workers.items) (sym gives.0)
-          (begins_dealing c.args.sizes c.args.flush_at c.args.mutations.items c.in_ok-workers.workers.items
-          (c.in_ok-workers.ensures c.args.flush_at));
+          (begins_dealing sizes flush all c.in_ok-workers.workers.items
+          (c.in_ok-workers.ensures flush));
       within = subst (AllByRecursion IsWithinLimits) (sym gives.0) c.requires.within;
       count = let items = ap length gives.0 in omega (arith, items, gives.1, c.args.mutations.ok);
     }
@@ -53,11 +54,13 @@ loop-mutation-preserved g c =
 pub returns-in-Err : goal.returns-in-Err
 returns-in-Err g c =
     let l = c.loop-mutation in let I = l.invariant in
+    let sizes = c.args.sizes in let flush = c.args.flush_at in
+    let all = c.args.mutations.items in
     let steps = c.in-Some.ensures.steps in
-    refused_at c.args.sizes c.args.flush_at c.args.mutations.items c.next.new.self.rest.items c.in-Some.mutation
-    l.line l.workers.items c.in-Err.fault
-    (subst (λ (r : List Mutation). DealsOut c.args.sizes c.args.flush_at c.args.mutations.items r l.line
-    l.workers.items) steps.0 I.goes) c.in-Err.ensures
+    refused_at sizes flush all c.next.new.self.rest.items c.in-Some.mutation l.line l.workers.items
+    c.in-Err.fault
+    (subst (λ (r : List Mutation). DealsOut sizes flush all r l.line l.workers.items) steps.0
+    I.goes) c.in-Err.ensures
 
 pub returns : goal.returns
 returns g c =
@@ -65,6 +68,8 @@ returns g c =
     let rest = l.mutation-iterator.rest.items in
     let none_left : rest ≡ [] = nil_from_length rest
     (omega (arith, c.in-None.ensures.steps.0, I.count)) in
-    all_out c.args.sizes c.args.flush_at c.args.mutations.items l.line l.workers.items
-    (subst (λ (r : List Mutation). DealsOut c.args.sizes c.args.flush_at c.args.mutations.items r l.line
-    l.workers.items) none_left I.goes)
+    let sizes = c.args.sizes in let flush = c.args.flush_at in
+    let all = c.args.mutations.items in
+    all_out sizes flush all l.line l.workers.items
+    (subst (λ (r : List Mutation). DealsOut sizes flush all r l.line l.workers.items) none_left
+    I.goes)

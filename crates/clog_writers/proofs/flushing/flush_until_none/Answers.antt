@@ -1,14 +1,14 @@
 use Rattle.std.proofs.Common.{refl, ◌∙◌}
 use Rattle.path_rule.specs.Members.{view_of}
-use Rattle.write_path.proofs.Growing.{keeps_first, keeps_on}
-use Rattle.clog_writers.proofs.Tallying.{all_flushed, tallies_then}
+use Rattle.clog_writers.proofs.Keeping.{list_first, list_on}
+use Rattle.clog_writers.proofs.Tallying.{all_flushed, paid_then, tallies_then}
 use Rattle.clog_writers.proofs.flushing.flush_until_none.Goals as goal
 
 pub loop-init : goal.loop-init
 loop-init g c = let t = c.args.path.now.table in record {
   next = tt;
   finite = tt;
-  keeps = keeps_first t.table.shared.table_id t.size c.args.seat.member c.requires.table;
+  keeps = list_first t.table.shared.table_id t.size c.args.seat.member c.requires.table;
   most = refl;
   tallies = λ all. all;
 }
@@ -19,24 +19,38 @@ loop-preserved g c =
     let now = c.flush_tables-next.result in let done = c.flush_tables-next.ensures in record {
       next = tt;
       finite = tt;
-      keeps = keeps_on t.table.shared.table_id t.size c.args.seat.member l.seat.member now.0.member
+      keeps = list_on t.table.shared.table_id t.size c.args.seat.member l.seat.member now.0.member
           I.keeps done.keeps;
       most = done.most ∙ I.most;
       tallies = tallies_then t.table.shared.table_id t.size c.args.seat l.seat c.args.tally l.tally
-          (view_of now.0.member).trail now.1 I.keeps I.tallies done.tallies;
+          (view_of now.0.member).trail now.1 I.keeps I.tallies (done.tallies c.in-None-fault.is);
     }
 
 pub returns-in-Some-fault-clause-keeps : goal.returns-in-Some-fault-clause-keeps
 returns-in-Some-fault-clause-keeps g c =
     let t = c.args.path.now.table in let l = c.loop in
-    keeps_on t.table.shared.table_id t.size c.args.seat.member l.seat.member
+    list_on t.table.shared.table_id t.size c.args.seat.member l.seat.member
     c.flush_tables-next.result.0.member l.invariant.keeps c.flush_tables-next.ensures.keeps
 
 pub returns-then-not-is_any_due-clause-keeps : goal.returns-then-not-is_any_due-clause-keeps
 returns-then-not-is_any_due-clause-keeps g c =
     let t = c.args.path.now.table in let l = c.loop in
-    keeps_on t.table.shared.table_id t.size c.args.seat.member l.seat.member
+    list_on t.table.shared.table_id t.size c.args.seat.member l.seat.member
     c.flush_tables-next.result.0.member l.invariant.keeps c.flush_tables-next.ensures.keeps
+
+pub returns-in-Some-fault-clause-paid : goal.returns-in-Some-fault-clause-paid
+returns-in-Some-fault-clause-paid g c =
+    let t = c.args.path.now.table in let l = c.loop in let I = l.invariant in
+    paid_then t.table.shared.table_id t.size c.args.seat l.seat c.args.tally l.tally
+    (view_of c.flush_tables-next.result.0.member).trail I.keeps I.most I.tallies
+    c.flush_tables-next.ensures.paid
+
+pub returns-then-not-is_any_due-clause-paid : goal.returns-then-not-is_any_due-clause-paid
+returns-then-not-is_any_due-clause-paid g c =
+    let t = c.args.path.now.table in let l = c.loop in let I = l.invariant in
+    paid_then t.table.shared.table_id t.size c.args.seat l.seat c.args.tally l.tally
+    (view_of c.flush_tables-next.result.0.member).trail I.keeps I.most I.tallies
+    c.flush_tables-next.ensures.paid
 
 -- no flush is due
 pub returns-then-not-is_any_due-clause-flushed : goal.returns-then-not-is_any_due-clause-flushed
@@ -46,5 +60,5 @@ returns-then-not-is_any_due-clause-flushed g c = λ none all.
     all_flushed c.args.seat.member.number now.1 c.args.tally.most now.0
     (done.keeps.0.1 ∙ I.keeps.0.1) (done.most ∙ I.most)
     (tallies_then t.table.shared.table_id t.size c.args.seat l.seat c.args.tally l.tally
-    (view_of now.0.member).trail now.1 I.keeps I.tallies done.tallies all)
+    (view_of now.0.member).trail now.1 I.keeps I.tallies (done.tallies c.in-None-fault.is) all)
     (c.is_any_due.ensures c.if-not-is_any_due.true)

@@ -5,6 +5,7 @@ use Rattle.clog_writers.specs.declared.fault.WriteFault.{WriteFault}
 use Rattle.std.specs.Prelude.{Option, None}
 use Rattle.clog_writers.proofs.Committing.{sync_why}
 use Rattle.clog_writers.proofs.Lacking.{by_sync}
+use Rattle.clog_writers.proofs.Opening.{sync_opens}
 use Rattle.clog_writers.proofs.Timing.{knows_synced, seals_last}
 use Rattle.clog_writers.proofs.syncing.sync_seat.Goals as goal
 
@@ -38,3 +39,9 @@ returns-clause-seals g c = λ none.
     let size = c.args.path.now.table.size in
     seals_last c.args.seat.member.number size.at_open c.args.seat c.sync-seat.result.0
     c.sync-seat.result.1 c.sync-seat.ensures.syncs (sym c.refusal_of.ensures.is ∙ none)
+
+pub returns-clause-opened : goal.returns-clause-opened
+returns-clause-opened g c =
+    sync_opens c.args.seat.member.number c.args.path.now.table.size.at_open
+    (view_of c.args.seat.member) (view_of c.sync-seat.result.0.member) c.sync-seat.result.1
+    c.sync-seat.ensures.syncs

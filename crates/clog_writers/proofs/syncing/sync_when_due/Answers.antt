@@ -27,6 +27,9 @@ returns-in-None-clause-keeps g c =
 pub returns-in-None-clause-rows : goal.returns-in-None-clause-rows
 returns-in-None-clause-rows g c = no_fault None
 
+pub returns-in-None-clause-opened : goal.returns-in-None-clause-opened
+returns-in-None-clause-opened g c = λ t. refl
+
 pub returns-in-None-clause-due : goal.returns-in-None-clause-due
 returns-in-None-clause-due g c = λ period periodic.
     let told = c.in-None.ensures period periodic in (

@@ -19,13 +19,15 @@ use Rattle.std.proofs.lemmas.List.{nil_from_length}
 use Rattle.std.proofs.lemmas.Option.{none-some}
 use Rattle.clog_base.proofs.Members.{nothing_there}
 use Rattle.path_core.specs.declared.note.EntryNote.{EntryNote}
+use Rattle.path_rule.specs.declared.view.OwnStep.{OwnStep}
 use Rattle.path_rule.specs.Members.{view_of}
 use Rattle.write_path.specs.declared.prepared.Prepared.{Prepared}
+use Rattle.write_path.specs.Ends.{writes_of}
 use Rattle.clog_writers.specs.declared.fault.WriteFault.{WriteFault}
 use Rattle.clog_writers.specs.Crews.{KnowsWhy, MayLack}
 use Rattle.clog_writers.specs.Shares.{AddsWrite, ArePrepared, MayAddWrite, logged_by}
-use Rattle.clog_writers.specs.Tallied.{AreCountedFor, IsCountedFor}
-use Rattle.clog_writers.specs.Tallies.{MayTally}
+use Rattle.clog_writers.specs.Tallied.{ArePaid, AreCountedFor, IsCountedFor}
+use Rattle.clog_writers.specs.Tallies.{MayTally, limit_of}
 use Rattle.clog_writers.proofs.Committing.{
   GoesOn,
   all_earlier,
@@ -37,24 +39,25 @@ use Rattle.clog_writers.proofs.Committing.{
 }
 use Rattle.clog_writers.proofs.Lacking.{no_fault}
 use Rattle.clog_writers.proofs.NextLines.{GoesCounted, next_line, takes_next}
-use Rattle.clog_writers.proofs.Tallying.{none_yet}
+use Rattle.clog_writers.proofs.Tallying.{may_paid, none_yet}
 use Rattle.clog_writers.proofs.Timing.{none_timed, one_timed}
 use Rattle.clog_writers.proofs.worker.commit_lines.Goals as goal
 
 pub loop-prepared-init : goal.loop-prepared-init
 loop-prepared-init g c =
     let gives = c.into_iter-prepared-iterator.ensures.into_iter_gives in
-    let w = c.args.seat.member.number in record {
+    let w = c.args.seat.member.number in
+    let none = ap (λ (l : List OwnStep). writes_of l) c.requires.unused in record {
       same = (c.requires.table, refl);
       goes = λ lines prepared. subst (λ (q : List Prepared × List EntryNote).
           GoesOn c.args.sizes w lines q.0 q.1)
-          (λ i. (sym gives.0 i, reverse (sym c.requires.unused i)))
+          (λ i. (sym gives.0 i, reverse (sym none i)))
           (begins c.args.sizes w lines c.args.writes.items prepared);
       sealed = λ batch n among. absurd (nothing_there n
-          (subst (λ (l : List EntryNote). Contains l n) c.requires.unused among));
+          (subst (λ (l : List EntryNote). Contains l n) none among));
       timed = λ period periodic.
           none_timed (g.C.Clock.tells c.args.clock.now) c.args.syncing.mode
-          c.args.syncing.since_ms (view_of c.args.seat.member).trail c.requires.unused;
+          c.args.syncing.since_ms (view_of c.args.seat.member).trail none;
       counted = record {
         left = c.requires.prepared.0;
         prepared = subst (ArePrepared c.args.sizes c.requires.prepared.0) (sym gives.0)
@@ -107,8 +110,8 @@ loop-prepared-preserved g c =
     let now = one.new.self.rest.items in
     let taken = takes_next counts now l.counts.rest.len one.new.self.rest.len one.result I.left
     one.ensures.items one.ensures.cases in
-    let line = next_line c.args.sizes w c.args.flush_at c.in-Some.prepared rest counts now one.result
-    l.tally before
+    let line = next_line c.args.sizes w c.args.flush_at c.in-Some.prepared rest counts now
+    one.result l.tally before
     (subst (λ (ps : List Prepared). GoesCounted c.args.sizes w c.args.flush_at ps counts l.tally
     before) steps.0 I.counted) taken.0 in
     record {
@@ -218,6 +221,33 @@ returns-in-Some-fault-clause-limit g c =
 pub returns-in-Some-fault-clause-tallies : goal.returns-in-Some-fault-clause-tallies
 returns-in-Some-fault-clause-tallies g c = λ none.
     absurd (none-some c.in-Some-fault.fault (sym none))
+
+pub returns-in-Some-fault-clause-paid : goal.returns-in-Some-fault-clause-paid
+returns-in-Some-fault-clause-paid g c =
+    let l = c.loop-prepared in let I = l.invariant in let w = c.args.seat.member.number in
+    let before = (view_of l.seat.member).trail in
+    let after = (view_of c.commit_next-next.result.0.member).trail in
+    let one = c.next-in-loop-prepared in
+    let counts = l.counts.rest.items in
+    let now = one.new.self.rest.items in
+    let taken = takes_next counts now l.counts.rest.len one.new.self.rest.len one.result I.left
+    one.ensures.items one.ensures.cases in
+    let line = next_line c.args.sizes w c.args.flush_at c.in-Some.prepared
+    c.next.new.self.rest.items counts now one.result l.tally before
+    (subst (λ (ps : List Prepared). GoesCounted c.args.sizes w c.args.flush_at ps counts l.tally
+    before) c.in-Some.ensures.steps.0 I.counted) taken.0 in
+    subst (λ (f : Option ℕ). ArePaid f w after) I.counted.limit
+    (subst (λ (k : ℕ). ArePaid (limit_of l.tally) k after) I.same.1
+    (c.commit_next-next.ensures.paid c.args.sizes line.line line.prepared
+    (subst (λ (f : Option ℕ). IsCountedFor f line.line.mutation one.result)
+    (sym I.counted.limit) line.counted)
+    (subst (λ (k : ℕ). MayTally k l.tally before) (sym I.same.1) I.counted.tallies)))
+
+pub returns-clause-paid : goal.returns-clause-paid
+returns-clause-paid g c =
+    let l = c.loop-prepared in let I = l.invariant.counted in let w = c.args.seat.member.number in
+    let trail = (view_of l.seat.member).trail in
+    subst (λ (f : Option ℕ). ArePaid f w trail) I.limit (may_paid w l.tally trail I.tallies)
 
 pub returns-clause-rows : goal.returns-clause-rows
 returns-clause-rows g c = no_fault c.args.flush_at

@@ -1,14 +1,18 @@
-use Rattle.std.proofs.Common.{◌≡◌, ℕ, true, Option, sym, ◌∙◌, subst}
+use Rattle.std.proofs.Common.{◌≡◌, ℕ, true, Option, length, sym, ◌∙◌, subst}
 use Rattle.std.specs.Prelude.{IsSome}
 use Rattle.std.proofs.lemmas.Option.{none-some}
 use Rattle.path_rule.specs.Members.{view_of}
+use Rattle.write_path.proofs.Growing.{no_shorter}
 use Rattle.clog_writers.specs.declared.fault.WriteFault.{WriteFault}
 use Rattle.clog_writers.specs.Crews.{MayLack}
+use Rattle.clog_writers.specs.Tallied.{ArePaid}
 use Rattle.clog_writers.specs.Tallies.{MayTally, limit_of}
 use Rattle.clog_writers.proofs.Committing.{adds_on, earlier_on, may_on, sealed_on}
 use Rattle.clog_writers.proofs.Lacking.{lacks_any}
-use Rattle.clog_writers.proofs.Tallying.{one_more}
+use Rattle.clog_writers.proofs.Paying.{paid_with}
+use Rattle.clog_writers.proofs.Tallying.{may_paid, one_more}
 use Rattle.clog_writers.proofs.Timing.{times_on}
+use Rattle.clog_writers.proofs.TriedFlushes.{may_since}
 use Rattle.clog_writers.proofs.worker.commit_next.Goals as goal
 
 -- ---- the write is committed, and tables are flushed behind it
@@ -76,11 +80,36 @@ returns-in-None-clause-tallies g c = λ none sizes line prepared counted all.
     let then = (view_of one.result.0.member).trail in
     subst (λ (k : ℕ). MayTally k c.flush_due-seat.result.1
     (view_of c.flush_due-seat.result.0.member).trail) one.ensures.same.1
-    (c.flush_due-seat.ensures.tallies
+    (c.flush_due-seat.ensures.tallies none
     (subst (λ (k : ℕ). MayTally k now then) (sym one.ensures.same.1)
     (one_more w sizes line c.args.prepared (view_of c.args.seat.member).trail then
-    (one.ensures.logged c.in-None.is) one.ensures.grown prepared c.args.tally c.args.counts now
-    c.tally_with-tally.ensures.limit c.tally_with-tally.ensures.adds counted all)))
+    (one.ensures.logged c.in-None.is) one.ensures.grown one.ensures.opened prepared c.args.tally
+    c.args.counts now c.tally_with-tally.ensures.limit c.tally_with-tally.ensures.adds counted
+    all)))
+
+pub returns-in-None-clause-paid : goal.returns-in-None-clause-paid
+returns-in-None-clause-paid g c = λ sizes line prepared counted all.
+    let one = c.commit_one-seat in
+    let w = c.args.seat.member.number in
+    let now = c.tally_with-tally.result in
+    let then = (view_of one.result.0.member).trail in
+    let after = (view_of c.flush_due-seat.result.0.member).trail in
+    subst (λ (f : Option ℕ). ArePaid f w after) c.tally_with-tally.ensures.limit
+    (subst (λ (k : ℕ). ArePaid (limit_of now) k after) one.ensures.same.1
+    (c.flush_due-seat.ensures.paid
+    (subst (λ (k : ℕ). MayTally k now then) (sym one.ensures.same.1)
+    (one_more w sizes line c.args.prepared (view_of c.args.seat.member).trail then
+    (one.ensures.logged c.in-None.is) one.ensures.grown one.ensures.opened prepared c.args.tally
+    c.args.counts now c.tally_with-tally.ensures.limit c.tally_with-tally.ensures.adds counted
+    all))))
+
+pub returns-in-None-clause-tried : goal.returns-in-None-clause-tried
+returns-in-None-clause-tried g c = λ none.
+    let before = (view_of c.args.seat.member).trail in
+    let then = (view_of c.commit_one-seat.result.0.member).trail in
+    may_since (length before) (length then) c.flush_due-seat.result.1
+    (view_of c.flush_due-seat.result.0.member).trail
+    (no_shorter before then c.commit_one-seat.ensures.grown) (c.flush_due-seat.ensures.tried none)
 
 -- ---- it was refused
 
@@ -92,3 +121,14 @@ returns-in-Some-clause-rows g c =
 pub returns-in-Some-clause-tallies : goal.returns-in-Some-clause-tallies
 returns-in-Some-clause-tallies g c = λ none sizes line prepared counted all.
     absurd (none-some c.in-Some.fault (sym none))
+
+pub returns-in-Some-clause-paid : goal.returns-in-Some-clause-paid
+returns-in-Some-clause-paid g c = λ sizes line prepared counted all.
+    let w = c.args.seat.member.number in
+    let before = (view_of c.args.seat.member).trail in
+    paid_with (limit_of c.args.tally) w sizes line c.args.prepared before
+    (view_of c.commit_one-seat.result.0.member).trail c.commit_one-seat.ensures.may
+    c.commit_one-seat.ensures.opened prepared (may_paid w c.args.tally before all)
+
+pub returns-in-Some-clause-tried : goal.returns-in-Some-clause-tried
+returns-in-Some-clause-tried g c = λ none. absurd (none-some c.in-Some.fault (sym none))

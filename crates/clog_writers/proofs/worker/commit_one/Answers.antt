@@ -19,6 +19,7 @@ use Rattle.clog_writers.proofs.Committing.{
   where_logged,
 }
 use Rattle.clog_writers.proofs.Lacking.{by_commit}
+use Rattle.clog_writers.proofs.Opening.{commit_opens}
 use Rattle.clog_writers.proofs.Timing.{logs_last, times_write}
 use Rattle.clog_writers.proofs.worker.commit_one.Goals as goal
 
@@ -39,6 +40,13 @@ returns-in-None-clause-grown g c =
     both before v.trail (view_of c.sync_when_due.result.0.member).trail
     (commit_grows size w before c.args.prepared v c.args.path.now.mode c.commit-seat.result.1
     c.commit-seat.ensures.committed) c.sync_when_due.ensures.keeps.2
+
+pub returns-in-None-clause-opened : goal.returns-in-None-clause-opened
+returns-in-None-clause-opened g c = λ t.
+    c.sync_when_due.ensures.opened t
+    ∙ commit_opens c.args.path.now.table.size c.args.seat.member.number
+    (view_of c.args.seat.member).trail c.args.prepared (view_of c.commit-seat.result.0.member)
+    c.args.path.now.mode c.commit-seat.result.1 c.commit-seat.ensures.committed t
 
 pub returns-in-None-clause-logged : goal.returns-in-None-clause-logged
 returns-in-None-clause-logged g c = λ none.
@@ -109,6 +117,12 @@ returns-in-None-clause-timed g c = λ period periodic none.
 pub returns-in-Some-clause-grown : goal.returns-in-Some-clause-grown
 returns-in-Some-clause-grown g c =
     commit_grows c.args.path.now.table.size c.args.seat.member.number
+    (view_of c.args.seat.member).trail c.args.prepared (view_of c.commit-seat.result.0.member)
+    c.args.path.now.mode c.commit-seat.result.1 c.commit-seat.ensures.committed
+
+pub returns-in-Some-clause-opened : goal.returns-in-Some-clause-opened
+returns-in-Some-clause-opened g c =
+    commit_opens c.args.path.now.table.size c.args.seat.member.number
     (view_of c.args.seat.member).trail c.args.prepared (view_of c.commit-seat.result.0.member)
     c.args.path.now.mode c.commit-seat.result.1 c.commit-seat.ensures.committed
 

@@ -4,6 +4,7 @@ use Rattle.path_rule.specs.declared.trying.PathSeat.{PathSeat}
 use Rattle.clog_writers.specs.Sealing.{HasWaited}
 use Rattle.clog_writers.specs.Shares.{ArePrepared, LogsShare, logged_by}
 use Rattle.clog_writers.specs.Timed.{HasTimed}
+use Rattle.clog_writers.proofs.Paying.{has_opened}
 use Rattle.clog_writers.proofs.worker.commit_share.Goals as goal
 
 pub returns-clause-logged : goal.returns-clause-logged
@@ -26,6 +27,10 @@ returns-clause-logged g c = λ number lines ready.
           (sym c.replace-writes.ensures.value) ready.1.prepared));
       why = w.ensures.why;
       flushed = w.ensures.flushed;
+      opened = has_opened c.args.flush_at c.in-Some.seat.member.number lines w.result.1 w.result.0
+          (w.ensures.logs lines
+          (subst (λ (v : _). ArePrepared c.args.sizes lines v.items)
+          (sym c.replace-writes.ensures.value) ready.1.prepared)) w.ensures.paid;
       rows = w.ensures.rows;
     }
 

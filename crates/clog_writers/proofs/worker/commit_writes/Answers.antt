@@ -6,7 +6,7 @@ use Rattle.path_rule.specs.Members.{view_of}
 use Rattle.clog_writers.specs.declared.fault.WriteFault.{WriteFault}
 use Rattle.clog_writers.specs.Crews.{KnowsWhy, MayLack}
 use Rattle.clog_writers.specs.Shares.{LogsShare, logged_by}
-use Rattle.clog_writers.specs.Tallied.{HasFlushedAll}
+use Rattle.clog_writers.specs.Tallied.{ArePaid, HasFlushedAll}
 use Rattle.clog_writers.specs.Tallies.{MayTally}
 use Rattle.clog_writers.proofs.Committing.{earlier_on, logs_on}
 use Rattle.clog_writers.proofs.Timing.{timed_on}
@@ -65,6 +65,16 @@ returns-in-None-clause-flushed g c = λ none.
     (c.flush_rest.ensures.flushed none
     (subst (λ (k : ℕ). MayTally k lines.result.1 (view_of lines.result.0.member).trail)
     (sym lines.ensures.same.1) (lines.ensures.tallies c.in-None.is)))
+
+pub returns-in-None-clause-paid : goal.returns-in-None-clause-paid
+returns-in-None-clause-paid g c =
+    let lines = c.commit_lines-seat in
+    let after = (view_of c.flush_rest.result.0.member).trail in
+    subst (λ (k : ℕ). ArePaid c.args.flush_at k after) lines.ensures.same.1
+    (subst (λ (f : Option ℕ). ArePaid f lines.result.0.member.number after) lines.ensures.limit
+    (c.flush_rest.ensures.paid
+    (subst (λ (k : ℕ). MayTally k lines.result.1 (view_of lines.result.0.member).trail)
+    (sym lines.ensures.same.1) (lines.ensures.tallies c.in-None.is))))
 
 -- ---- one was refused
 

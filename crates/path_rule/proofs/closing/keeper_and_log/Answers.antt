@@ -1,22 +1,5 @@
-use Rattle.std.proofs.Common.{
-  ◌≡◌,
-  ◌+◌,
-  ◌<◌,
-  ◌≤◌,
-  ℕ,
-  Bool,
-  true,
-  false,
-  List,
-  get_or,
-  sym,
-  ap,
-  ◌∙◌,
-  subst,
-  arith,
-  get_or-set_other,
-}
-use Rattle.std.specs.Slots.{slots_filled, slots_len}
+use Rattle.std.proofs.Common.{Bool, false, List, get_or, ap, ◌∙◌, arith, get_or-set_other}
+use Rattle.std.specs.Slots.{slots_filled}
 use mathlib.Core.Logic.{dite}
 use native.Mathlib.Decide.{ℕ_discrete}
 use Rattle.path_rule.proofs.seats.Ends.{set_false}

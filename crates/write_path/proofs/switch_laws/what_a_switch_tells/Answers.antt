@@ -13,7 +13,13 @@ pub returns-clause-second : goal.returns-clause-second
 returns-clause-second c = inl (refl, refl, refl, refl)
 
 pub returns-clause-list : goal.returns-clause-list
-returns-clause-list c = λ before. ((refl, (refl, (refl, (refl, (refl, tt))))), refl)
+returns-clause-list c = λ before. (
+  ((refl, refl), ((refl, refl), (refl, ((refl, refl), ((refl, refl), tt))))),
+  refl,
+)
+
+pub returns-clause-other : goal.returns-clause-other
+returns-clause-other c = λ A. absurd (let q = A.0.1 in omega (arith, q))
 
 pub returns-clause-looked : goal.returns-clause-looked
 returns-clause-looked c = λ before. refl
@@ -26,3 +32,12 @@ returns-clause-full c = (refl, (tt, (tt, tt)), inl (refl, refl), inr (inl (refl,
 
 pub returns-clause-switched : goal.returns-clause-switched
 returns-clause-switched c = λ S. S.0
+
+pub returns-clause-opened : goal.returns-clause-opened
+returns-clause-opened c = refl
+
+pub returns-clause-opened_other : goal.returns-clause-opened_other
+returns-clause-opened_other c = refl
+
+pub returns-clause-found : goal.returns-clause-found
+returns-clause-found c = refl

@@ -1,7 +1,16 @@
-use Rattle.std.proofs.Common.{◌∙◌}
+use Rattle.std.proofs.Common.{◌∙◌, refl}
 use Rattle.op_core.specs.declared.count.Order.TheVariants.{Append}
-use Rattle.write_path.proofs.Growing.{joined, keeps_on, only_looked}
+use Rattle.write_path.proofs.Growing.{joined, keeps_first, keeps_on, only_looked}
 use Rattle.write_path.proofs.seats.WritePath.append.Goals as goal
+
+pub loop-init : goal.loop-init
+loop-init g c = let t = c.args.self.now.table in record {
+  next = tt;
+  finite = tt;
+  keeps = keeps_first t.table.shared.table_id t.size c.args.seat.member
+      (c.requires.0, c.requires.1);
+  group = refl;
+}
 
 pub returns-in-Ok : goal.returns-in-Ok
 returns-in-Ok g c = let t = c.args.self.now.table in let m = c.loop.seat.member in

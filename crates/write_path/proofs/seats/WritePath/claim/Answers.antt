@@ -1,7 +1,17 @@
-use Rattle.std.proofs.Common.{◌∙◌}
-use Rattle.write_path.proofs.Growing.{again, claimed, keeps_on, spent}
+use Rattle.std.proofs.Common.{◌∙◌, refl}
+use Rattle.write_path.proofs.Growing.{again, claimed, keeps_first, keeps_on, spent}
 use Rattle.write_path.proofs.Rooms.{no_room_here}
 use Rattle.write_path.proofs.seats.WritePath.claim.Goals as goal
+
+pub loop-init : goal.loop-init
+loop-init g c = let t = c.args.self.now.table in record {
+  next = tt;
+  finite = tt;
+  keeps = keeps_first t.table.shared.table_id t.size c.args.seat.member
+      (c.requires.table.0, c.requires.table.1);
+  writing = refl;
+  group = refl;
+}
 
 pub returns-in-Claimed-clause-claim : goal.returns-in-Claimed-clause-claim
 returns-in-Claimed-clause-claim g c = let t = c.args.self.now.table in

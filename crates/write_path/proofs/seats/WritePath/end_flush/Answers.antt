@@ -62,6 +62,6 @@ returns-clause-steps g c = let P = c.pass_all-member in let F = c.give_flush in
     let after = G.new.member.seat.me.0 in let d = F.ensures.step in
     then_quiet w z v u after P.ensures.same.1 (quiet_round w [] v u P.ensures.steps)
     (then_quiet z y u x after F.ensures.same.1
-    (quiet_one z (GiveTurn z (Flush c.args.table)) 0 _ u x refl tt tt
+    (quiet_one z (GiveTurn z (Flush c.args.table)) 0 _ u x (refl, refl) tt tt
     (record { view = d.view; was = d.was }))
     (quiet_one y (GiveTurn y Sync) 0 _ x after refl tt tt G.ensures.step))

@@ -1,4 +1,4 @@
-use Rattle.std.proofs.Common.{◌++◌, [], inl, inr, sym, ap, ◌∙◌, subst}
+use Rattle.std.proofs.Common.{◌++◌, ◌≤◌, [], inl, inr, sym, ap, ◌∙◌, subst, arith}
 use Rattle.std.proofs.lemmas.Option.{none-some}
 use Rattle.op_core.specs.declared.count.Order.TheVariants.{Write}
 use Rattle.path_core.specs.declared.event.Place.TheVariants.{Current}
@@ -6,6 +6,7 @@ use Rattle.path_rule.specs.declared.view.Hands.{Hands}
 use Rattle.path_rule.proofs.seats.Answering.{found_after, found_before}
 use Rattle.write_path.specs.FlushSteps.{Finalises}
 use Rattle.write_path.specs.FlushSwitches.{SwitchedNone, SwitchedTo}
+use Rattle.write_path.specs.Opens.{opens}
 use Rattle.write_path.proofs.FilingGoes.{unswitched}
 use Rattle.write_path.proofs.FlushAnswers.{flushed, got_turn, later}
 use Rattle.write_path.proofs.FlushBarring.{final_before}
@@ -25,6 +26,7 @@ use Rattle.write_path.proofs.SwitchGoes.{
   stage_same,
   then_quiet,
 }
+use Rattle.write_path.proofs.StepsOpen.{none_opened, opens_both, round_opens}
 use Rattle.write_path.proofs.seats.WritePath.flush_newest.Goals as goal
 
 pub take_sync_beside-member-requires-clause-holds :
@@ -70,6 +72,7 @@ returns-in-None-clause-flushes g c = let t = c.args.table.0 in
     (quiet_round w [] v u T.ensures.steps) (quiet_round z [] u x N.steps)) L in
     λ k b q same free. let A = then_quiet k w b v after same q Q in record {
       steps = A.made;
+      opened = let none = none_opened t A.made.steps A.none in omega (arith, none);
       list = same_list k b after A.made;
       is = (
         N.last,
@@ -154,7 +157,10 @@ returns-in-Some-clause-flushes g c = let t = c.args.table.0 in let m = c.args.ne
     (subst (λ k. Finalises k t m key S.made.steps) first S.set) in
     let K = kept_both S.made.steps T.ensures.steps.steps S.kept
     (round_kept w T.ensures.steps.steps T.ensures.steps.are) in
+    let all = opens_both t S.made.steps T.ensures.steps.steps in
+    let none = round_opens w t T.ensures.steps.steps T.ensures.steps.are in let most = S.opened in
+    let one_most : opens t A.steps ≤ 1 = omega (arith, all, none, most) in
     λ k b q same free. later k w t b v after M.result.1 same (unswitched k b v q)
     (got_turn y t m x e M.result.1 M.ensures.retired)
-    (flushed w y t m key v x e after M.result.1 second r M.ensures.same.1 A F K S.wrote
+    (flushed w y t m key v x e after M.result.1 second r M.ensures.same.1 A F K one_most S.wrote
     M.ensures.retired L.ensures.steps)

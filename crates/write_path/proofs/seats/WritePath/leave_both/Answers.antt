@@ -27,7 +27,7 @@ pub returns-clause-steps : goal.returns-clause-steps
 returns-clause-steps g c = let w = c.args.member.number in let G = c.give_flush.ensures in
     let d = G.step in record {
       made = next w _ _ _ _ G.same.1
-          (one w (GiveTurn w (Flush c.args.table)) 0 _ _ _ refl
+          (one w (GiveTurn w (Flush c.args.table)) 0 _ _ _ (refl, refl)
           (record { view = d.view; was = d.was }))
           (one _ (GiveTurn _ Sync) 0 _ _ _ refl c.give_sync_turn.ensures.step);
       none = (tt, (tt, tt));

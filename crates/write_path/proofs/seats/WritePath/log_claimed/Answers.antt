@@ -2,13 +2,18 @@ use Rattle.std.proofs.Common.{◌∙◌}
 use Rattle.op_core.specs.declared.count.Order.TheVariants.{Append}
 use Rattle.path_core.specs.declared.event.Carried.TheVariants.{Deposit}
 use Rattle.path_core.specs.declared.event.Event.TheVariants.{Close}
-use Rattle.write_path.proofs.Growing.{both, ended, one_step}
+use Rattle.write_path.proofs.Growing.{ended, one_step, then_kept}
 use Rattle.write_path.proofs.Sealing.{ends_last}
 use Rattle.write_path.proofs.seats.WritePath.log_claimed.Goals as goal
 
 pub returns-clause-logged : goal.returns-clause-logged
 returns-clause-logged g c = let L = c.deposit-deposited.ensures.listed in
-    let m = c.args.seat.member in let D = c.deposit-deposited in let step = D.ensures.step in record {
+    let m = c.args.seat.member in let D = c.deposit-deposited in let step = D.ensures.step in
+    let G = then_kept m.seat.me.0.trail D.result.0.member.seat.me.0.trail
+    c.end_write-seat.result.member.seat.me.0.trail
+    (one_step m.seat.me.0 m.number (Close m.number Append c.args.seat.group (Deposit step.0))
+    step.1 D.result.0.member.seat.me.0 tt tt step.2)
+    (ended D.result.0 c.end_write-seat.result.member c.end_write-seat.ensures.ends) in record {
       behind = c.requires.behind;
       tables = c.deposit-deposited.result.0.tables;
       listed = record {
@@ -22,9 +27,7 @@ returns-clause-logged g c = let L = c.deposit-deposited.ensures.listed in
         tables_are = L.tables_are;
         of = L.of;
       };
-      grown = both m.seat.me.0.trail D.result.0.member.seat.me.0.trail
-          c.end_write-seat.result.member.seat.me.0.trail
-          (one_step m.seat.me.0 m.number (Close m.number Append c.args.seat.group (Deposit step.0))
-          step.1 D.result.0.member.seat.me.0 step.2)
-          (ended D.result.0 c.end_write-seat.result.member c.end_write-seat.ensures.ends);
+      grown = G.0;
+      kept = G.1;
+      unswitched = G.2;
     }

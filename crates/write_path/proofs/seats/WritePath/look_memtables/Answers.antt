@@ -13,7 +13,7 @@ use Rattle.write_path.proofs.seats.WritePath.look_memtables.Goals as goal
 
 abbrev looked : (w z o n : ℕ) (t : Table) (v u after : View) → z ≡ w
     → Did v w (Look w (CursorWord (OldestLive t))) o u → Did u z (Look z (Newest t)) n after
-    → QuietSteps w v after
+    → QuietSteps w t.0 v after
 looked w z o n t v u after same a b = record {
   made = next w z v u after same (one w (Look w (CursorWord (OldestLive t))) o _ v u refl
       (record { view = a.view; was = a.was }))

@@ -18,6 +18,7 @@ use Rattle.write_path.proofs.FlushSwitching.{
   raise_keeps,
   to_oldest,
 }
+use Rattle.write_path.proofs.StepsOpen.{opens_one}
 use Rattle.write_path.proofs.seats.WritePath.make_final.Goals as goal
 
 pub open_memtable-requires-clause-turn : goal.open_memtable-requires-clause-turn
@@ -42,12 +43,15 @@ returns-clause-made g c =
     let R = c.raise_marked in let F = c.finalise_memtable in
     let n1 = O.ensures.same.1 in let n2 = M.ensures.same.1 ∙ n1 in
     let n3 = L.ensures.same.1 ∙ n2 in let n4 = R.ensures.same.1 ∙ n3 in
-    let one = on_table w t.0 (Switch w t (k + 1) Open) (k + 1) _ _ tt refl O.ensures.step in
-    let two = on_table _ t.0 (Switch _ t k Mark) (2 ^ 62) _ _ tt refl M.ensures.step in
+    let one = on_table w t.0 (Switch w t (k + 1) Open) (k + 1) _ _ tt (refl, refl)
+    O.ensures.step in
+    let two = on_table _ t.0 (Switch _ t k Mark) (2 ^ 62) _ _ tt (refl, refl) M.ensures.step in
     let three = on_table _ t.0 (Look _ Log) L.result _ _ tt refl L.ensures.step in
-    let four = on_table _ t.0 (Raise _ t k (record { 0 = L.result })) R.ensures.step.0 _ _ tt refl
+    let four = on_table _ t.0 (Raise _ t k (record { 0 = L.result })) R.ensures.step.0 _ _ tt
+    (refl, refl)
     R.ensures.step.1 in
-    let five = on_table _ t.0 (Finalise _ t k) (F.result.0 + 2 ^ 62) _ _ tt refl F.ensures.step in
+    let five = on_table _ t.0 (Finalise _ t k) (F.result.0 + 2 ^ 62) _ _ tt (refl, refl)
+    F.ensures.step in
     let all = then_table w _ t.0 _ _ _ n4 (then_table w _ t.0 _ _ _ n3
     (then_table w _ t.0 _ _ _ n2 (then_table w _ t.0 _ _ _ n1 one two) three) four) five in
     let z = M.new.member.number in
@@ -56,6 +60,8 @@ returns-clause-made g c =
       made = all.made;
       set = inl (n4, refl, refl, refl);
       kept = (tt, (tt, (tt, (tt, (tt, tt)))));
+      opened = opens_one t.0
+          (record { event = Switch w t (k + 1) Open; found = k + 1; filed = None });
       wrote = wrote_more L.result F.result.0 (F.ensures.above L.result R.ensures.raised) _
           (still_wrote z L.result _ _ last.made
           (under_log M.new.member.seat.me.0 z L.result L.ensures.found.0 L.ensures.found.1));

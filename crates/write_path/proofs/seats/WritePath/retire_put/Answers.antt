@@ -129,7 +129,7 @@ returns-in-Some-clause-retired g c =
     let a = c.in-Some.answer in
     let more : k + 1 ≡ suc k = omega arith in
     stopped_behind w z t.0 k lo v u after a R.ensures.same.1 (record {
-      made = filed_one w (Put w (OldestLive t) (k + 1)) (k + 1) lo _ v u refl tt d;
+      made = filed_one w (Put w (OldestLive t) (k + 1)) (k + 1) lo _ v u (refl, refl) tt d;
       stage = stage_filed v u w (k + 1) lo t (k + 1) _ d t.0;
     }) (inl (refl, more, refl))
     (subst (λ (o : Option Flush). MayStop z t.0 u o after) c.in-Some.is D.ensures.stopped)
@@ -147,7 +147,7 @@ returns-in-None-clause-retired g c =
     let W = subst (λ (n : ℕ). (was : Was v w (Put w (OldestLive t) n))
     × RetiresFiledIn was.core (Put w (OldestLive t) n) t.0 k f) more (R.ensures.was f F.2) in
     let first : RetiringSteps w t.0 v u = record {
-      made = filed_one w (Put w (OldestLive t) (k + 1)) (k + 1) lo _ v u refl tt d;
+      made = filed_one w (Put w (OldestLive t) (k + 1)) (k + 1) lo _ v u (refl, refl) tt d;
       stage = stage_filed v u w (k + 1) lo t (k + 1) _ d t.0;
     } in
     let then = subst (λ (o : Option Flush). MayStop z t.0 u o after) c.in-None.is

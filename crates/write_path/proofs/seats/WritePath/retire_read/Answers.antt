@@ -21,8 +21,8 @@ returns-clause-same g c = let R = c.retire_empty.ensures in let d = R.step in (
 
 pub returns-clause-steps : goal.returns-clause-steps
 returns-clause-steps g c = let w = c.args.member.number in
-    one w (Put w (OldestLive c.args.table) (c.args.memtable + 1)) (c.args.memtable + 1) _ _ _ refl
-    c.retire_empty.ensures.step
+    one w (Put w (OldestLive c.args.table) (c.args.memtable + 1)) (c.args.memtable + 1) _ _ _
+    (refl, refl) c.retire_empty.ensures.step
 
 pub returns-clause-holds : goal.returns-clause-holds
 returns-clause-holds g c = let m = c.args.member in let R = c.retire_empty in

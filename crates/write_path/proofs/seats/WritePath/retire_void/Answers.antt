@@ -38,7 +38,8 @@ returns-clause-retired g c = let m = c.args.member in let S = c.requires.sees in
     let W = subst (λ (n : ℕ). (was : Was m.seat.me.0 w (Put w (OldestLive t) n))
     × RetiresEmptyIn was.core t.0 k) more R.ensures.was in record {
       steps = record {
-        made = unswitched_one w (Put w (OldestLive t) (k + 1)) (k + 1) _ _ _ refl tt R.ensures.step;
+        made = unswitched_one w (Put w (OldestLive t) (k + 1)) (k + 1) _ _ _ (refl, refl) tt
+            R.ensures.step;
         stage = stage_put m.seat.me.0 R.new.member.seat.me.0 w (k + 1) t (k + 1) _
             R.ensures.step t.0;
       };

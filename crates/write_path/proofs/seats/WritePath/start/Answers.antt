@@ -1,6 +1,14 @@
 use Rattle.op_core.specs.declared.count.Order.TheVariants.{Write}
-use Rattle.write_path.proofs.Growing.{keeps_on, only_looked, started}
+use Rattle.write_path.proofs.Growing.{keeps_first, keeps_on, only_looked, started}
 use Rattle.write_path.proofs.seats.WritePath.start.Goals as goal
+
+pub loop-init : goal.loop-init
+loop-init g c = let t = c.args.self.now.table in record {
+  next = tt;
+  finite = tt;
+  keeps = keeps_first t.table.shared.table_id t.size c.args.seat.member
+      (c.requires.0, c.requires.1);
+}
 
 pub returns-in-Ok : goal.returns-in-Ok
 returns-in-Ok g c = let t = c.args.self.now.table in let m = c.loop.seat.member in

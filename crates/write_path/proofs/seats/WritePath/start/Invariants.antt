@@ -1,10 +1,10 @@
-use Rattle.write_path.specs.Commits.{KeepsList}
+use Rattle.write_path.specs.Commits.{KeepsMemtables}
 use Rattle.write_path.proofs.seats.WritePath.start.Given as goal
 
 abbrev pub invariant-loop : goal.invariant-loop
 invariant-loop g l = record {
   next : (goal.iterator-loop g).can_next l.iterator';
   finite : (goal.iterator-loop g).is_finite l.iterator';
-  keeps : KeepsList l.self.table.table.shared.table_id l.self.table.size l.initial.seat.member
+  keeps : KeepsMemtables l.self.table.table.shared.table_id l.self.table.size l.initial.seat.member
       l.seat.member;
 }

@@ -17,6 +17,7 @@ use Rattle.write_path.proofs.FlushBarring.{
 }
 use Rattle.write_path.proofs.FlushGoes.{next, of_round, still_wrote}
 use Rattle.write_path.proofs.SwitchGoes.{kept_both, round_kept}
+use Rattle.write_path.proofs.StepsOpen.{none_opened, opens_both, round_opens}
 use Rattle.write_path.proofs.seats.WritePath.switch_table.Goals as goal
 
 pub returns-then-current-eq-LAST_GROUP-clause-holds :
@@ -69,9 +70,9 @@ returns-clause-switched g c = let m = c.args.member in
     let W = c.write_barrier-holder in let M = F.ensures.made in let t = c.args.table.0 in
     let k = c.args.newest in let w = m.number in let key = F.result.0 in
     let n1 = S.ensures.same.1 in let n2 = F.ensures.same.1 ∙ n1 in
-    let look = of_round w [] m.seat.me.0 S.new.member.seat.me.0
+    let look = of_round {t = t} w [] m.seat.me.0 S.new.member.seat.me.0
     (one w (Look w (Current Write)) S.result _ _ refl S.ensures.step) in
-    let wait = of_round F.new.member.number [] _ _ W.ensures.steps in record {
+    let wait = of_round {t = t} F.new.member.number [] _ _ W.ensures.steps in record {
       made = next w F.new.member.number _ _ _ n2 (next w S.new.member.number _ _ _ n1 look M.made)
           wait;
       set = final_behind w t k key wait.steps (M.made.steps ++ look.steps)
@@ -80,6 +81,12 @@ returns-clause-switched g c = let m = c.args.member in
       kept = kept_both wait.steps (M.made.steps ++ look.steps)
           (round_kept F.new.member.number wait.steps W.ensures.steps.are)
           (kept_both M.made.steps look.steps M.kept (tt, tt));
+      opened = let here = M.opened in
+          let first = opens_both t M.made.steps look.steps in
+          let all = opens_both t wait.steps (M.made.steps ++ look.steps) in
+          let none = none_opened t look.steps (tt, tt) in
+          let waits = round_opens F.new.member.number t wait.steps W.ensures.steps.are in
+          omega (arith, here, first, all, none, waits);
       wrote = still_wrote F.new.member.number key _ _ wait M.wrote;
       hands = W.ensures.passed.1 ∙ (M.hands ∙ S.ensures.hands);
       drained = record {

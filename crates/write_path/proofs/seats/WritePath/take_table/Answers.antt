@@ -10,7 +10,7 @@ pub returns-then-found-eq0-clause-step : goal.returns-then-found-eq0-clause-step
 returns-then-found-eq0-clause-step g c = let w = c.args.seat.member.number in
     let D = c.take_flush-found.ensures.hit c.if-found-eq0.true in
     record {
-      made = one w (TakeTurn w (Flush c.args.table)) 1 _ _ _ refl
+      made = one w (TakeTurn w (Flush c.args.table)) 1 _ _ _ (refl, refl)
           (record { view = D.view; was = D.was });
       none = (tt, tt);
       kept = (tt, tt);

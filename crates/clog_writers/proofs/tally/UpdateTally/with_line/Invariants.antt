@@ -1,6 +1,6 @@
 use Rattle.std.proofs.Common.{◌≡◌, ◌+◌, ◌<◌, ◌≤◌, ℕ, length, min, slice_index}
 use Rattle.clog_spec.specs.Sizes.{most_tables}
-use Rattle.clog_writers.proofs.tally.Tally.with_line.Given as goal
+use Rattle.clog_writers.proofs.tally.UpdateTally.with_line.Given as goal
 
 -- of the tables below this one the line's are added, of the others not yet
 abbrev pub invariant-loop-table : goal.invariant-loop-table

@@ -1,7 +1,22 @@
-use Rattle.std.proofs.Common.{◌≡◌, ◌+◌, ◌<◌, ◌∙◌, ℕ, get_or, length-set, get_or-set_other, get_or-set_same, min, set, ap, arith, rules}
+use Rattle.std.proofs.Common.{
+  ◌≡◌,
+  ◌+◌,
+  ◌<◌,
+  ◌∙◌,
+  ℕ,
+  get_or,
+  length-set,
+  get_or-set_other,
+  get_or-set_same,
+  min,
+  set,
+  ap,
+  arith,
+  rules,
+}
 use mathlib.Core.Logic.{dite}
 use native.Mathlib.Decide.{ℕ_discrete}
-use Rattle.clog_writers.proofs.tally.Tally.with_line.Goals as goal
+use Rattle.clog_writers.proofs.tally.UpdateTally.with_line.Goals as goal
 
 -- a sum that stands still at the greatest number is the sum, up to a number that is no greater
 up_to : (most sum more now : ℕ) → most < 4294967296 → more ≡ min sum 4294967295
