@@ -1,22 +1,26 @@
 #!/bin/sh
 # Time a line and peak memory of `apply` by 1, 4, 8 and 64 writers for 100,000 lines with distinct
 # keys, and by 8 writers for 10,000 and 700,000, nearly the largest file: the least of three runs
-# each. Needs GNU time and a built program. No part of the gate.
+# each. So too with a flush of each table at 1,000 updates of a writer: of 100,000 lines to 16 tables
+# one writer makes 96 flushes, of 700,000 each of 8 writers 80. Needs GNU time and a built program.
+# No part of the gate.
 set -e
 top=$(cd "$(dirname "$0")/.." && pwd)
 . "$top/bench/setup.sh"
 
-# So many writers over the lines at hand.
+# So many writers over the lines at hand, with further words.
 measure() {
+    writers=$1
+    shift
     best=$(for again in 1 2 3; do
         rm -rf "$work/run"
         mkdir "$work/run"
-        (cd "$work/run" && /usr/bin/time -f '%e %U %S %M' "$program" apply --writers "$1" \
-            <"$work/lines" 2>&1 >/dev/null)
+        (cd "$work/run" && /usr/bin/time -f '%e %U %S %M' "$program" apply --writers "$writers" \
+            "$@" <"$work/lines" 2>&1 >/dev/null)
     done | sort -n | head -n 1)
-    echo "$best" | awk -v n="$count" -v w="$1" '{
-        printf "%2d writers %8d lines %6.2f us a line, %5.2f of processors, %5.0f MiB\n", w, n,
-            1e6 * $1 / n, 1e6 * ($2 + $3) / n, $4 / 1024 }'
+    echo "$best" | awk -v n="$count" -v w="$writers" -v words="$*" '{
+        printf "%2d writers %8d lines %6.2f us a line, %5.2f of processors, %5.0f MiB %s\n", w, n,
+            1e6 * $1 / n, 1e6 * ($2 + $3) / n, $4 / 1024, words }'
 }
 
 # So many lines, by each of these numbers of writers.
@@ -31,4 +35,6 @@ over() {
 
 over 10000 8
 over 100000 1 4 8 64
+measure 1 --flush-at 1000
 over 700000 8
+measure 8 --flush-at 1000

@@ -1,6 +1,6 @@
-# Runs of 1 to 64 writers, in both modes, also with a short period, that drain, archive, or do
-# neither, are killed: half of them at random moments, half at a chosen call. What each leaves can be read, and the next run
-# recovers it. Nothing of before is lost, of each writer the first of its lines are there, all of a
+# Runs of 1 to 64 writers, in both modes, also with a short period, that flush, drain, archive, or do
+# neither, are killed: half of them at random moments, half at a chosen call. What each leaves can be
+# read, and the next run recovers it. Nothing of before is lost, of each writer the first of its lines are there, all of a
 # run that has said so, and in batch mode a line at least for each sync of the log that returned.
 . "$top/checks/lib"
 
@@ -8,7 +8,7 @@
 runs=100
 runs_a_folder=25
 
-# The words of a run, by its number: each combination comes once in 72.
+# The words of a run, by its number: each combination comes once in 96.
 words_of() {
     set -- 1 2 3 5 8 16 33 64
     shift $((run % 8))
@@ -18,10 +18,11 @@ words_of() {
     1) count=96 mode='--sync batch' ;;
     2) count=1000 mode='--segment-kib 4 --period 1' ;;
     esac
-    case $((run / 24 % 3)) in
+    case $((run / 24 % 4)) in
     0) end= ;;
     1) end='--drain' ;;
-    2) end='--drain --archive' ;;
+    2) end='--flush-at 7 --archive' ;;
+    3) end='--flush-at 7 --drain --archive' ;;
     esac
     words="apply --writers $writers $mode $end"
 }
@@ -60,6 +61,7 @@ kill_at_a_call() {
     case $1:$mode:$end in
     fsync:*batch:* | write:*batch:* | statx:*batch:*) most=48 ;;
     fsync:*period*:* | write:*period*:*) most=24 ;;
+    rename:*:*flush* | unlink:*:*flush*) most=48 ;;
     rename:*:?* | unlink:*:?*) most=4 ;;
     *) most=8 ;;
     esac

@@ -171,8 +171,10 @@ module _ (options : ApplyOptions) (o : Outside) (bytes : List ℕ) (ms : List Mu
     refuses_file (Limit TableFiles most) refused = (refused.0, good, refused.1, refused.2)
     refuses_file (Groups most) refused =
         (refused.0, (bytes, taken, many refused.1), part_of_file refused.2)
-    refuses_file (Memtables most) refused =
-        (refused.0, refused.1, good, part_of_file refused.2)
+    refuses_file (Memtables most) refused = (
+      (bytes, taken, record { mutations = ms; sized = sized; many = refused.0 }),
+      part_of_file refused.1,
+    )
     refuses_file (Absent name) refused = absurd refused
 
     -- what comes of the lines comes of their file

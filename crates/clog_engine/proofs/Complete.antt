@@ -22,6 +22,7 @@ use Rattle.std.proofs.Common.{
 }
 use Rattle.std.specs.Prelude.{Bool, false, String, IfSome}
 use Rattle.std.specs.FinMap as finmap
+use Rattle.std.proofs.lemmas.Option.{none-some}
 use Rattle.clog_spec.specs.Names.{segment_name_of}
 use Rattle.clog_base.specs.declared.fault.Quantity.TheVariants.{
   FileBytes,
@@ -137,7 +138,9 @@ apply_completes options (Limit TableFiles most) o s good fit quiet refused =
     absurd (told_openable o.files _ fit refused.2 (λ files can many.
     can.within.few many.late))
 apply_completes options (Groups most) o s good fit quiet refused = refused.0
-apply_completes options (Memtables most) o s good fit quiet refused = (refused.0, refused.1)
+apply_completes options (Memtables most) o s good fit quiet refused =
+    let many = refused.0.2.many in
+    (many.0, λ none. none-some many.1 (sym none ∙ many.2))
 apply_completes options (Absent name) o s good fit quiet refused = absurd refused
 
 -- ---- a file that is there is not refused
@@ -259,7 +262,7 @@ module _ (lines : List Mutation) (o : Outside) (s : Sinks) (opens : Told o.files
   drill_completes seed count (Limit TableFiles most) refused =
       absurd (told_openable o.files _ opens refused.1 (λ files can many. can.within.few many.late))
   drill_completes seed count (Groups most) refused = refused.0
-  drill_completes seed count (Memtables most) refused = (refused.0, tt)
+  drill_completes seed count (Memtables most) refused = (refused.0.0, tt)
   drill_completes seed count (Absent name) refused = absurd refused
 
 does_complete : (request : Built) (o : Outside) (s : Sinks) (status : Status) → IsFit request o

@@ -91,7 +91,7 @@ refuses_drill ms (Limit SegmentBytes most) o refused = (refused.0, inl (refused.
 refuses_drill ms (Limit Ids most) o refused = refused
 refuses_drill ms (Limit TableFiles most) o refused = refused
 refuses_drill ms (Groups most) o refused = refused
-refuses_drill ms (Memtables most) o refused = (refused.0, refused.2)
+refuses_drill ms (Memtables most) o refused = refused
 refuses_drill ms (Absent name) o refused = absurd refused
 
 -- ---- the folder is not read behind them

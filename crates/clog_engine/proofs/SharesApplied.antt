@@ -185,7 +185,7 @@ module _ (options : ApplyOptions) (o : Outside) (ms : List Mutation)
       → LastsFirst o options ms (least_of outcome ms)
       → HasShareCause o.disk_faults o.disk_faults_now outcome
       → ((which : Row) (made : ℕ) → outcome ≡ err (fault.Rows which made)
-      → IsLack options.flush_at which made (length ms))
+      → IsLack options.flush_at which made ms)
       → ((receipts : Vec Receipt) (report : List ℕ) → outcome ≡ ok receipts
       → report ≡ head_with options.receipts receipts.items ++ pending.rows.items
       → IsReported options ms report × Turns o (IsRun o options ms report))
@@ -208,8 +208,7 @@ module _ (options : ApplyOptions) (o : Outside) (ms : List Mutation)
       let many = lack row.AppendGroups n refl in
       subst (AppliesLines options ms o) (sym told_as) (many.0, many.1, partly lasts)
   shares_applied pending (err (fault.Rows row.Memtables n)) result told_as lasts cause lack so =
-      let many = lack row.Memtables n refl in
-      subst (AppliesLines options ms o) (sym told_as) (many.0, many.1, partly lasts)
+      subst (AppliesLines options ms o) (sym told_as) (lack row.Memtables n refl, partly lasts)
   shares_applied pending (err (fault.Rows row.WriteGroups n)) result told_as lasts cause lack so =
       absurd (lack row.WriteGroups n refl)
 

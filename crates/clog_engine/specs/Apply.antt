@@ -39,9 +39,10 @@ use Rattle.clog_engine.specs.Input.{
   IsGood,
   IsSized,
   MayWantGroups,
+  MayWantMemtables,
   Takes,
 }
-use Rattle.clog_engine.specs.Limits.{group_limit, memtable_limit}
+use Rattle.clog_engine.specs.Limits.{group_limit}
 use Rattle.clog_engine.specs.Logged.{AreApplied, AreLogged, KeepsAll}
 use Rattle.clog_engine.specs.Outside.{Outside, IsLeftAlone}
 
@@ -107,10 +108,10 @@ ApplyRefuses options (Limit Ids most) o =
 ApplyRefuses options (Groups most) o =
     (most ≡ group_limit) × ReadsToEnd o (MayWantGroups (capacity_of options))
     × LeavesPart options o
--- a memtable was wanted behind the last of a table that is flushed: all was good
+-- a memtable was wanted behind the last of a table: all was good, a table has many updates, and not
+-- all lines are written or flushed
 ApplyRefuses options (Memtables most) o =
-    (most ≡ memtable_limit) × (options.flush_at ≡ None → ⊥) × ReadsGood options o
-    × LeavesPart options o
+    ReadsToEnd o (MayWantMemtables options most) × LeavesPart options o
 ApplyRefuses options other o = ⊥
 
 -- a report, or why there is none

@@ -47,6 +47,7 @@ use Rattle.clog_words.specs.declared.request.ApplyOptions.{ApplyOptions}
 use Rattle.clog_applied.specs.Printed.{line}
 use Rattle.replay_merge.specs.declared.restoring.Restored.{Restored}
 use Rattle.replay_merge.specs.Restoring.{IsReplayOf}
+use Rattle.clog_writers.specs.Logged.{HasManyUpdates}
 use Rattle.clog_engine.specs.declared.summary.Tally.{Tally}
 use Rattle.clog_engine.specs.declared.status.Status.{Status}
 use Rattle.clog_engine.specs.declared.status.Status.TheVariants.{
@@ -58,7 +59,7 @@ use Rattle.clog_engine.specs.declared.status.Status.TheVariants.{
   Groups,
   Memtables,
 }
-use Rattle.clog_engine.specs.Limits.{group_limit, memtable_limit}
+use Rattle.clog_engine.specs.Limits.{group_limit}
 use Rattle.clog_engine.specs.Logged.{AreApplied, LeavesSome}
 use Rattle.clog_engine.specs.Outside.{Outside, IsLeftAlone}
 use Rattle.clog_engine.specs.Planning.{ArePlanned}
@@ -164,7 +165,7 @@ DrillRefuses lines (Limit Ids most) o =
 DrillRefuses lines (Groups most) o =
     (most ≡ group_limit) × (group_limit ≤ 1 + length lines) × LeavesSome drill_options lines o
 DrillRefuses lines (Memtables most) o =
-    (most ≡ memtable_limit) × LeavesSome drill_options lines o
+    HasManyUpdates drill_options.flush_at most lines × LeavesSome drill_options lines o
 DrillRefuses lines other o = ⊥
 
 -- a report of lines, or why there is none

@@ -64,6 +64,7 @@ use Rattle.clog_closing.specs.Written.{AreMadeFor, GoesBeyond, IsWrittenBy}
 use Rattle.clog_writers.specs.Left.{SaysShares, said_by}
 use Rattle.clog_writers.specs.Written.{BeginsIn, HasReceipts}
 use Rattle.write_path.specs.declared.commit.Receipt.{Receipt}
+use Rattle.clog_writers.specs.Logged.{HasManyUpdates}
 use Rattle.clog_engine.specs.declared.status.Status.{Status}
 use Rattle.clog_engine.specs.declared.status.Status.TheVariants.{
   DiskFault,
@@ -74,7 +75,7 @@ use Rattle.clog_engine.specs.declared.status.Status.TheVariants.{
   Groups,
   Memtables,
 }
-use Rattle.clog_engine.specs.Limits.{group_limit, memtable_limit}
+use Rattle.clog_engine.specs.Limits.{group_limit}
 use Rattle.clog_engine.specs.Outside.{Outside, IsLeftAlone}
 use Rattle.clog_engine.specs.Report.{IsReport, head_with}
 use Rattle.clog_engine.specs.Request.{AreSizesOf}
@@ -244,9 +245,9 @@ LinesRefuse options mutations (Limit Ids most) o =
 -- a group was wanted behind the last, as it may be for so many lines
 LinesRefuse options mutations (Groups most) o =
     (most ≡ group_limit) × (group_limit ≤ 1 + length mutations) × LeavesSome options mutations o
--- a memtable was wanted behind the last of a table, as it may be where tables are flushed
+-- a memtable was wanted behind the last of a table, as it may be where a table has many updates
 LinesRefuse options mutations (Memtables most) o =
-    (most ≡ memtable_limit) × (options.flush_at ≡ None → ⊥) × LeavesSome options mutations o
+    HasManyUpdates options.flush_at most mutations × LeavesSome options mutations o
 LinesRefuse options mutations other o = ⊥
 
 -- a report of lines that are applied, or why there is none

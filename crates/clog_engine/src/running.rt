@@ -97,7 +97,8 @@ fn outcome_of<
 /// `--archive` to their archive names. At `Ok` each writer has fewer updates of a table above the
 /// end of the table's last file than that number, and each table of which a writer's share has so
 /// many has a file; no segment of the run is left whose entries table files hold. A table may have
-/// 256 memtables in a run, and where a flush wants a further one it ends with `Memtables`.
+/// 256 memtables in a run, and where a flush wants a further one it ends with `Memtables`: so only
+/// where some table has at least 255 times that number of updates in the file.
 ///
 /// With `--sync batch` a writer waits for the sync of each line before it logs its next one, so no
 /// section of a segment holds two lines of one writer, and where a sync is refused it logs no more.
@@ -111,8 +112,7 @@ fn outcome_of<
 /// but `--writers 4`, `--segment-kib 1024` and `--flush-at 1000`, with the made lines as those of
 /// the file, and that the report has their numbers, and those of what the folder then restores to;
 /// the source is not read. A drill of some 510,000 lines or more may end with `Memtables`: of a
-/// thousand lines each of three tables has some 500 updates, and a writer may flush a table at
-/// every 1000 of its own.
+/// thousand lines each of three tables has some 500 updates, and 255,000 of one table are enough.
 ///
 /// Where the words ask for what can be done and no fault was counted, it ends with `Ok`, or for
 /// want of memory, of groups or, of a run that flushes while it writes, of memtables. A fault of the

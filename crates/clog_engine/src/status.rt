@@ -40,8 +40,8 @@ pub enum Status {
     /// The lines want more groups of the append order than this number, which is the most of a run.
     Groups(u64),
     /// A table wants more memtables than this number, which is the most that it has in a run. Only
-    /// a run that flushes while it writes ends so. A drill of some 510,000 lines or more may, since
-    /// its writers flush each of three tables at every 1000 of their updates of it.
+    /// a run that flushes while it writes ends so, and only where some table has at least 255 times
+    /// as many updates as a writer flushes at. So a drill of some 510,000 lines or more may.
     Memtables(u64),
     /// The disk has no file of this name.
     Absent(Name),

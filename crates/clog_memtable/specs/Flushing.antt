@@ -1,18 +1,5 @@
 -- Memtables that a keeper is to put table files for, and how far it came.
-use Rattle.std.specs.Prelude.{
-  ◌≡◌,
-  ℕ,
-  ◌+◌,
-  ◌<◌,
-  ◌≤◌,
-  ◌^◌,
-  List,
-  ◌++◌,
-  length,
-  map,
-  take,
-  Contains,
-}
+use Rattle.std.specs.Prelude.{◌≡◌, ◌+◌, ◌<◌, ◌≤◌, ◌^◌, List, ◌++◌, length, map, Contains}
 use Rattle.std.specs.List.{AllPairs}
 use Rattle.clog_cells.specs.Merge.{IsMergeOf}
 use Rattle.path_core.specs.Keeper.{Holding, IsLoggedCell, PutFile, upper_from}
@@ -60,9 +47,3 @@ HasPutFiles before now files =
 pub record FlushesAll (before now : Holding) (memtables : List Memtable) : Type 0 where
   pub runs : now.stopped ≡ before.stopped
   pub put : HasPutFiles before now (files_of memtables)
-
--- The first of them are flushed, and not all.
-pub record FlushesFirst (before now : Holding) (memtables : List Memtable) : Type 0 where
-  pub count : ℕ
-  pub not_all : count < length memtables
-  pub put : HasPutFiles before now (files_of (take count memtables))

@@ -10,7 +10,7 @@ mod memtables;
 #[cfg(test)]
 mod tests;
 
-pub use flushing::{Memtable, flush_all};
+pub use flushing::Memtable;
 pub use gathering::gather;
 pub use memtable::{Interval, cells_within};
 pub use memtables::memtables_of;

@@ -30,7 +30,6 @@ use Rattle.std.proofs.Common.{
 use Rattle.std.specs.Prelude.{Contains}
 use Rattle.std.specs.List.{filter, range_with_len}
 use Rattle.std.proofs.lemmas.Bool.{eq-eqb}
-use Rattle.clog_spec.specs.Segment.{entry_bytes}
 use Rattle.clog_spec.specs.Sizes.{greatest_capacity}
 use Rattle.clog_base.proofs.Members.{first_or_further, further, here, nothing_there}
 use Rattle.clog_mutation.specs.declared.mutation.Mutation.{Mutation}
@@ -48,7 +47,6 @@ use Rattle.clog_applied.specs.History.{
 }
 use Rattle.clog_applied.specs.Printed.{number_of}
 use Rattle.clog_applied.proofs.Lists.{from_filter, in_filter, kept_one, left_one}
-use Rattle.clog_notes.specs.Entries.{entry_of}
 use Rattle.clog_store.specs.Notes.{payload_in}
 use Rattle.path_core.specs.declared.note.EntryNote.{EntryNote}
 use Rattle.path_core.specs.History.{IsHistory}

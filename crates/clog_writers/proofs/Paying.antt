@@ -1,31 +1,8 @@
 -- The memtables that a writer opens are paid for by updates that it has logged.
-use Rattle.std.proofs.Common.{
-  ◌≡◌,
-  ℕ,
-  ◌+◌,
-  ◌*◌,
-  ◌≤◌,
-  inl,
-  inr,
-  List,
-  [],
-  ◌∷◌,
-  ◌++◌,
-  reverse,
-  Option,
-  Some,
-  None,
-  refl,
-  sym,
-  ap,
-  ◌∙◌,
-  subst,
-  arith,
-}
+use Rattle.std.proofs.Common.{◌≡◌, ℕ, ◌+◌, ◌*◌, ◌≤◌, inl, inr, List, [], ◌∷◌, ◌++◌, reverse, Option, Some, None, sym, ap, ◌∙◌, subst, arith}
 use Rattle.std.proofs.Math.Nat.{mul-add, mul-le-mul_left}
 use Rattle.std.proofs.lemmas.List.{reverse-append}
-use Rattle.std.proofs.lemmas.Option.{same_Some}
-use Rattle.std.proofs.lemmas.List.Sums.{sum_by-append, sum_by-cons}
+use Rattle.std.proofs.lemmas.List.Sums.{sum_by-append}
 use Rattle.clog_base.specs.declared.sizes.Sizes.{Sizes}
 use Rattle.clog_applied.specs.Flushed.{updates_in}
 use Rattle.clog_applied.specs.History.{Line}
@@ -35,10 +12,9 @@ use Rattle.path_rule.specs.declared.view.OwnStep.{OwnStep}
 use Rattle.path_rule.specs.declared.view.View.{View}
 use Rattle.path_rule.specs.Members.{view_of}
 use Rattle.write_path.specs.declared.flush.Flush.{Flush}
-use Rattle.write_path.specs.declared.flush.Flush.TheVariants as flush
 use Rattle.write_path.specs.declared.prepared.Prepared.{Prepared}
 use Rattle.write_path.specs.Ends.{writes_of}
-use Rattle.write_path.specs.Flushed.{Flushes, opened_by}
+use Rattle.write_path.specs.Flushed.{Flushes}
 use Rattle.write_path.specs.Writes.{IsPrepared}
 use Rattle.clog_writers.specs.declared.fault.WriteFault.{WriteFault}
 use Rattle.write_path.specs.Opens.{opens}

@@ -1,31 +1,6 @@
 -- Shares together have at most the updates of all lines, so these pay for the memtables that all
 -- seats opened.
-use Rattle.std.proofs.Common.{
-  ◌≡◌,
-  ℕ,
-  zero,
-  suc,
-  ◌+◌,
-  ◌*◌,
-  ◌%◌,
-  ◌<◌,
-  ◌≤◌,
-  List,
-  [],
-  ◌∷◌,
-  get_or,
-  length,
-  Option,
-  Some,
-  sym,
-  ap,
-  ◌∙◌,
-  subst,
-  refl,
-  arith,
-  ne_eqb,
-  eq-eqb,
-}
+use Rattle.std.proofs.Common.{◌≡◌, ℕ, zero, suc, ◌+◌, ◌*◌, ◌%◌, ◌<◌, ◌≤◌, List, [], ◌∷◌, get_or, length, Option, Some, sym, ap, subst, refl, arith, ne_eqb, eq-eqb}
 use Rattle.std.specs.List.{filter, sum_by}
 use Rattle.std.proofs.Math.Nat.{mul-add}
 use Rattle.std.proofs.lemmas.List.Sums.{sum_by-cons}
