@@ -140,7 +140,7 @@ apply_completes options (Limit TableFiles most) o s good fit quiet refused =
 apply_completes options (Groups most) o s good fit quiet refused = refused.0
 apply_completes options (Memtables most) o s good fit quiet refused =
     let many = refused.0.2.many in
-    (many.0, λ none. none-some many.1 (sym none ∙ many.2))
+    (many.0, λ none. none-some many.1.0 (sym none ∙ many.1.1))
 apply_completes options (Absent name) o s good fit quiet refused = absurd refused
 
 -- ---- a file that is there is not refused
