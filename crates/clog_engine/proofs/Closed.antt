@@ -14,7 +14,6 @@ use Rattle.std.proofs.Common.{
   ap,
   ◌∙◌,
   append_assoc,
-  ◌+◌,
 }
 use Rattle.std.specs.Prelude.{Contains}
 use Rattle.std.specs.List.{flat_map}

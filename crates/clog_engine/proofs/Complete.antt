@@ -20,7 +20,7 @@ use Rattle.std.proofs.Common.{
   arith,
   Global,
 }
-use Rattle.std.specs.Prelude.{Bool, false, String, IfSome}
+use Rattle.std.specs.Prelude.{false, String, IfSome}
 use Rattle.std.specs.FinMap as finmap
 use Rattle.std.proofs.lemmas.Option.{none-some}
 use Rattle.clog_spec.specs.Names.{segment_name_of}

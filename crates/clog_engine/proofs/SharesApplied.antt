@@ -2,8 +2,6 @@
 use Rattle.std.proofs.Common.{
   ◌≡◌,
   ℕ,
-  ◌+◌,
-  ◌≤◌,
   List,
   [],
   ◌∷◌,

@@ -1,5 +1,5 @@
 -- What `apply` does to the disk and reports, and why it does not.
-use Rattle.std.specs.Prelude.{◌≡◌, ◌⊎◌, ℕ, ◌<◌, List, length, false, None, IfSome, Result}
+use Rattle.std.specs.Prelude.{◌≡◌, ◌⊎◌, ℕ, ◌<◌, List, length, false, IfSome, Result}
 use Rattle.std.specs.declared.result.Result.TheVariants as result
 use Rattle.clog_base.specs.declared.fault.Quantity.TheVariants.{
   FileBytes,

@@ -1,4 +1,4 @@
-use Rattle.std.proofs.Common.{◌≡◌, ℕ, arith, lit≤}
+use Rattle.std.proofs.Common.{◌≡◌, arith, lit≤}
 use Rattle.clog_engine.proofs.drilling.drill_options.Goals as goal
 
 pub returns-clause-doable : goal.returns-clause-doable
