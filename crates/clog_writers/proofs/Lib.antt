@@ -32,3 +32,4 @@ pub mod FlushTold
 pub mod Tallying
 pub mod NextLines
 pub mod TriedFlushes
+pub mod Keeping

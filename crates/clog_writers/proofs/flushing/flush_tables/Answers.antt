@@ -1,16 +1,17 @@
 use Rattle.std.proofs.Common.{◌<◌, ◌≤◌, length, refl, sym, ◌∙◌, subst, arith}
 use Rattle.std.proofs.lemmas.Option.{none-some}
 use Rattle.path_rule.specs.Members.{view_of}
-use Rattle.write_path.proofs.Growing.{keeps_first, keeps_on, no_shorter}
+use Rattle.write_path.proofs.Growing.{no_shorter}
 use Rattle.clog_writers.specs.declared.tally.UpdateTally.{UpdateTally}
 use Rattle.clog_writers.specs.Tallies.{IsNotDue}
+use Rattle.clog_writers.proofs.Keeping.{list_first, list_on}
 use Rattle.clog_writers.proofs.Tallying.{tallies_then}
 use Rattle.clog_writers.proofs.TriedFlushes.{one_tried}
 use Rattle.clog_writers.proofs.flushing.flush_tables.Goals as goal
 
 pub loop-number-init : goal.loop-number-init
 loop-number-init g c = let t = c.args.path.now.table in record {
-  keeps = keeps_first t.table.shared.table_id t.size c.args.seat.member c.requires.table;
+  keeps = list_first t.table.shared.table_id t.size c.args.seat.member c.requires.table;
   most = refl;
   tallies = λ all. all;
   idle = λ none. (refl, refl);
@@ -24,7 +25,7 @@ pub loop-number-preserved : goal.loop-number-preserved
 loop-number-preserved g c =
     let t = c.args.path.now.table in let l = c.loop-number in let I = l.invariant in
     let now = c.flush_table-next.result in let done = c.flush_table-next.ensures in record {
-      keeps = keeps_on t.table.shared.table_id t.size c.args.seat.member l.seat.member now.0.member
+      keeps = list_on t.table.shared.table_id t.size c.args.seat.member l.seat.member now.0.member
           I.keeps done.keeps;
       most = done.most ∙ I.most;
       tallies = tallies_then t.table.shared.table_id t.size c.args.seat l.seat c.args.tally l.tally
@@ -64,7 +65,7 @@ returns-in-Some-clause-tried g c = λ none. absurd (none-some c.in-Some.fault (s
 pub returns-in-Some-clause-keeps : goal.returns-in-Some-clause-keeps
 returns-in-Some-clause-keeps g c =
     let t = c.args.path.now.table in let l = c.loop-number in
-    keeps_on t.table.shared.table_id t.size c.args.seat.member l.seat.member
+    list_on t.table.shared.table_id t.size c.args.seat.member l.seat.member
     c.flush_table-next.result.0.member l.invariant.keeps c.flush_table-next.ensures.keeps
 
 pub returns-in-Some-clause-tallies : goal.returns-in-Some-clause-tallies

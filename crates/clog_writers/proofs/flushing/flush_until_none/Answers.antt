@@ -1,6 +1,6 @@
 use Rattle.std.proofs.Common.{refl, ◌∙◌}
 use Rattle.path_rule.specs.Members.{view_of}
-use Rattle.write_path.proofs.Growing.{keeps_first, keeps_on}
+use Rattle.clog_writers.proofs.Keeping.{list_first, list_on}
 use Rattle.clog_writers.proofs.Tallying.{all_flushed, tallies_then}
 use Rattle.clog_writers.proofs.flushing.flush_until_none.Goals as goal
 
@@ -8,7 +8,7 @@ pub loop-init : goal.loop-init
 loop-init g c = let t = c.args.path.now.table in record {
   next = tt;
   finite = tt;
-  keeps = keeps_first t.table.shared.table_id t.size c.args.seat.member c.requires.table;
+  keeps = list_first t.table.shared.table_id t.size c.args.seat.member c.requires.table;
   most = refl;
   tallies = λ all. all;
 }
@@ -19,7 +19,7 @@ loop-preserved g c =
     let now = c.flush_tables-next.result in let done = c.flush_tables-next.ensures in record {
       next = tt;
       finite = tt;
-      keeps = keeps_on t.table.shared.table_id t.size c.args.seat.member l.seat.member now.0.member
+      keeps = list_on t.table.shared.table_id t.size c.args.seat.member l.seat.member now.0.member
           I.keeps done.keeps;
       most = done.most ∙ I.most;
       tallies = tallies_then t.table.shared.table_id t.size c.args.seat l.seat c.args.tally l.tally
@@ -29,13 +29,13 @@ loop-preserved g c =
 pub returns-in-Some-fault-clause-keeps : goal.returns-in-Some-fault-clause-keeps
 returns-in-Some-fault-clause-keeps g c =
     let t = c.args.path.now.table in let l = c.loop in
-    keeps_on t.table.shared.table_id t.size c.args.seat.member l.seat.member
+    list_on t.table.shared.table_id t.size c.args.seat.member l.seat.member
     c.flush_tables-next.result.0.member l.invariant.keeps c.flush_tables-next.ensures.keeps
 
 pub returns-then-not-is_any_due-clause-keeps : goal.returns-then-not-is_any_due-clause-keeps
 returns-then-not-is_any_due-clause-keeps g c =
     let t = c.args.path.now.table in let l = c.loop in
-    keeps_on t.table.shared.table_id t.size c.args.seat.member l.seat.member
+    list_on t.table.shared.table_id t.size c.args.seat.member l.seat.member
     c.flush_tables-next.result.0.member l.invariant.keeps c.flush_tables-next.ensures.keeps
 
 -- no flush is due
