@@ -23,6 +23,7 @@ ghost use Rattle.clog_closing.specs.Drained.{EndsAs, HasBegun, HasNoDeeds, Keeps
 ghost use Rattle.clog_spec.specs.Sizes.{most_tables};
 ghost use Rattle.path_core.specs.History.{IsHistory};
 ghost use Rattle.path_core.specs.Keeper.{upper_from};
+ghost use Rattle.path_rule.specs.Limits.{most_memtables};
 ghost use Rattle.clog_memtable.specs.Filling.{AreWhole};
 ghost use Rattle.clog_memtable.specs.Touched.{AreMemtablesOf};
 ghost use Rattle.clog_store.specs.StoreState.{holding_of};
@@ -79,7 +80,7 @@ fn settle<D: Disk>(alloc: Global, store: &mut Store<D>, drain: bool) -> Result<(
     requires in_log { (capacity : ℕ) × IsHistory capacity store.old.notes.logged }
     requires good { HasGoodDeeds
         (holding_of D.files D.changes D.moment D.faults D.row.coded.code store.old) }
-    requires few { length store.old.files ≤ 4096 }
+    requires few { length store.old.files ≤ most_memtables }
     ensures settles { OnOk result (Settles drain
         (holding_of D.files D.changes D.moment D.faults D.row.coded.code store.old)
         (holding_of D.files D.changes D.moment D.faults D.row.coded.code store.new)) }
@@ -132,7 +133,7 @@ pub(crate) fn settle_asked<D: Disk>(
         (holding_of D.files D.changes D.moment D.faults D.row.coded.code store.old) }
     requires alone { flushing ≡ false → HasNoDeeds
         (holding_of D.files D.changes D.moment D.faults D.row.coded.code store.old) }
-    requires few { length store.old.files ≤ 4096 }
+    requires few { length store.old.files ≤ most_memtables }
     requires stopped { (a n : ℕ) → fault ≡ Some (Stopped a n)
         → store.old.notes.log.is_stopped ≡ true }
     ensures ok { result ≡ None → (fault ≡ None) × Settles drain
