@@ -26,6 +26,7 @@ ghost use Rattle.path_core.specs.Keeper.{upper_from};
 ghost use Rattle.path_rule.specs.Limits.{most_memtables};
 ghost use Rattle.clog_memtable.specs.Filling.{AreWhole};
 ghost use Rattle.clog_memtable.specs.Touched.{AreMemtablesOf};
+ghost use Rattle.clog_store.specs.NoteLog.{IsNoteLog};
 ghost use Rattle.clog_store.specs.StoreState.{holding_of};
 ghost use Rattle.clog_writers.specs.declared.fault.WriteFault.TheVariants.{
   Rows,
@@ -76,6 +77,7 @@ fn left_to_put<D: Disk>(
 // Drains a store that runs, up to the end of its last entry, or drops alone what may go.
 fn settle<D: Disk>(alloc: Global, store: &mut Store<D>, drain: bool) -> Result<(), KeeperFault>
     requires runs { store.old.notes.log.is_stopped ≡ false }
+    requires noted { IsNoteLog store.old.notes }
     requires tables { store.old.notes.sizes.tables ≡ most_tables }
     requires in_log { (capacity : ℕ) × IsHistory capacity store.old.notes.logged }
     requires good { HasGoodDeeds
@@ -96,8 +98,6 @@ fn settle<D: Disk>(alloc: Global, store: &mut Store<D>, drain: bool) -> Result<(
         (holding_of D.files D.changes D.moment D.faults D.row.coded.code store.new) result }
     ensures first { store.new.first ≡ store.old.first }
 {
-    // What its log keeps, for the proof alone.
-    store.fault_count();
     match left_to_put(alloc, store, drain) {
         Ok(memtables) => clog_closing::drain(store, memtables.as_slice()),
         Err(OutOfMemory) => Err(KeeperFault::OutOfMemory),
