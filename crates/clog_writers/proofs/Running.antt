@@ -197,7 +197,7 @@ module _ (sizes : Sizes) (base : ℕ) (before now : Holding) (fresh : IsFresh ba
 
   -- and of any
   beside_by : (flush : Option ℕ) → now.base ≡ before.base → (flush ≡ None → HasNoDeeds now)
-      → HasGoodDeeds now → length now.files ≤ 4096 → GoesOnBeside flush before now
+      → HasGoodDeeds now → length now.files ≤ most_memtables → GoesOnBeside flush before now
   beside_by flush same alone good few = record {
     disk_is = beside.disk_is;
     base_is = same;

@@ -24,6 +24,7 @@ use Rattle.path_core.specs.declared.note.EntryNote.{EntryNote}
 use Rattle.path_core.specs.History.{IsHistory}
 use Rattle.path_core.specs.Keeper.{Holding, PutFile, upper_from}
 use Rattle.path_core.specs.Whole.{IsWhole}
+use Rattle.path_rule.specs.Limits.{most_memtables}
 use Rattle.clog_memtable.specs.declared.flushing.Memtable.{Memtable}
 use Rattle.clog_memtable.specs.Flushing.{MayFlush, file_of, files_of}
 use Rattle.clog_memtable.specs.Touched.{AreMemtablesOf, IsMemtableOf, IsTouchedAbove}
@@ -55,7 +56,7 @@ same_lowers notes lowers others upper below ms same are = record {
 -- ---- a keeper that is drained, or not
 
 module _ (h : Holding) (capacity : ℕ) (in_log : IsHistory capacity h.logged)
-    (few : length h.files ≤ 4096) (tables : h.sizes.tables ≡ most_tables)
+    (few : length h.files ≤ most_memtables) (tables : h.sizes.tables ≡ most_tables)
     (below : (n : EntryNote) → Contains h.logged n → n.end.0 ≤ h.synced) (drain : Bool)
     (ms : List Memtable) (none : drain ≡ false → ms ≡ [])
     (all : drain ≡ true → AreMemtablesOf h.logged (λ (t : ℕ). upper_from t 0 h.files)

@@ -32,6 +32,7 @@ use Rattle.path_core.specs.Keeper.{Holding, IsFiledIn}
 use Rattle.path_core.specs.Parts.{touches}
 use Rattle.path_core.specs.Whole.{IsWhole}
 use Rattle.path_rule.specs.Layout.{group_rows, memtable_rows}
+use Rattle.path_rule.specs.Limits.{most_memtables}
 use Rattle.clog_closing.specs.Beside.{HasGoodDeeds}
 use Rattle.clog_closing.specs.Drained.{HasNoDeeds}
 use Rattle.write_path.specs.declared.switch.Row.{Row}
@@ -57,7 +58,7 @@ pub record GoesOnBeside (flush : Option ℕ) (before now : Holding) : Type 0 whe
   pub tables_are : now.sizes.tables ≡ before.sizes.tables
   pub alone : flush ≡ None → HasNoDeeds now
   pub good : HasGoodDeeds now
-  pub few : length now.files ≤ 4096
+  pub few : length now.files ≤ most_memtables
 
 -- the entry is a writer's
 abbrev pub is_note_of : ℕ → EntryNote → Bool

@@ -23,8 +23,10 @@ ghost use Rattle.clog_closing.specs.Drained.{EndsAs, HasBegun, HasNoDeeds, Keeps
 ghost use Rattle.clog_spec.specs.Sizes.{most_tables};
 ghost use Rattle.path_core.specs.History.{IsHistory};
 ghost use Rattle.path_core.specs.Keeper.{upper_from};
+ghost use Rattle.path_rule.specs.Limits.{most_memtables};
 ghost use Rattle.clog_memtable.specs.Filling.{AreWhole};
 ghost use Rattle.clog_memtable.specs.Touched.{AreMemtablesOf};
+ghost use Rattle.clog_store.specs.NoteLog.{IsNoteLog};
 ghost use Rattle.clog_store.specs.StoreState.{holding_of};
 ghost use Rattle.clog_writers.specs.declared.fault.WriteFault.TheVariants.{
   Rows,
@@ -75,11 +77,12 @@ fn left_to_put<D: Disk>(
 // Drains a store that runs, up to the end of its last entry, or drops alone what may go.
 fn settle<D: Disk>(alloc: Global, store: &mut Store<D>, drain: bool) -> Result<(), KeeperFault>
     requires runs { store.old.notes.log.is_stopped ≡ false }
+    requires noted { IsNoteLog store.old.notes }
     requires tables { store.old.notes.sizes.tables ≡ most_tables }
     requires in_log { (capacity : ℕ) × IsHistory capacity store.old.notes.logged }
     requires good { HasGoodDeeds
         (holding_of D.files D.changes D.moment D.faults D.row.coded.code store.old) }
-    requires few { length store.old.files ≤ 4096 }
+    requires few { length store.old.files ≤ most_memtables }
     ensures settles { OnOk result (Settles drain
         (holding_of D.files D.changes D.moment D.faults D.row.coded.code store.old)
         (holding_of D.files D.changes D.moment D.faults D.row.coded.code store.new)) }
@@ -95,8 +98,6 @@ fn settle<D: Disk>(alloc: Global, store: &mut Store<D>, drain: bool) -> Result<(
         (holding_of D.files D.changes D.moment D.faults D.row.coded.code store.new) result }
     ensures first { store.new.first ≡ store.old.first }
 {
-    // What its log keeps, for the proof alone.
-    store.fault_count();
     match left_to_put(alloc, store, drain) {
         Ok(memtables) => clog_closing::drain(store, memtables.as_slice()),
         Err(OutOfMemory) => Err(KeeperFault::OutOfMemory),
@@ -132,7 +133,7 @@ pub(crate) fn settle_asked<D: Disk>(
         (holding_of D.files D.changes D.moment D.faults D.row.coded.code store.old) }
     requires alone { flushing ≡ false → HasNoDeeds
         (holding_of D.files D.changes D.moment D.faults D.row.coded.code store.old) }
-    requires few { length store.old.files ≤ 4096 }
+    requires few { length store.old.files ≤ most_memtables }
     requires stopped { (a n : ℕ) → fault ≡ Some (Stopped a n)
         → store.old.notes.log.is_stopped ≡ true }
     ensures ok { result ≡ None → (fault ≡ None) × Settles drain

@@ -17,7 +17,7 @@ pub left_to_put-requires : goal.left_to_put-requires
 left_to_put-requires g c =
     let notes = c.args.store.now.notes in
     record {
-      whole = λ n among. (c.fault_count.ensures.noted.good n
+      whole = λ n among. (c.requires.noted.good n
           (Contains-append_left notes.logged notes.kept n among)).whole;
     }
 
@@ -28,7 +28,7 @@ drain-requires-clause-may g c =
     let put = c.in-Ok.ensures in
     subst (MayFlush h) (sym c.as_slice.ensures.value)
     (may_put h c.requires.in_log.0 c.requires.in_log.1 c.requires.few c.requires.tables
-    c.fault_count.ensures.noted.below c.args.drain c.in-Ok.memtables.items put.none put.all)
+    c.requires.noted.below c.args.drain c.in-Ok.memtables.items put.none put.all)
 
 pub drain-requires-clause-holds_some : goal.drain-requires-clause-holds_some
 drain-requires-clause-holds_some g c =
@@ -38,7 +38,7 @@ drain-requires-clause-holds_some g c =
     subst (λ (ms : List Memtable). (m : Memtable) → Contains ms m → HoldsNote h (file_of m))
     (sym c.as_slice.ensures.value)
     (hold_notes h c.requires.in_log.0 c.requires.in_log.1 c.requires.few c.requires.tables
-    c.fault_count.ensures.noted.below c.args.drain c.in-Ok.memtables.items put.none put.all)
+    c.requires.noted.below c.args.drain c.in-Ok.memtables.items put.none put.all)
 
 pub returns-in-Ok-clause-settles : goal.returns-in-Ok-clause-settles
 returns-in-Ok-clause-settles g c =
@@ -49,7 +49,7 @@ returns-in-Ok-clause-settles g c =
     let put = c.in-Ok.ensures in
     on_ok c.drain.result _ (Settles c.args.drain h now) c.drain.ensures.drains (λ drains.
     settles h c.requires.in_log.0 c.requires.in_log.1 c.requires.few c.requires.tables
-    c.fault_count.ensures.noted.below c.args.drain c.in-Ok.memtables.items put.none put.all now
+    c.requires.noted.below c.args.drain c.in-Ok.memtables.items put.none put.all now
     c.drain.ensures.keeps
     (subst (λ (ms : List Memtable). Drains h now ms) c.as_slice.ensures.value drains))
 
@@ -62,7 +62,7 @@ returns-in-Ok-clause-begun g c = λ none.
     c.drain.ensures.begun upper
     (subst (λ (ms : List Memtable). ReachTo upper ms) (sym c.as_slice.ensures.value)
     (reach_there h c.requires.in_log.0 c.requires.in_log.1 c.requires.few c.requires.tables
-    c.fault_count.ensures.noted.below c.args.drain c.in-Ok.memtables.items put.none put.all none))
+    c.requires.noted.below c.args.drain c.in-Ok.memtables.items put.none put.all none))
     (begun_of_none h upper none)
 
 pub returns-in-Err-clause-begun : goal.returns-in-Err-clause-begun
