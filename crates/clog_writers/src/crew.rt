@@ -36,7 +36,8 @@ ghost use Rattle.write_path.specs.Opened.{AreNew};
 
 use crate::fault::{WriteFault, first_of, refusal_of};
 use crate::syncing::Syncing;
-use crate::worker::{Worker, commit_share};
+use crate::share::commit_share;
+use crate::worker::Worker;
 use clog_base::Sizes;
 use clog_io::{Clock, Gate};
 use path_core::Keeper;

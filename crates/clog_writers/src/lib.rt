@@ -15,6 +15,7 @@ mod logging;
 mod placing;
 mod planning;
 mod rows;
+mod share;
 mod syncing;
 mod tally;
 mod worker;

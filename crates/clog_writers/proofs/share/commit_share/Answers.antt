@@ -5,7 +5,7 @@ use Rattle.clog_writers.specs.Sealing.{HasWaited}
 use Rattle.clog_writers.specs.Shares.{ArePrepared, LogsShare, logged_by}
 use Rattle.clog_writers.specs.Timed.{HasTimed}
 use Rattle.clog_writers.proofs.Paying.{has_opened}
-use Rattle.clog_writers.proofs.worker.commit_share.Goals as goal
+use Rattle.clog_writers.proofs.share.commit_share.Goals as goal
 
 pub returns-clause-logged : goal.returns-clause-logged
 returns-clause-logged g c = λ number lines ready.

@@ -9,7 +9,7 @@ use Rattle.clog_writers.specs.Shares.{ArePrepared, logged_by}
 use Rattle.clog_writers.specs.Timed.{AreTimed}
 use Rattle.clog_writers.proofs.Committing.{GoesOn}
 use Rattle.clog_writers.proofs.NextLines.{GoesCounted}
-use Rattle.clog_writers.proofs.worker.commit_lines.Given as goal
+use Rattle.clog_writers.proofs.share.commit_lines.Given as goal
 
 -- the first of the lines are logged, and the writes of the others are left, with their counts
 abbrev pub invariant-loop-prepared : goal.invariant-loop-prepared

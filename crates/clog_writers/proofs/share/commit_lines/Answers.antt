@@ -41,7 +41,7 @@ use Rattle.clog_writers.proofs.Lacking.{no_fault}
 use Rattle.clog_writers.proofs.NextLines.{GoesCounted, next_line, takes_next}
 use Rattle.clog_writers.proofs.Tallying.{may_paid, none_yet}
 use Rattle.clog_writers.proofs.Timing.{none_timed, one_timed}
-use Rattle.clog_writers.proofs.worker.commit_lines.Goals as goal
+use Rattle.clog_writers.proofs.share.commit_lines.Goals as goal
 
 pub loop-prepared-init : goal.loop-prepared-init
 loop-prepared-init g c =

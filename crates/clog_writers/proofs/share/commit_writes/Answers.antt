@@ -10,7 +10,7 @@ use Rattle.clog_writers.specs.Tallied.{ArePaid, HasFlushedAll}
 use Rattle.clog_writers.specs.Tallies.{MayTally}
 use Rattle.clog_writers.proofs.Committing.{earlier_on, logs_on}
 use Rattle.clog_writers.proofs.Timing.{timed_on}
-use Rattle.clog_writers.proofs.worker.commit_writes.Goals as goal
+use Rattle.clog_writers.proofs.share.commit_writes.Goals as goal
 
 -- ---- all writes are committed, and tables are flushed behind them
 
