@@ -35,8 +35,8 @@ ghost use Rattle.sync_core.specs.declared.SyncCore.TheVariants.{Batch, Periodic}
 ghost use Rattle.write_path.specs.Opened.{AreNew};
 
 use crate::fault::{WriteFault, first_of, refusal_of};
-use crate::syncing::Syncing;
 use crate::share::commit_share;
+use crate::syncing::Syncing;
 use crate::worker::Worker;
 use clog_base::Sizes;
 use clog_io::{Clock, Gate};

@@ -8,7 +8,7 @@ ghost use Rattle.clog_mutation.specs.declared.mutation.Mutation.{Mutation};
 ghost use Rattle.clog_applied.specs.History.{Line};
 ghost use Rattle.clog_writers.specs.Crews.{KnowsWhy, MayLack};
 ghost use Rattle.clog_writers.specs.Sealing.{HasSealed, HasWaited};
-ghost use Rattle.clog_writers.specs.Tallied.{IsCountedFor, OpensNone};
+ghost use Rattle.clog_writers.specs.Tallied.{ArePaid, IsCountedFor, OpensNone};
 ghost use Rattle.clog_writers.specs.Tallies.{MayTally, MayTry, limit_of};
 ghost use Rattle.clog_writers.specs.Timed.{TimesWrite};
 ghost use Rattle.clog_writers.specs.Shares.{AddsWrite, MayAddWrite, fault_of, refusal_in};
