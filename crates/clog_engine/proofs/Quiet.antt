@@ -36,6 +36,7 @@ use Rattle.clog_engine.specs.declared.status.Status.TheVariants.{
   Memtables,
   Absent,
 }
+use Rattle.clog_text.specs.declared.refusal.BadLine.{BadLine as BadLineCause}
 use Rattle.clog_engine.specs.Refusal.{folder_status, status_of}
 use Rattle.clog_engine.specs.Before.{FolderRefuses}
 use Rattle.clog_engine.specs.Outside.{Sinks}
@@ -117,68 +118,56 @@ of_the_disk Failed before = before
 of_the_disk NoSuchFile before = before
 of_the_disk NoMemory before = before
 
+-- nor is any for which nothing gives the answers that come before the disk is called
+refused_behind : (refuses : Status → Type 0) → (refuses Usage → ⊥)
+    → ((number : ℕ) (cause : BadLineCause) → refuses (BadLine number cause) → ⊥)
+    → ((number size most : ℕ) → refuses (TooLarge number size most) → ⊥)
+    → (refuses ReadFault → ⊥) → ((most : ℕ) → refuses (Limit FileBytes most) → ⊥)
+    → ((most : ℕ) → refuses (Limit Lines most) → ⊥) → (status : Status) → refuses status
+    → IsBeforeDisk status → ⊥
+refused_behind refuses words line large source bytes lines Usage refused before = words refused
+refused_behind refuses words line large source bytes lines (BadLine number cause) refused before =
+    line number cause refused
+refused_behind refuses words line large source bytes lines (TooLarge number size most) refused
+    before =
+    large number size most refused
+refused_behind refuses words line large source bytes lines ReadFault refused before =
+    source refused
+refused_behind refuses words line large source bytes lines (Limit FileBytes most) refused before =
+    bytes most refused
+refused_behind refuses words line large source bytes lines (Limit Lines most) refused before =
+    lines most refused
+refused_behind refuses words line large source bytes lines Good refused before = before
+refused_behind refuses words line large source bytes lines WriteFault refused before = before
+refused_behind refuses words line large source bytes lines DiskFault refused before = before
+refused_behind refuses words line large source bytes lines (Damaged name at cause) refused before =
+    before
+refused_behind refuses words line large source bytes lines (BadTable name fault) refused before =
+    before
+refused_behind refuses words line large source bytes lines OutOfMemory refused before = before
+refused_behind refuses words line large source bytes lines (Limit SegmentBytes most) refused before =
+    before
+refused_behind refuses words line large source bytes lines (Limit Ids most) refused before = before
+refused_behind refuses words line large source bytes lines (Limit TableFiles most) refused before =
+    before
+refused_behind refuses words line large source bytes lines (Groups most) refused before = before
+refused_behind refuses words line large source bytes lines (Memtables most) refused before = before
+refused_behind refuses words line large source bytes lines (Absent name) refused before = before
+
 -- nor is one that comes of looking at the folder
 pub looked_at : (files : Option Files) (f g : ℕ) (status : Status) → FolderRefuses files f g status
     → IsBeforeDisk status → ⊥
-looked_at files f g Good refused before = before
-looked_at files f g Usage refused before = refused
-looked_at files f g (BadLine number cause) refused before = refused
-looked_at files f g (TooLarge number size most) refused before = refused
-looked_at files f g ReadFault refused before = refused
-looked_at files f g WriteFault refused before = before
-looked_at files f g DiskFault refused before = before
-looked_at files f g (Damaged name at cause) refused before = before
-looked_at files f g (BadTable name fault) refused before = before
-looked_at files f g OutOfMemory refused before = before
-looked_at files f g (Limit FileBytes most) refused before = refused
-looked_at files f g (Limit Lines most) refused before = refused
-looked_at files f g (Limit SegmentBytes most) refused before = before
-looked_at files f g (Limit Ids most) refused before = before
-looked_at files f g (Limit TableFiles most) refused before = before
-looked_at files f g (Groups most) refused before = before
-looked_at files f g (Memtables most) refused before = before
-looked_at files f g (Absent name) refused before = before
+looked_at files f g = refused_behind (FolderRefuses files f g) (λ r. r) (λ number cause r. r)
+    (λ number size most r. r) (λ r. r) (λ most r. r) (λ most r. r)
 
 -- nor one that comes of reading a segment's file
 pub read_at : (files : Option Files) (f g : ℕ) (name : List ℕ) (status : Status)
     → ReadRefused files f g name status → IsBeforeDisk status → ⊥
-read_at files f g name Good refused before = before
-read_at files f g name Usage refused before = refused
-read_at files f g name (BadLine number cause) refused before = refused
-read_at files f g name (TooLarge number size most) refused before = refused
-read_at files f g name ReadFault refused before = refused
-read_at files f g name WriteFault refused before = before
-read_at files f g name DiskFault refused before = before
-read_at files f g name (Damaged other at cause) refused before = before
-read_at files f g name (BadTable other fault) refused before = before
-read_at files f g name OutOfMemory refused before = before
-read_at files f g name (Limit FileBytes most) refused before = refused
-read_at files f g name (Limit Lines most) refused before = refused
-read_at files f g name (Limit SegmentBytes most) refused before = before
-read_at files f g name (Limit Ids most) refused before = before
-read_at files f g name (Limit TableFiles most) refused before = before
-read_at files f g name (Groups most) refused before = before
-read_at files f g name (Memtables most) refused before = before
-read_at files f g name (Absent other) refused before = before
+read_at files f g name = refused_behind (ReadRefused files f g name) (λ r. r)
+    (λ number cause r. r) (λ number size most r. r) (λ r. r) (λ most r. r) (λ most r. r)
 
 -- nor one that comes of replaying the folder
 pub replayed_at : (ignore : Bool) (files : Option Files) (f g : ℕ) (status : Status)
     → ReplayRefused ignore files f g status → IsBeforeDisk status → ⊥
-replayed_at ignore files f g Good refused before = before
-replayed_at ignore files f g Usage refused before = refused
-replayed_at ignore files f g (BadLine number cause) refused before = refused
-replayed_at ignore files f g (TooLarge number size most) refused before = refused
-replayed_at ignore files f g ReadFault refused before = refused
-replayed_at ignore files f g WriteFault refused before = before
-replayed_at ignore files f g DiskFault refused before = before
-replayed_at ignore files f g (Damaged name at cause) refused before = before
-replayed_at ignore files f g (BadTable name fault) refused before = before
-replayed_at ignore files f g OutOfMemory refused before = before
-replayed_at ignore files f g (Limit FileBytes most) refused before = refused
-replayed_at ignore files f g (Limit Lines most) refused before = refused
-replayed_at ignore files f g (Limit SegmentBytes most) refused before = before
-replayed_at ignore files f g (Limit Ids most) refused before = before
-replayed_at ignore files f g (Limit TableFiles most) refused before = before
-replayed_at ignore files f g (Groups most) refused before = before
-replayed_at ignore files f g (Memtables most) refused before = before
-replayed_at ignore files f g (Absent name) refused before = before
+replayed_at ignore files f g = refused_behind (ReplayRefused ignore files f g) (λ r. r)
+    (λ number cause r. r) (λ number size most r. r) (λ r. r) (λ most r. r) (λ most r. r)

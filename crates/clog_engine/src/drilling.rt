@@ -133,7 +133,7 @@ pub(crate) fn drill<
         Ok(made) => made,
         Err(status) => return (disk, Err(status)),
     };
-    let (disk, outcome) = apply_shares(rt, alloc, options, sizes, lines, disk, clock, clock, gate);
+    let (disk, outcome) = apply_shares(rt, alloc, options, sizes, lines, disk, clock, gate);
     match outcome {
         Ok(_applied) => {
             let mut disk = disk;

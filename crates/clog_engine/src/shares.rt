@@ -74,5 +74,7 @@ pub(crate) fn read_plan<T: Threads + Sync, S: Source, D: Disk + Drop>(
 {
     let bytes = bytes_of(alloc, source)?;
     let mutations = mutations_of(rt, alloc, &bytes)?;
+    // The file goes here: the memory of the lines' writes, and of a dump's cells, is taken next.
+    drop(bytes);
     plan_lines(alloc, sizes, flush_at, mutations, dump)
 }

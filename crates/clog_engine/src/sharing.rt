@@ -59,13 +59,12 @@ pub(crate) fn disks_leave_now<D: Disk>(_disk: &D)
     ensures { (d : D) (image : Files) → D.since d (D.moment d) image → IsImage (D.leaves d) image }
 {}
 
-/// Applies planned lines, however they came. One clock tells the moment of the opening, the other
-/// one when a period has passed.
+/// Applies planned lines, however they came. The clock tells the moment of the opening, and when a
+/// period has passed.
 pub(crate) fn apply_shares<
     T: Threads + Wait + Sync,
     D: Disk + Send + Drop,
-    C: Clock,
-    P: Clock + Sync,
+    C: Clock + Sync,
     G: Gate + Sync,
 >(
     rt: &T,
@@ -75,7 +74,6 @@ pub(crate) fn apply_shares<
     lines: PlannedLines<D>,
     disk: D,
     clock: &C,
-    periods: &P,
     gate: &G,
 ) -> (D, Result<Bytes, Status>)
     requires doable { IsDoable options }
@@ -117,7 +115,7 @@ pub(crate) fn apply_shares<
         sizes,
         syncing,
         gate,
-        periods,
+        clock,
         plan,
         options.flush_at,
         options.drain,

@@ -8,5 +8,5 @@ returns-in-Ok-clause-applies g c =
     let read = c.in-Ok.ensures in
     file_applies c.args.options _ read.bytes read.mutations read.taken
     (subst (λ (capacity : ℕ). IsSized capacity read.bytes read.mutations)
-    c.sizes_of-sizes.ensures.capacity read.sized) c.apply_planned.result.1
-    (c.apply_planned.ensures.applies _ _ _ _ read.mutations read.planned)
+    c.sizes_of-sizes.ensures.capacity read.sized) c.apply_shares.result.1
+    (c.apply_shares.ensures.applies _ _ _ _ read.mutations read.planned)
