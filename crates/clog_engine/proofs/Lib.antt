@@ -10,6 +10,7 @@ pub mod MadeLines
 pub mod Merged
 pub mod Onward
 pub mod Opened
+pub mod PrintedParts
 pub mod Quiet
 pub mod Readable
 mod Replays

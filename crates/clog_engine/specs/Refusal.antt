@@ -56,10 +56,9 @@ IsUnspent outcome = outcome ≡ result.Err Spent → ⊥
 abbrev pub IsUngrouped : {T : Type 0} → Result T WriteFault → Type 0
 IsUngrouped outcome = (made : ℕ) → outcome ≡ result.Err (Rows row.WriteGroups made) → ⊥
 
--- there is room for a head of so many receipts, and for the rows
+-- there is room for a head of so many receipts
 abbrev pub HasRoomFor : ℕ → PendingReport → Type 0
-HasRoomFor lines pending =
-    longest_receipt * (lines + 1) + length pending.rows.items ≤ vec_capacity pending.room
+HasRoomFor lines pending = longest_receipt * (lines + 1) ≤ vec_capacity pending.room
 
 -- A report whose head was to come, where writers logged all lines; else why they did not.
 abbrev pub IsToldAs : Bool → PendingReport → Result (Vec Receipt Global) WriteFault

@@ -8,11 +8,12 @@ ghost use Rattle.clog_engine.specs.Outside.{outside_of};
 ghost use Rattle.clog_engine.specs.Quiet.{TellsEach, IsRefusedBefore};
 ghost use Rattle.clog_engine.specs.Request.{IsDoable};
 
+use crate::printing::Report;
 use crate::shares::read_plan;
 use crate::sharing::apply_shares;
 use crate::status::Status;
 use crate::words::sizes_of;
-use clog_base::{Bytes, OutOfMemory};
+use clog_base::OutOfMemory;
 use clog_disk::Disk;
 use clog_io::{Clock, Gate, Source};
 use clog_words::ApplyOptions;
@@ -49,7 +50,7 @@ pub(crate) fn apply<
     disk: D,
     clock: &C,
     gate: &G,
-) -> (D, Result<Bytes, Status>)
+) -> (D, Result<Report, Status>)
     requires { IsDoable options }
     ensures applies { Applies options (outside_of S.Source D.Disk C.Clock source.old source.new
         disk result.0 clock.now) result.1 }

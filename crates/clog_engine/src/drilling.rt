@@ -17,13 +17,14 @@ ghost use Rattle.clog_engine.specs.Outside.{outside_with};
 ghost use Rattle.clog_engine.specs.Quiet.{IsRefusedBefore, TellsEach};
 ghost use Rattle.clog_engine.specs.Request.{IsDoable};
 
+use crate::printing::Report;
 use crate::refusal::folder_status;
 use crate::shares::{PlannedLines, plan_lines};
 use crate::sharing::{apply_shares, disks_leave_now};
 use crate::status::Status;
 use crate::summary::{count_updates, summary_of};
 use crate::words::sizes_of;
-use clog_base::{Bytes, Sizes};
+use clog_base::Sizes;
 use clog_disk::Disk;
 use clog_io::{Clock, Gate};
 use clog_text::made;
@@ -83,7 +84,7 @@ fn tell_folder<T: Threads + Sync, D: Disk, G: Gate + Sync>(
     updates: u64,
     disk: &mut D,
     gate: &G,
-) -> Result<Bytes, Status>
+) -> Result<Report, Status>
     ensures tells { (mutations : List Line) → lines ≡ length mutations
         → updates ≡ updates_of mutations
         → TellsFolder mutations (D.files disk.old) (D.faults disk.old) (D.faults disk.new) result }
@@ -118,7 +119,7 @@ pub(crate) fn drill<
     disk: D,
     clock: &C,
     gate: &G,
-) -> (D, Result<Bytes, Status>)
+) -> (D, Result<Report, Status>)
     requires { count ≤ 1000000 }
     ensures drills { (left left_now : Option (List ℕ)) (f g : ℕ) → Drills seed count
         (outside_with left left_now f g D.Disk C.Clock disk result.0 clock.now) result.1 }

@@ -10,6 +10,7 @@ mod copies;
 mod drilling;
 mod fault_line;
 mod input;
+mod printing;
 mod receipts;
 mod refusal;
 mod replaying;

@@ -6,10 +6,11 @@ ghost use Rattle.clog_engine.specs.Quiet.{TellsEach};
 ghost use Rattle.clog_engine.specs.Replaying.{ReplaysFolder, counts_lines, replay_report};
 ghost use Rattle.clog_engine.specs.Report.{numbered_line};
 
+use crate::printing::Report;
 use crate::refusal::folder_status;
 use crate::report::put_cells;
 use crate::status::Status;
-use clog_base::{Bytes, OutOfMemory};
+use clog_base::OutOfMemory;
 use clog_disk::Disk;
 use clog_io::Gate;
 use clog_words::ReplayOptions;
@@ -40,13 +41,13 @@ fn put_counts(out: &mut Vec<u8>, counts: Counts) -> Result<(), AllocError>
 }
 
 // The counts, and the line of each cell.
-fn report_of(alloc: Global, restored: &Restored) -> Result<Bytes, OutOfMemory>
+fn report_of(alloc: Global, restored: &Restored) -> Result<Report, OutOfMemory>
     ensures { IfOk result (λ text. text ≡ replay_report restored.now) }
 {
     let mut out = Vec::new(alloc);
     put_counts(&mut out, restored.counts)?;
     put_cells(alloc, &mut out, &restored.cells)?;
-    Ok(Bytes::new(out))
+    Ok(Report::whole(alloc, out))
 }
 
 /// What the folder restores to and its counts, read by so many workers. Nothing on the disk
@@ -57,7 +58,7 @@ pub(crate) fn replay_folder<T: Threads + Sync, D: Disk, G: Gate + Sync>(
     options: ReplayOptions,
     disk: &mut D,
     gate: &G,
-) -> Result<Bytes, Status>
+) -> Result<Report, Status>
     requires { (1 ≤ options.workers) × (options.workers ≤ 64) }
     ensures replays { ReplaysFolder options.ignore_errors (D.files disk.old) (D.faults disk.old)
         (D.faults disk.new) result }

@@ -20,8 +20,9 @@ ghost use Rattle.clog_applied.specs.Printed.{applied_line};
 ghost use Rattle.clog_engine.specs.Report.{AreRowsOf, head_with, longest_receipt};
 ghost use Rattle.clog_engine.specs.Refusal.{HasRoomFor};
 
+use crate::printing::Report;
 use crate::receipts::{LONGEST_RECEIPT, put_told};
-use clog_base::{Bytes, Cell, CellKey, OutOfMemory};
+use clog_base::{Cell, CellKey, OutOfMemory};
 use clog_cells::CellMap;
 use clog_text::CellPrinter;
 use itoa::Buffer;
@@ -68,7 +69,7 @@ pub(crate) fn put_cells(
     put_rows(alloc, out, cells.entries())
 }
 
-/// A report whose head is to come: its rows, and room for all of it.
+/// A report whose head is to come: its rows, and room for the head.
 #[derive(Drop)]
 pub(crate) struct PendingReport {
     pub(crate) room: Vec<u8>,
@@ -98,8 +99,8 @@ fn rows_text(
     Ok(text)
 }
 
-/// Takes the memory of a report of so many lines over the cells of before and of the lines: there
-/// is room for a head of the longest lines, and for the rows behind it.
+/// Takes the memory of a report of so many lines over the cells of before and of the lines: its
+/// rows are there, and room for a head of the longest lines.
 pub(crate) fn pending(
     alloc: Global,
     dump: bool,
@@ -113,11 +114,7 @@ pub(crate) fn pending(
     ensures void { IfOk result (λ p. p.room.items ≡ []) }
 {
     let rows = rows_text(alloc, dump, before, cells)?;
-    let head = (lines + 1) * LONGEST_RECEIPT;
-    let Some(size) = head.checked_add(rows.len()) else {
-        return Err(OutOfMemory);
-    };
-    let room = Vec::with_capacity(alloc, size)?;
+    let room = Vec::with_capacity(alloc, (lines + 1) * LONGEST_RECEIPT)?;
     Ok(PendingReport { room, rows })
 }
 
@@ -139,33 +136,16 @@ fn put_head(out: &mut Vec<u8>, receipts: bool, told: &[Receipt]) -> Result<(), O
     Ok(())
 }
 
-// Puts a report, for which there is room: its head, and the rows behind it.
-fn put_report(
-    out: &mut Vec<u8>,
-    receipts: bool,
-    told: &[Receipt],
-    rows: &[u8],
-) -> Result<(), OutOfMemory>
-    requires void { out.old.items ≡ [] }
-    requires room { longest_receipt * (length told.now + 1) + length rows.now
-        ≤ vec_capacity out.old }
-    ensures ok { IsOk result }
-    ensures items { out.new.items ≡ head_with receipts told.now ++ rows.now }
-{
-    put_head(out, receipts, told)?;
-    Ok(out.extend_from_slice(rows)?)
-}
-
-/// Puts the head in front of the rows, in the room that there is for both. It takes no memory.
-pub(crate) fn finished(pending: PendingReport, receipts: bool, told: &[Receipt]) -> Bytes
+/// Puts the head, in the room that there is for it, in front of the rows. It takes no memory.
+pub(crate) fn finished(pending: PendingReport, receipts: bool, told: &[Receipt]) -> Report
     requires void { pending.room.items ≡ [] }
     requires room { HasRoomFor (length told.now) pending }
     ensures { result ≡ head_with receipts told.now ++ pending.rows.items }
 {
     let PendingReport { room, rows } = pending;
-    let mut out = room;
-    if put_report(&mut out, receipts, told, rows.as_slice()).is_err() {
+    let mut head = room;
+    if put_head(&mut head, receipts, told).is_err() {
         unreachable!()
     }
-    Bytes::new(out)
+    Report::with_rows(head, rows)
 }

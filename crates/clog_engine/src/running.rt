@@ -1,41 +1,24 @@
 //! The top call.
 ghost use Rattle.std.specs.Prelude.{◌≡◌};
-ghost use Rattle.clog_engine.specs.Answering.{DoesAsked, Prints};
+ghost use Rattle.clog_engine.specs.Answering.{DoesAsked};
 ghost use Rattle.clog_engine.specs.Outside.{outside_of, sinks_of};
 ghost use Rattle.clog_engine.specs.Run.{Runs};
 ghost use Rattle.clog_engine.specs.Quiet.{IsBeforeDisk, IsRefusedBefore, TellsEach};
 
 use crate::applying::apply;
 use crate::drilling::drill;
-use crate::fault_line::FaultLine;
+use crate::printing::{Report, print};
 use crate::replaying::replay_folder;
 use crate::scanning::scan_segment;
 use crate::status::Status;
 use crate::words::request_of;
-use clog_base::{Bytes, OutOfMemory};
+use clog_base::OutOfMemory;
 use clog_disk::Disk;
 use clog_io::{Clock, Gate, Sink, Source};
 use clog_words::Built;
 use std::alloc::Global;
 use std::sync::Wait;
 use std::thread::Threads;
-
-// Prints a report, or the line of a refusal if the sink takes it.
-fn print<K: Sink>(sink: &mut K, outcome: Result<Bytes, Status>) -> Status
-    ensures { Prints outcome result (sinks_of K.Sink sink.old sink.new) }
-{
-    match outcome {
-        Ok(report) => match sink.write_all(report.as_slice()) {
-            Ok(()) => Status::Ok,
-            Err(_) => Status::WriteFault,
-        },
-        Err(refusal) => {
-            let line = FaultLine::new(&refusal);
-            let _ = sink.write_all(line.as_bytes());
-            refusal
-        }
-    }
-}
 
 // Does what the words ask for.
 fn outcome_of<
@@ -52,7 +35,7 @@ fn outcome_of<
     disk: D,
     clock: &C,
     gate: &G,
-) -> (D, Result<Bytes, Status>)
+) -> (D, Result<Report, Status>)
     ensures done { DoesAsked words.now (outside_of R.Source D.Disk C.Clock source.old source.new
         disk result.0 clock.now) result.1 }
     ensures quiet { TellsEach (D.faults disk) (D.faults result.0) result.1 }

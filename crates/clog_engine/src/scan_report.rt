@@ -9,7 +9,8 @@ ghost use Rattle.clog_engine.specs.ScanReport.{
   found_report,
 };
 
-use clog_base::{Bytes, FRAME_SIZE, OutOfMemory};
+use crate::printing::Report;
+use clog_base::{FRAME_SIZE, OutOfMemory};
 use clog_scan::{End, Found, Scan};
 use itoa::Buffer;
 use std::alloc::{AllocError, Global};
@@ -80,12 +81,12 @@ fn put_end(out: &mut Vec<u8>, end: End) -> Result<(), AllocError>
 }
 
 /// The report of the segment of an id: its entries, in order, and its end.
-pub(crate) fn scan_report(alloc: Global, id: u64, scan: &Scan) -> Result<Bytes, OutOfMemory>
+pub(crate) fn scan_report(alloc: Global, id: u64, scan: &Scan) -> Result<Report, OutOfMemory>
     ensures { IfOk result (λ text. text ≡ found_report id scan.now.entries scan.now.end) }
 {
     let mut out = Vec::new(alloc);
     put_segment(&mut out, id)?;
     put_founds(&mut out, scan.entries.as_slice())?;
     put_end(&mut out, scan.end)?;
-    Ok(Bytes::new(out))
+    Ok(Report::whole(alloc, out))
 }

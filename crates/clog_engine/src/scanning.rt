@@ -6,6 +6,7 @@ ghost use Rattle.clog_engine.specs.Quiet.{TellsEach};
 ghost use Rattle.clog_engine.specs.Scanning.{Scans};
 ghost use Rattle.clog_engine.specs.SegmentFile.{FindsFile, GivesSegmentFile};
 
+use crate::printing::Report;
 use crate::refusal::{folder_status, status_of};
 use crate::scan_report::scan_report;
 use crate::status::Status;
@@ -47,7 +48,7 @@ fn segment_file<D: Disk>(disk: &mut D, id: u64) -> Result<Vec<u8>, Status>
 }
 
 /// What the segment of an id holds. Of the disk the listing and that file are looked at alone.
-pub(crate) fn scan_segment<D: Disk>(alloc: Global, disk: &mut D, id: u64) -> Result<Bytes, Status>
+pub(crate) fn scan_segment<D: Disk>(alloc: Global, disk: &mut D, id: u64) -> Result<Report, Status>
     ensures scans { Scans id (D.files disk.old) (D.faults disk.old) (D.faults disk.new) result }
     ensures keeps { IsUntouched D.files D.changes D.leaves D.moment D.since D.read_at D.lasted_at
         D.faults disk.old disk.new }

@@ -15,11 +15,12 @@ ghost use Rattle.clog_engine.specs.Refusal.{HasRoomFor, IsToldAs, IsUngrouped, I
 ghost use Rattle.clog_engine.specs.Request.{AreSizesOf, IsDoable};
 
 use crate::before::cells_before;
+use crate::printing::Report;
 use crate::refusal::folder_status;
 use crate::report::{PendingReport, finished, pending};
 use crate::shares::PlannedLines;
 use crate::status::Status;
-use clog_base::{Bytes, OutOfMemory, Sizes};
+use clog_base::{OutOfMemory, Sizes};
 use clog_disk::Disk;
 use clog_io::{Clock, Gate};
 use clog_store::Store;
@@ -36,7 +37,7 @@ fn told(
     pending: PendingReport,
     receipts: bool,
     outcome: Result<Vec<Receipt>, WriteFault>,
-) -> Result<Bytes, Status>
+) -> Result<Report, Status>
     requires unspent { IsUnspent outcome }
     requires ungrouped { IsUngrouped outcome }
     requires void { pending.room.items ≡ [] }
@@ -75,7 +76,7 @@ pub(crate) fn apply_shares<
     disk: D,
     clock: &C,
     gate: &G,
-) -> (D, Result<Bytes, Status>)
+) -> (D, Result<Report, Status>)
     requires doable { IsDoable options }
     requires sizes { AreSizesOf options sizes }
     requires planned { (mutations : List Mutation)

@@ -22,8 +22,9 @@ ghost use Rattle.clog_engine.specs.Drill.{
   updates_of,
 };
 
+use crate::printing::Report;
 use crate::replaying::put_count;
-use clog_base::{Bytes, Cell, CellKey, Kind, OutOfMemory};
+use clog_base::{Cell, CellKey, Kind, OutOfMemory};
 use clog_cells::CellMap;
 use clog_mutation::Mutation;
 use itoa::Buffer;
@@ -128,7 +129,7 @@ pub(crate) fn summary_of(
     lines: u32,
     updates: u64,
     cells: &CellMap,
-) -> Result<Bytes, OutOfMemory>
+) -> Result<Report, OutOfMemory>
     ensures { IfOk result (λ text. (mutations : List Line) → lines ≡ length mutations
         → updates ≡ updates_of mutations → text ≡ drill_report mutations cells.now) }
 {
@@ -140,5 +141,5 @@ pub(crate) fn summary_of(
     put_count(&mut out, "live", tally.live)?;
     put_count(&mut out, "deletions", tally.deletions)?;
     put_sum(&mut out, "timestamps", tally.timestamps)?;
-    Ok(Bytes::new(out))
+    Ok(Report::whole(alloc, out))
 }
