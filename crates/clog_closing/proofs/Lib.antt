@@ -30,3 +30,4 @@ pub mod StoreOnly
 pub mod StoreOrdered
 mod StoreTables
 pub mod Tables
+mod WorkedDeeds

@@ -13,4 +13,7 @@ pub use laws::{
     segments_may_go_that_are_droppable, stores_are_left, stores_go_in_order,
     stores_that_only_logged_are_left,
 };
-pub use rows::the_last_segment_alone_is_torn;
+pub use rows::{
+    a_drain_leaves_no_entry, a_table_file_holds_what_lasts, segments_go_that_table_files_hold,
+    the_last_segment_alone_is_torn,
+};
