@@ -31,3 +31,5 @@ pub mod StoreOrdered
 mod StoreTables
 pub mod Tables
 mod WorkedDeeds
+mod WorkedEnds
+mod WorkedEntry

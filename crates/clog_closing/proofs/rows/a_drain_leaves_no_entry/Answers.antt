@@ -1,4 +1,4 @@
-use Rattle.clog_closing.proofs.WorkedDeeds as worked
+use Rattle.clog_closing.proofs.WorkedEnds as worked
 use Rattle.clog_closing.proofs.rows.a_drain_leaves_no_entry.Goals as goal
 
 pub returns-clause-drained : goal.returns-clause-drained

@@ -1,4 +1,4 @@
-use Rattle.clog_closing.proofs.WorkedDeeds as worked
+use Rattle.clog_closing.proofs.WorkedEnds as worked
 use Rattle.clog_closing.proofs.rows.segments_go_that_table_files_hold.Goals as goal
 
 pub returns-clause-good : goal.returns-clause-good
