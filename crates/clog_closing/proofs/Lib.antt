@@ -15,7 +15,6 @@ pub mod Going
 pub mod Good
 pub mod LastEnd
 pub mod Leaving
-pub mod LogAlone
 pub mod Logs
 pub mod MayFlush
 pub mod NextNames
