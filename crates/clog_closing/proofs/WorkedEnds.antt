@@ -87,6 +87,6 @@ module _ (at : Setting) where
       (record { no_file = refl; none_dropped = refl; none_archived = refl })
       (all_of_one IsWhole n whole)
 
-  pub stays : HasFinished false (with_files at (file_to 60 ∷ [])) → ⊥
-  stays finished =
+  pub stays : (drain : Bool) → HasFinished drain (with_files at (file_to 60 ∷ [])) → ⊥
+  stays drain finished =
       nothing_there 0 (finished.gone 0 (omega arith) (may at [] [] 60 (omega arith)))

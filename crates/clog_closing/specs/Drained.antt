@@ -63,9 +63,9 @@ StaysAlive disk before now =
     Lives disk.files disk.moment disk.since disk.leaves disk.read_at disk.lasted_at before
     → LivesOn disk.files disk.moment disk.since disk.leaves disk.read_at disk.lasted_at before now
 
--- What a step of a drain that puts files of at most these memtables makes of a store that runs,
--- whatever it answers: however far the drain had come, so far it has; the log is as it was and lives
--- on; and it ends as it answers.
+-- What a step of a drain makes of a store that runs, whatever it answers: with files for these
+-- memtables, or for the first of them, a drain up to a key is one up to that key still; the log is
+-- as it was and lives on; and the step ends as it answers.
 pub record HasGoneOn {D : Type 0} (disk : DiskTells D) (code : D → Gv) (before now : StoreState D)
     (memtables : List Memtable) (result : Result (Unit {0}) KeeperFault) : Type 0 where
   pub begun : (upper : ℕ) → ReachTo upper memtables → HasBegun (held_in disk code before) upper

@@ -1,6 +1,6 @@
 //! Worked rows: which appends bring the segments of a log, and what a keeper may have done beside
 //! its log, and has to have done at the end of a run.
-ghost use Rattle.std.specs.Prelude.{◌≡◌, ◌≤◌, ◌∷◌, ℕ, [], false, true};
+ghost use Rattle.std.specs.Prelude.{◌≡◌, ◌≤◌, ◌∷◌, ℕ, Bool, [], false, true};
 ghost use Rattle.clog_scan.specs.Cut.{Section};
 ghost use Rattle.clog_closing.specs.Beside.{HasFinished, HasGoodDeeds};
 ghost use Rattle.clog_closing.specs.Worked.{both_whole, first_torn, second_torn, two_segments};
@@ -58,5 +58,6 @@ pub fn a_drain_leaves_no_entry()
     ensures drained { (at : Setting) → HasFinished true (once_gone at (file_to 60 ∷ [])) }
     ensures left { (at : Setting) → HasFinished true (with_files at []) → ⊥ }
     ensures undrained { (at : Setting) → HasFinished false (with_files at []) }
-    ensures stays { (at : Setting) → HasFinished false (with_files at (file_to 60 ∷ [])) → ⊥ }
+    ensures stays { (at : Setting) (drain : Bool)
+        → HasFinished drain (with_files at (file_to 60 ∷ [])) → ⊥ }
 {}

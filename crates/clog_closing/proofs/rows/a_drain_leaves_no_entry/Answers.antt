@@ -11,4 +11,4 @@ pub returns-clause-undrained : goal.returns-clause-undrained
 returns-clause-undrained g at = worked.undrained at
 
 pub returns-clause-stays : goal.returns-clause-stays
-returns-clause-stays g at = worked.stays at
+returns-clause-stays g at drain = worked.stays at drain
