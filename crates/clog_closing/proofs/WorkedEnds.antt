@@ -47,6 +47,9 @@ module _ (at : Setting) where
   lost deeds =
       none_goes at (0 ∷ []) (if at.archives then 0 ∷ [] else []) 0 (deeds.droppable 0 (here 0 []))
 
+  pub early : HasGoodDeeds (keeper_with at [] [] (0 ∷ [])) → ⊥
+  early deeds = none_goes at [] (0 ∷ []) 0 (deeds.archivable 0 (here 0 []))
+
   pub unnamed : at.archives ≡ true
       → HasGoodDeeds (keeper_with at (file_to 60 ∷ []) (0 ∷ []) []) → ⊥
   unnamed archives deeds = nothing_there 0 (deeds.all_archived archives 0 (here 0 []))

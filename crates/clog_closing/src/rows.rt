@@ -41,10 +41,12 @@ pub fn a_table_file_holds_what_lasts()
 {}
 
 /// The segment of that entry may be dropped where the file holds it, and not where there is no
-/// file. Where segments are archived it has its archive name then; where they are not, it has none.
+/// file, nor may it have an archive name then. Where segments are archived it has its archive name
+/// once it is dropped; where they are not, it has none.
 pub fn segments_go_that_table_files_hold()
     ensures good { (at : Setting) → HasGoodDeeds (once_gone at (file_to 60 ∷ [])) }
     ensures lost { (at : Setting) → HasGoodDeeds (once_gone at []) → ⊥ }
+    ensures early { (at : Setting) → HasGoodDeeds (keeper_with at [] [] (0 ∷ [])) → ⊥ }
     ensures unnamed { (at : Setting) → at.archives ≡ true
         → HasGoodDeeds (keeper_with at (file_to 60 ∷ []) (0 ∷ []) []) → ⊥ }
     ensures named { (at : Setting) → at.archives ≡ false

@@ -7,6 +7,9 @@ returns-clause-good g at = worked.good_gone at
 pub returns-clause-lost : goal.returns-clause-lost
 returns-clause-lost g at = worked.lost at
 
+pub returns-clause-early : goal.returns-clause-early
+returns-clause-early g at = worked.early at
+
 pub returns-clause-unnamed : goal.returns-clause-unnamed
 returns-clause-unnamed g at = worked.unnamed at
 
