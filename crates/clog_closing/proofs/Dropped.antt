@@ -132,12 +132,14 @@ module _ {D : Type 0} (files_at : D → Option Files) (changes : D → Option (L
       → HasEnded sizes opened after later log deeds history
   ended opened after holds = record {
     folder = holds;
-    grown = grows;
-    ordered = ordered.ordered;
-    stored = stored;
-    places = all_placed b.notes noted none_kept;
-    in_log = in_log;
-    notes = are;
+    goes = record {
+      grown = grows;
+      ordered = ordered.ordered;
+      stored = stored;
+      places = all_placed b.notes noted none_kept;
+      in_log = in_log;
+      notes = are;
+    };
     whole = whole_deeds;
   }
 

@@ -1,4 +1,4 @@
--- The entries of a log's segments, and the lines of their notes.
+-- The entries of a log's segments, and the lines of their notes; and that each touches a table.
 use Rattle.std.proofs.Common.{
   ◌≡◌,
   ℕ,
@@ -19,17 +19,21 @@ use Rattle.std.proofs.Common.{
 use Rattle.std.specs.Prelude.{Contains}
 use Rattle.std.proofs.lemmas.List.Elements.{Contains-append_left}
 use Rattle.clog_spec.specs.Sizes.{header_size, marker_size}
+use Rattle.clog_base.specs.declared.cell.Table.{Table}
 use Rattle.clog_base.proofs.Members.{here}
 use Rattle.clog_disk.specs.declared.change.Change.{Change}
+use Rattle.clog_mutation.specs.declared.mutation.Update.{Update}
+use Rattle.clog_mutation.specs.Stored.{IsStored}
 use Rattle.clog_scan.specs.Cut.{Section}
 use Rattle.clog_scan.specs.Segment.{Entry, entries_from, entries_of, entry_from}
+use Rattle.clog_crash.specs.Droppable.{Touches}
 use Rattle.clog_crash.specs.Grown.{appends_of}
 use Rattle.clog_crash.specs.Log.{Write}
 use Rattle.clog_crash.specs.Runs.{placed_log}
 use Rattle.path_core.specs.declared.note.EntryNote.{EntryNote}
 use Rattle.clog_store.specs.Grows.{IsGrown, segments_with}
 use Rattle.clog_store.specs.Notes.{places_of}
-use Rattle.clog_applied.specs.History.{LoggedLine}
+use Rattle.clog_applied.specs.History.{LoggedLine, entry_of}
 use Rattle.clog_applied.proofs.Merged.{of_entry}
 use Rattle.clog_layout.specs.Logged.{AreNotesOf}
 use Rattle.clog_closing.specs.Logs.{AreStoredInOrder, written_ids}
@@ -84,3 +88,22 @@ module _ (changes : List Change) (base : ℕ) (past : List Write) (id : ℕ)
       let l = an_entry i listed in
       let n = note_of_line base notes history are l.0 l.1 in
       omega (arith, n.is.id, l.2)
+
+-- an entry of a line touches a table
+pub touches_one : (w : LoggedLine) → IsStored w.mutation
+    → (table : Table) × Touches (entry_of w) table
+touches_one w stored = by w.mutation.updates refl
+  where
+    by : (us : List Update) → w.mutation.updates ≡ us
+        → (table : Table) × Touches (entry_of w) table
+    by [] is = absurd (omega (arith, stored.some, ap length is))
+    by (u ∷ us) is = (
+      u.table,
+      record {
+        mutation = w.mutation;
+        said = record { stored = stored; spelled = refl };
+        update = u;
+        listed = subst (λ (l : List Update). Contains l u) (sym is) (here u us);
+        same_table = refl;
+      },
+    )

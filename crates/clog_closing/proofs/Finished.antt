@@ -1,5 +1,5 @@
--- A keeper has finished: where it did nothing beside its log, where it is drained, and where it was
--- drained of memtables of all that it has logged.
+-- A keeper has finished: where it did nothing beside its log, and where it was drained of memtables
+-- of all that it has logged.
 use Rattle.std.proofs.Common.{
   ◌≡◌,
   ℕ,
@@ -97,14 +97,6 @@ front_sequence files more sequence front rest f cut =
     sequence front (rest ++ more) f
     (ap (λ (l : List PutFile). l ++ more) cut ∙ append_assoc front (f ∷ rest) more)
 
-pub undrained : (before now : Holding) (ms : List Memtable) → Drains before now ms
-    → HasFinished false now
-undrained before now ms drains = record {
-  good = drains.good;
-  gone = drains.gone;
-  filed = λ drained. absurd (false≢true drained);
-}
-
 module _ (h : Holding) (capacity : ℕ) (in_log : IsHistory capacity h.logged) (ms : List Memtable)
     (are : AreMemtablesFor h ms) (now : Holding) (keeps : KeepsLog h now) (drains : Drains h now ms)
   where
@@ -114,7 +106,7 @@ module _ (h : Holding) (capacity : ℕ) (in_log : IsHistory capacity h.logged) (
     filed_before t n among low =
         let inside = in_log.each n among in
         holds_each t h.files (front_sequence h.files (files_of ms)
-        (subst AreInSequence drains.files_are drains.good.in_sequence)) n.end.0
+        (subst AreInSequence drains.files_are drains.finished.good.in_sequence)) n.end.0
         (omega (arith, inside.behind_front, inside.long)) low
 
     -- and one above it
@@ -155,4 +147,8 @@ module _ (h : Holding) (capacity : ℕ) (in_log : IsHistory capacity h.logged) (
         ])
 
     pub drained : HasFinished true now
-    drained = record { good = drains.good; gone = drains.gone; filed = λ all. all_filed }
+    drained = record {
+      good = drains.finished.good;
+      gone = drains.finished.gone;
+      filed = λ all. all_filed;
+    }

@@ -1,7 +1,12 @@
--- A keeper goes on beside its log, which stays: table files are put, and segments go.
-use Rattle.std.proofs.Common.{◌≡◌, ℕ, List, ◌++◌, refl, ◌∙◌, ap}
+-- A keeper goes on beside its log, which stays: table files are put, and segments go. So does a
+-- store, step by step.
+use Rattle.std.proofs.Common.{◌≡◌, ℕ, List, [], ◌++◌, Err, refl, ◌∙◌, ap}
 use Rattle.std.specs.Prelude.{Bool, Result, false, ◌||◌}
+use base.Stored.{Gv}
+use Rattle.clog_base.proofs.Members.{nothing_there}
+use Rattle.clog_disk.specs.declared.disk.Disk.{Ghosts as DiskTells}
 use Rattle.path_core.specs.declared.keeper.KeeperFault.{KeeperFault}
+use Rattle.path_core.specs.declared.keeper.KeeperFault.TheVariants.{OutOfMemory, Stopped}
 use Rattle.path_core.specs.Keeper.{
   DropRefused,
   Drops,
@@ -10,8 +15,11 @@ use Rattle.path_core.specs.Keeper.{
   PutFile,
   is_stopped,
 }
+use Rattle.clog_memtable.specs.declared.flushing.Memtable.{Memtable}
 use Rattle.clog_memtable.specs.Flushing.{HasPutFiles}
-use Rattle.clog_closing.specs.Drained.{EndsAs, KeepsLog}
+use Rattle.clog_store.specs.StoreState.{StoreState}
+use Rattle.clog_store.proofs.Lived.{lives_further}
+use Rattle.clog_closing.specs.Drained.{EndsAs, HasGoneOn, KeepsLog, held_in}
 
 -- ---- the log stays
 
@@ -87,4 +95,29 @@ pub ends_by : {T : Type 0} (before now : Holding) (r : Result T KeeperFault)
 ends_by before now r runs cause = record {
   stopped = cause.kept_in_mind ∙ ap (λ (x : Bool). x || is_stopped r) runs;
   counts = cause.counts;
+}
+
+-- a fault is told alike, whatever else might have been answered
+pub same_end : {S T : Type 0} (h : Holding) (fault : KeeperFault)
+    → EndsAs {T = S} h (Err fault) → EndsAs {T = T} h (Err fault)
+same_end h (Stopped at_open now) ends = record { stopped = ends.stopped; counts = ends.counts }
+same_end h OutOfMemory ends = record { stopped = ends.stopped; counts = tt }
+
+-- ---- a store
+
+-- a step that puts no file comes behind another
+pub gone_on : {D : Type 0} (disk : DiskTells D) (code : D → Gv) (a b c : StoreState D)
+    (ms : List Memtable) (r q : Result (Unit {0}) KeeperFault)
+    → HasGoneOn disk code a b ms r → HasGoneOn disk code b c [] q → HasGoneOn disk code a c ms q
+gone_on disk code a b c ms r q first next = record {
+  begun = λ upper reach begun.
+      next.begun upper (λ m none. absurd (nothing_there m none)) (first.begun upper reach begun);
+  keeps = keeps_on (held_in disk code a) (held_in disk code b) (held_in disk code c) first.keeps
+      next.keeps;
+  ends = next.ends;
+  first = next.first ∙ first.first;
+  lives = λ lives.
+      let on = first.lives lives in
+      lives_further disk.files disk.moment disk.since disk.leaves disk.read_at disk.lasted_at
+      a.notes.log b.notes.log c.notes.log lives.began on (next.lives on.lives);
 }

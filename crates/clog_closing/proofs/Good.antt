@@ -26,7 +26,7 @@ use Rattle.std.proofs.Common.{
 }
 use Rattle.std.specs.Prelude.{Contains}
 use Rattle.std.specs.List.{AllPairs}
-use Rattle.std.proofs.lemmas.Bool.{cases_eq}
+use Rattle.std.proofs.lemmas.Bool.{cases_eq, false≢true}
 use Rattle.std.proofs.lemmas.List.Elements.{
   Contains-append_cases,
   Contains-append_left,
@@ -304,8 +304,11 @@ pub drains : (before mid now : Holding) (ms : List Memtable) (count : ℕ) → M
 drains before mid now ms count may holds good flushes drops =
     let put = good_put before ms may holds good mid flushes.put in
     record {
-      good = good_drop mid now most_segments count drops put;
-      gone = none_left mid now most_segments count drops put;
+      finished = record {
+        good = good_drop mid now most_segments count drops put;
+        gone = none_left mid now most_segments count drops put;
+        filed = λ drained. absurd (false≢true drained);
+      };
       files_are = ap (λ (h : Holding). h.files) drops.holds
           ∙ ap (λ (h : Holding). h.files) flushes.put;
     }

@@ -15,7 +15,6 @@ pub mod Going
 pub mod Good
 pub mod LastEnd
 pub mod Leaving
-pub mod LogAlone
 pub mod Logs
 pub mod MayFlush
 pub mod NextNames
@@ -30,3 +29,6 @@ pub mod StoreOnly
 pub mod StoreOrdered
 mod StoreTables
 pub mod Tables
+mod WorkedDeeds
+mod WorkedEnds
+mod WorkedEntry

@@ -82,7 +82,7 @@ module _ (sizes : Sizes) (opened after : Files) (later : List Change) (log : Sto
   ids = ids_in log
 
   pub fits : (w : Write) → Contains ws w → w.id < 2 ^ 63
-  fits w h = (e.stored.stored w h).fits
+  fits w h = (e.goes.stored.stored w h).fits
 
   pub of_past : (w : Write) → Contains log.past w → Contains ws w
   of_past w h =
@@ -95,8 +95,8 @@ module _ (sizes : Sizes) (opened after : Files) (later : List Change) (log : Sto
 
   pub from_base : (id : ℕ) → Contains ids id → log.base ≤ id
   from_base =
-      above_base later log.base log.past log.id log.sections log.logged history e.grown e.stored
-      e.places e.notes
+      above_base later log.base log.past log.id log.sections log.logged history e.goes.grown e.goes.stored
+      e.goes.places e.goes.notes
 
   table_named : (p : PlacedFile) → Contains e.folder.placed p
       → IsTableName (name_of p) p.put.table p.sequence
@@ -188,7 +188,7 @@ module _ (sizes : Sizes) (opened after : Files) (later : List Change) (log : Sto
           name_is = refl;
           bytes_are = refl;
         })))
-        ∙ ap Some (sym (e.grown.each w (of_past w p.among))))
+        ∙ ap Some (sym (e.goes.grown.each w (of_past w p.among))))
     archived_by false no_archive =
         archive_alone id (id_fits id listed) (λ k a same.
         nothing_there k (subst (λ (l : List ℕ). Contains l k)
@@ -217,7 +217,7 @@ module _ (sizes : Sizes) (opened after : Files) (later : List Change) (log : Sto
               stays = λ k gone same. kept k gone (sym o.is ∙ same);
               name_is = refl;
               bytes_are = refl;
-            })) ∙ ap Some (sym (e.grown.each v o.listed)));
+            })) ∙ ap Some (sym (e.goes.grown.each v o.listed)));
         archive = archive_alone id (id_fits id listed) (λ k a same.
             kept k (e.whole.archived k a) same)
             ∙ no_archive_first id (id_fits id listed) (from_base id listed);

@@ -1,7 +1,30 @@
 -- Each change of a store is one of a run: bytes for its segments, its table files, archive names of
 -- its segments where it archives, and their removals. Where each table file reaches as far as the
 -- log, files and removals come behind all entries.
-use Rattle.std.proofs.Common.{◌≡◌, ℕ, ◌<◌, ◌≤◌, inl, inr, Bool, true, false, List, [], ◌∷◌, ◌++◌, length, refl, sym, ◌∙◌, ap, subst, arith, append_assoc, length-append}
+use Rattle.std.proofs.Common.{
+  ◌≡◌,
+  ℕ,
+  ◌<◌,
+  ◌≤◌,
+  inl,
+  inr,
+  Bool,
+  true,
+  false,
+  List,
+  [],
+  ◌∷◌,
+  ◌++◌,
+  length,
+  refl,
+  sym,
+  ◌∙◌,
+  ap,
+  subst,
+  arith,
+  append_assoc,
+  length-append,
+}
 use Rattle.std.specs.Prelude.{Contains}
 use Rattle.std.proofs.lemmas.List.Elements.{Contains-append_left}
 use Rattle.clog_spec.specs.Names.{IsTableName, segment_name_of}
@@ -38,7 +61,7 @@ use Rattle.clog_applied.proofs.Changes.{in_appends}
 use Rattle.clog_applied.proofs.Merged.{of_entry}
 use Rattle.clog_layout.proofs.Lines.{is_position}
 use Rattle.clog_closing.specs.Stores.{GoesInOrder, files_by, ids_in, segments_in}
-use Rattle.clog_closing.proofs.LogAlone.{touches_one}
+use Rattle.clog_closing.proofs.Entries.{touches_one}
 use Rattle.clog_closing.proofs.Logs.{written}
 use Rattle.clog_closing.proofs.StoreOrdered.{in_order}
 use Rattle.clog_closing.proofs.Tables.{note_of_line}

@@ -334,7 +334,7 @@ module _ (sizes : Sizes) (opened after : Files) (later : List Change) (log : Sto
       (subst (λ (k : ℕ). Contains deeds.dropped k) (sym here) gone) t parts.1 in
       let last = subst (λ (k : ℕ). held.file.upper ≤ upper_from k 0 deeds.files) held.of_table
       (e.folder.done.tiled held.file held.among) in
-      let placed_a = e.in_log.each a ha in
+      let placed_a = e.goes.in_log.each a ha in
       holds_each t deeds.files e.whole.in_sequence key
       (omega (arith, placed_a.behind_front, placed_a.long, low))
       (omega (arith, high, held.up_to, last))
@@ -349,12 +349,12 @@ module _ (sizes : Sizes) (opened after : Files) (later : List Change) (log : Sto
       → Droppable id
   dropped_may id listed gone =
       let found = from_map (λ (o : ℕ). log.base + o) deeds.dropped id gone in
-      let l = an_entry later log.base log.past log.id log.sections log.logged history e.grown
-      e.stored e.places e.notes id listed in
-      let n = note_of_line log.base log.logged history e.notes l.0 l.1 in
+      let l = an_entry later log.base log.past log.id log.sections log.logged history e.goes.grown
+      e.goes.stored e.goes.places e.goes.notes id listed in
+      let n = note_of_line log.base log.logged history e.goes.notes l.0 l.1 in
       let here : ordinal_of n.note.start.0 ≡ found.0 = omega (arith, n.is.id, l.2, found.2) in
       subst Droppable found.2
-      (filed_droppable sizes.capacity log.base log.logged deeds.files history few e.in_log e.notes
+      (filed_droppable sizes.capacity log.base log.logged deeds.files history few e.goes.in_log e.goes.notes
       found.0 n.note n.listed here (filed found.0 found.1))
 
   may_dropped : (id : ℕ) → Contains (ids_in log) id → Droppable id
@@ -364,15 +364,15 @@ module _ (sizes : Sizes) (opened after : Files) (later : List Change) (log : Sto
       let base = from_base sizes opened after later log deeds history e id listed in
       let is : id ≡ log.base + o = omega (arith, base) in
       let own = subst Droppable is drop in
-      let n = droppable_note sizes.capacity log.base log.logged deeds.files history few e.in_log
-      e.notes o own in
+      let n = droppable_note sizes.capacity log.base log.logged deeds.files history few e.goes.in_log
+      e.goes.notes o own in
       subst (λ (k : ℕ). Contains (dropped_ids log deeds) k) (sym is)
       (in_map (λ (k : ℕ). log.base + k) deeds.dropped o (e.whole.exactly o (record {
         note = n.0;
         among = n.1;
         here = n.2;
-        filed = is_filed_key sizes.capacity log.base log.logged deeds.files history few e.in_log
-            e.notes o own;
+        filed = is_filed_key sizes.capacity log.base log.logged deeds.files history few e.goes.in_log
+            e.goes.notes o own;
       })))
 
   pub exactly : (id : ℕ) → Contains (ids_in log) id

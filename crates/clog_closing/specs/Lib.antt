@@ -6,4 +6,5 @@ pub mod NextNames
 pub mod Sequence
 pub mod Stores
 pub mod Worked
+pub mod WorkedDeeds
 pub mod Written

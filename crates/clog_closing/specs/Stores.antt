@@ -71,16 +71,9 @@ pub record GoesInOrder (sizes : Sizes) (later : List Change) (log : StoreLog) (d
 
 -- ---- its end
 
--- The folder is the store's, whose changes since the opening have brought just its log and stand in
--- order. Its log holds just the entries of notes, which are those of a history. A path has done all
--- with it.
+-- The folder is the store's, which has gone in order. A path has done all with it.
 pub record HasEnded (sizes : Sizes) (opened after : Files) (later : List Change) (log : StoreLog)
     (deeds : Deeds) (history : List LoggedLine) : Type 0 where
   pub folder : HoldsStore opened log deeds after
-  pub grown : IsGrown (appends_of later) log.past log.id log.sections
-  pub ordered : AreOrdered log deeds later
-  pub stored : AreStoredInOrder (segments_in log)
-  pub places : placed_log log.past log.id log.sections ≡ places_of log.base log.logged
-  pub in_log : IsHistory sizes.capacity log.logged
-  pub notes : AreNotesOf log.base log.logged history
+  pub goes : GoesInOrder sizes later log deeds history
   pub whole : AreWholeDeeds log deeds

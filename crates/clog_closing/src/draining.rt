@@ -2,15 +2,13 @@
 //! all segments go for which table files stand (Cassandra's `ColumnFamilyStore.forceFlush` of each
 //! table, and then `CommitLog.discardCompletedSegments`, as `nodetool drain` does). The log of notes
 //! stays as it is.
-ghost use Rattle.std.specs.Prelude.{◌≡◌, ℕ, Contains, OnOk, false};
+ghost use Rattle.std.specs.Prelude.{◌≡◌, ℕ, [], Contains, OnOk, false};
 ghost use Rattle.clog_spec.specs.Sizes.{most_segments};
 ghost use Rattle.clog_memtable.specs.declared.flushing.Memtable.{Memtable as memtable_type};
 ghost use Rattle.clog_memtable.specs.Flushing.{FlushesAll, MayFlush, file_of};
 ghost use Rattle.path_core.specs.Keeper.{Drops};
-ghost use Rattle.clog_store.specs.Life.{Lives, LivesOn};
-ghost use Rattle.clog_store.specs.StoreState.{holding_of};
 ghost use Rattle.clog_closing.specs.Beside.{HasGoodDeeds, HoldsNote};
-ghost use Rattle.clog_closing.specs.Drained.{Drains, EndsAs, HasBegun, KeepsLog, ReachTo};
+ghost use Rattle.clog_closing.specs.Drained.{Drains, HasGoneOn, held_in};
 
 use clog_base::MOST_SEGMENTS;
 use clog_disk::Disk;
@@ -21,27 +19,10 @@ use path_core::KeeperFault;
 // Puts a table file for each memtable, in their order, up to the first that is refused.
 fn flush_each<D: Disk>(store: &mut Store<D>, memtables: &[Memtable]) -> Result<(), KeeperFault>
     requires runs { store.old.notes.log.is_stopped ≡ false }
-    requires may { MayFlush
-        (holding_of D.files D.changes D.moment D.faults D.row.coded.code store.old) memtables.now }
-    ensures flushes { OnOk result (FlushesAll
-        (holding_of D.files D.changes D.moment D.faults D.row.coded.code store.old)
-        (holding_of D.files D.changes D.moment D.faults D.row.coded.code store.new)
-        memtables.now) }
-    ensures begun { (upper : ℕ) → ReachTo upper memtables.now
-        → HasBegun
-        (holding_of D.files D.changes D.moment D.faults D.row.coded.code store.old) upper
-        → HasBegun
-        (holding_of D.files D.changes D.moment D.faults D.row.coded.code store.new) upper }
-    ensures keeps { KeepsLog
-        (holding_of D.files D.changes D.moment D.faults D.row.coded.code store.old)
-        (holding_of D.files D.changes D.moment D.faults D.row.coded.code store.new) }
-    ensures ends { EndsAs
-        (holding_of D.files D.changes D.moment D.faults D.row.coded.code store.new) result }
-    ensures first { store.new.first ≡ store.old.first }
-    ensures lives { Lives D.files D.moment D.since D.leaves D.read_at D.lasted_at
-        store.old.notes.log
-        → LivesOn D.files D.moment D.since D.leaves D.read_at D.lasted_at store.old.notes.log
-        store.new.notes.log }
+    requires may { MayFlush (held_in D.Disk D.row.coded.code store.old) memtables.now }
+    ensures flushes { OnOk result (FlushesAll (held_in D.Disk D.row.coded.code store.old)
+        (held_in D.Disk D.row.coded.code store.new) memtables.now) }
+    ensures on { HasGoneOn D.Disk D.row.coded.code store.old store.new memtables.now result }
 {
     for memtable in memtables {
         let Interval {
@@ -61,24 +42,9 @@ fn flush_each<D: Disk>(store: &mut Store<D>, memtables: &[Memtable]) -> Result<(
 // Drops all segments that may go; each of them is closed.
 fn drop_all<D: Disk>(store: &mut Store<D>) -> Result<(), KeeperFault>
     requires runs { store.old.notes.log.is_stopped ≡ false }
-    ensures drops { OnOk result ((count : ℕ) × Drops
-        (holding_of D.files D.changes D.moment D.faults D.row.coded.code store.old)
-        (holding_of D.files D.changes D.moment D.faults D.row.coded.code store.new)
-        most_segments count) }
-    ensures begun { (upper : ℕ) → HasBegun
-        (holding_of D.files D.changes D.moment D.faults D.row.coded.code store.old) upper
-        → HasBegun
-        (holding_of D.files D.changes D.moment D.faults D.row.coded.code store.new) upper }
-    ensures keeps { KeepsLog
-        (holding_of D.files D.changes D.moment D.faults D.row.coded.code store.old)
-        (holding_of D.files D.changes D.moment D.faults D.row.coded.code store.new) }
-    ensures ends { EndsAs
-        (holding_of D.files D.changes D.moment D.faults D.row.coded.code store.new) result }
-    ensures first { store.new.first ≡ store.old.first }
-    ensures lives { Lives D.files D.moment D.since D.leaves D.read_at D.lasted_at
-        store.old.notes.log
-        → LivesOn D.files D.moment D.since D.leaves D.read_at D.lasted_at store.old.notes.log
-        store.new.notes.log }
+    ensures drops { OnOk result ((count : ℕ) × Drops (held_in D.Disk D.row.coded.code store.old)
+        (held_in D.Disk D.row.coded.code store.new) most_segments count) }
+    ensures on { HasGoneOn D.Disk D.row.coded.code store.old store.new [] result }
 {
     match store.drop_due(MOST_SEGMENTS) {
         Ok(_) => Ok(()),
@@ -91,31 +57,13 @@ fn drop_all<D: Disk>(store: &mut Store<D>) -> Result<(), KeeperFault>
 /// Each memtable's file holds an entry. Where something is refused, what was done before it stands.
 pub fn drain<D: Disk>(store: &mut Store<D>, memtables: &[Memtable]) -> Result<(), KeeperFault>
     requires runs { store.old.notes.log.is_stopped ≡ false }
-    requires may { MayFlush
-        (holding_of D.files D.changes D.moment D.faults D.row.coded.code store.old) memtables.now }
-    requires holds_some { (m : memtable_type) → Contains memtables.now m → HoldsNote
-        (holding_of D.files D.changes D.moment D.faults D.row.coded.code store.old) (file_of m) }
-    requires good { HasGoodDeeds
-        (holding_of D.files D.changes D.moment D.faults D.row.coded.code store.old) }
-    ensures drains { OnOk result (Drains
-        (holding_of D.files D.changes D.moment D.faults D.row.coded.code store.old)
-        (holding_of D.files D.changes D.moment D.faults D.row.coded.code store.new)
-        memtables.now) }
-    ensures begun { (upper : ℕ) → ReachTo upper memtables.now
-        → HasBegun
-        (holding_of D.files D.changes D.moment D.faults D.row.coded.code store.old) upper
-        → HasBegun
-        (holding_of D.files D.changes D.moment D.faults D.row.coded.code store.new) upper }
-    ensures keeps { KeepsLog
-        (holding_of D.files D.changes D.moment D.faults D.row.coded.code store.old)
-        (holding_of D.files D.changes D.moment D.faults D.row.coded.code store.new) }
-    ensures ends { EndsAs
-        (holding_of D.files D.changes D.moment D.faults D.row.coded.code store.new) result }
-    ensures first { store.new.first ≡ store.old.first }
-    ensures lives { Lives D.files D.moment D.since D.leaves D.read_at D.lasted_at
-        store.old.notes.log
-        → LivesOn D.files D.moment D.since D.leaves D.read_at D.lasted_at store.old.notes.log
-        store.new.notes.log }
+    requires may { MayFlush (held_in D.Disk D.row.coded.code store.old) memtables.now }
+    requires holds_some { (m : memtable_type) → Contains memtables.now m
+        → HoldsNote (held_in D.Disk D.row.coded.code store.old) (file_of m) }
+    requires good { HasGoodDeeds (held_in D.Disk D.row.coded.code store.old) }
+    ensures drains { OnOk result (Drains (held_in D.Disk D.row.coded.code store.old)
+        (held_in D.Disk D.row.coded.code store.new) memtables.now) }
+    ensures on { HasGoneOn D.Disk D.row.coded.code store.old store.new memtables.now result }
 {
     match flush_each(store, memtables) {
         Ok(()) => drop_all(store),

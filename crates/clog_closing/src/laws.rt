@@ -12,7 +12,6 @@ ghost use Rattle.std.specs.Prelude.{
   Option,
   Some,
   Contains,
-  Bool,
   length,
   ◌<◌,
   ◌≤◌,
@@ -43,17 +42,16 @@ ghost use Rattle.path_core.specs.Keeper.{
   PutFile,
 };
 ghost use Rattle.path_core.specs.Whole.{IsWhole};
-ghost use Rattle.clog_store.specs.Grows.{AreAppends, IsGrown, segments_with};
+ghost use Rattle.clog_store.specs.Grows.{IsGrown, segments_with};
 ghost use Rattle.clog_store.specs.Notes.{places_of};
 ghost use Rattle.clog_store.specs.OnDisk.{file_on};
 ghost use Rattle.clog_store.specs.Filing.{AreRecoveryPuts};
 ghost use Rattle.clog_store.specs.Named.{id_limit};
 ghost use Rattle.clog_store.specs.Opened.{CanBeOpened, HasRoomFor, IsOpened, RecoversAll};
-ghost use Rattle.clog_store.specs.StoreFolder.{Deeds, HoldsStore, StoreLog, no_deeds};
+ghost use Rattle.clog_store.specs.StoreFolder.{Deeds, StoreLog};
 ghost use Rattle.clog_applied.specs.Appended.{IsAppended, appended, entries_in};
 ghost use Rattle.clog_applied.specs.Asked.{capacity_of};
-ghost use Rattle.clog_applied.specs.Closed.{ClosedRun, IsAnyFile, IsStoreLeft};
-ghost use Rattle.clog_applied.specs.Early.{AreInOrder};
+ghost use Rattle.clog_applied.specs.Closed.{ClosedRun, IsStoreLeft};
 ghost use Rattle.clog_applied.specs.Filed.{FollowFrom, IsTrueFor, files_of, first_of};
 ghost use Rattle.clog_applied.specs.History.{LoggedLine};
 ghost use Rattle.clog_applied.specs.Log.{AreSyncedApart};
@@ -64,13 +62,7 @@ ghost use Rattle.clog_closing.specs.NextNames.{HaveNextNames};
 ghost use Rattle.clog_closing.specs.Gaps.{HasGap, StandApart};
 ghost use Rattle.clog_closing.specs.Logs.{AreStoredInOrder, written_ids};
 ghost use Rattle.clog_closing.specs.Sequence.{AreInSequence};
-ghost use Rattle.clog_closing.specs.Stores.{
-  GoesInOrder,
-  HasEnded,
-  dropped_ids,
-  files_by,
-  ids_in,
-};
+ghost use Rattle.clog_closing.specs.Stores.{HasEnded, dropped_ids, files_by, ids_in};
 
 /// What a recovery has added to a disk's changes are table files of the folder's own log and
 /// removals of its segments. A folder that was opened by such changes is opened for a run.
@@ -163,20 +155,6 @@ pub fn put_files_follow_one_another()
         → FollowFrom (first_of base) (files_of table (map (file_on base) files)) }
 {}
 
-/// A store that has put no file and dropped no segment leaves what a run leaves whose path has put
-/// none, where its log holds just the entries of notes: the history of these.
-pub fn stores_that_only_logged_are_left()
-    ensures { (archive archives : Bool) (opened after : Files) (later : List Change)
-        (log : StoreLog) (history : List LoggedLine)
-        → HoldsStore opened log (no_deeds archives) after
-        → IsGrown (appends_of later) log.past log.id log.sections → AreAppends later
-        → AreStoredInOrder (segments_with log.past log.id log.sections)
-        → placed_log log.past log.id log.sections ≡ places_of log.base log.logged
-        → AreNotesOf log.base log.logged history
-        → IsStoreLeft archive opened after later
-        (written_ids (segments_with log.past log.id log.sections)) [] history [] }
-{}
-
 /// A store that has put table files and dropped segments leaves what a run leaves whose path has
 /// done all with it: the changes of its disk stand in order, segments are there or have gone as
 /// they were appended, and its table files are there.
@@ -186,16 +164,4 @@ pub fn stores_are_left()
         → HasEnded sizes opened after later log deeds history
         → IsStoreLeft deeds.archives opened after later (ids_in log) (dropped_ids log deeds) history
         (files_by log deeds) }
-{}
-
-/// However far a store has come with putting table files and dropping segments, also where its disk
-/// has failed meanwhile: what was appended is the history of its notes, and its changes stand in
-/// order, as those of a run.
-pub fn stores_go_in_order()
-    ensures appended { (sizes : Sizes) (later : List Change) (log : StoreLog) (deeds : Deeds)
-        (history : List LoggedLine) → GoesInOrder sizes later log deeds history
-        → IsAppended later (ids_in log) history }
-    ensures ordered { (sizes : Sizes) (later : List Change) (log : StoreLog) (deeds : Deeds)
-        (history : List LoggedLine) → GoesInOrder sizes later log deeds history
-        → AreInOrder IsAnyFile deeds.archives later (ids_in log) history (files_by log deeds) }
 {}

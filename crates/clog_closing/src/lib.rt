@@ -10,7 +10,9 @@ pub use draining::drain;
 pub use laws::{
     a_run_may_follow, entries_apart_are_in_two_sections, logs_of_notes_are_appended,
     openings_are_those_of_runs, put_files_are_true, put_files_follow_one_another,
-    segments_may_go_that_are_droppable, stores_are_left, stores_go_in_order,
-    stores_that_only_logged_are_left,
+    segments_may_go_that_are_droppable, stores_are_left,
 };
-pub use rows::the_last_segment_alone_is_torn;
+pub use rows::{
+    a_drain_leaves_no_entry, a_table_file_holds_what_lasts, segments_go_that_table_files_hold,
+    the_last_segment_alone_is_torn,
+};

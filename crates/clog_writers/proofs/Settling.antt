@@ -32,7 +32,7 @@ use Rattle.clog_layout.specs.Ends.{synced_to}
 use Rattle.clog_closing.specs.Beside.{HasFinished, HoldsNote}
 use Rattle.clog_closing.specs.Drained.{Drains, HasNoDeeds, KeepsLog, ReachTo}
 use Rattle.clog_closing.proofs.Begins.{reach_of}
-use Rattle.clog_closing.proofs.Finished.{drained, nothing_done, undrained}
+use Rattle.clog_closing.proofs.Finished.{drained, nothing_done}
 use Rattle.clog_closing.proofs.MayFlush.{holds_note, may_flush}
 use Rattle.clog_writers.specs.Settled.{Settles}
 
@@ -104,7 +104,7 @@ module _ (h : Holding) (capacity : ℕ) (in_log : IsHistory capacity h.logged)
           subst (λ (b : Bool). HasFinished b now) (sym is)
           (drained h capacity in_log ms (all is) now keeps drains)
       by false is =
-          subst (λ (b : Bool). HasFinished b now) (sym is) (undrained h now ms drains)
+          subst (λ (b : Bool). HasFinished b now) (sym is) drains.finished
 
 -- where nothing is asked
 pub unasked : (h : Holding) (drain : Bool) → drain ≡ false → HasNoDeeds h

@@ -1,27 +1,27 @@
-use Rattle.clog_store.specs.StoreState.{StoreState, holding_of}
-use Rattle.clog_store.proofs.Lived.{lives_further}
+use Rattle.std.proofs.Common.{Result, subst}
+use Rattle.path_core.specs.declared.keeper.KeeperFault.{KeeperFault}
 use Rattle.clog_store.proofs.Outcomes.{ok_then}
+use Rattle.clog_closing.specs.Drained.{HasGoneOn, held_in}
+use Rattle.clog_closing.proofs.Going.{gone_on}
 use Rattle.clog_closing.proofs.Good.{drains as drains_by}
 use Rattle.clog_closing.proofs.draining.drain.Goals as goal
 
 pub returns-in-Ok-clause-drains : goal.returns-in-Ok-clause-drains
 returns-in-Ok-clause-drains g c =
-    let D = g.D.Disk in
-    let held = λ (x : StoreState g.row.D.Denot).
-    holding_of D.files D.changes D.moment D.faults g.row.D.coded.code x in
+    let held = held_in g.D.Disk g.row.D.coded.code in
     ok_then c.drop_all.result c.drop_all.ensures.drops (λ drops.
     drains_by (held c.args.store.now) (held c.flush_each.new.store) (held c.drop_all.new.store)
     c.args.memtables.now drops.0 c.requires.may c.requires.holds_some c.requires.good
     c.in-Ok.ensures.flushes drops.1)
 
-pub returns-in-Ok-clause-begun : goal.returns-in-Ok-clause-begun
-returns-in-Ok-clause-begun g c upper reach begun =
-    c.drop_all.ensures.begun upper (c.flush_each.ensures.begun upper reach begun)
+pub returns-in-Ok-clause-on : goal.returns-in-Ok-clause-on
+returns-in-Ok-clause-on g c =
+    gone_on g.D.Disk g.row.D.coded.code c.args.store.now c.flush_each.new.store
+    c.drop_all.new.store c.args.memtables.now c.flush_each.result c.drop_all.result
+    c.flush_each.ensures.on c.drop_all.ensures.on
 
-pub returns-in-Ok-clause-lives : goal.returns-in-Ok-clause-lives
-returns-in-Ok-clause-lives g c lives =
-    let D = g.D.Disk in
-    let on = c.flush_each.ensures.lives lives in
-    lives_further D.files D.moment D.since D.leaves D.read_at D.lasted_at
-    c.args.store.now.notes.log c.flush_each.new.store.notes.log c.drop_all.new.store.notes.log
-    lives.began on (c.drop_all.ensures.lives on.lives)
+pub returns-in-Err-clause-on : goal.returns-in-Err-clause-on
+returns-in-Err-clause-on g c =
+    subst (λ (r : Result (Unit {0}) KeeperFault). HasGoneOn g.D.Disk g.row.D.coded.code
+    c.args.store.now c.flush_each.new.store c.args.memtables.now r) c.in-Err.is
+    c.flush_each.ensures.on

@@ -1,4 +1,3 @@
-use Rattle.clog_closing.specs.Stores.{GoesInOrder}
 use Rattle.clog_closing.proofs.Logs.{are_files, is_appended}
 use Rattle.clog_closing.proofs.Entries.{an_entry}
 use Rattle.clog_closing.proofs.StoreLeft.{no_other, no_stray, others, segments}
@@ -9,22 +8,16 @@ use Rattle.clog_closing.proofs.laws.stores_are_left.Goals as goal
 
 pub returns : goal.returns
 returns c sizes opened after later log deeds history e =
-    let goes : GoesInOrder sizes later log deeds history = record {
-      grown = e.grown;
-      ordered = e.ordered;
-      stored = e.stored;
-      places = e.places;
-      in_log = e.in_log;
-      notes = e.notes;
-    } in record {
-      is_appended = is_appended later log.base log.past log.id log.sections log.logged history e.grown
-          e.stored e.places e.notes;
-      bytes = are_files later log.base log.past log.id log.sections log.logged history e.grown e.stored
-          e.places e.notes;
-      some = an_entry later log.base log.past log.id log.sections log.logged history e.grown e.stored
-          e.places e.notes;
-      order = in_order sizes later log deeds history goes;
-      only = only sizes later log deeds history goes e.folder.done.none_archived;
+    let g = e.goes in
+    record {
+      is_appended = is_appended later log.base log.past log.id log.sections log.logged history
+          g.grown g.stored g.places g.notes;
+      bytes = are_files later log.base log.past log.id log.sections log.logged history g.grown
+          g.stored g.places g.notes;
+      some = an_entry later log.base log.past log.id log.sections log.logged history g.grown
+          g.stored g.places g.notes;
+      order = in_order sizes later log deeds history g;
+      only = only sizes later log deeds history g e.folder.done.none_archived;
       dropped_exactly = exactly sizes opened after later log deeds history e;
       segments = segments sizes opened after later log deeds history e;
       no_other = no_other sizes opened after later log deeds history e;

@@ -50,7 +50,7 @@ returns-in-Ok-clause-settles g c =
     on_ok c.drain.result _ (Settles c.args.drain h now) c.drain.ensures.drains (λ drains.
     settles h c.requires.in_log.0 c.requires.in_log.1 c.requires.few c.requires.tables
     c.requires.noted.below c.args.drain c.in-Ok.memtables.items put.none put.all now
-    c.drain.ensures.keeps
+    c.drain.ensures.on.keeps
     (subst (λ (ms : List Memtable). Drains h now ms) c.as_slice.ensures.value drains))
 
 pub returns-in-Ok-clause-begun : goal.returns-in-Ok-clause-begun
@@ -59,7 +59,7 @@ returns-in-Ok-clause-begun g c = λ none.
     let h = holding_of D.files D.changes D.moment D.faults g.row.D.coded.code c.args.store.now in
     let upper = synced_to h.logged in
     let put = c.in-Ok.ensures in
-    c.drain.ensures.begun upper
+    c.drain.ensures.on.begun upper
     (subst (λ (ms : List Memtable). ReachTo upper ms) (sym c.as_slice.ensures.value)
     (reach_there h c.requires.in_log.0 c.requires.in_log.1 c.requires.few c.requires.tables
     c.requires.noted.below c.args.drain c.in-Ok.memtables.items put.none put.all none))
