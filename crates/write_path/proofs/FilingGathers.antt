@@ -148,3 +148,13 @@ pub reads_it : (seats : ℕ) (t : Table) (m : ℕ) (g : Gathered) (h : Hands)
 reads_it seats t m Nothing h A = (A.0, (A.1, A.2, A.3, A.4))
 reads_it seats t m (Cells cells) h A = (A.0, (A.1.0, A.1.1, A.1.2, A.1.3))
 reads_it seats t m OutOfMemory h A = A
+
+-- so it is where what is read stays
+pub gathered_same : (seats : ℕ) (t : Table) (m : ℕ) (g : Gathered) (h after : Hands)
+    → after.reading ≡ h.reading → HasGathered seats t m g h → HasGathered seats t m g after
+gathered_same seats t m Nothing h after same A =
+    (A.0, same ∙ A.1, A.2, A.3, A.4, A.5, A.6)
+gathered_same seats t m (Cells cells) h after same A =
+    (A.0, (same ∙ A.1.0, A.1.1, A.1.2, A.1.3, A.1.4), A.2, A.3)
+gathered_same seats t m OutOfMemory h after same A =
+    (A.0, (same ∙ A.1.0, A.1.1, A.1.2, A.1.3))

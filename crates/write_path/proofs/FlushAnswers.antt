@@ -59,6 +59,8 @@ use Rattle.write_path.specs.FlushFilings.{
 }
 use Rattle.write_path.specs.FlushSteps.{
   Finalises,
+  FinalisesOnly,
+  FindsAlone,
   FlushSteps,
   QuietSteps,
   RetiresFiled,
@@ -66,10 +68,18 @@ use Rattle.write_path.specs.FlushSteps.{
   SwitchesNone,
   UnswitchedSteps,
 }
+use Rattle.write_path.specs.Ends.{writes_of}
 use Rattle.write_path.specs.FlushTurns.{FindsMemtables}
 use Rattle.write_path.specs.Opens.{opens}
-use Rattle.write_path.proofs.FilingGoes.{filed_behind, is_before, one_newer}
+use Rattle.write_path.proofs.FilingGoes.{filed_behind, is_before, one_newer, unswitched}
 use Rattle.write_path.proofs.FinalKeys.{same_final}
+use Rattle.write_path.proofs.FlushAlone.{
+  alone_behind,
+  alone_none,
+  alone_since,
+  only_both,
+  only_none,
+}
 use Rattle.write_path.proofs.FlushBarring.{final_before, final_behind}
 use Rattle.write_path.proofs.FlushGoes.{next, one, same_list, still_wrote}
 use Rattle.write_path.proofs.FlushWaits.{waits_all, waits_behind, waits_none}
@@ -181,11 +191,19 @@ retired_on r z t m u x after a same R L = record {
   is = is_before z r t m u x after a R.steps.made.made.steps R.is L.made L.kept;
 }
 
+-- A flush that switches memtable m answers this: it makes no other one final.
+pub record FlushesNewest (w t m : ℕ) (v : View) (answer : Flush) (after : View) : Type 0 where
+  pub steps : FlushSteps w t v after
+  pub opened : opens t steps.steps ≤ opened_by answer
+  pub only : FinalisesOnly t m steps.steps
+  pub list : writes_of after.trail ≡ writes_of v.trail
+  pub is : IsFlush w t v answer steps.steps after
+
 pub flushed : (w z t m key : ℕ) (v u x after : View) (a : Flush) → z ≡ w → (r : ℕ) → r ≡ z
-    → (S : FlushSteps w t v u) → Finalises w t m key S.steps → RetiresNone S.steps
-    → opens t S.steps ≤ 1 → WroteBelow key u.trail → Retired z t m u a x → QuietSteps r t x after
-    → Flushes w t v a after
-flushed w z t m key v u x after a same r number S F K one_most W R L =
+    → (S : FlushSteps w t v u) → Finalises w t m key S.steps → FinalisesOnly t m S.steps
+    → RetiresNone S.steps → opens t S.steps ≤ 1 → WroteBelow key u.trail → Retired z t m u a x
+    → QuietSteps r t x after → FlushesNewest w t m v a after
+flushed w z t m key v u x after a same r number S F O K one_most W R L =
     let B = retired_on r z t m u x after a number R L in
     let E = subst (λ k. RetiredBy k t m u a after) same B in
     let made = next w w v u after refl S E.made in record {
@@ -194,6 +212,7 @@ flushed w z t m key v u x after a same r number S F K one_most W R L =
           let all = opens_both t E.made.steps S.steps in
           let may = may_open w t m u after a E.made.steps E.is in
           omega (arith, one_most, none, all, may);
+      only = only_both t m E.made.steps S.steps (only_none t m E.made.steps E.none) O;
       list = same_list w v after made;
       is = flushed_is w t m key v u after a E.made.steps S F K
           (still_wrote w key u after E.made W) E.is;
@@ -230,6 +249,7 @@ left_then w z t m v u after a told same is R L = let S = R.steps.made in
       steps = made;
       opened = let no_more = none_opened t (L.made.steps ++ S.made.steps) none in
           omega (arith, no_more);
+      alone = alone_none t (L.made.steps ++ S.made.steps) none;
       list = same_list w v after made;
       is = left_is w t m v after after a told (L.made.steps ++ S.made.steps) is none
           (is_before w z t m v u after told S.made.steps R.is L.made L.kept);
@@ -318,8 +338,26 @@ later w z t v u after a same Q got R = let S = subst (λ k. Flushes k t u a afte
       opened = let none = none_opened t Q.made.steps Q.none in
           let all = opens_both t S.steps.steps Q.made.steps in let most = S.opened in
           omega (arith, none, all, most);
+      alone = alone_behind t S.steps.steps Q.made.steps S.alone (alone_none t Q.made.steps Q.none);
       list = same_list w v after made;
       is = is_later w t v u after a S.steps.steps Q got S.is;
+    }
+
+-- one that switches the memtable which was found alone
+pub newest_later : (w z t m : ℕ) (v u after : View) (a : Flush) → z ≡ w → (Q : QuietSteps w t v u)
+    → GotTurn a → FindsAlone t m Q.made.steps → FlushesNewest z t m u a after
+    → Flushes w t v a after
+newest_later w z t m v u after a same Q got F R =
+    let S = subst (λ k. FlushesNewest k t m u a after) same R in
+    let made = next w w v u after refl Q.made S.steps in record {
+      steps = made;
+      opened = let none = none_opened t Q.made.steps Q.none in
+          let all = opens_both t S.steps.steps Q.made.steps in let most = S.opened in
+          omega (arith, none, all, most);
+      alone = alone_since t m S.steps.steps Q.made.steps S.only F
+          (alone_none t Q.made.steps Q.none);
+      list = same_list w v after made;
+      is = is_later w t v u after a S.steps.steps (unswitched w v u Q) got S.is;
     }
 
 -- ---- the answers by which nothing was switched
@@ -331,6 +369,7 @@ busy w n t v after d is = let e = Look w (TurnWord (FlushTurn t)) in
     record {
       steps = made;
       opened = let none = none_opened t.0 made.steps (tt, tt) in omega (arith, none);
+      alone = (tt, tt);
       list = same_list w v after made;
       is = (
         is,
@@ -347,6 +386,7 @@ full w z t n v u after same F L = let Q = then_quiet w z v u after same F.0 L in
     let newest = Newest (record { 0 = t }) in let all = F.1 in record {
       steps = Q.made;
       opened = let none = none_opened t Q.made.steps Q.none in omega (arith, none);
+      alone = alone_none t Q.made.steps Q.none;
       list = same_list w v after Q.made;
       is = (
         n,

@@ -45,7 +45,7 @@ use Rattle.path_core.proofs.seats.StepColumns.{columns}
 use Rattle.path_rule.specs.declared.view.FlushRead.{FlushRead}
 use Rattle.path_rule.specs.declared.view.Hands.{Hands}
 use Rattle.path_rule.specs.declared.view.View.{View}
-use Rattle.path_rule.specs.Calls.{DidAs}
+use Rattle.path_rule.specs.Calls.{Did, DidAs}
 use Rattle.path_rule.specs.Flushes.{place_below}
 use Rattle.path_rule.specs.HandsAfter.{with_reading}
 use Rattle.path_rule.specs.Layout.{bound_in, reading_at}
@@ -135,6 +135,12 @@ on_bound w t n u k q v after d = let e = Look w (BoundOf u k) in let P = is_smal
       hands = same ∙ ap (λ (r : Option FlushRead). with_reading r v.hands)
           (sym (ap (λ (h : Hands). h.reading) same));
     }
+
+-- the same where what was read stays
+abbrev pub on_looked : (w t n : ℕ) (u : Table) (k : ℕ) (v after : View)
+    → Did v w (Look w (BoundOf u k)) n after → ReadSteps w t v after
+on_looked w t n u k v after d =
+    on_bound w t n u k v.hands.reading v after (record { view = d.view; was = d.was })
 
 -- where the reading begins
 pub on_begin : (w t n : ℕ) (u : Table) (m : ℕ) (q : Option FlushRead) (v after : View)

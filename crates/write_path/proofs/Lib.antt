@@ -53,12 +53,14 @@ pub mod FlushReading
 pub mod FlushRetires
 pub mod SwitchGoes
 pub mod StepsOpen
+pub mod SwitchAnswers
 pub mod FilingGoes
 pub mod FilingTurns
 pub mod FilingGathers
 pub mod FilingPuts
 pub mod FilingRounds
 pub mod FinalKeys
+pub mod FlushAlone
 pub mod FlushAnswers
 pub mod FlushOwn
 pub mod OnlyFlushes

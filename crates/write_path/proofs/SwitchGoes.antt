@@ -1,11 +1,8 @@
--- A switch of a table's memtable, put together from the steps of its parts.
+-- What the steps of a switch of a table's memtable leave, one by one and together.
 use Rattle.std.proofs.Common.{
   ◌≡◌,
-  inl,
   ℕ,
-  ◌+◌,
   ◌≤◌,
-  length,
   false,
   List,
   [],
@@ -15,20 +12,17 @@ use Rattle.std.proofs.Common.{
   Some,
   None,
   is_some,
-  refl,
   sym,
   ap,
   ◌∙◌,
   subst,
-  arith,
 }
 use Rattle.std.proofs.lemmas.List.{append_assoc}
 use Rattle.std.proofs.lemmas.Option.{same_Some}
 use Rattle.std.specs.List.{Contains}
 use Rattle.std.specs.Option.{MatchOption, option_map, option_map_or}
 use Rattle.atomic_table.specs.Table.{Me}
-use Rattle.clog_base.specs.declared.cell.Table.{Table}
-use Rattle.op_core.specs.declared.count.Order.TheVariants.{Write, Append}
+use Rattle.op_core.specs.declared.count.Order.TheVariants.{Write}
 use Rattle.path_core.specs.declared.event.Cursor.TheVariants.{
   OldestLive,
   Stopped as StoppedCursor,
@@ -51,13 +45,7 @@ use Rattle.path_core.specs.declared.event.Event.TheVariants.{
   GiveTurn,
   Put,
 }
-use Rattle.path_core.specs.declared.event.Place.TheVariants.{
-  Current,
-  CursorWord,
-  Newest,
-  TurnWord,
-}
-use Rattle.path_core.specs.declared.event.Turn.TheVariants.{Flush}
+use Rattle.path_core.specs.declared.event.Place.TheVariants.{CursorWord, Newest}
 use Rattle.path_core.specs.declared.note.EntryNote.{EntryNote}
 use Rattle.path_core.specs.declared.seat.FlushTurn.{FlushTurn}
 use Rattle.path_core.specs.declared.seat.Issue.TheVariants.{Rest}
@@ -72,7 +60,7 @@ use Rattle.path_rule.specs.declared.slot.Slot.{Slot}
 use Rattle.path_rule.specs.declared.view.Hands.{Hands}
 use Rattle.path_rule.specs.declared.view.OwnStep.{OwnStep}
 use Rattle.path_rule.specs.declared.view.View.{View}
-use Rattle.path_rule.specs.Calls.{acts, Did, FoundSince, IsPast}
+use Rattle.path_rule.specs.Calls.{IsPast}
 use Rattle.path_rule.specs.Desks.{HasDesk}
 use Rattle.path_rule.specs.Rounds.{
   AreRoundSteps,
@@ -84,14 +72,6 @@ use Rattle.path_rule.specs.Rounds.{
 }
 use Rattle.path_rule.specs.Switches.{FlushNewest, FlushOldest}
 use Rattle.path_rule.proofs.seats.Answering.{found_after, found_before}
-use Rattle.write_path.specs.declared.flush_turn.Memtables.TheVariants.{Left as LeftOne, Full}
-use Rattle.write_path.specs.declared.switch.Row.TheVariants.{
-  Memtables,
-  WriteGroups,
-  AppendGroups,
-}
-use Rattle.write_path.specs.declared.switch.Switch.{Switch}
-use Rattle.write_path.specs.declared.switch.Switch.TheVariants.{Empty, Left, Waits, Busy, Rows}
 use Rattle.write_path.specs.Ends.{writes_of}
 use Rattle.write_path.specs.FlushReads.{ReadSteps}
 use Rattle.write_path.specs.FlushSteps.{
@@ -104,10 +84,10 @@ use Rattle.write_path.specs.FlushSteps.{
   RetiresNone,
   SwitchesNone,
 }
-use Rattle.write_path.specs.FlushTurns.{FindsMemtables, HoldsBoth}
-use Rattle.write_path.specs.Switched.{FindsFree, HadTurn, IsSettled, IsSwitch, SetsBound, Switches}
+use Rattle.write_path.specs.FlushTurns.{HoldsBoth}
+use Rattle.write_path.specs.Switched.{FindsFree, SetsBound}
 use Rattle.write_path.proofs.FlushBarring.{final_before, final_behind}
-use Rattle.write_path.proofs.FlushGoes.{next, of_round, one, same_list}
+use Rattle.write_path.proofs.FlushGoes.{next, of_round}
 use Rattle.write_path.proofs.SyncLists.{list_below}
 
 -- ---- what is so by cases of an answer
@@ -257,14 +237,6 @@ free_before t newer older F = record {
   least = found_before (CursorWord (OldestLive (record { 0 = t }))) F.memtable newer older F.least;
 }
 
-pub settled_had : (w t m key : ℕ) (v : View) (a : Switch) (after : View)
-    → IsSettled w t m key v a after → HadTurn a
-settled_had w t m key v (Empty found) after I = tt
-settled_had w t m key v (Left found) after I = tt
-settled_had w t m key v (Waits k) after I = absurd I
-settled_had w t m key v (Busy found) after I = absurd I
-settled_had w t m key v (Rows row made) after I = absurd I
-
 -- ---- a memtable that was retired behind further steps
 
 pub retires_behind : (w z t m : ℕ) (v u after : View) → z ≡ w → FlushSteps w t v u
@@ -297,21 +269,6 @@ bound_set w t m key found newer older after is F W = record {
       (list_below key after.trail W);
 }
 
--- what is so of the memtable that was switched
-pub settled_is : (w z t m key : ℕ) (v u after : View) (a : Switch) (newer : List OwnStep)
-    (S : FlushSteps w t v u) → z ≡ w → Finalises w t m key S.steps → WroteBelow key after.trail
-    → IsSettled z t m key u a after → IsSwitch w t v a (newer ++ S.steps) after
-settled_is w z t m key v u after (Empty found) newer S same F W I = (
-  m,
-  bound_set w t m key found.0 newer S.steps after I.0 F W,
-  retires_behind w z t m v u after same S I.1,
-)
-settled_is w z t m key v u after (Left found) newer S same F W I =
-    (m, bound_set w t m key found.0 newer S.steps after I F W)
-settled_is w z t m key v u after (Waits k) newer S same F W I = absurd I
-settled_is w z t m key v u after (Busy found) newer S same F W I = absurd I
-settled_is w z t m key v u after (Rows row made) newer S same F W I = absurd I
-
 -- ---- an answer behind steps that switched nothing
 
 pub bound_behind : (w t m key : ℕ) (newer older : List OwnStep) (after : View)
@@ -320,119 +277,3 @@ bound_behind w t m key newer older after B = record {
   set = final_before w t m key newer older B.set;
   covers = B.covers;
 }
-
-is_behind : (w t : ℕ) (v u after : View) (a : Switch) (steps : List OwnStep)
-    (Q : QuietSteps w t v u) → HadTurn a → IsSwitch w t u a steps after
-    → IsSwitch w t v a (steps ++ Q.made.steps) after
-is_behind w t v u after (Empty key) steps Q had I = (
-  I.0,
-  bound_behind w t I.0 key.0 steps Q.made.steps after I.1,
-  retires_behind w w t I.0 v u after refl Q.made I.2,
-)
-is_behind w t v u after (Left key) steps Q had I =
-    (I.0, bound_behind w t I.0 key.0 steps Q.made.steps after I.1)
-is_behind w t v u after (Waits m) steps Q had I = (
-  none_both steps Q.made.steps I.0 Q.none,
-  found_after (CursorWord (OldestLive (record { 0 = t }))) m steps Q.made.steps I.1,
-  (I.2.0, found_after (Newest (record { 0 = t })) I.2.0 steps Q.made.steps I.2.1, I.2.2),
-)
-is_behind w t v u after (Busy found) steps Q had I = absurd had
-is_behind w t v u after (Rows Memtables made) steps Q had I = (
-  I.0,
-  I.1,
-  (
-    I.2.0,
-    none_both steps Q.made.steps I.2.1 Q.none,
-    found_after (Newest (record { 0 = t })) I.0 steps Q.made.steps I.2.2,
-    found_after (CursorWord (OldestLive (record { 0 = t }))) I.0 steps Q.made.steps I.2.3,
-  ),
-)
-is_behind w t v u after (Rows WriteGroups made) steps Q had I = (
-  I.0,
-  I.1,
-  (
-    I.2.0,
-    none_both steps Q.made.steps I.2.1 Q.none,
-    found_after (Current Write) I.0 steps Q.made.steps I.2.2,
-    free_after t steps Q.made.steps I.2.3,
-  ),
-)
-is_behind w t v u after (Rows AppendGroups made) steps Q had I = (
-  I.0,
-  I.1,
-  (
-    I.2.0,
-    found_after (Current Append) I.0 steps Q.made.steps I.2.1,
-    found_after (CursorWord StoppedCursor) 0 steps Q.made.steps I.2.2,
-  ),
-)
-
-pub behind : (w z t : ℕ) (v u after : View) (a : Switch) → z ≡ w → QuietSteps w t v u → HadTurn a
-    → Switches z t u a after → Switches w t v a after
-behind w z t v u after a same Q had R = let S = subst (λ k. Switches k t u a after) same R in
-    let made = next w w v u after refl Q.made S.steps in record {
-      steps = made;
-      list = same_list w v after made;
-      is = is_behind w t v u after a S.steps.steps Q had S.is;
-    }
-
--- ---- the answers by which nothing was switched
-
-pub busy_is : (w n : ℕ) (t : Table) (v after : View) → Did v w (Look w (TurnWord (Flush t))) n after
-    → n ≡ 1 → Switches w t.0 v (Busy n) after
-busy_is w n t v after d is = let e = Look w (TurnWord (Flush t)) in
-    let made = one {t = t.0} w e n _ v after refl (record { view = d.view; was = d.was }) in
-    record {
-      steps = made;
-      list = same_list w v after made;
-      is = (
-        is,
-        subst (λ (l : List OwnStep). FoundSince (length v.trail) (TurnWord (Flush t)) n l)
-            (sym made.trail) (inl (omega arith, refl, refl)),
-        ap acts made.trail,
-      );
-    }
-
-pub waits_is : (w z y t m : ℕ) (v u x after : View) → z ≡ w → y ≡ w → QuietSteps w t v u
-    → FindsMemtables t (LeftOne m) u x z → QuietSteps y t x after → Switches w t v (Waits m) after
-waits_is w z y t m v u x after first second T F L =
-    let Q = then_quiet w y v x after second (then_quiet w z v u x first T F.0) L in
-    let oldest = CursorWord (OldestLive (record { 0 = t })) in
-    let newest = Newest (record { 0 = t }) in record {
-      steps = Q.made;
-      list = same_list w v after Q.made;
-      is = (
-        Q.none,
-        found_before oldest m L.made.steps (F.0.made.steps ++ T.made.steps)
-            (found_after oldest m F.0.made.steps T.made.steps F.1),
-        (
-          F.2.0,
-          found_before newest F.2.0 L.made.steps (F.0.made.steps ++ T.made.steps)
-              (found_after newest F.2.0 F.0.made.steps T.made.steps F.2.1),
-          F.2.2,
-        ),
-      );
-    }
-
-pub full_is : (w z y t n : ℕ) (v u x after : View) → z ≡ w → y ≡ w → QuietSteps w t v u
-    → FindsMemtables t (Full n) u x z → QuietSteps y t x after
-    → Switches w t v (Rows Memtables (n + 1)) after
-full_is w z y t n v u x after first second T F L =
-    let Q = then_quiet w y v x after second (then_quiet w z v u x first T F.0) L in
-    let oldest = CursorWord (OldestLive (record { 0 = t })) in
-    let newest = Newest (record { 0 = t }) in let all = F.1 in record {
-      steps = Q.made;
-      list = same_list w v after Q.made;
-      is = (
-        n,
-        omega arith,
-        (
-          omega (arith, all),
-          Q.none,
-          found_before newest n L.made.steps (F.0.made.steps ++ T.made.steps)
-              (found_after newest n F.0.made.steps T.made.steps F.2),
-          found_before oldest n L.made.steps (F.0.made.steps ++ T.made.steps)
-              (found_after oldest n F.0.made.steps T.made.steps F.3),
-        ),
-      );
-    }

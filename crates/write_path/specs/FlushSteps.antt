@@ -27,6 +27,7 @@ use Rattle.path_core.specs.declared.event.Event.TheVariants.{
   GiveTurn,
   Put,
 }
+use Rattle.path_core.specs.declared.event.Place.TheVariants.{CursorWord, Newest}
 use Rattle.path_core.specs.declared.event.Turn.TheVariants.{Flush}
 use Rattle.path_core.specs.declared.state.Bound.TheVariants.{Raising}
 use Rattle.path_core.specs.Words.{by_of}
@@ -35,6 +36,7 @@ use Rattle.path_rule.specs.declared.view.FlushRead.{FlushRead}
 use Rattle.path_rule.specs.declared.view.OwnStep.{OwnStep}
 use Rattle.path_rule.specs.declared.view.View.{View}
 use Rattle.path_rule.specs.FilingTold.{FoundFinal, SeesAll}
+use Rattle.path_rule.specs.Finds.{Finds}
 use Rattle.path_rule.specs.FindsBounds.{Retires as RetiresOne}
 use Rattle.path_rule.specs.Layout.{bound_word}
 use Rattle.path_rule.specs.Retires.{RetiresEmptyIn, RetiresFiledIn}
@@ -94,6 +96,32 @@ SwitchesNo _ = Unit {0}
 abbrev pub SwitchesNone : List OwnStep → Type 0
 SwitchesNone [] = Unit {0}
 SwitchesNone (t ∷ ts) = SwitchesNo t.event × SwitchesNone ts
+
+-- Where it makes a memtable of table t final, that is m.
+abbrev pub MakesFinalOnly : ℕ → ℕ → Event → Type 0
+MakesFinalOnly t m (Finalise by table memtable) = table.0 ≡ t → memtable ≡ m
+MakesFinalOnly t m _ = Unit {0}
+
+-- where any of these steps does
+abbrev pub FinalisesOnly : ℕ → ℕ → List OwnStep → Type 0
+FinalisesOnly t m [] = Unit {0}
+FinalisesOnly t m (s ∷ ss) = MakesFinalOnly t m s.event × FinalisesOnly t m ss
+
+-- At these steps memtable m was found as the newest of table t, and as the least that is not
+-- retired: no other is in use.
+abbrev pub FindsAlone : ℕ → ℕ → List OwnStep → Type 0
+FindsAlone t m steps = Finds (Newest (record { 0 = t })) m steps
+    × Finds (CursorWord (OldestLive (record { 0 = t }))) m steps
+
+-- Where it makes a memtable of table t final, steps before it found that one alone.
+abbrev pub FinalisesAlone : ℕ → Event → List OwnStep → Type 0
+FinalisesAlone t (Finalise by table memtable) older = table.0 ≡ t → FindsAlone t memtable older
+FinalisesAlone t _ older = Unit {0}
+
+-- Where any of these steps does: one that was left goes before the newest is switched.
+abbrev pub SwitchesAlone : ℕ → List OwnStep → Type 0
+SwitchesAlone t [] = Unit {0}
+SwitchesAlone t (s ∷ ss) = FinalisesAlone t s.event ss × SwitchesAlone t ss
 
 -- It retires no memtable.
 abbrev pub RetiresNo : Event → Type 0

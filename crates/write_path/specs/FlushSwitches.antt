@@ -10,15 +10,16 @@ use Rattle.path_rule.specs.Finds.{Finds}
 use Rattle.path_rule.specs.Layout.{group_rows}
 use Rattle.path_rule.specs.Rounds.{RoundSteps, WroteBelow}
 use Rattle.path_rule.specs.Switches.{FlushOldest}
-use Rattle.write_path.specs.FlushSteps.{FlushSteps, Finalises, RetiresNone}
+use Rattle.write_path.specs.FlushSteps.{FlushSteps, Finalises, FinalisesOnly, RetiresNone}
 use Rattle.write_path.specs.FlushTurns.{IsDrained, IsHolder}
 use Rattle.write_path.specs.Opens.{opens}
 
--- Seat w made memtable m of table t final at a key, at or above which it wrote nothing, and opened
--- one memtable at most. What it knows of its boxes, and of the Sync turn, is what it knew.
+-- Seat w made memtable m of table t final at a key, at or above which it wrote nothing, and no other
+-- one, and opened one memtable at most. What it knows of its boxes, and of the Sync turn, is what it knew.
 pub record MadeFinal (w t m key : ℕ) (v after : View) : Type 0 where
   pub made : FlushSteps w t v after
   pub set : Finalises w t m key made.steps
+  pub only : FinalisesOnly t m made.steps
   pub kept : RetiresNone made.steps
   pub opened : opens t made.steps ≤ 1
   pub wrote : WroteBelow key after.trail
@@ -34,6 +35,7 @@ pub record MadeFinal (w t m key : ℕ) (v after : View) : Type 0 where
 pub record SwitchedTo (w t m key : ℕ) (v after : View) : Type 0 where
   pub made : FlushSteps w t v after
   pub set : Finalises w t m key made.steps
+  pub only : FinalisesOnly t m made.steps
   pub kept : RetiresNone made.steps
   pub opened : opens t made.steps ≤ 1
   pub wrote : WroteBelow key after.trail

@@ -16,8 +16,7 @@ use Rattle.path_rule.specs.Layout.{memtable_rows}
 use Rattle.path_rule.specs.Switches.{FlushNewest, FlushOldest}
 use Rattle.write_path.specs.declared.flush_turn.Memtables.{Memtables}
 use Rattle.write_path.specs.declared.flush_turn.Memtables.TheVariants.{Left, Full, Free}
-use Rattle.write_path.specs.FlushSteps.{QuietSteps}
-use Rattle.write_path.specs.Switched.{FindsFree}
+use Rattle.write_path.specs.FlushSteps.{FindsAlone, QuietSteps}
 
 -- It has the Flush turn of a table that there is, and that of no other. It runs no write.
 pub record IsHolder (t : ℕ) (v : View) : Type 0 where
@@ -61,11 +60,11 @@ FindsMemtables t (Full n) v after w = (s : QuietSteps w t v after) × (n + 1 ≡
 FindsMemtables t (Free n) v after w = FlushOldest t after.part n × FlushNewest t after.part n
     × (n + 1 < memtable_rows)
 
--- Where there is a word for the next one, that was found at these steps.
+-- Where there is a word for the next one, the newest was found alone at these steps.
 abbrev pub FindsNext : ℕ → Memtables → View → View → ℕ → Type 0
 FindsNext t (Left m) v after w = Unit {0}
 FindsNext t (Full n) v after w = Unit {0}
-FindsNext t (Free n) v after w = (s : QuietSteps w t v after) × FindsFree t s.made.steps
+FindsNext t (Free n) v after w = (s : QuietSteps w t v after) × FindsAlone t n s.made.steps
 
 -- Where one was left, it is known as the least that is not retired, and another as the newest.
 abbrev pub KnowsLeft : ℕ → Memtables → View → Type 0

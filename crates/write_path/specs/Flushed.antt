@@ -23,6 +23,7 @@ use Rattle.write_path.specs.FlushSteps.{
   FlushSteps,
   RetiresEmpty,
   RetiresFiled,
+  SwitchesAlone,
   WaitsStill,
 }
 use Rattle.write_path.specs.declared.switch.Row.TheVariants.{
@@ -69,10 +70,12 @@ opened_by (Stopped at_open now) = 1
 opened_by OutOfMemory = 1
 
 -- A flush of table t by seat w answered this. The seat made steps of a flush of that table alone,
--- by which it opened at most one memtable of it, and its list is as it was.
+-- by which it opened at most one memtable of it, and its list is as it was. What it switched it had
+-- found alone: a memtable that an earlier call left has gone before.
 pub record Flushes (w t : ℕ) (v : View) (answer : Flush) (after : View) : Type 0 where
   pub steps : FlushSteps w t v after
   pub opened : opens t steps.steps ≤ opened_by answer
+  pub alone : SwitchesAlone t steps.steps
   pub list : writes_of after.trail ≡ writes_of v.trail
   pub is : IsFlush w t v answer steps.steps after
 

@@ -26,6 +26,7 @@ use Rattle.write_path.specs.declared.switch.Switch.{Switch}
 use Rattle.write_path.specs.declared.switch.Switch.TheVariants.{Empty, Left, Waits, Busy, Rows}
 use Rattle.write_path.specs.Ends.{writes_of}
 use Rattle.write_path.specs.FlushSteps.{FlushSteps, Finalises, RetiresEmpty, SwitchesNone}
+use Rattle.write_path.specs.Opens.{opens}
 
 -- Seat w made memtable m of table t final at this key at one of these steps, and each write of the
 -- seat's list ends at or below it.
@@ -76,10 +77,20 @@ IsSwitch w t v (Busy found) steps after = (found ≡ 1)
 IsSwitch w t v (Rows row made) steps after =
     (last : ℕ) × (suc last ≡ made) × FindsLast row t last steps
 
+-- How many memtables were opened at most behind an answer: one where the newest was switched, else
+-- none.
+abbrev pub most_opened : Switch → ℕ
+most_opened (Empty key) = 1
+most_opened (Left key) = 1
+most_opened (Waits m) = 0
+most_opened (Busy found) = 0
+most_opened (Rows row made) = 0
+
 -- A switch of table t by seat w answered this. The seat made steps of a flush of that table alone,
--- and its list is as it was.
+-- by which it opened at most one memtable of it, and its list is as it was.
 pub record Switches (w t : ℕ) (v : View) (answer : Switch) (after : View) : Type 0 where
   pub steps : FlushSteps w t v after
+  pub opened : opens t steps.steps ≤ most_opened answer
   pub list : writes_of after.trail ≡ writes_of v.trail
   pub is : IsSwitch w t v answer steps.steps after
 

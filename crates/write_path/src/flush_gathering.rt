@@ -1,22 +1,10 @@
 //! What was written to a memtable is gathered behind its barrier, from the boxes of all seats, into
-//! the cells of a table file.
+//! the cells of a table file. For that its table's Flush turn is enough.
 ghost use Rattle.std.specs.List.{list_any};
-ghost use Rattle.std.specs.Prelude.{
-  ◌≡◌,
-  ℕ,
-  suc,
-  ◌<◌,
-  ◌||◌,
-  [],
-  None,
-  Some,
-  nat_lt,
-  IfSome,
-};
+ghost use Rattle.std.specs.Prelude.{◌≡◌, ℕ, suc, ◌<◌, ◌||◌, [], Some, nat_lt, IfSome};
 ghost use Rattle.path_core.specs.declared.note.EntryNote.{EntryNote};
 ghost use Rattle.path_rule.specs.declared.view.FlushRead.{FlushRead};
-ghost use Rattle.path_rule.specs.Members.{view_of, part_of, hands_of, boxes_of, IsOf};
-ghost use Rattle.path_rule.specs.Switches.{FlushOldest, MayBeginRead};
+ghost use Rattle.path_rule.specs.Members.{view_of, hands_of, boxes_of, IsOf};
 ghost use Rattle.write_path.specs.FlushGathers.{
   HasGathered,
   HasGatheredAll,
@@ -25,6 +13,7 @@ ghost use Rattle.write_path.specs.FlushGathers.{
   told_some,
 };
 ghost use Rattle.write_path.specs.FlushReads.{HasRead, ReadSteps};
+ghost use Rattle.write_path.specs.FlushTurns.{HasTable};
 ghost use Rattle.write_path.specs.Tries.{Stays};
 
 use crate::flush_reading::{box_number, trim};
@@ -158,26 +147,28 @@ impl<K: Keeper, A: Allocator> WritePath<K, A> {
         (member, Some(some))
     }
 
-    // Reads a memtable whole, behind its passed barrier.
-    pub(crate) fn read_whole(
+    // Gathers what the boxes of all seats have of a memtable, in cells of their own. The table's turn
+    // is the only one in hand: others sync meanwhile, and flush other tables.
+    pub(crate) fn gather_apart(
         &self,
         alloc: Global,
         member: Member<K>,
         table: Table,
         memtable: u64,
+        above: Key,
     ) -> (Member<K>, Gathered)
         requires table { IsOf self.now.table.table.shared.table_id self.now.table.size member }
         requires there { (table.0 < self.now.table.size.tables) × (memtable < 256) }
-        requires stage { MayBeginRead table.0 (view_of member) memtable }
-        requires oldest { FlushOldest table.0 (part_of member) memtable }
-        requires unread { (hands_of member).reading ≡ None }
+        requires holds { HasTable table.0 member.seat.me }
+        requires reads { HasRead table.0 memtable above.0 0 (hands_of member) }
+        requires void { (q : FlushRead) → (hands_of member).reading ≡ Some q → q.seen ≡ [] }
         ensures same { Stays self.now.table.table.shared.table_id self.now.table.size member
-            result.0 × (boxes_of result.0 ≡ boxes_of member) }
+            result.0 }
+        ensures holds { HasTable table.0 result.0.seat.me }
         ensures steps { ReadSteps member.number table.0 (view_of member) (view_of result.0) }
         ensures gathered { HasGathered self.now.table.size.seats table memtable result.1
             (hands_of result.0) }
     {
-        let (member, above) = self.start_read(member, table, memtable);
         let mut cells = CellMap::new(alloc);
         let (member, some) = self.gather_boxes(alloc, member, table, memtable, above, &mut cells);
         (member, gathered_of(some, cells))

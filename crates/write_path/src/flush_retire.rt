@@ -8,7 +8,7 @@ ghost use Rattle.path_rule.specs.Calls.{IsPast};
 ghost use Rattle.path_rule.specs.Flushes.{SeesNone, TakesNone};
 ghost use Rattle.path_rule.specs.Lasts.{shows_of};
 ghost use Rattle.path_rule.specs.Members.{view_of, part_of, hands_of, IsOf};
-ghost use Rattle.write_path.specs.FlushSteps.{FlushSteps, RetiresEmpty};
+ghost use Rattle.write_path.specs.FlushSteps.{RetiresEmpty, UnswitchedSteps};
 ghost use Rattle.write_path.specs.FlushTurns.{HoldsBoth};
 ghost use Rattle.write_path.specs.Tries.{Stays};
 
@@ -27,7 +27,7 @@ impl<K: Keeper, A: Allocator> WritePath<K, A> {
         requires sees { SeesNone self.now.table.size.seats (hands_of member) table.0 memtable }
         ensures same { Stays self.now.table.table.shared.table_id self.now.table.size member
             result }
-        ensures steps { FlushSteps member.number table.0 (view_of member) (view_of result) }
+        ensures steps { UnswitchedSteps member.number table.0 (view_of member) (view_of result) }
         ensures holds { HoldsBoth (shows_of K.holds) table.0 result.seat.me }
         ensures stage { stage_of (part_of result) table.0 ≡ stage_of (part_of member) table.0 }
         ensures past { (g : ℕ) → IsPast Write (view_of member) g
@@ -53,7 +53,8 @@ impl<K: Keeper, A: Allocator> WritePath<K, A> {
             × IsPast Write (view_of member) g }
         ensures same { Stays self.now.table.table.shared.table_id self.now.table.size member
             result.member }
-        ensures steps { FlushSteps member.number table.0 (view_of member) (view_of result.member) }
+        ensures steps { UnswitchedSteps member.number table.0 (view_of member)
+            (view_of result.member) }
         ensures retires { RetiresEmpty member.number table.0 memtable (view_of member)
             (view_of result.member) }
     {
@@ -72,7 +73,8 @@ impl<K: Keeper, A: Allocator> WritePath<K, A> {
             × IsPast Write (view_of member) g }
         ensures same { Stays self.now.table.table.shared.table_id self.now.table.size member
             result.member }
-        ensures steps { FlushSteps member.number table.0 (view_of member) (view_of result.member) }
+        ensures steps { UnswitchedSteps member.number table.0 (view_of member)
+            (view_of result.member) }
     {
         let mut member = member;
         let _newest = self.table.end_read(&mut member, table);

@@ -1,10 +1,12 @@
-//! A memtable is read whole behind its passed barrier, with both turns in hand, and retired: with a
-//! table file where something was seen.
+//! A memtable is read whole behind its passed barrier, and retired: with a table file where something
+//! was seen. Both turns are held, but while what was written is gathered: then it is the table's
+//! turn alone, so that commits that wait for a sync, and flushes of other tables, go on.
 ghost use Rattle.std.specs.Prelude.{◌≡◌, ◌<◌, true, None};
 ghost use Rattle.path_rule.specs.Lasts.{shows_of};
 ghost use Rattle.path_rule.specs.Members.{view_of, part_of, hands_of, IsOf};
 ghost use Rattle.path_rule.specs.Switches.{FlushOldest, MayBeginRead};
-ghost use Rattle.write_path.specs.FlushFilings.{HasBoth, Retired};
+ghost use Rattle.write_path.specs.FlushFilings.{FilingSteps, HasBoth, Retired};
+ghost use Rattle.write_path.specs.FlushGathers.{HasGathered};
 ghost use Rattle.write_path.specs.FlushTurns.{HoldsBoth};
 ghost use Rattle.write_path.specs.Tries.{Stays};
 
@@ -18,8 +20,38 @@ use std::alloc::{Allocator, Global};
 use std::sync::Wait;
 
 impl<K: Keeper, A: Allocator> WritePath<K, A> {
+    // Reads a memtable whole, behind its passed barrier. The Sync turn is given back for that, and
+    // taken anew: nothing more comes into the memtable, whoever syncs meanwhile.
+    fn read_whole<R: Wait>(
+        &self,
+        rt: &R,
+        alloc: Global,
+        member: Member<K>,
+        table: Table,
+        memtable: u64,
+    ) -> (Member<K>, Gathered)
+        requires table { IsOf self.now.table.table.shared.table_id self.now.table.size member }
+        requires there { memtable < 256 }
+        requires holds { HoldsBoth (shows_of K.holds) table.0 member.seat.me }
+        requires stage { MayBeginRead table.0 (view_of member) memtable }
+        requires oldest { FlushOldest table.0 (part_of member) memtable }
+        requires unread { (hands_of member).reading ≡ None }
+        ensures same { Stays self.now.table.table.shared.table_id self.now.table.size member
+            result.0 }
+        ensures holds { HoldsBoth (shows_of K.holds) table.0 result.0.seat.me }
+        ensures opened { (hands_of result.0).lasting.at_open ≡ self.now.table.size.at_open }
+        ensures steps { FilingSteps member.number table.0 (view_of member) (view_of result.0) }
+        ensures gathered { HasGathered self.now.table.size.seats table memtable result.1
+            (hands_of result.0) }
+    {
+        let (member, above) = self.start_read(member, table, memtable);
+        let member = self.give_sync_beside(member, table);
+        let (member, read) = self.gather_apart(alloc, member, table, memtable, above);
+        (self.take_sync_beside(rt, member, table), read)
+    }
+
     // Reads a memtable whole, behind its passed barrier, and retires it: with a file where
-    // something was seen. Both turns are held still.
+    // something was seen. Both turns are held before and behind it.
     pub(crate) fn retire_memtable<R: Wait>(
         &self,
         rt: &R,
@@ -35,7 +67,6 @@ impl<K: Keeper, A: Allocator> WritePath<K, A> {
         requires stage { MayBeginRead table.0 (view_of member) memtable }
         requires oldest { FlushOldest table.0 (part_of member) memtable }
         requires unread { (hands_of member).reading ≡ None }
-        requires opened { (hands_of member).lasting.at_open ≡ self.now.table.size.at_open }
         ensures same { Stays self.now.table.table.shared.table_id self.now.table.size member
             result.0 }
         ensures holds { HasBoth (shows_of K.holds) table.0 result.0.seat.me }
@@ -43,7 +74,7 @@ impl<K: Keeper, A: Allocator> WritePath<K, A> {
         ensures retired { Retired member.number table.0 memtable (view_of member) result.1
             (view_of result.0) }
     {
-        let (mut member, read) = self.read_whole(alloc, member, table, memtable);
+        let (mut member, read) = self.read_whole(rt, alloc, member, table, memtable);
         let bound = self.table.look_read_bound(&mut member, table, memtable);
         match read {
             Gathered::Nothing => self.retire_void(member, table, memtable, bound),

@@ -1,9 +1,10 @@
 //! A flush of a table's memtable (`ColumnFamilyStore.Flush`). The seat takes the table's Flush
-//! turn, and beside it the Sync turn. A memtable that an earlier flush or switch left goes first.
-//! Then it switches the newest one, waits for the barrier, and reads what lies in the boxes of all
-//! seats. Where that is something it has the log lasting up to the memtable's bound, and its keeper
-//! puts a table file; the memtable is retired, and segments that files hold go. Then it gives both
-//! turns back, and is idle again.
+//! turn, which it holds until it is idle again. A memtable that an earlier flush or switch left goes
+//! first. With the Sync turn beside it the newest one is switched, and the barrier waited for. The
+//! Sync turn is given back while what lies in the boxes of all seats is gathered, and taken anew
+//! behind that. Where something lay there the log is made lasting up to the memtable's bound, with
+//! that turn given up and taken between rounds, and the keeper puts a table file; the memtable is
+//! retired, and segments that files hold go. Then the seat gives both turns back.
 ghost use Rattle.std.specs.Prelude.{◌≡◌, ◌≢◌, ◌+◌, ◌<◌, ℕ, true, Some, MatchResult};
 ghost use Rattle.path_core.specs.declared.seat.Switching.TheVariants.{Settled};
 ghost use Rattle.path_core.specs.Parts.{stage_of};
@@ -13,9 +14,8 @@ ghost use Rattle.path_rule.specs.Members.{view_of, part_of, IsOf};
 ghost use Rattle.path_rule.specs.Switches.{FlushNewest, FlushOldest};
 ghost use Rattle.write_path.specs.FlushFilings.{PassesLeft, unless_retired};
 ghost use Rattle.write_path.specs.Flushed.{Flushes, GotTurn};
-ghost use Rattle.write_path.specs.FlushSteps.{QuietSteps, UnswitchedSteps};
+ghost use Rattle.write_path.specs.FlushSteps.{FindsAlone, QuietSteps, UnswitchedSteps};
 ghost use Rattle.write_path.specs.FlushTurns.{HoldsTable};
-ghost use Rattle.write_path.specs.Switched.{FindsFree};
 ghost use Rattle.write_path.specs.Tries.{Stays};
 
 use crate::flush::Flush;
@@ -94,7 +94,7 @@ impl<K: Keeper, A: Allocator> WritePath<K, A> {
             result.0.member }
         ensures had { GotTurn result.1 }
         ensures flushes { (w : ℕ) (v : View) (q : QuietSteps w table.0 v (view_of member))
-            → member.number ≡ w → FindsFree table.0 q.made.steps
+            → member.number ≡ w → FindsAlone table.0 newest q.made.steps
             → Flushes w table.0 v result.1 (view_of result.0.member) }
     {
         let member = self.take_sync_beside(rt, member, table);
@@ -197,8 +197,12 @@ impl<K: Keeper, A: Allocator> WritePath<K, A> {
     /// the next memtable; where it is one of the append order, the log was found running. Behind
     /// `Rows` and `OutOfMemory` a memtable that the call had made final waits for the next flush,
     /// which begins with it; behind `Stopped` it does, or the keeper stopped behind its table file.
-    /// The call opens at most one memtable, which is of the table: none by `Busy`, and by `Rows` of
-    /// memtables or of the write order.
+    /// What it switches it had found as the only one in use: a memtable that an earlier call left
+    /// has gone before. The call opens at most one memtable, which is of the table: none by `Busy`,
+    /// and by `Rows` of memtables or of the write order.
+    ///
+    /// Others sync, and flush other tables, while the cells of the table file are gathered; while
+    /// the file is put they wait.
     /// No clause says that it returns.
     pub fn flush<R: Wait>(
         &self,

@@ -30,6 +30,7 @@ ghost use Rattle.write_path.specs.FlushSteps.{
   AreFlushSteps,
   Finalises,
   FlushSteps,
+  SwitchesAlone,
   SwitchesNone,
 };
 ghost use Rattle.write_path.specs.Receipts.{IsCommitted};
@@ -60,6 +61,12 @@ pub fn what_a_switch_tells()
     ensures opened { opens 0 (switched_at 0 60) ≡ 1 }
     ensures opened_other { opens 1 (switched_at 0 60) ≡ 0 }
     ensures found { opens 0 (found_alone 255) ≡ 0 }
+    // What a flush makes final it had found alone: memtable 0 behind looks that found it so, but
+    // neither without them nor in place of one that was found. Of another table nothing is asked.
+    ensures alone { SwitchesAlone 0 (switched_at 0 60 ++ found_alone 0) }
+    ensures unlooked { ¬ SwitchesAlone 0 (switched_at 0 60) }
+    ensures passed_over { ¬ SwitchesAlone 0 (switched_at 1 68 ++ found_alone 0) }
+    ensures of_another { SwitchesAlone 1 (switched_at 0 60) }
 {}
 
 /// A flush, or a switch, of one table leaves the memtables of all others.

@@ -9,7 +9,7 @@ ghost use Rattle.path_rule.specs.declared.view.View.{View};
 ghost use Rattle.path_rule.specs.Lasts.{shows_of};
 ghost use Rattle.path_rule.specs.Members.{view_of, part_of, hands_of, IsOf};
 ghost use Rattle.path_rule.specs.Switches.{FlushNewest, FlushOldest};
-ghost use Rattle.write_path.specs.FlushSteps.{FlushSteps, QuietSteps};
+ghost use Rattle.write_path.specs.FlushSteps.{QuietSteps, UnswitchedSteps};
 ghost use Rattle.write_path.specs.FlushTurns.{HoldsBoth, HoldsTable, IsDrained};
 ghost use Rattle.write_path.specs.Switched.{FindsFree, HadTurn, IsSettled, Switches};
 ghost use Rattle.write_path.specs.Tries.{Stays};
@@ -56,7 +56,7 @@ impl<K: Keeper, A: Allocator> WritePath<K, A> {
         requires unread { (hands_of member).reading ≡ None }
         ensures same { Stays self.now.table.table.shared.table_id self.now.table.size member
             result.0.member }
-        ensures steps { FlushSteps member.number table.0 (view_of member)
+        ensures steps { UnswitchedSteps member.number table.0 (view_of member)
             (view_of result.0.member) }
         ensures settled { IsSettled member.number table.0 memtable bound.0 (view_of member)
             result.1 (view_of result.0.member) }
@@ -116,7 +116,8 @@ impl<K: Keeper, A: Allocator> WritePath<K, A> {
     /// `Waits` has the number of a memtable that an earlier switch left, behind which nothing is
     /// switched. `Busy` has what was found in the table's turn word; the seat only looked. `Rows`
     /// has the row of words of which a further one is wanted, and how many are in use; nothing was
-    /// switched. It takes no memory. No clause says that it returns.
+    /// switched. The call opens at most one memtable, which is of the table: none but by `Empty` and
+    /// `Left`. It takes no memory. No clause says that it returns.
     pub fn switch<R: Wait>(
         &self,
         rt: &R,

@@ -41,3 +41,29 @@ returns-clause-opened_other c = refl
 
 pub returns-clause-found : goal.returns-clause-found
 returns-clause-found c = refl
+
+pub returns-clause-alone : goal.returns-clause-alone
+returns-clause-alone c = (
+  λ of. (
+    inr (inr (inr (inr (inl (refl, refl))))),
+    inr (inr (inr (inr (inr (inl (refl, refl)))))),
+  ),
+  (tt, (tt, (tt, (tt, (tt, (tt, tt)))))),
+)
+
+pub returns-clause-unlooked : goal.returns-clause-unlooked
+returns-clause-unlooked c = λ S. ⊎_elim (λ x. absurd x) (λ a. ⊎_elim (λ f. let q = f.0 in cc)
+    (λ b. ⊎_elim (λ x. absurd x) (λ d. ⊎_elim (λ x. absurd x) (λ x. absurd x) d) b) a)
+    (S.0 refl).0
+
+pub returns-clause-passed_over : goal.returns-clause-passed_over
+returns-clause-passed_over c = λ S. ⊎_elim (λ x. absurd x)
+    (λ a. ⊎_elim (λ f. let q = f.0 in cc) (λ b. ⊎_elim (λ x. absurd x) (λ d.
+    ⊎_elim (λ x. absurd x) (λ e. ⊎_elim (λ f. let q = f.1 in omega (arith, q))
+    (λ h. ⊎_elim (λ f. let q = f.0 in cc) (λ x. absurd x) h) e) d) b) a) (S.0 refl).0
+
+pub returns-clause-of_another : goal.returns-clause-of_another
+returns-clause-of_another c = (
+  λ of. absurd (omega (arith, of)),
+  (tt, (tt, (tt, (tt, tt)))),
+)

@@ -7,8 +7,8 @@ use Rattle.path_rule.proofs.seats.Answering.{found_after, found_before}
 use Rattle.write_path.specs.FlushSteps.{Finalises}
 use Rattle.write_path.specs.FlushSwitches.{SwitchedNone, SwitchedTo}
 use Rattle.write_path.specs.Opens.{opens}
-use Rattle.write_path.proofs.FilingGoes.{unswitched}
-use Rattle.write_path.proofs.FlushAnswers.{flushed, got_turn, later}
+use Rattle.write_path.proofs.FlushAlone.{alone_none, only_both, only_none}
+use Rattle.write_path.proofs.FlushAnswers.{flushed, got_turn, newest_later}
 use Rattle.write_path.proofs.FlushBarring.{final_before}
 use Rattle.write_path.proofs.FlushGoes.{next, of_round, same_list}
 use Rattle.write_path.proofs.FlushTaking.{of_table}
@@ -22,6 +22,7 @@ use Rattle.write_path.proofs.SwitchGoes.{
   on_some,
   quiet_round,
   round_kept,
+  round_none,
   settled_quiet,
   stage_same,
   then_quiet,
@@ -70,9 +71,11 @@ returns-in-None-clause-flushes g c = let t = c.args.table.0 in
     let L = c.leave_both.ensures.steps in
     let Q = then_quiet w y v x after second (then_quiet w z v u x first
     (quiet_round w [] v u T.ensures.steps) (quiet_round z [] u x N.steps)) L in
-    λ k b q same free. let A = then_quiet k w b v after same q Q in record {
+    let low = c.requires.turn.2 in
+    λ k b q same found. let A = then_quiet k w b v after same q Q in record {
       steps = A.made;
       opened = let none = none_opened t A.made.steps A.none in omega (arith, none);
+      alone = alone_none t A.made.steps A.none;
       list = same_list k b after A.made;
       is = (
         N.last,
@@ -84,7 +87,12 @@ returns-in-None-clause-flushes g c = let t = c.args.table.0 in
               (found_before (Current Write) N.last L.made.steps
               (N.steps.steps ++ T.ensures.steps.steps)
               (found_after (Current Write) N.last N.steps.steps T.ensures.steps.steps N.found)),
-          free_before t Q.made.steps q.made.steps free,
+          free_before t Q.made.steps q.made.steps (record {
+            memtable = c.args.newest;
+            next = omega (arith, low);
+            newest = found.0;
+            least = found.1;
+          }),
         ),
         waits_none k t A.made.steps A.none,
       );
@@ -115,15 +123,6 @@ retire_memtable-member-requires-clause-unread g c = let t = c.args.table.0 in
     (λ k. SwitchedTo z t c.args.newest k.0 u x) c.in-Some.is W.ensures.switched in
     ap (λ (h : Hands). h.reading) S.hands
     ∙ (T.ensures.steps.reading ∙ c.requires.holds.unread)
-
-pub retire_memtable-member-requires-clause-opened :
-    goal.retire_memtable-member-requires-clause-opened
-retire_memtable-member-requires-clause-opened g c = let t = c.args.table.0 in
-    let T = c.take_sync_beside-member in let W = c.switch_table-member in
-    let z = T.result.number in let u = T.result.seat.me.0 in let x = W.result.0.seat.me.0 in
-    let S = on_some W.result.1 c.in-Some._set (SwitchedNone z t u x)
-    (λ k. SwitchedTo z t c.args.newest k.0 u x) c.in-Some.is W.ensures.switched in
-    ap (λ (h : Hands). h.lasting.at_open) S.hands ∙ T.ensures.knows.2
 
 pub end_flush-requires-clause-barred : goal.end_flush-requires-clause-barred
 end_flush-requires-clause-barred g c = let t = c.args.table.0 in
@@ -160,7 +159,10 @@ returns-in-Some-clause-flushes g c = let t = c.args.table.0 in let m = c.args.ne
     let all = opens_both t S.made.steps T.ensures.steps.steps in
     let none = round_opens w t T.ensures.steps.steps T.ensures.steps.are in let most = S.opened in
     let one_most : opens t A.steps ≤ 1 = omega (arith, all, none, most) in
-    λ k b q same free. later k w t b v after M.result.1 same (unswitched k b v q)
-    (got_turn y t m x e M.result.1 M.ensures.retired)
-    (flushed w y t m key v x e after M.result.1 second r M.ensures.same.1 A F K one_most S.wrote
-    M.ensures.retired L.ensures.steps)
+    let only = only_both t m S.made.steps T.ensures.steps.steps S.only
+    (only_none t m T.ensures.steps.steps (round_none w T.ensures.steps.steps
+    T.ensures.steps.are)) in
+    λ k b q same found. newest_later k w t m b v after M.result.1 same q
+    (got_turn y t m x e M.result.1 M.ensures.retired) found
+    (flushed w y t m key v x e after M.result.1 second r M.ensures.same.1 A F only K one_most
+    S.wrote M.ensures.retired L.ensures.steps)

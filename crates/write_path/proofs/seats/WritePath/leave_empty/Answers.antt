@@ -2,7 +2,7 @@ use Rattle.std.proofs.Common.{◌++◌, List, inr, sym, ap, ◌∙◌}
 use Rattle.std.proofs.lemmas.List.{append_assoc}
 use Rattle.std.proofs.lemmas.Option.{none-some}
 use Rattle.path_rule.specs.declared.view.OwnStep.{OwnStep}
-use Rattle.write_path.proofs.FlushGoes.{next}
+use Rattle.write_path.proofs.FilingGoes.{then_unswitched, unswitched}
 use Rattle.write_path.proofs.seats.WritePath.leave_empty.Goals as goal
 
 pub leave_both-requires-clause-through : goal.leave_both-requires-clause-through
@@ -18,7 +18,8 @@ leave_both-requires-clause-through g c = let P = c.requires.passed in
 
 pub returns-clause-steps : goal.returns-clause-steps
 returns-clause-steps g c = let R = c.retire_read-member.ensures in
-    next c.args.member.number _ _ _ _ R.same.1 R.steps c.leave_both.ensures.steps.made
+    then_unswitched c.args.member.number _ _ _ _ R.same.1 R.steps
+    (unswitched _ _ _ c.leave_both.ensures.steps)
 
 pub returns-clause-retires : goal.returns-clause-retires
 returns-clause-retires g c = let E = c.retire_read-member.ensures.retires in let R = E.0 in

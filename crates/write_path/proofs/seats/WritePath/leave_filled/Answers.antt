@@ -2,7 +2,7 @@ use Rattle.std.proofs.Common.{None, inr, sym, ap, ◌∙◌}
 use Rattle.std.proofs.lemmas.Option.{none-some}
 use Rattle.path_rule.specs.declared.view.View.{View}
 use Rattle.path_rule.specs.Lasts.{shows_of}
-use Rattle.write_path.proofs.FlushGoes.{next}
+use Rattle.write_path.proofs.FilingGoes.{then_unswitched, unswitched}
 use Rattle.write_path.proofs.FlushReadSteps.{on_read}
 use Rattle.write_path.proofs.SwitchGoes.{both_read, past_read}
 use Rattle.write_path.proofs.seats.WritePath.leave_filled.Goals as goal
@@ -29,4 +29,5 @@ leave_both-requires-clause-through g c = let m = c.args.member in let E = c.end_
 pub returns-clause-steps : goal.returns-clause-steps
 returns-clause-steps g c = let w = c.args.member.number in let E = c.end_read-newest in
     let t = c.args.table in let R = on_read w t.0 E.result t None _ _ E.ensures.step in
-    next w _ _ _ _ E.ensures.same.1 R.made c.leave_both.ensures.steps.made
+    then_unswitched w _ _ _ _ E.ensures.same.1 (record { made = R.made; none = R.none })
+    (unswitched _ _ _ c.leave_both.ensures.steps)

@@ -72,14 +72,9 @@ pub returns-else-newest-ge-MEMTABLES-clause-free :
     goal.returns-else-newest-ge-MEMTABLES-clause-free
 returns-else-newest-ge-MEMTABLES-clause-free g c =
     let O = c.look_oldest_live-oldest in let N = c.look_newest-newest in
-    let low = c.if-newest-ge-MEMTABLES.false in let other = c.if-oldest-newest.false in
+    let other = c.if-oldest-newest.false in
     let same : O.result ≡ N.result = omega (arith, other) in (
       looked c.args.member.now.number _ O.result N.result c.args.table _ _ _ O.ensures.same.1
           O.ensures.step N.ensures.step,
-      record {
-        memtable = N.result;
-        next = omega (arith, low);
-        newest = inl (refl, refl);
-        least = inr (inl (refl, same));
-      },
+      (inl (refl, refl), inr (inl (refl, same))),
     )

@@ -59,6 +59,7 @@ returns-clause-made g c =
     (then_table z _ t.0 _ _ _ L.ensures.same.1 three four) five in record {
       made = all.made;
       set = inl (n4, refl, refl, refl);
+      only = (λ of. refl, (tt, (tt, (tt, (tt, tt)))));
       kept = (tt, (tt, (tt, (tt, (tt, tt)))));
       opened = opens_one t.0
           (record { event = Switch w t (k + 1) Open; found = k + 1; filed = None });

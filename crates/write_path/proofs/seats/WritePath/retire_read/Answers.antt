@@ -5,7 +5,7 @@ use Rattle.path_rule.specs.declared.view.View.{View}
 use Rattle.path_rule.specs.Lasts.{shows_of}
 use Rattle.path_rule.specs.Retires.{RetiresEmptyIn}
 use Rattle.path_rule.specs.Rule.{Was}
-use Rattle.write_path.proofs.FlushGoes.{one}
+use Rattle.write_path.proofs.FilingGoes.{unswitched_one}
 use Rattle.write_path.proofs.FlushRetires.{both_put, past_put, stage_put}
 use Rattle.write_path.proofs.seats.WritePath.retire_read.Goals as goal
 
@@ -21,8 +21,8 @@ returns-clause-same g c = let R = c.retire_empty.ensures in let d = R.step in (
 
 pub returns-clause-steps : goal.returns-clause-steps
 returns-clause-steps g c = let w = c.args.member.number in
-    one w (Put w (OldestLive c.args.table) (c.args.memtable + 1)) (c.args.memtable + 1) _ _ _
-    (refl, refl) c.retire_empty.ensures.step
+    unswitched_one w (Put w (OldestLive c.args.table) (c.args.memtable + 1))
+    (c.args.memtable + 1) _ _ _ (refl, refl) tt c.retire_empty.ensures.step
 
 pub returns-clause-holds : goal.returns-clause-holds
 returns-clause-holds g c = let m = c.args.member in let R = c.retire_empty in

@@ -1,5 +1,5 @@
 use Rattle.std.proofs.Common.{refl, ◌∙◌}
-use Rattle.write_path.proofs.FlushGoes.{next}
+use Rattle.write_path.proofs.FilingGoes.{then_unswitched}
 use Rattle.write_path.proofs.FlushReadSteps.{then_read}
 use Rattle.write_path.proofs.SwitchGoes.{past_read, retires_behind}
 use Rattle.write_path.proofs.seats.WritePath.settle.Goals as goal
@@ -26,7 +26,8 @@ pub returns-then-empty-clause-steps : goal.returns-then-empty-clause-steps
 returns-then-empty-clause-steps g c = let S = c.start_read-member.ensures in
     let B = c.read_boxes-member.ensures in let w = c.args.member.number in
     let R = then_read w _ c.args.table.0 _ _ _ S.same.0.1 S.steps B.steps in
-    next w _ _ _ _ (B.same.0.1 ∙ S.same.0.1) R.made c.leave_empty.ensures.steps
+    then_unswitched w _ _ _ _ (B.same.0.1 ∙ S.same.0.1) (record { made = R.made; none = R.none })
+    c.leave_empty.ensures.steps
 
 pub returns-then-empty-clause-settled : goal.returns-then-empty-clause-settled
 returns-then-empty-clause-settled g c = let S = c.start_read-member.ensures in
@@ -41,4 +42,5 @@ pub returns-else-empty-clause-steps : goal.returns-else-empty-clause-steps
 returns-else-empty-clause-steps g c = let S = c.start_read-member.ensures in
     let B = c.read_boxes-member.ensures in let w = c.args.member.number in
     let R = then_read w _ c.args.table.0 _ _ _ S.same.0.1 S.steps B.steps in
-    next w _ _ _ _ (B.same.0.1 ∙ S.same.0.1) R.made c.leave_filled.ensures.steps
+    then_unswitched w _ _ _ _ (B.same.0.1 ∙ S.same.0.1) (record { made = R.made; none = R.none })
+    c.leave_filled.ensures.steps

@@ -1,5 +1,6 @@
-use Rattle.std.proofs.Common.{◌∙◌}
-use Rattle.write_path.proofs.SwitchGoes.{busy_is, free_after, full_is, then_quiet, waits_is}
+use Rattle.std.proofs.Common.{◌∙◌, arith}
+use Rattle.write_path.proofs.SwitchAnswers.{busy_is, full_is, waits_is}
+use Rattle.write_path.proofs.SwitchGoes.{free_after, then_quiet}
 use Rattle.write_path.proofs.seats.WritePath.switch.Goals as goal
 
 pub returns-in-Err-clause-switches : goal.returns-in-Err-clause-switches
@@ -28,8 +29,13 @@ returns-in-Free-clause-switches g c = let O = c.in-Ok in let M = c.look_memtable
     let first = O.ensures.same.1 in let w = c.args.seat.member.number in
     let v = c.args.seat.member.seat.me.0 in let u = O.member.seat.me.0 in
     let x = M.new.member.seat.me.0 in
-    let free = c.in-Free.ensures.free in
+    let free = c.in-Free.ensures.free in let low = c.in-Free.ensures.found.2 in
     c.switch_newest.ensures.switches w v
     (then_quiet w O.member.number v u x first O.ensures.step free.0)
     (M.ensures.same.1 ∙ first)
-    (free_after c.args.table.0 free.0.made.steps O.ensures.step.made.steps free.1)
+    (free_after c.args.table.0 free.0.made.steps O.ensures.step.made.steps (record {
+      memtable = c.in-Free.newest;
+      next = omega (arith, low);
+      newest = free.1.0;
+      least = free.1.1;
+    }))

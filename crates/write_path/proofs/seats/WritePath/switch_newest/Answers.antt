@@ -1,4 +1,4 @@
-use Rattle.std.proofs.Common.{◌++◌, [], inl, sym, ap, ◌∙◌, subst}
+use Rattle.std.proofs.Common.{◌++◌, [], inl, sym, ap, ◌∙◌, subst, arith}
 use Rattle.std.proofs.lemmas.Option.{none-some}
 use Rattle.op_core.specs.declared.count.Order.TheVariants.{Write}
 use Rattle.path_core.specs.declared.event.Place.TheVariants.{Current}
@@ -8,16 +8,15 @@ use Rattle.write_path.specs.FlushSteps.{Finalises}
 use Rattle.write_path.specs.FlushSwitches.{SwitchedNone, SwitchedTo}
 use Rattle.write_path.proofs.FlushBarring.{final_before}
 use Rattle.write_path.proofs.FlushGoes.{next, of_round, same_list, still_wrote}
+use Rattle.write_path.proofs.StepsOpen.{none_opened, opens_both, round_opens}
+use Rattle.write_path.proofs.SwitchAnswers.{behind, settled_had, settled_is, settled_opens}
 use Rattle.write_path.proofs.SwitchGoes.{
-  behind,
   free_before,
   newest_same,
   oldest_same,
   on_none,
   on_some,
   quiet_round,
-  settled_had,
-  settled_is,
   settled_quiet,
   stage_same,
   then_quiet,
@@ -62,13 +61,19 @@ returns-in-Some-clause-switches g c = let t = c.args.table.0 in let m = c.args.n
     let A = next w z v u x first (of_round w [] v u T.ensures.steps) S.made in
     let F = final_before w t m key S.made.steps T.ensures.steps.steps
     (subst (λ k. Finalises k t m key S.made.steps) first S.set) in
-    let B = next w y v x after second A E.steps in
+    let B = next w y v x after second A E.steps.made in
+    let all = opens_both t E.steps.made.steps A.steps in
+    let before = opens_both t S.made.steps T.ensures.steps.steps in
+    let none = round_opens w t T.ensures.steps.steps T.ensures.steps.are in
+    let no_more = none_opened t E.steps.made.steps E.steps.none in let most = S.opened in
+    let may = settled_opens y t m key x c.settle.result.1 after E.settled in
     λ k b q same free. behind k w t b v after c.settle.result.1 same q
     (settled_had y t m key x c.settle.result.1 after E.settled) (record {
       steps = B;
+      opened = omega (arith, all, before, none, no_more, most, may);
       list = same_list w v after B;
-      is = settled_is w y t m key v x after c.settle.result.1 E.steps.steps A second F
-          (still_wrote y key x after E.steps S.wrote) E.settled;
+      is = settled_is w y t m key v x after c.settle.result.1 E.steps.made.steps A second F
+          (still_wrote y key x after E.steps.made S.wrote) E.settled;
     })
 
 pub returns-in-None-clause-switches : goal.returns-in-None-clause-switches
@@ -85,6 +90,7 @@ returns-in-None-clause-switches g c = let t = c.args.table.0 in
     (quiet_round w [] v u T.ensures.steps) (quiet_round z [] u x N.steps)) L in
     λ k b q same free. let A = then_quiet k w b v after same q Q in record {
       steps = A.made;
+      opened = let none = none_opened t A.made.steps A.none in omega (arith, none);
       list = same_list k b after A.made;
       is = (
         N.last,

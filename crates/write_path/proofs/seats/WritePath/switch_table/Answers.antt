@@ -9,6 +9,7 @@ use Rattle.path_rule.specs.Lasts.{shows_of}
 use Rattle.path_rule.proofs.moves.TableTurns.{held_at}
 use Rattle.path_rule.proofs.seats.RoundsGo.{one}
 use Rattle.write_path.specs.FlushSteps.{Finalises}
+use Rattle.write_path.proofs.FlushAlone.{only_both, only_none}
 use Rattle.write_path.proofs.FlushBarring.{
   both_still,
   both_switched,
@@ -16,7 +17,7 @@ use Rattle.write_path.proofs.FlushBarring.{
   final_behind,
 }
 use Rattle.write_path.proofs.FlushGoes.{next, of_round, still_wrote}
-use Rattle.write_path.proofs.SwitchGoes.{kept_both, round_kept}
+use Rattle.write_path.proofs.SwitchGoes.{kept_both, round_kept, round_none}
 use Rattle.write_path.proofs.StepsOpen.{none_opened, opens_both, round_opens}
 use Rattle.write_path.proofs.seats.WritePath.switch_table.Goals as goal
 
@@ -78,6 +79,10 @@ returns-clause-switched g c = let m = c.args.member in
       set = final_behind w t k key wait.steps (M.made.steps ++ look.steps)
           (final_before w t k key M.made.steps look.steps
           (subst (λ z. Finalises z t k key M.made.steps) n1 M.set));
+      only = only_both t k wait.steps (M.made.steps ++ look.steps)
+          (only_none t k wait.steps (round_none F.new.member.number wait.steps
+          W.ensures.steps.are))
+          (only_both t k M.made.steps look.steps M.only (only_none t k look.steps (tt, tt)));
       kept = kept_both wait.steps (M.made.steps ++ look.steps)
           (round_kept F.new.member.number wait.steps W.ensures.steps.are)
           (kept_both M.made.steps look.steps M.kept (tt, tt));

@@ -1,0 +1,23 @@
+use Rattle.std.proofs.Common.{sym, ◌∙◌, subst}
+use Rattle.write_path.specs.declared.flush_gathering.Gathered.{Gathered}
+use Rattle.write_path.specs.FlushGathers.{HasGathered}
+use Rattle.write_path.proofs.FilingGathers.{all_gathered}
+use Rattle.write_path.proofs.seats.WritePath.gather_apart.Goals as goal
+
+pub returns-clause-same : goal.returns-clause-same
+returns-clause-same g c = c.gather_boxes-member.ensures.same.0
+
+pub returns-clause-holds : goal.returns-clause-holds
+returns-clause-holds g c = let G = c.gather_boxes-member.ensures in let H = c.requires.holds in
+    record {
+      holder = G.steps.holder H.holder;
+      unsynced = G.steps.sync ∙ H.unsynced;
+      bare = G.same.1 ∙ H.bare;
+    }
+
+pub returns-clause-gathered : goal.returns-clause-gathered
+returns-clause-gathered g c = let G = c.gather_boxes-member in
+    let seats = c.args.self.now.table.size.seats in let h = G.result.0.seat.me.0.hands in
+    subst (λ (k : Gathered). HasGathered seats c.args.table c.args.memtable k h)
+    (sym c.gathered_of.ensures)
+    (all_gathered seats c.args.table c.args.memtable _ G.result.1 h G.ensures.all)
