@@ -12,3 +12,4 @@ pub mod Planned
 pub mod Written
 pub mod Left
 pub mod Worked
+pub mod WorkedTally

@@ -1,5 +1,6 @@
 //! The seats of a path are given to workers, all workers commit their shares in threads, and the
-//! seats come back.
+//! seats come back. The first fault of a worker ends the run: the others stop behind their commits
+//! in hand.
 ghost use Rattle.std.specs.Prelude.{
   ◌≡◌,
   ◌≤◌,
@@ -7,6 +8,7 @@ ghost use Rattle.std.specs.Prelude.{
   List,
   [],
   length,
+  Contains,
   Option,
   Some,
   None,
@@ -30,11 +32,13 @@ ghost use Rattle.clog_writers.specs.Crews.{
   MayLack,
 };
 ghost use Rattle.clog_writers.specs.Sealing.{HasWaited, HaveWaited, WaitShares, WaitsShare};
+ghost use Rattle.clog_writers.specs.Shares.{LacksMemoryAtMost};
 ghost use Rattle.clog_writers.specs.Timed.{TimeShares, TimesShare};
 ghost use Rattle.sync_core.specs.declared.SyncCore.TheVariants.{Batch, Periodic};
 ghost use Rattle.write_path.specs.Opened.{AreNew};
 
 use crate::fault::{WriteFault, first_of, refusal_of};
+use crate::halting::Halt;
 use crate::share::commit_share;
 use crate::syncing::Syncing;
 use crate::worker::Worker;
@@ -81,7 +85,8 @@ pub fn seat_all<K: Keeper + Drop>(
 }
 
 /// Each worker commits its share in a thread of its own, where one can be started. In periodic mode
-/// each asks the clock behind each of its writes, and its first period runs from the opening.
+/// each asks the clock behind each of its writes, and its first period runs from the opening. Once
+/// one has a fault, each other one stops behind its commit in hand.
 pub fn commit_all<R: Threads + Wait + Sync, K: Keeper + Send, G: Gate + Sync, C: Clock + Sync>(
     rt: &R,
     alloc: Global,
@@ -110,6 +115,7 @@ pub fn commit_all<R: Threads + Wait + Sync, K: Keeper + Send, G: Gate + Sync, C:
     ensures timed { (period : ℕ) → syncing.mode ≡ Periodic period
         → TimeShares (C.tells clock.now) syncing.mode syncing.since_ms workers.new }
 {
+    let halt = Halt::new();
     thread::for_each_mut(
         rt,
         workers,
@@ -132,7 +138,7 @@ pub fn commit_all<R: Threads + Wait + Sync, K: Keeper + Send, G: Gate + Sync, C:
                 → TimesShare (C.tells clock.entry.now) syncing.mode syncing.since_ms worker.new) }
         {
             commit_share(
-                rt, alloc, path, sizes, syncing, flush_at, gate, clock, worker,
+                rt, alloc, path, sizes, syncing, flush_at, gate, clock, &halt, worker,
             )
         },
     );
@@ -158,6 +164,7 @@ fn end_share<R: Wait, K: Keeper + Drop>(
         worker
         → KnowsWhy path.now.table.size result.1 result.0 × MayLack flush result.1 }
     ensures waited { WaitsShare worker → HasWaited result.0 }
+    ensures cause { LacksMemoryAtMost result.1 → LacksMemoryAtMost worker.fault }
 {
     let Worker {
         seat,
@@ -174,7 +181,9 @@ fn end_share<R: Wait, K: Keeper + Drop>(
     }
 }
 
-/// Syncs the log behind all shares, and gives the seats back, in order. It takes no memory.
+/// Syncs the log behind all shares, and gives the seats back, in order. It takes no memory. It
+/// tells the first fault in the order of the workers; but want of memory, which those tell that
+/// have stopped for the fault of another one, only where no worker has another fault.
 pub fn end_all<R: Wait, K: Keeper + Drop>(
     rt: &R,
     alloc: Global,
@@ -193,6 +202,8 @@ pub fn end_all<R: Wait, K: Keeper + Drop>(
         → HaveEnded path.now.table.table.shared.table_id path.now.table.size flush mutations result
         seats.new.items }
     ensures waited { WaitShares workers.items → HaveWaited seats.new.items }
+    ensures cause { LacksMemoryAtMost result → (worker : Worker K)
+        → Contains workers.items worker → LacksMemoryAtMost worker.fault }
 {
     let mut first = None;
     for worker in workers {

@@ -115,7 +115,8 @@ fn run_crew<R: Threads + Wait + Sync, K: Keeper + Send + Drop, G: Gate + Sync, C
 /// for a seat of each. With `flush_at` each worker flushes a table whenever it has logged so many
 /// updates of it since its last flush; else the keeper does nothing beside its log, whatever is
 /// refused. The gate is told how far each commit is; in periodic mode the clock is asked behind
-/// each one.
+/// each one. The first fault of a worker ends the run: each other one stops behind its commit in
+/// hand.
 pub fn log_shares<
     R: Threads + Wait + Sync,
     K: Keeper + Send + Drop,

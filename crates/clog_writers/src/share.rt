@@ -1,5 +1,6 @@
 //! A writer in its thread: it commits the writes of its share, one after another, and flushes at
-//! the end each table for which that is due still.
+//! the end each table for which that is due still. It stops behind its commit in hand once a writer
+//! has had a fault.
 ghost use Rattle.std.specs.Prelude.{◌≡◌, ◌≤◌, ℕ, List, [], IsSome, None, Some, true};
 ghost use Rattle.clog_spec.specs.Sizes.{most_tables};
 ghost use Rattle.clog_applied.specs.History.{Line};
@@ -15,6 +16,7 @@ ghost use Rattle.write_path.specs.Tries.{Stays};
 
 use crate::fault::WriteFault;
 use crate::flushing::flush_rest;
+use crate::halting::Halt;
 use crate::syncing::Syncing;
 use crate::tally::{LineCounts, UpdateTally, new_tally};
 use crate::worker::{Worker, commit_next};
@@ -27,8 +29,9 @@ use std::sync::Wait;
 use write_path::{PathSeat, Prepared, WritePath};
 
 // Commits writes one after another, by a seat that has made no step, until one is refused, or a
-// sync or a flush behind it. In periodic mode the first period runs from the opening. It tells what
-// the writer has logged since its last finished flush of each table, where it flushes.
+// sync or a flush behind it, or until a writer has had a fault. In periodic mode the first period
+// runs from the opening. It tells what the writer has logged since its last finished flush of each
+// table, where it flushes.
 fn commit_lines<R: Wait, K: Keeper, G: Gate, C: Clock>(
     rt: &R,
     alloc: Global,
@@ -38,6 +41,7 @@ fn commit_lines<R: Wait, K: Keeper, G: Gate, C: Clock>(
     flush_at: Option<u32>,
     gate: &G,
     clock: &C,
+    halt: &Halt,
     seat: PathSeat<K>,
     writes: Vec<Prepared>,
     counts: Vec<LineCounts>,
@@ -77,6 +81,7 @@ fn commit_lines<R: Wait, K: Keeper, G: Gate, C: Clock>(
             syncing.mode,
             gate,
             clock,
+            halt,
             last_ms,
             tally,
             seat,
@@ -105,6 +110,7 @@ fn commit_writes<R: Wait, K: Keeper, G: Gate, C: Clock>(
     flush_at: Option<u32>,
     gate: &G,
     clock: &C,
+    halt: &Halt,
     seat: PathSeat<K>,
     writes: Vec<Prepared>,
     counts: Vec<LineCounts>,
@@ -130,18 +136,19 @@ fn commit_writes<R: Wait, K: Keeper, G: Gate, C: Clock>(
     ensures paid { ArePaid flush_at seat.member.number (view_of result.0.member).trail }
 {
     let (seat, tally, fault) = commit_lines(
-        rt, alloc, path, sizes, syncing, flush_at, gate, clock, seat, writes, counts,
+        rt, alloc, path, sizes, syncing, flush_at, gate, clock, halt, seat, writes, counts,
     );
     match fault {
-        None => flush_rest(rt, alloc, path, seat, tally),
+        None => flush_rest(rt, alloc, path, halt, seat, tally),
         Some(fault) => (seat, Some(fault)),
     }
 }
 
-/// Commits the writes of a worker's share, until one is refused. Where none is, in periodic mode
-/// the log was synced behind each at which the clock told that the period had passed, before the
-/// next one. With `flush_at` each table is flushed of which the writer has logged so many updates
-/// since its last finished flush of it, behind each write, and at the end until none is left.
+/// Commits the writes of a worker's share, until one is refused, which the other workers are told,
+/// or until a writer has had a fault. Where there was none, in periodic mode the log was synced
+/// behind each at which the clock told that the period had passed, before the next one. With
+/// `flush_at` each table is flushed of which the writer has logged so many updates since its last
+/// finished flush of it, behind each write, and at the end until none is left.
 pub fn commit_share<R: Wait, K: Keeper, G: Gate, C: Clock>(
     rt: &R,
     alloc: Global,
@@ -151,6 +158,7 @@ pub fn commit_share<R: Wait, K: Keeper, G: Gate, C: Clock>(
     flush_at: Option<u32>,
     gate: &G,
     clock: &C,
+    halt: &Halt,
     worker: &mut Worker<K>,
 )
     requires sized { IsSizedAs path.now.table.size sizes }
@@ -175,8 +183,9 @@ pub fn commit_share<R: Wait, K: Keeper, G: Gate, C: Clock>(
     match worker.seat.take() {
         Some(seat) => {
             let (seat, fault) = commit_writes(
-                rt, alloc, path, sizes, syncing, flush_at, gate, clock, seat, writes, counts,
+                rt, alloc, path, sizes, syncing, flush_at, gate, clock, halt, seat, writes, counts,
             );
+            halt.tell(fault);
             worker.seat = Some(seat);
             worker.fault = fault;
         }

@@ -20,6 +20,7 @@ ghost use Rattle.write_path.specs.Writes.{IsPrepared};
 
 use crate::fault::WriteFault;
 use crate::flushing::flush_due;
+use crate::halting::{Halt, halted};
 use crate::syncing::sync_when_due;
 use crate::tally::{LineCounts, UpdateTally, tally_with};
 use clog_io::{Clock, Gate};
@@ -107,8 +108,9 @@ fn commit_one<R: Wait, K: Keeper, G: Gate, C: Clock>(
     }
 }
 
-/// Commits a write as `commit_one` does, and behind it flushes each table for which that is due
-/// then. It tells the tally, and why a flush was refused, if one was.
+/// Commits a write as `commit_one` does, unless a writer has had a fault, and behind it flushes
+/// each table for which that is due then. It tells the tally, and why a flush was refused, if one
+/// was.
 pub(crate) fn commit_next<R: Wait, K: Keeper, G: Gate, C: Clock>(
     rt: &R,
     alloc: Global,
@@ -116,6 +118,7 @@ pub(crate) fn commit_next<R: Wait, K: Keeper, G: Gate, C: Clock>(
     mode: SyncCore,
     gate: &G,
     clock: &C,
+    halt: &Halt,
     last_ms: u64,
     tally: Option<UpdateTally>,
     seat: PathSeat<K>,
@@ -157,6 +160,9 @@ pub(crate) fn commit_next<R: Wait, K: Keeper, G: Gate, C: Clock>(
     ensures tried { result.3 ≡ None → MayTry (length (view_of seat.member).trail) result.2
         (view_of result.0.member).trail }
 {
+    if halt.is_set() {
+        return (seat, last_ms, tally, Some(halted()));
+    }
     let (seat, synced_ms, fault) = commit_one(
         rt, alloc, path, mode, gate, clock, last_ms, seat, prepared,
     );

@@ -1,19 +1,45 @@
-use Rattle.std.proofs.Common.{◌≡◌, ℕ, true, Option, length, sym, ◌∙◌, subst}
+use Rattle.std.proofs.Common.{◌≡◌, ℕ, true, Option, Some, inr, length, refl, sym, ◌∙◌, subst}
 use Rattle.std.specs.Prelude.{IsSome}
 use Rattle.std.proofs.lemmas.Option.{none-some}
 use Rattle.path_rule.specs.Members.{view_of}
 use Rattle.write_path.proofs.Growing.{no_shorter}
 use Rattle.clog_writers.specs.declared.fault.WriteFault.{WriteFault}
-use Rattle.clog_writers.specs.Crews.{MayLack}
+use Rattle.clog_writers.specs.Crews.{KnowsWhy, MayLack}
 use Rattle.clog_writers.specs.Tallied.{ArePaid}
 use Rattle.clog_writers.specs.Tallies.{MayTally, limit_of}
-use Rattle.clog_writers.proofs.Committing.{adds_on, earlier_on, may_on, sealed_on}
-use Rattle.clog_writers.proofs.Lacking.{lacks_any}
+use Rattle.clog_writers.proofs.Committing.{adds_on, all_earlier, earlier_on, may_on, sealed_on}
+use Rattle.clog_writers.proofs.Lacking.{by_memory, lacks_any}
 use Rattle.clog_writers.proofs.Paying.{paid_with}
 use Rattle.clog_writers.proofs.Tallying.{may_paid, one_more}
 use Rattle.clog_writers.proofs.Timing.{times_on}
 use Rattle.clog_writers.proofs.TriedFlushes.{may_since}
 use Rattle.clog_writers.proofs.worker.commit_next.Goals as goal
+
+-- ---- a writer has had a fault
+
+pub returns-then-is_set-clause-same : goal.returns-then-is_set-clause-same
+returns-then-is_set-clause-same g c = (c.requires.table, refl)
+
+pub returns-then-is_set-clause-may : goal.returns-then-is_set-clause-may
+returns-then-is_set-clause-may g c = inr refl
+
+pub returns-then-is_set-clause-why : goal.returns-then-is_set-clause-why
+returns-then-is_set-clause-why g c =
+    subst (λ (f : WriteFault). KnowsWhy c.args.path.now.table.size (Some f) c.args.seat)
+    (sym c.halted.ensures) tt
+
+pub returns-then-is_set-clause-rows : goal.returns-then-is_set-clause-rows
+returns-then-is_set-clause-rows g c =
+    subst (λ (f : WriteFault). MayLack (limit_of c.args.tally) (Some f)) (sym c.halted.ensures)
+    (by_memory (limit_of c.args.tally))
+
+pub returns-then-is_set-clause-waited : goal.returns-then-is_set-clause-waited
+returns-then-is_set-clause-waited g c = λ batch all.
+    all_earlier (view_of c.args.seat.member).trail all
+
+pub returns-then-is_set-clause-paid : goal.returns-then-is_set-clause-paid
+returns-then-is_set-clause-paid g c = λ sizes line prepared counted all.
+    may_paid c.args.seat.member.number c.args.tally (view_of c.args.seat.member).trail all
 
 -- ---- the write is committed, and tables are flushed behind it
 
