@@ -5,6 +5,7 @@ pub mod Tallies
 pub mod Crews
 pub mod Sealing
 pub mod Timed
+pub mod Committed
 pub mod Logged
 pub mod Settled
 pub mod Placed

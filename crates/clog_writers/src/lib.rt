@@ -16,6 +16,7 @@ mod logging;
 mod placing;
 mod planning;
 mod rows;
+mod run;
 mod share;
 mod syncing;
 mod tally;

@@ -83,7 +83,6 @@ fn run_crew<R: Threads + Wait + Sync, K: Keeper + Send + Drop, G: Gate + Sync, C
     requires made { path.opener ≡ None }
     requires mode { path.mode ≡ syncing.mode }
     requires tables { sizes.tables ≡ most_tables }
-    requires some { (most : ℕ) → flush_at ≡ Some most → 1 ≤ most }
     requires dealt { (mutations : List Mutation) × AreDealt sizes flush_at mutations workers.items }
     requires room { sizes.writers ≤ vec_capacity room }
     requires void { room.items ≡ [] }
@@ -138,7 +137,6 @@ pub fn log_shares<
     requires fresh { IsFresh base sizes (K.holds keeper) }
     requires base { base < 2 ^ 62 }
     requires tables { sizes.tables ≡ most_tables }
-    requires some { (most : ℕ) → flush_at ≡ Some most → 1 ≤ most }
     requires dealt { (mutations : List Mutation) × AreDealt sizes flush_at mutations workers.items }
     requires room { sizes.writers ≤ vec_capacity room }
     requires void { room.items ≡ [] }
