@@ -5,6 +5,8 @@
 #[cfg(test)]
 mod engine;
 #[cfg(test)]
+mod halting;
+#[cfg(test)]
 mod lines;
 #[cfg(test)]
 mod logged;

@@ -56,6 +56,10 @@ by_row flush fault is row made same none =
 pub no_fault : (flush : Option ℕ) → MayLack flush None
 no_fault flush row made same none = absurd (none-some (Rows row made) same)
 
+-- nor does want of memory
+pub by_memory : (flush : Option ℕ) → MayLack flush (Some OutOfMemory)
+by_memory flush = by_row flush OutOfMemory refl
+
 pub by_sync : (flush : Option ℕ) (answer : SyncAnswer) → MayLack flush (refusal_of answer)
 by_sync flush (sync.Done key) = no_fault flush
 by_sync flush (sync.Stopped at_open now) = by_row flush (Stopped at_open now) refl

@@ -37,3 +37,4 @@ pub mod Paying
 pub mod ShareUpdates
 pub mod TriedFlushes
 pub mod Keeping
+pub mod WorkedUpdates

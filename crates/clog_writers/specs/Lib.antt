@@ -5,6 +5,7 @@ pub mod Tallies
 pub mod Crews
 pub mod Sealing
 pub mod Timed
+pub mod Committed
 pub mod Logged
 pub mod Settled
 pub mod Placed
@@ -12,3 +13,4 @@ pub mod Planned
 pub mod Written
 pub mod Left
 pub mod Worked
+pub mod WorkedTally

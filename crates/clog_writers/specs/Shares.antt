@@ -143,6 +143,14 @@ refusal_by (flush.Rows row made) = Some (Rows row made)
 refusal_by (flush.Stopped at_open now) = Some (Stopped at_open now)
 refusal_by flush.OutOfMemory = Some OutOfMemory
 
+-- nothing was refused but memory, if anything
+abbrev pub LacksMemoryAtMost : Option WriteFault → Type 0
+LacksMemoryAtMost None = ⊤
+LacksMemoryAtMost (Some OutOfMemory) = ⊤
+LacksMemoryAtMost (Some Spent) = ⊥
+LacksMemoryAtMost (Some (Stopped at_open now)) = ⊥
+LacksMemoryAtMost (Some (Rows row made)) = ⊥
+
 -- a flush is finished
 abbrev pub is_finished : Flush → Bool
 is_finished (flush.Flushed lower upper) = true

@@ -1,5 +1,6 @@
 //! The seats of a path are given to workers, all workers commit their shares in threads, and the
-//! seats come back.
+//! seats come back. The first fault of a worker ends the run: the others stop behind their commits
+//! in hand.
 ghost use Rattle.std.specs.Prelude.{
   ◌≡◌,
   ◌≤◌,
@@ -7,6 +8,7 @@ ghost use Rattle.std.specs.Prelude.{
   List,
   [],
   length,
+  Contains,
   Option,
   Some,
   None,
@@ -30,11 +32,14 @@ ghost use Rattle.clog_writers.specs.Crews.{
   MayLack,
 };
 ghost use Rattle.clog_writers.specs.Sealing.{HasWaited, HaveWaited, WaitShares, WaitsShare};
+ghost use Rattle.clog_writers.specs.Shares.{LacksMemoryAtMost};
 ghost use Rattle.clog_writers.specs.Timed.{TimeShares, TimesShare};
 ghost use Rattle.sync_core.specs.declared.SyncCore.TheVariants.{Batch, Periodic};
 ghost use Rattle.write_path.specs.Opened.{AreNew};
 
 use crate::fault::{WriteFault, first_of, refusal_of};
+use crate::halting::Halt;
+use crate::run::Run;
 use crate::share::commit_share;
 use crate::syncing::Syncing;
 use crate::worker::Worker;
@@ -81,16 +86,17 @@ pub fn seat_all<K: Keeper + Drop>(
 }
 
 /// Each worker commits its share in a thread of its own, where one can be started. In periodic mode
-/// each asks the clock behind each of its writes, and its first period runs from the opening.
-pub fn commit_all<R: Threads + Wait + Sync, K: Keeper + Send, G: Gate + Sync, C: Clock + Sync>(
+/// each asks the clock behind each of its writes, and its first period runs from the opening. Once
+/// one has a fault, each other one stops behind its commit in hand.
+pub fn commit_all<'a, R: Threads + Wait + Sync, K: Keeper + Send, G: Gate + Sync, C: Clock + Sync>(
     rt: &R,
     alloc: Global,
-    path: &WritePath<K, Global>,
+    path: &'a WritePath<K, Global>,
     sizes: Sizes,
     syncing: Syncing,
     flush_at: Option<u32>,
-    gate: &G,
-    clock: &C,
+    gate: &'a G,
+    clock: &'a C,
     workers: &mut [Worker<K>],
 )
     requires sized { IsSizedAs path.now.table.size sizes }
@@ -100,7 +106,6 @@ pub fn commit_all<R: Threads + Wait + Sync, K: Keeper + Send, G: Gate + Sync, C:
     requires mode { path.now.mode ≡ syncing.mode }
     requires tables { sizes.tables ≡ most_tables }
     requires files { IsSome flush_at → path.now.table.size.files ≡ true }
-    requires some { (most : ℕ) → flush_at ≡ Some most → 1 ≤ most }
     ensures logged { (mutations : List Mutation)
         → AreReady path.now.table.table.shared.table_id path.now.table.size sizes flush_at
         mutations workers.old
@@ -110,31 +115,34 @@ pub fn commit_all<R: Threads + Wait + Sync, K: Keeper + Send, G: Gate + Sync, C:
     ensures timed { (period : ℕ) → syncing.mode ≡ Periodic period
         → TimeShares (C.tells clock.now) syncing.mode syncing.since_ms workers.new }
 {
+    let run = Run {
+        path,
+        sizes,
+        syncing,
+        flush_at,
+        gate,
+        clock,
+        halt: Halt::new(),
+    };
     thread::for_each_mut(
         rt,
         workers,
         64,
         &|_place, worker: &mut Worker<K>|
-            requires { IsSizedAs path.now.table.size sizes × (path.now.mode ≡ syncing.mode)
-                × (sizes.tables ≡ most_tables)
-                × (IsSome flush_at → path.now.table.size.files ≡ true)
-                × ((most : ℕ) → flush_at ≡ Some most → 1 ≤ most)
-                × ((number : ℕ) × (lines : List Line)
-                × IsReady path.now.table.table.shared.table_id path.now.table.size sizes flush_at
-                number lines worker.old) }
-            ensures { ((number : ℕ) (lines : List Line)
-                → IsReady path.entry.now.table.table.shared.table_id path.entry.now.table.size
-                sizes flush_at number lines worker.old
-                → HasLogged path.entry.now.table.table.shared.table_id path.entry.now.table.size
-                flush_at number lines worker.new)
-                × (path.entry.now.mode ≡ Batch → WaitsShare worker.new)
-                × ((period : ℕ) → syncing.mode ≡ Periodic period
-                → TimesShare (C.tells clock.entry.now) syncing.mode syncing.since_ms worker.new) }
-        {
-            commit_share(
-                rt, alloc, path, sizes, syncing, flush_at, gate, clock, worker,
-            )
-        },
+            requires { let t = run.path.now.table in (number : ℕ) × (lines : List Line)
+                × IsReady t.table.shared.table_id t.size run.sizes run.flush_at number lines
+                worker.old }
+            ensures { let t = run.entry.path.now.table in
+                ((number : ℕ) (lines : List Line)
+                → IsReady t.table.shared.table_id t.size run.entry.sizes run.entry.flush_at number
+                lines worker.old
+                → HasLogged t.table.shared.table_id t.size run.entry.flush_at number lines
+                worker.new)
+                × (run.entry.syncing.mode ≡ Batch → WaitsShare worker.new)
+                × ((period : ℕ) → run.entry.syncing.mode ≡ Periodic period
+                → TimesShare (C.tells run.entry.clock.now) run.entry.syncing.mode
+                run.entry.syncing.since_ms worker.new) }
+        { commit_share(rt, alloc, &run, worker) },
     );
 }
 
@@ -158,6 +166,7 @@ fn end_share<R: Wait, K: Keeper + Drop>(
         worker
         → KnowsWhy path.now.table.size result.1 result.0 × MayLack flush result.1 }
     ensures waited { WaitsShare worker → HasWaited result.0 }
+    ensures cause { LacksMemoryAtMost result.1 → LacksMemoryAtMost worker.fault }
 {
     let Worker {
         seat,
@@ -174,7 +183,9 @@ fn end_share<R: Wait, K: Keeper + Drop>(
     }
 }
 
-/// Syncs the log behind all shares, and gives the seats back, in order. It takes no memory.
+/// Syncs the log behind all shares, and gives the seats back, in order. It takes no memory. It
+/// tells the first fault in the order of the workers; but want of memory, which those tell that
+/// have stopped for the fault of another one, only where no worker has another fault.
 pub fn end_all<R: Wait, K: Keeper + Drop>(
     rt: &R,
     alloc: Global,
@@ -193,6 +204,8 @@ pub fn end_all<R: Wait, K: Keeper + Drop>(
         → HaveEnded path.now.table.table.shared.table_id path.now.table.size flush mutations result
         seats.new.items }
     ensures waited { WaitShares workers.items → HaveWaited seats.new.items }
+    ensures cause { LacksMemoryAtMost result → (worker : Worker K)
+        → Contains workers.items worker → LacksMemoryAtMost worker.fault }
 {
     let mut first = None;
     for worker in workers {

@@ -1,6 +1,6 @@
 //! Why lines were not all logged by their writers.
 ghost use Rattle.std.specs.Prelude.{◌≡◌, ◌⊎◌, ℕ, None};
-ghost use Rattle.clog_writers.specs.Shares.{refusal_by, refusal_of};
+ghost use Rattle.clog_writers.specs.Shares.{LacksMemoryAtMost, refusal_by, refusal_of};
 ghost use Rattle.path_rule.specs.declared.answer.SyncAnswer.TheVariants.{Done};
 
 use std::alloc::{AllocError, AllocFailed};
@@ -9,9 +9,10 @@ use write_path::{Flush, Row, SyncAnswer};
 /// Why lines were not all logged by their writers.
 #[derive(Clone, Copy, Debug, PartialEq, Eq)]
 pub enum WriteFault {
-    /// Memory was refused.
+    /// Memory was refused. A writer that has stopped for another one's fault tells this too, and a
+    /// run that fault.
     OutOfMemory,
-    /// The log has no further segment for a line. Other lines are logged.
+    /// The log has no further segment for a line. Other lines may be logged.
     Spent,
     /// The disk has failed.
     Stopped {
@@ -91,13 +92,17 @@ pub(crate) fn refusal_by(answer: Flush) -> Option<WriteFault>
     }
 }
 
-/// The first of two faults.
+/// The first of two faults that are no want of memory, and want of memory only where there is none:
+/// it may be told by a writer that has stopped for another one's fault.
 pub(crate) fn first_of(first: Option<WriteFault>, other: Option<WriteFault>) -> Option<WriteFault>
     ensures none { result ≡ None → (first ≡ None) × (other ≡ None) }
     ensures one { (result ≡ first) ⊎ (result ≡ other) }
+    ensures memory { LacksMemoryAtMost result
+        → LacksMemoryAtMost first × LacksMemoryAtMost other }
+    ensures order { (LacksMemoryAtMost first → ⊥) → result ≡ first }
 {
     match first {
-        Some(fault) => Some(fault),
-        None => other,
+        None | Some(WriteFault::OutOfMemory) => other.or(first),
+        Some(_) => first,
     }
 }

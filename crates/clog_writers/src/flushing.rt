@@ -35,6 +35,7 @@ ghost use Rattle.path_rule.specs.Members.{IsOf, view_of};
 ghost use Rattle.write_path.specs.Commits.{KeepsList};
 
 use crate::fault::{WriteFault, refusal_by};
+use crate::halting::{Halt, halted};
 use crate::tally::UpdateTally;
 use clog_base::{MOST_TABLES, Table};
 use path_core::Keeper;
@@ -170,11 +171,13 @@ pub(crate) fn flush_due<R: Wait, K: Keeper>(
     }
 }
 
-// Flushes tables until no flush is due, or until one is refused. No clause says that it returns.
+// Flushes tables until no flush is due, or until one is refused or a writer has had a fault. No
+// clause says that it returns.
 fn flush_until_none<R: Wait, K: Keeper>(
     rt: &R,
     alloc: Global,
     path: &WritePath<K, Global>,
+    halt: &Halt,
     seat: PathSeat<K>,
     tally: UpdateTally,
 ) -> (PathSeat<K>, Option<WriteFault>)
@@ -193,6 +196,12 @@ fn flush_until_none<R: Wait, K: Keeper>(
     let mut seat = seat;
     let mut tally = tally;
     for _ in rt.forever() {
+        if !tally.is_any_due() {
+            return (seat, None);
+        }
+        if halt.is_set() {
+            return (seat, Some(halted()));
+        }
         let (next, left, fault) = flush_tables(rt, alloc, path, seat, tally);
         seat = next;
         tally = left;
@@ -200,20 +209,19 @@ fn flush_until_none<R: Wait, K: Keeper>(
             Some(fault) => return (seat, Some(fault)),
             None => {}
         }
-        if !tally.is_any_due() {
-            return (seat, None);
-        }
         yield_now();
     }
     unreachable!()
 }
 
 /// Flushes tables until no flush is due, where the writer flushes: by `Busy` another writer has the
-/// turn, and the flush is tried again. It tells why one was refused, if one was.
+/// turn, and the flush is tried again, unless a writer has had a fault. It tells why one was
+/// refused, if one was.
 pub(crate) fn flush_rest<R: Wait, K: Keeper>(
     rt: &R,
     alloc: Global,
     path: &WritePath<K, Global>,
+    halt: &Halt,
     seat: PathSeat<K>,
     tally: Option<UpdateTally>,
 ) -> (PathSeat<K>, Option<WriteFault>)
@@ -231,7 +239,7 @@ pub(crate) fn flush_rest<R: Wait, K: Keeper>(
         → ArePaid (limit_of tally) seat.member.number (view_of result.0.member).trail }
 {
     match tally {
-        Some(tally) => flush_until_none(rt, alloc, path, seat, tally),
+        Some(tally) => flush_until_none(rt, alloc, path, halt, seat, tally),
         None => (seat, None),
     }
 }

@@ -10,11 +10,13 @@ mod dealing;
 mod draining;
 mod fault;
 mod flushing;
+mod halting;
 mod laws;
 mod logging;
 mod placing;
 mod planning;
 mod rows;
+mod run;
 mod share;
 mod syncing;
 mod tally;
@@ -29,7 +31,10 @@ pub use laws::{
 };
 pub use logging::log_shares;
 pub use planning::{Plan, make_plan};
-pub use rows::a_line_comes_behind_the_earlier_ones_of_its_writer;
+pub use rows::{
+    a_flush_leaves_no_update_below_its_bound, a_line_comes_behind_the_earlier_ones_of_its_writer,
+    all_memtables_want_as_many_updates_but_for_the_first,
+};
 pub use syncing::Syncing;
 pub use tally::LineCounts;
 pub use worker::Worker;

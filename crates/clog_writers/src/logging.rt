@@ -83,7 +83,6 @@ fn run_crew<R: Threads + Wait + Sync, K: Keeper + Send + Drop, G: Gate + Sync, C
     requires made { path.opener ≡ None }
     requires mode { path.mode ≡ syncing.mode }
     requires tables { sizes.tables ≡ most_tables }
-    requires some { (most : ℕ) → flush_at ≡ Some most → 1 ≤ most }
     requires dealt { (mutations : List Mutation) × AreDealt sizes flush_at mutations workers.items }
     requires room { sizes.writers ≤ vec_capacity room }
     requires void { room.items ≡ [] }
@@ -115,7 +114,8 @@ fn run_crew<R: Threads + Wait + Sync, K: Keeper + Send + Drop, G: Gate + Sync, C
 /// for a seat of each. With `flush_at` each worker flushes a table whenever it has logged so many
 /// updates of it since its last flush; else the keeper does nothing beside its log, whatever is
 /// refused. The gate is told how far each commit is; in periodic mode the clock is asked behind
-/// each one.
+/// each one. The first fault of a worker ends the run: each other one stops behind its commit in
+/// hand.
 pub fn log_shares<
     R: Threads + Wait + Sync,
     K: Keeper + Send + Drop,
@@ -137,7 +137,6 @@ pub fn log_shares<
     requires fresh { IsFresh base sizes (K.holds keeper) }
     requires base { base < 2 ^ 62 }
     requires tables { sizes.tables ≡ most_tables }
-    requires some { (most : ℕ) → flush_at ≡ Some most → 1 ≤ most }
     requires dealt { (mutations : List Mutation) × AreDealt sizes flush_at mutations workers.items }
     requires room { sizes.writers ≤ vec_capacity room }
     requires void { room.items ≡ [] }

@@ -1,5 +1,11 @@
-//! Worked rows: of three lines that two writers log, which histories a crash may leave.
+//! Worked rows: of three lines that two writers log, which histories a crash may leave; what a
+//! flush leaves of a line's updates; which lines have updates for all memtables of a table.
+ghost use Rattle.std.specs.Prelude.{◌≡◌, ℕ, List, [], ◌∷◌, Option, None, Some, replicate, reverse};
+ghost use Rattle.clog_crash.specs.Worked.{the_mutation};
+ghost use Rattle.clog_mutation.specs.declared.mutation.Mutation.{Mutation};
 ghost use Rattle.clog_writers.specs.Left.{HoldsFirsts};
+ghost use Rattle.clog_writers.specs.Logged.{HasManyUpdates};
+ghost use Rattle.clog_writers.specs.Tallied.{IsTallied};
 ghost use Rattle.clog_writers.specs.Worked.{
   all_three,
   by_another,
@@ -7,6 +13,8 @@ ghost use Rattle.clog_writers.specs.Worked.{
   third_early,
   three_lines,
 };
+ghost use Rattle.clog_writers.specs.WorkedTally.{flushed_one, logged_one, the_note};
+ghost use Rattle.write_path.specs.Ends.{writes_of};
 
 /// A line may come before one of another writer, and not before an earlier one of its own, nor from
 /// another writer than its own.
@@ -15,4 +23,28 @@ pub fn a_line_comes_behind_the_earlier_ones_of_its_writer()
     ensures all { HoldsFirsts 2 three_lines all_three }
     ensures own { HoldsFirsts 2 three_lines third_early → ⊥ }
     ensures foreign { HoldsFirsts 2 three_lines by_another → ⊥ }
+{}
+
+/// One line has one update of table 0, and its writer flushes at one. Where it has retired a
+/// memtable that is final at the entry's end, none is left. It is left where no memtable is
+/// retired, or one that is final in front of that end.
+pub fn a_flush_leaves_no_update_below_its_bound()
+    ensures writes { reverse (writes_of (flushed_one 60)) ≡ the_note ∷ [] }
+    ensures flushed { IsTallied 1 0 0 0 (the_note ∷ []) (flushed_one 60) }
+    ensures unretired { IsTallied 1 0 0 1 (the_note ∷ []) logged_one }
+    ensures left { IsTallied 1 0 0 0 (the_note ∷ []) logged_one → ⊥ }
+    ensures short { IsTallied 1 0 0 0 (the_note ∷ []) (flushed_one 59) → ⊥ }
+{}
+
+/// Each line has one update of table 0. Where writers flush at one, 255 lines have updates for all
+/// memtables of a table, and 254 have not, nor have 255 where writers flush at two. No number of
+/// memtables but 256 is all of them, and where writers do not flush no lines have so many updates.
+pub fn all_memtables_want_as_many_updates_but_for_the_first()
+    ensures enough { HasManyUpdates (Some 1) 256 (replicate 255 the_mutation) }
+    ensures few { HasManyUpdates (Some 1) 256 (replicate 254 the_mutation) → ⊥ }
+    ensures later { HasManyUpdates (Some 2) 256 (replicate 255 the_mutation) → ⊥ }
+    ensures made { (flush : Option ℕ) (made : ℕ) (mutations : List Mutation)
+        → HasManyUpdates flush made mutations → made ≡ 256 }
+    ensures unflushed { (made : ℕ) (mutations : List Mutation)
+        → HasManyUpdates None made mutations → ⊥ }
 {}

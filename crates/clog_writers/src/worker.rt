@@ -2,8 +2,6 @@
 //! in periodic mode the writer has the log synced behind it where the period has passed. Then it
 //! flushes the tables of which it has logged so many updates, where it flushes.
 ghost use Rattle.std.specs.Prelude.{◌≡◌, ℕ, IsSome, None, length, true};
-ghost use Rattle.clog_spec.specs.Sizes.{most_tables};
-ghost use Rattle.clog_base.specs.declared.sizes.Sizes.{Sizes};
 ghost use Rattle.clog_mutation.specs.declared.mutation.Mutation.{Mutation};
 ghost use Rattle.clog_applied.specs.History.{Line};
 ghost use Rattle.clog_writers.specs.Crews.{KnowsWhy, MayLack};
@@ -20,14 +18,15 @@ ghost use Rattle.write_path.specs.Writes.{IsPrepared};
 
 use crate::fault::WriteFault;
 use crate::flushing::flush_due;
+use crate::halting::halted;
+use crate::run::Run;
 use crate::syncing::sync_when_due;
 use crate::tally::{LineCounts, UpdateTally, tally_with};
 use clog_io::{Clock, Gate};
 use path_core::Keeper;
 use std::alloc::Global;
 use std::sync::Wait;
-use sync_core::SyncCore;
-use write_path::{Commit, PathSeat, Prepared, Row, SyncFault, WritePath};
+use write_path::{Commit, PathSeat, Prepared, Row, SyncFault};
 
 /// A writer: its seat of the path, and the writes of its share.
 #[derive(Drop)]
@@ -70,100 +69,99 @@ fn refusal_in(commit: Commit) -> Option<WriteFault>
 fn commit_one<R: Wait, K: Keeper, G: Gate, C: Clock>(
     rt: &R,
     alloc: Global,
-    path: &WritePath<K, Global>,
-    mode: SyncCore,
-    gate: &G,
-    clock: &C,
+    run: &Run<'_, K, G, C>,
     last_ms: u64,
     seat: PathSeat<K>,
     prepared: Prepared,
 ) -> (PathSeat<K>, u64, Option<WriteFault>)
-    requires table { IsOf path.now.table.table.shared.table_id path.now.table.size seat.member }
-    requires prepared { (sizes : Sizes) × (line : ℕ) × (m : Mutation)
-        × IsPrepared sizes line m prepared × (sizes.tables ≡ path.now.table.size.tables)
-        × (sizes.capacity ≡ path.now.table.size.capacity) }
-    requires mode { path.now.mode ≡ mode }
-    ensures same { Stays path.now.table.table.shared.table_id path.now.table.size seat.member
-        result.0.member }
+    requires table { let t = run.now.path.now.table in
+        IsOf t.table.shared.table_id t.size seat.member }
+    requires prepared { (line : ℕ) × (m : Mutation) × IsPrepared run.now.sizes line m prepared }
+    ensures same { let t = run.now.path.now.table in
+        Stays t.table.shared.table_id t.size seat.member result.0.member }
     ensures grown { HasGrown (view_of seat.member).trail (view_of result.0.member).trail }
     ensures logged { result.2 ≡ None → AddsWrite seat.member.number prepared
         (view_of seat.member).trail (view_of result.0.member).trail }
     ensures may { MayAddWrite seat.member.number prepared (view_of seat.member).trail
         (view_of result.0.member).trail }
-    ensures why { KnowsWhy path.now.table.size result.2 result.0 }
+    ensures why { KnowsWhy run.now.path.now.table.size result.2 result.0 }
     ensures rows { MayLack None result.2 }
     ensures opened { OpensNone (view_of seat.member).trail (view_of result.0.member).trail }
-    ensures sealed { path.now.mode ≡ Batch → HasSealed seat → result.2 ≡ None
+    ensures sealed { run.now.syncing.mode ≡ Batch → HasSealed seat → result.2 ≡ None
         → HasSealed result.0 }
-    ensures waited { path.now.mode ≡ Batch → HasSealed seat → HasWaited result.0 }
-    ensures timed { (period : ℕ) → mode ≡ Periodic period → result.2 ≡ None
-        → TimesWrite (C.tells clock.now) mode last_ms (view_of seat.member).trail
-        (view_of result.0.member).trail result.1 }
+    ensures waited { run.now.syncing.mode ≡ Batch → HasSealed seat → HasWaited result.0 }
+    ensures timed { (period : ℕ) → run.now.syncing.mode ≡ Periodic period → result.2 ≡ None
+        → TimesWrite (C.tells run.now.clock.now) run.now.syncing.mode last_ms
+        (view_of seat.member).trail (view_of result.0.member).trail result.1 }
 {
-    let (seat, commit) = path.commit(rt, alloc, seat, prepared, gate);
+    let (seat, commit) = run.path.commit(rt, alloc, seat, prepared, run.gate);
     match refusal_in(commit) {
-        None => sync_when_due(rt, alloc, path, mode, clock, last_ms, seat),
+        None => sync_when_due(
+            rt,
+            alloc,
+            run.path,
+            run.syncing.mode,
+            run.clock,
+            last_ms,
+            seat,
+        ),
         Some(fault) => (seat, last_ms, Some(fault)),
     }
 }
 
-/// Commits a write as `commit_one` does, and behind it flushes each table for which that is due
-/// then. It tells the tally, and why a flush was refused, if one was.
+/// Commits a write as `commit_one` does, unless a writer has had a fault, and behind it flushes
+/// each table for which that is due then. It tells the tally, and why a flush was refused, if one
+/// was.
 pub(crate) fn commit_next<R: Wait, K: Keeper, G: Gate, C: Clock>(
     rt: &R,
     alloc: Global,
-    path: &WritePath<K, Global>,
-    mode: SyncCore,
-    gate: &G,
-    clock: &C,
+    run: &Run<'_, K, G, C>,
     last_ms: u64,
     tally: Option<UpdateTally>,
     seat: PathSeat<K>,
     prepared: Prepared,
     counts: Option<LineCounts>,
 ) -> (PathSeat<K>, u64, Option<UpdateTally>, Option<WriteFault>)
-    requires table { IsOf path.now.table.table.shared.table_id path.now.table.size seat.member }
-    requires prepared { (sizes : Sizes) × (line : ℕ) × (m : Mutation)
-        × IsPrepared sizes line m prepared × (sizes.tables ≡ path.now.table.size.tables)
-        × (sizes.capacity ≡ path.now.table.size.capacity) }
-    requires mode { path.now.mode ≡ mode }
-    requires files { IsSome (limit_of tally) → path.now.table.size.files ≡ true }
-    requires tables { path.now.table.size.tables ≡ most_tables }
-    ensures same { Stays path.now.table.table.shared.table_id path.now.table.size seat.member
-        result.0.member }
+    requires table { let t = run.now.path.now.table in
+        IsOf t.table.shared.table_id t.size seat.member }
+    requires prepared { (line : ℕ) × (m : Mutation) × IsPrepared run.now.sizes line m prepared }
+    requires limit { limit_of tally ≡ run.now.flush_at }
+    ensures same { let t = run.now.path.now.table in
+        Stays t.table.shared.table_id t.size seat.member result.0.member }
     ensures logged { result.3 ≡ None → AddsWrite seat.member.number prepared
         (view_of seat.member).trail (view_of result.0.member).trail }
     ensures may { MayAddWrite seat.member.number prepared (view_of seat.member).trail
         (view_of result.0.member).trail }
-    ensures why { KnowsWhy path.now.table.size result.3 result.0 }
+    ensures why { KnowsWhy run.now.path.now.table.size result.3 result.0 }
     ensures rows { MayLack (limit_of tally) result.3 }
-    ensures sealed { path.now.mode ≡ Batch → HasSealed seat → result.3 ≡ None
+    ensures sealed { run.now.syncing.mode ≡ Batch → HasSealed seat → result.3 ≡ None
         → HasSealed result.0 }
-    ensures waited { path.now.mode ≡ Batch → HasSealed seat → HasWaited result.0 }
-    ensures timed { (period : ℕ) → mode ≡ Periodic period → result.3 ≡ None
-        → TimesWrite (C.tells clock.now) mode last_ms (view_of seat.member).trail
-        (view_of result.0.member).trail result.1 }
+    ensures waited { run.now.syncing.mode ≡ Batch → HasSealed seat → HasWaited result.0 }
+    ensures timed { (period : ℕ) → run.now.syncing.mode ≡ Periodic period → result.3 ≡ None
+        → TimesWrite (C.tells run.now.clock.now) run.now.syncing.mode last_ms
+        (view_of seat.member).trail (view_of result.0.member).trail result.1 }
     ensures limit { limit_of result.2 ≡ limit_of tally }
-    ensures tallies { result.3 ≡ None → (sizes : Sizes) (line : Line)
-        → IsPrepared sizes line.number line.mutation prepared
+    ensures tallies { result.3 ≡ None → (line : Line)
+        → IsPrepared run.now.sizes line.number line.mutation prepared
         → IsCountedFor (limit_of tally) line.mutation counts
         → MayTally seat.member.number tally (view_of seat.member).trail
         → MayTally seat.member.number result.2 (view_of result.0.member).trail }
-    ensures paid { (sizes : Sizes) (line : Line)
-        → IsPrepared sizes line.number line.mutation prepared
+    ensures paid { (line : Line)
+        → IsPrepared run.now.sizes line.number line.mutation prepared
         → IsCountedFor (limit_of tally) line.mutation counts
         → MayTally seat.member.number tally (view_of seat.member).trail
         → ArePaid (limit_of tally) seat.member.number (view_of result.0.member).trail }
     ensures tried { result.3 ≡ None → MayTry (length (view_of seat.member).trail) result.2
         (view_of result.0.member).trail }
 {
-    let (seat, synced_ms, fault) = commit_one(
-        rt, alloc, path, mode, gate, clock, last_ms, seat, prepared,
-    );
+    if run.halt.is_set() {
+        return (seat, last_ms, tally, Some(halted()));
+    }
+    let (seat, synced_ms, fault) = commit_one(rt, alloc, run, last_ms, seat, prepared);
     match fault {
         None => {
             let tally = tally_with(tally, counts);
-            let (seat, tally, fault) = flush_due(rt, alloc, path, seat, tally);
+            let (seat, tally, fault) = flush_due(rt, alloc, run.path, seat, tally);
             (seat, synced_ms, tally, fault)
         }
         Some(fault) => (seat, synced_ms, tally, Some(fault)),

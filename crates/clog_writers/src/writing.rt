@@ -109,7 +109,8 @@ fn disks_read_now<D: Disk>(_store: &Store<D>)
 /// all that may have gone at the end. With `drain` a table file is put then for each table with a
 /// line that lies in none, and all segments go. Each that goes gets its archive name first where
 /// the store archives. The receipts are in the order of the lines. The gate is told how far each
-/// commit is.
+/// commit is. The first fault of a disk, a limit or want of memory that a writer is answered ends
+/// the run: each other writer stops behind its commit in hand.
 ///
 /// Whatever is answered, the appends among the disk's further changes have brought segments, and no
 /// other names have come than those of these, their archive names and table files. Without
@@ -141,6 +142,7 @@ pub fn write_plan<R: Threads + Wait + Sync, D: Disk + Send + Drop, G: Gate + Syn
     requires runs { store.notes.log.is_stopped ≡ false }
     requires sizes { sizes ≡ store.notes.sizes }
     requires tables { sizes.tables ≡ most_tables }
+    // At 0 each table would be due for ever, and no writer would come to its end.
     requires some { (most : ℕ) → flush_at ≡ Some most → 1 ≤ most }
     requires plan { (mutations : List MutationOf) × IsPlanFor sizes flush_at mutations plan }
     ensures written { (mutations : List MutationOf) (options : ApplyOptions) (opened : Files)

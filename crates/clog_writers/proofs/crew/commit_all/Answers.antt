@@ -11,18 +11,11 @@ for_each_mut-requires-clause-accepts g c κs within = λ i p inside is.
     let t = c.args.path.now.table in
     let ready = c.requires.ready in
     let lines = share_of t.size.seats i ready.0 in (
-      c.requires.sized,
-      c.requires.mode,
-      c.requires.tables,
-      c.requires.files,
-      c.requires.some,
-      (
-        i,
-        lines,
-        subst (λ (w : Worker g.row.K.Denot).
-            IsReady t.table.shared.table_id t.size c.args.sizes c.args.flush_at i lines w) (sym is)
-            (ready.1.each i p.now inside),
-      ),
+      i,
+      lines,
+      subst (λ (w : Worker g.row.K.Denot).
+          IsReady t.table.shared.table_id t.size c.args.sizes c.args.flush_at i lines w) (sym is)
+          (ready.1.each i p.now inside),
     )
 
 pub returns-clause-logged : goal.returns-clause-logged
@@ -46,7 +39,8 @@ returns-clause-waited g c = λ batch w among.
     let inside = among.1 in
     let long = c.for_each_mut.auto.s in
     let one = (c.for_each_mut.ensures among.0 w (omega (arith, inside, long))).1 in
-    subst (λ (x : Worker g.row.K.Denot). WaitsShare x) (one.left ∙ among.2) (one.call.1 batch)
+    subst (λ (x : Worker g.row.K.Denot). WaitsShare x) (one.left ∙ among.2)
+    (one.call.1 (sym c.requires.mode ∙ batch))
 
 pub returns-clause-timed : goal.returns-clause-timed
 returns-clause-timed g c = λ period periodic w among.

@@ -19,11 +19,12 @@ use Rattle.std.specs.Prelude.{Contains}
 use Rattle.std.proofs.lemmas.List.{nil_from_length}
 use Rattle.std.proofs.lemmas.List.Elements.{Contains-append_cases}
 use Rattle.std.specs.Vec.{vec_len}
-use Rattle.clog_base.proofs.Members.{further, here, nothing_there, only_one}
+use Rattle.clog_base.proofs.Members.{first_or_further, further, here, nothing_there, only_one}
 use Rattle.clog_applied.specs.History.{share_of}
 use Rattle.path_rule.specs.declared.trying.PathSeat.{PathSeat}
 use Rattle.clog_writers.specs.declared.worker.Worker.{Worker}
 use Rattle.clog_writers.specs.Sealing.{HasWaited}
+use Rattle.clog_writers.specs.Shares.{LacksMemoryAtMost}
 use Rattle.clog_writers.proofs.Gathering.{
   Gathers,
   all_gathered,
@@ -51,6 +52,8 @@ loop-worker-init g c =
         λ s h. absurd (nothing_there s
             (subst (λ (l : List (PathSeat g.row.K.Denot)). Contains l s) c.requires.none h)),
       );
+      cause = λ w h. inl
+          (subst (λ (l : List (Worker g.row.K.Denot)). Contains l w) (sym gives.0) h);
       room = let none = ap length c.requires.none in
           omega (arith, items, none, c.args.seats.now.ok, c.requires.room);
       count = omega (arith, items, gives.1, c.args.workers.ok);
@@ -113,6 +116,18 @@ loop-worker-preserved g c =
                       (sym steps.0) (here w rest))))
                 ],
           );
+      cause = λ x h.
+          let memory = c.first_of-first.ensures.memory in
+          elim (I.cause x h) [
+            | inl left ↦ elim (first_or_further w rest x
+                (subst (λ (ws : List (Worker g.row.K.Denot)). Contains ws x) steps.0 left)) [
+                  | inl same ↦ inr (λ none. subst (λ (y : Worker g.row.K.Denot).
+                      LacksMemoryAtMost y.fault) same
+                      (c.end_share-seat.ensures.cause (memory none).1))
+                  | inr more ↦ inl more
+                ]
+            | inr told ↦ inr (λ none. told (memory none).0)
+          ];
       room =
           let len = subst (λ b. vec_len c.push.new.self
           ≡ (if b then vec_len l.seats + 1 else vec_len l.seats)) ok p.len in
@@ -122,6 +137,18 @@ loop-worker-preserved g c =
 
 pub returns-clause-waited : goal.returns-clause-waited
 returns-clause-waited g c = λ all. (c.loop-worker.invariant.waited all).1
+
+pub returns-clause-cause : goal.returns-clause-cause
+returns-clause-cause g c = λ memory w h.
+    let l = c.loop-worker in let I = l.invariant in
+    let rest = l.worker-iterator.rest.items in
+    let none_left : rest ≡ [] = nil_from_length rest
+    (omega (arith, c.in-None.ensures.steps.0, I.count)) in
+    elim (I.cause w h) [
+      | inl left ↦ absurd (nothing_there w
+          (subst (λ (ws : List (Worker g.row.K.Denot)). Contains ws w) none_left left))
+      | inr told ↦ told memory
+    ]
 
 pub returns-clause-ended : goal.returns-clause-ended
 returns-clause-ended g c = λ flush ms logged.

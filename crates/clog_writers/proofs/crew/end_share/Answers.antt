@@ -72,3 +72,6 @@ returns-clause-waited g c = λ waits.
     syncs.list
     (record { newer = syncs.answers.steps.steps; is = syncs.answers.steps.trail })
     (waits c.in-Some.seat c.in-Some.is)
+
+pub returns-clause-cause : goal.returns-clause-cause
+returns-clause-cause g c = λ memory. (c.first_of.ensures.memory memory).0

@@ -1,6 +1,4 @@
 use Rattle.std.proofs.Common.{
-  ◌≡◌,
-  true,
   ℕ,
   List,
   length,
@@ -14,7 +12,7 @@ use Rattle.std.proofs.Common.{
   refl,
   arith,
 }
-use Rattle.std.specs.Prelude.{Contains, IsSome}
+use Rattle.std.specs.Prelude.{Contains}
 use Rattle.std.proofs.lemmas.List.{nil_from_length}
 use Rattle.std.proofs.lemmas.Option.{none-some}
 use Rattle.clog_base.proofs.Members.{nothing_there}
@@ -45,24 +43,25 @@ use Rattle.clog_writers.proofs.share.commit_lines.Goals as goal
 
 pub loop-prepared-init : goal.loop-prepared-init
 loop-prepared-init g c =
+    let r = c.args.run.now in
     let gives = c.into_iter-prepared-iterator.ensures.into_iter_gives in
     let w = c.args.seat.member.number in
     let none = ap (λ (l : List OwnStep). writes_of l) c.requires.unused in record {
       same = (c.requires.table, refl);
       goes = λ lines prepared. subst (λ (q : List Prepared × List EntryNote).
-          GoesOn c.args.sizes w lines q.0 q.1)
+          GoesOn r.sizes w lines q.0 q.1)
           (λ i. (sym gives.0 i, reverse (sym none i)))
-          (begins c.args.sizes w lines c.args.writes.items prepared);
+          (begins r.sizes w lines c.args.writes.items prepared);
       sealed = λ batch n among. absurd (nothing_there n
           (subst (λ (l : List EntryNote). Contains l n) none among));
       timed = λ period periodic.
-          none_timed (g.C.Clock.tells c.args.clock.now) c.args.syncing.mode
-          c.args.syncing.since_ms (view_of c.args.seat.member).trail none;
+          none_timed (g.C.Clock.tells r.clock.now) r.syncing.mode
+          r.syncing.since_ms (view_of c.args.seat.member).trail none;
       counted = record {
         left = c.requires.prepared.0;
-        prepared = subst (ArePrepared c.args.sizes c.requires.prepared.0) (sym gives.0)
+        prepared = subst (ArePrepared r.sizes c.requires.prepared.0) (sym gives.0)
             c.requires.prepared.1;
-        counted = subst (AreCountedFor c.args.flush_at c.requires.prepared.0)
+        counted = subst (AreCountedFor r.flush_at c.requires.prepared.0)
             (sym c.into_iter-counts.ensures.rest) c.requires.prepared.2;
         limit = c.new_tally-tally.ensures.limit;
         tallies = none_yet w c.new_tally-tally.result (view_of c.args.seat.member).trail
@@ -80,24 +79,20 @@ commit_next-next-requires-clause-table g c = c.loop-prepared.invariant.same.0
 
 pub commit_next-next-requires-clause-prepared : goal.commit_next-next-requires-clause-prepared
 commit_next-next-requires-clause-prepared g c =
+    let r = c.args.run.now in
     let I = c.loop-prepared.invariant in
     let some = c.requires.prepared in
     let w = c.args.seat.member.number in
     let rest = c.next.new.self.rest.items in
     let notes = logged_by c.loop-prepared.seat.member in
-    let goes = subst (λ (ps : List Prepared). GoesOn c.args.sizes w some.0 ps notes)
+    let goes = subst (λ (ps : List Prepared). GoesOn r.sizes w some.0 ps notes)
     c.in-Some.ensures.steps.0 (I.goes some.0 some.1) in
-    let next = next_of c.args.sizes w some.0 c.in-Some.prepared rest notes goes in (
-      c.args.sizes,
-      next.line.number,
-      next.line.mutation,
-      next.prepared,
-      c.requires.sized.tables,
-      c.requires.sized.capacity,
-    )
+    let next = next_of r.sizes w some.0 c.in-Some.prepared rest notes goes in
+    (next.line.number, next.line.mutation, next.prepared)
 
 pub loop-prepared-preserved : goal.loop-prepared-preserved
 loop-prepared-preserved g c =
+    let r = c.args.run.now in
     let l = c.loop-prepared in let I = l.invariant in let w = c.args.seat.member.number in
     let steps = c.in-Some.ensures.steps in
     let rest = c.next.new.self.rest.items in
@@ -110,22 +105,22 @@ loop-prepared-preserved g c =
     let now = one.new.self.rest.items in
     let taken = takes_next counts now l.counts.rest.len one.new.self.rest.len one.result I.left
     one.ensures.items one.ensures.cases in
-    let line = next_line c.args.sizes w c.args.flush_at c.in-Some.prepared rest counts now
+    let line = next_line r.sizes w r.flush_at c.in-Some.prepared rest counts now
     one.result l.tally before
-    (subst (λ (ps : List Prepared). GoesCounted c.args.sizes w c.args.flush_at ps counts l.tally
+    (subst (λ (ps : List Prepared). GoesCounted r.sizes w r.flush_at ps counts l.tally
     before) steps.0 I.counted) taken.0 in
     record {
       same = (done.same.0, done.same.1 ∙ I.same.1);
       goes = λ lines prepared.
-          logged c.args.sizes w lines c.in-Some.prepared rest before after
+          logged r.sizes w lines c.in-Some.prepared rest before after
           (subst (λ (k : ℕ). AddsWrite k c.in-Some.prepared before after) I.same.1
           (done.logged none))
-          (subst (λ (ps : List Prepared). GoesOn c.args.sizes w lines ps
+          (subst (λ (ps : List Prepared). GoesOn r.sizes w lines ps
           (logged_by l.seat.member)) steps.0 (I.goes lines prepared));
       sealed = λ batch. done.sealed batch (I.sealed batch) none;
       timed = λ period periodic.
-          one_timed (g.C.Clock.tells c.args.clock.now) c.args.syncing.mode
-          c.args.syncing.since_ms before after l.last_ms c.commit_next-next.result.1
+          one_timed (g.C.Clock.tells r.clock.now) r.syncing.mode
+          r.syncing.since_ms before after l.last_ms c.commit_next-next.result.1
           (I.timed period periodic) (done.timed period periodic none);
       counted = record {
         left = line.others;
@@ -133,7 +128,7 @@ loop-prepared-preserved g c =
         counted = line.counted_others;
         limit = done.limit ∙ I.counted.limit;
         tallies = subst (λ (k : ℕ). MayTally k c.commit_next-next.result.2 after) I.same.1
-            (done.tallies none c.args.sizes line.line line.prepared
+            (done.tallies none line.line line.prepared
             (subst (λ (f : Option ℕ). IsCountedFor f line.line.mutation one.result)
             (sym I.counted.limit) line.counted)
             (subst (λ (k : ℕ). MayTally k l.tally before) (sym I.same.1) I.counted.tallies));
@@ -142,77 +137,54 @@ loop-prepared-preserved g c =
       count = let short = ap length steps.0 in omega (arith, short, steps.1, I.count);
     }
 
-pub returns-in-Some-fault-clause-same : goal.returns-in-Some-fault-clause-same
-returns-in-Some-fault-clause-same g c =
-    let same = c.commit_next-next.ensures.same in
-    (same.0, same.1 ∙ c.loop-prepared.invariant.same.1)
+pub commit_next-next-requires-clause-limit : goal.commit_next-next-requires-clause-limit
+commit_next-next-requires-clause-limit g c = c.loop-prepared.invariant.counted.limit
 
-pub returns-in-Some-fault-clause-logs : goal.returns-in-Some-fault-clause-logs
-returns-in-Some-fault-clause-logs g c = λ lines prepared.
+-- ---- one was refused
+
+pub returns-in-Some-fault-clause-committed : goal.returns-in-Some-fault-clause-committed
+returns-in-Some-fault-clause-committed g c =
+    let r = c.args.run.now in
     let l = c.loop-prepared in let I = l.invariant in let w = c.args.seat.member.number in
+    let next = c.commit_next-next in let done = next.ensures in
     let before = (view_of l.seat.member).trail in
-    let after = (view_of c.commit_next-next.result.0.member).trail in
-    stopped_with c.args.sizes w lines c.in-Some.prepared c.next.new.self.rest.items before after
-    c.in-Some-fault.fault
-    (subst (λ (k : ℕ). MayAddWrite k c.in-Some.prepared before after) I.same.1
-    c.commit_next-next.ensures.may)
-    (subst (λ (ps : List Prepared). GoesOn c.args.sizes w lines ps (logged_by l.seat.member))
-    c.in-Some.ensures.steps.0 (I.goes lines prepared))
-
-pub returns-in-Some-fault-clause-why : goal.returns-in-Some-fault-clause-why
-returns-in-Some-fault-clause-why g c =
-    subst (λ (f : Option WriteFault).
-    KnowsWhy c.args.path.now.table.size f c.commit_next-next.result.0) c.in-Some-fault.is
-    c.commit_next-next.ensures.why
+    let after = (view_of next.result.0.member).trail in
+    let rest = c.next.new.self.rest.items in
+    let steps = c.in-Some.ensures.steps.0 in
+    record {
+      same = (done.same.0, done.same.1 ∙ I.same.1);
+      logs = λ lines prepared.
+          stopped_with r.sizes w lines c.in-Some.prepared rest before after c.in-Some-fault.fault
+          (subst (λ (k : ℕ). MayAddWrite k c.in-Some.prepared before after) I.same.1 done.may)
+          (subst (λ (ps : List Prepared). GoesOn r.sizes w lines ps (logged_by l.seat.member))
+          steps (I.goes lines prepared));
+      why = subst (λ (f : Option WriteFault). KnowsWhy r.path.now.table.size f next.result.0)
+          c.in-Some-fault.is done.why;
+      rows = subst (MayLack r.flush_at) c.in-Some-fault.is
+          (subst (λ (f : Option ℕ). MayLack f next.result.3) I.counted.limit done.rows);
+      waited = λ batch. done.waited batch (I.sealed batch);
+      timed = λ period periodic none. absurd (none-some c.in-Some-fault.fault (sym none));
+      paid =
+          let one = c.next-in-loop-prepared in
+          let counts = l.counts.rest.items in
+          let now = one.new.self.rest.items in
+          let taken = takes_next counts now l.counts.rest.len one.new.self.rest.len one.result
+          I.left one.ensures.items one.ensures.cases in
+          let line = next_line r.sizes w r.flush_at c.in-Some.prepared rest counts now one.result
+          l.tally before
+          (subst (λ (ps : List Prepared). GoesCounted r.sizes w r.flush_at ps counts l.tally
+          before) steps I.counted) taken.0 in
+          subst (λ (f : Option ℕ). ArePaid f w after) I.counted.limit
+          (subst (λ (k : ℕ). ArePaid (limit_of l.tally) k after) I.same.1
+          (done.paid line.line line.prepared
+          (subst (λ (f : Option ℕ). IsCountedFor f line.line.mutation one.result)
+          (sym I.counted.limit) line.counted)
+          (subst (λ (k : ℕ). MayTally k l.tally before) (sym I.same.1) I.counted.tallies)));
+    }
 
 pub returns-in-Some-fault-clause-sealed : goal.returns-in-Some-fault-clause-sealed
 returns-in-Some-fault-clause-sealed g c = λ batch none.
     absurd (none-some c.in-Some-fault.fault (sym none))
-
-pub returns-in-Some-fault-clause-waited : goal.returns-in-Some-fault-clause-waited
-returns-in-Some-fault-clause-waited g c = λ batch.
-    c.commit_next-next.ensures.waited batch (c.loop-prepared.invariant.sealed batch)
-
-pub returns-in-Some-fault-clause-timed : goal.returns-in-Some-fault-clause-timed
-returns-in-Some-fault-clause-timed g c = λ period periodic none.
-    absurd (none-some c.in-Some-fault.fault (sym none))
-
-pub returns-clause-timed : goal.returns-clause-timed
-returns-clause-timed g c = λ period periodic none.
-    (c.loop-prepared.last_ms, c.loop-prepared.invariant.timed period periodic)
-
-pub returns-clause-sealed : goal.returns-clause-sealed
-returns-clause-sealed g c = λ batch none. c.loop-prepared.invariant.sealed batch
-
-pub returns-clause-waited : goal.returns-clause-waited
-returns-clause-waited g c = λ batch.
-    let l = c.loop-prepared in
-    all_earlier (view_of l.seat.member).trail (l.invariant.sealed batch)
-
-pub returns-clause-same : goal.returns-clause-same
-returns-clause-same g c = c.loop-prepared.invariant.same
-
-pub returns-clause-logs : goal.returns-clause-logs
-returns-clause-logs g c = λ lines prepared.
-    let l = c.loop-prepared in let I = l.invariant in
-    let rest = l.prepared-iterator.rest.items in
-    ends c.args.sizes c.args.seat.member.number lines rest (logged_by l.seat.member) None
-    (I.goes lines prepared)
-    (λ same. nil_from_length rest (omega (arith, c.in-None.ensures.steps.0, I.count)))
-
-pub commit_next-next-requires-clause-files : goal.commit_next-next-requires-clause-files
-commit_next-next-requires-clause-files g c =
-    subst (λ (f : Option ℕ). IsSome f → c.args.path.now.table.size.files ≡ true)
-    (sym c.loop-prepared.invariant.counted.limit) c.requires.files
-
-pub commit_next-next-requires-clause-tables : goal.commit_next-next-requires-clause-tables
-commit_next-next-requires-clause-tables g c = sym c.requires.sized.tables ∙ c.requires.tables
-
-pub returns-in-Some-fault-clause-rows : goal.returns-in-Some-fault-clause-rows
-returns-in-Some-fault-clause-rows g c =
-    subst (MayLack c.args.flush_at) c.in-Some-fault.is
-    (subst (λ (f : Option ℕ). MayLack f c.commit_next-next.result.3)
-    c.loop-prepared.invariant.counted.limit c.commit_next-next.ensures.rows)
 
 pub returns-in-Some-fault-clause-limit : goal.returns-in-Some-fault-clause-limit
 returns-in-Some-fault-clause-limit g c =
@@ -222,35 +194,29 @@ pub returns-in-Some-fault-clause-tallies : goal.returns-in-Some-fault-clause-tal
 returns-in-Some-fault-clause-tallies g c = λ none.
     absurd (none-some c.in-Some-fault.fault (sym none))
 
-pub returns-in-Some-fault-clause-paid : goal.returns-in-Some-fault-clause-paid
-returns-in-Some-fault-clause-paid g c =
+-- ---- none was
+
+pub returns-clause-committed : goal.returns-clause-committed
+returns-clause-committed g c =
+    let r = c.args.run.now in
     let l = c.loop-prepared in let I = l.invariant in let w = c.args.seat.member.number in
-    let before = (view_of l.seat.member).trail in
-    let after = (view_of c.commit_next-next.result.0.member).trail in
-    let one = c.next-in-loop-prepared in
-    let counts = l.counts.rest.items in
-    let now = one.new.self.rest.items in
-    let taken = takes_next counts now l.counts.rest.len one.new.self.rest.len one.result I.left
-    one.ensures.items one.ensures.cases in
-    let line = next_line c.args.sizes w c.args.flush_at c.in-Some.prepared
-    c.next.new.self.rest.items counts now one.result l.tally before
-    (subst (λ (ps : List Prepared). GoesCounted c.args.sizes w c.args.flush_at ps counts l.tally
-    before) c.in-Some.ensures.steps.0 I.counted) taken.0 in
-    subst (λ (f : Option ℕ). ArePaid f w after) I.counted.limit
-    (subst (λ (k : ℕ). ArePaid (limit_of l.tally) k after) I.same.1
-    (c.commit_next-next.ensures.paid c.args.sizes line.line line.prepared
-    (subst (λ (f : Option ℕ). IsCountedFor f line.line.mutation one.result)
-    (sym I.counted.limit) line.counted)
-    (subst (λ (k : ℕ). MayTally k l.tally before) (sym I.same.1) I.counted.tallies)))
-
-pub returns-clause-paid : goal.returns-clause-paid
-returns-clause-paid g c =
-    let l = c.loop-prepared in let I = l.invariant.counted in let w = c.args.seat.member.number in
     let trail = (view_of l.seat.member).trail in
-    subst (λ (f : Option ℕ). ArePaid f w trail) I.limit (may_paid w l.tally trail I.tallies)
+    let rest = l.prepared-iterator.rest.items in
+    record {
+      same = I.same;
+      logs = λ lines prepared.
+          ends r.sizes w lines rest (logged_by l.seat.member) None (I.goes lines prepared)
+          (λ same. nil_from_length rest (omega (arith, c.in-None.ensures.steps.0, I.count)));
+      why = tt;
+      rows = no_fault r.flush_at;
+      waited = λ batch. all_earlier trail (I.sealed batch);
+      timed = λ period periodic none. (l.last_ms, I.timed period periodic);
+      paid = subst (λ (f : Option ℕ). ArePaid f w trail) I.counted.limit
+          (may_paid w l.tally trail I.counted.tallies);
+    }
 
-pub returns-clause-rows : goal.returns-clause-rows
-returns-clause-rows g c = no_fault c.args.flush_at
+pub returns-clause-sealed : goal.returns-clause-sealed
+returns-clause-sealed g c = λ batch none. c.loop-prepared.invariant.sealed batch
 
 pub returns-clause-limit : goal.returns-clause-limit
 returns-clause-limit g c = c.loop-prepared.invariant.counted.limit

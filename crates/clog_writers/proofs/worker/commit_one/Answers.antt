@@ -33,46 +33,51 @@ returns-in-None-clause-same g c =
 
 pub returns-in-None-clause-grown : goal.returns-in-None-clause-grown
 returns-in-None-clause-grown g c =
-    let size = c.args.path.now.table.size in
+    let r = c.args.run.now in
+    let size = r.path.now.table.size in
     let w = c.args.seat.member.number in
     let before = (view_of c.args.seat.member).trail in
     let v = view_of c.commit-seat.result.0.member in
     both before v.trail (view_of c.sync_when_due.result.0.member).trail
-    (commit_grows size w before c.args.prepared v c.args.path.now.mode c.commit-seat.result.1
+    (commit_grows size w before c.args.prepared v r.path.now.mode c.commit-seat.result.1
     c.commit-seat.ensures.committed) c.sync_when_due.ensures.keeps.2
 
 pub returns-in-None-clause-opened : goal.returns-in-None-clause-opened
 returns-in-None-clause-opened g c = λ t.
+    let r = c.args.run.now in
     c.sync_when_due.ensures.opened t
-    ∙ commit_opens c.args.path.now.table.size c.args.seat.member.number
+    ∙ commit_opens r.path.now.table.size c.args.seat.member.number
     (view_of c.args.seat.member).trail c.args.prepared (view_of c.commit-seat.result.0.member)
-    c.args.path.now.mode c.commit-seat.result.1 c.commit-seat.ensures.committed t
+    r.path.now.mode c.commit-seat.result.1 c.commit-seat.ensures.committed t
 
 pub returns-in-None-clause-logged : goal.returns-in-None-clause-logged
 returns-in-None-clause-logged g c = λ none.
-    let size = c.args.path.now.table.size in
+    let r = c.args.run.now in
+    let size = r.path.now.table.size in
     let w = c.args.seat.member.number in
     let before = (view_of c.args.seat.member).trail in
     let v = view_of c.commit-seat.result.0.member in
     adds_on w c.args.prepared before v.trail (view_of c.sync_when_due.result.0.member).trail
     c.sync_when_due.ensures.keeps.1
-    (where_logged size w before c.args.prepared v c.args.path.now.mode c.commit-seat.result.1
+    (where_logged size w before c.args.prepared v r.path.now.mode c.commit-seat.result.1
     c.commit-seat.ensures.committed (sym c.refusal_in.ensures ∙ c.in-None.is))
 
 pub returns-in-None-clause-may : goal.returns-in-None-clause-may
 returns-in-None-clause-may g c =
-    let size = c.args.path.now.table.size in
+    let r = c.args.run.now in
+    let size = r.path.now.table.size in
     let w = c.args.seat.member.number in
     let before = (view_of c.args.seat.member).trail in
     let v = view_of c.commit-seat.result.0.member in
     may_on w c.args.prepared before v.trail (view_of c.sync_when_due.result.0.member).trail
     c.sync_when_due.ensures.keeps.1
-    (may_add size w before c.args.prepared v c.args.path.now.mode c.commit-seat.result.1
+    (may_add size w before c.args.prepared v r.path.now.mode c.commit-seat.result.1
     c.commit-seat.ensures.committed)
 
 pub returns-in-None-clause-sealed : goal.returns-in-None-clause-sealed
 returns-in-None-clause-sealed g c = λ batch all none.
-    let size = c.args.path.now.table.size in
+    let r = c.args.run.now in
+    let size = r.path.now.table.size in
     let w = c.args.seat.member.number in
     let before = (view_of c.args.seat.member).trail in
     let v = view_of c.commit-seat.result.0.member in
@@ -80,11 +85,13 @@ returns-in-None-clause-sealed g c = λ batch all none.
     sealed_on v.trail (view_of c.sync_when_due.result.0.member).trail keeps.1 keeps.2
     (one_sealed size w before c.args.prepared v c.commit-seat.result.1
     (subst (λ (m : SyncCore). IsCommitted m size w before c.args.prepared c.commit-seat.result.1 v)
-    batch c.commit-seat.ensures.committed) (sym c.refusal_in.ensures ∙ c.in-None.is) all)
+    (r.mode ∙ batch) c.commit-seat.ensures.committed)
+    (sym c.refusal_in.ensures ∙ c.in-None.is) all)
 
 pub returns-in-None-clause-waited : goal.returns-in-None-clause-waited
 returns-in-None-clause-waited g c = λ batch all.
-    let size = c.args.path.now.table.size in
+    let r = c.args.run.now in
+    let size = r.path.now.table.size in
     let w = c.args.seat.member.number in
     let before = (view_of c.args.seat.member).trail in
     let v = view_of c.commit-seat.result.0.member in
@@ -94,21 +101,23 @@ returns-in-None-clause-waited g c = λ batch all.
     (sealed_on v.trail after keeps.1 keeps.2
     (one_sealed size w before c.args.prepared v c.commit-seat.result.1
     (subst (λ (m : SyncCore). IsCommitted m size w before c.args.prepared c.commit-seat.result.1 v)
-    batch c.commit-seat.ensures.committed) (sym c.refusal_in.ensures ∙ c.in-None.is) all))
+    (r.mode ∙ batch) c.commit-seat.ensures.committed)
+    (sym c.refusal_in.ensures ∙ c.in-None.is) all))
 
 pub returns-in-None-clause-timed : goal.returns-in-None-clause-timed
 returns-in-None-clause-timed g c = λ period periodic none.
-    let size = c.args.path.now.table.size in
+    let r = c.args.run.now in
+    let size = r.path.now.table.size in
     let w = c.args.seat.member.number in
     let before = (view_of c.args.seat.member).trail in
     let then = c.commit-seat.result.0 in
     let v = view_of then.member in
     let due = c.sync_when_due in
-    times_write (g.C.Clock.tells c.args.clock.now) c.args.mode c.args.last_ms before then
+    times_write (g.C.Clock.tells r.clock.now) r.syncing.mode c.args.last_ms before then
     due.result.0 due.result.1 due.result.2
     (logs_last size w before c.args.prepared v period c.commit-seat.result.1
     (subst (λ (m : SyncCore). IsCommitted m size w before c.args.prepared c.commit-seat.result.1 v)
-    (c.requires.mode ∙ periodic) c.commit-seat.ensures.committed)
+    (r.mode ∙ periodic) c.commit-seat.ensures.committed)
     (sym c.refusal_in.ensures ∙ c.in-None.is))
     none due.ensures.keeps.1 due.ensures.keeps.2 (due.ensures.due period periodic)
 
@@ -116,15 +125,17 @@ returns-in-None-clause-timed g c = λ period periodic none.
 
 pub returns-in-Some-clause-grown : goal.returns-in-Some-clause-grown
 returns-in-Some-clause-grown g c =
-    commit_grows c.args.path.now.table.size c.args.seat.member.number
+    let r = c.args.run.now in
+    commit_grows r.path.now.table.size c.args.seat.member.number
     (view_of c.args.seat.member).trail c.args.prepared (view_of c.commit-seat.result.0.member)
-    c.args.path.now.mode c.commit-seat.result.1 c.commit-seat.ensures.committed
+    r.path.now.mode c.commit-seat.result.1 c.commit-seat.ensures.committed
 
 pub returns-in-Some-clause-opened : goal.returns-in-Some-clause-opened
 returns-in-Some-clause-opened g c =
-    commit_opens c.args.path.now.table.size c.args.seat.member.number
+    let r = c.args.run.now in
+    commit_opens r.path.now.table.size c.args.seat.member.number
     (view_of c.args.seat.member).trail c.args.prepared (view_of c.commit-seat.result.0.member)
-    c.args.path.now.mode c.commit-seat.result.1 c.commit-seat.ensures.committed
+    r.path.now.mode c.commit-seat.result.1 c.commit-seat.ensures.committed
 
 pub returns-in-Some-clause-rows : goal.returns-in-Some-clause-rows
 returns-in-Some-clause-rows g c =
@@ -140,21 +151,23 @@ returns-in-Some-clause-logged g c = λ none. absurd (none-some c.in-Some.fault (
 
 pub returns-in-Some-clause-may : goal.returns-in-Some-clause-may
 returns-in-Some-clause-may g c =
-    may_add c.args.path.now.table.size c.args.seat.member.number
+    let r = c.args.run.now in
+    may_add r.path.now.table.size c.args.seat.member.number
     (view_of c.args.seat.member).trail c.args.prepared (view_of c.commit-seat.result.0.member)
-    c.args.path.now.mode c.commit-seat.result.1 c.commit-seat.ensures.committed
+    r.path.now.mode c.commit-seat.result.1 c.commit-seat.ensures.committed
 
 pub returns-in-Some-clause-why : goal.returns-in-Some-clause-why
 returns-in-Some-clause-why g c =
-    let size = c.args.path.now.table.size in
+    let r = c.args.run.now in
+    let size = r.path.now.table.size in
     let p = c.requires.prepared in
-    let is = p.3 in
-    let fits = is.fits in let long = is.size in let same = p.5 in
+    let is = p.2 in
+    let fits = is.fits in let long = is.size in let same = r.sized.capacity in
     let small : c.args.prepared.size ≤ size.capacity / 2 = omega (arith, fits, long, same) in
     subst (λ (f : Option WriteFault). KnowsWhy size f c.commit-seat.result.0)
     (sym c.refusal_in.ensures ∙ c.in-Some.is)
     (commit_why size c.args.seat.member.number (view_of c.args.seat.member).trail c.args.prepared
-    c.commit-seat.result.0 small c.args.path.now.mode c.commit-seat.result.1
+    c.commit-seat.result.0 small r.path.now.mode c.commit-seat.result.1
     c.commit-seat.ensures.committed)
 
 pub returns-in-Some-clause-sealed : goal.returns-in-Some-clause-sealed
@@ -163,10 +176,11 @@ returns-in-Some-clause-sealed g c = λ batch all none.
 
 pub returns-in-Some-clause-waited : goal.returns-in-Some-clause-waited
 returns-in-Some-clause-waited g c = λ batch all.
-    let size = c.args.path.now.table.size in
+    let r = c.args.run.now in
+    let size = r.path.now.table.size in
     let w = c.args.seat.member.number in
     let before = (view_of c.args.seat.member).trail in
     let v = view_of c.commit-seat.result.0.member in
     one_waits size w before c.args.prepared v c.commit-seat.result.1
     (subst (λ (m : SyncCore). IsCommitted m size w before c.args.prepared c.commit-seat.result.1 v)
-    batch c.commit-seat.ensures.committed) all
+    (r.mode ∙ batch) c.commit-seat.ensures.committed) all
