@@ -13,7 +13,7 @@ use std::time::Duration;
 const LINE: &[u8] =
     b"{\"key\":\"ab\",\"updates\":[{\"table\":0,\"column\":\"cd\",\"ts\":5,\"value\":null}]}\n";
 
-/// A `HoldGate` that counts what writer 0 deposits, and holds it half a second longer each time.
+/// A `HoldGate` that counts what writer 0 deposits, and holds it some seconds longer each time.
 /// Meanwhile writer 1, whose commit has returned, is refused the sync behind it.
 #[derive(Drop)]
 struct CountingGate<R: rt::Clock + Drop> {
@@ -37,7 +37,7 @@ impl<R: rt::Clock + Drop> Gate for CountingGate<R> {
         self.hold.reached(writer, point);
         if writer.0 == 0 && point == Point::Deposited {
             self.deposits.fetch_add(1, Ordering::SeqCst);
-            sleep(&self.rt, Duration::from_millis(500));
+            sleep(&self.rt, Duration::from_secs(3));
         }
     }
 }
