@@ -1,13 +1,21 @@
 //! A memtable is read whole behind its passed barrier, and retired: with a table file where something
-//! was seen. Both turns are held, but while what was written is gathered: then it is the table's
-//! turn alone, so that commits that wait for a sync, and flushes of other tables, go on.
-ghost use Rattle.std.specs.Prelude.{◌≡◌, ◌<◌, true, None};
+//! was seen. Both turns are held, except while what was written is gathered: for that the table's
+//! turn is enough, so commits that wait for a sync, and flushes of other tables, go on meanwhile.
+ghost use Rattle.std.specs.Prelude.{◌≡◌, ◌≢◌, ◌<◌, ℕ, true, None, Some};
+ghost use Rattle.path_core.specs.declared.seat.Switching.TheVariants.{Settled};
+ghost use Rattle.path_core.specs.Parts.{stage_of};
 ghost use Rattle.path_rule.specs.Lasts.{shows_of};
 ghost use Rattle.path_rule.specs.Members.{view_of, part_of, hands_of, IsOf};
-ghost use Rattle.path_rule.specs.Switches.{FlushOldest, MayBeginRead};
-ghost use Rattle.write_path.specs.FlushFilings.{FilingSteps, HasBoth, Retired};
+ghost use Rattle.path_rule.specs.Switches.{FlushNewest, FlushOldest, MayBeginRead};
+ghost use Rattle.write_path.specs.FlushFilings.{
+  FilingSteps,
+  HasBoth,
+  PassesLeft,
+  Retired,
+  unless_retired,
+};
 ghost use Rattle.write_path.specs.FlushGathers.{HasGathered};
-ghost use Rattle.write_path.specs.FlushTurns.{HoldsBoth};
+ghost use Rattle.write_path.specs.FlushTurns.{HoldsBoth, HoldsTable};
 ghost use Rattle.write_path.specs.Tries.{Stays};
 
 use crate::flush::Flush;
@@ -18,6 +26,20 @@ use path_core::Keeper;
 use path_rule::Member;
 use std::alloc::{Allocator, Global};
 use std::sync::Wait;
+
+// What is answered behind a memtable that was left, where it was not retired.
+fn unless_retired(answer: Flush) -> Option<Flush>
+    ensures { result ≡ unless_retired answer }
+{
+    match answer {
+        Flush::Flushed { .. } => None,
+        Flush::Empty(_) => None,
+        Flush::Busy(_) => Some(answer),
+        Flush::Rows(_, _) => Some(answer),
+        Flush::Stopped { .. } => Some(answer),
+        Flush::OutOfMemory => Some(answer),
+    }
+}
 
 impl<K: Keeper, A: Allocator> WritePath<K, A> {
     // Reads a memtable whole, behind its passed barrier. The Sync turn is given back for that, and
@@ -83,5 +105,34 @@ impl<K: Keeper, A: Allocator> WritePath<K, A> {
             }
             Gathered::OutOfMemory => (self.end_reading(member, table), Flush::OutOfMemory),
         }
+    }
+
+    // Retires a memtable that an earlier flush or switch left. Where it cannot be, or the keeper
+    // stops behind its file, that is answered.
+    pub(crate) fn flush_left<R: Wait>(
+        &self,
+        rt: &R,
+        alloc: Global,
+        member: Member<K>,
+        table: Table,
+        memtable: u64,
+    ) -> (Member<K>, Option<Flush>)
+        requires table { IsOf self.now.table.table.shared.table_id self.now.table.size member }
+        requires files { self.now.table.size.files ≡ true }
+        requires there { memtable < 256 }
+        requires holds { HoldsTable table.0 member.seat.me }
+        requires settled { stage_of (part_of member) table.0 ≡ Some Settled }
+        requires left { FlushOldest table.0 (part_of member) memtable
+            × ((n : ℕ) × FlushNewest table.0 (part_of member) n × (memtable ≢ n)) }
+        ensures same { Stays self.now.table.table.shared.table_id self.now.table.size member
+            result.0 }
+        ensures holds { HoldsTable table.0 result.0.seat.me }
+        ensures settled { stage_of (part_of result.0) table.0 ≡ Some Settled }
+        ensures passed { PassesLeft member.number table.0 memtable (view_of member) result.1
+            (view_of result.0) }
+    {
+        let member = self.take_sync_beside(rt, member, table);
+        let (member, answer) = self.retire_memtable(rt, alloc, member, table, memtable);
+        (self.give_sync_beside(member, table), unless_retired(answer))
     }
 }

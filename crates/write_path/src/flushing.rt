@@ -5,14 +5,12 @@
 //! behind that. Where something lay there the log is made lasting up to the memtable's bound, with
 //! that turn given up and taken between rounds, and the keeper puts a table file; the memtable is
 //! retired, and segments that files hold go. Then the seat gives both turns back.
-ghost use Rattle.std.specs.Prelude.{◌≡◌, ◌≢◌, ◌+◌, ◌<◌, ℕ, true, Some, MatchResult};
+ghost use Rattle.std.specs.Prelude.{◌≡◌, ◌+◌, ◌<◌, ℕ, true, Some, MatchResult};
 ghost use Rattle.path_core.specs.declared.seat.Switching.TheVariants.{Settled};
 ghost use Rattle.path_core.specs.Parts.{stage_of};
 ghost use Rattle.path_rule.specs.declared.view.View.{View};
-ghost use Rattle.path_rule.specs.Lasts.{shows_of};
 ghost use Rattle.path_rule.specs.Members.{view_of, part_of, IsOf};
 ghost use Rattle.path_rule.specs.Switches.{FlushNewest, FlushOldest};
-ghost use Rattle.write_path.specs.FlushFilings.{PassesLeft, unless_retired};
 ghost use Rattle.write_path.specs.Flushed.{Flushes, GotTurn};
 ghost use Rattle.write_path.specs.FlushSteps.{FindsAlone, QuietSteps, UnswitchedSteps};
 ghost use Rattle.write_path.specs.FlushTurns.{HoldsTable};
@@ -31,50 +29,7 @@ use std::sync::Wait;
 // How many groups of the write order there are words for.
 const GROUPS: u64 = 65_536;
 
-// What is answered behind a memtable that was left, where it was not retired.
-fn unless_retired(answer: Flush) -> Option<Flush>
-    ensures { result ≡ unless_retired answer }
-{
-    match answer {
-        Flush::Flushed { .. } => None,
-        Flush::Empty(_) => None,
-        Flush::Busy(_) => Some(answer),
-        Flush::Rows(_, _) => Some(answer),
-        Flush::Stopped { .. } => Some(answer),
-        Flush::OutOfMemory => Some(answer),
-    }
-}
-
 impl<K: Keeper, A: Allocator> WritePath<K, A> {
-    // Retires a memtable that an earlier flush or switch left. Where it cannot be, or the keeper
-    // stops behind its file, that is answered.
-    fn flush_left<R: Wait>(
-        &self,
-        rt: &R,
-        alloc: Global,
-        member: Member<K>,
-        table: Table,
-        memtable: u64,
-    ) -> (Member<K>, Option<Flush>)
-        requires table { IsOf self.now.table.table.shared.table_id self.now.table.size member }
-        requires files { self.now.table.size.files ≡ true }
-        requires there { memtable < 256 }
-        requires holds { HoldsTable table.0 member.seat.me }
-        requires settled { stage_of (part_of member) table.0 ≡ Some Settled }
-        requires left { FlushOldest table.0 (part_of member) memtable
-            × ((n : ℕ) × FlushNewest table.0 (part_of member) n × (memtable ≢ n)) }
-        ensures same { Stays self.now.table.table.shared.table_id self.now.table.size member
-            result.0 }
-        ensures holds { HoldsTable table.0 result.0.seat.me }
-        ensures settled { stage_of (part_of result.0) table.0 ≡ Some Settled }
-        ensures passed { PassesLeft member.number table.0 memtable (view_of member) result.1
-            (view_of result.0) }
-    {
-        let member = self.take_sync_beside(rt, member, table);
-        let (member, answer) = self.retire_memtable(rt, alloc, member, table, memtable);
-        (self.give_sync_beside(member, table), unless_retired(answer))
-    }
-
     // Switches the newest memtable, which was found to be the only one in use, and retires it.
     fn flush_newest<R: Wait>(
         &self,
