@@ -27,8 +27,9 @@ ghost use Rattle.clog_closing.specs.Gaps.{StandApart};
 ghost use Rattle.sync_core.specs.declared.SyncCore.TheVariants.{Batch};
 ghost use Rattle.write_path.specs.Opened.{AreNew, ShowsAsBefore, sized_for};
 
-use crate::crew::{commit_all, end_all, seat_all};
+use crate::crew::{commit_all, seat_all};
 use crate::fault::WriteFault;
+use crate::returning::end_all;
 use crate::syncing::Syncing;
 use crate::worker::Worker;
 use clog_base::{OutOfMemory, Sizes};

@@ -27,6 +27,7 @@ pub(crate) struct Run<'a, K: Keeper, G, C> {
     pub(crate) clock: &'a C,
     /// Whether one of them has had a fault.
     pub(crate) halt: Halt,
+    // The path was opened so: of these sizes, in this mode, and for table files where they flush.
     ghost sized: { IsSizedAs path.now.table.size sizes },
     ghost mode: { path.now.mode ≡ syncing.mode },
     ghost tables: { sizes.tables ≡ most_tables },

@@ -14,7 +14,7 @@ ghost use Rattle.path_rule.specs.Members.{IsOf, view_of};
 ghost use Rattle.sync_core.specs.declared.SyncCore.TheVariants.{Batch, Periodic};
 
 use crate::fault::WriteFault;
-use crate::flushing::flush_rest;
+use crate::finishing::flush_rest;
 use crate::run::Run;
 use crate::tally::{LineCounts, UpdateTally, new_tally};
 use crate::worker::{Worker, commit_next};

@@ -6,7 +6,7 @@ use Rattle.clog_writers.specs.Crews.{HaveLogged}
 use Rattle.clog_writers.specs.Sealing.{HaveWaited, WaitShares}
 use Rattle.clog_writers.specs.Shares.{LacksMemoryAtMost}
 use Rattle.clog_writers.proofs.Gathering.{Gathers}
-use Rattle.clog_writers.proofs.crew.end_all.Given as goal
+use Rattle.clog_writers.proofs.returning.end_all.Given as goal
 
 abbrev pub invariant-loop-worker : goal.invariant-loop-worker
 invariant-loop-worker g l = let t = l.path.table in record {

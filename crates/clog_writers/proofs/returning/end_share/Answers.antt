@@ -13,7 +13,7 @@ use Rattle.clog_writers.proofs.Opening.{sync_opens}
 use Rattle.clog_writers.proofs.Paying.{still_opened}
 use Rattle.clog_writers.proofs.Tallying.{flushed_on}
 use Rattle.clog_writers.proofs.Timing.{knows_synced}
-use Rattle.clog_writers.proofs.crew.end_share.Goals as goal
+use Rattle.clog_writers.proofs.returning.end_share.Goals as goal
 
 pub returns-clause-ends : goal.returns-clause-ends
 returns-clause-ends g c = λ flush number lines logged.

@@ -5,7 +5,7 @@ use Rattle.clog_writers.specs.Crews.{KnowsWhy}
 use Rattle.clog_writers.specs.Tallied.{ArePaid}
 use Rattle.clog_writers.proofs.Keeping.{list_first, list_on}
 use Rattle.clog_writers.proofs.Tallying.{all_flushed, all_paid, paid_then, tallies_then}
-use Rattle.clog_writers.proofs.flushing.flush_until_none.Goals as goal
+use Rattle.clog_writers.proofs.finishing.flush_until_none.Goals as goal
 
 pub loop-init : goal.loop-init
 loop-init g c = let t = c.args.path.now.table in record {

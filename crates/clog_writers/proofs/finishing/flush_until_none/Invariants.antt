@@ -2,7 +2,7 @@ use Rattle.std.proofs.Common.{◌≡◌}
 use Rattle.path_rule.specs.Members.{view_of}
 use Rattle.write_path.specs.Commits.{KeepsList}
 use Rattle.clog_writers.specs.Tallies.{Tallies}
-use Rattle.clog_writers.proofs.flushing.flush_until_none.Given as goal
+use Rattle.clog_writers.proofs.finishing.flush_until_none.Given as goal
 
 abbrev pub invariant-loop : goal.invariant-loop
 invariant-loop g l = let first = l.fn.seat.member in let t = l.path.table in record {

@@ -32,7 +32,7 @@ use Rattle.clog_writers.proofs.Gathering.{
   none_gathered,
   one_gathered,
 }
-use Rattle.clog_writers.proofs.crew.end_all.Goals as goal
+use Rattle.clog_writers.proofs.returning.end_all.Goals as goal
 
 pub loop-worker-init : goal.loop-worker-init
 loop-worker-init g c =
