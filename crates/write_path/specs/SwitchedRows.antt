@@ -21,8 +21,12 @@ switched_at m key = step_of (Finalise 0 (record { 0 = 0 }) m) (key + 2 ^ 62)
 abbrev pub found_taken : List OwnStep
 found_taken = step_of (Look 0 (TurnWord (Flush (record { 0 = 0 })))) 1 ∷ []
 
+-- These were found as the least memtable that is not retired, and as the newest.
+abbrev pub found_both : ℕ → ℕ → List OwnStep
+found_both oldest newest = step_of (Look 0 (Newest (record { 0 = 0 }))) newest
+    ∷ step_of (Look 0 (CursorWord (OldestLive (record { 0 = 0 })))) oldest
+    ∷ []
+
 -- The newest memtable is this one, and so is the least one that is not retired.
 abbrev pub found_alone : ℕ → List OwnStep
-found_alone m = step_of (Look 0 (Newest (record { 0 = 0 }))) m
-    ∷ step_of (Look 0 (CursorWord (OldestLive (record { 0 = 0 })))) m
-    ∷ []
+found_alone m = found_both m m

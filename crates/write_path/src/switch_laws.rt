@@ -25,7 +25,7 @@ ghost use Rattle.write_path.specs.Ends.{writes_of};
 ghost use Rattle.write_path.specs.declared.switch.Row.TheVariants.{Memtables};
 ghost use Rattle.write_path.specs.Opens.{opens};
 ghost use Rattle.write_path.specs.Switched.{FindsLast};
-ghost use Rattle.write_path.specs.SwitchedRows.{found_alone, found_taken, switched_at};
+ghost use Rattle.write_path.specs.SwitchedRows.{found_alone, found_both, found_taken, switched_at};
 ghost use Rattle.write_path.specs.FlushSteps.{
   AreFlushSteps,
   Finalises,
@@ -66,6 +66,10 @@ pub fn what_a_switch_tells()
     ensures alone { SwitchesAlone 0 (switched_at 0 60 ++ found_alone 0) }
     ensures unlooked { ¬ SwitchesAlone 0 (switched_at 0 60) }
     ensures passed_over { ¬ SwitchesAlone 0 (switched_at 1 68 ++ found_alone 0) }
+    // Nor where another one is the least that is not retired, or the newest, or was found so later.
+    ensures left { ¬ SwitchesAlone 0 (switched_at 1 68 ++ found_both 0 1) }
+    ensures older { ¬ SwitchesAlone 0 (switched_at 0 60 ++ found_both 0 1) }
+    ensures late { ¬ SwitchesAlone 0 (found_alone 0 ++ switched_at 0 60) }
     ensures of_another { SwitchesAlone 1 (switched_at 0 60) }
 {}
 

@@ -62,6 +62,23 @@ returns-clause-passed_over c = λ S. ⊎_elim (λ x. absurd x)
     ⊎_elim (λ x. absurd x) (λ e. ⊎_elim (λ f. let q = f.1 in omega (arith, q))
     (λ h. ⊎_elim (λ f. let q = f.0 in cc) (λ x. absurd x) h) e) d) b) a) (S.0 refl).0
 
+pub returns-clause-left : goal.returns-clause-left
+returns-clause-left c = λ S. ⊎_elim (λ x. absurd x)
+    (λ a. ⊎_elim (λ f. let q = f.0 in cc) (λ b. ⊎_elim (λ x. absurd x) (λ d.
+    ⊎_elim (λ x. absurd x) (λ e. ⊎_elim (λ f. let q = f.0 in cc)
+    (λ h. ⊎_elim (λ f. let q = f.1 in omega (arith, q)) (λ x. absurd x) h) e) d) b) a) (S.0 refl).1
+
+pub returns-clause-older : goal.returns-clause-older
+returns-clause-older c = λ S. ⊎_elim (λ x. absurd x)
+    (λ a. ⊎_elim (λ f. let q = f.0 in cc) (λ b. ⊎_elim (λ x. absurd x) (λ d.
+    ⊎_elim (λ x. absurd x) (λ e. ⊎_elim (λ f. let q = f.1 in omega (arith, q))
+    (λ h. ⊎_elim (λ f. let q = f.0 in cc) (λ x. absurd x) h) e) d) b) a) (S.0 refl).0
+
+pub returns-clause-late : goal.returns-clause-late
+returns-clause-late c = λ S. ⊎_elim (λ x. absurd x) (λ a. ⊎_elim (λ f. let q = f.0 in cc)
+    (λ b. ⊎_elim (λ x. absurd x) (λ d. ⊎_elim (λ x. absurd x) (λ x. absurd x) d) b) a)
+    (S.1.1.0 refl).0
+
 pub returns-clause-of_another : goal.returns-clause-of_another
 returns-clause-of_another c = (
   λ of. absurd (omega (arith, of)),
