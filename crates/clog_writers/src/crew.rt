@@ -26,9 +26,9 @@ ghost use Rattle.clog_writers.specs.Timed.{TimeShares, TimesShare};
 ghost use Rattle.sync_core.specs.declared.SyncCore.TheVariants.{Batch, Periodic};
 ghost use Rattle.write_path.specs.Opened.{AreNew};
 
-use crate::halting::Halt;
 use crate::run::Run;
 use crate::share::commit_share;
+use crate::stop_flag::StopFlag;
 use crate::syncing::Syncing;
 use crate::worker::Worker;
 use clog_base::Sizes;
@@ -110,7 +110,7 @@ pub fn commit_all<'a, R: Threads + Wait + Sync, K: Keeper + Send, G: Gate + Sync
         flush_at,
         gate,
         clock,
-        halt: Halt::new(),
+        stop_flag: StopFlag::new(),
     };
     thread::for_each_mut(
         rt,

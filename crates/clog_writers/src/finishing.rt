@@ -10,7 +10,7 @@ ghost use Rattle.write_path.specs.Commits.{KeepsList};
 
 use crate::fault::WriteFault;
 use crate::flushing::flush_tables;
-use crate::halting::{Halt, halted};
+use crate::stop_flag::{StopFlag, stopped_for_another};
 use crate::tally::UpdateTally;
 use path_core::Keeper;
 use std::alloc::Global;
@@ -24,7 +24,7 @@ fn flush_until_none<R: Wait, K: Keeper>(
     rt: &R,
     alloc: Global,
     path: &WritePath<K, Global>,
-    halt: &Halt,
+    stop_flag: &StopFlag,
     seat: PathSeat<K>,
     tally: UpdateTally,
 ) -> (PathSeat<K>, Option<WriteFault>)
@@ -46,8 +46,8 @@ fn flush_until_none<R: Wait, K: Keeper>(
         if !tally.is_any_due() {
             return (seat, None);
         }
-        if halt.is_set() {
-            return (seat, Some(halted()));
+        if stop_flag.is_set() {
+            return (seat, Some(stopped_for_another()));
         }
         let (next, left, fault) = flush_tables(rt, alloc, path, seat, tally);
         seat = next;
@@ -68,7 +68,7 @@ pub(crate) fn flush_rest<R: Wait, K: Keeper>(
     rt: &R,
     alloc: Global,
     path: &WritePath<K, Global>,
-    halt: &Halt,
+    stop_flag: &StopFlag,
     seat: PathSeat<K>,
     tally: Option<UpdateTally>,
 ) -> (PathSeat<K>, Option<WriteFault>)
@@ -86,7 +86,7 @@ pub(crate) fn flush_rest<R: Wait, K: Keeper>(
         → ArePaid (limit_of tally) seat.member.number (view_of result.0.member).trail }
 {
     match tally {
-        Some(tally) => flush_until_none(rt, alloc, path, halt, seat, tally),
+        Some(tally) => flush_until_none(rt, alloc, path, stop_flag, seat, tally),
         None => (seat, None),
     }
 }

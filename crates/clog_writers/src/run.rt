@@ -1,16 +1,18 @@
-//! What all writers of a run have in common.
+//! What all writers of a run have in common: the path, when they sync and flush, and the flag by which
+//! the first fault stops them all.
 ghost use Rattle.std.specs.Prelude.{◌≡◌, IsSome, true};
 ghost use Rattle.clog_spec.specs.Sizes.{most_tables};
 ghost use Rattle.clog_writers.specs.Crews.{IsSizedAs};
 
-use crate::halting::Halt;
+use crate::stop_flag::StopFlag;
 use crate::syncing::Syncing;
 use clog_base::Sizes;
 use path_core::Keeper;
 use std::alloc::Global;
 use write_path::WritePath;
 
-/// What all writers of a run have in common, and none of them changes.
+/// What all writers of a run have in common. None of them changes it, but for the flag that the first
+/// fault sets.
 #[derive(Drop)]
 pub(crate) struct Run<'a, K: Keeper, G, C> {
     /// The path that they commit on.
@@ -26,7 +28,7 @@ pub(crate) struct Run<'a, K: Keeper, G, C> {
     /// It is asked for the moment behind each commit, in periodic mode.
     pub(crate) clock: &'a C,
     /// Whether one of them has had a fault.
-    pub(crate) halt: Halt,
+    pub(crate) stop_flag: StopFlag,
     // The path was opened so: of these sizes, in this mode, and for table files where they flush.
     ghost sized: { IsSizedAs path.now.table.size sizes },
     ghost mode: { path.now.mode ≡ syncing.mode },

@@ -98,7 +98,7 @@ fn commit_writes<R: Wait, K: Keeper, G: Gate, C: Clock>(
 {
     let (seat, tally, fault) = commit_lines(rt, alloc, run, seat, writes, counts);
     match fault {
-        None => flush_rest(rt, alloc, run.path, &run.halt, seat, tally),
+        None => flush_rest(rt, alloc, run.path, &run.stop_flag, seat, tally),
         Some(fault) => (seat, Some(fault)),
     }
 }
@@ -108,7 +108,7 @@ fn commit_writes<R: Wait, K: Keeper, G: Gate, C: Clock>(
 /// behind each at which the clock told that the period had passed, before the next one. With
 /// `flush_at` each table is flushed of which the writer has logged so many updates since its last
 /// finished flush of it, behind each write, and at the end until none is left.
-pub fn commit_share<R: Wait, K: Keeper, G: Gate, C: Clock>(
+pub(crate) fn commit_share<R: Wait, K: Keeper, G: Gate, C: Clock>(
     rt: &R,
     alloc: Global,
     run: &Run<'_, K, G, C>,
@@ -131,7 +131,7 @@ pub fn commit_share<R: Wait, K: Keeper, G: Gate, C: Clock>(
     match worker.seat.take() {
         Some(seat) => {
             let (seat, fault) = commit_writes(rt, alloc, run, seat, writes, counts);
-            run.halt.tell(fault);
+            run.stop_flag.tell(fault);
             worker.seat = Some(seat);
             worker.fault = fault;
         }

@@ -18,8 +18,8 @@ ghost use Rattle.write_path.specs.Writes.{IsPrepared};
 
 use crate::fault::WriteFault;
 use crate::flushing::flush_due;
-use crate::halting::halted;
 use crate::run::Run;
+use crate::stop_flag::stopped_for_another;
 use crate::syncing::sync_when_due;
 use crate::tally::{LineCounts, UpdateTally, tally_with};
 use clog_io::{Clock, Gate};
@@ -154,8 +154,8 @@ pub(crate) fn commit_next<R: Wait, K: Keeper, G: Gate, C: Clock>(
     ensures tried { result.3 ≡ None → MayTry (length (view_of seat.member).trail) result.2
         (view_of result.0.member).trail }
 {
-    if run.halt.is_set() {
-        return (seat, last_ms, tally, Some(halted()));
+    if run.stop_flag.is_set() {
+        return (seat, last_ms, tally, Some(stopped_for_another()));
     }
     let (seat, synced_ms, fault) = commit_one(rt, alloc, run, last_ms, seat, prepared);
     match fault {

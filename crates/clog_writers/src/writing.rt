@@ -120,7 +120,8 @@ fn disks_read_now<D: Disk>(_store: &Store<D>)
 /// its share; at `Ok`, and without `flush_at` once the changes go beyond appends, each image of now
 /// restores all lines. Each file that was there stands as it was.
 ///
-/// `OutOfMemory`: memory was refused for the path, by a sync or for the drain's table files;
+/// `OutOfMemory`: memory was refused for the path, by a sync or a flush, or for the drain's table
+/// files;
 /// `Spent`: the log has no further segment, so it may have at most two segments for each line;
 /// `Rows`: no further group for a sync's barrier, so there are at least 65,535 lines, or, with
 /// `flush_at`, no further memtable of a table, of which there are 256, so the lines have at least
@@ -142,8 +143,6 @@ pub fn write_plan<R: Threads + Wait + Sync, D: Disk + Send + Drop, G: Gate + Syn
     requires runs { store.notes.log.is_stopped ≡ false }
     requires sizes { sizes ≡ store.notes.sizes }
     requires tables { sizes.tables ≡ most_tables }
-    // At 0 each table would be due for ever, and no writer would come to its end.
-    requires some { (most : ℕ) → flush_at ≡ Some most → 1 ≤ most }
     requires plan { (mutations : List MutationOf) × IsPlanFor sizes flush_at mutations plan }
     ensures written { (mutations : List MutationOf) (options : ApplyOptions) (opened : Files)
         (made : List Change) → IsPlanFor sizes flush_at mutations plan

@@ -68,7 +68,7 @@ returns-then-is_set-clause-keeps g c = c.loop.invariant.keeps
 pub returns-then-is_set-clause-why : goal.returns-then-is_set-clause-why
 returns-then-is_set-clause-why g c =
     subst (λ (f : WriteFault). KnowsWhy c.args.path.now.table.size (Some f) c.loop.seat)
-    (sym c.halted.ensures) tt
+    (sym c.stopped_for_another.ensures) tt
 
 pub returns-then-is_set-clause-paid : goal.returns-then-is_set-clause-paid
 returns-then-is_set-clause-paid g c = λ all.

@@ -26,11 +26,11 @@ returns-then-is_set-clause-may g c = inr refl
 pub returns-then-is_set-clause-why : goal.returns-then-is_set-clause-why
 returns-then-is_set-clause-why g c =
     subst (λ (f : WriteFault). KnowsWhy c.args.run.now.path.now.table.size (Some f) c.args.seat)
-    (sym c.halted.ensures) tt
+    (sym c.stopped_for_another.ensures) tt
 
 pub returns-then-is_set-clause-rows : goal.returns-then-is_set-clause-rows
 returns-then-is_set-clause-rows g c =
-    subst (λ (f : WriteFault). MayLack (limit_of c.args.tally) (Some f)) (sym c.halted.ensures)
+    subst (λ (f : WriteFault). MayLack (limit_of c.args.tally) (Some f)) (sym c.stopped_for_another.ensures)
     (by_memory (limit_of c.args.tally))
 
 pub returns-then-is_set-clause-waited : goal.returns-then-is_set-clause-waited

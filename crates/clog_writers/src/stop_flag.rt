@@ -1,6 +1,7 @@
 //! The first fault of a writer ends the run of all: whoever has one tells it, and each other one
-//! looks in front of its next commit, or its next try to flush, and stops there. So a commit in
-//! hand is carried through, with the sync and the flushes that are due behind it.
+//! looks in front of its next commit, and at its end in front of each round of flushes, and stops
+//! there. So a commit in hand is carried through, with the sync and the flushes that are due behind
+//! it.
 ghost use Rattle.std.specs.Prelude.{◌≡◌};
 ghost use Rattle.clog_writers.specs.declared.fault.WriteFault.TheVariants.{
   OutOfMemory as no_memory,
@@ -12,14 +13,14 @@ use std::sync::atomic::{AtomicBool, Ordering};
 /// What the writers of a run share: whether one of them has had a fault. Another thread may tell
 /// one at any time, so no clause knows the answer.
 #[derive(Drop)]
-pub(crate) struct Halt {
+pub(crate) struct StopFlag {
     is_set: AtomicBool,
 }
 
-impl Halt {
+impl StopFlag {
     /// That of a run in which nobody has had a fault.
-    pub(crate) fn new() -> Halt {
-        Halt {
+    pub(crate) fn new() -> StopFlag {
+        StopFlag {
             is_set: AtomicBool::new(false),
         }
     }
@@ -40,7 +41,7 @@ impl Halt {
 /// The fault of a writer that has stopped for that of another one. Which one that was its own seat
 /// has not found, so it is the fault of which nothing is to be found. A run answers any other fault
 /// before this one (`first_of`), and where no writer has another one, memory is what was refused.
-pub(crate) fn halted() -> WriteFault
+pub(crate) fn stopped_for_another() -> WriteFault
     ensures { result ≡ no_memory }
 {
     WriteFault::OutOfMemory
