@@ -1,5 +1,5 @@
-//! What all writers of a run have in common: the path, when they sync and flush, and the flag by which
-//! the first fault stops them all.
+//! What all writers of a run have in common: the path, when they sync and flush, and the flag by
+//! which the first fault stops them all.
 ghost use Rattle.std.specs.Prelude.{◌≡◌, IsSome, true};
 ghost use Rattle.clog_spec.specs.Sizes.{most_tables};
 ghost use Rattle.clog_writers.specs.Crews.{IsSizedAs};
@@ -11,8 +11,8 @@ use path_core::Keeper;
 use std::alloc::Global;
 use write_path::WritePath;
 
-/// What all writers of a run have in common. None of them changes it, but for the flag that the first
-/// fault sets.
+/// What all writers of a run have in common. None of them changes it, but for the flag that the
+/// first fault sets.
 #[derive(Drop)]
 pub(crate) struct Run<'a, K: Keeper, G, C> {
     /// The path that they commit on.
