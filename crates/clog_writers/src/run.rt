@@ -10,7 +10,8 @@ use path_core::Keeper;
 use std::alloc::Global;
 use write_path::WritePath;
 
-/// What all writers of a run have in common, and none of them changes.
+/// What all writers of a run have in common. None of them changes it, but for `halt`, which the
+/// first fault sets.
 #[derive(Drop)]
 pub(crate) struct Run<'a, K: Keeper, G, C> {
     /// The path that they commit on.

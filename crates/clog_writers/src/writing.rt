@@ -142,8 +142,6 @@ pub fn write_plan<R: Threads + Wait + Sync, D: Disk + Send + Drop, G: Gate + Syn
     requires runs { store.notes.log.is_stopped ≡ false }
     requires sizes { sizes ≡ store.notes.sizes }
     requires tables { sizes.tables ≡ most_tables }
-    // At 0 each table would be due for ever, and no writer would come to its end.
-    requires some { (most : ℕ) → flush_at ≡ Some most → 1 ≤ most }
     requires plan { (mutations : List MutationOf) × IsPlanFor sizes flush_at mutations plan }
     ensures written { (mutations : List MutationOf) (options : ApplyOptions) (opened : Files)
         (made : List Change) → IsPlanFor sizes flush_at mutations plan
