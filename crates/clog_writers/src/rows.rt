@@ -27,13 +27,16 @@ pub fn a_line_comes_behind_the_earlier_ones_of_its_writer()
 
 /// One line has one update of table 0, and its writer flushes at one. Where it has retired a
 /// memtable that is final at the entry's end, none is left. It is left where no memtable is
-/// retired, or one that is final in front of that end.
+/// retired, or one that is final in front of that end; no second one is. At a limit of two the one
+/// update does not pay for the memtable that the flush has opened.
 pub fn a_flush_leaves_no_update_below_its_bound()
     ensures writes { reverse (writes_of (flushed_one 60)) ≡ the_note ∷ [] }
     ensures flushed { IsTallied 1 0 0 0 (the_note ∷ []) (flushed_one 60) }
     ensures unretired { IsTallied 1 0 0 1 (the_note ∷ []) logged_one }
     ensures left { IsTallied 1 0 0 0 (the_note ∷ []) logged_one → ⊥ }
+    ensures more { IsTallied 1 0 0 2 (the_note ∷ []) logged_one → ⊥ }
     ensures short { IsTallied 1 0 0 0 (the_note ∷ []) (flushed_one 59) → ⊥ }
+    ensures unpaid { IsTallied 2 0 0 0 (the_note ∷ []) (flushed_one 60) → ⊥ }
 {}
 
 /// Each line has one update of table 0. Where writers flush at one, 255 lines have updates for all

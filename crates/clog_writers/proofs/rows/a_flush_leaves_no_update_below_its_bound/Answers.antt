@@ -2,7 +2,10 @@ use Rattle.std.proofs.Common.{
   ◌≡◌,
   ◌⊎◌,
   ℕ,
+  ◌+◌,
+  ◌*◌,
   ◌<◌,
+  ◌≤◌,
   ⊎_elim,
   inl,
   inr,
@@ -13,6 +16,7 @@ use Rattle.std.proofs.Common.{
   refl,
   sym,
   ap,
+  ◌∙◌,
   subst,
   arith,
 }
@@ -30,6 +34,8 @@ use Rattle.write_path.specs.ClosedFiles.{HasFlushed}
 use Rattle.clog_writers.specs.Shares.{AreWritesOf, IsWriteOf}
 use Rattle.clog_writers.specs.Tallied.{IsFlushedOver, IsTallied, updates_for}
 use Rattle.clog_writers.specs.WorkedTally.{flushed_one, logged_one, the_line, the_note}
+use Rattle.clog_writers.proofs.Paying.{both_writes, more_updates}
+use Rattle.clog_writers.proofs.SameLines.{same_lines}
 use Rattle.clog_writers.proofs.WorkedUpdates.{some_update}
 use Rattle.clog_writers.proofs.rows.a_flush_leaves_no_update_below_its_bound.Goals as goal
 
@@ -96,6 +102,16 @@ some_left (l ∷ ls) are none =
     let sum = sum_by-cons (updates_in (record { 0 = 0 })) l ls in
     omega (arith, some, none, sum)
 
+-- those that are known to be flushed, and the others, have one update of it together
+together : (most count : ℕ) (trail : List OwnStep)
+    → (T : IsTallied most 0 0 count (the_note ∷ []) trail)
+    → updates_for 0 T.front + updates_for 0 T.rest ≡ 1
+together most count trail T =
+    let are = subst (AreWritesOf 0 (T.front ++ T.rest)) (sym T.parts)
+    (both_writes 0 T.front T.rest T.early T.late T.are_early T.are_late) in
+    let same = same_lines 0 (T.front ++ T.rest) (the_line ∷ []) (the_note ∷ []) are (its, tt) in
+    sym (more_updates 0 T.front T.rest) ∙ ap (updates_for 0) same
+
 -- where the first of some writes ends
 end_of : List EntryNote → ℕ
 end_of [] = 0
@@ -136,3 +152,15 @@ returns-clause-short g = left_over (flushed_one 59) (λ key H.
     (λ b. ⊎_elim (λ x. absurd x) (λ d. ⊎_elim (λ x. absurd x) (λ e. ⊎_elim (λ x. absurd x)
     (λ h. ⊎_elim (λ x. absurd x) (λ i. ⊎_elim (λ x. absurd x) (λ x. absurd x) i) h) e) d) b) a)
     H.final)
+
+pub returns-clause-more : goal.returns-clause-more
+returns-clause-more g = λ T.
+    let one = together 1 2 logged_one T in
+    let count = T.counted in
+    omega (arith, one, count)
+
+pub returns-clause-unpaid : goal.returns-clause-unpaid
+returns-clause-unpaid g = λ T.
+    let one = together 2 0 (flushed_one 60) T in
+    let opened : 2 * 1 ≤ updates_for 0 T.front = T.opened in
+    omega (arith, one, opened)
