@@ -7,6 +7,7 @@ use Rattle.std.specs.Prelude.{
   ◌≤◌,
   List,
   ◌++◌,
+  length,
   vec_capacity,
   Bool,
   Result,
